@@ -1,0 +1,8 @@
+//! Texts: keys, names, values and numbers, each with its one spelling.
+#![tactic(auto)]
+
+mod listed;
+mod no_memory;
+
+pub use listed::Listed;
+pub use no_memory::NoMemory;
