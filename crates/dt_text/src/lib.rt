@@ -3,6 +3,8 @@
 
 mod listed;
 mod no_memory;
+mod stub;
+pub use stub::{Key, Name, Str, Value};
 
 pub use listed::Listed;
 pub use no_memory::NoMemory;

@@ -1,0 +1,28 @@
+use Rattle.std.specs.Prelude.{◌≡◌, ◌≢◌, ◌⊎◌, ◌≤◌, ℕ, List, length}
+use Rattle.dt_lists.specs.Lists.{AllIn, Has}
+use Rattle.dt_access.specs.declared.TxnId.{TxnId}
+use Rattle.dt_sched.specs.Views.{View, Reaches, IsComplete, IsClosed, Precedes, IsClass}
+
+-- t may be executed at a region that inserted this view, resolved these classes and has done these ids
+pub record IsExecutable (view : View) (resolved : List (List TxnId)) (done : List TxnId) (t : TxnId) : Type 0 where
+  -- all that it depends on is known
+  pub closed : IsClosed view t
+  -- it runs once
+  pub waiting : ¬ (Has done t)
+  -- all that precedes it has run
+  pub preceders : (u : TxnId) → Precedes view u t → Has done u
+  -- if it is deadlocked with others, their group was resolved
+  pub settled : (ids : List TxnId) → IsClass view t ids → 2 ≤ length ids → Has resolved ids
+
+-- the ids are a deadlocked group that a region which inserted this view may resolve now
+pub record IsResolvable (view : View) (resolved : List (List TxnId)) (done : List TxnId) (ids : List TxnId) : Type 0 where
+  -- they are a class, in ascending order
+  pub group : (t : TxnId) × IsClass view t ids
+  -- of at least two
+  pub several : 2 ≤ length ids
+  -- all of it is here
+  pub complete : AllIn (IsComplete view) ids
+  -- it was not resolved before
+  pub unresolved : ¬ (Has resolved ids)
+  -- everything outside that reaches it has run
+  pub before : (u t : TxnId) → Has ids t → Reaches view u t → Has ids u ⊎ Has done u

@@ -1,0 +1,5 @@
+pub mod Views
+pub mod Decide
+pub use Rattle.dt_access.specs.Ids
+pub use Rattle.dt_access.specs.Clash
+pub use Rattle.dt_lists.specs.Lists

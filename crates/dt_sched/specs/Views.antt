@@ -1,0 +1,67 @@
+use Rattle.std.specs.Prelude.{◌≡◌, ◌≢◌, ◌⊎◌, ◌↔◌, ℕ, List, [], ◌∷◌, get_or, map, true}
+use Rattle.dt_lists.specs.Lists.{AnyIn, AllIn, SomeThen, Has, IsFront, Pairwise, Distinct}
+use Rattle.dt_access.specs.Ids.{Before, AreAscending}
+use Rattle.dt_access.specs.Clash.{clash}
+use Rattle.dt_access.specs.declared.TxnId.{TxnId}
+use Rattle.dt_access.specs.declared.Part.{Part}
+
+-- what a region has inserted: of each home's log, in the order of homes, a front
+abbrev pub View : Type 0
+View = List (List Part)
+
+-- the ids of the parts of a log, in its order
+abbrev pub ids_of : List Part → List TxnId
+ids_of log = map (λ p. p.id) log
+
+-- the front of one home's log
+abbrev pub log_at : View → ℕ → List Part
+log_at view home = get_or view home []
+
+-- a part of the transaction is in the log
+abbrev pub HasPart : List Part → TxnId → Type 0
+HasPart log t = AnyIn (λ p. p.id ≡ t) log
+
+-- the view is longer: each log goes on where the shorter view's ends
+abbrev pub IsLonger : View → View → Type 0
+IsLonger short long = Pairwise IsFront short long
+
+-- there is an edge from u to t: they differ, and in some log u's part stands before t's part and clashes with it
+abbrev pub Edge : View → TxnId → TxnId → Type 0
+Edge view u t = (u ≢ t) × AnyIn (SomeThen (λ p q. (p.id ≡ u) × (q.id ≡ t) × (clash p.keys q.keys ≡ true))) view
+
+-- a chain of steps leads from one thing to another, or they are the same
+pub data Chain {A : Type 0} (Step : A → A → Type 0) : A → A → Type 0 where
+  here : {x : A} → Chain Step x x
+  onward : {x y z : A} → Chain Step x y → Step y z → Chain Step x z
+
+-- u reaches t: u is t, or a chain of edges leads from u to t
+abbrev pub Reaches : View → TxnId → TxnId → Type 0
+Reaches view u t = Chain (Edge view) u t
+
+-- t is complete: it has a part in the view, and a part at each of its homes
+abbrev pub IsComplete : View → TxnId → Type 0
+IsComplete view t = AnyIn (AnyIn (λ p. (p.id ≡ t) × AllIn (λ home. HasPart (log_at view home) t) p.homes)) view
+
+-- t is closed: everything that reaches it is complete
+abbrev pub IsClosed : View → TxnId → Type 0
+IsClosed view t = (u : TxnId) → Reaches view u t → IsComplete view u
+
+-- u and t reach each other
+abbrev pub Mutual : View → TxnId → TxnId → Type 0
+Mutual view u t = Reaches view u t × Reaches view t u
+
+-- u precedes t: it reaches t, and where t reaches it too, its id is the lesser one
+abbrev pub Precedes : View → TxnId → TxnId → Type 0
+Precedes view u t = (u ≢ t) × Reaches view u t × ((¬ (Reaches view t u)) ⊎ Before u t)
+
+-- the ids are the class of t, in ascending order: all that reach t and that t reaches
+pub record IsClass (view : View) (t : TxnId) (ids : List TxnId) : Type 0 where
+  pub ascending : AreAscending ids
+  pub members : (u : TxnId) → Has ids u ↔ Mutual view u t
+
+-- the view is that of logs: in a log each id stands once, at a home that its part names, and all parts of one
+-- transaction name the same homes
+pub record IsWellFormed (view : View) : Type 0 where
+  pub once : (home : ℕ) → Distinct (ids_of (log_at view home))
+  pub homed : (home : ℕ) → AllIn (λ p. (p.home ≡ home) × Has p.homes home) (log_at view home)
+  pub alike : (home other : ℕ) → AllIn (λ p. AllIn (λ q. p.id ≡ q.id → p.homes ≡ q.homes) (log_at view other)) (log_at view home)
