@@ -1,4 +1,4 @@
-use Rattle.std.specs.Prelude.{ℕ, ◌+◌, List, [], ◌∷◌, map, length, Option, Some, None}
+use Rattle.std.specs.Prelude.{List, [], ◌∷◌, map, Option, Some, None}
 use Rattle.dt_access.specs.Clash.{Bytes}
 use Rattle.dt_access.specs.declared.TxnId.{TxnId}
 use Rattle.dt_access.specs.declared.Access.{Access}
@@ -7,7 +7,7 @@ use Rattle.dt_eval.specs.Meaning.{meaning}
 use Rattle.dt_eval.specs.declared.Finish.{Finish}
 use Rattle.dt_eval.specs.declared.finish.Finish.TheVariants as finish
 use Rattle.dt_table.specs.declared.Effect.{Effect}
-use Rattle.dt_table.specs.Table.{Table, value_of, counter_of, next_mover, apply}
+use Rattle.dt_table.specs.Table.{Table, value_of, counter_of, next_mover}
 use Rattle.dt_txn.specs.declared.txn.Body.{Body}
 use Rattle.dt_txn.specs.declared.txn.Body.TheVariants.{Call, Move}
 use Rattle.dt_txn.specs.declared.txn.Txn.{Txn}

@@ -1,7 +1,7 @@
-use Rattle.std.specs.Prelude.{◌≡◌, ◌<◌, ◌+◌, ℕ, List, [], ◌∷◌, ◌++◌, take, map, set, slice_index, length, Option, Some, None, option_map, unwrap_or}
+use Rattle.std.specs.Prelude.{◌≡◌, ◌<◌, ◌+◌, ℕ, List, [], ◌∷◌, ◌++◌, take, map, set, slice_index, length, Option, Some, None}
 use Rattle.dt_access.specs.declared.TxnId.{TxnId}
 use Rattle.dt_events.specs.declared.Event.{Event}
-use Rattle.dt_events.specs.declared.Event.TheVariants.{Insert, Resolve, Execute}
+use Rattle.dt_events.specs.declared.Event.TheVariants.{Submit, Append, Deliver, Insert, Resolve, Execute, Answer}
 use Rattle.dt_sched.specs.Views.{View, log_at}
 use Rattle.dt_sched.specs.Decide.{IsExecutable, IsResolvable}
 use Rattle.dt_table.specs.Table.{Table}
@@ -9,6 +9,16 @@ use Rattle.dt_txn.specs.declared.txn.Txn.{Txn}
 use Rattle.dt_txn.specs.declared.outcome.Outcome.{Outcome}
 use Rattle.dt_txn.specs.Execution.{one}
 use Rattle.dt_txn.specs.Serial.{after}
+
+-- the region whose step an event is: the first number in its text
+abbrev pub region_of : Event → ℕ
+region_of (Submit region session) = region
+region_of (Append home source number) = home
+region_of (Deliver region home first last) = region
+region_of (Insert region home) = region
+region_of (Resolve region ids) = region
+region_of (Execute region id) = region
+region_of (Answer region session) = region
 
 -- what a region has made of the logs that it received
 pub record Replica : Type 0 where
@@ -55,3 +65,15 @@ stepped txn_of here (Insert region home) = record here { inserted = set here.ins
 stepped txn_of here (Resolve region ids) = record here { resolved = here.resolved ++ ids ∷ [] }
 stepped txn_of here (Execute region id) = executed here (txn_of id)
 stepped txn_of here event = here
+
+-- the region has inserted all that it received, and may neither execute nor resolve anything
+pub record IsDrained (received : View) (here : Replica) : Type 0 where
+  pub inserted : (home : ℕ) → slice_index here.inserted home ≡ length (log_at received home)
+  pub executed : (id : TxnId) → ¬ (IsExecutable (view_of received here) here.resolved (done_ids here) id)
+  pub resolved : (ids : List TxnId) → ¬ (IsResolvable (view_of received here) here.resolved (done_ids here) ids)
+
+-- the events are steps of region `region`, each of which it may make after those before it
+abbrev pub IsContinuation : (TxnId → Option Txn) → ℕ → View → Replica → List Event → Type 0
+IsContinuation txn_of region received here [] = Unit {0}
+IsContinuation txn_of region received here (event ∷ events) =
+    (region_of event ≡ region) × MayStep received here event × IsContinuation txn_of region received (stepped txn_of here event) events
