@@ -1,4 +1,5 @@
 ghost use Rattle.std.specs.Prelude.{◌≡◌, IfOk};
+ghost use Rattle.dt_access.specs.Clash.{is_write};
 
 use crate::copies::TryCopy;
 use dt_text::{Key, NoMemory};
@@ -9,6 +10,15 @@ use std::alloc::Global;
 pub enum Mode {
     Read,
     Write,
+}
+
+impl Mode {
+    /// Whether the row may be written.
+    pub fn is_write(&self) -> bool
+        ensures { result ≡ is_write self.now }
+    {
+        matches!(self, Mode::Write)
+    }
 }
 
 impl TryCopy for Mode {

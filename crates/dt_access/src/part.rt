@@ -54,14 +54,15 @@ fn keys_clash(mut left: &[(Key, Mode)], mut right: &[(Key, Mode)]) -> bool
     requires right_ascends { HasAscendingKeys right.now }
     ensures { result ≡ clash left.now right.now }
 {
-    while let Some(((left_key, left_mode), left_rest)) = left.split_first()
-        && let Some(((right_key, right_mode), right_rest)) = right.split_first()
-    {
+    while let Some(((left_key, left_mode), left_rest)) = left.split_first() {
+        let Some(((right_key, right_mode), right_rest)) = right.split_first() else {
+            return false;
+        };
         match left_key.cmp(right_key) {
             Ordering::Less => left = left_rest,
             Ordering::Greater => right = right_rest,
             Ordering::Equal => {
-                if *left_mode == Mode::Write || *right_mode == Mode::Write {
+                if left_mode.is_write() || right_mode.is_write() {
                     return true;
                 }
                 left = left_rest;
