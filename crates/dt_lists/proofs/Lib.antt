@@ -1,0 +1,4 @@
+pub mod Words
+pub mod Fronts
+pub mod Decided
+pub mod Least
