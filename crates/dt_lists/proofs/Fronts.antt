@@ -1,5 +1,6 @@
 -- Laws of fronts of lists, and of lists that are related place by place.
-use Rattle.std.proofs.Common.{◌≡◌, ◌<◌, ◌≤◌, ℕ, zero, suc, List, [], ◌∷◌, ◌++◌, length, get_or, take, drop, refl, sym, ap, subst, ◌∙◌, append_assoc, append-nil, take-append-drop, inl, inr, arith}
+use Rattle.std.proofs.Common.{◌≡◌, ◌<◌, ◌≤◌, ℕ, zero, suc, List, [], ◌∷◌, ◌++◌, length, get_or, map, take, drop, refl, sym, ap, subst, ◌∙◌, append_assoc, append-nil, take-append-drop, inl, inr, arith}
+use Rattle.std.proofs.lemmas.List.{map-append}
 use Rattle.dt_lists.specs.Lists.{AnyIn, AllIn, SomeThen, Has, EachThen, IsFront, Pairwise}
 use Rattle.dt_lists.proofs.Words.{any_append_left, some_append_left, all_append_left, each_append_left, some_in_front}
 
@@ -25,6 +26,9 @@ front_takes zero n xs le = front_empty (take n xs)
 front_takes (suc m) zero xs le = absurd (omega arith)
 front_takes (suc m) (suc n) [] le = ([], refl)
 front_takes (suc m) (suc n) (x ∷ xs) le = let r : IsFront (take m xs) (take n xs) = front_takes m n xs (omega arith) in (r.0, ap (λ l. x ∷ l) r.1)
+
+pub front_map : {A B : Type 0} (f : A → B) (xs ys : List A) → IsFront xs ys → IsFront (map f xs) (map f ys)
+front_map f xs ys w = (map f w.0, sym (map-append f xs w.0) ∙ ap (map f) w.1)
 
 pub any_front : {A : Type 0} (P : A → Type 0) (xs ys : List A) → IsFront xs ys → AnyIn P xs → AnyIn P ys
 any_front P xs ys f e = subst (AnyIn P) f.1 (any_append_left P xs f.0 e)

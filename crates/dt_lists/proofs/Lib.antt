@@ -2,3 +2,4 @@ pub mod Words
 pub mod Fronts
 pub mod Decided
 pub mod Least
+pub mod Tests

@@ -1,0 +1,4 @@
+pub mod Ids
+pub mod Clash
+pub mod Chains
+pub mod Longer
