@@ -2,3 +2,4 @@ pub mod Ids
 pub mod Clash
 pub mod Chains
 pub mod Longer
+pub mod Closed

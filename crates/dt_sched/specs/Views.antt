@@ -77,3 +77,13 @@ pub record IsWellFormed (view : View) : Type 0 where
   pub once : (home : ℕ) → Distinct (ids_of (log_at view home))
   pub homed : (home : ℕ) → AllIn (λ p. (p.home ≡ home) × Has p.homes home) (log_at view home)
   pub alike : (home other : ℕ) → AllIn (λ p. AllIn (λ q. p.id ≡ q.id → p.homes ≡ q.homes) (log_at view other)) (log_at view home)
+
+-- t stands alike in both views: it is closed in the longer one too, and has in both the same edges into it, the same
+-- ids that reach it, the same class and the same preceders
+pub record StandsAlike (short long : View) (t : TxnId) : Type 0 where
+  pub closed : IsClosed long t
+  pub edges : (u : TxnId) → Edge short u t ↔ Edge long u t
+  pub reaching : (u : TxnId) → Reaches short u t ↔ Reaches long u t
+  pub both_ways : (u : TxnId) → Mutual short u t ↔ Mutual long u t
+  pub class : (ids : List TxnId) → IsClass short t ids ↔ IsClass long t ids
+  pub preceders : (u : TxnId) → Precedes short u t ↔ Precedes long u t
