@@ -3,3 +3,4 @@ pub mod Fronts
 pub mod Decided
 pub mod Least
 pub mod Tests
+pub mod Ascending
