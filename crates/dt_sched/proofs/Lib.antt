@@ -6,3 +6,4 @@ pub mod Closed
 pub mod Via
 pub mod Reach
 pub mod Order
+pub mod Classes

@@ -1,4 +1,4 @@
-use Rattle.std.specs.Prelude.{◌≡◌, ◌≢◌, ◌⊎◌, ◌↔◌, ℕ, List, [], ◌∷◌, get_or, map, true}
+use Rattle.std.specs.Prelude.{◌≡◌, ◌≢◌, ◌⊎◌, ◌↔◌, ℕ, List, [], ◌∷◌, get_or, map, length, true}
 use Rattle.dt_lists.specs.Lists.{AnyIn, AllIn, SomeThen, Has, IsFront, Pairwise, Distinct}
 use Rattle.dt_access.specs.Ids.{Before, AreAscending}
 use Rattle.dt_access.specs.Clash.{clash}
@@ -77,6 +77,10 @@ pub record IsWellFormed (view : View) : Type 0 where
   pub once : (home : ℕ) → Distinct (ids_of (log_at view home))
   pub homed : (home : ℕ) → AllIn (λ p. (p.home ≡ home) × Has p.homes home) (log_at view home)
   pub alike : (home other : ℕ) → AllIn (λ p. AllIn (λ q. p.id ≡ q.id → p.homes ≡ q.homes) (log_at view other)) (log_at view home)
+
+-- each transaction of the view has one home
+abbrev pub HasOneHomeEach : View → Type 0
+HasOneHomeEach view = AllIn (AllIn (λ p. length p.homes ≡ 1)) view
 
 -- t stands alike in both views: it is closed in the longer one too, and has in both the same edges into it, the same
 -- ids that reach it, the same class and the same preceders
