@@ -1,0 +1,16 @@
+//! What the program knows of files and streams: folders that give files, sinks that take bytes, and
+//! a count of faults for each. A folder and a sink in memory say all that they do; those over the
+//! real disk and the real streams say what can be promised of a device.
+#![tactic(auto)]
+
+mod failures;
+mod folders;
+mod memory_folder;
+mod memory_sink;
+mod sinks;
+
+pub use failures::{Failed, LoadError};
+pub use folders::Folder;
+pub use memory_folder::MemoryFolder;
+pub use memory_sink::MemorySink;
+pub use sinks::{Sink, write_all};
