@@ -1,7 +1,7 @@
 ghost use Rattle.std.specs.Prelude.{◌≡◌};
 
 use std::alloc::AllocError;
-use std::fmt;
+use std::{fmt, io};
 
 /// The device failed. Its count of faults tells that it did.
 #[derive(Clone, Copy, Debug, PartialEq, Eq)]
@@ -45,5 +45,14 @@ impl From<AllocError> for LoadError {
 
     fn from(_error: AllocError) -> Self {
         LoadError::NoMemory
+    }
+}
+
+impl From<io::Error> for LoadError {
+    fn from(error: io::Error) -> Self {
+        match error.kind() {
+            io::ErrorKind::OutOfMemory => LoadError::NoMemory,
+            _ => LoadError::Failed,
+        }
     }
 }

@@ -21,11 +21,14 @@ pub trait Folder {
     /// `Failed` where the device failed or no file has the name: a fault, and it was counted.
     /// `TooLong` where the file has more than `limit` bytes. No load changes a file.
     fn load(&mut self, alloc: Global, name: &str, limit: u64) -> Result<Vec<u8>, LoadError>
-        ensures whole { IfOk result (λ bytes. IfSome (told self.old) (λ files. files name.now ≡ Some bytes.items)) }
         ensures capped { IfOk result (λ bytes. length bytes.items ≤ limit) }
         ensures failed { result ≡ Err LoadError.Failed → Rose (faults self.old) (faults self.new) }
-        ensures long_only { result ≡ Err LoadError.TooLong →
-            IfSome (told self.old) (λ files. IsLonger files name.now limit) }
+
+        // Where the files are told, an answer is that of the file of this name.
+        ensures whole { IfSome (told self.old) (λ files.
+            IfOk result (λ bytes. files name.now ≡ Some bytes.items)) }
+        ensures long_only { IfSome (told self.old) (λ files.
+            result ≡ Err LoadError.TooLong → IsLonger files name.now limit) }
 
         // Without a fault a file that is too long is refused as such; only want of memory may come first.
         ensures long_always { IfSome (told self.old) (λ files.

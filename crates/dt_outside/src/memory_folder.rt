@@ -1,4 +1,4 @@
-ghost use Rattle.std.specs.Prelude.{◌≡◌, ◌≢◌, ◌<◌, ◌≤◌, ◌↔◌, ◌⊎◌, List, map, length, IfOk, IfSome, Some, IsTrue, if◌then◌else◌, string_bytes, nat_eq, find};
+ghost use Rattle.std.specs.Prelude.{◌≡◌, ◌≢◌, ◌<◌, ◌≤◌, ◌↔◌, ◌⊎◌, List, map, length, IfOk, IfSome, Some, IsTrue, false, if◌then◌else◌, string_bytes, nat_eq, find};
 ghost use Rattle.std.specs.Option.{option_map, option_copied};
 ghost use Rattle.std.specs.Cmp.Lexicographic.{pointwise};
 ghost use Rattle.dt_outside.specs.Faults.{next_count, Rose};
@@ -73,7 +73,8 @@ impl Folder for MemoryFolder {
         ensures failed { (result ≡ Err LoadError.Failed) ↔ IsTrue (fails_next self.old name.now) }
         ensures whole { IfOk result (λ bytes. file_in self.old.files name.now ≡ Some bytes.items) }
         ensures capped { IfOk result (λ bytes. length bytes.items ≤ limit) }
-        ensures long_only { result ≡ Err LoadError.TooLong → IsLonger (file_in self.old.files) name.now limit }
+        ensures long { (result ≡ Err LoadError.TooLong) ↔
+            ((fails_next self.old name.now ≡ false) × IsLonger (file_in self.old.files) name.now limit) }
         ensures counted { self.new ≡ record self.old {
           loads = next_count self.old.loads;
           faults = if fails_next self.old name.now then next_count self.old.faults else self.old.faults;
