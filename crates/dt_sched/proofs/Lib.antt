@@ -7,3 +7,7 @@ pub mod Via
 pub mod Reach
 pub mod Order
 pub mod Classes
+pub mod Decisions
+pub mod Stability
+pub mod OneHome
+pub mod Drained
