@@ -98,3 +98,15 @@ module _ (short long : View) (l : IsLonger short long) (w : IsWellFormed long) w
     class = class_stays t c;
     preceders = λ u. preceders_stay u t c;
   }
+
+-- two views of the same logs that both have t closed agree on its class and on its preceders
+module _ (left right whole : View) (l : IsLonger left whole) (r : IsLonger right whole) (w : IsWellFormed whole) where
+  pub class_agrees : (t : TxnId) → IsClosed left t → IsClosed right t → (ids : List TxnId) → IsClass left t ids ↔ IsClass right t ids
+  class_agrees t c d ids = (
+    λ k. (class_stays right whole r w t d ids).1 ((class_stays left whole l w t c ids).0 k),
+    λ k. (class_stays left whole l w t c ids).1 ((class_stays right whole r w t d ids).0 k))
+
+  pub preceders_agree : (u t : TxnId) → IsClosed left t → IsClosed right t → Precedes left u t ↔ Precedes right u t
+  preceders_agree u t c d = (
+    λ p. (preceders_stay right whole r w u t d).1 ((preceders_stay left whole l w u t c).0 p),
+    λ p. (preceders_stay left whole l w u t c).1 ((preceders_stay right whole r w u t d).0 p))
