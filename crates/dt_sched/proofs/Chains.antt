@@ -1,5 +1,4 @@
 -- Chains of steps: they join, they begin with a step, and they go over to other steps.
-use Rattle.std.proofs.Common.{◌≡◌, refl, sym, subst}
 use Rattle.dt_sched.specs.Views.{Chain, here, onward}
 
 pub chain_join : {A : Type 0} {Step : A → A → Type 0} {x y z : A} → Chain Step x y → Chain Step y z → Chain Step x z

@@ -1,9 +1,9 @@
 -- What is executable and what is resolvable stays so until it is done, while the view becomes longer.
-use Rattle.std.proofs.Common.{◌≡◌, ◌≢◌, ◌≤◌, ◌⊎◌, ℕ, List, [], ◌∷◌, length, refl, sym, subst, inl, inr}
-use Rattle.dt_lists.specs.Lists.{AnyIn, AllIn, Has, IsWithin, Either}
+use Rattle.std.proofs.Common.{List, inl, inr}
+use Rattle.dt_lists.specs.Lists.{AllIn, Has, IsWithin}
 use Rattle.dt_lists.proofs.Words.{all_get, all_put, all_map, within_get}
 use Rattle.dt_access.specs.declared.TxnId.{TxnId}
-use Rattle.dt_sched.specs.Views.{View, IsLonger, Reaches, IsComplete, IsClosed, Precedes, IsClass, IsWellFormed}
+use Rattle.dt_sched.specs.Views.{View, IsLonger, IsComplete, IsClosed, IsWellFormed}
 use Rattle.dt_sched.specs.Decide.{IsExecutable, IsResolvable}
 use Rattle.dt_sched.proofs.Longer.{complete_longer}
 use Rattle.dt_sched.proofs.Closed.{complete_of_closed, closed_stays, reaching_stays, class_stays, preceders_stay}
@@ -12,9 +12,9 @@ use Rattle.dt_sched.proofs.Classes.{in_own_class}
 -- the members of a resolvable class are closed
 pub resolvable_closed : (view : View) (resolved : List (List TxnId)) (done ids : List TxnId) → AllIn (IsClosed view) done → IsResolvable view resolved done ids → AllIn (IsClosed view) ids
 resolvable_closed view resolved done ids c x = all_put (IsClosed view) ids (λ t h u r. elim (x.before u t h r) [
-    inl k ↦ all_get (IsComplete view) ids x.complete u k
+  | inl k ↦ all_get (IsComplete view) ids x.complete u k
   | inr d ↦ complete_of_closed view u (all_get (IsClosed view) done c u d)
-  ])
+])
 
 module _ (short long : View) (l : IsLonger short long) (w : IsWellFormed long) where
   -- closed ids stay closed
@@ -39,7 +39,7 @@ module _ (short long : View) (l : IsLonger short long) (w : IsWellFormed long) w
         complete = all_map (IsComplete short) (IsComplete long) ids (complete_longer short long l) x.complete;
         unresolved = n;
         before = λ u v h r. elim (x.before u v h ((reaching_stays short long l w u v (all_get (IsClosed short) ids closed v h)).1 r)) [
-            inl k ↦ inl k
+          | inl k ↦ inl k
           | inr d ↦ inr (within_get done later wd u d)
-          ];
+        ];
       }
