@@ -3,5 +3,7 @@
 #![tactic(auto)]
 
 mod laws;
+mod scheduler;
 
 pub use laws::{closed_views, drained, one_home_each, order, reach_is_decided, stability};
+pub use scheduler::Scheduler;
