@@ -11,3 +11,4 @@ pub mod Decisions
 pub mod Staying
 pub mod OneHome
 pub mod NothingToDo
+pub mod Growing
