@@ -1,12 +1,10 @@
 -- A view grows part by part: it becomes longer, and stays well formed.
-use Rattle.std.proofs.Common.{◌≡◌, ◌≢◌, ◌<◌, ◌⊎◌, ℕ, zero, suc, List, [], ◌∷◌, ◌++◌, map, length, get_or, set, replicate, refl, sym, ap, subst, ◌∙◌, inl, inr, arith}
+use Rattle.std.proofs.Common.{◌≡◌, ◌⊎◌, ℕ, zero, suc, List, [], ◌∷◌, ◌++◌, set, replicate, refl, sym, ap, subst, ◌∙◌, inl, inr}
 use Rattle.std.proofs.lemmas.List.{map-append}
-use Rattle.dt_lists.specs.Lists.{AnyIn, AllIn, Has, Distinct, IsFront, Either}
+use Rattle.dt_lists.specs.Lists.{AllIn, Has, Distinct, IsFront}
 use Rattle.dt_lists.proofs.Words.{any_append, any_of_image, all_get, all_put, all_append, all_at}
 use Rattle.dt_lists.proofs.Distinct.{distinct_push}
 use Rattle.dt_lists.proofs.Fronts.{front_refl, front_append}
-use Rattle.dt_lists.proofs.Decided.{either_nat}
-use Rattle.dt_access.specs.declared.TxnId.{TxnId}
 use Rattle.dt_access.specs.declared.Part.{Part}
 use Rattle.dt_sched.specs.Views.{View, ids_of, log_at, HasPart, IsLonger, IsWellFormed}
 use Rattle.dt_sched.specs.Sched.{CanInsert, with_part}
@@ -32,41 +30,45 @@ put_log (first ∷ logs) (suc place) (suc home) log = elim (put_log logs place h
 -- a log with the part at the back, or as it was
 pub log_with_part : (view : View) (part : Part) (home : ℕ) → (home ≡ part.home) × (log_at (with_part view part) home ≡ log_at view home ++ part ∷ []) ⊎ (log_at (with_part view part) home ≡ log_at view home)
 log_with_part view part home = elim (put_log view part.home home (log_at view part.home ++ part ∷ [])) [
-    inl e ↦ inl (e.0, e.1 ∙ ap (λ h. log_at view h ++ part ∷ []) (sym e.0))
+  | inl e ↦ inl (e.0, e.1 ∙ ap (λ h. log_at view h ++ part ∷ []) (sym e.0))
   | inr e ↦ inr e
-  ]
+]
 
 -- a part of a log of the view with the part is that part, or was there
 pub has_with_part : (view : View) (part : Part) (home : ℕ) (p : Part) → Has (log_at (with_part view part) home) p → (p ≡ part) ⊎ Has (log_at view home) p
 has_with_part view part home p h = elim (log_with_part view part home) [
-    inl e ↦ elim (any_append _ (log_at view home) (part ∷ []) (subst (λ log. Has log p) e.1 h)) [
-        inl k ↦ inr k
-      | inr k ↦ elim k [ inl same ↦ inl (sym same) | inr f ↦ absurd f ]
-      ]
-  | inr e ↦ inr (subst (λ log. Has log p) e h)
+  | inl e ↦ elim (any_append _ (log_at view home) (part ∷ []) (subst (λ log. Has log p) e.1 h)) [
+    | inl k ↦ inr k
+    | inr k ↦ elim k [ inl same ↦ inl (sym same) | inr f ↦ absurd f ]
   ]
+  | inr e ↦ inr (subst (λ log. Has log p) e h)
+]
 
 pub with_part_well_formed : (view : View) (part : Part) → IsWellFormed view → CanInsert view part → IsWellFormed (with_part view part)
 with_part_well_formed view part w c = record { once = once; homed = homed; alike = alike }
   where
     once : (home : ℕ) → Distinct (ids_of (log_at (with_part view part) home))
     once home = elim (log_with_part view part home) [
-        inl e ↦ subst (λ log. Distinct (ids_of log)) (sym e.1) (subst Distinct (sym (map-append (λ p. p.id) (log_at view home) (part ∷ [])))
+      | inl e ↦ subst (λ log. Distinct (ids_of log)) (sym e.1) (subst Distinct (sym (map-append (λ p. p.id) (log_at view home) (part ∷ [])))
           (distinct_push (ids_of (log_at view home)) part.id (w.once home) (λ h. c.fresh (subst (λ at. HasPart (log_at view at) part.id) e.0 (any_of_image (λ y. y ≡ part.id) (λ p. p.id) (log_at view home) h)))))
       | inr e ↦ subst (λ log. Distinct (ids_of log)) (sym e) (w.once home)
-      ]
+    ]
+
     homed : (home : ℕ) → AllIn (λ p. (p.home ≡ home) × Has p.homes home) (log_at (with_part view part) home)
     homed home = elim (log_with_part view part home) [
-        inl e ↦ subst (AllIn (λ p. (p.home ≡ home) × Has p.homes home)) (sym e.1) (all_append _ (log_at view home) (part ∷ []) (w.homed home) ((sym e.0, subst (Has part.homes) (sym e.0) c.homed), tt))
+      | inl e ↦ subst (AllIn (λ p. (p.home ≡ home) × Has p.homes home)) (sym e.1) (all_append _ (log_at view home) (part ∷ []) (w.homed home) ((sym e.0, subst (Has part.homes) (sym e.0) c.homed), tt))
       | inr e ↦ subst (AllIn (λ p. (p.home ≡ home) × Has p.homes home)) (sym e) (w.homed home)
-      ]
+    ]
+
     old : (home : ℕ) (p : Part) → Has (log_at view home) p → p.id ≡ part.id → p.homes ≡ part.homes
     old home p h = all_get (λ p. p.id ≡ part.id → p.homes ≡ part.homes) (log_at view home) (all_at _ [] view home tt c.alike) p h
+
     pair : (home other : ℕ) (p q : Part) → (p ≡ part) ⊎ Has (log_at view home) p → (q ≡ part) ⊎ Has (log_at view other) q → p.id ≡ q.id → p.homes ≡ q.homes
     pair home other p q (inl e) (inl f) s = ap (λ x. x.homes) (e ∙ sym f)
     pair home other p q (inl e) (inr k) s = ap (λ x. x.homes) e ∙ sym (old other q k (sym s ∙ ap (λ x. x.id) e))
     pair home other p q (inr h) (inl f) s = old home p h (s ∙ ap (λ x. x.id) f) ∙ sym (ap (λ x. x.homes) f)
     pair home other p q (inr h) (inr k) s = all_get _ (log_at view other) (all_get _ (log_at view home) (w.alike home other) p h) q k s
+
     alike : (home other : ℕ) → AllIn (λ p. AllIn (λ q. p.id ≡ q.id → p.homes ≡ q.homes) (log_at (with_part view part) other)) (log_at (with_part view part) home)
     alike home other = all_put _ (log_at (with_part view part) home) (λ p h. all_put _ (log_at (with_part view part) other) (λ q k. pair home other p q (has_with_part view part home p h) (has_with_part view part other q k)))
 

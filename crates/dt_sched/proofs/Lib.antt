@@ -12,3 +12,4 @@ pub mod Staying
 pub mod OneHome
 pub mod NothingToDo
 pub mod Growing
+pub mod Sound
