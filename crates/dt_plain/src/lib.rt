@@ -1,0 +1,6 @@
+//! The plain scheduler: it goes through all inserted parts for every answer, as the definitions do.
+#![tactic(auto)]
+
+mod complete;
+mod ids;
+mod search;
