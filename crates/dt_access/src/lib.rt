@@ -2,11 +2,19 @@
 #![tactic(auto)]
 
 mod access;
+mod copies;
+mod homes;
 mod id;
+mod keys;
 mod lists;
 mod part;
+mod writes;
 
 pub use access::{Access, Mode};
+pub use copies::TryCopy;
+pub use homes::Homes;
 pub use id::TxnId;
-pub use lists::{Accesses, Homes, Ids, Keys, Writes};
-pub use part::Part;
+pub use keys::Keys;
+pub use lists::{Accesses, Ids};
+pub use part::{Part, clash};
+pub use writes::Writes;

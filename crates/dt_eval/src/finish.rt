@@ -1,0 +1,35 @@
+use dt_access::Writes;
+use dt_text::{Key, Listed, Str, Value};
+
+/// The arguments of a call.
+pub type Args = Listed<Value>;
+
+/// The values that a call gives, each a value or none.
+pub type Values = Listed<Option<Value>>;
+
+/// The values of the rows that a call uses, each a value or none.
+pub type Reads = Listed<(Key, Option<Value>)>;
+
+/// Why a run of a procedure aborts.
+#[derive(Drop)]
+pub enum Cause {
+    /// The procedure says so, with this text.
+    Word(Str),
+    /// A number does not fit.
+    Overflow,
+    /// A divisor is 0.
+    Zero,
+    /// A row does not have a value of the wanted kind.
+    Kind,
+    /// A text is longer than 256 bytes.
+    Long,
+}
+
+/// How a run of a procedure ends.
+#[derive(Drop)]
+pub enum Finish {
+    /// It gave these values, and changes these rows.
+    Gave(Values, Writes),
+    /// It aborted, and changes nothing.
+    Aborted(Cause),
+}

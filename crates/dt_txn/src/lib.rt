@@ -1,0 +1,8 @@
+//! Transactions: what a region annotates and sends to the homes, and what one does to a table.
+#![tactic(auto)]
+
+mod outcome;
+mod txn;
+
+pub use outcome::{Outcome, Seen, Seens};
+pub use txn::{Body, Entry, Txn, Txns};
