@@ -5,6 +5,7 @@ use Rattle.dt_lists.specs.Lists.{AnyIn, AllIn, Has, IsFront, EachThen, Distinct}
 use Rattle.dt_lists.proofs.Words.{any_append, any_append_left, any_append_right, all_put, each_append}
 use Rattle.dt_lists.proofs.Fronts.{front_refl, front_trans, front_append}
 use Rattle.dt_access.specs.declared.TxnId.{TxnId}
+use Rattle.dt_plain.proofs.Same.{no_id}
 use Rattle.dt_plain.specs.Grown.{AddsOnce}
 use Rattle.dt_plain.specs.Links.{IsLinked, Follows}
 use Rattle.dt_plain.specs.declared.search.Link.{Link}
@@ -30,7 +31,7 @@ adds_new ids id d n =
 
 -- what stands at a place past the end of a list of links, for `get_or`
 abbrev pub no_link : Link
-no_link = record { from = record { seq = 0; region = 0 }; to = record { seq = 0; region = 0 } }
+no_link = record { from = no_id; to = no_id }
 
 -- before the first link nothing is added
 pub follows_none : (u : TxnId) (ids : List TxnId) → Distinct ids → Follows [] u ids ids

@@ -1,11 +1,16 @@
 -- Loops over a list that look for an item: what is left gives what the whole list gives.
-use Rattle.std.proofs.Common.{◌≡◌, ℕ, suc, ◌+◌, ◌<◌, ◌⊎◌, ◌↔◌, Bool, true, false, List, [], ◌∷◌, length, get_or, drop, refl, sym, ap, inl, inr, arith, add-one, IsTrue}
+use Rattle.std.proofs.Common.{◌≡◌, ℕ, suc, ◌+◌, ◌<◌, ◌⊎◌, ◌↔◌, Bool, true, false, List, [], ◌∷◌, ◌++◌, ◌∙◌, length, get_or, take, drop, refl, sym, ap, inl, inr, arith, add-one, IsTrue}
 use Rattle.std.proofs.Math.Seq.{drop-cons}
+use Rattle.std.proofs.lemmas.List.{take_more}
 use Rattle.dt_lists.specs.Lists.{AnyIn, AllIn}
 
 -- at a place of the list, the item there comes before what is left
 pub drop-at : {A : Type 0} (xs : List A) (i : ℕ) (x d : A) → i < length xs → x ≡ get_or xs i d → drop i xs ≡ x ∷ drop (i + 1) xs
 drop-at xs i x d h e = rw (add-one, drop-cons xs i d) (ap (λ y. y ∷ drop (suc i) xs) (sym e))
+
+-- and after the items before it
+pub take-at : {A : Type 0} (xs : List A) (i : ℕ) (x d : A) → i < length xs → x ≡ get_or xs i d → take (i + 1) xs ≡ take i xs ++ x ∷ []
+take-at xs i x d h e = take_more xs i d h ∙ ap (λ y. take i xs ++ y ∷ []) (sym e)
 
 -- what a test that answered true tells, and one that answered false
 pub tested : {P : Type 0} (b : Bool) → (IsTrue b ↔ P) → b ≡ true → P

@@ -2,5 +2,6 @@
 #![tactic(auto)]
 
 mod complete;
+mod graph;
 mod ids;
 mod search;

@@ -14,6 +14,21 @@ pub struct Link {
     pub to: TxnId,
 }
 
+impl Link {
+    ghost use Rattle.std.specs.Prelude.{◌≡◌};
+    ghost use Rattle.dt_plain.specs.Graphs.{turned};
+
+    /// The link the other way round.
+    pub fn turned(&self) -> Self
+        ensures { result ≡ turned self.now }
+    {
+        Link {
+            from: self.to,
+            to: self.from,
+        }
+    }
+}
+
 /// Adds what the links lead to from `from` in one step and isn't there yet.
 fn follow(links: &[Link], from: TxnId, found: &mut Ids) -> Result<(), NoMemory>
     requires { Distinct found.old }
