@@ -3,6 +3,7 @@
 
 mod errors;
 mod key;
+mod lines;
 mod listed;
 mod name;
 mod no_memory;
@@ -13,6 +14,7 @@ mod value;
 
 pub use errors::{KeyError, StrError};
 pub use key::Key;
+pub use lines::{Line, Lines};
 pub use listed::Listed;
 pub use name::Name;
 pub use no_memory::NoMemory;
