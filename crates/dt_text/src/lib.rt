@@ -11,6 +11,7 @@ mod numbers;
 mod printed;
 mod text;
 mod value;
+mod words;
 
 pub use errors::{KeyError, StrError};
 pub use key::Key;
@@ -22,3 +23,4 @@ pub use numbers::{put_i64, put_u64, read_i64, read_u32};
 pub use printed::{put_text, put_value};
 pub use text::Str;
 pub use value::Value;
+pub use words::{Word, Words};
