@@ -84,6 +84,7 @@ module _ {K : Type 0} {R : K → K → Ordering} {eq : K → K → Bool} (o : Is
         by : (q : K) (b : Bool) → option_map f (cond b (Some w) (lookup (eq q) es)) ≡ cond b (Some (f w)) (option_map f (lookup (eq q) es))
         by q true = refl
         by q false = refl
+
         at : (q : K) → get (from_entries {R = R} (map (λ e. (e.0, f e.1)) (insert_entry eq es k w))) q ≡ get (insert (from_entries {R = R} (map (λ e. (e.0, f e.1)) es)) k (f w)) q
         at q =
             get-from_map (insert_entry eq es k w) q ∙ ap (option_map f) (lookup-insert_entry eq laws es k w q) ∙ by q (eq k q)

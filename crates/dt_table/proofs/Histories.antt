@@ -1,9 +1,11 @@
 -- What a push to the list of all moves does to the history of each row, and how a history is walked back.
-use Rattle.std.proofs.Common.{◌≡◌, ℕ, zero, suc, ◌+◌, ◌-◌, ◌<◌, ◌≤◌, List, [], ◌∷◌, ◌++◌, length, get_or, refl, sym, ap, subst, ◌∙◌, arith, Option, Some, None, length-append, add-zero, add-suc, add-one}
+use Rattle.std.proofs.Common.{◌≡◌, ℕ, zero, suc, ◌+◌, ◌-◌, ◌<◌, ◌≤◌, List, [], ◌∷◌, ◌++◌, length, get_or, slice_get, ◌↔◌, is_some, IsSome, true, true≢false, refl, sym, ap, subst, ◌∙◌, arith, Option, Some, None, length-append, add-zero, add-suc, add-one}
 use Rattle.std.proofs.Math.ListN.{get_or-append}
 use Rattle.std.proofs.Math.Seq.{get_or-append_seam}
+use Rattle.std.proofs.lemmas.Option.{slice_get-get_or}
+use Rattle.std.specs.Option.{option_map}
 use Rattle.dt_table.specs.Table.{Moved}
-use Rattle.dt_table.specs.History.{moved_of, history_at, histories_after, history, IsBelow, AreLinked}
+use Rattle.dt_table.specs.History.{moved_of, history_at, histories_after, history, mover_in, IsBelow, AreLinked}
 use Rattle.dt_table.specs.declared.stored.StoredMove.{StoredMove}
 
 -- a move that is pushed adds one history: that of the move which it follows, and then the move itself
@@ -102,9 +104,61 @@ length-history_below (m ∷ ms) linked (suc n) (Some p) le below =
     let all = m ∷ ms in
     let within : p < length all = omega arith in
     let earlier : IsBelow n (get_or all p m).before = more_below (0 + p) n (get_or all p m).before (omega arith) (linked_at 0 all p m linked within) in
-    omega (arith, ap length (history-walked all p m linked within), length-append (history all (get_or all p m).before) (moved_of (get_or all p m) ∷ []),
-        length-history_below all linked n (get_or all p m).before (omega arith) earlier)
+    omega (
+      arith,
+      ap length (history-walked all p m linked within),
+      length-append (history all (get_or all p m).before) (moved_of (get_or all p m) ∷ []),
+      length-history_below all linked n (get_or all p m).before (omega arith) earlier,
+    )
 
 -- no row has more moves than there are
 pub length-history : (ms : List StoredMove) (last : Option ℕ) → AreLinked 0 ms → IsBelow (length ms) last → length (history ms last) ≤ length ms
 length-history ms last linked below = length-history_below ms linked (length ms) last (omega arith) below
+
+module _ (ms : List StoredMove) (p : ℕ) (d : StoredMove) (linked : AreLinked 0 ms) (within : p < length ms) where
+  -- one step back: the history is one shorter
+  pub length-walked : length (history ms (Some p)) ≡ length (history ms (get_or ms p d).before) + 1
+  length-walked = ap length (history-walked ms p d linked within) ∙ length-append (history ms (get_or ms p d).before) (moved_of (get_or ms p d) ∷ [])
+
+  -- has the same earlier moves
+  pub earlier-walked : (n : ℕ) → n < length (history ms (get_or ms p d).before) → slice_get (history ms (Some p)) n ≡ slice_get (history ms (get_or ms p d).before) n
+  earlier-walked n early =
+      let m = moved_of (get_or ms p d) in
+      let before = history ms (get_or ms p d).before in
+      let now : n < length (history ms (Some p)) = omega (arith, length-walked) in
+      slice_get-get_or (history ms (Some p)) n m now
+      ∙ ap Some (ap (λ (l : List Moved). get_or l n m) (history-walked ms p d linked within) ∙ get_or-append before (m ∷ []) m n early)
+      ∙ sym (slice_get-get_or before n m early)
+
+  -- and lacks only the move at that place
+  pub last-walked : slice_get (history ms (Some p)) (length (history ms (get_or ms p d).before)) ≡ Some (moved_of (get_or ms p d))
+  last-walked =
+      let m = moved_of (get_or ms p d) in
+      let before = history ms (get_or ms p d).before in
+      let now : length before < length (history ms (Some p)) = omega (arith, length-walked) in
+      slice_get-get_or (history ms (Some p)) (length before) m now
+      ∙ ap Some (ap (λ (l : List Moved). get_or l (length before) m) (history-walked ms p d linked within) ∙ get_or-append_seam before m [] m)
+
+  -- the place before it is one of the list
+  pub before-walked : (q : ℕ) → (get_or ms p d).before ≡ Some q → q < length ms
+  before-walked q e =
+      let below : IsBelow (0 + p) (Some q) = subst (IsBelow (0 + p)) e (linked_at 0 ms p d linked within) in
+      omega arith
+
+-- the mover of a move, by the number of moves before it
+pub mover_in-next : (moves : List Moved) (number earlier : ℕ) → number ≡ earlier + 1 → mover_in moves number ≡ option_map (λ m. m.by) (slice_get moves earlier)
+mover_in-next moves number earlier e = ap (mover_in moves) (e ∙ add-one earlier)
+
+pub IsSome-mover_in : (moves : List Moved) (number : ℕ) → IsSome (mover_in moves number) ↔ ((0 < number) × (number ≤ length moves))
+IsSome-mover_in moves zero = (λ e. absurd (true≢false (sym e)), λ h. absurd (omega arith))
+IsSome-mover_in moves (suc earlier) = (λ e. (omega arith, within moves earlier e), λ h. some moves earlier (omega arith))
+  where
+    within : (moves : List Moved) (n : ℕ) → is_some (option_map (λ (m : Moved). m.by) (slice_get moves n)) ≡ true → suc n ≤ length moves
+    within [] n e = absurd (true≢false (sym e))
+    within (m ∷ moves) zero e = omega arith
+    within (m ∷ moves) (suc n) e = let rest = within moves n e in omega arith
+
+    some : (moves : List Moved) (n : ℕ) → n < length moves → is_some (option_map (λ (m : Moved). m.by) (slice_get moves n)) ≡ true
+    some [] n h = absurd (omega arith)
+    some (m ∷ moves) zero h = refl
+    some (m ∷ moves) (suc n) h = some moves n (omega arith)

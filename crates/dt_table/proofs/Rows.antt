@@ -1,5 +1,5 @@
 -- What a table shows of each key, by the rows that it keeps.
-use Rattle.std.proofs.Common.{◌≡◌, ℕ, ◌+◌, ◌<◌, ◌≤◌, List, [], ◌∷◌, ◌++◌, map, length, refl, sym, ap, ◌∙◌, subst, arith, length-append, Option, Some, None, unwrap_or}
+use Rattle.std.proofs.Common.{◌≡◌, ℕ, zero, suc, ◌+◌, ◌<◌, ◌≤◌, ◌↔◌, slice_get, is_some, IsSome, List, [], ◌∷◌, ◌++◌, map, length, refl, sym, ap, ◌∙◌, subst, arith, length-append, Option, Some, None, unwrap_or}
 use Rattle.std.specs.Option.{option_map}
 use Rattle.std.specs.Ordering.{nat_cmp}
 use Rattle.std.specs.Cmp.Lexicographic.{slice_cmp, nat_list_cmp_total, nat_list_eq_equiv, texts_ties, bytes_decides}
@@ -10,14 +10,14 @@ use Rattle.dt_lists.specs.Lists.{AllIn}
 use Rattle.dt_access.specs.Clash.{Bytes, same_key}
 use Rattle.dt_text.specs.declared.Value.{Value}
 use Rattle.dt_access.specs.declared.TxnId.{TxnId}
-use Rattle.dt_table.specs.Table.{Moved, Row, Table, no_row, row_of, value_of, moves_of, home_of, counter_of, opening_home, home_after, written, moved}
+use Rattle.dt_table.specs.Table.{Moved, Row, Table, no_row, row_of, value_of, moves_of, home_of, counter_of, opening_home, home_after, next_mover, written, moved}
 use Rattle.dt_table.specs.Stored.{fresh_row, stored_of}
-use Rattle.dt_table.specs.History.{row_in, history, moved_of, IsBelow, AreLinked, IsStored, IsSound, kept_of}
+use Rattle.dt_table.specs.History.{row_in, mover_in, history, moved_of, IsBelow, AreLinked, IsStored, IsSound, kept_of}
 use Rattle.dt_table.specs.declared.stored.StoredMove.{StoredMove}
 use Rattle.dt_table.specs.declared.stored.StoredRow.{StoredRow}
 use Rattle.dt_table.specs.declared.table.Table.TheInside.{Inside}
 use Rattle.dt_table.proofs.Entries.{get-from_map, insert-from_map, AllIn-insert_entry, AllIn-lookup}
-use Rattle.dt_table.proofs.Histories.{history-push_other, history-push_new, length-history, AreLinked-push}
+use Rattle.dt_table.proofs.Histories.{history-push_other, history-push_new, length-history, AreLinked-push, mover_in-next, IsSome-mover_in}
 
 -- the row of a key is the stored one, if there is one
 pub row_of-kept : (a : Inside) (key : Bytes) (found : Option StoredRow) → lookup (same_key key) a.rows.entries ≡ found
@@ -39,7 +39,7 @@ pub IsStored-found : (regions : ℕ) (homes : List (Bytes × ℕ)) (moves : List
 IsStored-found regions homes moves rows key row all found =
     AllIn-lookup same_key (IsStored regions homes moves) (λ x y. (bytes_decides x y).0) rows key row all found
 
-moves_of-found : (a : Inside) (key : Bytes) (row : StoredRow) → lookup (same_key key) a.rows.entries ≡ Some row → moves_of (kept_of a).state key ≡ history a.moves.items row.last
+pub moves_of-found : (a : Inside) (key : Bytes) (row : StoredRow) → lookup (same_key key) a.rows.entries ≡ Some row → moves_of (kept_of a).state key ≡ history a.moves.items row.last
 moves_of-found a key row found = ap (λ (r : Row). r.moves) (row_of-kept a key (Some row) found)
 
 -- so it shows the home and the counter of its key
@@ -82,7 +82,7 @@ pub stored-written : (a : Inside) (key : Bytes) (value : Option Value) (home : �
 stored-written a key value home sound opened =
     let row = IsStored-stored_of a key home sound opened in
     AllIn-insert_entry same_key (IsStored a.regions a.homes.entries a.moves.items) (λ x y. (bytes_decides x y).0) a.rows.entries key (record (stored_of a.rows.entries key home) { value = value })
-        sound.rows (record { last = row.last; counter = row.counter; home = row.home })
+    sound.rows (record { last = row.last; counter = row.counter; home = row.home })
 
 -- so the table is as after the write
 pub state-written : (a : Inside) (key : Bytes) (value : Option Value) (home : ℕ) (rows : List (Bytes × StoredRow))
@@ -113,8 +113,7 @@ stored-pushed : (regions : ℕ) (homes : List (Bytes × ℕ)) (moves : List Stor
 stored-pushed regions homes moves m [] all = tt
 stored-pushed regions homes moves m (e ∷ rows) all =
     let row = all.0 in
-    let same = sym (history-push_other moves m e.1.last row.last) in
-    (
+    let same = sym (history-push_other moves m e.1.last row.last) in (
       record {
         last = IsBelow-more moves m e.1.last row.last;
         counter = row.counter ∙ ap length same;
@@ -187,12 +186,12 @@ module _ (a : Inside) (key : Bytes) (target : ℕ) (by : TxnId) (sound : IsSound
         let fits = stored_of-fits a key target sound in
         let earlier = history a.moves.items (stored_of a.rows.entries key target).last in
         AllIn-insert_entry same_key (IsStored a.regions a.homes.entries (a.moves.items ++ m ∷ [])) (λ x y. (bytes_decides x y).0) a.rows.entries key (moved_row a key target place)
-            (stored-pushed a.regions a.homes.entries a.moves.items m a.rows.entries sound.rows)
-            (record {
-              last = omega (arith, at, length-append a.moves.items (m ∷ []));
-              counter = omega (arith, fits.1, ap length longer, length-append earlier (moved_of m ∷ []));
-              home = sym (ap (home_after (opening_home a.regions a.homes.entries key)) longer ∙ home_after-append (opening_home a.regions a.homes.entries key) earlier (moved_of m));
-            })
+        (stored-pushed a.regions a.homes.entries a.moves.items m a.rows.entries sound.rows)
+        (record {
+          last = omega (arith, at, length-append a.moves.items (m ∷ []));
+          counter = omega (arith, fits.1, ap length longer, length-append earlier (moved_of m ∷ []));
+          home = sym (ap (home_after (opening_home a.regions a.homes.entries key)) longer ∙ home_after-append (opening_home a.regions a.homes.entries key) earlier (moved_of m));
+        })
 
     -- so the table is as after the move
     pub state-moved : (rows : List (Bytes × StoredRow)) (moves : List StoredMove) → rows ≡ insert_entry same_key a.rows.entries key (moved_row a key target place)
@@ -201,3 +200,24 @@ module _ (a : Inside) (key : Bytes) (target : ℕ) (by : TxnId) (sound : IsSound
     state-moved rows moves is pushed =
         (λ i. record (kept_of a).state { rows = from_entries (map (λ e. (e.0, row_in (pushed i) e.1)) (is i)) })
         ∙ ap (λ (m : FinMap (slice_cmp nat_cmp) Row). record (kept_of a).state { rows = m }) rows-moved
+
+-- ---- who made a move
+
+pub mover_in-none : (number : ℕ) → mover_in [] number ≡ None
+mover_in-none zero = refl
+mover_in-none (suc earlier) = refl
+
+-- the mover that the moves of the key give is the one that the table gives
+pub next_mover-mover_in : (t : Table) (key : Bytes) (moves : List Moved) (number : ℕ) (mover : Option TxnId) → moves_of t key ≡ moves → mover ≡ mover_in moves number
+    → (before : ℕ) → number ≡ before + 1 → mover ≡ next_mover t key before
+next_mover-mover_in t key moves number mover is answer before e =
+    answer ∙ mover_in-next moves number before e ∙ ap (λ (l : List Moved). option_map (λ (m : Moved). m.by) (slice_get l before)) (sym is)
+
+pub IsSome-mover : (t : Table) (key : Bytes) (moves : List Moved) (number : ℕ) (mover : Option TxnId) → moves_of t key ≡ moves → mover ≡ mover_in moves number
+    → IsSome mover ↔ ((0 < number) × (number ≤ counter_of t key))
+IsSome-mover t key moves number mover is answer =
+    let known = IsSome-mover_in moves number in
+    let counter = ap length is in (
+      λ some. let h = known.0 (ap is_some (sym answer) ∙ some) in (h.0, omega (arith, h.1, counter)),
+      λ h. ap is_some answer ∙ known.1 (h.0, omega (arith, h.1, counter)),
+    )

@@ -1,9 +1,10 @@
 -- How a table keeps its moves: those of all rows in one list, each with the place of the move that it follows.
-use Rattle.std.specs.Prelude.{◌≡◌, ◌+◌, ◌-◌, ◌<◌, ◌^◌, ℕ, List, [], ◌∷◌, ◌++◌, map, length, get_or, min, Option, Some, None, vec_len, vec_capacity}
+use Rattle.std.specs.Prelude.{◌≡◌, ◌+◌, ◌-◌, ◌<◌, ◌^◌, ℕ, zero, suc, slice_get, option_map, List, [], ◌∷◌, ◌++◌, map, length, get_or, min, Option, Some, None, vec_len, vec_capacity}
 use Rattle.std.specs.FinMap.{from_entries}
 use Rattle.indexmap.specs.IndexMap.{spare}
 use Rattle.dt_lists.specs.Lists.{AllIn}
 use Rattle.dt_access.specs.Clash.{Bytes}
+use Rattle.dt_access.specs.declared.TxnId.{TxnId}
 use Rattle.dt_table.specs.Table.{Moved, Row, Kept, opening_home, home_after}
 use Rattle.dt_table.specs.declared.stored.StoredMove.{StoredMove}
 use Rattle.dt_table.specs.declared.stored.StoredRow.{StoredRow}
@@ -26,6 +27,11 @@ histories_after known (m ∷ moves) = histories_after (known ++ (history_at know
 -- the moves of the row whose last move stands at this place, oldest first
 abbrev pub history : List StoredMove → Option ℕ → List Moved
 history moves last = history_at (histories_after [] moves) last
+
+-- who made the move `number` of these, counted from 1, if there is one
+abbrev pub mover_in : List Moved → ℕ → Option TxnId
+mover_in moves zero = None
+mover_in moves (suc earlier) = option_map (λ m. m.by) (slice_get moves earlier)
 
 -- the row that is stored so
 abbrev pub row_in : List StoredMove → StoredRow → Row

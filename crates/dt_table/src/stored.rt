@@ -1,8 +1,9 @@
-ghost use Rattle.std.specs.Prelude.{◌≡◌, ◌+◌, ◌<◌, ◌≤◌, ◌^◌, Some};
+ghost use Rattle.std.specs.Prelude.{◌≡◌, ◌+◌, ◌<◌, ◌≤◌, ◌^◌, Some, length};
 ghost use Rattle.indexmap.specs.IndexMap.{insert_entry, spare};
 ghost use Rattle.dt_access.specs.Clash.{same_key};
 ghost use Rattle.dt_table.specs.Table.{opening_home as opening_home_of};
 ghost use Rattle.dt_table.specs.Stored.{stored_of};
+ghost use Rattle.dt_table.specs.History.{history, mover_in, IsBelow, AreLinked};
 
 use dt_access::TxnId;
 use dt_text::{Key, Value};
@@ -104,4 +105,21 @@ fn add_row(rows: &mut IndexMap<Key, StoredRow>, key: Key, row: StoredRow)
         Ok(_) => (),
         Err(_) => unreachable!(),
     }
+}
+
+/// Who made the move `number` of a row, counted from 1. None exactly where there is no such move.
+pub fn mover_of(moves: &[StoredMove], row: &StoredRow, number: u32) -> Option<TxnId>
+    requires linked { AreLinked 0 moves.now }
+    requires last { IsBelow (length moves.now) row.now.last }
+    requires counter { row.now.counter ≡ length (history moves.now row.now.last) }
+    ensures { result ≡ mover_in (history moves.now row.now.last) number }
+{
+    if number == 0 || row.counter < number {
+        return None;
+    }
+    let mut place = row.last?;
+    for _later in number..row.counter {
+        place = moves[place as usize].before?;
+    }
+    Some(moves[place as usize].by)
 }

@@ -5,7 +5,7 @@ ghost use Rattle.dt_table.specs.Table.{value_of, home_of, counter_of, next_mover
 
 use crate::effect::Effect;
 use crate::shown::{Shown, ShownList};
-use crate::stored::{StoredMove, StoredRow, opening_home, put_move, put_value};
+use crate::stored::{StoredMove, StoredRow, mover_of, opening_home, put_move, put_value};
 use dt_access::TxnId;
 use dt_text::{Key, NoMemory, Value};
 use indexmap::IndexMap;
@@ -75,15 +75,7 @@ impl Table {
         ensures mover { (before : ℕ) → number ≡ before + 1 → result ≡ next_mover self.now.state key.now before }
         ensures some { IsSome result ↔ ((0 < number) × (number ≤ counter_of self.now.state key.now)) }
     {
-        let row = self.rows.get(key)?;
-        if number == 0 || row.counter < number {
-            return None;
-        }
-        let mut place = row.last?;
-        for _ in number..row.counter {
-            place = self.moves[place as usize].before?;
-        }
-        Some(self.moves[place as usize].by)
+        mover_of(&self.moves, self.rows.get(key)?, number)
     }
 
     /// Makes room for so many writes and moves, of any keys. After `NoMemory` too, nothing else has changed.

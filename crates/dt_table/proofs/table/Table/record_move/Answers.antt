@@ -14,7 +14,7 @@ invariant_of-self c =
     let a = c.self.inside in
     let place : c.len-place.result ≡ length a.moves.items = c.len-place.ensures ∙ a.moves.ok.0 in
     let pushed = c.in-Ok.ensures.items
-        ∙ ap (λ (b : Option ℕ). a.moves.items ++ record { target = c.args.target; by = c.args.by; before = b } ∷ []) c.put_move-before.ensures.before in
+    ∙ ap (λ (b : Option ℕ). a.moves.items ++ record { target = c.args.target; by = c.args.by; before = b } ∷ []) c.put_move-before.ensures.before in
     record {
       regions = c.self.invariant.regions;
       few = omega (arith, c.in-Ok.ensures.len, ap (λ (k : Kept). k.spare) c.self.view_is);
@@ -27,5 +27,5 @@ returns-clause-state c =
     let a = c.self.inside in
     let place : c.len-place.result ≡ length a.moves.items = c.len-place.ensures ∙ a.moves.ok.0 in
     let pushed = c.in-Ok.ensures.items
-        ∙ ap (λ (b : Option ℕ). a.moves.items ++ record { target = c.args.target; by = c.args.by; before = b } ∷ []) c.put_move-before.ensures.before in
+    ∙ ap (λ (b : Option ℕ). a.moves.items ++ record { target = c.args.target; by = c.args.by; before = b } ∷ []) c.put_move-before.ensures.before in
     rw (← c.self.view_is) (state-moved a c.args.key c.args.target c.args.by c.self.invariant c.len-place.result place _ _ c.put_move-before.ensures.rows pushed)
