@@ -1,5 +1,1 @@
 pub mod Allowed
-pub mod Cuts
-pub mod Numerals
-pub mod ReadingAt
-pub mod ReadingSteps
