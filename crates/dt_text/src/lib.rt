@@ -3,6 +3,7 @@
 
 mod errors;
 mod key;
+mod laws;
 mod lines;
 mod listed;
 mod name;
@@ -15,6 +16,7 @@ mod words;
 
 pub use errors::{KeyError, StrError};
 pub use key::Key;
+pub use laws::{numbers_have_one_spelling, printed_texts_read_back, words_are_exact};
 pub use lines::{Line, Lines};
 pub use listed::Listed;
 pub use name::Name;
