@@ -5,5 +5,11 @@ pub mod Longer
 pub mod Closed
 pub mod Via
 pub mod Reach
-pub mod Order
+pub mod Precedence
 pub mod Classes
+pub mod Decisions
+pub mod Staying
+pub mod OneHome
+pub mod NothingToDo
+pub mod Growing
+pub mod Sound

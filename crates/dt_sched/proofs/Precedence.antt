@@ -1,13 +1,13 @@
 -- Precedes is a strict order, and it orders any two of which one reaches the other.
-use Rattle.std.proofs.Common.{◌≡◌, ◌≢◌, ◌⊎◌, ℕ, true, List, [], ◌∷◌, refl, sym, ap, subst, inl, inr}
-use Rattle.dt_lists.specs.Lists.{AnyIn, SomeThen, Has, Either}
+use Rattle.std.proofs.Common.{◌≡◌, ◌≢◌, ◌⊎◌, ℕ, true, refl, sym, ap, subst, inl, inr}
+use Rattle.dt_lists.specs.Lists.{Has, Either}
 use Rattle.dt_lists.proofs.Words.{some_map, some_of_two}
 use Rattle.dt_access.specs.Ids.{Before}
 use Rattle.dt_access.specs.Clash.{clash}
 use Rattle.dt_access.specs.declared.TxnId.{TxnId}
 use Rattle.dt_access.specs.declared.Part.{Part}
-use Rattle.dt_sched.specs.Views.{View, log_at, AreClashing, Edge, Chain, here, onward, Reaches, Precedes}
-use Rattle.dt_sched.proofs.Ids.{before_irreflexive, before_transitive, before_total, before_differs}
+use Rattle.dt_sched.specs.Views.{View, log_at, Edge, here, Reaches, Precedes}
+use Rattle.dt_sched.proofs.Ids.{before_transitive, before_total, before_differs}
 use Rattle.dt_sched.proofs.Clash.{clash_symmetric}
 use Rattle.dt_sched.proofs.Chains.{chain_join, chain_step}
 use Rattle.dt_sched.proofs.Reach.{reach_decided}
@@ -21,9 +21,11 @@ precedes_transitive view u v t p q = by (reach_decided view t u)
   where
     through : Reaches view u t
     through = chain_join p.1 q.1
+
     lower : (a b : TxnId) → (¬ (Reaches view b a)) ⊎ Before a b → Reaches view b a → Before a b
     lower a b (inl n) r = absurd (n r)
     lower a b (inr h) r = h
+
     by : Either (Reaches view t u) → Precedes view u t
     by (inl back) =
         let h : Before u t = before_transitive u v t (lower u v p.2 (chain_join q.1 back)) (lower v t q.2 (chain_join back p.1)) in
@@ -47,10 +49,10 @@ comparable view u t ne (inr r) = by (reach_decided view u t)
 pub edge_of_two : (view : View) (home : ℕ) (p q : Part) → Has (log_at view home) p → Has (log_at view home) q → p.id ≢ q.id → clash p.keys q.keys ≡ true → Edge view p.id q.id ⊎ Edge view q.id p.id
 edge_of_two view home p q hp hq ne c =
     elim (some_of_two (λ a b. clash a.keys b.keys ≡ true) (log_at view home) p q hp hq (λ e. ne (ap (λ x. x.id) e)) c (clash_symmetric p.keys q.keys c)) [
-      inl s ↦ inl (edge_at_home view home p.id q.id ne (some_map _ _ (log_at view home) (λ a b h. (ap (λ x. x.id) h.0, ap (λ x. x.id) h.1, h.2)) s))
-    | inr s ↦ inr (edge_at_home view home q.id p.id (λ e. ne (sym e)) (some_map _ _ (log_at view home) (λ a b h. (ap (λ x. x.id) h.0, ap (λ x. x.id) h.1, h.2)) s))
+      | inl s ↦ inl (edge_at_home view home p.id q.id ne (some_map _ _ (log_at view home) (λ a b h. (ap (λ x. x.id) h.0, ap (λ x. x.id) h.1, h.2)) s))
+      | inr s ↦ inr (edge_at_home view home q.id p.id (λ e. ne (sym e)) (some_map _ _ (log_at view home) (λ a b h. (ap (λ x. x.id) h.0, ap (λ x. x.id) h.1, h.2)) s))
     ]
 
 pub comparable_in_log : (view : View) (home : ℕ) (p q : Part) → Has (log_at view home) p → Has (log_at view home) q → p.id ≢ q.id → clash p.keys q.keys ≡ true → Precedes view p.id q.id ⊎ Precedes view q.id p.id
 comparable_in_log view home p q hp hq ne c = comparable view p.id q.id ne
-  (elim (edge_of_two view home p q hp hq ne c) [ inl e ↦ inl (chain_step e) | inr e ↦ inr (chain_step e) ])
+    (elim (edge_of_two view home p q hp hq ne c) [ inl e ↦ inl (chain_step e) | inr e ↦ inr (chain_step e) ])
