@@ -6,3 +6,4 @@ pub mod Tests
 pub mod Decided
 pub mod Least
 pub mod Ascending
+pub mod Before
