@@ -103,3 +103,16 @@ front_filtered test (x ∷ xs) front = go (cases_Bool (test x)) (front_filtered 
     go : (test x ≡ true) ⊎ (test x ≡ false) → IsFront (filter test xs) xs → IsFront (filter test (x ∷ xs)) (x ∷ xs)
     go (inl y) later = rw y (later.0, ap (λ l. x ∷ l) later.1)
     go (inr n) later = rw (n, filter_none test xs (later_fail test x xs n front.0)) (x ∷ xs, refl)
+
+get_longer : {A : Type 0} (xs rest : List A) (i : ℕ) (x : A) → slice_get xs i ≡ Some x → slice_get (xs ++ rest) i ≡ Some x
+get_longer [] rest i x e = cc
+get_longer (y ∷ ys) rest zero x e = e
+get_longer (y ∷ ys) rest (suc i) x e = get_longer ys rest i x e
+
+-- an item of a front stands at its place in the whole list
+pub get_front : {A : Type 0} (xs ys : List A) (i : ℕ) (x : A) → IsFront xs ys → slice_get xs i ≡ Some x → slice_get ys i ≡ Some x
+get_front xs ys i x f e = subst (λ l. slice_get l i ≡ Some x) f.1 (get_longer xs f.0 i x e)
+
+pub get_seam : {A : Type 0} (xs : List A) (y : A) (ys : List A) → slice_get (xs ++ y ∷ ys) (length xs) ≡ Some y
+get_seam [] y ys = refl
+get_seam (x ∷ xs) y ys = get_seam xs y ys
