@@ -52,7 +52,7 @@ module _ (order : TxnId → TxnId → Type 0) (start : Table) (txns : List Txn) 
   no_moves : (key : Bytes) → counter_of start key ≡ 0
   no_moves key = ap length (h.unmoved key)
 
-  keys_at : (x : Txn) → Has txns x → KeepsToKeys x
+  pub keys_at : (x : Txn) → Has txns x → KeepsToKeys x
   keys_at x k = all_get KeepsToKeys txns h.keys x k
 
   pub anchor_at : (x : Txn) (a : Access) → Has txns x → Has x.access a → FollowsMove order (moves_of (table_after txns start) a.key) a.counter x.id

@@ -1,0 +1,103 @@
+-- One outcome: in each list whose transactions come after all that precedes them, a transaction does what it does in the
+-- history, and the table is the replay of the history for those of the list.
+use Rattle.std.proofs.Common.{◌≡◌, ◌≢◌, ◌<◌, ◌≤◌, ◌⊎◌, ℕ, zero, suc, Bool, true, false, cond, List, [], ◌∷◌, ◌++◌, length, map, slice_get, Some, None, refl, sym, ap, ap₂, subst, ◌∙◌, append_assoc, append-nil, inl, inr, arith}
+use Rattle.std.specs.Prelude.{Option, option_map, filter}
+use Rattle.std.proofs.lemmas.Bool.{and_from, or_left}
+use Rattle.std.proofs.lemmas.List.{map-append}
+use Rattle.std.specs.Cmp.Lexicographic.{bytes_decides}
+use Rattle.std.proofs.lemmas.Option.{slice_get_within}
+use Rattle.dt_lists.specs.Lists.{AnyIn, AllIn, Has, EachThen, IsFront, Either}
+use Rattle.dt_lists.proofs.Words.{any_map, any_get, any_append, any_append_left, any_append_right, all_get, all_put, all_append_left, all_append_right, all_map, each_append_right, has_map}
+use Rattle.dt_lists.proofs.Before.{Spot, spot, spot_has, has_middle, if_passes, get_filtered, front_filtered}
+use Rattle.dt_sched.proofs.Ids.{either_id}
+use Rattle.dt_access.specs.Clash.{Bytes, is_write, uses_clash}
+use Rattle.dt_access.specs.declared.TxnId.{TxnId}
+use Rattle.dt_access.specs.declared.Access.{Access}
+use Rattle.dt_access.specs.declared.Mode.{Mode}
+use Rattle.dt_access.specs.declared.Mode.TheVariants.{Write}
+use Rattle.dt_table.specs.declared.Effect.{Effect}
+use Rattle.dt_table.specs.Table.{Table, Moved, value_of, moves_of, counter_of, next_mover, apply}
+use Rattle.dt_txn.specs.declared.txn.Txn.{Txn}
+use Rattle.dt_txn.specs.declared.outcome.Outcome.{Outcome}
+use Rattle.dt_txn.specs.Execution.{one}
+use Rattle.dt_txn.specs.Serial.{after, outcomes, table_after}
+use Rattle.dt_serial.specs.Order.{txn_ids, Ordered, IsDown, FollowsMove, IsStale, IsLive, Changes, MayWrite, IsHistory}
+use Rattle.dt_serial.specs.Replay.{among, replay}
+use Rattle.dt_serial.proofs.Rows.{either_changes}
+use Rattle.dt_serial.proofs.One.{one_alike, live_entries, live_of_outcome, change_of_one}
+use Rattle.dt_serial.proofs.Runs.{table_after_append, outcomes_append, outcome_at, AlongRun, along_put, replay_append, replay_alike, replay_none, replay_value, replay_swap}
+use Rattle.dt_serial.proofs.Past.{has_of_among, among_of_has, not_among, among_same, IsPast, past_of_down, same_past, down_empty, down_front, down_closed, down_preceders, filter_ids, of_filter, has_filter, down_filter}
+use Rattle.dt_serial.proofs.History.{down_at, past_at, apart_at, replay_at, keys_at, anchor_at, same_movers, across, closed_front, replayed_moves, replayed_mover}
+
+module _ (order : TxnId → TxnId → Type 0) (start : Table) (txns : List Txn) (h : IsHistory order start txns) where
+  -- two live transactions that change one row are ordered
+  changers : (x y : Txn) (s : Spot txns x) (r : Spot txns y) (key : Bytes) → x.id ≢ y.id → Changes (one x (table_after s.front start)).1 key → IsLive y (table_after r.front start) → AnyIn (λ b. b.key ≡ key) y.access → Ordered order x.id y.id
+  changers x y s r key ne cx ly ky =
+      let lx : IsLive x (table_after s.front start) × MayWrite x key = change_of_one x (table_after s.front start) key (keys_at order start txns h x (spot_has txns x s)) cx in
+      let a : (a : Access) × Has x.access a × ((a.key ≡ key) × (a.mode ≡ Write)) = any_get _ x.access lx.1 in
+      let b : (b : Access) × Has y.access b × (b.key ≡ key) = any_get _ y.access ky in
+      let clash : uses_clash ((a.0).key, (a.0).mode) ((b.0).key, (b.0).mode) ≡ true = and_from _ _ ((bytes_decides (a.0).key (b.0).key).1 (a.2.0 ∙ sym b.2)) (or_left _ _ (ap is_write a.2.1)) in
+      across order start txns h x y s r a.0 b.0 lx.0 ly ne a.1 b.1 clash
+
+  -- after any two pasts of it, a live transaction sees the same values
+  same_values : (y : Txn) (r : Spot txns y) (p q : TxnId → Bool) → IsPast order p y.id → IsPast order q y.id → IsLive y (table_after r.front start) → AllIn (λ a. value_of (replay p txns start start) a.key ≡ value_of (replay q txns start start) a.key) y.access
+  same_values y r p q pp pq ly = all_put _ y.access (λ a ka. replay_value p q txns start start start a.key (along_put _ txns start (λ x s. at a ka x s (either_changes (one x (table_after s.front start)).1 a.key) (either_id x.id y.id))) refl)
+    where
+      at : (a : Access) → Has y.access a → (x : Txn) (s : Spot txns x) → Either (Changes (one x (table_after s.front start)).1 a.key) → Either (x.id ≡ y.id) → (¬ (Changes (one x (table_after s.front start)).1 a.key)) ⊎ (p x.id ≡ q x.id)
+      at a ka x s (inr n) own = inl n
+      at a ka x s (inl c) (inl own) = inr (ap p own ∙ pp.absent ∙ sym (ap q own ∙ pq.absent))
+      at a ka x s (inl c) (inr ne) = inr (same_past order p q y.id x.id pp pq (changers x y s r a.key ne c ly (key_of y.access a ka)))
+        where
+          key_of : (access : List Access) (a : Access) → Has access a → AnyIn (λ b. b.key ≡ a.key) access
+          key_of [] a k = k
+          key_of (b ∷ access) a (inl e) = inl (ap (λ c. c.key) e)
+          key_of (b ∷ access) a (inr k) = inr (key_of access a k)
+
+  -- the step: on the replay of any past of it, a transaction does what it does in the history
+  pub same_one : (y : Txn) (r : Spot txns y) (p : TxnId → Bool) → IsPast order p y.id → one y (replay p txns start start) ≡ one y (table_after r.front start)
+  same_one y r p pp =
+      let q : TxnId → Bool = among (txn_ids r.front) in
+      let pq : IsPast order q y.id = past_at order start txns h y r in
+      let before : replay q txns start start ≡ table_after r.front start = replay_at order start txns h y r in
+      one_alike y (replay p txns start start) (replay q txns start start)
+        (same_movers order start txns h y p q (spot_has txns y r) pp pq)
+        (λ live. same_values y r p q pp pq (subst (IsLive y) before live))
+      ∙ ap (one y) before
+
+  -- and then the table is the replay that has this transaction too
+  pub same_after : (y : Txn) (r : Spot txns y) (p q : TxnId → Bool) → IsPast order p y.id → q y.id ≡ true → ((i : TxnId) → i ≢ y.id → q i ≡ p i) → after y (replay p txns start start) ≡ replay q txns start start
+  same_after y r p q pp own others =
+      ap (λ e. apply e (replay p txns start start)) (ap (λ o. o.1) (same_one y r p pp))
+      ∙ ap (apply effect) without
+      ∙ replay_swap effect p r.rest (after y here) (replay p r.front start start) apart
+      ∙ sym with_it
+    where
+      here : Table
+      here = table_after r.front start
+      effect : Effect
+      effect = (one y here).1
+      split : (c : TxnId → Bool) → replay c txns start start ≡ replay c r.rest (after y here) (cond (c y.id) (apply effect (replay c r.front start start)) (replay c r.front start start))
+      split c = ap (λ l. replay c l start start) r.is ∙ replay_append c r.front (y ∷ r.rest) start start
+      without : replay p txns start start ≡ replay p r.rest (after y here) (replay p r.front start start)
+      without = split p ∙ ap (λ b. replay p r.rest (after y here) (cond b (apply effect (replay p r.front start start)) (replay p r.front start start))) pp.absent
+      not_front : (x : Txn) → Has r.front x → x.id ≢ y.id
+      not_front x k e = apart_at order start txns h y r x.id (has_map (λ z. z.id) r.front x k) (inl (sym e))
+      not_rest : (x : Txn) → Has r.rest x → x.id ≢ y.id
+      not_rest x k e = all_get _ (txn_ids r.rest) (each_append_right _ (txn_ids r.front) (y.id ∷ txn_ids r.rest) (down_at order start txns h y r).once).0 x.id (has_map (λ z. z.id) r.rest x k) (sym e)
+      with_it : replay q txns start start ≡ replay p r.rest (after y here) (apply effect (replay p r.front start start))
+      with_it =
+          split q
+          ∙ ap (λ b. replay q r.rest (after y here) (cond b (apply effect (replay q r.front start start)) (replay q r.front start start))) own
+          ∙ ap (λ t. replay q r.rest (after y here) (apply effect t)) (replay_alike q p r.front start start (all_put _ r.front (λ x k. others x.id (not_front x k))))
+          ∙ replay_alike q p r.rest (after y here) _ (all_put _ r.rest (λ x k. others x.id (not_rest x k)))
+      apart : AlongRun (λ x t. p x.id ≡ true → (key : Bytes) → Changes (one x t).1 key → ¬ (Changes effect key)) r.rest (after y here)
+      apart = along_put _ r.rest (after y here) (λ x s chosen key cx cy.
+          let whole : Spot txns x = record { front = r.front ++ y ∷ s.front; rest = s.rest; is = r.is ∙ ap (λ l. r.front ++ y ∷ l) s.is ∙ sym (append_assoc r.front (y ∷ s.front) (x ∷ s.rest)) } in
+          let table : table_after whole.front start ≡ table_after s.front (after y here) = table_after_append r.front (y ∷ s.front) start in
+          let changed : Changes (one x (table_after whole.front start)).1 key = subst (λ t. Changes (one x t).1 key) (sym table) cx in
+          let ly : IsLive y here × MayWrite y key = change_of_one y here key (keys_at order start txns h y (spot_has txns y r)) cy in
+          let k : Has r.rest x = spot_has r.rest x s in
+          let ordered : Ordered order x.id y.id = changers x y whole r key (not_rest x k) changed ly.0 (any_map _ _ y.access (λ a w. w.0) ly.1) in
+          let alike : p x.id ≡ among (txn_ids r.front) x.id = same_past order p (among (txn_ids r.front)) y.id x.id pp (past_at order start txns h y r) ordered in
+          let absent : among (txn_ids r.front) x.id ≡ false = not_among (txn_ids r.front) x.id (λ f. apart_at order start txns h y r x.id f (inr (has_map (λ z. z.id) r.rest x k))) in
+          cc (chosen, alike, absent))
