@@ -1,13 +1,13 @@
 -- One outcome: in each list whose transactions come after all that precedes them, a transaction does what it does in the
 -- history, and the table is the replay of the history for those of the list.
-use Rattle.std.proofs.Common.{◌≡◌, ◌≢◌, ◌<◌, ◌≤◌, ◌⊎◌, ℕ, zero, suc, Bool, true, false, cond, List, [], ◌∷◌, ◌++◌, length, map, slice_get, Some, None, refl, sym, ap, ap₂, subst, ◌∙◌, append_assoc, append-nil, inl, inr, arith}
+use Rattle.std.proofs.Common.{◌≡◌, ◌≢◌, ◌<◌, ◌≤◌, ◌⊎◌, ℕ, zero, suc, Bool, true, false, cond, List, [], ◌∷◌, ◌++◌, length, map, slice_get, Some, None, refl, sym, ap, ap₂, subst, ◌∙◌, append_assoc, append-nil, inl, inr, arith, le_antisymm, ◌↔◌}
 use Rattle.std.specs.Prelude.{Option, option_map, filter}
 use Rattle.std.proofs.lemmas.Bool.{and_from, or_left}
 use Rattle.std.proofs.lemmas.List.{map-append}
 use Rattle.std.specs.Cmp.Lexicographic.{bytes_decides}
 use Rattle.std.proofs.lemmas.Option.{slice_get_within}
 use Rattle.dt_lists.specs.Lists.{AnyIn, AllIn, Has, EachThen, IsFront, Either}
-use Rattle.dt_lists.proofs.Words.{any_map, any_get, any_append, any_append_left, any_append_right, all_get, all_put, all_append_left, all_append_right, all_map, each_append_right, has_map}
+use Rattle.dt_lists.proofs.Words.{any_map, any_get, any_of_image, any_append, any_append_left, any_append_right, all_get, all_put, all_append_left, all_append_right, all_map, each_append_right, has_map}
 use Rattle.dt_lists.proofs.Before.{Spot, spot, spot_has, has_middle, if_passes, get_filtered, front_filtered}
 use Rattle.dt_sched.proofs.Ids.{either_id}
 use Rattle.dt_access.specs.Clash.{Bytes, is_write, uses_clash}
@@ -101,3 +101,128 @@ module _ (order : TxnId → TxnId → Type 0) (start : Table) (txns : List Txn) 
           let alike : p x.id ≡ among (txn_ids r.front) x.id = same_past order p (among (txn_ids r.front)) y.id x.id pp (past_at order start txns h y r) ordered in
           let absent : among (txn_ids r.front) x.id ≡ false = not_among (txn_ids r.front) x.id (λ f. apart_at order start txns h y r x.id f (inr (has_map (λ z. z.id) r.rest x k))) in
           cc (chosen, alike, absent))
+
+  -- lists of members of the history whose transactions come after all that precedes them
+
+  -- the replay of the history for those of a list
+  abbrev pub canon : List Txn → Table
+  canon xs = replay (among (txn_ids xs)) txns start start
+
+  canon_empty : canon [] ≡ start
+  canon_empty = replay_none (among []) txns start start (all_put _ txns (λ x k. refl))
+
+  pub past_in : (xs : List Txn) (y : Txn) (ys : List Txn) → IsDown order (txn_ids (xs ++ y ∷ ys)) → IsPast order (among (txn_ids xs)) y.id
+  past_in xs y ys down = past_of_down order (txn_ids xs) y.id (txn_ids ys) (subst (IsDown order) (map-append (λ z. z.id) xs (y ∷ ys)) down)
+
+  canon_step : (xs : List Txn) (y : Txn) (ys : List Txn) → Has txns y → IsDown order (txn_ids (xs ++ y ∷ ys)) → after y (canon xs) ≡ canon (xs ++ y ∷ [])
+  canon_step xs y ys k down = same_after y (spot txns y k) (among (txn_ids xs)) (among (txn_ids (xs ++ y ∷ []))) (past_in xs y ys down)
+      (among_of_has _ y.id (has_map (λ z. z.id) (xs ++ y ∷ []) y (has_middle xs y [])))
+      (λ i ne. among_same _ _ i (less i ne) (more i))
+    where
+      ids : txn_ids (xs ++ y ∷ []) ≡ txn_ids xs ++ y.id ∷ []
+      ids = map-append (λ z. z.id) xs (y ∷ [])
+      less : (i : TxnId) → i ≢ y.id → Has (txn_ids (xs ++ y ∷ [])) i → Has (txn_ids xs) i
+      less i ne k = elim (any_append _ (txn_ids xs) (y.id ∷ []) (subst (λ l. Has l i) ids k)) [
+          inl a ↦ a
+        | inr b ↦ elim b [ inl e ↦ absurd (ne (sym e)) | inr n ↦ absurd n ]
+        ]
+      more : (i : TxnId) → Has (txn_ids xs) i → Has (txn_ids (xs ++ y ∷ [])) i
+      more i k = subst (λ l. Has l i) (sym ids) (any_append_left _ (txn_ids xs) (y.id ∷ []) k)
+
+  -- a list goes on from the replay for those that ran before
+  walk : (xs ys : List Txn) → AllIn (λ x. Has txns x) ys → IsDown order (txn_ids (xs ++ ys)) → table_after ys (canon xs) ≡ canon (xs ++ ys)
+  walk xs [] all down = ap canon (sym (append-nil xs))
+  walk xs (y ∷ ys) all down =
+      ap (table_after ys) (canon_step xs y ys all.0 down)
+      ∙ walk (xs ++ y ∷ []) ys all.1 (subst (λ l. IsDown order (txn_ids l)) (sym (append_assoc xs (y ∷ []) ys)) down)
+      ∙ ap canon (append_assoc xs (y ∷ []) ys)
+
+  walk_outcomes : (xs ys : List Txn) → AllIn (λ x. Has txns x) ys → IsDown order (txn_ids (xs ++ ys)) → AllIn (λ r. Has (outcomes txns start) r) (outcomes ys (canon xs))
+  walk_outcomes xs [] all down = tt
+  walk_outcomes xs (y ∷ ys) all down =
+      let r : Spot txns y = spot txns y all.0 in
+      let same : one y (canon xs) ≡ one y (table_after r.front start) = same_one y r (among (txn_ids xs)) (past_in xs y ys down) in
+      ( subst (λ o. Has (outcomes txns start) (y.id, o)) (sym (ap (λ e. e.0) same)) (outcome_at txns start y r)
+      , subst (λ t. AllIn (λ r. Has (outcomes txns start) r) (outcomes ys t)) (sym (canon_step xs y ys all.0 down)) (walk_outcomes (xs ++ y ∷ []) ys all.1 (subst (λ l. IsDown order (txn_ids l)) (sym (append_assoc xs (y ∷ []) ys)) down)) )
+
+  -- the table after such a list is the replay of the history for those of the list
+  pub one_table : (xs : List Txn) → AllIn (λ x. Has txns x) xs → IsDown order (txn_ids xs) → table_after xs start ≡ replay (among (txn_ids xs)) txns start start
+  one_table xs all down = ap (table_after xs) (sym canon_empty) ∙ walk [] xs all down
+
+  -- each transaction of such a list has the outcome that it has in the history
+  pub one_outcome : (xs : List Txn) → AllIn (λ x. Has txns x) xs → IsDown order (txn_ids xs) → AllIn (λ r. Has (outcomes txns start) r) (outcomes xs start)
+  one_outcome xs all down = subst (λ t. AllIn (λ r. Has (outcomes txns start) r) (outcomes xs t)) canon_empty (walk_outcomes [] xs all down)
+
+  members_front : (xs : List Txn) (y : Txn) (ys : List Txn) → AllIn (λ x. Has txns x) (xs ++ y ∷ ys) → IsDown order (txn_ids (xs ++ y ∷ ys)) → table_after xs start ≡ canon xs
+  members_front xs y ys all down = one_table xs (all_append_left _ xs (y ∷ ys) all) (down_front order (txn_ids xs) (txn_ids (y ∷ ys)) (subst (IsDown order) (map-append (λ z. z.id) xs (y ∷ ys)) down))
+
+  -- and what it does there is what it does in the history
+  pub one_effect : (xs : List Txn) (y : Txn) (ys : List Txn) (r : Spot txns y) → AllIn (λ x. Has txns x) (xs ++ y ∷ ys) → IsDown order (txn_ids (xs ++ y ∷ ys)) → one y (table_after xs start) ≡ one y (table_after r.front start)
+  one_effect xs y ys r all down = ap (one y) (members_front xs y ys all down) ∙ same_one y r (among (txn_ids xs)) (past_in xs y ys down)
+
+  -- two such lists with the same members end with equal tables
+  pub one_set : (xs ys : List Txn) → AllIn (λ x. Has txns x) xs → AllIn (λ x. Has txns x) ys → IsDown order (txn_ids xs) → IsDown order (txn_ids ys) → ((i : TxnId) → Has (txn_ids xs) i ↔ Has (txn_ids ys) i) → table_after xs start ≡ table_after ys start
+  one_set xs ys allx ally downx downy same =
+      one_table xs allx downx
+      ∙ replay_alike (among (txn_ids xs)) (among (txn_ids ys)) txns start start (all_put _ txns (λ x k. among_same (txn_ids xs) (txn_ids ys) x.id (same x.id).0 (same x.id).1))
+      ∙ sym (one_table ys ally downy)
+
+  -- so does the history, restricted to the members of the list
+  pub one_restricted : (xs : List Txn) → AllIn (λ x. Has txns x) xs → IsDown order (txn_ids xs) → table_after xs start ≡ table_after (filter (λ x. among (txn_ids xs) x.id) txns) start
+  one_restricted xs all down = one_set xs (filter (λ x. p x.id) txns) all (all_map _ _ (filter (λ x. p x.id) txns) (λ x k. k.0) (of_filter (λ x. p x.id) txns)) down
+      (subst (IsDown order) (sym (filter_ids p txns)) (down_filter order p (txn_ids txns) h.down (λ u t r y. among_of_has (txn_ids xs) u (down_closed order (txn_ids xs) u t down r (has_of_among (txn_ids xs) t y)))))
+      (λ i. (into i, back i))
+    where
+      p : TxnId → Bool
+      p = among (txn_ids xs)
+      into : (i : TxnId) → Has (txn_ids xs) i → Has (txn_ids (filter (λ x. p x.id) txns)) i
+      into i k =
+          let x : (x : Txn) × Has xs x × (x.id ≡ i) = any_get _ xs (any_of_image (λ j. j ≡ i) (λ x. x.id) xs k) in
+          let y : p (x.0).id ≡ true = among_of_has (txn_ids xs) (x.0).id (has_map (λ z. z.id) xs x.0 x.1) in
+          subst (Has (txn_ids (filter (λ x. p x.id) txns))) x.2 (has_map (λ z. z.id) (filter (λ x. p x.id) txns) x.0 (has_filter (λ x. p x.id) txns x.0 (all_get _ xs all x.0 x.1) y))
+      back : (i : TxnId) → Has (txn_ids (filter (λ x. p x.id) txns)) i → Has (txn_ids xs) i
+      back i k = has_of_among (txn_ids xs) i (all_get _ (filter p (txn_ids txns)) (of_filter p (txn_ids txns)) i (subst (λ l. Has l i) (filter_ids p txns) k)).1
+
+  -- moves and counters in such a list
+
+  closed_in : (xs : List Txn) → IsDown order (txn_ids xs) → (u v : TxnId) → order u v → among (txn_ids xs) v ≡ true → among (txn_ids xs) u ≡ true
+  closed_in xs down u v r y = among_of_has (txn_ids xs) u (down_closed order (txn_ids xs) u v down r (has_of_among (txn_ids xs) v y))
+
+  -- the moves of a key are the first ones of the history
+  pub moves_front : (xs : List Txn) (key : Bytes) → AllIn (λ x. Has txns x) xs → IsDown order (txn_ids xs) → IsFront (moves_of (table_after xs start) key) (moves_of (table_after txns start) key)
+  moves_front xs key all down = subst (λ l. IsFront l (moves_of (table_after txns start) key)) (sym (ap (λ t. moves_of t key) (one_table xs all down) ∙ replayed_moves order start txns h (among (txn_ids xs)) key)) (front_filtered _ _ (closed_front order start txns h (among (txn_ids xs)) (closed_in xs down) key))
+
+  -- the next mover of a transaction's entry is that of the history's last table, if it precedes the transaction
+  pub flag_up : (xs : List Txn) (y : Txn) (ys : List Txn) (a : Access) (by : TxnId) → AllIn (λ x. Has txns x) (xs ++ y ∷ ys) → IsDown order (txn_ids (xs ++ y ∷ ys)) → Has y.access a → next_mover (table_after txns start) a.key a.counter ≡ Some by → order by y.id → next_mover (table_after xs start) a.key a.counter ≡ Some by
+  flag_up xs y ys a by all down ka e r = ap (λ t. next_mover t a.key a.counter) (members_front xs y ys all down) ∙ replayed_mover order start txns h (among (txn_ids xs)) pp.closed a.key a.counter ∙ go (slice_get (moves_of (table_after txns start) a.key) a.counter) e
+    where
+      pp : IsPast order (among (txn_ids xs)) y.id
+      pp = past_in xs y ys down
+      go : (o : Option Moved) → option_map (λ m. m.by) o ≡ Some by → option_map (λ m. m.by) (if_passes (λ m. among (txn_ids xs) m.by) o) ≡ Some by
+      go None e = cc
+      go (Some m) e =
+          let same : m.by ≡ by = cc in
+          ap (λ b. option_map (λ m. m.by) (cond b (Some m) None)) (ap (among (txn_ids xs)) same ∙ pp.preceders by r) ∙ e
+
+  -- when a transaction of such a list runs, its keys have been moved at least as often as it was annotated
+  pub counters_reached : (xs : List Txn) (y : Txn) (ys : List Txn) → AllIn (λ x. Has txns x) (xs ++ y ∷ ys) → IsDown order (txn_ids (xs ++ y ∷ ys)) → AllIn (λ a. a.counter ≤ counter_of (table_after xs start) a.key) y.access
+  counters_reached xs y ys all down = all_put _ y.access (λ a ka. go a (a.counter) (anchor_at order start txns h y a (all_append_at all) ka))
+    where
+      all_append_at : AllIn (λ x. Has txns x) (xs ++ y ∷ ys) → Has txns y
+      all_append_at every = all_get _ (xs ++ y ∷ ys) every y (has_middle xs y ys)
+      pp : IsPast order (among (txn_ids xs)) y.id
+      pp = past_in xs y ys down
+      go : (a : Access) (c : ℕ) → FollowsMove order (moves_of (table_after txns start) a.key) c y.id → c ≤ counter_of (table_after xs start) a.key
+      go a zero f = omega arith
+      go a (suc c) f =
+          let there : slice_get (moves_of (canon xs) a.key) c ≡ Some f.0 =
+              ap (λ l. slice_get l c) (replayed_moves order start txns h (among (txn_ids xs)) a.key)
+              ∙ get_filtered (λ m. among (txn_ids xs) m.by) _ c (closed_front order start txns h (among (txn_ids xs)) pp.closed a.key)
+              ∙ ap (if_passes (λ m. among (txn_ids xs) m.by)) f.1
+              ∙ ap (λ b. cond b (Some f.0) None) (pp.preceders (f.0).by f.2) in
+          let lt : c < length (moves_of (canon xs) a.key) = slice_get_within _ c f.0 there in
+          subst (λ t. suc c ≤ counter_of t a.key) (sym (members_front xs y ys all down)) lt
+
+  -- and exactly as often, if it is not stale
+  pub counters_exact : (xs : List Txn) (y : Txn) (ys : List Txn) → AllIn (λ x. Has txns x) (xs ++ y ∷ ys) → IsDown order (txn_ids (xs ++ y ∷ ys)) → IsLive y (table_after xs start) → AllIn (λ a. counter_of (table_after xs start) a.key ≡ a.counter) y.access
+  counters_exact xs y ys all down live = all_put _ y.access (λ a ka. le_antisymm (all_get _ y.access (live_entries y (table_after xs start) live) a ka) (all_get _ y.access (counters_reached xs y ys all down) a ka))
