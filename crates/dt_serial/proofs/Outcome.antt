@@ -2,15 +2,16 @@
 -- history, and the table is the replay of the history for those of the list.
 use Rattle.std.proofs.Common.{◌≡◌, ◌≢◌, ◌<◌, ◌≤◌, ◌⊎◌, ℕ, zero, suc, Bool, true, false, cond, List, [], ◌∷◌, ◌++◌, length, map, slice_get, Some, None, refl, sym, ap, ap₂, subst, ◌∙◌, append_assoc, append-nil, inl, inr, arith, le_antisymm, ◌↔◌}
 use Rattle.std.specs.Prelude.{Option, option_map, filter}
-use Rattle.std.proofs.lemmas.Bool.{and_from, or_left}
+use Rattle.std.proofs.lemmas.Bool.{cases_Bool, both_ways, and_from, or_left}
 use Rattle.std.proofs.lemmas.List.{map-append}
 use Rattle.std.specs.Cmp.Lexicographic.{bytes_decides}
 use Rattle.std.proofs.lemmas.Option.{slice_get_within}
-use Rattle.dt_lists.specs.Lists.{AnyIn, AllIn, Has, EachThen, IsFront, Either}
+use Rattle.dt_lists.specs.Lists.{AnyIn, AllIn, Has, EachThen, IsFront, Distinct, Either}
 use Rattle.dt_lists.proofs.Words.{any_map, any_get, any_of_image, any_append, any_append_left, any_append_right, all_get, all_put, all_append_left, all_append_right, all_map, each_append_right, has_map}
-use Rattle.dt_lists.proofs.Before.{Spot, spot, spot_has, has_middle, if_passes, get_filtered, front_filtered}
+use Rattle.dt_lists.proofs.Before.{Spot, spot, spot_has, has_middle, if_passes, get_filtered, front_filtered, same_by_key}
 use Rattle.dt_sched.proofs.Ids.{either_id}
-use Rattle.dt_access.specs.Clash.{Bytes, is_write, uses_clash}
+use Rattle.dt_sched.proofs.Clash.{uses_of_clash}
+use Rattle.dt_access.specs.Clash.{Bytes, is_write, uses_clash, clash}
 use Rattle.dt_access.specs.declared.TxnId.{TxnId}
 use Rattle.dt_access.specs.declared.Access.{Access}
 use Rattle.dt_access.specs.declared.Mode.{Mode}
@@ -23,11 +24,12 @@ use Rattle.dt_txn.specs.Execution.{one}
 use Rattle.dt_txn.specs.Serial.{after, outcomes, table_after}
 use Rattle.dt_serial.specs.Order.{txn_ids, Ordered, IsDown, FollowsMove, IsStale, IsLive, Changes, MayWrite, IsHistory}
 use Rattle.dt_serial.specs.Replay.{among, replay}
+use Rattle.dt_serial.specs.Laws.{uses_in}
 use Rattle.dt_serial.proofs.Rows.{either_changes}
 use Rattle.dt_serial.proofs.One.{one_alike, live_entries, live_of_outcome, change_of_one}
-use Rattle.dt_serial.proofs.Runs.{table_after_append, outcomes_append, outcome_at, AlongRun, along_put, replay_append, replay_alike, replay_none, replay_value, replay_swap}
+use Rattle.dt_serial.proofs.Runs.{table_after_append, outcomes_append, outcomes_ids, outcome_at, AlongRun, along_put, replay_append, replay_alike, replay_none, replay_value, replay_swap}
 use Rattle.dt_serial.proofs.Past.{has_of_among, among_of_has, not_among, among_same, IsPast, past_of_down, same_past, down_empty, down_front, down_closed, down_preceders, filter_ids, of_filter, has_filter, down_filter}
-use Rattle.dt_serial.proofs.History.{down_at, past_at, apart_at, replay_at, keys_at, anchor_at, same_movers, across, closed_front, replayed_moves, replayed_mover}
+use Rattle.dt_serial.proofs.History.{down_at, past_at, apart_at, replay_at, keys_at, anchor_at, follower, same_movers, across, closed_front, replayed_moves, replayed_mover}
 
 module _ (order : TxnId → TxnId → Type 0) (start : Table) (txns : List Txn) (h : IsHistory order start txns) where
   -- two live transactions that change one row are ordered
@@ -226,3 +228,48 @@ module _ (order : TxnId → TxnId → Type 0) (start : Table) (txns : List Txn) 
   -- and exactly as often, if it is not stale
   pub counters_exact : (xs : List Txn) (y : Txn) (ys : List Txn) → AllIn (λ x. Has txns x) (xs ++ y ∷ ys) → IsDown order (txn_ids (xs ++ y ∷ ys)) → IsLive y (table_after xs start) → AllIn (λ a. counter_of (table_after xs start) a.key ≡ a.counter) y.access
   counters_exact xs y ys all down live = all_put _ y.access (λ a ka. le_antisymm (all_get _ y.access (live_entries y (table_after xs start) live) a ka) (all_get _ y.access (counters_reached xs y ys all down) a ka))
+
+  -- the next mover of an entry of such a list's transaction is that of the history's last table, and precedes it
+  pub flag_down : (xs : List Txn) (y : Txn) (ys : List Txn) (a : Access) (by : TxnId) → AllIn (λ x. Has txns x) (xs ++ y ∷ ys) → IsDown order (txn_ids (xs ++ y ∷ ys)) → Has y.access a → next_mover (table_after xs start) a.key a.counter ≡ Some by → (next_mover (table_after txns start) a.key a.counter ≡ Some by) × order by y.id
+  flag_down xs y ys a by all down ka e = go (slice_get (moves_of (table_after txns start) a.key) a.counter) refl (sym (ap (λ t. next_mover t a.key a.counter) (members_front xs y ys all down) ∙ replayed_mover order start txns h (among (txn_ids xs)) pp.closed a.key a.counter) ∙ e)
+    where
+      pp : IsPast order (among (txn_ids xs)) y.id
+      pp = past_in xs y ys down
+      known : Has txns y
+      known = all_get _ (xs ++ y ∷ ys) all y (has_middle xs y ys)
+      precedes : (m : Moved) → slice_get (moves_of (table_after txns start) a.key) a.counter ≡ Some m → among (txn_ids xs) m.by ≡ true → Either (m.by ≡ y.id) → order m.by y.id
+      precedes m f chosen (inl own) = absurd (both_ways (among (txn_ids xs) y.id) pp.absent (sym (ap (among (txn_ids xs)) own) ∙ chosen))
+      precedes m f chosen (inr ne) = elim (follower order start txns h y a m known ka f ne) [
+          inl r ↦ r
+        | inr r ↦ absurd (both_ways (among (txn_ids xs) y.id) pp.absent (pp.closed y.id m.by r chosen))
+        ]
+      at : (m : Moved) → slice_get (moves_of (table_after txns start) a.key) a.counter ≡ Some m → (among (txn_ids xs) m.by ≡ true) ⊎ (among (txn_ids xs) m.by ≡ false) → option_map (λ n. n.by) (if_passes (λ n. among (txn_ids xs) n.by) (Some m)) ≡ Some by → (next_mover (table_after txns start) a.key a.counter ≡ Some by) × order by y.id
+      at m f (inl chosen) g =
+          let own : Some m.by ≡ Some by = ap (λ b. option_map (λ n. n.by) (cond b (Some m) None)) (sym chosen) ∙ g in
+          let same : m.by ≡ by = cc in
+          (ap (option_map (λ n. n.by)) f ∙ own, subst (λ i. order i y.id) same (precedes m f chosen (either_id m.by y.id)))
+      at m f (inr dropped) g = let none : None ≡ Some by = ap (λ b. option_map (λ n. n.by) (cond b (Some m) None)) (sym dropped) ∙ g in cc
+      go : (o : Option Moved) → slice_get (moves_of (table_after txns start) a.key) a.counter ≡ o → option_map (λ n. n.by) (if_passes (λ n. among (txn_ids xs) n.by) o) ≡ Some by → (next_mover (table_after txns start) a.key a.counter ≡ Some by) × order by y.id
+      go None f g = cc
+      go (Some m) f g = at m f (cases_Bool (among (txn_ids xs) m.by)) g
+
+  -- each transaction has one outcome in the history
+  pub single_outcome : (i : TxnId) (o p : Outcome) → Has (outcomes txns start) (i, o) → Has (outcomes txns start) (i, p) → o ≡ p
+  single_outcome i o p a b = ap (λ r. r.1) (same_by_key (λ r. r.0) (outcomes txns start) (i, o) (i, p) (subst Distinct (sym (outcomes_ids txns start)) h.down.once) a b refl)
+
+  -- so an outcome in two such lists is one
+  pub one_outcome_each : (xs ys : List Txn) → AllIn (λ x. Has txns x) xs → AllIn (λ x. Has txns x) ys → IsDown order (txn_ids xs) → IsDown order (txn_ids ys) → (i : TxnId) (o p : Outcome) → Has (outcomes xs start) (i, o) → Has (outcomes ys start) (i, p) → o ≡ p
+  one_outcome_each xs ys allx ally downx downy i o p a b = single_outcome i o p (all_get _ (outcomes xs start) (one_outcome xs allx downx) (i, o) a) (all_get _ (outcomes ys start) (one_outcome ys ally downy) (i, p) b)
+
+  -- a transaction whose outcome in the history is not stale is live where it ran
+  live_there : (x : Txn) (s : Spot txns x) (o : Outcome) → Has (outcomes txns start) (x.id, o) → ¬ (IsStale o) → IsLive x (table_after s.front start)
+  live_there x s o k fresh = live_of_outcome x (table_after s.front start) (λ w. fresh (subst IsStale (single_outcome x.id _ o (outcome_at txns start x s) k) w))
+
+  -- across moves: of two transactions that are not stale, and whose uses clash, one precedes the other
+  pub across_moves : (x y : Txn) (o p : Outcome) → Has txns x → Has txns y → x.id ≢ y.id → Has (outcomes txns start) (x.id, o) → Has (outcomes txns start) (y.id, p) → ¬ (IsStale o) → ¬ (IsStale p) → clash (uses_in x) (uses_in y) ≡ true → Ordered order x.id y.id
+  across_moves x y o p kx ky ne ox py fx fy c =
+      let s : Spot txns x = spot txns x kx in
+      let r : Spot txns y = spot txns y ky in
+      let a : (a : Access) × Has x.access a × AnyIn (λ v. uses_clash (a.key, a.mode) v ≡ true) (uses_in y) = any_get _ x.access (any_of_image (λ u. AnyIn (λ v. uses_clash u v ≡ true) (uses_in y)) (λ a. (a.key, a.mode)) x.access (uses_of_clash (uses_in x) (uses_in y) c)) in
+      let b : (b : Access) × Has y.access b × (uses_clash ((a.0).key, (a.0).mode) (b.key, b.mode) ≡ true) = any_get _ y.access (any_of_image (λ v. uses_clash ((a.0).key, (a.0).mode) v ≡ true) (λ b. (b.key, b.mode)) y.access a.2) in
+      across order start txns h x y s r a.0 b.0 (live_there x s o ox fx) (live_there y r p py fy) ne a.1 b.1 b.2

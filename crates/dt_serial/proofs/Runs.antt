@@ -7,7 +7,7 @@ use Rattle.std.proofs.lemmas.List.Elements.{filter-append}
 use Rattle.dt_lists.specs.Lists.{AnyIn, AllIn, Has, IsFront}
 use Rattle.dt_lists.proofs.Words.{any_append_right, has_map}
 use Rattle.dt_lists.proofs.Fronts.{front_refl, front_trans, front_append}
-use Rattle.dt_lists.proofs.Before.{Spot, spot, spot_has, get_front, get_seam}
+use Rattle.dt_lists.proofs.Before.{Spot, spot, spot_has, get_front, get_seam, all_of_gets}
 use Rattle.dt_access.specs.Clash.{Bytes}
 use Rattle.dt_access.specs.declared.TxnId.{TxnId}
 use Rattle.dt_table.specs.declared.Effect.{Effect}
@@ -96,6 +96,10 @@ pub mover_in : (xs : List Txn) (t : Table) (key : Bytes) (i : ℕ) (m : Moved) �
 mover_in xs t key i m low e =
     let r : IsMoveAt xs t key i m = move_at xs t key i m low e in
     subst (Has (txn_ids xs)) r.makes.by (has_map (λ x. x.id) xs r.mover (spot_has xs r.mover r.at))
+
+-- so after a run from a table without moves each mover is among those that ran
+pub movers_ran : (xs : List Txn) (t : Table) (key : Bytes) → moves_of t key ≡ [] → AllIn (λ m. Has (txn_ids xs) m.by) (moves_of (table_after xs t) key)
+movers_ran xs t key none = all_of_gets _ (moves_of (table_after xs t) key) (λ i m e. mover_in xs t key i m (omega (arith, ap length none)) e)
 
 -- what holds of each transaction of a run, on the table on which it ran
 abbrev pub AlongRun : (Txn → Table → Type 0) → List Txn → Table → Type 0
