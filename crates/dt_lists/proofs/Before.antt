@@ -129,3 +129,9 @@ same_by_key f (z ∷ xs) x y once (inl a) (inl b) e = sym a ∙ b
 same_by_key f (z ∷ xs) x y once (inl a) (inr b) e = absurd (all_get _ (map f xs) once.0 (f y) (has_map f xs y b) (ap f a ∙ e))
 same_by_key f (z ∷ xs) x y once (inr a) (inl b) e = absurd (all_get _ (map f xs) once.0 (f x) (has_map f xs x a) (ap f b ∙ sym e))
 same_by_key f (z ∷ xs) x y once (inr a) (inr b) e = same_by_key f xs x y once.1 a b e
+
+-- what holds of each item and each later one rules out what holds of some item and a later one
+pub some_each : {A : Type 0} (R S : A → A → Type 0) (xs : List A) → EachThen R xs → SomeThen S xs → ((x y : A) → R x y → ¬ (S x y)) → ⊥
+some_each R S [] each s f = s
+some_each R S (x ∷ xs) each (inl s) f = let r : (y : _) × Has xs y × S x y = any_get (S x) xs s in f x r.0 (all_get (R x) xs each.0 r.0 r.1) r.2
+some_each R S (x ∷ xs) each (inr s) f = some_each R S xs each.1 s f

@@ -7,3 +7,4 @@ pub mod Decided
 pub mod Least
 pub mod Ascending
 pub mod Before
+pub mod Filters

@@ -18,7 +18,7 @@ use Rattle.dt_table.specs.Table.{Table, Moved, moves_of, counter_of, next_mover}
 use Rattle.dt_txn.specs.declared.txn.Txn.{Txn}
 use Rattle.dt_txn.specs.Serial.{table_after}
 use Rattle.dt_serial.specs.Order.{txn_ids, Ordered, IsDown, FollowsMove, IsAnchored, IsShared, IsLive, MayWrite, KeepsToKeys, IsHistory}
-use Rattle.dt_serial.specs.Replay.{among, replay}
+use Rattle.dt_serial.specs.Replay.{is_among, replay}
 use Rattle.dt_serial.proofs.One.{next_none, live_entries, IsMoveOf, change_of_one}
 use Rattle.dt_serial.proofs.Runs.{table_after_append, moves_grow, IsMoveAt, move_at, mover_in, replay_append, replay_all, replay_none, chosen_moves, replay_moves}
 use Rattle.dt_serial.proofs.Past.{has_of_among, among_of_has, not_among, IsPast, past_of_down, same_past, down_preceders}
@@ -32,7 +32,7 @@ module _ (order : TxnId → TxnId → Type 0) (start : Table) (txns : List Txn) 
   pub down_at : (x : Txn) (s : Spot txns x) → IsDown order (txn_ids s.front ++ x.id ∷ txn_ids s.rest)
   down_at x s = subst (IsDown order) (ids_at x s) h.down
 
-  pub past_at : (x : Txn) (s : Spot txns x) → IsPast order (among (txn_ids s.front)) x.id
+  pub past_at : (x : Txn) (s : Spot txns x) → IsPast order (is_among (txn_ids s.front)) x.id
   past_at x s = past_of_down order (txn_ids s.front) x.id (txn_ids s.rest) (down_at x s)
 
   pub apart_at : (x : Txn) (s : Spot txns x) (i : TxnId) → Has (txn_ids s.front) i → ¬ (Has (x.id ∷ txn_ids s.rest) i)
@@ -42,12 +42,12 @@ module _ (order : TxnId → TxnId → Type 0) (start : Table) (txns : List Txn) 
   last_at x s = ap (λ l. table_after l start) s.is ∙ table_after_append s.front (x ∷ s.rest) start
 
   -- the table before a transaction is the replay of those before it
-  pub replay_at : (x : Txn) (s : Spot txns x) → replay (among (txn_ids s.front)) txns start start ≡ table_after s.front start
+  pub replay_at : (x : Txn) (s : Spot txns x) → replay (is_among (txn_ids s.front)) txns start start ≡ table_after s.front start
   replay_at x s =
-      ap (λ l. replay (among (txn_ids s.front)) l start start) s.is
-      ∙ replay_append (among (txn_ids s.front)) s.front (x ∷ s.rest) start start
-      ∙ replay_none (among (txn_ids s.front)) (x ∷ s.rest) _ _ (all_put _ (x ∷ s.rest) (λ y k. not_among (txn_ids s.front) y.id (λ a. apart_at x s y.id a (has_map (λ z. z.id) (x ∷ s.rest) y k))))
-      ∙ replay_all (among (txn_ids s.front)) s.front start (all_put _ s.front (λ y k. among_of_has (txn_ids s.front) y.id (has_map (λ z. z.id) s.front y k)))
+      ap (λ l. replay (is_among (txn_ids s.front)) l start start) s.is
+      ∙ replay_append (is_among (txn_ids s.front)) s.front (x ∷ s.rest) start start
+      ∙ replay_none (is_among (txn_ids s.front)) (x ∷ s.rest) _ _ (all_put _ (x ∷ s.rest) (λ y k. not_among (txn_ids s.front) y.id (λ a. apart_at x s y.id a (has_map (λ z. z.id) (x ∷ s.rest) y k))))
+      ∙ replay_all (is_among (txn_ids s.front)) s.front start (all_put _ s.front (λ y k. among_of_has (txn_ids s.front) y.id (has_map (λ z. z.id) s.front y k)))
 
   no_moves : (key : Bytes) → counter_of start key ≡ 0
   no_moves key = ap length (h.unmoved key)

@@ -34,6 +34,14 @@ next_none t key c e = past (moves_of t key) c e
     past (m ∷ ms) zero e = cc
     past (m ∷ ms) (suc c) e = let r : length ms ≤ c = past ms c e in omega arith
 
+-- the move that the next mover made
+pub mover_at : (ms : List Moved) (c : ℕ) (by : TxnId) → option_map (λ m. m.by) (slice_get ms c) ≡ Some by → (m : Moved) × (slice_get ms c ≡ Some m) × (m.by ≡ by)
+mover_at ms c by e = go (slice_get ms c) refl e
+  where
+    go : (o : Option Moved) → slice_get ms c ≡ o → option_map (λ m. m.by) o ≡ Some by → (m : Moved) × (slice_get ms c ≡ Some m) × (m.by ≡ by)
+    go None f e = cc
+    go (Some m) f e = (m, f, cc)
+
 -- staleness
 
 pub stale_alike : (access : List Access) (t u : Table) → AllIn (λ a. next_mover t a.key a.counter ≡ next_mover u a.key a.counter) access → stale_of access (map (seen_of t) access) ≡ stale_of access (map (seen_of u) access)

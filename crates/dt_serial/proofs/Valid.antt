@@ -26,7 +26,7 @@ call_keeps zero (Text k ∷ Int n ∷ []) reads key fits (inr e) = absurd e
 call_keeps proc args reads key fits changes = absurd fits
 
 body_keeps : (regions : ℕ) (id : TxnId) (body : Body) (reads : List (Bytes × Option Value)) (key : Bytes) → BodyFits regions body → Changes (result_of id body reads).1 key → AnyIn (λ u. (u.0 ≡ key) × (u.1 ≡ Write)) (uses_of body)
-body_keeps regions id (Call proc args) reads key fits changes = call_keeps proc args reads key fits changes
+body_keeps regions id (Call proc args) reads key fits changes = call_keeps proc args reads key fits.0 changes
 body_keeps regions id (Move k target) reads key fits (inl e) = absurd e
 body_keeps regions id (Move k target) reads key fits (inr e) = inl (e, refl)
 

@@ -16,8 +16,11 @@ use Rattle.dt_serial.specs.Order.{IsLive}
 -- one of the transactions, `by`, is a move of the key and gave; in their last table it is the key's move that follows the
 -- first `had` ones
 pub record MadeMove (txns : List Txn) (start : Table) (key : Bytes) (had : ℕ) (by : TxnId) : Type 0 where
+  pub mover : Txn
   pub target : ℕ
-  pub body : AnyIn (λ x. (x.id ≡ by) × (x.body ≡ Move key target)) txns
+  pub there : Has txns mover
+  pub id : mover.id ≡ by
+  pub body : mover.body ≡ Move key target
   pub gave : Has (outcomes txns start) (by, Gave [])
   pub number : slice_get (moves_of (table_after txns start) key) had ≡ Some (record { target = target; by = by })
 

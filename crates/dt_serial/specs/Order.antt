@@ -1,5 +1,5 @@
 -- What an order of ids must have to do with a serial run, so that runs in other orders agree with it.
-use Rattle.std.specs.Prelude.{◌≡◌, ◌≢◌, ◌⊎◌, ℕ, zero, suc, true, List, [], map, slice_get, Option, Some, None, IsSomeAnd}
+use Rattle.std.specs.Prelude.{◌≡◌, ◌≢◌, ◌⊎◌, ℕ, zero, suc, Bool, true, List, [], map, slice_get, Option, Some, None, IsSomeAnd}
 use Rattle.dt_lists.specs.Lists.{AnyIn, AllIn, SomeThen, Has, Distinct}
 use Rattle.dt_access.specs.Clash.{Bytes, uses_clash}
 use Rattle.dt_access.specs.declared.TxnId.{TxnId}
@@ -78,3 +78,17 @@ pub record IsHistory (order : TxnId → TxnId → Type 0) (start : Table) (txns 
   pub down : IsDown order (txn_ids txns)
   pub anchored : IsAnchored order (table_after txns start) txns
   pub shared : IsShared order txns
+
+-- the transactions are some of those of a history, each after all that precedes it
+pub record IsPart (order : TxnId → TxnId → Type 0) (start : Table) (history txns : List Txn) : Type 0 where
+  pub fits : IsHistory order start history
+  pub members : AllIn (λ x. Has history x) txns
+  pub down : IsDown order (txn_ids txns)
+
+-- the order that a test tells
+abbrev pub ByTest : (TxnId → TxnId → Bool) → TxnId → TxnId → Type 0
+ByTest precedes u t = precedes u t ≡ true
+
+-- the keys that a transaction uses, each with its mode
+abbrev pub uses_in : Txn → List (Bytes × Mode)
+uses_in x = map (λ a. (a.key, a.mode)) x.access

@@ -2,7 +2,7 @@
 use Rattle.std.proofs.Common.{◌≡◌, ◌⊎◌, ◌≤◌, ℕ, List, [], ◌∷◌, ◌++◌, length, slice_get, Some, None, refl, sym, ap, subst, ◌∙◌, inl, inr, arith}
 use Rattle.std.specs.Prelude.{Option, option_map}
 use Rattle.dt_lists.specs.Lists.{AnyIn, AllIn, Has}
-use Rattle.dt_lists.proofs.Words.{any_map, any_put, any_append_left, all_put}
+use Rattle.dt_lists.proofs.Words.{any_map, any_append_left, all_put}
 use Rattle.dt_lists.proofs.Before.{Spot, spot_has, get_front}
 use Rattle.dt_access.specs.Clash.{Bytes}
 use Rattle.dt_access.specs.declared.TxnId.{TxnId}
@@ -21,7 +21,7 @@ use Rattle.dt_txn.specs.Execution.{see, reads_of, of_finish, result_of, one}
 use Rattle.dt_txn.specs.Serial.{outcomes, table_after}
 use Rattle.dt_serial.specs.Order.{IsLive, IsStale}
 use Rattle.dt_serial.specs.Evidence.{MadeMove, own_outcome, IsGrounded, HasReason}
-use Rattle.dt_serial.proofs.One.{IsStaleAt, live_or_stale, one_live, IsMoveOf}
+use Rattle.dt_serial.proofs.One.{mover_at, IsStaleAt, live_or_stale, one_live, IsMoveOf}
 use Rattle.dt_serial.proofs.Runs.{table_after_append, outcomes_append, outcome_at, IsOutcomeAt, outcome_get, moves_grow, IsMoveAt, move_at}
 
 -- the move of each number was made by one of the run
@@ -29,8 +29,11 @@ pub move_made : (xs : List Txn) (start : Table) (key : Bytes) (i : ℕ) (m : Mov
 move_made xs start key i m none e =
     let r : IsMoveAt xs start key i m = move_at xs start key i m (omega (arith, ap length none)) e in
     record {
+      mover = r.mover;
       target = m.target;
-      body = any_put _ xs r.mover (spot_has xs r.mover r.at) (r.makes.by, r.makes.body);
+      there = spot_has xs r.mover r.at;
+      id = r.makes.by;
+      body = r.makes.body;
       gave = subst (Has (outcomes xs start)) (λ j. (r.makes.by j, r.makes.gave j)) (outcome_at xs start r.mover r.at);
       number = e;
     }
@@ -38,18 +41,14 @@ move_made xs start key i m none e =
 -- and stays made
 pub made_stays : (xs ys : List Txn) (start : Table) (key : Bytes) (had : ℕ) (by : TxnId) → MadeMove xs start key had by → MadeMove (xs ++ ys) start key had by
 made_stays xs ys start key had by m = record {
+  mover = m.mover;
   target = m.target;
-  body = any_append_left _ xs ys m.body;
+  there = any_append_left _ xs ys m.there;
+  id = m.id;
+  body = m.body;
   gave = subst (λ l. Has l (by, Gave [])) (sym (outcomes_append xs ys start)) (any_append_left _ (outcomes xs start) _ m.gave);
   number = subst (λ t. slice_get (moves_of t key) had ≡ Some (record { target = m.target; by = by })) (sym (table_after_append xs ys start)) (get_front _ _ had _ (moves_grow ys (table_after xs start) key) m.number);
 }
-
-mover_at : (ms : List Moved) (c : ℕ) (by : TxnId) → option_map (λ m. m.by) (slice_get ms c) ≡ Some by → (m : Moved) × (slice_get ms c ≡ Some m) × (m.by ≡ by)
-mover_at ms c by e = go (slice_get ms c) refl e
-  where
-    go : (o : Option Moved) → slice_get ms c ≡ o → option_map (λ m. m.by) o ≡ Some by → (m : Moved) × (slice_get ms c ≡ Some m) × (m.by ≡ by)
-    go None f e = cc
-    go (Some m) f e = (m, f, cc)
 
 finish_fresh : (f : Finish) → ¬ (IsStale (of_finish f).0)
 finish_fresh (finish.Gave values writes) k = k
