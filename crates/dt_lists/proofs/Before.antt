@@ -1,10 +1,10 @@
 -- What stands before an item of a list, and what a filter keeps of a list where it keeps all that stands before what it
 -- keeps.
-use Rattle.std.proofs.Common.{◌≡◌, ◌≢◌, ◌<◌, ◌≤◌, ◌⊎◌, ℕ, zero, suc, Bool, true, false, cond, List, [], ◌∷◌, ◌++◌, length, map, slice_get, Some, None, refl, sym, ap, subst, ◌∙◌, inl, inr, arith, append_assoc}
+use Rattle.std.proofs.Common.{◌≡◌, ◌<◌, ◌⊎◌, ℕ, zero, suc, Bool, true, false, cond, List, [], ◌∷◌, ◌++◌, length, map, slice_get, Some, None, refl, sym, ap, subst, ◌∙◌, inl, inr, arith}
 use Rattle.std.specs.Prelude.{filter, Option}
 use Rattle.std.proofs.lemmas.Bool.{cases_Bool}
-use Rattle.dt_lists.specs.Lists.{AnyIn, AllIn, SomeThen, Has, EachThen, Distinct, IsFront}
-use Rattle.dt_lists.proofs.Words.{any_get, any_put, any_append_left, all_map, all_get, some_get, has_map}
+use Rattle.dt_lists.specs.Lists.{AllIn, SomeThen, Has, EachThen, Distinct, IsFront}
+use Rattle.dt_lists.proofs.Words.{any_get, any_put, all_map, all_get, some_get, has_map}
 
 -- a place where the item stands in the list
 pub record Spot {A : Type 0} (xs : List A) (x : A) : Type 0 where

@@ -1,13 +1,12 @@
 -- Why a transaction has its outcome.
-use Rattle.std.proofs.Common.{◌≡◌, ◌⊎◌, ◌≤◌, ℕ, List, [], ◌∷◌, ◌++◌, length, slice_get, Some, None, refl, sym, ap, subst, ◌∙◌, inl, inr, arith}
-use Rattle.std.specs.Prelude.{Option, option_map}
-use Rattle.dt_lists.specs.Lists.{AnyIn, AllIn, Has}
+use Rattle.std.proofs.Common.{◌≡◌, ◌⊎◌, ℕ, List, [], ◌∷◌, ◌++◌, length, slice_get, Some, sym, ap, subst, inl, inr, arith}
+use Rattle.std.specs.Prelude.{Option}
+use Rattle.dt_lists.specs.Lists.{AllIn, Has}
 use Rattle.dt_lists.proofs.Words.{any_map, any_append_left, all_put}
 use Rattle.dt_lists.proofs.Before.{Spot, spot_has, get_front}
 use Rattle.dt_access.specs.Clash.{Bytes}
 use Rattle.dt_access.specs.declared.TxnId.{TxnId}
-use Rattle.dt_access.specs.declared.Access.{Access}
-use Rattle.dt_table.specs.Table.{Table, Moved, moves_of, counter_of, next_mover}
+use Rattle.dt_table.specs.Table.{Table, Moved, moves_of}
 use Rattle.dt_text.specs.declared.Value.{Value}
 use Rattle.dt_eval.specs.Meaning.{meaning}
 use Rattle.dt_eval.specs.declared.Finish.{Finish}
@@ -21,7 +20,7 @@ use Rattle.dt_txn.specs.Execution.{see, reads_of, of_finish, result_of, one}
 use Rattle.dt_txn.specs.Serial.{outcomes, table_after}
 use Rattle.dt_serial.specs.Order.{IsLive, IsStale}
 use Rattle.dt_serial.specs.Evidence.{MadeMove, own_outcome, IsGrounded, HasReason}
-use Rattle.dt_serial.proofs.One.{mover_at, IsStaleAt, live_or_stale, one_live, IsMoveOf}
+use Rattle.dt_serial.proofs.One.{mover_at, IsStaleAt, live_or_stale, one_live}
 use Rattle.dt_serial.proofs.Runs.{table_after_append, outcomes_append, outcome_at, IsOutcomeAt, outcome_get, moves_grow, IsMoveAt, move_at}
 
 -- the move of each number was made by one of the run

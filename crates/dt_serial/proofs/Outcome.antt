@@ -1,24 +1,23 @@
 -- One outcome: in each list whose transactions come after all that precedes them, a transaction does what it does in the
 -- history, and the table is the replay of the history for those of the list.
-use Rattle.std.proofs.Common.{◌≡◌, ◌≢◌, ◌<◌, ◌≤◌, ◌⊎◌, ℕ, zero, suc, Bool, true, false, cond, List, [], ◌∷◌, ◌++◌, length, map, slice_get, Some, None, refl, sym, ap, ap₂, subst, ◌∙◌, append_assoc, append-nil, inl, inr, arith, le_antisymm, ◌↔◌}
+use Rattle.std.proofs.Common.{◌≡◌, ◌≢◌, ◌<◌, ◌≤◌, ◌⊎◌, ℕ, zero, suc, Bool, true, false, cond, List, [], ◌∷◌, ◌++◌, length, take, slice_get, Some, None, refl, sym, ap, subst, ◌∙◌, append_assoc, append-nil, inl, inr, arith, le_antisymm, ◌↔◌}
 use Rattle.std.specs.Prelude.{Option, option_map, filter}
 use Rattle.std.proofs.lemmas.Bool.{cases_Bool, both_ways, and_from, or_left}
 use Rattle.std.proofs.lemmas.List.{map-append}
+use Rattle.std.proofs.Math.Seq.{take-append_seam}
 use Rattle.std.specs.Cmp.Lexicographic.{bytes_decides}
 use Rattle.std.proofs.lemmas.Option.{slice_get_within}
-use Rattle.dt_lists.specs.Lists.{AnyIn, AllIn, Has, EachThen, IsFront, Distinct, Either}
-use Rattle.dt_lists.proofs.Words.{any_map, any_get, any_put, any_of_image, any_append, any_append_left, any_append_right, all_get, all_put, all_append_left, all_append_right, all_map, each_append_right, has_map}
+use Rattle.dt_lists.specs.Lists.{AnyIn, AllIn, Has, IsFront, Distinct, Either}
+use Rattle.dt_lists.proofs.Words.{any_map, any_get, any_put, any_of_image, any_append, any_append_left, all_get, all_put, all_append_left, all_map, each_append_right, has_map}
 use Rattle.dt_lists.proofs.Before.{Spot, spot, spot_has, has_middle, if_passes, get_filtered, front_filtered, same_by_key}
 use Rattle.dt_sched.proofs.Ids.{either_id}
 use Rattle.dt_sched.proofs.Clash.{uses_of_clash}
 use Rattle.dt_access.specs.Clash.{Bytes, is_write, uses_clash, clash}
 use Rattle.dt_access.specs.declared.TxnId.{TxnId}
 use Rattle.dt_access.specs.declared.Access.{Access}
-use Rattle.dt_access.specs.declared.Mode.{Mode}
 use Rattle.dt_access.specs.declared.Mode.TheVariants.{Write}
 use Rattle.dt_table.specs.declared.Effect.{Effect}
 use Rattle.dt_table.specs.Table.{Table, Moved, value_of, moves_of, counter_of, next_mover, apply}
-use Rattle.dt_txn.specs.declared.txn.Body.{Body}
 use Rattle.dt_txn.specs.declared.txn.Body.TheVariants.{Move}
 use Rattle.dt_txn.specs.declared.txn.Txn.{Txn}
 use Rattle.dt_txn.specs.declared.outcome.Outcome.{Outcome}
@@ -28,7 +27,7 @@ use Rattle.dt_serial.specs.Order.{txn_ids, Ordered, IsDown, FollowsMove, IsStale
 use Rattle.dt_serial.specs.Replay.{is_among, replay}
 use Rattle.dt_serial.proofs.Rows.{either_changes}
 use Rattle.dt_serial.proofs.One.{mover_at, one_alike, live_entries, live_of_outcome, change_of_one}
-use Rattle.dt_serial.proofs.Runs.{table_after_append, outcomes_append, outcomes_ids, outcome_at, AlongRun, along_put, replay_append, replay_alike, replay_none, replay_value, replay_swap}
+use Rattle.dt_serial.proofs.Runs.{table_after_append, outcomes_ids, outcome_at, AlongRun, along_put, replay_append, replay_alike, replay_none, replay_value, replay_swap}
 use Rattle.dt_serial.proofs.Past.{has_of_among, among_of_has, not_among, among_same, IsPast, past_of_down, same_past, down_front, down_closed, filter_ids, down_filter}
 use Rattle.dt_lists.proofs.Filters.{of_filter, has_filter}
 use Rattle.dt_serial.proofs.History.{down_at, past_at, apart_at, replay_at, keys_at, anchor_at, IsMoveNumber, index, follower, live_before, same_movers, across, closed_front, replayed_moves, replayed_mover}
@@ -64,8 +63,8 @@ module _ (order : TxnId → TxnId → Type 0) (start : Table) (txns : List Txn) 
       let pq : IsPast order q y.id = past_at order start txns h y r in
       let before : replay q txns start start ≡ table_after r.front start = replay_at order start txns h y r in
       one_alike y (replay p txns start start) (replay q txns start start)
-        (same_movers order start txns h y p q (spot_has txns y r) pp pq)
-        (λ live. same_values y r p q pp pq (subst (IsLive y) before live))
+      (same_movers order start txns h y p q (spot_has txns y r) pp pq)
+      (λ live. same_values y r p q pp pq (subst (IsLive y) before live))
       ∙ ap (one y) before
 
   -- and then the table is the replay that has this transaction too
@@ -78,22 +77,29 @@ module _ (order : TxnId → TxnId → Type 0) (start : Table) (txns : List Txn) 
     where
       here : Table
       here = table_after r.front start
+
       effect : Effect
       effect = (one y here).1
+
       split : (c : TxnId → Bool) → replay c txns start start ≡ replay c r.rest (after y here) (cond (c y.id) (apply effect (replay c r.front start start)) (replay c r.front start start))
       split c = ap (λ l. replay c l start start) r.is ∙ replay_append c r.front (y ∷ r.rest) start start
+
       without : replay p txns start start ≡ replay p r.rest (after y here) (replay p r.front start start)
       without = split p ∙ ap (λ b. replay p r.rest (after y here) (cond b (apply effect (replay p r.front start start)) (replay p r.front start start))) pp.absent
+
       not_front : (x : Txn) → Has r.front x → x.id ≢ y.id
       not_front x k e = apart_at order start txns h y r x.id (has_map (λ z. z.id) r.front x k) (inl (sym e))
+
       not_rest : (x : Txn) → Has r.rest x → x.id ≢ y.id
       not_rest x k e = all_get _ (txn_ids r.rest) (each_append_right _ (txn_ids r.front) (y.id ∷ txn_ids r.rest) (down_at order start txns h y r).once).0 x.id (has_map (λ z. z.id) r.rest x k) (sym e)
+
       with_it : replay q txns start start ≡ replay p r.rest (after y here) (apply effect (replay p r.front start start))
       with_it =
           split q
           ∙ ap (λ b. replay q r.rest (after y here) (cond b (apply effect (replay q r.front start start)) (replay q r.front start start))) own
           ∙ ap (λ t. replay q r.rest (after y here) (apply effect t)) (replay_alike q p r.front start start (all_put _ r.front (λ x k. others x.id (not_front x k))))
           ∙ replay_alike q p r.rest (after y here) _ (all_put _ r.rest (λ x k. others x.id (not_rest x k)))
+
       apart : AlongRun (λ x t. p x.id ≡ true → (key : Bytes) → Changes (one x t).1 key → ¬ (Changes effect key)) r.rest (after y here)
       apart = along_put _ r.rest (after y here) (λ x s chosen key cx cy.
           let whole : Spot txns x = record { front = r.front ++ y ∷ s.front; rest = s.rest; is = r.is ∙ ap (λ l. r.front ++ y ∷ l) s.is ∙ sym (append_assoc r.front (y ∷ s.front) (x ∷ s.rest)) } in
@@ -125,11 +131,13 @@ module _ (order : TxnId → TxnId → Type 0) (start : Table) (txns : List Txn) 
     where
       ids : txn_ids (xs ++ y ∷ []) ≡ txn_ids xs ++ y.id ∷ []
       ids = map-append (λ z. z.id) xs (y ∷ [])
+
       less : (i : TxnId) → i ≢ y.id → Has (txn_ids (xs ++ y ∷ [])) i → Has (txn_ids xs) i
       less i ne k = elim (any_append _ (txn_ids xs) (y.id ∷ []) (subst (λ l. Has l i) ids k)) [
-          inl a ↦ a
+        | inl a ↦ a
         | inr b ↦ elim b [ inl e ↦ absurd (ne (sym e)) | inr n ↦ absurd n ]
-        ]
+      ]
+
       more : (i : TxnId) → Has (txn_ids xs) i → Has (txn_ids (xs ++ y ∷ [])) i
       more i k = subst (λ l. Has l i) (sym ids) (any_append_left _ (txn_ids xs) (y.id ∷ []) k)
 
@@ -145,9 +153,10 @@ module _ (order : TxnId → TxnId → Type 0) (start : Table) (txns : List Txn) 
   walk_outcomes xs [] all down = tt
   walk_outcomes xs (y ∷ ys) all down =
       let r : Spot txns y = spot txns y all.0 in
-      let same : one y (canon xs) ≡ one y (table_after r.front start) = same_one y r (is_among (txn_ids xs)) (past_in xs y ys down) in
-      ( subst (λ o. Has (outcomes txns start) (y.id, o)) (sym (ap (λ e. e.0) same)) (outcome_at txns start y r)
-      , subst (λ t. AllIn (λ r. Has (outcomes txns start) r) (outcomes ys t)) (sym (canon_step xs y ys all.0 down)) (walk_outcomes (xs ++ y ∷ []) ys all.1 (subst (λ l. IsDown order (txn_ids l)) (sym (append_assoc xs (y ∷ []) ys)) down)) )
+      let same : one y (canon xs) ≡ one y (table_after r.front start) = same_one y r (is_among (txn_ids xs)) (past_in xs y ys down) in (
+        subst (λ o. Has (outcomes txns start) (y.id, o)) (sym (ap (λ e. e.0) same)) (outcome_at txns start y r),
+        subst (λ t. AllIn (λ r. Has (outcomes txns start) r) (outcomes ys t)) (sym (canon_step xs y ys all.0 down)) (walk_outcomes (xs ++ y ∷ []) ys all.1 (subst (λ l. IsDown order (txn_ids l)) (sym (append_assoc xs (y ∷ []) ys)) down)),
+      )
 
   -- the table after such a list is the replay of the history for those of the list
   pub one_table : (xs : List Txn) → AllIn (λ x. Has txns x) xs → IsDown order (txn_ids xs) → table_after xs start ≡ replay (is_among (txn_ids xs)) txns start start
@@ -179,11 +188,13 @@ module _ (order : TxnId → TxnId → Type 0) (start : Table) (txns : List Txn) 
     where
       p : TxnId → Bool
       p = is_among (txn_ids xs)
+
       into : (i : TxnId) → Has (txn_ids xs) i → Has (txn_ids (filter (λ x. p x.id) txns)) i
       into i k =
           let x : (x : Txn) × Has xs x × (x.id ≡ i) = any_get _ xs (any_of_image (λ j. j ≡ i) (λ x. x.id) xs k) in
           let y : p (x.0).id ≡ true = among_of_has (txn_ids xs) (x.0).id (has_map (λ z. z.id) xs x.0 x.1) in
           subst (Has (txn_ids (filter (λ x. p x.id) txns))) x.2 (has_map (λ z. z.id) (filter (λ x. p x.id) txns) x.0 (has_filter (λ x. p x.id) txns x.0 (all_get _ xs all x.0 x.1) y))
+
       back : (i : TxnId) → Has (txn_ids (filter (λ x. p x.id) txns)) i → Has (txn_ids xs) i
       back i k = has_of_among (txn_ids xs) i (all_get _ (filter p (txn_ids txns)) (of_filter p (txn_ids txns)) i (subst (λ l. Has l i) (filter_ids p txns) k)).1
 
@@ -196,12 +207,19 @@ module _ (order : TxnId → TxnId → Type 0) (start : Table) (txns : List Txn) 
   pub moves_front : (xs : List Txn) (key : Bytes) → AllIn (λ x. Has txns x) xs → IsDown order (txn_ids xs) → IsFront (moves_of (table_after xs start) key) (moves_of (table_after txns start) key)
   moves_front xs key all down = subst (λ l. IsFront l (moves_of (table_after txns start) key)) (sym (ap (λ t. moves_of t key) (one_table xs all down) ∙ replayed_moves order start txns h (is_among (txn_ids xs)) key)) (front_filtered _ _ (closed_front order start txns h (is_among (txn_ids xs)) (closed_in xs down) key))
 
+  -- namely as many of them as there are
+  pub moves_taken : (xs : List Txn) (key : Bytes) → AllIn (λ x. Has txns x) xs → IsDown order (txn_ids xs) → take (counter_of (table_after xs start) key) (moves_of (table_after txns start) key) ≡ moves_of (table_after xs start) key
+  moves_taken xs key all down =
+      let front : IsFront (moves_of (table_after xs start) key) (moves_of (table_after txns start) key) = moves_front xs key all down in
+      ap (take (counter_of (table_after xs start) key)) (sym front.1) ∙ take-append_seam (moves_of (table_after xs start) key) front.0
+
   -- the next mover of a transaction's entry is that of the history's last table, if it precedes the transaction
   pub flag_up : (xs : List Txn) (y : Txn) (ys : List Txn) (a : Access) (by : TxnId) → AllIn (λ x. Has txns x) (xs ++ y ∷ ys) → IsDown order (txn_ids (xs ++ y ∷ ys)) → Has y.access a → next_mover (table_after txns start) a.key a.counter ≡ Some by → order by y.id → next_mover (table_after xs start) a.key a.counter ≡ Some by
   flag_up xs y ys a by all down ka e r = ap (λ t. next_mover t a.key a.counter) (members_front xs y ys all down) ∙ replayed_mover order start txns h (is_among (txn_ids xs)) pp.closed a.key a.counter ∙ go (slice_get (moves_of (table_after txns start) a.key) a.counter) e
     where
       pp : IsPast order (is_among (txn_ids xs)) y.id
       pp = past_in xs y ys down
+
       go : (o : Option Moved) → option_map (λ m. m.by) o ≡ Some by → option_map (λ m. m.by) (if_passes (λ m. is_among (txn_ids xs) m.by) o) ≡ Some by
       go None e = cc
       go (Some m) e =
@@ -214,16 +232,18 @@ module _ (order : TxnId → TxnId → Type 0) (start : Table) (txns : List Txn) 
     where
       all_append_at : AllIn (λ x. Has txns x) (xs ++ y ∷ ys) → Has txns y
       all_append_at every = all_get _ (xs ++ y ∷ ys) every y (has_middle xs y ys)
+
       pp : IsPast order (is_among (txn_ids xs)) y.id
       pp = past_in xs y ys down
+
       go : (a : Access) (c : ℕ) → FollowsMove order (moves_of (table_after txns start) a.key) c y.id → c ≤ counter_of (table_after xs start) a.key
       go a zero f = omega arith
       go a (suc c) f =
           let there : slice_get (moves_of (canon xs) a.key) c ≡ Some f.0 =
-              ap (λ l. slice_get l c) (replayed_moves order start txns h (is_among (txn_ids xs)) a.key)
-              ∙ get_filtered (λ m. is_among (txn_ids xs) m.by) _ c (closed_front order start txns h (is_among (txn_ids xs)) pp.closed a.key)
-              ∙ ap (if_passes (λ m. is_among (txn_ids xs) m.by)) f.1
-              ∙ ap (λ b. cond b (Some f.0) None) (pp.preceders (f.0).by f.2) in
+          ap (λ l. slice_get l c) (replayed_moves order start txns h (is_among (txn_ids xs)) a.key)
+          ∙ get_filtered (λ m. is_among (txn_ids xs) m.by) _ c (closed_front order start txns h (is_among (txn_ids xs)) pp.closed a.key)
+          ∙ ap (if_passes (λ m. is_among (txn_ids xs) m.by)) f.1
+          ∙ ap (λ b. cond b (Some f.0) None) (pp.preceders (f.0).by f.2) in
           let lt : c < length (moves_of (canon xs) a.key) = slice_get_within _ c f.0 there in
           subst (λ t. suc c ≤ counter_of t a.key) (sym (members_front xs y ys all down)) lt
 
@@ -237,20 +257,24 @@ module _ (order : TxnId → TxnId → Type 0) (start : Table) (txns : List Txn) 
     where
       pp : IsPast order (is_among (txn_ids xs)) y.id
       pp = past_in xs y ys down
+
       known : Has txns y
       known = all_get _ (xs ++ y ∷ ys) all y (has_middle xs y ys)
+
       precedes : (m : Moved) → slice_get (moves_of (table_after txns start) a.key) a.counter ≡ Some m → is_among (txn_ids xs) m.by ≡ true → Either (m.by ≡ y.id) → order m.by y.id
       precedes m f chosen (inl own) = absurd (both_ways (is_among (txn_ids xs) y.id) pp.absent (sym (ap (is_among (txn_ids xs)) own) ∙ chosen))
       precedes m f chosen (inr ne) = elim (follower order start txns h y a m known ka f ne) [
-          inl r ↦ r
+        | inl r ↦ r
         | inr r ↦ absurd (both_ways (is_among (txn_ids xs) y.id) pp.absent (pp.closed y.id m.by r chosen))
-        ]
+      ]
+
       at : (m : Moved) → slice_get (moves_of (table_after txns start) a.key) a.counter ≡ Some m → (is_among (txn_ids xs) m.by ≡ true) ⊎ (is_among (txn_ids xs) m.by ≡ false) → option_map (λ n. n.by) (if_passes (λ n. is_among (txn_ids xs) n.by) (Some m)) ≡ Some by → (next_mover (table_after txns start) a.key a.counter ≡ Some by) × order by y.id
       at m f (inl chosen) g =
           let own : Some m.by ≡ Some by = ap (λ b. option_map (λ n. n.by) (cond b (Some m) None)) (sym chosen) ∙ g in
           let same : m.by ≡ by = cc in
           (ap (option_map (λ n. n.by)) f ∙ own, subst (λ i. order i y.id) same (precedes m f chosen (either_id m.by y.id)))
       at m f (inr dropped) g = let none : None ≡ Some by = ap (λ b. option_map (λ n. n.by) (cond b (Some m) None)) (sym dropped) ∙ g in cc
+
       go : (o : Option Moved) → slice_get (moves_of (table_after txns start) a.key) a.counter ≡ o → option_map (λ n. n.by) (if_passes (λ n. is_among (txn_ids xs) n.by) o) ≡ Some by → (next_mover (table_after txns start) a.key a.counter ≡ Some by) × order by y.id
       go None f g = cc
       go (Some m) f g = at m f (cases_Bool (is_among (txn_ids xs) m.by)) g

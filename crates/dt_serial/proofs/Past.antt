@@ -1,10 +1,9 @@
 -- Lists in which all that precedes an id stands before it, and the choices of ids that are a past of an id.
-use Rattle.std.proofs.Common.{◌≡◌, ◌≢◌, ◌⊎◌, ◌↔◌, Bool, true, false, cond, List, [], ◌∷◌, ◌++◌, map, eqb-true, eq-eqb, refl, sym, ap, ap₂, subst, subst₂, ◌∙◌, append_assoc, inl, inr}
+use Rattle.std.proofs.Common.{◌≡◌, ◌⊎◌, Bool, true, false, cond, List, [], ◌∷◌, ◌++◌, eqb-true, eq-eqb, refl, sym, ap, subst, subst₂, ◌∙◌, inl, inr}
 use Rattle.std.specs.Prelude.{filter}
 use Rattle.std.proofs.lemmas.Bool.{cases_Bool, and_parts, and_from, false_from_ne_true}
-use Rattle.std.proofs.lemmas.List.{map-append}
-use Rattle.dt_lists.specs.Lists.{AnyIn, AllIn, SomeThen, Has, EachThen, Distinct, Either}
-use Rattle.dt_lists.proofs.Words.{any_map, any_get, any_append, any_append_left, some_map, some_get, some_of_two, some_append_left, each_append_left, each_across}
+use Rattle.dt_lists.specs.Lists.{SomeThen, Has, EachThen, Distinct}
+use Rattle.dt_lists.proofs.Words.{any_map, any_append, any_append_left, some_map, some_get, some_of_two, some_append_left, each_append_left, each_across}
 use Rattle.dt_lists.proofs.Tests.{any_of_test, test_of_any}
 use Rattle.dt_lists.proofs.Distinct.{distinct_push}
 use Rattle.dt_lists.proofs.Keys.{some_in_front}

@@ -1,10 +1,9 @@
 -- What an outcome other than given values stands on, in the serial run that it is from.
 use Rattle.std.specs.Prelude.{◌≡◌, ℕ, List, [], ◌∷◌, ◌++◌, slice_get, Some}
-use Rattle.dt_lists.specs.Lists.{AnyIn, AllIn, Has}
+use Rattle.dt_lists.specs.Lists.{AnyIn, Has}
 use Rattle.dt_access.specs.Clash.{Bytes}
 use Rattle.dt_access.specs.declared.TxnId.{TxnId}
-use Rattle.dt_table.specs.Table.{Table, Moved, moves_of}
-use Rattle.dt_txn.specs.declared.txn.Body.{Body}
+use Rattle.dt_table.specs.Table.{Table, moves_of}
 use Rattle.dt_txn.specs.declared.txn.Body.TheVariants.{Move}
 use Rattle.dt_txn.specs.declared.txn.Txn.{Txn}
 use Rattle.dt_txn.specs.declared.outcome.Outcome.{Outcome}

@@ -54,8 +54,8 @@ pub fn moves_of_a_key()
         AllIn (λ m. Has (txn_ids txns) m.by) (moves_of (table_after txns start) key) }
     ensures next { (precedes : TxnId → TxnId → Bool) (start : Table) (history front : List Txn) (x : Txn) (rest : List Txn) →
         IsPart (ByTest precedes) start history (front ++ x ∷ rest) → AllIn (λ a. (by : TxnId) →
-            (next_mover (table_after front start) a.key a.counter ≡ Some by) ↔
-            ((next_mover (table_after history start) a.key a.counter ≡ Some by) × ByTest precedes by x.id)) x.access }
+        (next_mover (table_after front start) a.key a.counter ≡ Some by) ↔
+        ((next_mover (table_after history start) a.key a.counter ≡ Some by) × ByTest precedes by x.id)) x.access }
 {}
 
 /// When a transaction of a part of a history runs, no key that it uses has been moved less often than it was annotated
@@ -80,7 +80,7 @@ pub fn across_moves()
     ensures before_next { (precedes : TxnId → TxnId → Bool) (start : Table) (history : List Txn) → IsHistory (ByTest precedes) start history →
         (x : Txn) (o : Outcome) → Has history x → Has (outcomes history start) (x.id, o) → ¬ (IsStale o) →
         AllIn (λ a. (by : TxnId) → next_mover (table_after history start) a.key a.counter ≡ Some by →
-            (x.id ≡ by) ⊎ ByTest precedes x.id by) x.access }
+        (x.id ≡ by) ⊎ ByTest precedes x.id by) x.access }
 {}
 
 /// In a serial run from a table without moves, an outcome other than given values has its reason: the procedure aborts
