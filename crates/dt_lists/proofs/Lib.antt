@@ -6,3 +6,5 @@ pub mod Tests
 pub mod Decided
 pub mod Least
 pub mod Ascending
+pub mod Before
+pub mod Filters
