@@ -1,7 +1,9 @@
 -- How the row of a key is stored.
-use Rattle.std.specs.Prelude.{ℕ, List, None, unwrap_or}
+use Rattle.std.specs.Prelude.{ℕ, List, None, Some, unwrap_or}
 use Rattle.std.specs.Map.{lookup}
 use Rattle.dt_access.specs.Clash.{Bytes, same_key}
+use Rattle.dt_text.specs.declared.Value.{Value}
+use Rattle.dt_table.specs.Table.{opening_home}
 use Rattle.dt_table.specs.declared.stored.StoredRow.{StoredRow}
 
 -- a row with this home that was never written and never moved
@@ -11,3 +13,7 @@ fresh_row home = record { value = None; home = home; counter = 0; last = None }
 -- the stored row of a key, or else a fresh one with this home
 abbrev pub stored_of : List (Bytes × StoredRow) → Bytes → ℕ → StoredRow
 stored_of rows key home = unwrap_or (lookup (same_key key) rows) (fresh_row home)
+
+-- how a row that has a value before any transaction is stored
+abbrev pub opening_row : ℕ → List (Bytes × ℕ) → Bytes × Value → Bytes × StoredRow
+opening_row regions homes r = (r.0, record { value = Some r.1; home = opening_home regions homes r.0; counter = 0; last = None })

@@ -3,16 +3,24 @@
 
 mod errors;
 mod key;
+mod lines;
 mod listed;
 mod name;
 mod no_memory;
+mod numbers;
+mod printed;
 mod text;
 mod value;
+mod words;
 
 pub use errors::{KeyError, StrError};
 pub use key::Key;
+pub use lines::{Line, Lines};
 pub use listed::Listed;
 pub use name::Name;
 pub use no_memory::NoMemory;
+pub use numbers::{put_i64, put_u64, read_i64, read_u32};
+pub use printed::{put_text, put_value};
 pub use text::Str;
 pub use value::Value;
+pub use words::{Word, Words};
