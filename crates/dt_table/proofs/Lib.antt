@@ -3,3 +3,4 @@ pub mod Histories
 pub mod Rows
 pub mod Written
 pub mod Opened
+pub mod Sorted

@@ -4,7 +4,7 @@ ghost use Rattle.dt_access.specs.Orders.{HasDistinctKeys};
 ghost use Rattle.dt_table.specs.Table.{value_of, home_of, counter_of, next_mover, written, moved, apply, opening, shown, places_for};
 
 use crate::effect::Effect;
-use crate::shown::{Shown, ShownList};
+use crate::shown::{ShownList, shown_rows};
 use crate::stored::{
     StoredMove, StoredRow, index_homes, mover_of, opening_home, opening_rows, put_move, put_value,
 };
@@ -132,6 +132,13 @@ impl Table {
         if let Some((key, target, by)) = moved {
             self.record_move(key, target, by);
         }
+    }
+
+    /// What a report shows: each key with a value or a move, in ascending order of keys.
+    pub fn shown(&self, alloc: Global) -> Result<ShownList, NoMemory>
+        ensures { IfOk result (λ list. list ≡ shown self.now.state) }
+    {
+        shown_rows(alloc, &self.rows)
     }
 
     // Gives a key its value or none.
