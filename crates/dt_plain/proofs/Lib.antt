@@ -3,3 +3,5 @@ pub mod Same
 pub mod Growth
 pub mod Walk
 pub mod Edges
+pub mod Order
+pub mod Shared
