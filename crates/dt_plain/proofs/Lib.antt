@@ -5,3 +5,5 @@ pub mod Walk
 pub mod Edges
 pub mod Order
 pub mod Shared
+pub mod Present
+pub mod Decided

@@ -1,10 +1,8 @@
-use Rattle.std.specs.Prelude.{◌≡◌, ◌⊎◌, ◌↔◌, ◌≤◌, List, Option, Some, None, length}
+use Rattle.std.specs.Prelude.{◌≡◌, ◌⊎◌, ◌↔◌, ◌≤◌, List, length}
 use Rattle.dt_lists.specs.Lists.{AllIn, Has, Distinct}
 use Rattle.dt_access.specs.Ids.{Before, AreAscending}
 use Rattle.dt_access.specs.declared.TxnId.{TxnId}
-use Rattle.dt_access.specs.declared.Part.{Part}
-use Rattle.dt_sched.specs.Views.{View, IsComplete, IsClass}
-use Rattle.dt_sched.specs.Decide.{IsExecutable, IsResolvable}
+use Rattle.dt_sched.specs.Views.{View, IsComplete}
 
 -- of what reaches t, u is no obstacle to executing t: it is t, or done, or t reaches it too and its id isn't less
 abbrev pub IsNoObstacle : List TxnId → List TxnId → TxnId → TxnId → Type 0
@@ -29,12 +27,6 @@ pub record IsOrderOf (ids ordered : List TxnId) : Type 0 where
 abbrev pub AreCandidates : View → List (List TxnId) → List TxnId → Type 0
 AreCandidates view resolved ids = (2 ≤ length ids) × AllIn (IsComplete view) ids × ¬ (Has resolved ids)
 
--- among the parts of a log: an executable id that isn't busy, or none, where each executable one is busy
-abbrev pub IsReadyIn : View → List (List TxnId) → List TxnId → List TxnId → List Part → Option TxnId → Type 0
-IsReadyIn view resolved done busy log None = AllIn (λ p. IsExecutable view resolved done p.id → Has busy p.id) log
-IsReadyIn view resolved done busy log (Some t) = IsExecutable view resolved done t × ¬ (Has busy t)
-
--- among the classes of the parts of a log: a resolvable one, or none, where none of them is
-abbrev pub IsClassIn : View → List (List TxnId) → List TxnId → List Part → Option (List TxnId) → Type 0
-IsClassIn view resolved done log None = AllIn (λ p. (ids : List TxnId) → IsClass view p.id ids → ¬ (IsResolvable view resolved done ids)) log
-IsClassIn view resolved done log (Some ids) = IsResolvable view resolved done ids
+-- the class is the ids, and each id of `behind` is among them or done
+abbrev pub IsUnhindered : List TxnId → List TxnId → List TxnId → List TxnId → Type 0
+IsUnhindered behind class ids done = (class ≡ ids) × AllIn (λ u. Has ids u ⊎ Has done u) behind

@@ -8,7 +8,7 @@ use dt_text::NoMemory;
 use std::alloc::Global;
 
 /// Whether the two lists are equal.
-fn same(left: &[TxnId], right: &[TxnId]) -> bool
+pub fn same(left: &[TxnId], right: &[TxnId]) -> bool
     ensures { IsTrue result ↔ (left.now ≡ right.now) }
 {
     left == right

@@ -3,6 +3,7 @@
 
 mod class;
 mod complete;
+mod decide;
 mod graph;
 mod ids;
 mod search;
