@@ -7,3 +7,4 @@ pub mod Order
 pub mod Shared
 pub mod Present
 pub mod Decided
+pub mod Choice

@@ -1,18 +1,9 @@
-use Rattle.std.proofs.Common.{rules, ◌≡◌, ◌↔◌, ◌≤◌, IsTrue, IfOk, length, ℕ, ◌+◌, ◌-◌, ◌*◌, ◌<◌, ◌/◌, ◌%◌, Bool, true, false, nat_eq, nat_lt, List, [], ◌∷◌, ◌++◌, slice_index_or, slice_set, bit_and, bit_or, Fits, w8, w32, w64, Bor, MutBor}
-use Rattle.dt_lists.specs.Lists.{AllIn, Has}
-use Rattle.dt_sched.specs.Decide.{IsExecutable, IsResolvable}
-use Rattle.dt_sched.specs.Sched.{IsNextReady, IsNextClass}
-use Rattle.dt_plain.specs.Deciding.{IsNoObstacle, AreCandidates, IsUnhindered}
+use Rattle.dt_plain.proofs.Choice.{class_more, no_class}
 use Rattle.dt_plain.proofs.decide.next_class.Goals as goal
 
--- src/decide.rt:112:5
-pub loop-id-init : goal.loop-id-init
-loop-id-init c = ?
-
--- src/decide.rt:112:5
 pub loop-id-preserved : goal.loop-id-preserved
-loop-id-preserved c = ?
+loop-id-preserved c =
+    class_more _ _ _ _ _ _ _ c.loop-id-test.true c.loop-id.invariant c.in_ok-class.ensures (rw c.as_slice.ensures at c.in_ok-is_resolvable.ensures) c.if-branch.false
 
--- src/decide.rt:109:1
 pub returns : goal.returns
-returns c = ?
+returns c = no_class _ _ _ _ _ c.loop-id-test.false c.ids-id-items.ensures c.loop-id.invariant

@@ -1,18 +1,9 @@
-use Rattle.std.proofs.Common.{rules, ◌≡◌, ◌↔◌, ◌≤◌, IsTrue, IfOk, length, ℕ, ◌+◌, ◌-◌, ◌*◌, ◌<◌, ◌/◌, ◌%◌, Bool, true, false, nat_eq, nat_lt, List, [], ◌∷◌, ◌++◌, slice_index_or, slice_set, bit_and, bit_or, Fits, w8, w32, w64, Bor, MutBor}
-use Rattle.dt_lists.specs.Lists.{AllIn, Has}
-use Rattle.dt_sched.specs.Decide.{IsExecutable, IsResolvable}
-use Rattle.dt_sched.specs.Sched.{IsNextReady, IsNextClass}
-use Rattle.dt_plain.specs.Deciding.{IsNoObstacle, AreCandidates, IsUnhindered}
+use Rattle.dt_plain.proofs.Choice.{ready_more, none_ready}
 use Rattle.dt_plain.proofs.decide.next_ready.Goals as goal
 
--- src/decide.rt:100:5
-pub loop-id-init : goal.loop-id-init
-loop-id-init c = ?
-
--- src/decide.rt:100:5
 pub loop-id-preserved : goal.loop-id-preserved
-loop-id-preserved c = ?
+loop-id-preserved c =
+    ready_more _ _ _ _ _ _ _ c.loop-id-test.true c.loop-id.invariant c.in_ok-is_ready.ensures c.if-branch.false
 
--- src/decide.rt:97:1
 pub returns : goal.returns
-returns c = ?
+returns c = none_ready _ _ _ _ _ _ c.loop-id-test.false c.ids-id-items.ensures c.loop-id.invariant
