@@ -20,6 +20,10 @@ SomeThen R (x ∷ xs) = AnyIn (R x) xs ⊎ SomeThen R xs
 abbrev pub Has : {A : Type 0} → List A → A → Type 0
 Has xs x = AnyIn (λ y. y ≡ x) xs
 
+-- each item of the one list is in the other
+abbrev pub IsWithin : {A : Type 0} → List A → List A → Type 0
+IsWithin xs ys = AllIn (Has ys) xs
+
 -- R relates each item to each one that stands later in the list
 abbrev pub EachThen : {A : Type 0} → (A → A → Type 0) → List A → Type 0
 EachThen R [] = Unit {0}

@@ -26,3 +26,12 @@ pub record IsResolvable (view : View) (resolved : List (List TxnId)) (done : Lis
   pub unresolved : ¬ (Has resolved ids)
   -- everything outside that reaches it has run
   pub before : (u t : TxnId) → Has ids t → Reaches view u t → Has ids u ⊎ Has done u
+
+-- nothing is left to do for a region that inserted this view, resolved these classes and has done these ids
+pub record HasNothingToDo (view : View) (resolved : List (List TxnId)) (done : List TxnId) : Type 0 where
+  pub none_executable : (t : TxnId) → ¬ (IsExecutable view resolved done t)
+  pub none_resolvable : (ids : List TxnId) → ¬ (IsResolvable view resolved done ids)
+
+-- all that precedes a done id is done
+abbrev pub IsDownward : View → List TxnId → Type 0
+IsDownward view done = (u t : TxnId) → Has done t → Precedes view u t → Has done u

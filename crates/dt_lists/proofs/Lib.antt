@@ -1,0 +1,6 @@
+pub mod Words
+pub mod Fronts
+pub mod Decided
+pub mod Least
+pub mod Tests
+pub mod Ascending

@@ -1,0 +1,13 @@
+pub mod Ids
+pub mod Clash
+pub mod Chains
+pub mod Longer
+pub mod Closed
+pub mod Via
+pub mod Reach
+pub mod Order
+pub mod Classes
+pub mod Decisions
+pub mod Stability
+pub mod OneHome
+pub mod Drained
