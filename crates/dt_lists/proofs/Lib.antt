@@ -4,3 +4,4 @@ pub mod Decided
 pub mod Least
 pub mod Tests
 pub mod Ascending
+pub mod Before
