@@ -5,3 +5,4 @@ pub mod Least
 pub mod Tests
 pub mod Ascending
 pub mod Before
+pub mod Places
