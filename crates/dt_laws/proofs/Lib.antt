@@ -1,0 +1,4 @@
+pub mod Ids
+pub mod Submissions
+pub mod Views
+pub mod Kept
