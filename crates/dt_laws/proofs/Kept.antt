@@ -7,6 +7,7 @@ use Rattle.dt_access.specs.declared.TxnId.{TxnId}
 use Rattle.dt_access.specs.declared.Part.{Part}
 use Rattle.dt_sched.specs.Views.{View, log_at, ids_of, IsLonger, Precedes}
 use Rattle.dt_txn.specs.Transaction.{IsValid}
+use Rattle.dt_txn.specs.Serial.{outcomes, table_after}
 use Rattle.dt_txn.specs.Replica.{Replica, fronts, done_ids}
 use Rattle.dt_serial.specs.Order.{IsDown}
 use Rattle.dt_cluster.specs.declared.Cluster.{Cluster}
@@ -90,10 +91,14 @@ module _ (w v : World) where
   pub done_kept : (regions : ℕ) → ((region : ℕ) → region < regions → view_at v region ≡ view_at w region) → Keeps (λ n. n.here.done) w v → Done regions w → Done regions v
   done_kept regions e k d region lt = subst (λ x. AreDone x (done_ids (node_at v region).here)) (sym (e region lt)) (subst (λ l. AreDone (view_at w region) (map (λ d. d.0) l)) (sym (k region)) (d region lt))
 
-  pub tables_kept : (cluster : Cluster) → submissions v ≡ submissions w → Keeps (λ n. n.here) w v → Tables cluster w → Tables cluster v
-  tables_kept cluster e k t region lt =
-      subst (λ h. IsRunOf (opening_table cluster) (txns_of v (done_ids h)) h) (sym (k region))
-      (subst (λ txns. IsRunOf (opening_table cluster) txns (node_at w region).here) (sym (txns_same w v e (done_ids (node_at w region).here))) (t region lt))
+  pub tables_kept : (cluster : Cluster) → ((region : ℕ) → region < cluster.regions → txns_of v (done_ids (node_at w region).here) ≡ txns_of w (done_ids (node_at w region).here)) → Keeps (λ n. n.here.done) w v → Keeps (λ n. n.here.table) w v → Tables cluster w → Tables cluster v
+  tables_kept cluster e kd kt t region lt =
+      let same : txns_of v (done_ids (node_at v region).here) ≡ txns_of w (done_ids (node_at w region).here) = ap (λ l. txns_of v (map (λ d. d.0) l)) (kd region) ∙ e region lt in
+      let before : IsRunOf (opening_table cluster) (txns_of w (done_ids (node_at w region).here)) (node_at w region).here = t region lt in
+      record {
+        outcomes = kd region ∙ before.outcomes ∙ ap (λ x. outcomes x (opening_table cluster)) (sym same);
+        table = kt region ∙ before.table ∙ ap (λ x. table_after x (opening_table cluster)) (sym same);
+      }
 
   pub resolved_kept : (regions : ℕ) → ((region : ℕ) → region < regions → view_at v region ≡ view_at w region) → Keeps (λ n. n.here.resolved) w v → Resolved regions w → Resolved regions v
   resolved_kept regions e k d region lt = subst (λ x. AreResolved x (node_at v region).here.resolved) (sym (e region lt)) (subst (AreResolved (view_at w region)) (sym (k region)) (d region lt))
