@@ -2,11 +2,22 @@
 #![tactic(auto)]
 
 mod access;
+mod copies;
+mod homes;
 mod id;
+mod keys;
 mod lists;
 mod part;
+mod writes;
 
 pub use access::{Access, Mode};
-pub use id::TxnId;
-pub use lists::{Accesses, Homes, Ids, Keys, Writes};
-pub use part::Part;
+pub use copies::TryCopy;
+pub use homes::Homes;
+pub use id::{TxnId, put_id, read_id};
+pub use keys::Keys;
+pub use lists::{Accesses, Ids};
+pub use part::{Part, clash};
+pub use writes::Writes;
+
+#[cfg(test)]
+mod tests;

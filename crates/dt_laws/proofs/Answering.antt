@@ -11,7 +11,7 @@ use Rattle.dt_workload.specs.Valid.{IsValidWorkload}
 use Rattle.dt_session.specs.World.{World, Place, node_at, session_at, with_place}
 use Rattle.dt_session.specs.Step.{MayAnswer, MayEnd, answered}
 use Rattle.dt_laws.specs.Invariant.{IsPlaced, IsPlaceOf, IsWaiting, AreSessions, Inv}
-use Rattle.dt_laws.proofs.Kept.{sized_kept, ids_kept, valid_kept, asked_kept, logs_kept, lengths_kept, done_kept, tables_kept, resolved_kept, ordered_kept, known_kept}
+use Rattle.dt_laws.proofs.Kept.{sized_kept, ids_kept, valid_kept, asked_kept, logs_kept, lengths_kept, sound_kept, tables_kept, ordered_kept, known_kept}
 use Rattle.dt_laws.proofs.Sessions.{session_found, place_changed}
 
 -- a session that is answered has not more answered calls than calls, and made not too many attempts
@@ -38,9 +38,8 @@ answer_keeps cluster workload valid w order region name may i = go (session_at w
       asked = i.asked;
       logs = logs_kept w v cluster.regions (λ r. refl) (λ r. refl) (λ r. refl) refl i.logs;
       lengths = lengths_kept w v cluster.regions (λ r. refl) (λ r. refl) (λ r. refl) i.lengths;
-      done = i.done;
+      sound = i.sound;
       tables = i.tables;
-      resolved = i.resolved;
       ordered = ordered_kept w v cluster.regions order refl (λ r. refl) i.ordered;
       sessions = record {
         places = place_changed (IsPlaceOf cluster.tries w) (IsPlaceOf cluster.tries v) workload.sessions w.places region session.name session place (record { answered = place.answered + 1; waits = None })

@@ -14,7 +14,7 @@ use Rattle.dt_session.specs.World.{World, Node, no_node, node_at, with_node, log
 use Rattle.dt_session.specs.Step.{received, next}
 use Rattle.dt_events.specs.declared.Event.TheVariants.{Deliver}
 use Rattle.dt_laws.specs.Invariant.{IsSized, AreInOrder, Inv}
-use Rattle.dt_laws.proofs.Kept.{Keeps, Sized, Lengths, sized_kept, ids_kept, valid_kept, asked_kept, logs_kept, lengths_kept, done_kept, tables_kept, resolved_kept, ordered_kept, sessions_kept}
+use Rattle.dt_laws.proofs.Kept.{Keeps, Sized, Lengths, sized_kept, ids_kept, valid_kept, asked_kept, logs_kept, lengths_kept, sound_kept, tables_kept, ordered_kept, sessions_kept}
 use Rattle.dt_laws.proofs.Submissions.{txns_same}
 use Rattle.dt_laws.proofs.Views.{view_is}
 use Rattle.dt_laws.proofs.Known.{view_fronts}
@@ -119,9 +119,8 @@ module _ (cluster : Cluster) (workload : Workload) (w : World) (order : List Txn
     asked = asked_kept w v cluster.regions (keeps (λ n. n.asked) refl) (keeps (λ n. n.submitted) refl) i.asked;
     logs = logs_kept w v cluster.regions (keeps (λ n. n.log) refl) (keeps (λ n. n.taken) refl) (keeps (λ n. n.asked) refl) subs_same i.logs;
     lengths = lengths;
-    done = done_kept w v cluster.regions view_same (keeps (λ n. n.here.done) refl) i.done;
+    sound = sound_kept w v cluster.regions view_same (keeps (λ n. n.here.resolved) refl) (keeps (λ n. n.here.done) refl) i.sound;
     tables = tables_kept w v cluster (λ q lq. txns_same w v subs_same (done_ids (node_at w q).here)) (keeps (λ n. n.here.done) refl) (keeps (λ n. n.here.table) refl) i.tables;
-    resolved = resolved_kept w v cluster.regions view_same (keeps (λ n. n.here.resolved) refl) i.resolved;
     ordered = ordered_kept w v cluster.regions order logs_same (keeps (λ n. n.here.done) refl) i.ordered;
     sessions = sessions_kept w v cluster workload (keeps (λ n. n.submitted) refl) refl i.sessions;
   }

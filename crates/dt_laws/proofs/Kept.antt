@@ -6,6 +6,7 @@ use Rattle.dt_lists.proofs.Words.{all_map}
 use Rattle.dt_access.specs.declared.TxnId.{TxnId}
 use Rattle.dt_access.specs.declared.Part.{Part}
 use Rattle.dt_sched.specs.Views.{View, log_at, ids_of, IsLonger, Precedes}
+use Rattle.dt_sched.specs.Decide.{IsSound}
 use Rattle.dt_txn.specs.Transaction.{IsValid}
 use Rattle.dt_txn.specs.Serial.{outcomes, table_after}
 use Rattle.dt_txn.specs.Replica.{Replica, fronts, done_ids}
@@ -15,7 +16,7 @@ use Rattle.dt_workload.specs.declared.Session.{Session}
 use Rattle.dt_workload.specs.declared.Workload.{Workload}
 use Rattle.dt_session.specs.World.{World, Node, Place, Submission, opening_table, node_at, asked_of, taken_from, logs_of, log_of, received_of, view_at, submissions, find_submission, txn_of}
 use Rattle.dt_session.specs.Run.{txns_of}
-use Rattle.dt_laws.specs.Invariant.{IsSized, AreNumbered, requests, IsPartAt, given_by, IsLog, AreInOrder, AreDone, IsRunOf, AreResolved, IsExecutedAt, IsOrder, IsPlaced, IsPlaceOf, IsSubmissionOf, AreSessions}
+use Rattle.dt_laws.specs.Invariant.{IsSized, AreNumbered, requests, IsPartAt, given_by, IsLog, AreInOrder, IsRunOf, IsExecutedAt, IsOrder, IsPlaced, IsPlaceOf, IsSubmissionOf, AreSessions}
 use Rattle.dt_laws.proofs.Submissions.{txn_same, txns_same}
 
 -- each region has this of its node in the second world as in the first
@@ -42,14 +43,11 @@ Logs regions w = (home : ℕ) → home < regions → IsLog regions w home
 abbrev pub Lengths : ℕ → World → Type 0
 Lengths regions w = (region home : ℕ) → region < regions → home < regions → AreInOrder w region home
 
-abbrev pub Done : ℕ → World → Type 0
-Done regions w = (region : ℕ) → region < regions → AreDone (view_at w region) (done_ids (node_at w region).here)
+abbrev pub Sound : ℕ → World → Type 0
+Sound regions w = (region : ℕ) → region < regions → IsSound (view_at w region) (node_at w region).here.resolved (done_ids (node_at w region).here)
 
 abbrev pub Tables : Cluster → World → Type 0
 Tables cluster w = (region : ℕ) → region < cluster.regions → IsRunOf (opening_table cluster) (txns_of w (done_ids (node_at w region).here)) (node_at w region).here
-
-abbrev pub Resolved : ℕ → World → Type 0
-Resolved regions w = (region : ℕ) → region < regions → AreResolved (view_at w region) (node_at w region).here.resolved
 
 module _ (w v : World) where
   pub sized_kept : (regions : ℕ) → Keeps (λ n. n) w v → Sized regions w → Sized regions v
@@ -88,8 +86,11 @@ module _ (w v : World) where
       let before : AreInOrder w region home = l region home lr lh in
       record { inserted = subst (λ n. n ≤ received_of v region home) (sym inserted) (subst (λ n. slice_index (node_at w region).here.inserted home ≤ n) (sym received) before.inserted); received = subst (λ n. n ≤ length (log_of v home)) (sym received) (subst (λ n. received_of w region home ≤ n) (sym log) before.received) }
 
-  pub done_kept : (regions : ℕ) → ((region : ℕ) → region < regions → view_at v region ≡ view_at w region) → Keeps (λ n. n.here.done) w v → Done regions w → Done regions v
-  done_kept regions e k d region lt = subst (λ x. AreDone x (done_ids (node_at v region).here)) (sym (e region lt)) (subst (λ l. AreDone (view_at w region) (map (λ d. d.0) l)) (sym (k region)) (d region lt))
+  pub sound_kept : (regions : ℕ) → ((region : ℕ) → region < regions → view_at v region ≡ view_at w region) → Keeps (λ n. n.here.resolved) w v → Keeps (λ n. n.here.done) w v → Sound regions w → Sound regions v
+  sound_kept regions e kr kd s region lt =
+      subst (λ x. IsSound x (node_at v region).here.resolved (done_ids (node_at v region).here)) (sym (e region lt))
+      (subst (λ l. IsSound (view_at w region) l (done_ids (node_at v region).here)) (sym (kr region))
+      (subst (λ l. IsSound (view_at w region) (node_at w region).here.resolved (map (λ d. d.0) l)) (sym (kd region)) (s region lt)))
 
   pub tables_kept : (cluster : Cluster) → ((region : ℕ) → region < cluster.regions → txns_of v (done_ids (node_at w region).here) ≡ txns_of w (done_ids (node_at w region).here)) → Keeps (λ n. n.here.done) w v → Keeps (λ n. n.here.table) w v → Tables cluster w → Tables cluster v
   tables_kept cluster e kd kt t region lt =
@@ -99,9 +100,6 @@ module _ (w v : World) where
         outcomes = kd region ∙ before.outcomes ∙ ap (λ x. outcomes x (opening_table cluster)) (sym same);
         table = kt region ∙ before.table ∙ ap (λ x. table_after x (opening_table cluster)) (sym same);
       }
-
-  pub resolved_kept : (regions : ℕ) → ((region : ℕ) → region < regions → view_at v region ≡ view_at w region) → Keeps (λ n. n.here.resolved) w v → Resolved regions w → Resolved regions v
-  resolved_kept regions e k d region lt = subst (λ x. AreResolved x (node_at v region).here.resolved) (sym (e region lt)) (subst (AreResolved (view_at w region)) (sym (k region)) (d region lt))
 
   pub executed_kept : Keeps (λ n. n.here.done) w v → (region : ℕ) (id : TxnId) → IsExecutedAt v region id ≡ IsExecutedAt w region id
   executed_kept k region id = ap (λ l. Has (map (λ d. d.0) l) id) (k region)

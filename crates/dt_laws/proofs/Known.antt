@@ -55,7 +55,7 @@ module _ (cluster : Cluster) (workload : Workload) (w : World) (order : List Txn
 
   -- what a region executed is closed in its view, and was submitted
   pub executed_closed : (region : ℕ) (t : TxnId) → region < cluster.regions → IsExecutedAt w region t → IsClosed (view_at w region) t
-  executed_closed region t lt h = all_get (IsClosed (view_at w region)) (done_ids (node_at w region).here) (i.done region lt).closed t h
+  executed_closed region t lt h = all_get (IsClosed (view_at w region)) (done_ids (node_at w region).here) (i.sound region lt).done_closed t h
 
   pub done_known : (region : ℕ) → region < cluster.regions → AllIn (IsKnown w) (done_ids (node_at w region).here)
   done_known region lt = all_put (IsKnown w) (done_ids (node_at w region).here) (λ t h. closed_known t (closed_full region t lt (executed_closed region t lt h)))

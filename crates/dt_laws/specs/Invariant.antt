@@ -6,7 +6,8 @@ use Rattle.dt_access.specs.Clash.{Bytes, same_key}
 use Rattle.dt_access.specs.declared.TxnId.{TxnId}
 use Rattle.dt_access.specs.declared.Access.{Access}
 use Rattle.dt_access.specs.declared.Part.{Part}
-use Rattle.dt_sched.specs.Views.{View, ids_of, log_at, HasPart, Reaches, IsClosed, Precedes, IsClass}
+use Rattle.dt_sched.specs.Views.{View, ids_of, log_at, HasPart, Reaches, IsClosed, Precedes}
+use Rattle.dt_sched.specs.Decide.{IsSound}
 use Rattle.dt_table.specs.Table.{Table, Moved, moves_of, opening_home, home_after}
 use Rattle.dt_txn.specs.declared.Txn.{Txn}
 use Rattle.dt_txn.specs.Transaction.{homes_of, part_of, IsValid}
@@ -58,27 +59,10 @@ pub record AreInOrder (w : World) (region home : ℕ) : Type 0 where
   pub inserted : slice_index (node_at w region).here.inserted home ≤ received_of w region home
   pub received : received_of w region home ≤ length (log_of w home)
 
--- what a region with this view executed, in order: each was closed, none runs twice, and each ran after all that
--- precedes it
-pub record AreDone (view : View) (done : List TxnId) : Type 0 where
-  pub closed : AllIn (IsClosed view) done
-  pub down : IsDown (Precedes view) done
-
 -- the outcomes and the table are those of running these transactions one by one on the opening table
 pub record IsRunOf (start : Table) (txns : List Txn) (here : Replica) : Type 0 where
   pub outcomes : here.done ≡ outcomes txns start
   pub table : here.table ≡ table_after txns start
-
--- the ids are a deadlocked group, and nothing can join it
-pub record IsSettledClass (view : View) (ids : List TxnId) : Type 0 where
-  pub several : 2 ≤ length ids
-  pub closed : AllIn (IsClosed view) ids
-  pub class : AllIn (λ t. IsClass view t ids) ids
-
--- the groups that a region with this view resolved, each once
-pub record AreResolved (view : View) (resolved : List (List TxnId)) : Type 0 where
-  pub once : Distinct resolved
-  pub classes : AllIn (IsSettledClass view) resolved
 
 -- a region executed the id
 abbrev pub IsExecutedAt : World → ℕ → TxnId → Type 0
@@ -147,12 +131,11 @@ pub record Inv (cluster : Cluster) (workload : Workload) (w : World) (order : Li
   pub logs : (home : ℕ) → home < cluster.regions → IsLog cluster.regions w home
   -- lengths: inserted is received, received is in the log
   pub lengths : (region home : ℕ) → region < cluster.regions → home < cluster.regions → AreInOrder w region home
-  -- done: what a region executed was closed and came after all that precedes it
-  pub done : (region : ℕ) → region < cluster.regions → AreDone (view_at w region) (done_ids (node_at w region).here)
+  -- done and resolved: what a region executed was closed and came after all that precedes it, and what it resolved are
+  -- classes that nothing can join
+  pub sound : (region : ℕ) → region < cluster.regions → IsSound (view_at w region) (node_at w region).here.resolved (done_ids (node_at w region).here)
   -- tables: outcomes and rows are those of running what the region executed, in its order
   pub tables : (region : ℕ) → region < cluster.regions → IsRunOf (opening_table cluster) (txns_of w (done_ids (node_at w region).here)) (node_at w region).here
-  -- resolved: the resolved groups are classes that nothing can join
-  pub resolved : (region : ℕ) → region < cluster.regions → AreResolved (view_at w region) (node_at w region).here.resolved
   -- order: all that was executed, each after all that precedes it
   pub ordered : IsOrder cluster.regions w order
   -- sessions: each waits for an attempt of its next call or for nothing, and has made no attempt too many

@@ -1,10 +1,10 @@
 -- What stands before an item of a list, and what a filter keeps of a list where it keeps all that stands before what it
 -- keeps.
-use Rattle.std.proofs.Common.{◌≡◌, ◌≢◌, ◌<◌, ◌≤◌, ◌⊎◌, ℕ, zero, suc, Bool, true, false, cond, List, [], ◌∷◌, ◌++◌, length, slice_get, Some, None, refl, sym, ap, subst, ◌∙◌, inl, inr, arith, append_assoc}
+use Rattle.std.proofs.Common.{◌≡◌, ◌≢◌, ◌<◌, ◌≤◌, ◌⊎◌, ℕ, zero, suc, Bool, true, false, cond, List, [], ◌∷◌, ◌++◌, length, map, slice_get, Some, None, refl, sym, ap, subst, ◌∙◌, inl, inr, arith, append_assoc}
 use Rattle.std.specs.Prelude.{filter, Option}
 use Rattle.std.proofs.lemmas.Bool.{cases_Bool}
 use Rattle.dt_lists.specs.Lists.{AnyIn, AllIn, SomeThen, Has, EachThen, Distinct, IsFront}
-use Rattle.dt_lists.proofs.Words.{any_get, any_put, any_append_left, all_map, all_get, some_get}
+use Rattle.dt_lists.proofs.Words.{any_get, any_put, any_append_left, all_map, all_get, some_get, has_map}
 
 -- a place where the item stands in the list
 pub record Spot {A : Type 0} (xs : List A) (x : A) : Type 0 where
@@ -103,3 +103,29 @@ front_filtered test (x ∷ xs) front = go (cases_Bool (test x)) (front_filtered 
     go : (test x ≡ true) ⊎ (test x ≡ false) → IsFront (filter test xs) xs → IsFront (filter test (x ∷ xs)) (x ∷ xs)
     go (inl y) later = rw y (later.0, ap (λ l. x ∷ l) later.1)
     go (inr n) later = rw (n, filter_none test xs (later_fail test x xs n front.0)) (x ∷ xs, refl)
+
+get_longer : {A : Type 0} (xs rest : List A) (i : ℕ) (x : A) → slice_get xs i ≡ Some x → slice_get (xs ++ rest) i ≡ Some x
+get_longer [] rest i x e = cc
+get_longer (y ∷ ys) rest zero x e = e
+get_longer (y ∷ ys) rest (suc i) x e = get_longer ys rest i x e
+
+-- an item of a front stands at its place in the whole list
+pub get_front : {A : Type 0} (xs ys : List A) (i : ℕ) (x : A) → IsFront xs ys → slice_get xs i ≡ Some x → slice_get ys i ≡ Some x
+get_front xs ys i x f e = subst (λ l. slice_get l i ≡ Some x) f.1 (get_longer xs f.0 i x e)
+
+pub get_seam : {A : Type 0} (xs : List A) (y : A) (ys : List A) → slice_get (xs ++ y ∷ ys) (length xs) ≡ Some y
+get_seam [] y ys = refl
+get_seam (x ∷ xs) y ys = get_seam xs y ys
+
+-- what holds of the item at each place holds of each item
+pub all_of_gets : {A : Type 0} (P : A → Type 0) (xs : List A) → ((i : ℕ) (x : A) → slice_get xs i ≡ Some x → P x) → AllIn P xs
+all_of_gets P [] f = tt
+all_of_gets P (x ∷ xs) f = (f zero x refl, all_of_gets P xs (λ i y e. f (suc i) y e))
+
+-- items with one key are one item, where no key stands twice
+pub same_by_key : {A B : Type 0} (f : A → B) (xs : List A) (x y : A) → Distinct (map f xs) → Has xs x → Has xs y → f x ≡ f y → x ≡ y
+same_by_key f [] x y once a b e = absurd a
+same_by_key f (z ∷ xs) x y once (inl a) (inl b) e = sym a ∙ b
+same_by_key f (z ∷ xs) x y once (inl a) (inr b) e = absurd (all_get _ (map f xs) once.0 (f y) (has_map f xs y b) (ap f a ∙ e))
+same_by_key f (z ∷ xs) x y once (inr a) (inl b) e = absurd (all_get _ (map f xs) once.0 (f x) (has_map f xs x a) (ap f b ∙ sym e))
+same_by_key f (z ∷ xs) x y once (inr a) (inr b) e = same_by_key f xs x y once.1 a b e

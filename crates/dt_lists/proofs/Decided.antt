@@ -1,5 +1,5 @@
 -- What is decided: combinators by which a statement on lists is decided when its parts are.
-use Rattle.std.proofs.Common.{◌≡◌, ◌≢◌, ◌≤◌, ◌⊎◌, ◌↔◌, ℕ, Bool, true, false, List, [], ◌∷◌, length, refl, sym, ap, subst, inl, inr, true≢false, arith}
+use Rattle.std.proofs.Common.{◌≡◌, ◌≤◌, ◌⊎◌, ℕ, Bool, true, false, List, [], ◌∷◌, refl, sym, inl, inr, true≢false, arith}
 use Rattle.dt_lists.specs.Lists.{AnyIn, AllIn, SomeThen, Has, EachThen, Either}
 
 pub either_not : (P : Type 0) → Either P → Either (¬ P)

@@ -1,8 +1,9 @@
 -- Laws of fronts of lists, and of lists that are related place by place.
 use Rattle.std.proofs.Common.{◌≡◌, ◌<◌, ◌≤◌, ℕ, zero, suc, List, [], ◌∷◌, ◌++◌, length, get_or, map, take, drop, refl, sym, ap, subst, ◌∙◌, append_assoc, append-nil, take-append-drop, inl, inr, arith}
 use Rattle.std.proofs.lemmas.List.{map-append}
-use Rattle.dt_lists.specs.Lists.{AnyIn, AllIn, SomeThen, Has, EachThen, IsFront, Pairwise}
-use Rattle.dt_lists.proofs.Words.{any_append_left, some_append_left, all_append_left, each_append_left, some_in_front}
+use Rattle.dt_lists.specs.Lists.{AnyIn, AllIn, SomeThen, EachThen, IsFront, Pairwise}
+use Rattle.dt_lists.proofs.Words.{any_append_left, some_append_left, all_append_left, each_append_left}
+use Rattle.dt_lists.proofs.Keys.{some_in_front}
 
 -- fronts
 

@@ -1,6 +1,6 @@
 -- A list that is not empty has a least item, under an order that is decided.
-use Rattle.std.proofs.Common.{◌≡◌, List, [], ◌∷◌, refl, sym, subst, ◌⊎◌, inl, inr}
-use Rattle.dt_lists.specs.Lists.{AnyIn, Has, Either}
+use Rattle.std.proofs.Common.{List, [], ◌∷◌, refl, sym, subst, inl, inr}
+use Rattle.dt_lists.specs.Lists.{Has, Either}
 
 -- the item of the list that none of its items is below
 pub record IsLeast {A : Type 0} (R : A → A → Type 0) (xs : List A) (x : A) : Type 0 where

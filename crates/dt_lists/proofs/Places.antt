@@ -32,6 +32,11 @@ flat_map_of_set f [] i x d e = refl
 flat_map_of_set f (y ∷ ys) zero x d e = ap (λ z. z ++ flat_map f ys) e
 flat_map_of_set f (y ∷ ys) (suc i) x d e = ap (λ zs. f y ++ zs) (flat_map_of_set f ys i x d e)
 
+pub get_of_map : {A B : Type 0} (f : A → B) (xs : List A) (i : ℕ) (d : A) → get_or (map f xs) i (f d) ≡ f (get_or xs i d)
+get_of_map f [] i d = refl
+get_of_map f (y ∷ ys) zero d = refl
+get_of_map f (y ∷ ys) (suc i) d = get_of_map f ys i d
+
 -- what holds of the item that is put in and of each item, holds of each item then
 pub each_of_set : {A : Type 0} (P : ℕ → A → Type 0) (xs : List A) (i : ℕ) (x d : A) → P i x → ((j : ℕ) → j < length xs → P j (get_or xs j d)) → (j : ℕ) → j < length xs → P j (get_or (set xs i x) j d)
 each_of_set P [] i x d p all j lt = absurd (omega arith)
@@ -86,9 +91,6 @@ all_more P xs x a p = all_append P xs (x ∷ []) a (p, tt)
 pub each_more : {A : Type 0} (R : A → A → Type 0) (xs : List A) (x : A) → EachThen R xs → AllIn (λ y. R y x) xs → EachThen R (xs ++ x ∷ [])
 each_more R [] x e a = (tt, tt)
 each_more R (y ∷ ys) x e a = (all_more (R y) ys x e.0 a.0, each_more R ys x e.1 a.1)
-
-pub distinct_more : {A : Type 0} (xs : List A) (x : A) → Distinct xs → ¬ (Has xs x) → Distinct (xs ++ x ∷ [])
-distinct_more xs x d n = each_more _ xs x d (all_put _ xs (λ y h e. n (subst (Has xs) e h)))
 
 pub has_more : {A : Type 0} (xs : List A) (x y : A) → Has (xs ++ x ∷ []) y → Has xs y ⊎ (x ≡ y)
 has_more xs x y h = elim (any_append _ xs (x ∷ []) h) [ inl l ↦ inl l | inr r ↦ elim r [ inl e ↦ inr e | inr f ↦ absurd f ] ]

@@ -1,5 +1,5 @@
 -- A test over a list is passed where some item passes it.
-use Rattle.std.proofs.Common.{◌≡◌, ◌⊎◌, Bool, true, false, ◌||◌, List, [], ◌∷◌, refl, sym, inl, inr}
+use Rattle.std.proofs.Common.{◌≡◌, ◌⊎◌, Bool, true, false, ◌||◌, List, [], ◌∷◌, refl, inl, inr}
 use Rattle.std.specs.List.{list_any}
 use Rattle.dt_lists.specs.Lists.{AnyIn}
 

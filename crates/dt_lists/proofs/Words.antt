@@ -1,6 +1,6 @@
 -- Laws of the words on lists: what holds of some items and of all items, also of longer lists, of images and by place.
-use Rattle.std.proofs.Common.{◌≡◌, ◌≢◌, ◌<◌, ◌≤◌, ◌⊎◌, ◌∙◌, ℕ, zero, suc, List, [], ◌∷◌, ◌++◌, length, get_or, map, refl, sym, ap, subst, inl, inr, arith}
-use Rattle.dt_lists.specs.Lists.{AnyIn, AllIn, SomeThen, Has, IsWithin, EachThen, Distinct}
+use Rattle.std.proofs.Common.{◌≡◌, ◌≢◌, ◌<◌, ◌⊎◌, ℕ, zero, suc, List, [], ◌∷◌, ◌++◌, length, get_or, map, refl, sym, ap, subst, inl, inr, arith}
+use Rattle.dt_lists.specs.Lists.{AnyIn, AllIn, SomeThen, Has, IsWithin, EachThen}
 
 -- some item
 
@@ -168,39 +168,6 @@ each_across R [] ys x y a hx hy = absurd hx
 each_across R (z ∷ zs) ys x y a (inl e) hy = all_get (R x) ys (all_append_right (R x) zs ys (subst (λ c. AllIn (R c) (zs ++ ys)) e a.0)) y hy
 each_across R (z ∷ zs) ys x y a (inr h) hy = each_across R zs ys x y a.1 h hy
 
--- where only a front holds an item of the key t, the pair that ends at t is in that front too
-pub some_in_front : {A B : Type 0} (R : A → A → Type 0) (f : A → B) (t : B) (front rest : List A) → ((x y : A) → R x y → f y ≡ t) → EachThen (λ x y. ¬ (f x ≡ f y)) (front ++ rest) → AnyIn (λ x. f x ≡ t) front → SomeThen R (front ++ rest) → SomeThen R front
-some_in_front R f t [] rest ends once e s = absurd e
-some_in_front R f t (x ∷ xs) rest ends once (inl e) (inl a) =
-    let r : (y : _) × Has (xs ++ rest) y × R x y = any_get (R x) (xs ++ rest) a in
-    let other : ¬ (f x ≡ f r.0) = all_get _ (xs ++ rest) once.0 r.0 r.1 in
-    let same : f r.0 ≡ t = ends x r.0 r.2 in
-    absurd (other (cc))
-some_in_front R f t (x ∷ xs) rest ends once (inl e) (inr s) =
-    let r : (a b : _) × Has (xs ++ rest) a × Has (xs ++ rest) b × R a b = some_get R (xs ++ rest) s in
-    let other : ¬ (f x ≡ f r.1) = all_get _ (xs ++ rest) once.0 r.1 r.3 in
-    let same : f r.1 ≡ t = ends r.0 r.1 r.4 in
-    absurd (other (cc))
-some_in_front R f t (x ∷ xs) rest ends once (inr e) (inl a) = elim (any_append (R x) xs rest a) [
-    inl l ↦ inl l
-  | inr m ↦ absurd (twice e m once.1)
-  ]
-  where
-    twice : AnyIn (λ y. f y ≡ t) xs → AnyIn (R x) rest → EachThen (λ x y. ¬ (f x ≡ f y)) (xs ++ rest) → ⊥
-    twice e m o =
-        let p : (y : _) × Has xs y × (f y ≡ t) = any_get _ xs e in
-        let q : (y : _) × Has rest y × R x y = any_get (R x) rest m in
-        each_across _ xs rest p.0 q.0 o p.1 q.1 (let same : f q.0 ≡ t = ends x q.0 q.2 in let there : f p.0 ≡ t = p.2 in cc)
-some_in_front R f t (x ∷ xs) rest ends once (inr e) (inr s) = inr (some_in_front R f t xs rest ends once.1 e s)
-
--- two different items make at least two
-pub two_of_different : {A : Type 0} (xs : List A) (x y : A) → Has xs x → Has xs y → x ≢ y → 2 ≤ length xs
-two_of_different [] x y hx hy ne = absurd hx
-two_of_different (z ∷ []) x y (inl ex) (inl ey) ne = absurd (ne (cc))
-two_of_different (z ∷ []) x y (inl ex) (inr hy) ne = absurd hy
-two_of_different (z ∷ []) x y (inr hx) hy ne = absurd hx
-two_of_different (z ∷ w ∷ ws) x y hx hy ne = omega arith
-
 pub within_get : {A : Type 0} (xs ys : List A) → IsWithin xs ys → (x : A) → Has xs x → Has ys x
 within_get xs ys w x h = all_get (Has ys) xs w x h
 
@@ -209,36 +176,3 @@ within_refl xs = all_put (Has xs) xs (λ x h. h)
 
 pub within_append : {A : Type 0} (xs ys : List A) → IsWithin xs (xs ++ ys)
 within_append xs ys = all_put (Has (xs ++ ys)) xs (λ x h. any_append_left (λ y. y ≡ x) xs ys h)
-
--- some item of the key u stands before one of the key t
-abbrev pub KeyBefore : {A B : Type 0} → (A → B) → List A → B → B → Type 0
-KeyBefore f xs u t = SomeThen (λ x y. (f x ≡ u) × (f y ≡ t)) xs
-
-pub key_first : {A B : Type 0} (f : A → B) (xs : List A) (u t : B) → KeyBefore f xs u t → AnyIn (λ x. f x ≡ u) xs
-key_first f xs u t s = let r : (x y : _) × Has xs x × Has xs y × ((f x ≡ u) × (f y ≡ t)) = some_get _ xs s in any_put _ xs r.0 r.2 r.4.0
-
-pub key_second : {A B : Type 0} (f : A → B) (xs : List A) (u t : B) → KeyBefore f xs u t → AnyIn (λ x. f x ≡ t) xs
-key_second f xs u t s = let r : (x y : _) × Has xs x × Has xs y × ((f x ≡ u) × (f y ≡ t)) = some_get _ xs s in any_put _ xs r.1 r.3 r.4.1
-
--- where each key stands once, a key of the head is not further on
-key_once : {A B : Type 0} (f : A → B) (x : A) (xs : List A) (t : B) → AllIn (λ y. ¬ (f x ≡ f y)) xs → f x ≡ t → ¬ (AnyIn (λ y. f y ≡ t) xs)
-key_once f x xs t a e s = let r : (y : _) × Has xs y × (f y ≡ t) = any_get _ xs s in all_get _ xs a r.0 r.1 (e ∙ sym r.2)
-
-pub key_before_irreflexive : {A B : Type 0} (f : A → B) (xs : List A) (t : B) → EachThen (λ x y. ¬ (f x ≡ f y)) xs → ¬ (KeyBefore f xs t t)
-key_before_irreflexive f [] t once s = s
-key_before_irreflexive f (x ∷ xs) t once (inl a) = let r : (y : _) × Has xs y × ((f x ≡ t) × (f y ≡ t)) = any_get _ xs a in key_once f x xs t once.0 r.2.0 (any_put _ xs r.0 r.1 r.2.1)
-key_before_irreflexive f (x ∷ xs) t once (inr s) = key_before_irreflexive f xs t once.1 s
-
-pub key_before_transitive : {A B : Type 0} (f : A → B) (xs : List A) (u v t : B) → EachThen (λ x y. ¬ (f x ≡ f y)) xs → KeyBefore f xs u v → KeyBefore f xs v t → KeyBefore f xs u t
-key_before_transitive f [] u v t once s r = s
-key_before_transitive f (x ∷ xs) u v t once (inl a) (inl b) =
-    let p : (y : _) × Has xs y × ((f x ≡ u) × (f y ≡ v)) = any_get _ xs a in
-    let q : (y : _) × Has xs y × ((f x ≡ v) × (f y ≡ t)) = any_get _ xs b in
-    absurd (key_once f x xs v once.0 q.2.0 (any_put _ xs p.0 p.1 p.2.1))
-key_before_transitive f (x ∷ xs) u v t once (inl a) (inr r) =
-    let p : (y : _) × Has xs y × ((f x ≡ u) × (f y ≡ v)) = any_get _ xs a in
-    inl (any_map _ _ xs (λ y e. (p.2.0, e)) (key_second f xs v t r))
-key_before_transitive f (x ∷ xs) u v t once (inr s) (inl b) =
-    let q : (y : _) × Has xs y × ((f x ≡ v) × (f y ≡ t)) = any_get _ xs b in
-    absurd (key_once f x xs v once.0 q.2.0 (key_second f xs u v s))
-key_before_transitive f (x ∷ xs) u v t once (inr s) (inr r) = inr (key_before_transitive f xs u v t once.1 s r)

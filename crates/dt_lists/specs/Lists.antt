@@ -1,5 +1,5 @@
 -- Words on lists, each by recursion on the list. std's `Any`, `All` and `Contains` say the same by index.
-use Rattle.std.specs.Prelude.{◌≡◌, ℕ, ◌+◌, ◌⊎◌, List, [], ◌∷◌, ◌++◌, get_or, set, map}
+use Rattle.std.specs.Prelude.{◌≡◌, ◌⊎◌, List, [], ◌∷◌, ◌++◌}
 
 -- some item of the list has P
 abbrev pub AnyIn : {A : Type 0} → (A → Type 0) → List A → Type 0

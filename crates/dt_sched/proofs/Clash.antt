@@ -1,13 +1,12 @@
 -- That two lists of keys clash does not hang on which comes first.
-use Rattle.std.proofs.Common.{◌≡◌, ℕ, Bool, true, false, ◌&&◌, ◌||◌, nat_eq, List, [], ◌∷◌, refl, sym, ap, ap₂, ◌∙◌}
+use Rattle.std.proofs.Common.{◌≡◌, true, ◌&&◌, List, ap₂, ◌∙◌}
 use Rattle.std.proofs.Math.Bool.{or_comm}
 use Rattle.std.specs.List.{list_any}
-use Rattle.std.specs.Cmp.{IsEquivalence}
 use Rattle.std.proofs.lemmas.Cmp.{nat_list_eq_equiv}
 use Rattle.dt_lists.specs.Lists.{AnyIn, Has}
 use Rattle.dt_lists.proofs.Words.{any_map, any_get, any_put}
 use Rattle.dt_lists.proofs.Tests.{any_of_test, test_of_any}
-use Rattle.dt_access.specs.Clash.{Bytes, same_key, is_write, uses_clash, clash}
+use Rattle.dt_access.specs.Clash.{Bytes, is_write, uses_clash, clash}
 use Rattle.dt_access.specs.declared.access.Mode.{Mode}
 
 pub uses_clash_symmetric : (a b : Bytes × Mode) → uses_clash a b ≡ uses_clash b a

@@ -1,12 +1,13 @@
 -- The class of an id exists as a list, and there is only one.
-use Rattle.std.proofs.Common.{◌≡◌, ◌≢◌, ◌≤◌, ◌⊎◌, ◌↔◌, ℕ, List, [], ◌∷◌, length, refl, sym, subst, ap, inl, inr, arith}
-use Rattle.dt_lists.specs.Lists.{AnyIn, AllIn, Has, EachThen, Either}
-use Rattle.dt_lists.proofs.Words.{any_get, any_put, all_put, two_of_different}
-use Rattle.dt_lists.proofs.Decided.{either_and, either_any, either_same, either_list}
+use Rattle.std.proofs.Common.{◌≡◌, ◌≢◌, ◌≤◌, List, [], ◌∷◌, length, sym, subst, inl, inr}
+use Rattle.dt_lists.specs.Lists.{AnyIn, AllIn, Has, Either}
+use Rattle.dt_lists.proofs.Words.{any_get, any_put, all_put}
+use Rattle.dt_lists.proofs.Distinct.{two_of_different}
+use Rattle.dt_lists.proofs.Decided.{either_any, either_same, either_list}
 use Rattle.dt_lists.proofs.Ascending.{IsPicked, ascending_same, pick}
 use Rattle.dt_access.specs.Ids.{Before, AreAscending}
 use Rattle.dt_access.specs.declared.TxnId.{TxnId}
-use Rattle.dt_sched.specs.Views.{View, Chain, here, onward, Reaches, IsComplete, IsClosed, Mutual, IsClass}
+use Rattle.dt_sched.specs.Views.{View, here, IsClosed, Mutual, IsClass}
 use Rattle.dt_sched.proofs.Ids.{before_irreflexive, before_transitive, before_total, either_id}
 use Rattle.dt_sched.proofs.Chains.{chain_join}
 use Rattle.dt_sched.proofs.Reach.{ids_in, reach_listed, mutual_decided}
@@ -31,13 +32,16 @@ same_ids ids others a b f g = ascending_same Before before_irreflexive before_tr
 
 pub class_of : (view : View) (t : TxnId) → (ids : List TxnId) × IsClass view t ids
 class_of view t =
-    let r : (ids : List TxnId) × IsPicked Before (λ u. Has (t ∷ ids_in view) u × Mutual view u t) ids = pick_ids (λ u. Mutual view u t) (λ u. mutual_decided view u t) (t ∷ ids_in view) in
-    (r.0, record {
-      ascending = r.1.ascending;
-      members = λ u. (
-        λ h. let m : Has (t ∷ ids_in view) u × Mutual view u t = (r.1.members u).0 h in m.1,
-        λ m. (r.1.members u).1 (reach_listed view u t m.0, m));
-    })
+    let r : (ids : List TxnId) × IsPicked Before (λ u. Has (t ∷ ids_in view) u × Mutual view u t) ids = pick_ids (λ u. Mutual view u t) (λ u. mutual_decided view u t) (t ∷ ids_in view) in (
+      r.0,
+      record {
+        ascending = r.1.ascending;
+        members = λ u. (
+          λ h. let m : Has (t ∷ ids_in view) u × Mutual view u t = (r.1.members u).0 h in m.1,
+          λ m. (r.1.members u).1 (reach_listed view u t m.0, m),
+        );
+      },
+    )
 
 pub class_unique : (view : View) (t : TxnId) (ids others : List TxnId) → IsClass view t ids → IsClass view t others → ids ≡ others
 class_unique view t ids others c d = same_ids ids others c.ascending d.ascending (λ u h. (d.members u).1 ((c.members u).0 h)) (λ u h. (c.members u).1 ((d.members u).0 h))
@@ -53,7 +57,8 @@ class_of_member view t u ids c h =
       ascending = c.ascending;
       members = λ v. (
         λ k. mutual_trans view v t u ((c.members v).0 k) (mutual_sym view u t m),
-        λ n. (c.members v).1 (mutual_trans view v u t n m));
+        λ n. (c.members v).1 (mutual_trans view v u t n m),
+      );
     }
 
 -- two classes that share a member are one
@@ -76,9 +81,9 @@ class_decided view t ids =
 -- of all ids there is one whose class the list is
 pub some_class_decided : (view : View) (ids : List TxnId) → Either ((t : TxnId) × IsClass view t ids)
 some_class_decided view ids = either_same (AnyIn (λ t. IsClass view t ids) ids) ((t : TxnId) × IsClass view t ids)
-  (λ a. let r : (t : TxnId) × Has ids t × IsClass view t ids = any_get _ ids a in (r.0, r.2))
-  (λ c. any_put (λ t. IsClass view t ids) ids c.0 (in_own_class view c.0 ids c.1) c.1)
-  (either_any _ ids (λ t. class_decided view t ids))
+    (λ a. let r : (t : TxnId) × Has ids t × IsClass view t ids = any_get _ ids a in (r.0, r.2))
+    (λ c. any_put (λ t. IsClass view t ids) ids c.0 (in_own_class view c.0 ids c.1) c.1)
+    (either_any _ ids (λ t. class_decided view t ids))
 
 -- the class of a closed id is closed
 pub class_closed : (view : View) (t : TxnId) (ids : List TxnId) → IsClass view t ids → IsClosed view t → AllIn (IsClosed view) ids

@@ -1,13 +1,12 @@
 -- A closed transaction stands in every longer view as it stands in the shorter one.
-use Rattle.std.proofs.Common.{◌≡◌, ◌≢◌, ◌<◌, ◌⊎◌, ◌↔◌, ℕ, List, [], ◌∷◌, map, length, get_or, refl, sym, ap, subst, ◌∙◌, inl, inr}
-use Rattle.dt_lists.specs.Lists.{AnyIn, AllIn, SomeThen, Has, EachThen, Distinct, IsFront, Pairwise}
-use Rattle.dt_lists.proofs.Words.{any_map, any_at, any_from_at, any_get, all_map, all_get, some_get, each_of_image}
+use Rattle.std.proofs.Common.{◌≡◌, ◌≢◌, ◌<◌, ◌↔◌, ℕ, List, [], length, sym, subst, ◌∙◌, inl, inr}
+use Rattle.dt_lists.specs.Lists.{AnyIn, SomeThen, Has}
+use Rattle.dt_lists.proofs.Words.{any_at, any_from_at, any_get, all_get, some_get, each_of_image}
 use Rattle.dt_lists.proofs.Fronts.{any_front, some_back}
-use Rattle.dt_access.specs.Ids.{Before}
 use Rattle.dt_access.specs.declared.TxnId.{TxnId}
 use Rattle.dt_access.specs.declared.Part.{Part}
-use Rattle.dt_sched.specs.Views.{View, ids_of, log_at, HasPart, IsLonger, AreClashing, Edge, Chain, here, onward, Reaches, IsPresent, HasParts, IsComplete, IsClosed, Mutual, Precedes, IsClass, IsWellFormed, StandsAlike}
-use Rattle.dt_sched.proofs.Chains.{chain_join, chain_step, chain_before}
+use Rattle.dt_sched.specs.Views.{View, log_at, HasPart, IsLonger, AreClashing, Edge, here, onward, Reaches, HasParts, IsComplete, IsClosed, Mutual, Precedes, IsClass, IsWellFormed, StandsAlike}
+use Rattle.dt_sched.proofs.Chains.{chain_join, chain_step}
 use Rattle.dt_sched.proofs.Longer.{log_longer, edge_longer, reaches_longer, complete_longer}
 
 -- the home of an edge, and back
@@ -39,8 +38,8 @@ edge_back short long l w u t c e =
     let h : (home : ℕ) × SomeThen (AreClashing u t) (log_at long home) = home_of_edge long u t e in
     let r : (p q : Part) × Has (log_at long h.0) p × Has (log_at long h.0) q × AreClashing u t p q = some_get _ (log_at long h.0) h.1 in
     edge_at_home short h.0 u t e.0 (some_back (AreClashing u t) (λ p. p.id) t (log_at short h.0) (log_at long h.0) (log_longer short long l h.0) (λ x y s. s.1)
-      (each_of_image (λ a b. ¬ (a ≡ b)) (λ p. p.id) (log_at long h.0) (w.once h.0))
-      (complete_at_home short long l w t c h.0 r.1 r.3 r.4.1) h.1)
+    (each_of_image (λ a b. ¬ (a ≡ b)) (λ p. p.id) (log_at long h.0) (w.once h.0))
+    (complete_at_home short long l w t c h.0 r.1 r.3 r.4.1) h.1)
 
 -- what reaches a closed id is closed
 pub closed_before : (view : View) (v t : TxnId) → Reaches view v t → IsClosed view t → IsClosed view v
@@ -74,18 +73,21 @@ module _ (short long : View) (l : IsLonger short long) (w : IsWellFormed long) w
   pub mutual_stays : (u t : TxnId) → IsClosed short t → Mutual short u t ↔ Mutual long u t
   mutual_stays u t c = (
     λ m. (reaches_longer short long l u t m.0, reaches_longer short long l t u m.1),
-    λ m. let r : Reaches short u t = reaches_back m.0 c in (r, reached_back u t c r m.1))
+    λ m. let r : Reaches short u t = reaches_back m.0 c in (r, reached_back u t c r m.1),
+  )
 
   pub class_stays : (t : TxnId) → IsClosed short t → (ids : List TxnId) → IsClass short t ids ↔ IsClass long t ids
   class_stays t c ids = (
     λ k. record { ascending = k.ascending; members = λ u. (λ h. (mutual_stays u t c).0 ((k.members u).0 h), λ m. (k.members u).1 ((mutual_stays u t c).1 m)) },
-    λ k. record { ascending = k.ascending; members = λ u. (λ h. (mutual_stays u t c).1 ((k.members u).0 h), λ m. (k.members u).1 ((mutual_stays u t c).0 m)) })
+    λ k. record { ascending = k.ascending; members = λ u. (λ h. (mutual_stays u t c).1 ((k.members u).0 h), λ m. (k.members u).1 ((mutual_stays u t c).0 m)) },
+  )
 
   pub preceders_stay : (u t : TxnId) → IsClosed short t → Precedes short u t ↔ Precedes long u t
   preceders_stay u t c = (longer_precedes, shorter_precedes)
     where
       longer_precedes : Precedes short u t → Precedes long u t
       longer_precedes p = (p.0, reaches_longer short long l u t p.1, elim p.2 [ inl n ↦ inl (λ s. n (reached_back u t c p.1 s)) | inr b ↦ inr b ])
+
       shorter_precedes : Precedes long u t → Precedes short u t
       shorter_precedes p = (p.0, reaches_back p.1 c, elim p.2 [ inl n ↦ inl (λ s. n (reaches_longer short long l t u s)) | inr b ↦ inr b ])
 
@@ -98,3 +100,17 @@ module _ (short long : View) (l : IsLonger short long) (w : IsWellFormed long) w
     class = class_stays t c;
     preceders = λ u. preceders_stay u t c;
   }
+
+-- two views of the same logs that both have t closed agree on its class and on its preceders
+module _ (left right whole : View) (l : IsLonger left whole) (r : IsLonger right whole) (w : IsWellFormed whole) where
+  pub class_agrees : (t : TxnId) → IsClosed left t → IsClosed right t → (ids : List TxnId) → IsClass left t ids ↔ IsClass right t ids
+  class_agrees t c d ids = (
+    λ k. (class_stays right whole r w t d ids).1 ((class_stays left whole l w t c ids).0 k),
+    λ k. (class_stays left whole l w t c ids).1 ((class_stays right whole r w t d ids).0 k),
+  )
+
+  pub preceders_agree : (u t : TxnId) → IsClosed left t → IsClosed right t → Precedes left u t ↔ Precedes right u t
+  preceders_agree u t c d = (
+    λ p. (preceders_stay right whole r w u t d).1 ((preceders_stay left whole l w u t c).0 p),
+    λ p. (preceders_stay left whole l w u t c).1 ((preceders_stay right whole r w u t d).0 p),
+  )

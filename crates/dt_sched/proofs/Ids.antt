@@ -1,5 +1,5 @@
 -- The order of ids is a strict total order, and it is decided.
-use Rattle.std.proofs.Common.{◌≡◌, ◌≢◌, ◌<◌, ◌⊎◌, ℕ, refl, sym, subst, ap, arith}
+use Rattle.std.proofs.Common.{◌≡◌, ◌≢◌, ◌⊎◌, sym, subst, ap, arith}
 use Rattle.dt_lists.specs.Lists.{Either}
 use Rattle.dt_lists.proofs.Decided.{either_nat, either_and, either_same}
 use Rattle.dt_access.specs.Ids.{Before}

@@ -5,9 +5,11 @@ pub mod Longer
 pub mod Closed
 pub mod Via
 pub mod Reach
-pub mod Order
+pub mod Precedence
 pub mod Classes
 pub mod Decisions
-pub mod Stability
+pub mod Staying
 pub mod OneHome
-pub mod Drained
+pub mod NothingToDo
+pub mod Growing
+pub mod Sound

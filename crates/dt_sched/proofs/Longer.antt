@@ -1,11 +1,10 @@
 -- What a view has, a longer view has; and the shorter one is well formed where the longer is.
-use Rattle.std.proofs.Common.{◌≡◌, ◌≢◌, ◌<◌, ℕ, List, [], ◌∷◌, map, length, get_or, refl, sym, ap, subst}
-use Rattle.dt_lists.specs.Lists.{AnyIn, AllIn, SomeThen, Has, EachThen, Distinct, IsFront, Pairwise}
-use Rattle.dt_lists.proofs.Words.{any_map, any_at, any_from_at, any_get, all_map, all_get, some_get, each_of_image}
-use Rattle.dt_lists.proofs.Fronts.{front_refl, front_trans, front_map, any_front, some_front, all_front, each_front, some_back, pairwise_refl, pairwise_trans, pairwise_at, pairwise_any}
+use Rattle.std.proofs.Common.{ℕ, List, []}
+use Rattle.dt_lists.specs.Lists.{IsFront}
+use Rattle.dt_lists.proofs.Words.{any_map, all_map}
+use Rattle.dt_lists.proofs.Fronts.{front_refl, front_trans, front_map, any_front, some_front, all_front, each_front, pairwise_refl, pairwise_trans, pairwise_at, pairwise_any}
 use Rattle.dt_access.specs.declared.TxnId.{TxnId}
-use Rattle.dt_access.specs.declared.Part.{Part}
-use Rattle.dt_sched.specs.Views.{View, ids_of, log_at, HasPart, IsLonger, AreClashing, Edge, Chain, here, onward, Reaches, IsPresent, HasParts, IsComplete, IsWellFormed}
+use Rattle.dt_sched.specs.Views.{View, ids_of, log_at, HasPart, IsLonger, AreClashing, Edge, Reaches, IsPresent, HasParts, IsComplete, IsWellFormed}
 use Rattle.dt_sched.proofs.Chains.{chain_map}
 
 pub longer_refl : (view : View) → IsLonger view view
@@ -41,5 +40,5 @@ well_formed_front short long l w = record {
   once = λ home. each_front _ (ids_of (log_at short home)) (ids_of (log_at long home)) (front_map _ (log_at short home) (log_at long home) (log_longer short long l home)) (w.once home);
   homed = λ home. all_front _ (log_at short home) (log_at long home) (log_longer short long l home) (w.homed home);
   alike = λ home other. all_front _ (log_at short home) (log_at long home) (log_longer short long l home)
-    (all_map _ _ (log_at long home) (λ p a. all_front _ (log_at short other) (log_at long other) (log_longer short long l other) a) (w.alike home other));
+      (all_map _ _ (log_at long home) (λ p a. all_front _ (log_at short other) (log_at long other) (log_longer short long l other) a) (w.alike home other));
 }

@@ -1,10 +1,11 @@
 -- Where each transaction has one home, there is no deadlock, and all is told by single edges.
-use Rattle.std.proofs.Common.{◌≡◌, ◌≢◌, ◌<◌, ◌≤◌, ◌⊎◌, ◌↔◌, ℕ, List, [], ◌∷◌, length, get_or, refl, sym, ap, subst, ◌∙◌, inl, inr, arith}
-use Rattle.dt_lists.specs.Lists.{AnyIn, AllIn, SomeThen, Has, EachThen, Either}
-use Rattle.dt_lists.proofs.Words.{any_map, any_at, any_from_at, any_get, any_put, all_get, all_put, all_at, some_map, each_of_image, KeyBefore, key_first, key_second, key_before_irreflexive, key_before_transitive}
+use Rattle.std.proofs.Common.{◌≡◌, ◌≢◌, ◌<◌, ◌≤◌, ◌⊎◌, ◌↔◌, ℕ, List, [], ◌∷◌, length, refl, sym, ap, subst, ◌∙◌, inl, inr, arith}
+use Rattle.dt_lists.specs.Lists.{AllIn, SomeThen, Has, EachThen}
+use Rattle.dt_lists.proofs.Words.{any_at, any_from_at, any_get, any_put, all_get, all_put, all_at, some_map, each_of_image}
+use Rattle.dt_lists.proofs.Keys.{KeyBefore, key_first, key_second, key_before_irreflexive, key_before_transitive}
 use Rattle.dt_access.specs.declared.TxnId.{TxnId}
 use Rattle.dt_access.specs.declared.Part.{Part}
-use Rattle.dt_sched.specs.Views.{View, log_at, HasPart, AreClashing, Edge, Chain, here, onward, Reaches, IsPresent, HasParts, IsComplete, IsClosed, Mutual, Precedes, IsClass, IsWellFormed, HasOneHomeEach}
+use Rattle.dt_sched.specs.Views.{View, log_at, HasPart, AreClashing, Edge, here, onward, Reaches, IsPresent, HasParts, IsComplete, IsClosed, Mutual, Precedes, IsClass, IsWellFormed, HasOneHomeEach}
 use Rattle.dt_sched.specs.Decide.{IsExecutable, IsResolvable, IsDownward}
 use Rattle.dt_sched.proofs.Ids.{either_id}
 use Rattle.dt_sched.proofs.Chains.{chain_step}
@@ -35,8 +36,8 @@ module _ (view : View) (w : IsWellFormed view) (one : HasOneHomeEach view) where
       let q : (q : Part) × Has (log_at view other) q × (q.id ≡ t) = any_get _ (log_at view other) k in
       let alike : p.0.homes ≡ q.0.homes = all_get _ (log_at view other) (all_get _ (log_at view home) (w.alike home other) p.0 p.1) q.0 q.1 (p.2 ∙ sym q.2) in
       only_item p.0.homes home other (all_get _ (log_at view home) (one_at home) p.0 p.1)
-        (all_get _ (log_at view home) (w.homed home) p.0 p.1).1
-        (subst (λ homes. Has homes other) (sym alike) (all_get _ (log_at view other) (w.homed other) q.0 q.1).1)
+      (all_get _ (log_at view home) (w.homed home) p.0 p.1).1
+      (subst (λ homes. Has homes other) (sym alike) (all_get _ (log_at view other) (w.homed other) q.0 q.1).1)
 
   once_at : (home : ℕ) → EachThen (λ p q. ¬ (p.id ≡ q.id)) (log_at view home)
   once_at home = each_of_image (λ a b. ¬ (a ≡ b)) (λ p. p.id) (log_at view home) (w.once home)
@@ -51,6 +52,7 @@ module _ (view : View) (w : IsWellFormed view) (one : HasOneHomeEach view) where
         where
           last : StandsBefore (log_at view r.0) v t
           last = some_map _ _ (log_at view r.0) (λ p q h. (h.0, h.1)) r.1
+
           then : (u ≡ v) ⊎ ((home : ℕ) × StandsBefore (log_at view home) u v) → (home : ℕ) × StandsBefore (log_at view home) u t
           then (inl same) = (r.0, subst (λ c. StandsBefore (log_at view r.0) c t) (sym same) last)
           then (inr k) =
@@ -66,7 +68,7 @@ module _ (view : View) (w : IsWellFormed view) (one : HasOneHomeEach view) where
       at (inr h) (inr k) =
           let e : k.0 ≡ h.0 = same_home t k.0 h.0 (key_first (λ p. p.id) (log_at view k.0) t u k.1) (key_second (λ p. p.id) (log_at view h.0) u t h.1) in
           absurd (key_before_irreflexive (λ p. p.id) (log_at view h.0) u (once_at h.0)
-            (key_before_transitive (λ p. p.id) (log_at view h.0) u t u (once_at h.0) h.1 (subst (λ home. StandsBefore (log_at view home) t u) e k.1)))
+          (key_before_transitive (λ p. p.id) (log_at view h.0) u t u (once_at h.0) h.1 (subst (λ home. StandsBefore (log_at view home) t u) e k.1)))
 
   pub class_single : (t : TxnId) (ids : List TxnId) → IsClass view t ids → ids ≡ t ∷ []
   class_single t ids c = class_alone view t ids c (λ u m. mutual_same u t m)
@@ -87,7 +89,8 @@ module _ (view : View) (w : IsWellFormed view) (one : HasOneHomeEach view) where
   pub closed_where_present : (t : TxnId) → IsClosed view t ↔ IsPresent view t
   closed_where_present t = (
     λ c. present_of_complete view t (complete_of_closed view t c),
-    λ p u r. complete_of_present u (elim (reach_source view r) [ inl e ↦ subst (IsPresent view) (sym e) p | inr q ↦ q ]))
+    λ p u r. complete_of_present u (elim (reach_source view r) [ inl e ↦ subst (IsPresent view) (sym e) p | inr q ↦ q ]),
+  )
 
   pub precedes_where_reaches : (u t : TxnId) → Precedes view u t ↔ (u ≢ t) × Reaches view u t
   precedes_where_reaches u t = (λ p. (p.0, p.1), λ r. (r.0, r.1, inl (λ back. r.0 (mutual_same u t (r.1, back)))))
@@ -99,9 +102,9 @@ module _ (view : View) (w : IsWellFormed view) (one : HasOneHomeEach view) where
       last : {x y : TxnId} → Reaches view x y → x ≢ y → ((v : TxnId) → Edge view v y → Has done v) → Has done x
       last here ne f = absurd (ne refl)
       last {x = x} (onward {y = v} {z = y} c e) ne f = elim (either_id x v) [
-          inl same ↦ subst (Has done) (sym same) (f v e)
+        | inl same ↦ subst (Has done) (sym same) (f v e)
         | inr other ↦ down x v (f v e) ((precedes_where_reaches x v).1 (other, c))
-        ]
+      ]
 
   pub executable_by_edges : (resolved : List (List TxnId)) (done : List TxnId) (t : TxnId) → IsDownward view done → IsExecutable view resolved done t ↔ IsPresent view t × ¬ (Has done t) × ((u : TxnId) → Edge view u t → Has done u)
   executable_by_edges resolved done t down = (
@@ -111,4 +114,5 @@ module _ (view : View) (w : IsWellFormed view) (one : HasOneHomeEach view) where
       waiting = r.1;
       preceders = preceders_by_edges done t down r.2;
       settled = λ ids c two. absurd (omega (arith, ap length (class_single t ids c)));
-    })
+    },
+  )

@@ -1,6 +1,6 @@
 -- Whether a chain leads from one thing to another is decided, where steps are and all of them begin in one list.
 use Rattle.std.proofs.Common.{◌≡◌, ◌⊎◌, List, [], ◌∷◌, refl, sym, subst, inl, inr}
-use Rattle.dt_lists.specs.Lists.{AnyIn, Has, Either}
+use Rattle.dt_lists.specs.Lists.{Has, Either}
 use Rattle.dt_lists.proofs.Decided.{either_or, either_and, either_same}
 use Rattle.dt_sched.specs.Views.{Chain, here, onward}
 use Rattle.dt_sched.proofs.Chains.{chain_join, chain_step}
@@ -29,8 +29,9 @@ module _ {A : Type 0} (Step : A → A → Type 0) where
   via_join : (xs : List A) (u m v : A) → Has xs m → Via Step xs u m → Via Step xs m v → Via Step xs u v
   via_join [] u m v h a b = absurd h
   via_join (x ∷ xs) u m v (inl e) a b = inr (
-      subst (λ c. Via Step xs u c) (sym e) (elim a [ inl p ↦ p | inr q ↦ subst (λ c. Via Step xs u c) e q.0 ]),
-      subst (λ c. Via Step xs c v) (sym e) (elim b [ inl p ↦ p | inr q ↦ subst (λ c. Via Step xs c v) e q.1 ]))
+    subst (λ c. Via Step xs u c) (sym e) (elim a [ inl p ↦ p | inr q ↦ subst (λ c. Via Step xs u c) e q.0 ]),
+    subst (λ c. Via Step xs c v) (sym e) (elim b [ inl p ↦ p | inr q ↦ subst (λ c. Via Step xs c v) e q.1 ]),
+  )
   via_join (x ∷ xs) u m v (inr h) (inl a) (inl b) = inl (via_join xs u m v h a b)
   via_join (x ∷ xs) u m v (inr h) (inl a) (inr b) = inr (via_join xs u m x h a b.0, b.1)
   via_join (x ∷ xs) u m v (inr h) (inr a) (inl b) = inr (a.0, via_join xs x m v h a.1 b)
@@ -43,7 +44,7 @@ module _ {A : Type 0} (Step : A → A → Type 0) where
   via_decided : ((a b : A) → Either (a ≡ b)) → ((a b : A) → Either (Step a b)) → (xs : List A) (u v : A) → Either (Via Step xs u v)
   via_decided same step [] u v = either_or (u ≡ v) (Step u v) (same u v) (step u v)
   via_decided same step (x ∷ xs) u v = either_or (Via Step xs u v) (Via Step xs u x × Via Step xs x v) (via_decided same step xs u v)
-    (either_and (Via Step xs u x) (Via Step xs x v) (via_decided same step xs u x) (via_decided same step xs x v))
+      (either_and (Via Step xs u x) (Via Step xs x v) (via_decided same step xs u x) (via_decided same step xs x v))
 
   pub chain_decided : ((a b : A) → Either (a ≡ b)) → ((a b : A) → Either (Step a b)) → (xs : List A) → ((a b : A) → Step a b → Has xs a) → (u v : A) → Either (Chain Step u v)
   chain_decided same step xs from u v = either_same (Via Step xs u v) (Chain Step u v) (chain_of_via xs u v) (λ c. via_of_chain xs from c) (via_decided same step xs u v)

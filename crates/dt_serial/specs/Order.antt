@@ -1,5 +1,5 @@
 -- What an order of ids must have to do with a serial run, so that runs in other orders agree with it.
-use Rattle.std.specs.Prelude.{◌≡◌, ◌≢◌, ◌⊎◌, ℕ, zero, suc, true, List, [], map, slice_get, Some}
+use Rattle.std.specs.Prelude.{◌≡◌, ◌≢◌, ◌⊎◌, ℕ, zero, suc, true, List, [], map, slice_get, Option, Some, None, IsSomeAnd}
 use Rattle.dt_lists.specs.Lists.{AnyIn, AllIn, SomeThen, Has, Distinct}
 use Rattle.dt_access.specs.Clash.{Bytes, uses_clash}
 use Rattle.dt_access.specs.declared.TxnId.{TxnId}
@@ -9,10 +9,10 @@ use Rattle.dt_access.specs.declared.Mode.TheVariants.{Write}
 use Rattle.dt_text.specs.declared.Value.{Value}
 use Rattle.dt_table.specs.declared.Effect.{Effect}
 use Rattle.dt_table.specs.Table.{Table, Moved, moves_of}
-use Rattle.std.specs.Option.{IfSome}
-use Rattle.std.specs.Prelude.{Option, OnSome, IsSomeAnd}
 use Rattle.dt_txn.specs.declared.txn.Txn.{Txn}
-use Rattle.dt_txn.specs.Execution.{result_of}
+use Rattle.dt_txn.specs.declared.outcome.Outcome.{Outcome}
+use Rattle.dt_txn.specs.declared.outcome.Outcome.TheVariants.{Stale}
+use Rattle.dt_txn.specs.Execution.{result_of, stale_of, see}
 use Rattle.dt_txn.specs.Serial.{table_after}
 
 -- the ids of transactions, in their order
@@ -48,6 +48,15 @@ IsShared order txns =
     (x y : Txn) → Has txns x → Has txns y → x.id ≢ y.id
     → (a b : Access) → Has x.access a → Has y.access b → a.counter ≡ b.counter → uses_clash (a.key, a.mode) (b.key, b.mode) ≡ true
     → Ordered order x.id y.id
+
+-- the outcome says that a row was moved since the transaction was annotated
+abbrev pub IsStale : Outcome → Type 0
+IsStale (Stale key had by) = Unit {0}
+IsStale outcome = ⊥
+
+-- on this table the transaction is live: none of its keys was moved since it was annotated
+abbrev pub IsLive : Txn → Table → Type 0
+IsLive x t = stale_of x.access (see x t) ≡ None
 
 -- the effect changes the row of this key
 abbrev pub Changes : Effect → Bytes → Type 0

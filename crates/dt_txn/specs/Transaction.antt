@@ -6,7 +6,7 @@ use Rattle.dt_access.specs.declared.Mode.{Mode}
 use Rattle.dt_access.specs.declared.Mode.TheVariants.{Write}
 use Rattle.dt_access.specs.declared.Access.{Access}
 use Rattle.dt_access.specs.declared.Part.{Part}
-use Rattle.dt_eval.specs.Meaning.{Fits, keys_of}
+use Rattle.dt_eval.specs.Meaning.{Fits, HasKeys, keys_of}
 use Rattle.dt_table.specs.Table.{Table, home_of, counter_of}
 use Rattle.dt_txn.specs.declared.txn.Body.{Body}
 use Rattle.dt_txn.specs.declared.txn.Body.TheVariants.{Call, Move}
@@ -19,7 +19,7 @@ uses_of (Move key target) = (key, Write) ∷ []
 
 -- a use of a key, with the home and the number of moves that a table gives it
 abbrev pub annotated : Table → Bytes × Mode → Access
-annotated t use' = record { key = use'.0; mode = use'.1; home = home_of t use'.0; counter = counter_of t use'.0 }
+annotated t used = record { key = used.0; mode = used.1; home = home_of t used.0; counter = counter_of t used.0 }
 
 -- the transaction of this id for a body, as a region with this table submits it
 abbrev pub annotate : TxnId → Body → Table → Txn
@@ -62,9 +62,9 @@ part_of txn home = record {
 abbrev pub parts_of : Txn → List Part
 parts_of txn = map (part_of txn) (homes_of txn)
 
--- the body's arguments fit, and a move leads to a region
+-- the body's arguments fit and name keys, and a move leads to a region
 abbrev pub BodyFits : ℕ → Body → Type 0
-BodyFits regions (Call proc args) = Fits proc args
+BodyFits regions (Call proc args) = Fits proc args × HasKeys proc args
 BodyFits regions (Move key target) = target < regions
 
 -- a transaction of a cluster with so many regions: its body fits, it uses the keys of its body in their modes, and its

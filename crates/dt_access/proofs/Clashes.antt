@@ -1,0 +1,93 @@
+-- Two ascending lists of keys clash where a walk along both finds it.
+use Rattle.std.proofs.Common.{◌≡◌, Bool, true, false, ◌&&◌, ◌||◌, List, [], ◌∷◌, refl, ap, sym, ◌∙◌, subst, length, arith}
+use Rattle.std.specs.Ordering.{nat_cmp, is_eq, ordering_reverse}
+use Rattle.std.specs.declared.cmp.Ordering.TheVariants.{Less, Equal, Greater}
+use Rattle.std.specs.Cmp.Lexicographic.{slice_cmp, texts_ties, nat_list_cmp_total, bytes_decides}
+use Rattle.std.specs.List.{list_any}
+use Rattle.dt_lists.specs.Lists.{AllIn}
+use Rattle.dt_access.specs.declared.access.Mode.{Mode}
+use Rattle.dt_access.specs.Clash.{Bytes, same_key, is_write, uses_clash, clash}
+use Rattle.dt_access.specs.Orders.{KeyBefore, HasAscendingKeys}
+
+-- keys of which one is less are not the same
+same_key-before : (a b : Bytes) → KeyBefore a b → same_key a b ≡ false
+same_key-before a b h = texts_ties a b ∙ ap is_eq h
+
+same_key-after : (a b : Bytes) → KeyBefore b a → same_key a b ≡ false
+same_key-after a b h =
+    texts_ties a b ∙ ap is_eq (nat_list_cmp_total.antisymm a b ∙ ap ordering_reverse h)
+
+-- keys that compare as equal are the same
+same_key-equal : (a b : Bytes) → slice_cmp nat_cmp a b ≡ Equal → same_key a b ≡ true
+same_key-equal a b h = texts_ties a b ∙ ap is_eq h
+
+-- what compares as greater is after
+KeyBefore-flip : (a b : Bytes) → slice_cmp nat_cmp a b ≡ Greater → KeyBefore b a
+KeyBefore-flip a b h = nat_list_cmp_total.antisymm b a ∙ ap ordering_reverse h
+
+-- what is less than a key is less than all that are greater than the key
+AllIn-before : (a b : Bytes) (bs : List (Bytes × Mode)) → KeyBefore a b → AllIn (λ y. KeyBefore b y.0) bs → AllIn (λ y. KeyBefore a y.0) bs
+AllIn-before a b [] h all = tt
+AllIn-before a b (y ∷ ys) h all =
+    (nat_list_cmp_total.trans a b y.0 h all.0, AllIn-before a b ys h all.1)
+
+-- a use of a key that is less than all keys of a list clashes with none of them
+none-before : (a : Bytes × Mode) (bs : List (Bytes × Mode)) → AllIn (λ y. KeyBefore a.0 y.0) bs → list_any (uses_clash a) bs ≡ false
+none-before a [] all = refl
+none-before a (y ∷ ys) all =
+    ap (λ t. t && (is_write a.1 || is_write y.1) || list_any (uses_clash a) ys) (same_key-before a.0 y.0 all.0) ∙ none-before a ys all.1
+
+-- a use of a key that is less than all keys of the other list makes no clash
+skip-right : (b : Bytes × Mode) (xs bs : List (Bytes × Mode)) → AllIn (λ x. KeyBefore b.0 x.0) xs → clash xs (b ∷ bs) ≡ clash xs bs
+skip-right b [] bs all = refl
+skip-right b (x ∷ xs) bs all =
+    ap (λ t. t && (is_write x.1 || is_write b.1) || list_any (uses_clash x) bs || clash xs (b ∷ bs)) (same_key-after x.0 b.0 all.0) ∙ ap (λ t. list_any (uses_clash x) bs || t) (skip-right b xs bs all.1)
+
+-- what is left of the first pair of uses, where their keys are the same and the first one clashes with no later one
+or-heads : (same w later c d : Bool) → same ≡ true → later ≡ false → d ≡ c → (((same && w) || later) || d) ≡ (w || c)
+or-heads same true later c d es el ed = ap (λ t. ((t && true) || later) || d) es
+or-heads same false later c d es el ed =
+    ap (λ t. ((t && false) || later) || d) es ∙ ap (λ t. t || d) el ∙ ed
+
+-- `l` begins with `a` and goes on with `ls`, and `r` with `b` and `rs`
+module _ (l r ls rs : List (Bytes × Mode)) (a b : Bytes × Mode) (el : l ≡ a ∷ ls) (er : r ≡ b ∷ rs) (asl : HasAscendingKeys l) (asr : HasAscendingKeys r) where
+  al : HasAscendingKeys (a ∷ ls)
+  al = subst HasAscendingKeys el asl
+
+  ar : HasAscendingKeys (b ∷ rs)
+  ar = subst HasAscendingKeys er asr
+
+  -- the walk goes on in the left list past a key that is less than the first one of the right
+  pub clash-less : slice_cmp nat_cmp a.0 b.0 ≡ Less → HasAscendingKeys ls × HasAscendingKeys r × (clash ls r ≡ clash l r)
+  clash-less h =
+      let none : list_any (uses_clash a) (b ∷ rs) ≡ false = none-before a (b ∷ rs) (h, AllIn-before a.0 b.0 rs h ar.0) in
+      let step : clash (a ∷ ls) (b ∷ rs) ≡ clash ls (b ∷ rs) = ap (λ t. t || clash ls (b ∷ rs)) none in
+      (al.1, asr, ap (clash ls) er ∙ sym step ∙ sym (ap (λ t. clash t (b ∷ rs)) el) ∙ sym (ap (clash l) er))
+
+  -- and in the right list past a key that is less than the first one of the left
+  pub clash-greater : slice_cmp nat_cmp a.0 b.0 ≡ Greater → HasAscendingKeys l × HasAscendingKeys rs × (clash l rs ≡ clash l r)
+  clash-greater h =
+      let after : KeyBefore b.0 a.0 = KeyBefore-flip a.0 b.0 h in
+      let step : clash (a ∷ ls) (b ∷ rs) ≡ clash (a ∷ ls) rs = skip-right b (a ∷ ls) rs (after, AllIn-before b.0 a.0 ls after al.0) in
+      (asl, ar.1, ap (λ t. clash t rs) el ∙ sym step ∙ sym (ap (λ t. clash t (b ∷ rs)) el) ∙ sym (ap (clash l) er))
+
+  -- where the first keys are the same, their modes clash or the rests do
+  clash-heads : slice_cmp nat_cmp a.0 b.0 ≡ Equal → clash l r ≡ ((is_write a.1 || is_write b.1) || clash ls rs)
+  clash-heads h =
+      let k : same_key a.0 b.0 ≡ true = same_key-equal a.0 b.0 h in
+      let e : a.0 ≡ b.0 = (bytes_decides a.0 b.0).0 k in
+      let later : list_any (uses_clash a) rs ≡ false = none-before a rs (subst (λ q. AllIn (λ (y : Bytes × Mode). KeyBefore q y.0) rs) (sym e) ar.0) in
+      let rest : clash ls (b ∷ rs) ≡ clash ls rs = skip-right b ls rs (subst (λ q. AllIn (λ (y : Bytes × Mode). KeyBefore q y.0) ls) e al.0) in
+      ap (λ t. clash t r) el ∙ ap (clash (a ∷ ls)) er ∙ or-heads (same_key a.0 b.0) (is_write a.1 || is_write b.1) (list_any (uses_clash a) rs) (clash ls rs) (clash ls (b ∷ rs)) k later rest
+
+  pub clash-found : slice_cmp nat_cmp a.0 b.0 ≡ Equal → (is_write a.1 || is_write b.1) ≡ true → true ≡ clash l r
+  clash-found h w = sym (clash-heads h ∙ ap (λ t. t || clash ls rs) w)
+
+  pub clash-equal : slice_cmp nat_cmp a.0 b.0 ≡ Equal → (is_write a.1 || is_write b.1) ≡ false → HasAscendingKeys ls × HasAscendingKeys rs × (clash ls rs ≡ clash l r)
+  clash-equal h w = (al.1, ar.1, sym (clash-heads h ∙ ap (λ t. t || clash ls rs) w))
+
+-- nothing clashes with an empty list
+pub clash-none : (l r : List (Bytes × Mode)) → length r ≡ 0 → false ≡ clash l r
+clash-none [] r h = refl
+clash-none (x ∷ xs) [] h = clash-none xs [] h
+clash-none (x ∷ xs) (y ∷ ys) h = absurd (omega arith)

@@ -1,0 +1,78 @@
+ghost use Rattle.std.specs.Prelude.{◌≡◌, [], ◌∷◌, ◌++◌, IfOk, OnOk, OnErr};
+ghost use Rattle.dt_access.specs.Orders.{AreAscendingHomes};
+
+use dt_text::NoMemory;
+use std::alloc::Global;
+use std::marker::Model;
+
+/// Homes in ascending order; so none stands twice.
+#[derive(Debug, Drop)]
+pub struct Homes {
+    items: Vec<u8>,
+}
+
+impl Model for Homes {
+    ghost use Rattle.std.specs.Prelude.{List, ℕ};
+    ghost use Rattle.dt_access.specs.Orders.{AreAscendingHomes};
+
+    ghost Value = { List ℕ };
+
+    ghost view = { λ h. h.items.items };
+
+    ghost invariant = { λ h. AreAscendingHomes h.items.items };
+}
+
+impl Homes {
+    /// The empty list. Takes no memory.
+    pub fn new(alloc: Global) -> Self
+        ensures { result ≡ [] }
+    {
+        Homes {
+            items: Vec::new(alloc),
+        }
+    }
+
+    /// The homes of a vector, which stand in order there. Takes no memory.
+    pub fn from_vec(items: Vec<u8>) -> Self
+        requires { AreAscendingHomes items.items }
+        ensures { result ≡ items.items }
+    {
+        Homes { items }
+    }
+
+    /// Gives the homes back as a vector. Takes no memory.
+    pub fn into_vec(self) -> Vec<u8>
+        ensures same { result.items ≡ self }
+        ensures ascending { AreAscendingHomes self }
+    {
+        let Homes { items } = self;
+        items
+    }
+
+    /// Adds a home that is greater than all held ones; after `NoMemory` the list is as before.
+    pub fn push(&mut self, home: u8) -> Result<(), NoMemory>
+        requires { AreAscendingHomes (self.old ++ home ∷ []) }
+        ensures added { OnOk result (self.new ≡ self.old ++ home ∷ []) }
+        ensures same { OnErr result (self.new ≡ self.old) }
+    {
+        self.items.push(home)?;
+        Ok(())
+    }
+
+    /// The homes, in order. Takes no memory.
+    pub fn as_slice(&self) -> &[u8]
+        ensures same { result.now ≡ self.now }
+        ensures ascending { AreAscendingHomes self.now }
+    {
+        self.items.as_slice()
+    }
+
+    /// An equal list.
+    pub fn copy(&self, alloc: Global) -> Result<Self, NoMemory>
+        ensures { IfOk result (λ copied. copied ≡ self.now) }
+    {
+        Ok(Homes {
+            items: Vec::from_slice(alloc, self.items.as_slice())?,
+        })
+    }
+}

@@ -1,0 +1,4 @@
+pub mod Plain
+pub mod Grown
+pub mod Links
+pub mod Graphs
