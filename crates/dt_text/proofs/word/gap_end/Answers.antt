@@ -1,6 +1,6 @@
 use Rattle.std.proofs.Common.{◌∙◌, arith}
 use Rattle.dt_text.proofs.ReadingAt.{gap_step}
-use Rattle.dt_text.proofs.words.gap_end.Goals as goal
+use Rattle.dt_text.proofs.word.gap_end.Goals as goal
 
 pub loop-end-preserved : goal.loop-end-preserved
 loop-end-preserved c =

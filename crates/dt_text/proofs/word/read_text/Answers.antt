@@ -1,6 +1,6 @@
 use Rattle.std.proofs.Common.{◌∙◌, refl, arith}
 use Rattle.dt_text.proofs.ReadingAt.{text_begins, text_word_at, text_open}
-use Rattle.dt_text.proofs.words.read_text.Goals as goal
+use Rattle.dt_text.proofs.word.read_text.Goals as goal
 
 pub loop-end-init : goal.loop-end-init
 loop-end-init c =

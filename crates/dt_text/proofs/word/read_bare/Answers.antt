@@ -1,7 +1,7 @@
 use Rattle.std.proofs.Common.{◌≡◌, true, false, get_or}
 use Rattle.dt_text.specs.Words.{is_visible}
 use Rattle.dt_text.proofs.ReadingAt.{bare_word, no_word}
-use Rattle.dt_text.proofs.words.read_bare.Goals as goal
+use Rattle.dt_text.proofs.word.read_bare.Goals as goal
 
 pub returns-then-not-is_visible : goal.returns-then-not-is_visible
 returns-then-not-is_visible c =

@@ -1,7 +1,7 @@
 use Rattle.std.proofs.Common.{◌≡◌, true, false, get_or, arith}
 use Rattle.dt_text.specs.Words.{is_visible}
 use Rattle.dt_text.proofs.ReadingAt.{bare_step, bare_stop, bare_at_end}
-use Rattle.dt_text.proofs.words.bare_end.Goals as goal
+use Rattle.dt_text.proofs.word.bare_end.Goals as goal
 
 pub returns-then-not-is_visible-clause-ends : goal.returns-then-not-is_visible-clause-ends
 returns-then-not-is_visible-clause-ends c =

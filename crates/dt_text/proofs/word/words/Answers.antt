@@ -4,7 +4,7 @@ use Rattle.dt_text.specs.Reading.{IsWordIn}
 use Rattle.dt_text.specs.ReadingParts.{WordAt}
 use Rattle.std.proofs.lemmas.Grind.{common_steps}
 use Rattle.dt_text.proofs.ReadingAt.{words_begin, words_go_on, words_end}
-use Rattle.dt_text.proofs.words.words.Goals as goal
+use Rattle.dt_text.proofs.word.words.Goals as goal
 
 pub loop-at-init : goal.loop-at-init
 loop-at-init c =

@@ -2,7 +2,7 @@
 use Rattle.std.proofs.Common.{◌≡◌, ◌≢◌, ◌<◌, ◌≤◌, ◌-◌, ◌++◌, drop, length, get_or, All}
 use Rattle.std.specs.Option.{option_map}
 use Rattle.dt_text.specs.Reading.{IsWordIn, words_from, words_of}
-use Rattle.dt_text.proofs.words.words.Given as goal
+use Rattle.dt_text.proofs.word.words.Given as goal
 
 abbrev pub invariant-loop-at : goal.invariant-loop-at
 invariant-loop-at l = record {

@@ -2,7 +2,7 @@
 use Rattle.std.proofs.Common.{◌≡◌, ◌<◌, ◌≤◌, ◌-◌, drop, length}
 use Rattle.dt_text.specs.Texts.{IsStr}
 use Rattle.dt_text.specs.Reading.{words_from, text_from}
-use Rattle.dt_text.proofs.words.read_text.Given as goal
+use Rattle.dt_text.proofs.word.read_text.Given as goal
 
 abbrev pub invariant-loop-end : goal.invariant-loop-end
 invariant-loop-end l = record {

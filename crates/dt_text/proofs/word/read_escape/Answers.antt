@@ -1,6 +1,6 @@
 use Rattle.std.proofs.Common.{◌≡◌, ◌+◌, ◌==◌, ◌||◌, true, false, get_or, arith}
 use Rattle.dt_text.proofs.ReadingAt.{cut_item, escaped_item, bad_escape}
-use Rattle.dt_text.proofs.words.read_escape.Goals as goal
+use Rattle.dt_text.proofs.word.read_escape.Goals as goal
 
 pub returns-then-at-line : goal.returns-then-at-line
 returns-then-at-line c = cut_item c.args.line.now c.args.at c.requires.inside c.requires.escape c.if-at-line.true

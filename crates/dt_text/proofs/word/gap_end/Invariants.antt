@@ -1,7 +1,7 @@
 -- Only spaces stand between the first place and the one reached.
 use Rattle.std.proofs.Common.{◌≡◌, ◌≤◌, ◌-◌, drop, length}
 use Rattle.dt_text.specs.Reading.{words_from}
-use Rattle.dt_text.proofs.words.gap_end.Given as goal
+use Rattle.dt_text.proofs.word.gap_end.Given as goal
 
 abbrev pub invariant-loop-end : goal.invariant-loop-end
 invariant-loop-end l = record {

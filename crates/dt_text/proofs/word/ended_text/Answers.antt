@@ -1,5 +1,5 @@
 use Rattle.dt_text.proofs.ReadingAt.{text_ends, text_goes_on}
-use Rattle.dt_text.proofs.words.ended_text.Goals as goal
+use Rattle.dt_text.proofs.word.ended_text.Goals as goal
 
 pub returns-then-not-may_end : goal.returns-then-not-may_end
 returns-then-not-may_end c =

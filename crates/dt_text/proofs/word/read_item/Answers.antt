@@ -1,7 +1,7 @@
 use Rattle.std.proofs.Common.{◌≡◌, true, false, get_or}
 use Rattle.dt_text.specs.Texts.{is_text_byte}
 use Rattle.dt_text.proofs.ReadingAt.{plain_item, bad_item}
-use Rattle.dt_text.proofs.words.read_item.Goals as goal
+use Rattle.dt_text.proofs.word.read_item.Goals as goal
 
 pub returns-then-is_text : goal.returns-then-is_text
 returns-then-is_text c =
