@@ -8,3 +8,4 @@ pub mod Least
 pub mod Ascending
 pub mod Before
 pub mod Filters
+pub mod Places
