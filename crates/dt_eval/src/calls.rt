@@ -1,4 +1,4 @@
-ghost use Rattle.std.specs.Prelude.{◌≡◌, ◌↔◌, ℕ, ◌<◌, ◌^◌, length, IsTrue, IfOk, map};
+ghost use Rattle.std.specs.Prelude.{◌≡◌, ◌↔◌, ℕ, IsTrue, IfOk, map};
 ghost use Rattle.dt_eval.specs.Meaning.{Fits, HasKeys, keys_of, meaning};
 
 use crate::finish::{Finish, Reads, Values};
@@ -82,62 +82,4 @@ pub fn run(alloc: Global, proc: u32, args: &[Value], reads: &Reads) -> Result<Fi
     let mut writes = Writes::new(alloc);
     writes.push((Key::new(alloc, text.bytes())?, Some(Value::Int(*number))))?;
     Ok(Finish::Gave(Values::new(alloc), writes))
-}
-
-#[cfg(test)]
-mod tests {
-    use super::*;
-    use crate::finish::Args;
-    use dt_text::Str;
-    use std::test::Fail;
-
-    /// The arguments of a put.
-    fn put_args(alloc: Global, key: &[u8], number: i64) -> Result<Args, Fail>
-        requires { length key.now < 2 ^ 32 }
-        ensures { IfOk result (λ args. Fits 0 args) }
-    {
-        let mut args = Args::new(alloc);
-        args.push(Value::Text(Str::read(alloc, key)?))?;
-        args.push(Value::Int(number))?;
-        Ok(args)
-    }
-
-    #[test]
-    fn a_put_fits_a_text_and_a_number(rt: HostRuntime) -> Result<(), Fail> {
-        let args = put_args(rt.alloc(), b"b", 5)?;
-        assert!(rt; fits(PUT, args.as_slice()));
-        assert!(rt; !fits(1, args.as_slice()), "there is no procedure 1");
-        assert!(rt; !fits(PUT, &args.as_slice()[..1]), "the number lacks");
-        Ok(())
-    }
-
-    #[test]
-    fn a_put_writes_its_key(rt: HostRuntime) -> Result<(), Fail> {
-        let args = put_args(rt.alloc(), b"b", 5)?;
-        let keys = keys_of(rt.alloc(), PUT, args.as_slice())?;
-        assert_eq!(rt; keys.as_slice().len(), 1);
-        assert_eq!(rt; keys.as_slice()[0].0.bytes(), b"b".as_slice());
-        assert_eq!(rt; keys.as_slice()[0].1, Mode::Write);
-        Ok(())
-    }
-
-    #[test]
-    fn a_put_gives_nothing_and_writes_its_number(rt: HostRuntime) -> Result<(), Fail> {
-        let args = put_args(rt.alloc(), b"b", 5)?;
-        let keys = keys_of(rt.alloc(), PUT, args.as_slice())?;
-        let mut reads = Reads::new(rt.alloc());
-        for (key, _) in keys.into_vec() {
-            reads.push((key, None))?;
-        }
-        assert_eq!(rt; reads.len(), 1);
-        Ok(())
-    }
-
-    #[test]
-    fn a_text_that_is_no_key_is_told(rt: HostRuntime) -> Result<(), Fail> {
-        let args = put_args(rt.alloc(), b"a B", 5)?;
-        let refused = keys_of(rt.alloc(), PUT, args.as_slice());
-        assert!(rt; matches!(refused, Err(KeysError::BadKey(0))));
-        Ok(())
-    }
 }
