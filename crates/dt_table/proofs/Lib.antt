@@ -4,3 +4,4 @@ pub mod Rows
 pub mod Written
 pub mod Opened
 pub mod Sorted
+pub mod Reported
