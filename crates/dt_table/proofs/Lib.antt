@@ -5,3 +5,4 @@ pub mod Written
 pub mod Opened
 pub mod Sorted
 pub mod Reported
+pub mod TableLaws

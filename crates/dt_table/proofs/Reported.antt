@@ -32,7 +32,7 @@ module _ {V X : Type 0} (f : V → X) where
   put-map k v (e ∷ es) =
       let rest : List (Bytes × X) = map (λ e. (e.0, f e.1)) es in
       elim (order k e.0) as (λ r. by_order r ((k, f v) ∷ (e.0, f e.1) ∷ rest) ((e.0, f v) ∷ rest) ((e.0, f e.1) ∷ put order k (f v) rest)
-          ≡ map {B = Bytes × X} (λ e. (e.0, f e.1)) (by_order r ((k, v) ∷ e ∷ es) ((e.0, v) ∷ es) (e ∷ put order k v es))) [
+      ≡ map {B = Bytes × X} (λ e. (e.0, f e.1)) (by_order r ((k, v) ∷ e ∷ es) ((e.0, v) ∷ es) (e ∷ put order k v es))) [
         | Less ↦ refl
         | Equal ↦ refl
         | Greater ↦ ap (λ l. (e.0, f e.1) ∷ l) (put-map k v es)

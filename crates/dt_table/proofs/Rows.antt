@@ -17,6 +17,7 @@ use Rattle.dt_table.specs.declared.stored.StoredMove.{StoredMove}
 use Rattle.dt_table.specs.declared.stored.StoredRow.{StoredRow}
 use Rattle.dt_table.specs.declared.table.Table.TheInside.{Inside}
 use Rattle.dt_table.proofs.Entries.{get-from_map, insert-from_map, AllIn-insert_entry, AllIn-lookup}
+use Rattle.dt_table.proofs.TableLaws.{home_after-append}
 use Rattle.dt_table.proofs.Histories.{history-push_other, history-push_new, length-history, AreLinked-push, mover_in-next, IsSome-mover_in}
 
 -- the row of a key is the stored one, if there is one
@@ -121,10 +122,6 @@ stored-pushed regions homes moves m (e ∷ rows) all =
       },
       stored-pushed regions homes moves m rows all.1,
     )
-
-home_after-append : (home : ℕ) (moves : List Moved) (m : Moved) → home_after home (moves ++ m ∷ []) ≡ m.target
-home_after-append home [] m = refl
-home_after-append home (x ∷ moves) m = home_after-append x.target moves m
 
 -- the stored row of a key, or a fresh one, has a place and a counter that fit its moves
 pub stored_of-fits : (a : Inside) (key : Bytes) (home : ℕ) → IsSound a

@@ -147,8 +147,7 @@ impl Table {
         ensures state { self.new.state ≡ written self.old.state key value }
         ensures spare { self.old.spare ≤ self.new.spare + 1 }
     {
-        let home = opening_home(&self.homes, self.regions, &key);
-        put_value(&mut self.rows, key, value, home);
+        put_value(&mut self.rows, &self.homes, self.regions, key, value);
     }
 
     // Moves a key.
