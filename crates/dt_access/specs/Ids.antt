@@ -1,4 +1,5 @@
-use Rattle.std.specs.Prelude.{◌≡◌, ◌<◌, ◌⊎◌, Bool, ◌&&◌, ◌==◌, List}
+use Rattle.std.specs.Prelude.{◌≡◌, ◌≢◌, ℕ, ◌<◌, ◌^◌, ◌⊎◌, Bool, ◌&&◌, ◌==◌, List, ◌∷◌, ◌++◌, Option, MatchOption}
+use Rattle.std.specs.Fmt.{decimal}
 use Rattle.dt_lists.specs.Lists.{EachThen}
 use Rattle.dt_access.specs.declared.id.TxnId.{TxnId}
 
@@ -13,3 +14,16 @@ same_id a b = (a.seq == b.seq) && (a.region == b.region)
 -- each id stands before all later ones in the order of ids
 abbrev pub AreAscending : List TxnId → Type 0
 AreAscending ids = EachThen Before ids
+
+-- the printed form of an id: the sequence number, a dot, the region
+abbrev pub id_text : TxnId → List ℕ
+id_text id = decimal id.seq ++ 46 ∷ decimal id.region
+
+-- an id that some submission can have: they are counted from 1, in 32 bits, and a region's number has 8 bits
+abbrev pub IsCounted : TxnId → Type 0
+IsCounted id = (0 < id.seq) × (id.seq < 2 ^ 32) × (id.region < 2 ^ 8)
+
+-- the answer is the counted id that the word spells, and none where it spells no such id
+abbrev pub ReadsId : List ℕ → Option TxnId → Type 0
+ReadsId word answer =
+    MatchOption answer ((id : TxnId) → IsCounted id → word ≢ id_text id) (λ id. IsCounted id × (word ≡ id_text id))

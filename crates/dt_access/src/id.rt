@@ -1,8 +1,8 @@
-ghost use Rattle.std.specs.Prelude.{◌≡◌, ◌↔◌, IsTrue, IfOk};
-ghost use Rattle.dt_access.specs.Ids.{Before};
+ghost use Rattle.std.specs.Prelude.{◌≡◌, ◌↔◌, ◌<◌, ◌^◌, ◌∷◌, ◌++◌, IsTrue, IfOk, MatchOption, OnOk, OnErr, length, Contains};
+ghost use Rattle.dt_access.specs.Ids.{Before, ReadsId, id_text};
 
 use crate::copies::TryCopy;
-use dt_text::NoMemory;
+use dt_text::{NoMemory, read_u32};
 use std::alloc::Global;
 
 /// The id of a transaction: the number of the submission in its region, counted from 1, and that region.
@@ -25,4 +25,38 @@ impl TryCopy for TxnId {
     fn copy(&self, _alloc: Global) -> Result<Self, NoMemory> {
         Ok(*self)
     }
+}
+
+/// Reads an id in its printed form `SEQ.REGION`, SEQ from 1 to 4294967295 and REGION at most 255,
+/// each in its one spelling. `None` exactly where the word spells no such id. Takes no memory.
+pub fn read_id(word: &[u8]) -> Option<TxnId>
+    requires { length word.now < 2 ^ 32 }
+    ensures { ReadsId word.now result }
+{
+    let (before_dot, after_dot) = around_dot(word)?;
+    let seq = read_u32(before_dot)?;
+    let region = u8::try_from(read_u32(after_dot)?).ok()?;
+    if seq == 0 {
+        return None;
+    }
+    Some(TxnId { seq, region })
+}
+
+/// What stands before and after the first dot, if there is a dot.
+fn around_dot(word: &[u8]) -> Option<(&[u8], &[u8])>
+    ensures { MatchOption result (¬ Contains word.now 46)
+        (λ parts. (word.now ≡ parts.0.now ++ 46 ∷ parts.1.now) × (¬ Contains parts.0.now 46)) }
+{
+    let dot = word.iter().position(|byte| *byte == b'.')?;
+    Some((&word[..dot], &word[dot + 1..]))
+}
+
+/// Appends the printed form of an id; after `NoMemory` the bytes are as before.
+pub fn put_id(alloc: Global, out: &mut Vec<u8>, id: TxnId) -> Result<(), NoMemory>
+    ensures added { OnOk result (out.new.items ≡ out.old.items ++ id_text id) }
+    ensures same { OnErr result (out.new.items ≡ out.old.items) }
+{
+    let text = format!(in alloc; "{}.{}", id.seq, id.region)?;
+    out.extend_from_slice(text.as_bytes())?;
+    Ok(())
 }

@@ -13,8 +13,11 @@ mod writes;
 pub use access::{Access, Mode};
 pub use copies::TryCopy;
 pub use homes::Homes;
-pub use id::TxnId;
+pub use id::{TxnId, put_id, read_id};
 pub use keys::Keys;
 pub use lists::{Accesses, Ids};
 pub use part::{Part, clash};
 pub use writes::Writes;
+
+#[cfg(test)]
+mod tests;

@@ -1,5 +1,9 @@
+ghost use Rattle.std.specs.Prelude.{◌≡◌, IfOk};
+
+use std::alloc::Global;
+
 use dt_access::Writes;
-use dt_text::{Key, Listed, Str, Value};
+use dt_text::{Key, Listed, NoMemory, Str, Value};
 
 /// The arguments of a call.
 pub type Args = Listed<Value>;
@@ -23,6 +27,21 @@ pub enum Cause {
     Kind,
     /// A text is longer than 256 bytes.
     Long,
+}
+
+impl Cause {
+    /// An equal cause.
+    pub fn copy(&self, alloc: Global) -> Result<Self, NoMemory>
+        ensures { IfOk result (λ copied. copied ≡ self.now) }
+    {
+        match self {
+            Cause::Word(text) => Ok(Cause::Word(text.copy(alloc)?)),
+            Cause::Overflow => Ok(Cause::Overflow),
+            Cause::Zero => Ok(Cause::Zero),
+            Cause::Kind => Ok(Cause::Kind),
+            Cause::Long => Ok(Cause::Long),
+        }
+    }
 }
 
 /// How a run of a procedure ends.

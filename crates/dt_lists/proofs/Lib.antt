@@ -6,3 +6,6 @@ pub mod Tests
 pub mod Decided
 pub mod Least
 pub mod Ascending
+pub mod Before
+pub mod Filters
+pub mod Places

@@ -1,6 +1,7 @@
 -- Pieces that are added one behind the other.
 use Rattle.std.proofs.Common.{◌≡◌, ℕ, ◌+◌, List, ◌++◌, take, drop, length, Option, None, Some, refl, ap, sym, ◌∙◌, append_assoc}
 use Rattle.std.proofs.Math.Seq.{take-add, take-append-add}
+use Rattle.std.proofs.lemmas.List.{take_at, take-append-drop}
 use Rattle.dt_outside.specs.Held.{held_with, Adds, AddsPrefix}
 
 -- two pieces that are added one behind the other are one piece
@@ -22,3 +23,14 @@ AddsPrefix-append old mid new first second added (n, more) =
 pub Adds-further : (old mid new : Option (List ℕ)) (piece : List ℕ) (written n : ℕ) → Adds old mid (take written piece) → Adds mid new (take n (drop written piece)) → Adds old new (take (written + n) piece)
 Adds-further old mid new piece written n added more =
     Adds-append old mid new (take written piece) (take n (drop written piece)) added more ∙ ap (held_with old) (sym (take-add written n piece))
+
+-- some first bytes of a piece are some first bytes of a longer one
+pub AddsPrefix-longer : (old new : Option (List ℕ)) (first second : List ℕ) → AddsPrefix old new first → AddsPrefix old new (first ++ second)
+AddsPrefix-longer old new first second (n, added) =
+    (length (take n first), added ∙ ap (held_with old) (sym begin))
+  where
+    begin : take (length (take n first)) (first ++ second) ≡ take n first
+    begin = ap (λ piece. take (length (take n first)) (piece ++ second)) (sym (take-append-drop n first)) ∙ ap (take (length (take n first))) (append_assoc (take n first) (drop n first) second) ∙ take_at (take n first) (drop n first ++ second) (length (take n first)) refl
+
+-- for pieces that are written one behind the other
+pub ruleset writing = (Adds-append, AddsPrefix-append, AddsPrefix-longer)

@@ -13,22 +13,22 @@ abbrev pub IsLonger : Files → List ℕ → ℕ → Type 0
 IsLonger files name limit = IsSomeAnd (files name) (λ bytes. limit < length bytes)
 
 -- a file in memory
-pub record Stored : Type 0 where
+pub record StoredFile : Type 0 where
   pub name : List ℕ
   pub content : List ℕ
 
 -- a file as the program keeps it, its name as a text and its content as a vector
-abbrev pub stored : {A B : Type 0} → String A × Vec ℕ B → Stored
-stored (name, bytes) = record { name = string_bytes name; content = bytes.items }
+abbrev pub stored_file : {A B : Type 0} → String A × Vec ℕ B → StoredFile
+stored_file (name, bytes) = record { name = string_bytes name; content = bytes.items }
 
 -- the bytes of the first file of this name
-abbrev pub file_in : List Stored → Files
+abbrev pub file_in : List StoredFile → Files
 file_in [] name = None
 file_in (file ∷ files) name = if pointwise nat_eq file.name name then Some file.content else file_in files name
 
 -- a folder in memory: its files, the numbers of the loads that fail, and how many loads and faults there were
 pub record StoredFolder : Type 0 where
-  pub files : List Stored
+  pub files : List StoredFile
   pub failing : List ℕ
   pub loads : ℕ
   pub faults : ℕ

@@ -46,6 +46,7 @@ impl<R: Files> Folder for DiskFolder<'_, R> {
         ensures capped { IfOk result (λ bytes. length bytes.items ≤ limit) }
         ensures counted { result ≡ Err LoadError.Failed → self.new.faults ≡ next_count self.old.faults }
         ensures failed { result ≡ Err LoadError.Failed → Rose self.old.faults self.new.faults }
+        ensures same_count { result ≡ Err LoadError.NoMemory → self.new.faults ≡ self.old.faults }
         ensures else_same { result ≢ Err LoadError.Failed → self.new ≡ self.old }
         ensures later { self.old.faults ≤ self.new.faults }
     {

@@ -1,4 +1,4 @@
-ghost use Rattle.std.specs.Prelude.{◌≡◌};
+ghost use Rattle.std.specs.Prelude.{◌≡◌, ◌≢◌};
 
 use std::alloc::AllocError;
 use std::{fmt, io};
@@ -49,6 +49,15 @@ impl From<AllocError> for LoadError {
 }
 
 impl From<io::Error> for LoadError {
+    ghost use Rattle.std.specs.IoError.{error_kind};
+    ghost use Rattle.std.specs.declared.io.ErrorKind.{ErrorKind};
+    ghost use Rattle.dt_outside.specs.declared.failures.LoadError.{LoadError};
+
+    // Want of memory stays what it is; every other cause is a failure.
+    ghost from_gives = { λ cause error.
+        (error_kind cause ≡ ErrorKind.OutOfMemory → error ≡ LoadError.NoMemory)
+        × (error_kind cause ≢ ErrorKind.OutOfMemory → error ≡ LoadError.Failed) };
+
     fn from(error: io::Error) -> Self {
         match error.kind() {
             io::ErrorKind::OutOfMemory => LoadError::NoMemory,

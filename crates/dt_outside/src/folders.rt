@@ -19,7 +19,8 @@ pub trait Folder {
     /// Gives the bytes of the file of this name, at most `limit` of them.
     ///
     /// `Failed` where the device failed or no file has the name: a fault, and it was counted.
-    /// `TooLong` where the file has more than `limit` bytes. No load changes a file.
+    /// `TooLong` where the file has more than `limit` bytes. No load changes a file, and after
+    /// `NoMemory` the folder is as before.
     fn load(&mut self, alloc: Global, name: &str, limit: u64) -> Result<Vec<u8>, LoadError>
         ensures capped { IfOk result (λ bytes. length bytes.items ≤ limit) }
         ensures failed { result ≡ Err LoadError.Failed → Rose (faults self.old) (faults self.new) }
@@ -34,6 +35,9 @@ pub trait Folder {
         ensures long_always { IfSome (told self.old) (λ files.
             IsLonger files name.now limit → ¬ Rose (faults self.old) (faults self.new) →
             (result ≡ Err LoadError.TooLong) ⊎ (result ≡ Err LoadError.NoMemory)) }
-        ensures later { faults self.old ≤ faults self.new }
-        ensures same { told self.new ≡ told self.old };
+
+        // What stays, and what never falls.
+        ensures same_told { told self.new ≡ told self.old }
+        ensures same_count { result ≡ Err LoadError.NoMemory → faults self.new ≡ faults self.old }
+        ensures later { faults self.old ≤ faults self.new };
 }

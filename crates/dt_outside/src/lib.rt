@@ -10,7 +10,6 @@ mod memory_folder;
 mod memory_sink;
 mod sinks;
 mod std_sink;
-
 #[cfg(test)]
 mod tests;
 

@@ -11,3 +11,5 @@ pub mod Decisions
 pub mod Staying
 pub mod OneHome
 pub mod NothingToDo
+pub mod Growing
+pub mod Sound

@@ -1,4 +1,4 @@
-use Rattle.std.specs.Prelude.{◌≡◌, ◌+◌, ◌-◌, ◌%◌, ◌==◌, ℕ, List, [], ◌∷◌, ◌++◌, length, map, flat_map, slice_index, slice_get, Option, Some, None, unwrap_or, option_map, if◌then◌else◌, is_none, ◌&&◌}
+use Rattle.std.specs.Prelude.{◌≡◌, ◌+◌, ◌-◌, ◌%◌, ◌==◌, ℕ, List, [], ◌∷◌, ◌++◌, length, map, flat_map, slice_index, slice_get, Option, Some, None, unwrap_or, option_map, option_to_list, if◌then◌else◌, is_none, ◌&&◌}
 use Rattle.std.specs.Ordering.{nat_cmp}
 use Rattle.std.specs.Cmp.Lexicographic.{slice_cmp}
 use Rattle.std.specs.Map.{lookup}
@@ -6,8 +6,8 @@ use Rattle.std.specs.FinMap.{FinMap, get, insert, from_entries, entries}
 use Rattle.dt_access.specs.Clash.{Bytes, same_key}
 use Rattle.dt_access.specs.declared.TxnId.{TxnId}
 use Rattle.dt_text.specs.declared.Value.{Value}
-use Rattle.dt_table.specs.declared.Effect.{Effect}
-use Rattle.dt_table.specs.declared.Shown.{Shown}
+use Rattle.dt_table.specs.declared.effect.Effect.{Effect}
+use Rattle.dt_table.specs.declared.shown.Shown.{Shown}
 
 -- one move of a row: its new home, and the transaction that moved it
 pub record Moved : Type 0 where
@@ -25,6 +25,11 @@ pub record Table : Type 0 where
   pub regions : ℕ
   pub homes : List (Bytes × ℕ)
   pub rows : FinMap (slice_cmp nat_cmp) Row
+
+-- a table, and how many writes and moves it has room for
+pub record Kept : Type 0 where
+  pub state : Table
+  pub spare : ℕ
 
 -- a row that was never written and never moved
 abbrev pub no_row : Row
@@ -106,3 +111,7 @@ shown_row t (key, row) =
 -- what a report shows of a table, in ascending order of keys
 abbrev pub shown : Table → List Shown
 shown t = flat_map (shown_row t) (entries t.rows)
+
+-- how many places of room an effect takes at most: one for each write, and one for a move
+abbrev pub places_for : Effect → ℕ
+places_for effect = length effect.writes + length (option_to_list effect.moved)

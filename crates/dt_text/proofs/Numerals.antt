@@ -3,7 +3,7 @@ use Rattle.std.proofs.Common.{◌≡◌, ◌≢◌, ℕ, suc, zero, ◌+◌, ◌
 use Rattle.std.specs.Int.{IsInRange}
 use Rattle.std.specs.Option.{SomeIff}
 use Rattle.std.specs.Result.{OkIff, result_ok}
-use Rattle.dt_text.specs.Numbers.{ReadsNumber, ReadsSignedNumber, StartsPlainly}
+use Rattle.dt_text.specs.Numbers.{ReadsNumber, ReadsSignedNumber, StartsPlainly, NumbersHaveOneSpelling}
 use Rattle.std.specs.Char.{digit_value}
 use Rattle.std.proofs.lemmas.Bool.Decides.{nat_tests}
 use Rattle.std.proofs.lemmas.Int.Digits.{digits_more, digits_value_more}
@@ -108,3 +108,10 @@ narrower_none k bs fits spells n below e = spells n (omega arith) e
 pub ok_where : {T E : Type 0} (r : Result T E) (P : Type 0) (v : T) → OkIff r P v → SomeIff (result_ok r) P v
 ok_where (Ok x) P v h = h
 ok_where (Err e) P v h = h
+
+-- the law that a number has one spelling
+pub one_spelling : NumbersHaveOneSpelling
+one_spelling word n small = (
+  λ is. rw is (starts_plainly n small, decimal_digits n small, decimal_value n small),
+  λ (plain, all, value). digits_spell word plain.0 plain.1 all (omega (arith, value)) ∙ ap decimal value,
+)

@@ -1,4 +1,5 @@
-ghost use Rattle.std.specs.Prelude.{◌≡◌, ◌↔◌, ◌<◌, ◌≤◌, ◌^◌, ℕ, [], List, length, refl, nat_eq, IfOk, Some};
+ghost use Rattle.std.specs.Prelude.{◌≡◌, ◌↔◌, ◌<◌, ◌≤◌, ◌^◌, ℕ, [], List, length, refl, nat_eq, IfOk, IsTrue, Some};
+ghost use Rattle.std.specs.List.{list_all};
 ghost use Rattle.std.specs.Ordering.{nat_cmp};
 ghost use Rattle.std.specs.Cmp.{partial_equiv_from_equiv};
 ghost use Rattle.std.specs.Cmp.Lexicographic.{pointwise, slice_cmp, nat_list_eq_equiv, nat_list_cmp_total, texts_ties, texts_po, bytes_decides};
@@ -61,6 +62,23 @@ impl Key {
         }
     }
 
+    /// Whether the bytes are those of a key.
+    pub fn is_key(bytes: &[u8]) -> bool
+        ensures { IsTrue result ↔ IsKey bytes.now }
+    {
+        !bytes.is_empty() && bytes.len() <= Key::LONGEST && are_allowed(bytes)
+    }
+
+    /// The key that has these bytes.
+    pub fn new(alloc: Global, bytes: &[u8]) -> Result<Self, NoMemory>
+        requires { IsKey bytes.now }
+        ensures { IfOk result (λ key. key ≡ bytes.now) }
+    {
+        Ok(Key {
+            bytes: Vec::from_slice(alloc, bytes)?,
+        })
+    }
+
     /// The bytes of the key.
     pub fn bytes(&self) -> &[u8]
         ensures same { result.now ≡ self.now }
@@ -85,6 +103,13 @@ fn first_bad(bytes: &[u8]) -> Option<usize>
     ensures { result ≡ first_outside is_key_byte bytes.now }
 {
     bytes.iter().position(|byte| !is_allowed(*byte))
+}
+
+/// Whether a key may have each of the bytes.
+fn are_allowed(bytes: &[u8]) -> bool
+    ensures { result ≡ list_all is_key_byte bytes.now }
+{
+    bytes.iter().all(|byte| is_allowed(*byte))
 }
 
 /// Whether a key may have the byte.

@@ -1,4 +1,4 @@
-ghost use Rattle.std.specs.Prelude.{◌≡◌, ◌↔◌, ◌<◌, ◌≤◌, ◌^◌, ℕ, List, length, refl, nat_eq, IfOk, Some};
+ghost use Rattle.std.specs.Prelude.{◌≡◌, ◌↔◌, ◌<◌, ◌≤◌, ◌^◌, ℕ, List, length, refl, nat_eq, IfOk, IsTrue, OnOk, OnErr, Some, [], ◌∷◌, ◌++◌};
 ghost use Rattle.std.specs.Ordering.{nat_cmp};
 ghost use Rattle.std.specs.Cmp.{partial_equiv_from_equiv};
 ghost use Rattle.std.specs.Cmp.Lexicographic.{pointwise, slice_cmp, nat_list_eq_equiv, nat_list_cmp_total, texts_ties, texts_po, bytes_decides};
@@ -55,6 +55,26 @@ impl Str {
                 bytes: Vec::from_slice(alloc, bytes)?,
             }),
         }
+    }
+
+    /// The text of no bytes. Takes no memory.
+    pub(crate) fn new(alloc: Global) -> Self
+        ensures { result ≡ [] }
+    {
+        Str {
+            bytes: Vec::new(alloc),
+        }
+    }
+
+    /// Adds a byte at the back; after `NoMemory` the text is as before.
+    pub(crate) fn push(&mut self, byte: u8) -> Result<(), NoMemory>
+        requires room { length self.old < 256 }
+        requires allowed { IsTrue (is_text_byte byte) }
+        ensures added { OnOk result (self.new ≡ self.old ++ byte ∷ []) }
+        ensures same { OnErr result (self.new ≡ self.old) }
+    {
+        self.bytes.push(byte)?;
+        Ok(())
     }
 
     /// The bytes of the text.

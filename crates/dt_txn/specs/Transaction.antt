@@ -6,7 +6,7 @@ use Rattle.dt_access.specs.declared.Mode.{Mode}
 use Rattle.dt_access.specs.declared.Mode.TheVariants.{Write}
 use Rattle.dt_access.specs.declared.Access.{Access}
 use Rattle.dt_access.specs.declared.Part.{Part}
-use Rattle.dt_eval.specs.Meaning.{Fits, keys_of}
+use Rattle.dt_eval.specs.Meaning.{Fits, HasKeys, keys_of}
 use Rattle.dt_table.specs.Table.{Table, home_of, counter_of}
 use Rattle.dt_txn.specs.declared.txn.Body.{Body}
 use Rattle.dt_txn.specs.declared.txn.Body.TheVariants.{Call, Move}
@@ -19,7 +19,7 @@ uses_of (Move key target) = (key, Write) ∷ []
 
 -- a use of a key, with the home and the number of moves that a table gives it
 abbrev pub annotated : Table → Bytes × Mode → Access
-annotated t use' = record { key = use'.0; mode = use'.1; home = home_of t use'.0; counter = counter_of t use'.0 }
+annotated t used = record { key = used.0; mode = used.1; home = home_of t used.0; counter = counter_of t used.0 }
 
 -- the transaction of this id for a body, as a region with this table submits it
 abbrev pub annotate : TxnId → Body → Table → Txn
@@ -40,6 +40,10 @@ abbrev pub targets_of : Body → List ℕ
 targets_of (Call proc args) = []
 targets_of (Move key target) = target ∷ []
 
+-- the key and the mode of an access entry
+abbrev pub used_of : Access → Bytes × Mode
+used_of a = (a.key, a.mode)
+
 -- the homes of a transaction: those of its keys, and for a move also its target
 abbrev pub homes_of : Txn → List ℕ
 homes_of txn = set_of (map (λ a. a.home) txn.access ++ targets_of txn.body)
@@ -54,7 +58,7 @@ abbrev pub part_of : Txn → ℕ → Part
 part_of txn home = record {
   id = txn.id;
   home = home;
-  keys = map (λ a. (a.key, a.mode)) (entries_at txn.body home txn.access);
+  keys = map used_of (entries_at txn.body home txn.access);
   homes = homes_of txn;
 }
 
@@ -62,14 +66,19 @@ part_of txn home = record {
 abbrev pub parts_of : Txn → List Part
 parts_of txn = map (part_of txn) (homes_of txn)
 
--- the body's arguments fit, and a move leads to a region
+-- a body can be run: a call's arguments fit and name keys
+abbrev pub CanRun : Body → Type 0
+CanRun (Call proc args) = Fits proc args × HasKeys proc args
+CanRun (Move key target) = Unit {0}
+
+-- the body's arguments fit and name keys, and a move leads to a region
 abbrev pub BodyFits : ℕ → Body → Type 0
-BodyFits regions (Call proc args) = Fits proc args
+BodyFits regions (Call proc args) = Fits proc args × HasKeys proc args
 BodyFits regions (Move key target) = target < regions
 
 -- a transaction of a cluster with so many regions: its body fits, it uses the keys of its body in their modes, and its
 -- homes are regions
 pub record IsValid (regions : ℕ) (txn : Txn) : Type 0 where
   pub body : BodyFits regions txn.body
-  pub uses : map (λ a. (a.key, a.mode)) txn.access ≡ uses_of txn.body
+  pub uses : map used_of txn.access ≡ uses_of txn.body
   pub homes : AllIn (λ home. home < regions) (homes_of txn)

@@ -1,6 +1,9 @@
-use dt_access::TxnId;
+ghost use Rattle.std.specs.Prelude.{◌≡◌, IfOk};
+
+use dt_access::{TryCopy, TxnId};
 use dt_eval::{Cause, Values};
-use dt_text::{Key, Listed, Value};
+use dt_text::{Key, Listed, NoMemory, Value};
+use std::alloc::Global;
 
 /// What a transaction came to.
 #[derive(Drop)]
@@ -12,6 +15,23 @@ pub enum Outcome {
     /// A row was moved since the transaction was annotated, so it changed nothing: the key, the number of moves that
     /// it was annotated with, and the transaction that made the next one.
     Stale { key: Key, had: u32, by: TxnId },
+}
+
+impl Outcome {
+    /// An equal outcome.
+    pub fn copy(&self, alloc: Global) -> Result<Self, NoMemory>
+        ensures { IfOk result (λ copied. copied ≡ self.now) }
+    {
+        match self {
+            Outcome::Gave(values) => Ok(Outcome::Gave(values.copy(alloc)?)),
+            Outcome::Aborted(cause) => Ok(Outcome::Aborted(cause.copy(alloc)?)),
+            Outcome::Stale { key, had, by } => Ok(Outcome::Stale {
+                key: key.copy(alloc)?,
+                had: *had,
+                by: *by,
+            }),
+        }
+    }
 }
 
 /// What a transaction sees of one row that it uses.

@@ -1,0 +1,54 @@
+-- An id's printed form is taken apart in one way only.
+use Rattle.std.proofs.Common.{◌≡◌, ◌≢◌, ℕ, zero, suc, ◌+◌, ◌<◌, ◌^◌, List, [], ◌∷◌, ◌++◌, length, Contains, None, Result, Ok, Err, refl, ap, sym, ◌∙◌, subst, arith}
+use Rattle.std.specs.Fmt.{decimal}
+use Rattle.std.specs.Str.Parse.{AllDigits}
+use Rattle.std.specs.Char.{digit_value}
+use Rattle.std.specs.Result.{OkIff, result_ok}
+use Rattle.std.proofs.lemmas.Fmt.{decimal_is_IsNumeral, decimal_injective}
+use Rattle.std.proofs.lemmas.List.Elements.{Contains-append_right}
+use Rattle.dt_access.specs.declared.id.TxnId.{TxnId}
+use Rattle.dt_access.specs.Ids.{id_text, IsCounted}
+
+-- a dot is no digit
+no_dot : (ds : List ℕ) → AllDigits 10 ds → ¬ Contains ds 46
+no_dot [] all (k, lt, e) = absurd (omega arith)
+no_dot (d ∷ ds) all (zero, lt, e) =
+    let low : digit_value d < 10 = all.0 in absurd (omega (arith, subst (λ x. digit_value x < 10) e low))
+no_dot (d ∷ ds) all (suc k, lt, e) = no_dot ds all.1 (k, omega arith, e)
+
+head-is : {x y : ℕ} {xs ys : List ℕ} → x ∷ xs ≡ y ∷ ys → x ≡ y
+head-is e = cc
+
+tail-is : {x y : ℕ} {xs ys : List ℕ} → x ∷ xs ≡ y ∷ ys → xs ≡ ys
+tail-is e = cc
+
+-- what a list lacks, its rest lacks
+Contains-rest : (x : ℕ) (xs : List ℕ) → ¬ Contains (x ∷ xs) 46 → ¬ Contains xs 46
+Contains-rest x xs none (k, lt, e) = none (suc k, omega arith, e)
+
+Contains-head : (x : ℕ) (xs : List ℕ) → ¬ Contains (x ∷ xs) 46 → x ≢ 46
+Contains-head x xs none e = none (0, omega arith, e)
+
+-- two lists are cut at their first dot into the same parts
+cut_once : (f g b d : List ℕ) → ¬ Contains f 46 → ¬ Contains g 46 → f ++ 46 ∷ b ≡ g ++ 46 ∷ d → (f ≡ g) × (b ≡ d)
+cut_once [] [] b d nf ng e = (refl, tail-is e)
+cut_once [] (y ∷ g) b d nf ng e = absurd (Contains-head y g ng (sym (head-is e)))
+cut_once (x ∷ f) [] b d nf ng e = absurd (Contains-head x f nf (head-is e))
+cut_once (x ∷ f) (y ∷ g) b d nf ng e =
+    let rest = cut_once f g b d (Contains-rest x f nf) (Contains-rest y g ng) (tail-is e) in
+    ((λ i. head-is e i ∷ rest.0 i), rest.1)
+
+-- what is cut at its first dot and is the printed form of an id is cut into the id's two numbers
+pub id_parts : (word f b : List ℕ) → word ≡ f ++ 46 ∷ b → ¬ Contains f 46 → (id : TxnId) → IsCounted id → word ≡ id_text id → (f ≡ decimal id.seq) × (b ≡ decimal id.region)
+id_parts word f b cut nf id counted e =
+    cut_once f (decimal id.seq) b (decimal id.region) nf (no_dot (decimal id.seq) (decimal_is_IsNumeral id.seq (omega (arith, counted))).0.1) (sym cut ∙ e)
+
+-- what has no dot is the printed form of no id
+pub id_text-dot : (word : List ℕ) → ¬ Contains word 46 → (id : TxnId) → word ≢ id_text id
+id_text-dot word none id e =
+    none (subst (λ w. Contains w 46) (sym e) (Contains-append_right (decimal id.seq) (46 ∷ decimal id.region) 46 (0, omega arith, refl)))
+
+-- a number that was not cast to 8 bits has more
+pub cast-refused : {E : Type 0} (r : Result ℕ E) (n : ℕ) → OkIff r (n < 2 ^ 8) n → None ≡ result_ok r → ¬ (n < 2 ^ 8)
+cast-refused (Ok m) n told none = cc
+cast-refused (Err e) n told none = told

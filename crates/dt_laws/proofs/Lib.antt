@@ -1,0 +1,11 @@
+pub mod Ids
+pub mod Submissions
+pub mod Views
+pub mod Kept
+pub mod Homes
+pub mod Requests
+pub mod Logs
+pub mod Sessions
+pub mod Known
+pub mod Answering
+pub mod Delivering

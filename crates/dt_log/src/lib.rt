@@ -1,0 +1,162 @@
+//! The log of one home, as a region has received it: a list of parts that only grows at its end.
+#![tactic(auto)]
+
+ghost use Rattle.std.specs.Prelude.{◌≡◌, ◌≢◌, ◌+◌, ◌<◌, ◌≤◌, ◌^◌, [], ◌∷◌, ◌++◌, length, vec_len, slice_get, option_copied, OnOk, OnErr, IfOk};
+ghost use Rattle.dt_log.specs.Logs.{AgreeOnOverlap, StandFrom, Takes};
+
+use dt_access::Part;
+use dt_text::NoMemory;
+use std::alloc::Global;
+use std::marker::Model;
+
+/// The parts that one home has placed in order, or as many of them as were received.
+///
+/// Contracts see the list of parts, which has at most 4,294,967,295 of them.
+#[derive(Debug, Drop)]
+pub struct Log {
+    parts: Vec<Part>,
+}
+
+impl Model for Log {
+    ghost use Rattle.std.specs.Prelude.{◌<◌, ◌^◌, List, length};
+    ghost use Rattle.dt_access.specs.declared.Part.{Part};
+
+    ghost Value = { List Part };
+
+    ghost view = { λ l. l.parts.items };
+
+    ghost invariant = { λ l. length l.parts.items < 2 ^ 32 };
+}
+
+/// What a delivery of entries was.
+#[derive(Clone, Copy, Debug, PartialEq, Eq)]
+pub enum Taken {
+    /// So many entries at its end were past the log's end, and were added.
+    New(u32),
+    /// The log had all entries; nothing changed.
+    Old,
+    /// The entries begin past the log's end; nothing changed.
+    Gap,
+}
+
+impl Log {
+    /// The empty log. Takes no memory.
+    pub fn new(alloc: Global) -> Self
+        ensures { result ≡ [] }
+    {
+        Log {
+            parts: Vec::new(alloc),
+        }
+    }
+
+    /// Adds a part at the end; after `NoMemory` the log is as before.
+    pub fn push(&mut self, part: Part) -> Result<(), NoMemory>
+        requires { length self.old + 1 < 2 ^ 32 }
+        ensures added { OnOk result (self.new ≡ self.old ++ part ∷ []) }
+        ensures same { OnErr result (self.new ≡ self.old) }
+    {
+        self.parts.push(part)?;
+        Ok(())
+    }
+
+    /// The part at a place, from 0; `None` exactly at and past the end. Takes no memory.
+    pub fn get(&self, place: u32) -> Option<&Part>
+        ensures { option_copied result ≡ slice_get self.now place }
+    {
+        self.parts.get(place as usize)
+    }
+
+    /// How many parts there are. Takes no memory.
+    pub fn len(&self) -> u32
+        ensures { result ≡ length self.now }
+    {
+        self.parts.len() as u32
+    }
+
+    /// Takes a delivery: entries of the true log from place `first` on, some of which may be held
+    /// already. Those past the end are added. Takes memory only where it adds some, and after
+    /// `NoMemory` the log is as before.
+    pub fn take(&mut self, first: u32, mut entries: Vec<Part>) -> Result<Taken, NoMemory>
+        requires overlap { AgreeOnOverlap self.old first entries.items }
+        requires place { first ≤ length self.old → first + vec_len entries < 2 ^ 32 }
+        ensures takes { Takes self.old first entries.items result self.new }
+
+        // Unless there was a gap, the log then has all of them.
+        ensures held { IfOk result (λ taken. taken ≢ Taken.Gap → StandFrom self.new first entries.items) }
+    {
+        let first = first as usize;
+        let held = self.parts.len();
+        if first > held {
+            return Ok(Taken::Gap);
+        }
+        let overlap = held - first;
+        if entries.len() <= overlap {
+            return Ok(Taken::Old);
+        }
+        entries.drain(..overlap);
+        let added = entries.len() as u32;
+        self.parts.append(&mut entries)?;
+        Ok(Taken::New(added))
+    }
+}
+
+#[cfg(test)]
+mod tests {
+    use super::*;
+    use dt_access::{Homes, Keys, TxnId};
+    use std::test::Fail;
+
+    /// A part of transaction number `seq`.
+    fn part(alloc: Global, seq: u32) -> Result<Part, Fail> {
+        let mut homes = Homes::new(alloc);
+        homes.push(0)?;
+        Ok(Part {
+            id: TxnId { seq, region: 0 },
+            home: 0,
+            keys: Keys::new(alloc),
+            homes,
+        })
+    }
+
+    /// A log of two parts, numbers 1 and 2, and copies of them.
+    fn two_parts(alloc: Global) -> Result<(Log, Vec<Part>), Fail>
+        ensures copies { IfOk result (λ made. made.1.items ≡ made.0) }
+        ensures two { IfOk result (λ made. length made.0 ≡ 2) }
+    {
+        let first = part(alloc, 1)?;
+        let second = part(alloc, 2)?;
+        let copies = vec![in alloc; first.copy(alloc)?, second.copy(alloc)?]?;
+        let mut log = Log::new(alloc);
+        log.push(first)?;
+        log.push(second)?;
+        Ok((log, copies))
+    }
+
+    #[test]
+    fn a_repeated_delivery_is_old(rt: HostRuntime) -> Result<(), Fail> {
+        let (mut log, copies) = two_parts(rt.alloc())?;
+        assert_eq!(rt; log.take(0, copies)?, Taken::Old);
+        assert_eq!(rt; log.len(), 2);
+        Ok(())
+    }
+
+    #[test]
+    fn after_a_lost_delivery_there_is_a_gap(rt: HostRuntime) -> Result<(), Fail> {
+        let (mut log, _copies) = two_parts(rt.alloc())?;
+        let one = vec![in rt.alloc(); part(rt.alloc(), 4)?]?;
+        assert_eq!(rt; log.take(3, one)?, Taken::Gap);
+        assert_eq!(rt; log.len(), 2);
+        Ok(())
+    }
+
+    #[test]
+    fn of_an_overlapping_delivery_the_rest_is_new(rt: HostRuntime) -> Result<(), Fail> {
+        let (mut log, mut two) = two_parts(rt.alloc())?;
+        let _first = two.remove(0);
+        two.push(part(rt.alloc(), 3)?)?;
+        assert_eq!(rt; log.take(1, two)?, Taken::New(1));
+        assert_eq!(rt; log.get(2).map(|part| part.id.seq), Some(3));
+        assert!(rt; log.get(3).is_none());
+        Ok(())
+    }
+}
