@@ -9,3 +9,8 @@ pub mod Sessions
 pub mod Known
 pub mod Answering
 pub mod Delivering
+pub mod Inserting
+pub mod Resolving
+pub mod Executing
+pub mod Appending
+pub mod Opening
