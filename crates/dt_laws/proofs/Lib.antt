@@ -14,3 +14,4 @@ pub mod Resolving
 pub mod Executing
 pub mod Appending
 pub mod Opening
+pub mod Annotating
