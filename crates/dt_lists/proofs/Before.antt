@@ -1,10 +1,10 @@
 -- What stands before an item of a list, and what a filter keeps of a list where it keeps all that stands before what it
 -- keeps.
-use Rattle.std.proofs.Common.{◌≡◌, ◌≢◌, ◌<◌, ◌≤◌, ◌⊎◌, ℕ, zero, suc, Bool, true, false, cond, List, [], ◌∷◌, ◌++◌, length, map, slice_get, Some, None, refl, sym, ap, subst, ◌∙◌, inl, inr, arith, append_assoc}
+use Rattle.std.proofs.Common.{◌≡◌, ◌<◌, ◌⊎◌, ℕ, zero, suc, Bool, true, false, cond, List, [], ◌∷◌, ◌++◌, length, map, slice_get, Some, None, refl, sym, ap, subst, ◌∙◌, inl, inr, arith}
 use Rattle.std.specs.Prelude.{filter, Option}
 use Rattle.std.proofs.lemmas.Bool.{cases_Bool}
-use Rattle.dt_lists.specs.Lists.{AnyIn, AllIn, SomeThen, Has, EachThen, Distinct, IsFront}
-use Rattle.dt_lists.proofs.Words.{any_get, any_put, any_append_left, all_map, all_get, some_get, has_map}
+use Rattle.dt_lists.specs.Lists.{AllIn, SomeThen, Has, EachThen, Distinct, IsFront}
+use Rattle.dt_lists.proofs.Words.{any_get, any_put, all_map, all_get, some_get, has_map}
 
 -- a place where the item stands in the list
 pub record Spot {A : Type 0} (xs : List A) (x : A) : Type 0 where
@@ -129,3 +129,9 @@ same_by_key f (z ∷ xs) x y once (inl a) (inl b) e = sym a ∙ b
 same_by_key f (z ∷ xs) x y once (inl a) (inr b) e = absurd (all_get _ (map f xs) once.0 (f y) (has_map f xs y b) (ap f a ∙ e))
 same_by_key f (z ∷ xs) x y once (inr a) (inl b) e = absurd (all_get _ (map f xs) once.0 (f x) (has_map f xs x a) (ap f b ∙ sym e))
 same_by_key f (z ∷ xs) x y once (inr a) (inr b) e = same_by_key f xs x y once.1 a b e
+
+-- what holds of each item and each later one rules out what holds of some item and a later one
+pub some_each : {A : Type 0} (R S : A → A → Type 0) (xs : List A) → EachThen R xs → SomeThen S xs → ((x y : A) → R x y → ¬ (S x y)) → ⊥
+some_each R S [] each s f = s
+some_each R S (x ∷ xs) each (inl s) f = let r : (y : _) × Has xs y × S x y = any_get (S x) xs s in f x r.0 (all_get (R x) xs each.0 r.0 r.1) r.2
+some_each R S (x ∷ xs) each (inr s) f = some_each R S xs each.1 s f

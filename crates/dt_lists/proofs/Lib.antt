@@ -7,4 +7,5 @@ pub mod Decided
 pub mod Least
 pub mod Ascending
 pub mod Before
+pub mod Filters
 pub mod Places

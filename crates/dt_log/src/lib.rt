@@ -118,44 +118,32 @@ mod tests {
         })
     }
 
-    /// A log of two parts, numbers 1 and 2.
-    fn two_parts(alloc: Global) -> Result<Log, Fail>
-        ensures { IfOk result (λ log. length log ≡ 2) }
+    /// A log of two parts, numbers 1 and 2, and copies of them.
+    fn two_parts(alloc: Global) -> Result<(Log, Vec<Part>), Fail>
+        ensures copies { IfOk result (λ made. made.1.items ≡ made.0) }
+        ensures two { IfOk result (λ made. length made.0 ≡ 2) }
     {
+        let first = part(alloc, 1)?;
+        let second = part(alloc, 2)?;
+        let copies = vec![in alloc; first.copy(alloc)?, second.copy(alloc)?]?;
         let mut log = Log::new(alloc);
-        log.push(part(alloc, 1)?)?;
-        log.push(part(alloc, 2)?)?;
-        Ok(log)
-    }
-
-    /// Copies of the parts of a log from a place on.
-    fn sent(alloc: Global, log: &Log, first: u32) -> Result<Vec<Part>, Fail>
-        ensures { IfOk result (λ parts. parts.items ≡ drop first log.now) }
-    {
-        let mut parts = Vec::new(alloc);
-        for place in first..log.len() {
-            if let Some(part) = log.get(place) {
-                parts.push(part.copy(alloc)?)?;
-            }
-        }
-        Ok(parts)
+        log.push(first)?;
+        log.push(second)?;
+        Ok((log, copies))
     }
 
     #[test]
     fn a_repeated_delivery_is_old(rt: HostRuntime) -> Result<(), Fail> {
-        let alloc = rt.alloc();
-        let mut log = two_parts(alloc)?;
-        let both = sent(alloc, &log, 0)?;
-        assert_eq!(rt; log.take(0, both)?, Taken::Old);
+        let (mut log, copies) = two_parts(rt.alloc())?;
+        assert_eq!(rt; log.take(0, copies)?, Taken::Old);
         assert_eq!(rt; log.len(), 2);
         Ok(())
     }
 
     #[test]
-    fn a_lost_delivery_leaves_a_gap(rt: HostRuntime) -> Result<(), Fail> {
-        let alloc = rt.alloc();
-        let mut log = two_parts(alloc)?;
-        let one = vec![in alloc; part(alloc, 4)?]?;
+    fn after_a_lost_delivery_there_is_a_gap(rt: HostRuntime) -> Result<(), Fail> {
+        let (mut log, _copies) = two_parts(rt.alloc())?;
+        let one = vec![in rt.alloc(); part(rt.alloc(), 4)?]?;
         assert_eq!(rt; log.take(3, one)?, Taken::Gap);
         assert_eq!(rt; log.len(), 2);
         Ok(())
@@ -163,10 +151,9 @@ mod tests {
 
     #[test]
     fn of_an_overlapping_delivery_the_rest_is_new(rt: HostRuntime) -> Result<(), Fail> {
-        let alloc = rt.alloc();
-        let mut log = two_parts(alloc)?;
-        let mut two = sent(alloc, &log, 1)?;
-        two.push(part(alloc, 3)?)?;
+        let (mut log, mut two) = two_parts(rt.alloc())?;
+        let _first = two.remove(0);
+        two.push(part(rt.alloc(), 3)?)?;
         assert_eq!(rt; log.take(1, two)?, Taken::New(1));
         assert_eq!(rt; log.get(2).map(|part| part.id.seq), Some(3));
         assert!(rt; log.get(3).is_none());

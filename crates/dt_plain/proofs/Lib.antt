@@ -3,3 +3,8 @@ pub mod Same
 pub mod Growth
 pub mod Walk
 pub mod Edges
+pub mod Order
+pub mod Shared
+pub mod Present
+pub mod Decided
+pub mod Choice

@@ -19,7 +19,7 @@ pub record IsWalked (links : List Link) (start : TxnId) (found : List TxnId) (at
   pub short : at ≤ length found
 
 -- an item at a place is in the list
-has_at : {A : Type 0} (xs : List A) (i : ℕ) (d : A) → i < length xs → Has xs (get_or xs i d)
+pub has_at : {A : Type 0} (xs : List A) (i : ℕ) (d : A) → i < length xs → Has xs (get_or xs i d)
 has_at [] i d h = absurd (omega arith)
 has_at (x ∷ xs) zero d h = inl refl
 has_at (x ∷ xs) (suc i) d h = inr (has_at xs i d (omega arith))

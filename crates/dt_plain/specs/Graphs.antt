@@ -3,7 +3,7 @@ use Rattle.dt_lists.specs.Lists.{AnyIn, SomeThen, Has, Distinct}
 use Rattle.dt_access.specs.Clash.{clash}
 use Rattle.dt_access.specs.declared.TxnId.{TxnId}
 use Rattle.dt_access.specs.declared.Part.{Part}
-use Rattle.dt_sched.specs.Views.{View, AreClashing, Edge, Reaches}
+use Rattle.dt_sched.specs.Views.{View, HasPart, IsPresent, AreClashing, Edge, Reaches}
 use Rattle.dt_plain.specs.Links.{IsLinked}
 use Rattle.dt_plain.specs.declared.search.Link.{Link}
 
@@ -44,3 +44,19 @@ pub record AreBehind (view : View) (t : TxnId) (ids : List TxnId) : Type 0 where
 pub record AreAhead (view : View) (t : TxnId) (ids : List TxnId) : Type 0 where
   pub distinct : Distinct ids
   pub members : (u : TxnId) → Has ids u ↔ Reaches view t u
+
+-- the list got the ids of the parts of the log
+pub record GetsIds (log : List Part) (old new : List TxnId) : Type 0 where
+  pub distinct : Distinct new
+  pub members : (u : TxnId) → Has new u ↔ (Has old u ⊎ HasPart log u)
+
+-- the ids are those that have a part in the view, each once
+pub record ArePresent (view : View) (ids : List TxnId) : Type 0 where
+  pub distinct : Distinct ids
+  pub members : (u : TxnId) → Has ids u ↔ IsPresent view u
+
+-- what a graph keeps of its view
+pub record IsKept (view : View) (ids : List TxnId) (links back : List Link) : Type 0 where
+  pub whose : ArePresent view ids
+  pub forth : AreEdges view links
+  pub turned_round : AreTurned view back

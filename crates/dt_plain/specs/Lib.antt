@@ -2,3 +2,4 @@ pub mod Plain
 pub mod Grown
 pub mod Links
 pub mod Graphs
+pub mod Deciding

@@ -1,6 +1,11 @@
 ghost use Rattle.std.specs.Prelude.{◌≡◌, ◌↔◌, IsTrue, IfOk, OnOk, map};
-ghost use Rattle.dt_plain.specs.Graphs.{MakesEdge, EdgeInto, EdgeWithin, Gains, AreEdges, AreBehind, AreAhead, turned};
+ghost use Rattle.dt_plain.specs.Graphs.{MakesEdge, EdgeInto, EdgeWithin, Gains, AreEdges, AreBehind, AreAhead, GetsIds, ArePresent, turned};
+ghost use Rattle.dt_lists.specs.Lists.{AllIn, Distinct};
+ghost use Rattle.dt_sched.specs.Views.{IsComplete, IsClass};
 
+use crate::class::common;
+use crate::complete::are_complete;
+use crate::ids::add_once;
 use crate::search::{Link, reached};
 use dt_access::{Ids, Part, TxnId, clash};
 use dt_text::{Listed, NoMemory};
@@ -10,19 +15,20 @@ use std::marker::Model;
 /// The dependency graph of logs. Contracts see the logs.
 pub struct Graph<'a> {
     logs: &'a [Listed<Part>],
+    ids: Ids,
     links: Listed<Link>,
     back: Listed<Link>,
 }
 
 impl<'a> Model for Graph<'a> {
     ghost use Rattle.dt_sched.specs.Views.{View};
-    ghost use Rattle.dt_plain.specs.Graphs.{AreEdges, AreTurned};
+    ghost use Rattle.dt_plain.specs.Graphs.{IsKept};
 
     ghost Value = { View };
 
     ghost view = { λ g. g.logs.now };
 
-    ghost invariant = { λ g. AreEdges g.logs.now g.links × AreTurned g.logs.now g.back };
+    ghost invariant = { λ g. IsKept g.logs.now g.ids g.links g.back };
 }
 
 /// Whether the one part makes an edge to the other, which stands later in its log.
@@ -79,14 +85,56 @@ fn turned_round(alloc: Global, links: &[Link]) -> Result<Listed<Link>, NoMemory>
     Ok(back)
 }
 
+/// Adds the ids of the parts of a log, each once.
+fn add_ids(log: &[Part], ids: &mut Ids) -> Result<(), NoMemory>
+    requires { Distinct ids.old }
+    ensures { OnOk result (GetsIds log.now ids.old ids.new) }
+{
+    for part in log {
+        add_once(ids, part.id)?;
+    }
+    Ok(())
+}
+
+/// The ids that have a part in the logs, each once.
+fn present(alloc: Global, logs: &[Listed<Part>]) -> Result<Ids, NoMemory>
+    ensures { IfOk result (ArePresent logs.now) }
+{
+    let mut ids = Ids::new(alloc);
+    for log in logs {
+        add_ids(log.as_slice(), &mut ids)?;
+    }
+    Ok(ids)
+}
+
 impl<'a> Graph<'a> {
     /// The graph of the logs.
     pub fn of(alloc: Global, logs: &'a [Listed<Part>]) -> Result<Self, NoMemory>
         ensures { IfOk result (λ graph. graph ≡ logs.now) }
     {
+        let ids = present(alloc, logs)?;
         let links = edges(alloc, logs)?;
         let back = turned_round(alloc, links.as_slice())?;
-        Ok(Graph { logs, links, back })
+        Ok(Graph {
+            logs,
+            ids,
+            links,
+            back,
+        })
+    }
+
+    /// The ids that have a part in the logs, each once.
+    pub fn ids(&self) -> &[TxnId]
+        ensures { ArePresent self.now result.now }
+    {
+        self.ids.as_slice()
+    }
+
+    /// Whether each of the transactions is complete.
+    pub fn are_complete(&self, ids: &[TxnId]) -> bool
+        ensures { IsTrue result ↔ AllIn (IsComplete self.now) ids.now }
+    {
+        are_complete(self.logs, ids)
     }
 
     /// All that reaches the transaction, itself with them.
@@ -101,5 +149,14 @@ impl<'a> Graph<'a> {
         ensures { IfOk result (AreAhead self.now id) }
     {
         reached(alloc, self.links.as_slice(), id)
+    }
+
+    /// The class of the transaction, in ascending order.
+    pub fn class_of(&self, alloc: Global, id: TxnId) -> Result<Ids, NoMemory>
+        ensures { IfOk result (IsClass self.now id) }
+    {
+        let behind = self.behind(alloc, id)?;
+        let ahead = self.ahead(alloc, id)?;
+        common(alloc, behind.as_slice(), ahead.as_slice())
     }
 }

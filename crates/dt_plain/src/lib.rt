@@ -1,7 +1,9 @@
 //! The plain scheduler: it goes through all inserted parts for every answer, as the definitions do.
 #![tactic(auto)]
 
+mod class;
 mod complete;
+mod decide;
 mod graph;
 mod ids;
 mod search;

@@ -1,27 +1,26 @@
 -- A serial run and an order that fits it: the moves of a key, who is stale, and who is ordered.
-use Rattle.std.proofs.Common.{◌≡◌, ◌≢◌, ◌<◌, ◌≤◌, ◌⊎◌, ℕ, zero, suc, Bool, true, false, cond, List, [], ◌∷◌, ◌++◌, length, map, slice_get, Some, None, refl, sym, ap, ap₂, subst, ◌∙◌, inl, inr, arith}
-use Rattle.std.specs.Prelude.{Option, option_map, filter}
+use Rattle.std.proofs.Common.{◌≡◌, ◌≢◌, ◌<◌, ◌≤◌, ◌⊎◌, ℕ, zero, suc, Bool, true, cond, List, ◌∷◌, ◌++◌, length, slice_get, Some, None, refl, sym, ap, subst, ◌∙◌, inl, inr, arith}
+use Rattle.std.specs.Prelude.{Option, option_map}
 use Rattle.std.specs.Cmp.Lexicographic.{bytes_decides}
 use Rattle.std.proofs.lemmas.Bool.{cases_lt, and_from, and_parts, or_left, cases_order}
 use Rattle.std.proofs.lemmas.List.{map-append}
 use Rattle.std.proofs.lemmas.Option.{slice_get_within, slice_get-get_or}
-use Rattle.dt_lists.specs.Lists.{AnyIn, AllIn, Has, EachThen, Either}
+use Rattle.dt_lists.specs.Lists.{AllIn, Has, EachThen, Either}
 use Rattle.dt_lists.proofs.Words.{any_get, all_get, all_put, each_map, each_across, has_map}
-use Rattle.dt_lists.proofs.Before.{Spot, spot, spot_has, each_of_steps, each_at, PassesAtFront, if_passes, get_filtered}
+use Rattle.dt_lists.proofs.Before.{Spot, spot_has, each_of_steps, each_at, PassesAtFront, if_passes, get_filtered}
 use Rattle.dt_sched.proofs.Ids.{either_id}
 use Rattle.dt_access.specs.Clash.{Bytes, is_write, uses_clash}
 use Rattle.dt_access.specs.declared.TxnId.{TxnId}
 use Rattle.dt_access.specs.declared.Access.{Access}
-use Rattle.dt_access.specs.declared.Mode.{Mode}
 use Rattle.dt_access.specs.declared.Mode.TheVariants.{Write}
 use Rattle.dt_table.specs.Table.{Table, Moved, moves_of, counter_of, next_mover}
 use Rattle.dt_txn.specs.declared.txn.Txn.{Txn}
 use Rattle.dt_txn.specs.Serial.{table_after}
-use Rattle.dt_serial.specs.Order.{txn_ids, Ordered, IsDown, FollowsMove, IsAnchored, IsShared, IsLive, MayWrite, KeepsToKeys, IsHistory}
-use Rattle.dt_serial.specs.Replay.{among, replay}
-use Rattle.dt_serial.proofs.One.{next_none, live_entries, IsMoveOf, change_of_one}
-use Rattle.dt_serial.proofs.Runs.{table_after_append, moves_grow, IsMoveAt, move_at, mover_in, replay_append, replay_all, replay_none, chosen_moves, replay_moves}
-use Rattle.dt_serial.proofs.Past.{has_of_among, among_of_has, not_among, IsPast, past_of_down, same_past, down_preceders}
+use Rattle.dt_serial.specs.Order.{txn_ids, Ordered, IsDown, FollowsMove, IsLive, MayWrite, KeepsToKeys, IsHistory}
+use Rattle.dt_serial.specs.Replay.{is_among, replay}
+use Rattle.dt_serial.proofs.One.{live_entries, IsMoveOf, change_of_one}
+use Rattle.dt_serial.proofs.Runs.{table_after_append, IsMoveAt, move_at, mover_in, replay_append, replay_all, replay_none, chosen_moves, replay_moves}
+use Rattle.dt_serial.proofs.Past.{among_of_has, not_among, IsPast, past_of_down, same_past, down_preceders}
 
 module _ (order : TxnId → TxnId → Type 0) (start : Table) (txns : List Txn) (h : IsHistory order start txns) where
   -- places in the run
@@ -32,7 +31,7 @@ module _ (order : TxnId → TxnId → Type 0) (start : Table) (txns : List Txn) 
   pub down_at : (x : Txn) (s : Spot txns x) → IsDown order (txn_ids s.front ++ x.id ∷ txn_ids s.rest)
   down_at x s = subst (IsDown order) (ids_at x s) h.down
 
-  pub past_at : (x : Txn) (s : Spot txns x) → IsPast order (among (txn_ids s.front)) x.id
+  pub past_at : (x : Txn) (s : Spot txns x) → IsPast order (is_among (txn_ids s.front)) x.id
   past_at x s = past_of_down order (txn_ids s.front) x.id (txn_ids s.rest) (down_at x s)
 
   pub apart_at : (x : Txn) (s : Spot txns x) (i : TxnId) → Has (txn_ids s.front) i → ¬ (Has (x.id ∷ txn_ids s.rest) i)
@@ -42,12 +41,12 @@ module _ (order : TxnId → TxnId → Type 0) (start : Table) (txns : List Txn) 
   last_at x s = ap (λ l. table_after l start) s.is ∙ table_after_append s.front (x ∷ s.rest) start
 
   -- the table before a transaction is the replay of those before it
-  pub replay_at : (x : Txn) (s : Spot txns x) → replay (among (txn_ids s.front)) txns start start ≡ table_after s.front start
+  pub replay_at : (x : Txn) (s : Spot txns x) → replay (is_among (txn_ids s.front)) txns start start ≡ table_after s.front start
   replay_at x s =
-      ap (λ l. replay (among (txn_ids s.front)) l start start) s.is
-      ∙ replay_append (among (txn_ids s.front)) s.front (x ∷ s.rest) start start
-      ∙ replay_none (among (txn_ids s.front)) (x ∷ s.rest) _ _ (all_put _ (x ∷ s.rest) (λ y k. not_among (txn_ids s.front) y.id (λ a. apart_at x s y.id a (has_map (λ z. z.id) (x ∷ s.rest) y k))))
-      ∙ replay_all (among (txn_ids s.front)) s.front start (all_put _ s.front (λ y k. among_of_has (txn_ids s.front) y.id (has_map (λ z. z.id) s.front y k)))
+      ap (λ l. replay (is_among (txn_ids s.front)) l start start) s.is
+      ∙ replay_append (is_among (txn_ids s.front)) s.front (x ∷ s.rest) start start
+      ∙ replay_none (is_among (txn_ids s.front)) (x ∷ s.rest) _ _ (all_put _ (x ∷ s.rest) (λ y k. not_among (txn_ids s.front) y.id (λ a. apart_at x s y.id a (has_map (λ z. z.id) (x ∷ s.rest) y k))))
+      ∙ replay_all (is_among (txn_ids s.front)) s.front start (all_put _ s.front (λ y k. among_of_has (txn_ids s.front) y.id (has_map (λ z. z.id) s.front y k)))
 
   no_moves : (key : Bytes) → counter_of start key ≡ 0
   no_moves key = ap length (h.unmoved key)
@@ -78,8 +77,8 @@ module _ (order : TxnId → TxnId → Type 0) (start : Table) (txns : List Txn) 
         makes = r.makes;
         may = (change_of_one r.mover (table_after r.at.front start) key (keys_at r.mover there) r.makes.changes).1;
         counters = all_put _ r.mover.access (λ a k same. exact r a.counter
-          (subst (λ c. c ≤ a.counter) (ap (counter_of (table_after r.at.front start)) same ∙ r.number) (all_get _ r.mover.access (live_entries r.mover (table_after r.at.front start) r.makes.live) a k))
-          (subst (λ q. FollowsMove order (moves_of (table_after txns start) q) a.counter r.mover.id) same (anchor_at r.mover a there k)));
+            (subst (λ c. c ≤ a.counter) (ap (counter_of (table_after r.at.front start)) same ∙ r.number) (all_get _ r.mover.access (live_entries r.mover (table_after r.at.front start) r.makes.live) a k))
+            (subst (λ q. FollowsMove order (moves_of (table_after txns start) q) a.counter r.mover.id) same (anchor_at r.mover a there k)));
       }
     where
       exact : (r : IsMoveAt txns start key i m) (c : ℕ) → i ≤ c → FollowsMove order (moves_of (table_after txns start) key) c r.mover.id → c ≡ i
@@ -136,6 +135,7 @@ module _ (order : TxnId → TxnId → Type 0) (start : Table) (txns : List Txn) 
       alike : (a : Access) (m : Moved) → Has x.access a → slice_get (moves_of (table_after txns start) a.key) a.counter ≡ Some m → Either (m.by ≡ x.id) → p m.by ≡ q m.by
       alike a m ka e (inl own) = ap p own ∙ pp.absent ∙ sym (ap q own ∙ pq.absent)
       alike a m ka e (inr ne) = same_past order p q x.id m.by pp pq (follower x a m k ka e ne)
+
       same : (a : Access) → Has x.access a → (o : Option Moved) → slice_get (moves_of (table_after txns start) a.key) a.counter ≡ o → if_passes (λ m. p m.by) o ≡ if_passes (λ m. q m.by) o
       same a ka None e = refl
       same a ka (Some m) e = ap (λ b. cond b (Some m) None) (alike a m ka e (either_id m.by x.id))
@@ -149,11 +149,11 @@ module _ (order : TxnId → TxnId → Type 0) (start : Table) (txns : List Txn) 
       go : Either (m.by ≡ x.id) → (x.id ≡ m.by) ⊎ order x.id m.by
       go (inl own) = inl (sym own)
       go (inr ne) = elim (follower x a m (spot_has txns x s) ka e ne) [
-          inl r ↦ absurd (apart_at x s m.by
+        | inl r ↦ absurd (apart_at x s m.by
             (down_preceders order (txn_ids s.front) x.id (txn_ids s.rest) m.by (down_at x s) r)
             (mover_in (x ∷ s.rest) (table_after s.front start) a.key a.counter m (all_get _ x.access (live_entries x (table_after s.front start) live) a ka) (subst (λ t. slice_get (moves_of t a.key) a.counter ≡ Some m) (last_at x s) e)))
         | inr r ↦ inr r
-        ]
+      ]
 
   there_before : (ms : List Moved) (c d : ℕ) (m : Moved) → c ≤ d → slice_get ms d ≡ Some m → (n : Moved) × (slice_get ms c ≡ Some n)
   there_before ms c d m le e = let lt : d < length ms = slice_get_within ms d m e in (_, slice_get-get_or ms c m (omega arith))
@@ -164,14 +164,16 @@ module _ (order : TxnId → TxnId → Type 0) (start : Table) (txns : List Txn) 
     where
       joined : (d : ℕ) (n m : Moved) → a.counter ≤ d → slice_get (moves_of (table_after txns start) a.key) a.counter ≡ Some n → slice_get (moves_of (table_after txns start) a.key) d ≡ Some m → (n ≡ m) ⊎ order n.by m.by
       joined d n m le p q = elim (cases_lt a.counter d) [
-          inl less ↦ inr (each_at _ (moves_of (table_after txns start) a.key) a.counter d n m (chain a.key) less p q)
+        | inl less ↦ inr (each_at _ (moves_of (table_after txns start) a.key) a.counter d n m (chain a.key) less p q)
         | inr ge ↦ inl (let at : a.counter ≡ d = omega arith in let r : slice_get (moves_of (table_after txns start) a.key) d ≡ Some n = subst (λ c. slice_get (moves_of (table_after txns start) a.key) c ≡ Some n) at p in cc (r, q))
-        ]
+      ]
+
       link : (n m : Moved) → (x.id ≡ n.by) ⊎ order x.id n.by → (n ≡ m) ⊎ order n.by m.by → order m.by y.id → order x.id y.id
       link n m (inl e) (inl f) r = subst (λ i. order i y.id) (sym (e ∙ ap (λ z. z.by) f)) r
       link n m (inl e) (inr f) r = h.transitive x.id m.by y.id (subst (λ i. order i m.by) (sym e) f) r
       link n m (inr e) (inl f) r = h.transitive x.id m.by y.id (subst (λ z. order x.id z.by) f e) r
       link n m (inr e) (inr f) r = h.transitive x.id n.by y.id e (h.transitive n.by m.by y.id f r)
+
       go : (c : ℕ) → a.counter < c → FollowsMove order (moves_of (table_after txns start) a.key) c y.id → order x.id y.id
       go zero less f = absurd (omega arith)
       go (suc d) less f =
@@ -185,6 +187,7 @@ module _ (order : TxnId → TxnId → Type 0) (start : Table) (txns : List Txn) 
     where
       same : a.key ≡ b.key
       same = (bytes_decides a.key b.key).0 (and_parts _ _ clash).0
+
       go : (a.counter ≡ b.counter) ⊎ ((a.counter < b.counter) ⊎ (b.counter < a.counter)) → Ordered order x.id y.id
       go (inl e) = h.shared x y (spot_has txns x s) (spot_has txns y r) ne a b ka kb e clash
       go (inr (inl less)) = inl (across_fewer x y s a b lx (spot_has txns y r) ka kb same less)

@@ -1,10 +1,10 @@
 -- What one transaction sees and does: whether it is stale hangs on the next movers alone, its result on the values, and
 -- only a live one changes anything.
-use Rattle.std.proofs.Common.{◌≡◌, ◌≢◌, ◌<◌, ◌≤◌, ◌⊎◌, ℕ, zero, suc, Bool, true, false, cond, List, [], ◌∷◌, ◌++◌, length, map, slice_get, Some, None, IsSomeAnd, refl, sym, ap, ap₂, subst, ◌∙◌, inl, inr, arith}
+use Rattle.std.proofs.Common.{◌≡◌, ◌≤◌, ◌⊎◌, ℕ, zero, suc, true, false, cond, List, [], ◌∷◌, length, map, slice_get, Some, None, refl, sym, ap, ap₂, subst, ◌∙◌, inl, inr, arith}
 use Rattle.std.specs.Prelude.{Option, option_map}
 use Rattle.std.specs.Cmp.Lexicographic.{bytes_decides}
 use Rattle.std.proofs.lemmas.Bool.{cases_Bool}
-use Rattle.dt_lists.specs.Lists.{AnyIn, AllIn, Has, Either}
+use Rattle.dt_lists.specs.Lists.{AllIn, Has}
 use Rattle.dt_access.specs.Clash.{Bytes, same_key}
 use Rattle.dt_access.specs.declared.TxnId.{TxnId}
 use Rattle.dt_access.specs.declared.Access.{Access}
@@ -13,14 +13,13 @@ use Rattle.dt_eval.specs.Meaning.{meaning}
 use Rattle.dt_eval.specs.declared.Finish.{Finish}
 use Rattle.dt_eval.specs.declared.finish.Finish.TheVariants as finish
 use Rattle.dt_table.specs.declared.Effect.{Effect}
-use Rattle.dt_table.specs.Table.{Table, Moved, value_of, moves_of, counter_of, next_mover, apply}
+use Rattle.dt_table.specs.Table.{Table, Moved, value_of, moves_of, counter_of, next_mover}
 use Rattle.dt_txn.specs.declared.txn.Body.{Body}
 use Rattle.dt_txn.specs.declared.txn.Body.TheVariants.{Call, Move}
 use Rattle.dt_txn.specs.declared.txn.Txn.{Txn}
-use Rattle.dt_txn.specs.declared.outcome.Seen.{Seen}
 use Rattle.dt_txn.specs.declared.outcome.Outcome.{Outcome}
-use Rattle.dt_txn.specs.declared.outcome.Outcome.TheVariants.{Gave, Aborted, Stale}
-use Rattle.dt_txn.specs.Execution.{seen_of, see, no_effect, stale_at, stale_of, reads_of, of_finish, result_of, unless_stale, execution, one}
+use Rattle.dt_txn.specs.declared.outcome.Outcome.TheVariants.{Gave, Stale}
+use Rattle.dt_txn.specs.Execution.{seen_of, see, stale_at, stale_of, reads_of, of_finish, result_of, unless_stale, one}
 use Rattle.dt_serial.specs.Order.{Changes, MayWrite, KeepsToKeys, IsLive, IsStale}
 use Rattle.dt_serial.proofs.Rows.{moved_on}
 
@@ -33,6 +32,14 @@ next_none t key c e = past (moves_of t key) c e
     past [] c e = omega arith
     past (m ∷ ms) zero e = cc
     past (m ∷ ms) (suc c) e = let r : length ms ≤ c = past ms c e in omega arith
+
+-- the move that the next mover made
+pub mover_at : (ms : List Moved) (c : ℕ) (by : TxnId) → option_map (λ m. m.by) (slice_get ms c) ≡ Some by → (m : Moved) × (slice_get ms c ≡ Some m) × (m.by ≡ by)
+mover_at ms c by e = go (slice_get ms c) refl e
+  where
+    go : (o : Option Moved) → slice_get ms c ≡ o → option_map (λ m. m.by) o ≡ Some by → (m : Moved) × (slice_get ms c ≡ Some m) × (m.by ≡ by)
+    go None f e = cc
+    go (Some m) f e = (m, f, cc)
 
 -- staleness
 
@@ -98,6 +105,7 @@ one_alike x t u movers values = go (stale_of x.access (see x u)) refl
   where
     same : stale_of x.access (see x t) ≡ stale_of x.access (see x u)
     same = stale_alike x.access t u movers
+
     go : (s : Option Outcome) → stale_of x.access (see x u) ≡ s → one x t ≡ one x u
     go None e = one_live x t (same ∙ e) ∙ ap (result_of x.id x.body) (reads_alike x.access t u (values e)) ∙ sym (one_live x u e)
     go (Some o) e = ap (λ s. unless_stale s (result_of x.id x.body (reads_of x.access (see x t)))) (same ∙ e) ∙ sym (ap (λ s. unless_stale s (result_of x.id x.body (reads_of x.access (see x u)))) e)
@@ -142,6 +150,7 @@ move_in id (Move k target) None reads key m e = go (cases_Bool (same_key key k))
   where
     made : Moved
     made = record { target = target; by = id }
+
     go : (same_key key k ≡ true) ⊎ (same_key key k ≡ false) → IsMoveIn id (Move k target) None reads key m
     go (inl y) =
         let is : key ≡ k = (bytes_decides key k).0 y in
@@ -161,6 +170,7 @@ moved_on_cases (Some m) key = go (cases_Bool (same_key key m.0))
   where
     made : Moved
     made = record { target = m.1; by = m.2 }
+
     go : (same_key key m.0 ≡ true) ⊎ (same_key key m.0 ≡ false) → (moved_on (Some m) key ≡ []) ⊎ ((n : Moved) × (moved_on (Some m) key ≡ n ∷ []))
     go (inl y) = inr (made, ap (λ b. cond b (made ∷ []) []) y)
     go (inr n) = inl (ap (λ b. cond b (made ∷ []) []) n)

@@ -1,18 +1,21 @@
 -- Lists in which all that precedes an id stands before it, and the choices of ids that are a past of an id.
-use Rattle.std.proofs.Common.{◌≡◌, ◌≢◌, ◌⊎◌, ◌↔◌, Bool, true, false, cond, List, [], ◌∷◌, ◌++◌, map, eqb-true, eq-eqb, refl, sym, ap, ap₂, subst, ◌∙◌, append_assoc, inl, inr}
+use Rattle.std.proofs.Common.{◌≡◌, ◌⊎◌, Bool, true, false, cond, List, [], ◌∷◌, ◌++◌, eqb-true, eq-eqb, refl, sym, ap, subst, subst₂, ◌∙◌, inl, inr}
 use Rattle.std.specs.Prelude.{filter}
 use Rattle.std.proofs.lemmas.Bool.{cases_Bool, and_parts, and_from, false_from_ne_true}
-use Rattle.std.proofs.lemmas.List.{map-append}
-use Rattle.dt_lists.specs.Lists.{AnyIn, AllIn, SomeThen, Has, EachThen, Distinct, Either}
-use Rattle.dt_lists.proofs.Words.{any_map, any_get, any_append, any_append_left, some_get, some_append_left, all_map, all_get, all_put, each_append, each_append_left, each_across}
+use Rattle.dt_lists.specs.Lists.{SomeThen, Has, EachThen, Distinct}
+use Rattle.dt_lists.proofs.Words.{any_map, any_append, any_append_left, some_map, some_get, some_of_two, some_append_left, each_append_left, each_across}
 use Rattle.dt_lists.proofs.Tests.{any_of_test, test_of_any}
-use Rattle.dt_lists.proofs.Before.{before_has, has_before, has_middle}
+use Rattle.dt_lists.proofs.Distinct.{distinct_push}
+use Rattle.dt_lists.proofs.Keys.{some_in_front}
+use Rattle.dt_lists.proofs.Filters.{of_filter, filter_each, filter_before}
+use Rattle.dt_lists.proofs.Words.{all_get}
+use Rattle.dt_lists.proofs.Before.{some_each, before_has, has_before, has_middle}
 use Rattle.dt_sched.proofs.Ids.{same_by_parts}
 use Rattle.dt_access.specs.Ids.{same_id}
 use Rattle.dt_access.specs.declared.TxnId.{TxnId}
 use Rattle.dt_txn.specs.declared.txn.Txn.{Txn}
 use Rattle.dt_serial.specs.Order.{txn_ids, StandsBefore, Ordered, IsDown}
-use Rattle.dt_serial.specs.Replay.{among}
+use Rattle.dt_serial.specs.Replay.{is_among}
 
 -- which ids are among some
 
@@ -22,20 +25,20 @@ id_of_test a b e = let r : (_ ≡ true) × (_ ≡ true) = and_parts _ _ e in sam
 test_of_id : (a b : TxnId) → a ≡ b → same_id a b ≡ true
 test_of_id a b e = and_from _ _ (eq-eqb a.seq b.seq (ap (λ i. i.seq) e)) (eq-eqb a.region b.region (ap (λ i. i.region) e))
 
-pub has_of_among : (ids : List TxnId) (id : TxnId) → among ids id ≡ true → Has ids id
-has_of_among ids id e = any_map _ _ ids (λ i s. id_of_test i id s) (any_of_test (λ i. same_id i id) ids e)
+pub has_of_among : (ids : List TxnId) (id : TxnId) → is_among ids id ≡ true → Has ids id
+has_of_among ids id e = any_map _ _ ids (λ i s. sym (id_of_test id i s)) (any_of_test (same_id id) ids e)
 
-pub among_of_has : (ids : List TxnId) (id : TxnId) → Has ids id → among ids id ≡ true
-among_of_has ids id h = test_of_any (λ i. same_id i id) ids (any_map _ _ ids (λ i s. test_of_id i id s) h)
+pub among_of_has : (ids : List TxnId) (id : TxnId) → Has ids id → is_among ids id ≡ true
+among_of_has ids id h = test_of_any (same_id id) ids (any_map _ _ ids (λ i s. test_of_id id i (sym s)) h)
 
-pub not_among : (ids : List TxnId) (id : TxnId) → ¬ (Has ids id) → among ids id ≡ false
+pub not_among : (ids : List TxnId) (id : TxnId) → ¬ (Has ids id) → is_among ids id ≡ false
 not_among ids id n = false_from_ne_true _ (λ e. n (has_of_among ids id e))
 
 -- lists with equal members choose alike
-pub among_same : (xs ys : List TxnId) (id : TxnId) → (Has xs id → Has ys id) → (Has ys id → Has xs id) → among xs id ≡ among ys id
-among_same xs ys id f g = go (cases_Bool (among xs id))
+pub among_same : (xs ys : List TxnId) (id : TxnId) → (Has xs id → Has ys id) → (Has ys id → Has xs id) → is_among xs id ≡ is_among ys id
+among_same xs ys id f g = go (cases_Bool (is_among xs id))
   where
-    go : (among xs id ≡ true) ⊎ (among xs id ≡ false) → among xs id ≡ among ys id
+    go : (is_among xs id ≡ true) ⊎ (is_among xs id ≡ false) → is_among xs id ≡ is_among ys id
     go (inl y) = y ∙ sym (among_of_has ys id (f (has_of_among xs id y)))
     go (inr n) = n ∙ sym (not_among ys id (λ h. cc (n, among_of_has xs id (g h))))
 
@@ -55,29 +58,27 @@ module _ (order : TxnId → TxnId → Type 0) where
 
   -- a front of a down list is down
   pub down_front : (front rest : List TxnId) → IsDown order (front ++ rest) → IsDown order front
-  down_front front rest down = record { once = each_append_left _ front rest down.once; preceders = λ u t h r. inside front rest u t down.once h (down.preceders u t (any_append_left _ front rest h) r) }
-    where
-      inside : (front rest : List TxnId) (u t : TxnId) → Distinct (front ++ rest) → Has front t → StandsBefore (front ++ rest) u t → StandsBefore front u t
-      inside [] rest u t once h s = absurd h
-      inside (a ∷ front) rest u t once (inl e) (inl s) =
-          let r : (y : TxnId) × Has (front ++ rest) y × ((a ≡ u) × (y ≡ t)) = any_get _ (front ++ rest) s in
-          absurd (all_get _ (front ++ rest) once.0 r.0 r.1 (e ∙ sym r.2.1))
-      inside (a ∷ front) rest u t once (inl e) (inr s) =
-          let r : (x y : TxnId) × Has (front ++ rest) x × Has (front ++ rest) y × ((x ≡ u) × (y ≡ t)) = some_get _ (front ++ rest) s in
-          absurd (all_get _ (front ++ rest) once.0 r.1 r.3 (e ∙ sym r.4.1))
-      inside (a ∷ front) rest u t once (inr h) (inl s) =
-          let r : (y : TxnId) × Has (front ++ rest) y × ((a ≡ u) × (y ≡ t)) = any_get _ (front ++ rest) s in
-          inl (any_map _ _ front (λ y e. (r.2.0, e)) h)
-      inside (a ∷ front) rest u t once (inr h) (inr s) = inr (inside front rest u t once.1 h s)
+  down_front front rest down = record {
+    once = each_append_left _ front rest down.once;
+    preceders = λ u t h r. some_in_front _ (λ x. x) t front rest (λ x y e. e.1) down.once h (down.preceders u t (any_append_left _ front rest h) r);
+  }
 
   -- an id may be put at the end of a down list that has all that precedes it
   pub down_push : (ids : List TxnId) (t : TxnId) → IsDown order ids → ¬ (Has ids t) → ((u : TxnId) → order u t → Has ids u) → IsDown order (ids ++ t ∷ [])
-  down_push ids t down new all = record { once = each_append _ ids (t ∷ []) down.once (all_put _ ids (λ x h. (λ e. new (subst (Has ids) e h), tt))) (tt, tt); preceders = λ u v h r. at u v r (any_append _ ids (t ∷ []) h) }
+  down_push ids t down new all = record { once = distinct_push ids t down.once new; preceders = λ u v h r. at u v r (any_append _ ids (t ∷ []) h) }
     where
       at : (u v : TxnId) → order u v → Has ids v ⊎ Has (t ∷ []) v → StandsBefore (ids ++ t ∷ []) u v
       at u v r (inl h) = some_append_left _ ids (t ∷ []) (down.preceders u v h r)
       at u v r (inr (inl e)) = subst (StandsBefore (ids ++ t ∷ []) u) e (has_before u t ids [] (all u (subst (order u) (sym e) r)))
       at u v r (inr (inr e)) = absurd e
+
+  -- ids are down where all that precedes one of them is among them, and none precedes an earlier one
+  pub down_of_order : (ids : List TxnId) → Distinct ids → ((t : TxnId) → ¬ (order t t)) → ((u t : TxnId) → Has ids t → order u t → Has ids u) → EachThen (λ t later. ¬ (order later t)) ids → IsDown order ids
+  down_of_order ids once irreflexive closed sorted = record { once = once; preceders = λ u t h r. at u t h r (some_of_two (λ x y. Unit {0}) ids u t (closed u t h r) h (λ e. irreflexive t (subst (λ i. order i t) e r)) tt tt) }
+    where
+      at : (u t : TxnId) → Has ids t → order u t → SomeThen (λ a b. (a ≡ u) × (b ≡ t) × Unit {0}) ids ⊎ SomeThen (λ a b. (a ≡ t) × (b ≡ u) × Unit {0}) ids → StandsBefore ids u t
+      at u t h r (inl s) = some_map _ _ ids (λ a b e. (e.0, e.1)) s
+      at u t h r (inr s) = absurd (some_each _ _ ids sorted s (λ a b n e. n (subst₂ order (sym e.1) (sym e.0) r)))
 
   -- the chosen ids are a past of t: they are closed under the order, t is not chosen, and all that precedes t is
   pub record IsPast (chosen : TxnId → Bool) (t : TxnId) : Type 0 where
@@ -86,7 +87,7 @@ module _ (order : TxnId → TxnId → Type 0) where
     pub preceders : (u : TxnId) → order u t → chosen u ≡ true
 
   -- what stands before an id in a down list is a past of it
-  pub past_of_down : (front : List TxnId) (t : TxnId) (rest : List TxnId) → IsDown order (front ++ t ∷ rest) → IsPast (among front) t
+  pub past_of_down : (front : List TxnId) (t : TxnId) (rest : List TxnId) → IsDown order (front ++ t ∷ rest) → IsPast (is_among front) t
   past_of_down front t rest down = record {
     closed = λ u v r y. among_of_has front u (down_closed front u v (down_front front (t ∷ rest) down) r (has_of_among front v y));
     absent = not_among front t (λ h. each_across _ front (t ∷ rest) t t down.once h (inl refl) refl);
@@ -110,53 +111,6 @@ filter_ids p (x ∷ xs) = go (p x.id) (filter_ids p xs)
     go : (b : Bool) → txn_ids (filter (λ x. p x.id) xs) ≡ filter p (txn_ids xs) → txn_ids (cond b (x ∷ filter (λ x. p x.id) xs) (filter (λ x. p x.id) xs)) ≡ cond b (x.id ∷ filter p (txn_ids xs)) (filter p (txn_ids xs))
     go true e = ap (λ l. x.id ∷ l) e
     go false e = e
-
-pub has_filter : {A : Type 0} (p : A → Bool) (xs : List A) (x : A) → Has xs x → p x ≡ true → Has (filter p xs) x
-has_filter p [] x h y = h
-has_filter p (z ∷ xs) x h y = go (cases_Bool (p z)) h (λ k. has_filter p xs x k y)
-  where
-    go : (p z ≡ true) ⊎ (p z ≡ false) → Has (z ∷ xs) x → (Has xs x → Has (filter p xs) x) → Has (filter p (z ∷ xs)) x
-    go (inl s) (inl e) later = rw s (inl e)
-    go (inl s) (inr k) later = rw s (inr (later k))
-    go (inr n) (inl e) later = let s : p z ≡ true = ap p e ∙ y in cc
-    go (inr n) (inr k) later = rw n (later k)
-
-pub of_filter : {A : Type 0} (p : A → Bool) (xs : List A) → AllIn (λ x. Has xs x × (p x ≡ true)) (filter p xs)
-of_filter p [] = tt
-of_filter p (z ∷ xs) = go (cases_Bool (p z)) (all_map _ _ (filter p xs) (λ x h. (inr h.0, h.1)) (of_filter p xs))
-  where
-    go : (p z ≡ true) ⊎ (p z ≡ false) → AllIn (λ x. Has (z ∷ xs) x × (p x ≡ true)) (filter p xs) → AllIn (λ x. Has (z ∷ xs) x × (p x ≡ true)) (filter p (z ∷ xs))
-    go (inl s) later = rw s ((inl refl, s), later)
-    go (inr n) later = rw n later
-
-filter_all : {A : Type 0} (P : A → Type 0) (p : A → Bool) (xs : List A) → AllIn P xs → AllIn P (filter p xs)
-filter_all P p [] all = tt
-filter_all P p (x ∷ xs) all = go (p x) (filter_all P p xs all.1)
-  where
-    go : (b : Bool) → AllIn P (filter p xs) → AllIn P (cond b (x ∷ filter p xs) (filter p xs))
-    go true later = (all.0, later)
-    go false later = later
-
-filter_each : {A : Type 0} (R : A → A → Type 0) (p : A → Bool) (xs : List A) → EachThen R xs → EachThen R (filter p xs)
-filter_each R p [] each = tt
-filter_each R p (x ∷ xs) each = go (p x) (filter_each R p xs each.1)
-  where
-    go : (b : Bool) → EachThen R (filter p xs) → EachThen R (cond b (x ∷ filter p xs) (filter p xs))
-    go true later = (filter_all (R x) p xs each.0, later)
-    go false later = later
-
-filter_before : (p : TxnId → Bool) (xs : List TxnId) (u t : TxnId) → p u ≡ true → p t ≡ true → StandsBefore xs u t → StandsBefore (filter p xs) u t
-filter_before p [] u t pu pt s = s
-filter_before p (x ∷ xs) u t pu pt (inl s) =
-    let r : (y : TxnId) × Has xs y × ((x ≡ u) × (y ≡ t)) = any_get _ xs s in
-    let px : p x ≡ true = ap p r.2.0 ∙ pu in
-    let later : Has (filter p xs) t = has_filter p xs t (subst (Has xs) r.2.1 r.1) pt in
-    rw px (inl (any_map _ _ (filter p xs) (λ y e. (r.2.0, e)) later))
-filter_before p (x ∷ xs) u t pu pt (inr s) = go (p x) (filter_before p xs u t pu pt s)
-  where
-    go : (b : Bool) → StandsBefore (filter p xs) u t → StandsBefore (cond b (x ∷ filter p xs) (filter p xs)) u t
-    go true later = inr later
-    go false later = later
 
 -- what a choice that is closed under the order keeps of a down list is down
 pub down_filter : (order : TxnId → TxnId → Type 0) (p : TxnId → Bool) (ids : List TxnId) → IsDown order ids → ((u t : TxnId) → order u t → p t ≡ true → p u ≡ true) → IsDown order (filter p ids)

@@ -1,18 +1,18 @@
 -- What an effect does to the rows of a table, one key at a time.
-use Rattle.std.proofs.Common.{◌≡◌, ◌≢◌, ◌⊎◌, ℕ, zero, suc, ◌+◌, Bool, true, false, cond, nat_eq, List, [], ◌∷◌, ◌++◌, length, map, slice_get, Some, None, IsSomeAnd, nat_cmp, refl, sym, ap, ap₂, subst, ◌∙◌, append_assoc, append-nil, inl, inr, arith}
-use Rattle.std.specs.Prelude.{Option, filter, unwrap_or}
+use Rattle.std.proofs.Common.{◌≡◌, ◌≢◌, ℕ, true, false, cond, List, [], ◌∷◌, ◌++◌, Some, None, IsSomeAnd, nat_cmp, refl, sym, ap, subst, ◌∙◌, append-nil, inl, inr}
+use Rattle.std.specs.Prelude.{Option, unwrap_or}
 use Rattle.std.specs.Ordering.{eq_by_cmp}
-use Rattle.std.specs.Cmp.Lexicographic.{slice_cmp, pointwise, bytes_decides, texts_ties}
-use Rattle.std.specs.FinMap.{FinMap, get, insert, get-insert, same_map, get-from_entries, find, slice_cmp-IsAntisymmetric, nat_cmp-IsAntisymmetric}
+use Rattle.std.specs.Cmp.Lexicographic.{slice_cmp, bytes_decides, texts_ties}
+use Rattle.std.specs.FinMap.{get, get-insert, same_map, get-from_entries, slice_cmp-IsAntisymmetric, nat_cmp-IsAntisymmetric}
 use Rattle.std.proofs.lemmas.Cmp.{nat_list_cmp_total}
-use Rattle.std.proofs.lemmas.Bool.{false_from_ne_true, cases_Bool}
-use Rattle.dt_lists.specs.Lists.{AnyIn, AllIn, Has, Either}
+use Rattle.std.proofs.lemmas.Bool.{false_from_ne_true}
+use Rattle.dt_lists.specs.Lists.{AnyIn, Either}
 use Rattle.dt_lists.proofs.Decided.{either_list, either_nat, either_any, either_or}
 use Rattle.dt_access.specs.Clash.{Bytes, same_key}
 use Rattle.dt_access.specs.declared.TxnId.{TxnId}
 use Rattle.dt_text.specs.declared.Value.{Value}
 use Rattle.dt_table.specs.declared.Effect.{Effect}
-use Rattle.dt_table.specs.Table.{Table, Row, Moved, no_row, row_of, value_of, moves_of, counter_of, with_row, written, all_written, moved, maybe_moved, apply, opening}
+use Rattle.dt_table.specs.Table.{Table, Row, Moved, no_row, row_of, value_of, moves_of, with_row, written, all_written, moved, maybe_moved, apply, opening}
 use Rattle.dt_serial.specs.Order.{Changes}
 
 pub either_key : (a b : Bytes) → Either (a ≡ b)

@@ -1,22 +1,22 @@
 -- Serial runs and replays: they go on where a front of them ends; moves only get more; and what a replay reads.
-use Rattle.std.proofs.Common.{◌≡◌, ◌≢◌, ◌<◌, ◌≤◌, ◌⊎◌, ℕ, zero, suc, ◌+◌, Bool, true, false, cond, List, [], ◌∷◌, ◌++◌, length, map, slice_get, Some, None, refl, sym, ap, ap₂, subst, ◌∙◌, append_assoc, append-nil, length-append, inl, inr, arith}
-use Rattle.std.specs.Prelude.{Option, filter}
+use Rattle.std.proofs.Common.{◌≡◌, ◌<◌, ◌≤◌, ◌⊎◌, ℕ, zero, suc, ◌+◌, Bool, true, false, cond, List, [], ◌∷◌, ◌++◌, length, map, slice_get, Some, refl, sym, ap, ap₂, subst, ◌∙◌, append-nil, length-append, inl, inr, arith}
+use Rattle.std.specs.Prelude.{filter}
 use Rattle.std.proofs.lemmas.Bool.{cases_Bool, cases_lt}
 use Rattle.std.proofs.lemmas.Option.{slice_get_within}
 use Rattle.std.proofs.lemmas.List.Elements.{filter-append}
-use Rattle.dt_lists.specs.Lists.{AnyIn, AllIn, Has, IsFront}
+use Rattle.dt_lists.specs.Lists.{AllIn, Has, IsFront}
 use Rattle.dt_lists.proofs.Words.{any_append_right, has_map}
-use Rattle.dt_lists.proofs.Fronts.{front_refl, front_trans, front_append}
-use Rattle.dt_lists.proofs.Before.{Spot, spot, spot_has, get_front, get_seam, all_of_gets}
+use Rattle.dt_lists.proofs.Fronts.{front_refl, front_trans}
+use Rattle.dt_lists.proofs.Before.{Spot, spot_has, get_front, get_seam, all_of_gets}
 use Rattle.dt_access.specs.Clash.{Bytes}
 use Rattle.dt_access.specs.declared.TxnId.{TxnId}
 use Rattle.dt_table.specs.declared.Effect.{Effect}
-use Rattle.dt_table.specs.Table.{Table, Moved, value_of, moves_of, counter_of, next_mover, apply}
+use Rattle.dt_table.specs.Table.{Table, Moved, value_of, moves_of, counter_of, apply}
 use Rattle.dt_txn.specs.declared.txn.Txn.{Txn}
 use Rattle.dt_txn.specs.declared.outcome.Outcome.{Outcome}
 use Rattle.dt_txn.specs.Execution.{one}
 use Rattle.dt_txn.specs.Serial.{after, outcomes, table_after}
-use Rattle.dt_serial.specs.Order.{txn_ids, Changes}
+use Rattle.dt_serial.specs.Order.{txn_ids, FollowsMove, Changes}
 use Rattle.dt_serial.specs.Replay.{replay}
 use Rattle.dt_serial.proofs.Rows.{moved_on, apply_moves, apply_value, apply_keeps_value, apply_swap}
 use Rattle.dt_serial.proofs.One.{IsMoveOf, move_of_one, moved_on_cases}
@@ -62,6 +62,11 @@ pub moves_grow : (xs : List Txn) (t : Table) (key : Bytes) → IsFront (moves_of
 moves_grow [] t key = front_refl (moves_of t key)
 moves_grow (x ∷ xs) t key = front_trans _ _ _ (moved_on (one x t).1.moved key, sym (after_moves x t key)) (moves_grow xs (after x t) key)
 
+-- what follows a move goes on following it while more moves are made
+pub follows_longer : (order : TxnId → TxnId → Type 0) (ms ns : List Moved) (c : ℕ) (t : TxnId) → IsFront ms ns → FollowsMove order ms c t → FollowsMove order ns c t
+follows_longer order ms ns zero t front f = f
+follows_longer order ms ns (suc c) t front f = (f.0, get_front ms ns c f.0 front f.1, f.2)
+
 -- where in a run the move of this number was made
 pub record IsMoveAt (xs : List Txn) (t : Table) (key : Bytes) (i : ℕ) (m : Moved) : Type 0 where
   pub mover : Txn
@@ -75,6 +80,7 @@ move_at (x ∷ xs) t key i m low e = go (cases_lt i (counter_of (after x t) key)
   where
     here : counter_of (after x t) key ≡ counter_of t key + length (moved_on (one x t).1.moved key)
     here = ap length (after_moves x t key) ∙ length-append (moves_of t key) (moved_on (one x t).1.moved key)
+
     made : i < counter_of (after x t) key → (moved_on (one x t).1.moved key ≡ []) ⊎ ((n : Moved) × (moved_on (one x t).1.moved key ≡ n ∷ [])) → IsMoveAt (x ∷ xs) t key i m
     made lt (inl none) = let n : length (moved_on (one x t).1.moved key) ≡ 0 = ap length none in absurd (omega (arith, here))
     made lt (inr r) =
@@ -85,6 +91,7 @@ move_at (x ∷ xs) t key i m low e = go (cases_lt i (counter_of (after x t) key)
         let last : slice_get (moves_of (table_after xs (after x t)) key) i ≡ Some r.0 = get_front _ _ i r.0 (moves_grow xs (after x t) key) there in
         let same : r.0 ≡ m = cc in
         record { mover = x; at = record { front = []; rest = xs; is = refl }; number = number; makes = move_of_one x t key m (r.1 ∙ ap (λ z. z ∷ []) same) }
+
     go : (i < counter_of (after x t) key) ⊎ (counter_of (after x t) key ≤ i) → (counter_of (after x t) key ≤ i → slice_get (moves_of (table_after xs (after x t)) key) i ≡ Some m → IsMoveAt xs (after x t) key i m) → IsMoveAt (x ∷ xs) t key i m
     go (inl lt) later = made lt (moved_on_cases (one x t).1.moved key)
     go (inr le) later =
@@ -138,18 +145,22 @@ replay_moves p (x ∷ xs) t c key e = replay_moves p xs (after x t) _ key (go (c
   where
     made : List Moved
     made = moved_on (one x t).1.moved key
+
     goal : moves_of (cond (p x.id) (apply (one x t).1 c) c) key ≡ chosen_moves p (moves_of t key) ++ chosen_moves p made → moves_of (cond (p x.id) (apply (one x t).1 c) c) key ≡ chosen_moves p (moves_of (after x t) key)
     goal s = s ∙ sym (filter-append (λ m. p m.by) (moves_of t key) made) ∙ ap (chosen_moves p) (sym (after_moves x t key))
+
     kept : p x.id ≡ true → (moved_on (one x t).1.moved key ≡ []) ⊎ ((m : Moved) × (moved_on (one x t).1.moved key ≡ m ∷ [])) → chosen_moves p made ≡ made
     kept y (inl none) = ap (chosen_moves p) none ∙ sym none
     kept y (inr r) =
         let by : p (r.0).by ≡ true = ap p (sym (move_of_one x t key r.0 r.1).by) ∙ y in
         ap (chosen_moves p) r.1 ∙ ap (λ b. cond b (r.0 ∷ []) []) by ∙ sym r.1
+
     dropped : p x.id ≡ false → (moved_on (one x t).1.moved key ≡ []) ⊎ ((m : Moved) × (moved_on (one x t).1.moved key ≡ m ∷ [])) → chosen_moves p made ≡ []
     dropped n (inl none) = ap (chosen_moves p) none
     dropped n (inr r) =
         let by : p (r.0).by ≡ false = ap p (sym (move_of_one x t key r.0 r.1).by) ∙ n in
         ap (chosen_moves p) r.1 ∙ ap (λ b. cond b (r.0 ∷ []) []) by
+
     go : (p x.id ≡ true) ⊎ (p x.id ≡ false) → (moved_on (one x t).1.moved key ≡ []) ⊎ ((m : Moved) × (moved_on (one x t).1.moved key ≡ m ∷ [])) → moves_of (cond (p x.id) (apply (one x t).1 c) c) key ≡ chosen_moves p (moves_of (after x t) key)
     go (inl y) s = goal (ap (λ b. moves_of (cond b (apply (one x t).1 c) c) key) y ∙ apply_moves (one x t).1 c key ∙ ap₂ ◌++◌ e (sym (kept y s)))
     go (inr n) s = goal (ap (λ b. moves_of (cond b (apply (one x t).1 c) c) key) n ∙ e ∙ sym (append-nil (chosen_moves p (moves_of t key))) ∙ ap (λ l. chosen_moves p (moves_of t key) ++ l) (sym (dropped n s)))
@@ -162,9 +173,11 @@ replay_value p q (x ∷ xs) t c d key all e = replay_value p q xs (after x t) _ 
     keeps : (b : Bool) (u : Table) → ¬ (Changes (one x t).1 key) → value_of (cond b (apply (one x t).1 u) u) key ≡ value_of u key
     keeps true u n = apply_keeps_value (one x t).1 u key n
     keeps false u n = refl
+
     both : (b : Bool) → value_of (cond b (apply (one x t).1 c) c) key ≡ value_of (cond b (apply (one x t).1 d) d) key
     both true = apply_value (one x t).1 c d key e
     both false = e
+
     go : (¬ (Changes (one x t).1 key)) ⊎ (p x.id ≡ q x.id) → value_of (cond (p x.id) (apply (one x t).1 c) c) key ≡ value_of (cond (q x.id) (apply (one x t).1 d) d) key
     go (inl n) = keeps (p x.id) c n ∙ e ∙ sym (keeps (q x.id) d n)
     go (inr same) = both (p x.id) ∙ ap (λ b. value_of (cond b (apply (one x t).1 d) d) key) same

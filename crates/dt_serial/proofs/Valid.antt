@@ -1,12 +1,10 @@
 -- A valid transaction changes only keys that it may write. Of what procedures mean, only this is used elsewhere.
-use Rattle.std.proofs.Common.{◌≡◌, ◌⊎◌, ℕ, zero, suc, List, [], ◌∷◌, map, Some, None, refl, sym, ap, subst, inl, inr}
+use Rattle.std.proofs.Common.{◌≡◌, ℕ, zero, List, [], ◌∷◌, refl, sym, subst, inl, inr}
 use Rattle.std.specs.Prelude.{Option}
-use Rattle.dt_lists.specs.Lists.{AnyIn, AllIn}
+use Rattle.dt_lists.specs.Lists.{AnyIn}
 use Rattle.dt_lists.proofs.Words.{any_of_image}
 use Rattle.dt_access.specs.Clash.{Bytes}
 use Rattle.dt_access.specs.declared.TxnId.{TxnId}
-use Rattle.dt_access.specs.declared.Access.{Access}
-use Rattle.dt_access.specs.declared.Mode.{Mode}
 use Rattle.dt_access.specs.declared.Mode.TheVariants.{Write}
 use Rattle.dt_text.specs.declared.Value.{Value}
 use Rattle.dt_text.specs.declared.Value.TheVariants.{Int, Text}
@@ -16,7 +14,7 @@ use Rattle.dt_txn.specs.declared.txn.Body.TheVariants.{Call, Move}
 use Rattle.dt_txn.specs.declared.txn.Txn.{Txn}
 use Rattle.dt_txn.specs.Transaction.{uses_of, BodyFits, IsValid}
 use Rattle.dt_txn.specs.Execution.{of_finish, result_of}
-use Rattle.dt_serial.specs.Order.{Changes, MayWrite, KeepsToKeys}
+use Rattle.dt_serial.specs.Order.{Changes, KeepsToKeys}
 
 -- a call whose arguments fit changes only keys that it uses in the mode for writing, whatever it reads
 pub call_keeps : (proc : ℕ) (args : List Value) (reads : List (Bytes × Option Value)) (key : Bytes) → Fits proc args → Changes (of_finish (meaning proc args reads)).1 key → AnyIn (λ u. (u.0 ≡ key) × (u.1 ≡ Write)) (keys_of proc args)

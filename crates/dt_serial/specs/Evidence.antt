@@ -1,10 +1,9 @@
 -- What an outcome other than given values stands on, in the serial run that it is from.
 use Rattle.std.specs.Prelude.{◌≡◌, ℕ, List, [], ◌∷◌, ◌++◌, slice_get, Some}
-use Rattle.dt_lists.specs.Lists.{AnyIn, AllIn, Has}
+use Rattle.dt_lists.specs.Lists.{AnyIn, Has}
 use Rattle.dt_access.specs.Clash.{Bytes}
 use Rattle.dt_access.specs.declared.TxnId.{TxnId}
-use Rattle.dt_table.specs.Table.{Table, Moved, moves_of}
-use Rattle.dt_txn.specs.declared.txn.Body.{Body}
+use Rattle.dt_table.specs.Table.{Table, moves_of}
 use Rattle.dt_txn.specs.declared.txn.Body.TheVariants.{Move}
 use Rattle.dt_txn.specs.declared.txn.Txn.{Txn}
 use Rattle.dt_txn.specs.declared.outcome.Outcome.{Outcome}
@@ -16,8 +15,11 @@ use Rattle.dt_serial.specs.Order.{IsLive}
 -- one of the transactions, `by`, is a move of the key and gave; in their last table it is the key's move that follows the
 -- first `had` ones
 pub record MadeMove (txns : List Txn) (start : Table) (key : Bytes) (had : ℕ) (by : TxnId) : Type 0 where
+  pub mover : Txn
   pub target : ℕ
-  pub body : AnyIn (λ x. (x.id ≡ by) × (x.body ≡ Move key target)) txns
+  pub there : Has txns mover
+  pub id : mover.id ≡ by
+  pub body : mover.body ≡ Move key target
   pub gave : Has (outcomes txns start) (by, Gave [])
   pub number : slice_get (moves_of (table_after txns start) key) had ≡ Some (record { target = target; by = by })
 

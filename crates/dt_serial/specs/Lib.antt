@@ -1,7 +1,6 @@
 pub mod Order
 pub mod Replay
 pub mod Evidence
-pub mod Laws
 pub use Rattle.dt_txn.specs.Transaction
 pub use Rattle.dt_txn.specs.Execution
 pub use Rattle.dt_txn.specs.Serial

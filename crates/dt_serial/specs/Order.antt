@@ -1,5 +1,5 @@
--- What an order of ids must have to do with a serial run, so that runs in other orders agree with it.
-use Rattle.std.specs.Prelude.{◌≡◌, ◌≢◌, ◌⊎◌, ℕ, zero, suc, true, List, [], map, slice_get, Option, Some, None, IsSomeAnd}
+-- When an order of ids fits a serial run of transactions, so that runs of them in other orders agree with it.
+use Rattle.std.specs.Prelude.{◌≡◌, ◌≢◌, ◌⊎◌, ℕ, zero, suc, Bool, true, List, [], map, slice_get, Option, Some, None, IsSomeAnd}
 use Rattle.dt_lists.specs.Lists.{AnyIn, AllIn, SomeThen, Has, Distinct}
 use Rattle.dt_access.specs.Clash.{Bytes, uses_clash}
 use Rattle.dt_access.specs.declared.TxnId.{TxnId}
@@ -32,17 +32,17 @@ pub record IsDown (order : TxnId → TxnId → Type 0) (ids : List TxnId) : Type
   pub once : Distinct ids
   pub preceders : (u t : TxnId) → Has ids t → order u t → StandsBefore ids u t
 
--- the last of the first so many moves of a key is there, and its mover precedes t; of no moves there is no last one
+-- t comes after so many of these moves: the last one of so many is there, and its mover precedes t; of none there is none
 abbrev pub FollowsMove : (TxnId → TxnId → Type 0) → List Moved → ℕ → TxnId → Type 0
 FollowsMove order moves zero t = Unit {0}
 FollowsMove order moves (suc c) t = (m : Moved) × (slice_get moves c ≡ Some m) × order m.by t
 
--- each transaction is anchored in the moves of a table: for each key that it uses, the last of the moves that it was
--- annotated with is there, and the mover precedes it
+-- each transaction comes after the moves that it was annotated with: for each key that it uses, after as many of the
+-- table's moves of that key
 abbrev pub IsAnchored : (TxnId → TxnId → Type 0) → Table → List Txn → Type 0
 IsAnchored order table txns = AllIn (λ x. AllIn (λ a. FollowsMove order (moves_of table a.key) a.counter x.id) x.access) txns
 
--- of two transactions with uses of a row that clash, annotated with the same number of moves, one precedes the other
+-- of two transactions that have uses which clash and are annotated with the same number of moves one precedes the other
 abbrev pub IsShared : (TxnId → TxnId → Type 0) → List Txn → Type 0
 IsShared order txns =
     (x y : Txn) → Has txns x → Has txns y → x.id ≢ y.id
@@ -78,3 +78,17 @@ pub record IsHistory (order : TxnId → TxnId → Type 0) (start : Table) (txns 
   pub down : IsDown order (txn_ids txns)
   pub anchored : IsAnchored order (table_after txns start) txns
   pub shared : IsShared order txns
+
+-- the transactions are some of those of a history, each after all that precedes it
+pub record IsPart (order : TxnId → TxnId → Type 0) (start : Table) (history txns : List Txn) : Type 0 where
+  pub fits : IsHistory order start history
+  pub members : AllIn (λ x. Has history x) txns
+  pub down : IsDown order (txn_ids txns)
+
+-- the order that a test tells
+abbrev pub ByTest : (TxnId → TxnId → Bool) → TxnId → TxnId → Type 0
+ByTest precedes u t = precedes u t ≡ true
+
+-- the keys that a transaction uses, each with its mode
+abbrev pub uses_in : Txn → List (Bytes × Mode)
+uses_in x = map (λ a. (a.key, a.mode)) x.access

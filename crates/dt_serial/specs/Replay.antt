@@ -8,8 +8,8 @@ use Rattle.dt_txn.specs.Execution.{one}
 use Rattle.dt_txn.specs.Serial.{after}
 
 -- whether the id is one of these
-abbrev pub among : List TxnId → TxnId → Bool
-among ids id = list_any (λ i. same_id i id) ids
+abbrev pub is_among : List TxnId → TxnId → Bool
+is_among ids id = list_any (same_id id) ids
 
 -- the second table after the effects that the chosen ones of these transactions have when all run from the first table
 abbrev pub replay : (TxnId → Bool) → List Txn → Table → Table → Table

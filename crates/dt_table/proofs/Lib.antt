@@ -2,3 +2,5 @@ pub mod Entries
 pub mod Histories
 pub mod Rows
 pub mod Written
+pub mod Opened
+pub mod Sorted

@@ -1,13 +1,15 @@
-ghost use Rattle.std.specs.Prelude.{◌≡◌, ◌+◌, ◌<◌, ◌≤◌, ◌^◌, Some, length};
+ghost use Rattle.std.specs.Prelude.{◌≡◌, ◌+◌, ◌<◌, ◌≤◌, ◌^◌, Some, IfOk, length, map};
 ghost use Rattle.indexmap.specs.IndexMap.{insert_entry, spare};
 ghost use Rattle.dt_access.specs.Clash.{same_key};
+ghost use Rattle.dt_access.specs.Orders.{HasDistinctKeys};
 ghost use Rattle.dt_table.specs.Table.{opening_home as opening_home_of};
-ghost use Rattle.dt_table.specs.Stored.{stored_of};
+ghost use Rattle.dt_table.specs.Stored.{opening_row, stored_of};
 ghost use Rattle.dt_table.specs.History.{history, mover_in, IsBelow, AreLinked};
 
 use dt_access::TxnId;
-use dt_text::{Key, Value};
+use dt_text::{Key, NoMemory, Value};
 use indexmap::IndexMap;
+use std::alloc::Global;
 
 /// A row as a table keeps it.
 #[derive(Drop)]
@@ -28,6 +30,42 @@ pub struct StoredMove {
     pub by: TxnId,
     /// The place of the move of the same row that it follows.
     pub before: Option<u32>,
+}
+
+/// The listed homes, by key.
+pub fn index_homes(alloc: Global, homes: &[(Key, u8)]) -> Result<IndexMap<Key, u8>, NoMemory>
+    requires { HasDistinctKeys homes.now }
+    ensures { IfOk result (λ index. index.entries ≡ homes.now) }
+{
+    let mut index = IndexMap::with_capacity(alloc, homes.len())?;
+    for (key, home) in homes {
+        index.insert(key.copy(alloc)?, *home)?;
+    }
+    Ok(index)
+}
+
+/// The rows that have values before any transaction.
+pub fn opening_rows(
+    alloc: Global,
+    regions: u8,
+    homes: &IndexMap<Key, u8>,
+    rows: &[(Key, Value)],
+) -> Result<IndexMap<Key, StoredRow>, NoMemory>
+    requires regions { 0 < regions }
+    requires rows { HasDistinctKeys rows.now }
+    ensures { IfOk result (λ opened. opened.entries ≡ map (opening_row regions homes.now.entries) rows.now) }
+{
+    let mut opened = IndexMap::with_capacity(alloc, rows.len())?;
+    for (key, value) in rows {
+        let row = StoredRow {
+            value: Some(value.copy(alloc)?),
+            home: opening_home(homes, regions, key),
+            counter: 0,
+            last: None,
+        };
+        opened.insert(key.copy(alloc)?, row)?;
+    }
+    Ok(opened)
 }
 
 /// The home of a key that was never moved.

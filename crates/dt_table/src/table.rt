@@ -1,11 +1,13 @@
 ghost use Rattle.std.specs.Prelude.{◌≡◌, ◌+◌, ◌-◌, ◌<◌, ◌≤◌, ◌↔◌, ℕ, length, map, IsTrue, IsOk, IsSome, IfOk, OnOk, OnErr, None};
 ghost use Rattle.std.specs.Option.{option_copied};
-ghost use Rattle.dt_lists.specs.Lists.{AllIn, Distinct};
+ghost use Rattle.dt_access.specs.Orders.{HasDistinctKeys};
 ghost use Rattle.dt_table.specs.Table.{value_of, home_of, counter_of, next_mover, written, moved, apply, opening, shown, places_for};
 
 use crate::effect::Effect;
-use crate::shown::{Shown, ShownList};
-use crate::stored::{StoredMove, StoredRow, mover_of, opening_home, put_move, put_value};
+use crate::shown::{ShownList, shown_rows};
+use crate::stored::{
+    StoredMove, StoredRow, index_homes, mover_of, opening_home, opening_rows, put_move, put_value,
+};
 use dt_access::TxnId;
 use dt_text::{Key, NoMemory, Value};
 use indexmap::IndexMap;
@@ -46,6 +48,29 @@ impl Model for Table {
 }
 
 impl Table {
+    /// A table before any transaction, of a cluster with so many regions: these rows have these values, and none was
+    /// moved. A key that `homes` does not list has its first byte modulo `regions` as its home.
+    pub fn new(
+        alloc: Global,
+        regions: u8,
+        homes: &[(Key, u8)],
+        rows: &[(Key, Value)],
+    ) -> Result<Self, NoMemory>
+        requires regions { 0 < regions }
+        requires homes { HasDistinctKeys homes.now }
+        requires rows { HasDistinctKeys rows.now }
+        ensures { IfOk result (λ table. table.state ≡ opening regions homes.now rows.now) }
+    {
+        let homes = index_homes(alloc, homes)?;
+        let rows = opening_rows(alloc, regions, &homes, rows)?;
+        Ok(Table {
+            regions,
+            homes,
+            rows,
+            moves: Vec::new(alloc),
+        })
+    }
+
     /// The value of a key. None exactly where it has none.
     pub fn get(&self, key: &Key) -> Option<&Value>
         ensures { option_copied result ≡ value_of self.now.state key.now }
@@ -107,6 +132,13 @@ impl Table {
         if let Some((key, target, by)) = moved {
             self.record_move(key, target, by);
         }
+    }
+
+    /// What a report shows: each key with a value or a move, in ascending order of keys.
+    pub fn shown(&self, alloc: Global) -> Result<ShownList, NoMemory>
+        ensures { IfOk result (λ list. list ≡ shown self.now.state) }
+    {
+        shown_rows(alloc, &self.rows)
     }
 
     // Gives a key its value or none.

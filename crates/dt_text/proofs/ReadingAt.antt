@@ -8,8 +8,8 @@ use Rattle.dt_text.specs.Words.{is_visible}
 use Rattle.dt_text.specs.Reading.{with_word, words_from, text_from, after_text, words_of}
 use Rattle.dt_text.specs.ReadingParts.{WordAt, BareEndsAt, TextEndsAt, ItemAt}
 use Rattle.dt_text.proofs.ReadingSteps as step
-use Rattle.dt_text.specs.declared.words.Word.{Word}
-use Rattle.dt_text.specs.declared.words.Word.TheVariants.{Bare, Text}
+use Rattle.dt_text.specs.declared.word.Word.{Word}
+use Rattle.dt_text.specs.declared.word.Word.TheVariants.{Bare, Text}
 
 from_place : (line : List ℕ) (at : ℕ) → at < length line → drop at line ≡ get_or line at 0 ∷ drop (at + 1) line
 from_place line at inside = rw (add-one, drop-cons line at 0) refl

@@ -7,8 +7,8 @@ use Rattle.dt_text.specs.Texts.{is_text_byte, IsStr}
 use Rattle.dt_text.specs.Printed.{text_item, text_items, text_word}
 use Rattle.dt_text.specs.Words.{is_visible, IsBareWord, Spells, AreSpaces, MayFollowWord, AreWordsFrom}
 use Rattle.dt_text.specs.Reading.{with_word, words_from, bare_from, text_from, escape_from, after_text, words_of, WordsAreExact, PrintedTextsReadBack}
-use Rattle.dt_text.specs.declared.words.Word.{Word}
-use Rattle.dt_text.specs.declared.words.Word.TheVariants.{Bare, Text}
+use Rattle.dt_text.specs.declared.word.Word.{Word}
+use Rattle.dt_text.specs.declared.word.Word.TheVariants.{Bare, Text}
 use Rattle.dt_text.proofs.ReadingSteps as step
 
 both : (a b : Bool) → (a && b) ≡ true → (a ≡ true) × (b ≡ true)

@@ -4,7 +4,7 @@ use Rattle.std.proofs.lemmas.Bool.Decides.{nat_tests}
 use Rattle.dt_text.specs.Texts.{is_text_byte}
 use Rattle.dt_text.specs.Words.{is_visible}
 use Rattle.dt_text.specs.Reading.{with_word, words_from, bare_from, text_from, escape_from, after_text}
-use Rattle.dt_text.specs.declared.words.Word.TheVariants.{Bare, Text}
+use Rattle.dt_text.specs.declared.word.Word.TheVariants.{Bare, Text}
 
 other : (a b : ℕ) → a ≢ b → (a == b) ≡ false
 other a b h = grind (arith, nat_tests)

@@ -5,8 +5,8 @@ use Rattle.std.specs.Option.{option_map}
 use Rattle.dt_text.specs.Texts.{is_text_byte, IsStr}
 use Rattle.dt_text.specs.Printed.{text_word}
 use Rattle.dt_text.specs.Words.{is_visible, AreWords}
-use Rattle.dt_text.specs.declared.words.Word.{Word}
-use Rattle.dt_text.specs.declared.words.Word.TheVariants.{Bare, Text}
+use Rattle.dt_text.specs.declared.word.Word.{Word}
+use Rattle.dt_text.specs.declared.word.Word.TheVariants.{Bare, Text}
 
 -- the words, with one before them
 abbrev pub with_word : Word → Option (List Word) → Option (List Word)

@@ -2,8 +2,8 @@
 use Rattle.std.specs.Prelude.{◌≡◌, ℕ, ◌<◌, ◌≤◌, ◌∷◌, ◌++◌, [], if◌then◌else◌, nat_lt, List, length, drop, Option, Some, None, IsTrue}
 use Rattle.dt_text.specs.Texts.{is_text_byte}
 use Rattle.dt_text.specs.Reading.{with_word, words_from, bare_from, text_from, after_text, IsWordIn}
-use Rattle.dt_text.specs.declared.words.Word.{Word}
-use Rattle.dt_text.specs.declared.words.Word.TheVariants.{Bare, Text}
+use Rattle.dt_text.specs.declared.word.Word.{Word}
+use Rattle.dt_text.specs.declared.word.Word.TheVariants.{Bare, Text}
 
 -- a word begins at the place and ends before another, and the words from the first place on are it and those from the second on
 abbrev pub WordAt : List ℕ → ℕ → Option (Word × ℕ) → Type 0

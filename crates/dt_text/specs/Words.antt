@@ -3,8 +3,8 @@ use Rattle.std.specs.Prelude.{◌≡◌, ◌≢◌, ℕ, ◌+◌, ◌<◌, Bool,
 use Rattle.std.specs.List.{list_all}
 use Rattle.dt_text.specs.Printed.{text_word}
 use Rattle.dt_text.specs.Texts.{IsStr}
-use Rattle.dt_text.specs.declared.words.Word.{Word}
-use Rattle.dt_text.specs.declared.words.Word.TheVariants.{Bare, Text}
+use Rattle.dt_text.specs.declared.word.Word.{Word}
+use Rattle.dt_text.specs.declared.word.Word.TheVariants.{Bare, Text}
 
 -- a visible character of ASCII
 abbrev pub is_visible : ℕ → Bool

@@ -12,7 +12,7 @@ mod numbers;
 mod printed;
 mod text;
 mod value;
-mod words;
+mod word;
 
 pub use errors::{KeyError, StrError};
 pub use key::Key;
@@ -25,4 +25,7 @@ pub use numbers::{put_i64, put_u64, read_i64, read_u32};
 pub use printed::{put_text, put_value};
 pub use text::Str;
 pub use value::Value;
-pub use words::{Word, Words};
+pub use word::{Word, Words, words};
+
+#[cfg(test)]
+mod tests;

@@ -40,6 +40,10 @@ abbrev pub targets_of : Body → List ℕ
 targets_of (Call proc args) = []
 targets_of (Move key target) = target ∷ []
 
+-- the key and the mode of an access entry
+abbrev pub used_of : Access → Bytes × Mode
+used_of a = (a.key, a.mode)
+
 -- the homes of a transaction: those of its keys, and for a move also its target
 abbrev pub homes_of : Txn → List ℕ
 homes_of txn = set_of (map (λ a. a.home) txn.access ++ targets_of txn.body)
@@ -54,13 +58,18 @@ abbrev pub part_of : Txn → ℕ → Part
 part_of txn home = record {
   id = txn.id;
   home = home;
-  keys = map (λ a. (a.key, a.mode)) (entries_at txn.body home txn.access);
+  keys = map used_of (entries_at txn.body home txn.access);
   homes = homes_of txn;
 }
 
 -- the parts of a transaction, one for each home, in ascending order of homes
 abbrev pub parts_of : Txn → List Part
 parts_of txn = map (part_of txn) (homes_of txn)
+
+-- a body can be run: a call's arguments fit and name keys
+abbrev pub CanRun : Body → Type 0
+CanRun (Call proc args) = Fits proc args × HasKeys proc args
+CanRun (Move key target) = Unit {0}
 
 -- the body's arguments fit and name keys, and a move leads to a region
 abbrev pub BodyFits : ℕ → Body → Type 0
@@ -71,5 +80,5 @@ BodyFits regions (Move key target) = target < regions
 -- homes are regions
 pub record IsValid (regions : ℕ) (txn : Txn) : Type 0 where
   pub body : BodyFits regions txn.body
-  pub uses : map (λ a. (a.key, a.mode)) txn.access ≡ uses_of txn.body
+  pub uses : map used_of txn.access ≡ uses_of txn.body
   pub homes : AllIn (λ home. home < regions) (homes_of txn)

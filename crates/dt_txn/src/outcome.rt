@@ -1,10 +1,9 @@
 ghost use Rattle.std.specs.Prelude.{◌≡◌, IfOk};
 
-use std::alloc::Global;
-
 use dt_access::{TryCopy, TxnId};
 use dt_eval::{Cause, Values};
 use dt_text::{Key, Listed, NoMemory, Value};
+use std::alloc::Global;
 
 /// What a transaction came to.
 #[derive(Drop)]
@@ -15,11 +14,7 @@ pub enum Outcome {
     Aborted(Cause),
     /// A row was moved since the transaction was annotated, so it changed nothing: the key, the number of moves that
     /// it was annotated with, and the transaction that made the next one.
-    Stale {
-        key: Key,
-        had: u32,
-        by: TxnId,
-    },
+    Stale { key: Key, had: u32, by: TxnId },
 }
 
 impl Outcome {

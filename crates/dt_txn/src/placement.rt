@@ -1,14 +1,12 @@
 ghost use Rattle.std.specs.Prelude.{◌≡◌, ◌↔◌, ◌==◌, ◌++◌, ◌≤◌, insert, IfSome, IfNone, nat_lt, ℕ, IsTrue, IfOk, OnOk, OnErr, map, List, length};
 ghost use Rattle.std.specs.List.{prefix_len};
 ghost use Rattle.dt_access.specs.Orders.{AreAscendingHomes, HasAscendingKeys};
-ghost use Rattle.dt_txn.specs.Transaction.{IsValid, homes_of, part_of, parts_of, set_of, with_number, targets_of, entries_at};
-
-use std::alloc::Global;
-
-use dt_access::{Access, Homes, Keys, Part};
-use dt_text::NoMemory;
+ghost use Rattle.dt_txn.specs.Transaction.{homes_of, part_of, parts_of, set_of, with_number, targets_of, entries_at, used_of};
 
 use crate::txn::{Body, Txn};
+use dt_access::{Access, Homes, Keys, Part};
+use dt_text::NoMemory;
+use std::alloc::Global;
 
 /// The homes of a transaction, in ascending order: those of its keys, and for a move also its target.
 pub fn homes(alloc: Global, txn: &Txn) -> Result<Homes, NoMemory>
@@ -68,8 +66,8 @@ fn place_of(homes: &[u8], home: u8) -> usize
 
 /// The keys with their modes of the part that a transaction with this body and access list has at a home.
 fn keys_at(alloc: Global, body: &Body, home: u8, access: &[Access]) -> Result<Keys, NoMemory>
-    requires { HasAscendingKeys (map (λ a. (a.key, a.mode)) access.now) }
-    ensures { IfOk result (λ keys. keys ≡ map (λ a. (a.key, a.mode)) (entries_at body.now home access.now)) }
+    requires { HasAscendingKeys (map used_of access.now) }
+    ensures { IfOk result (λ keys. keys ≡ map used_of (entries_at body.now home access.now)) }
 {
     let is_move = matches!(body, Body::Move(_, _));
     let mut keys = Vec::new(alloc);
@@ -83,7 +81,7 @@ fn keys_at(alloc: Global, body: &Body, home: u8, access: &[Access]) -> Result<Ke
 
 /// The part of a transaction at a home.
 pub fn part_at(alloc: Global, txn: &Txn, home: u8) -> Result<Part, NoMemory>
-    requires { HasAscendingKeys (map (λ a. (a.key, a.mode)) txn.now.access) }
+    requires { HasAscendingKeys (map used_of txn.now.access) }
     ensures { IfOk result (λ part. part ≡ part_of txn.now home) }
 {
     Ok(Part {
@@ -96,7 +94,7 @@ pub fn part_at(alloc: Global, txn: &Txn, home: u8) -> Result<Part, NoMemory>
 
 /// The parts of a transaction, one for each home, in ascending order of homes.
 pub fn parts(alloc: Global, txn: &Txn) -> Result<Vec<Part>, NoMemory>
-    requires { HasAscendingKeys (map (λ a. (a.key, a.mode)) txn.now.access) }
+    requires { HasAscendingKeys (map used_of txn.now.access) }
     ensures { IfOk result (λ parts. parts.items ≡ parts_of txn.now) }
 {
     let homes = homes(alloc, txn)?;

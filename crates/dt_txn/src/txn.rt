@@ -1,10 +1,9 @@
 ghost use Rattle.std.specs.Prelude.{◌≡◌, IfOk};
 
-use std::alloc::Global;
-
 use dt_access::{Accesses, Part, TryCopy, TxnId};
 use dt_eval::Args;
 use dt_text::{Key, Listed, NoMemory};
+use std::alloc::Global;
 
 /// What a transaction is to do.
 #[derive(Drop)]

@@ -9,5 +9,5 @@ loop-earlier-preserved c =
     (elim c.if-makes_edge.branch
       [ then-makes_edge+in_ok-push w ↦
         rw (w.links-is, w.in_ok-push.ensures.added)
-        (front_linked _ c.earlier-item.result _ _ _ c.loop-earlier.invariant (tested _ c.makes_edge.ensures w.if-makes_edge.true))
-      | else-makes_edge w ↦ rw w.links-is (front_past _ c.earlier-item.result _ _ _ c.loop-earlier.invariant (refuted _ c.makes_edge.ensures w.if-makes_edge.false)) ])
+        (front_linked _ c.earlier-item.result c.args.part.now _ _ c.loop-earlier.invariant (tested _ c.makes_edge.ensures w.if-makes_edge.true))
+      | else-makes_edge w ↦ rw w.links-is (front_past _ c.earlier-item.result c.args.part.now _ _ c.loop-earlier.invariant (refuted _ c.makes_edge.ensures w.if-makes_edge.false)) ])

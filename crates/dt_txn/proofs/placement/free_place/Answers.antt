@@ -10,6 +10,6 @@ returns-then-homes-place-clause-there c =
 pub returns-clause-place : goal.returns-clause-place
 returns-clause-place c = with_number_fresh_at _ _ _ c.place_of-place.ensures.first
     (elim c.else-place-homes.branch [
-        else-place-homes-via-then-place-homes+else-homes-place w ↦ λ _ e. w.if-homes-place.false e
+      | else-place-homes-via-then-place-homes+else-homes-place w ↦ λ _ e. w.if-homes-place.false e
       | else-place-homes-via-else-place-homes w ↦ λ l _. absurd (omega (arith, w.if-place-homes.false))
     ])
