@@ -21,7 +21,7 @@ use Rattle.dt_txn.specs.Serial.{after, table_after}
 use Rattle.dt_txn.specs.Replica.{done_ids}
 use Rattle.dt_serial.specs.Evidence.{MadeMove}
 use Rattle.dt_serial.proofs.Rows.{apply_regions, apply_homes, opening_unmoved}
-use Rattle.dt_serial.proofs.Reasons.{move_made}
+use Rattle.dt_serial.proofs.Causes.{move_made}
 use Rattle.dt_cluster.specs.declared.Cluster.{Cluster}
 use Rattle.dt_cluster.specs.Valid.{IsValidCluster}
 use Rattle.dt_workload.specs.declared.Workload.{Workload}

@@ -15,3 +15,7 @@ pub mod Executing
 pub mod Appending
 pub mod Opening
 pub mod Annotating
+pub mod Submitting
+pub mod Runs
+pub mod Keeping
+pub mod Rooting
