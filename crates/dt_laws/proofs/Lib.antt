@@ -19,3 +19,4 @@ pub mod Submitting
 pub mod Runs
 pub mod Keeping
 pub mod Rooting
+pub mod RootedSteps

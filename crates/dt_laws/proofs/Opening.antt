@@ -52,6 +52,10 @@ module _ (cluster : Cluster) (workload : Workload) where
   unfolding w
   no_subs = joined_none (λ n. n.submitted) cluster.regions (opening_node cluster.regions (opening_table cluster)) refl
 
+  pub opening_submissions : submissions (opening_world cluster workload) ≡ []
+  unfolding w
+  opening_submissions = no_subs
+
   none_submitted : (q : ℕ) → (node_at w q).submitted ≡ []
   none_submitted q = of_any (λ n. n.submitted) [] refl refl q
 

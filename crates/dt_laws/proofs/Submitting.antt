@@ -290,6 +290,28 @@ module _ (cluster : Cluster) (ok : IsValidCluster cluster) (workload : Workload)
     known = known;
   }
 
+  -- what a submission changes of logs, submissions and transactions
+
+  pub submitted_logs : logs_of (world_submitted workload w region session place (submission_for w region session place call)) ≡ logs_of w
+  unfolding v s
+  submitted_logs = logs_same
+
+  pub submitted_was : (x : Submission) → Has (submissions (world_submitted workload w region session place (submission_for w region session place call))) x → Has (submissions w) x ⊎ (submission_for w region session place call ≡ x)
+  unfolding v s
+  submitted_was = was
+
+  pub submitted_stays : (x : Submission) → Has (submissions w) x → Has (submissions (world_submitted workload w region session place (submission_for w region session place call))) x
+  unfolding v s
+  submitted_stays = stays
+
+  pub submitted_this : Has (submissions (world_submitted workload w region session place (submission_for w region session place call))) (submission_for w region session place call)
+  unfolding v s
+  submitted_this = this
+
+  pub submitted_txns : (id : TxnId) (txn : Txn) → txn_of w id ≡ Some txn → txn_of (world_submitted workload w region session place (submission_for w region session place call)) id ≡ Some txn
+  unfolding v s
+  submitted_txns = txns
+
   pub submitted_keeps : Inv cluster workload (world_submitted workload w region session place (submission_for w region session place call)) order
   unfolding v n' s
   submitted_keeps = record {
