@@ -20,3 +20,4 @@ pub mod Runs
 pub mod Keeping
 pub mod Rooting
 pub mod RootedSteps
+pub mod RootedEvents

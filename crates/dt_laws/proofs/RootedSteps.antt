@@ -54,7 +54,7 @@ rooted_kept cluster w v order e f r =
     subst₂ (λ logs subs. AllIn (λ s. AllIn (λ a. IsRooted cluster logs (moves_of (table_after (filter_map (λ id. option_map (λ y. y.txn) (find_submission subs id)) order) (opening_table cluster)) a.key) s.txn.id a) s.txn.access) subs) (sym e) (sym f) r
 
 -- where logs and the history of each key stay, so does what roots an entry
-entries_kept : (cluster : Cluster) (l k : View) (m n : Bytes → List Moved) → k ≡ l → ((key : Bytes) → n key ≡ m key) → (t : TxnId) (access : List Access) → AllIn (λ a. IsRooted cluster l (m a.key) t a) access → AllIn (λ a. IsRooted cluster k (n a.key) t a) access
+pub entries_kept : (cluster : Cluster) (l k : View) (m n : Bytes → List Moved) → k ≡ l → ((key : Bytes) → n key ≡ m key) → (t : TxnId) (access : List Access) → AllIn (λ a. IsRooted cluster l (m a.key) t a) access → AllIn (λ a. IsRooted cluster k (n a.key) t a) access
 entries_kept cluster l k m n e f t access r = all_map _ _ access (λ a x. subst₂ (λ logs moves. IsRooted cluster logs moves t a) (sym e) (sym (f a.key)) x) r
 
 -- a longer history roots what a shorter one roots
@@ -67,7 +67,7 @@ root_longer : (logs : View) (t : TxnId) (home : ℕ) (moves rest : List Moved) (
 root_longer logs t home moves rest zero r = tt
 root_longer logs t home moves rest (suc c) r = (r.0, place_in_longer moves rest c r.0 r.1, r.2, r.3, r.4)
 
-rooted_longer : (cluster : Cluster) (logs : View) (moves whole : List Moved) (t : TxnId) (a : Access) → IsFront moves whole → IsRooted cluster logs moves t a → IsRooted cluster logs whole t a
+pub rooted_longer : (cluster : Cluster) (logs : View) (moves whole : List Moved) (t : TxnId) (a : Access) → IsFront moves whole → IsRooted cluster logs moves t a → IsRooted cluster logs whole t a
 rooted_longer cluster logs moves whole t a f r = subst (λ l. IsRooted cluster logs l t a) f.1 (record {
   home = r.home ∙ ap (home_after (opening_home cluster.regions cluster.homes a.key)) (sym (take-append-le a.counter moves f.0 (root_within logs t a.home moves a.counter r.root)));
   root = root_longer logs t a.home moves f.0 a.counter r.root;
@@ -118,7 +118,7 @@ module _ (cluster : Cluster) (workload : Workload) (w : World) (order : List Txn
 
   module _ (rooted : Rooted cluster w order) where
     -- what a region annotates is rooted
-    annotated_rooted : (region : ℕ) → region < cluster.regions → (used : Bytes × Mode) → IsRooted cluster (logs_of w) (history_of cluster w order used.0) (next_id w region) (annotated (node_at w region).here.table used)
+    pub annotated_rooted : (region : ℕ) → region < cluster.regions → (used : Bytes × Mode) → IsRooted cluster (logs_of w) (history_of cluster w order used.0) (next_id w region) (annotated (node_at w region).here.table used)
     annotated_rooted region lr used = record { home = home; root = root }
       where
         here : Table
