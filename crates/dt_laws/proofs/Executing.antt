@@ -174,6 +174,11 @@ module _ (cluster : Cluster) (workload : Workload) (w : World) (order : List Txn
   unfolding v
   world_is = ap (λ o. with_node w region (record (node_at w region) { here = executed (node_at w region).here o })) (sym found)
 
+  -- the region ran one transaction more
+  pub executed_txns : txns_of (moved_on w region (Execute region id)) (done_ids (node_at (moved_on w region (Execute region id)) region).here) ≡ txns_of w (done_ids (node_at w region).here) ++ txn ∷ []
+  executed_txns = subst (λ x. txns_of x (done_ids (node_at x region).here) ≡ txns_of w (done_ids (node_at w region).here) ++ txn ∷ []) world_is
+      (txns_same w v subs_same (done_ids (node_at v region).here) ∙ ap (txns_of w) done_now ∙ txns_more w (done_ids (node_at w region).here) id txn found)
+
   pub execute_again : Has order id → Inv cluster workload (moved_on w region (Execute region id)) order
   execute_again known = subst (λ x. Inv cluster workload x order) world_is (with_order order (ordered_again known))
 

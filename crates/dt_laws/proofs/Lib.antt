@@ -21,3 +21,4 @@ pub mod Keeping
 pub mod Rooting
 pub mod RootedSteps
 pub mod RootedEvents
+pub mod Agreeing
