@@ -65,12 +65,15 @@ module _ (w v : World) where
   pub parts_kept : (home : ℕ) → ((id : TxnId) (txn : _) → txn_of w id ≡ Some txn → txn_of v id ≡ Some txn) → (log : List Part) → AllIn (IsPartAt w home) log → AllIn (IsPartAt v home) log
   parts_kept home f log a = all_map (IsPartAt w home) (IsPartAt v home) log (λ p x. (x.0, f p.id x.0 x.1, x.2)) a
 
-  pub logs_kept : (regions : ℕ) → Keeps (λ n. n.log) w v → Keeps (λ n. n.taken) w v → Keeps (λ n. n.asked) w v → submissions v ≡ submissions w → Logs regions w → Logs regions v
-  logs_kept regions kl kt ka e l home lt = record {
-    parts = subst (AllIn (IsPartAt v home)) (sym (kl home)) (parts_kept home (λ id txn is. txn_same w v e id ∙ is) (log_of w home) (l home lt).parts);
-    taken = λ source ls. subst (λ n. n ≤ length (asked_of v source home)) (sym (ap (λ t. get_or t source 0) (kt home))) (subst (λ n. taken_from w home source ≤ length n) (sym (ap (λ t. get_or t home []) (ka source))) ((l home lt).taken source ls));
-    given = λ source ls. ap (λ x. given_by source (ids_of x)) (kl home) ∙ (l home lt).given source ls ∙ sym (ap₂ take (ap (λ t. get_or t source 0) (kt home)) (ap (λ t. get_or t home []) (ka source)));
+  pub log_kept : (regions home : ℕ) → (node_at v home).log ≡ (node_at w home).log → (node_at v home).taken ≡ (node_at w home).taken → Keeps (λ n. n.asked) w v → submissions v ≡ submissions w → IsLog regions w home → IsLog regions v home
+  log_kept regions home kl kt ka e l = record {
+    parts = subst (AllIn (IsPartAt v home)) (sym kl) (parts_kept home (λ id txn is. txn_same w v e id ∙ is) (log_of w home) l.parts);
+    taken = λ source ls. subst (λ n. n ≤ length (asked_of v source home)) (sym (ap (λ t. get_or t source 0) kt)) (subst (λ n. taken_from w home source ≤ length n) (sym (ap (λ t. get_or t home []) (ka source))) (l.taken source ls));
+    given = λ source ls. ap (λ x. given_by source (ids_of x)) kl ∙ l.given source ls ∙ sym (ap₂ take (ap (λ t. get_or t source 0) kt) (ap (λ t. get_or t home []) (ka source)));
   }
+
+  pub logs_kept : (regions : ℕ) → Keeps (λ n. n.log) w v → Keeps (λ n. n.taken) w v → Keeps (λ n. n.asked) w v → submissions v ≡ submissions w → Logs regions w → Logs regions v
+  logs_kept regions kl kt ka e l home lt = log_kept regions home (kl home) (kt home) ka e (l home lt)
 
   pub received_kept : Keeps (λ n. n.received) w v → Keeps (λ n. n.log) w v → (region home : ℕ) → received_of v region home ≡ received_of w region home
   received_kept kr kl region home = λ i. get_or (set (kr region i) region (length (kl region i))) home 0
