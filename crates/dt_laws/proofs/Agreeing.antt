@@ -137,10 +137,10 @@ module _ (cluster : Cluster) (ok : IsValidCluster cluster) (workload : Workload)
   unfolding txns ran
   kept_outcome region id outcome lr h =
       all_get (Has (outcomes txns (opening_table cluster))) (outcomes (ran region) (opening_table cluster))
-        (one_outcome (Precedes (logs_of (world_after cluster workload events))) (opening_table cluster) txns past (ran region)
-          (region_members cluster workload (world_after cluster workload events) (order_of events) i rooted region lr)
-          (region_down cluster workload (world_after cluster workload events) (order_of events) i rooted region lr))
-        (id, outcome) (subst (λ l. Has l (id, outcome)) (i.tables region lr).outcomes h)
+      (one_outcome (Precedes (logs_of (world_after cluster workload events))) (opening_table cluster) txns past (ran region)
+      (region_members cluster workload (world_after cluster workload events) (order_of events) i rooted region lr)
+      (region_down cluster workload (world_after cluster workload events) (order_of events) i rooted region lr))
+      (id, outcome) (subst (λ l. Has l (id, outcome)) (i.tables region lr).outcomes h)
 
   pub outcomes_agree : (region : ℕ) (id : TxnId) (outcome : Outcome) → region < cluster.regions → Has (node_at (world_after cluster workload events) region).here.done (id, outcome) → serial_outcome cluster workload events id ≡ Some outcome
   outcomes_agree region id outcome lr h = has_lookup (serial_outcomes cluster workload events) id outcome outcomes_once (kept_outcome region id outcome lr h)
@@ -150,8 +150,8 @@ module _ (cluster : Cluster) (ok : IsValidCluster cluster) (workload : Workload)
   tables_agree region lr =
       (i.tables region lr).table
       ∙ one_restricted (Precedes (logs_of (world_after cluster workload events))) (opening_table cluster) txns past (ran region)
-          (region_members cluster workload (world_after cluster workload events) (order_of events) i rooted region lr)
-          (region_down cluster workload (world_after cluster workload events) (order_of events) i rooted region lr)
+      (region_members cluster workload (world_after cluster workload events) (order_of events) i rooted region lr)
+      (region_down cluster workload (world_after cluster workload events) (order_of events) i rooted region lr)
       ∙ ap (λ l. table_after (filter (λ x. is_among l x.id) txns) (opening_table cluster)) (done_txn_ids cluster workload (world_after cluster workload events) (order_of events) i region lr)
       ∙ ap (λ l. table_after l (opening_table cluster)) (sym (looked_filter (txn_of (world_after cluster workload events)) (txn_id (world_after cluster workload events)) (is_among (done_ids (node_at (world_after cluster workload events) region).here)) (order_of events)))
 
@@ -182,18 +182,20 @@ module _ (cluster : Cluster) (ok : IsValidCluster cluster) (workload : Workload)
     cause_of (Stale key had by) g =
         let f : MadeMove front (opening_table cluster) key had by = g.1 in
         let whole : MadeMove (txns_of (world_after cluster workload events) (order_of events)) (opening_table cluster) key had by = g.2 in
-        let there : Has (txn_ids front) by = subst (Has (txn_ids front)) f.id (has_map (λ x. x.id) front f.mover f.there) in
-        (f.mover, f.target,
+        let there : Has (txn_ids front) by = subst (Has (txn_ids front)) f.id (has_map (λ x. x.id) front f.mover f.there) in (
+          f.mover,
+          f.target,
           subst (λ x. txn_of (world_after cluster workload events) x ≡ Some f.mover) f.id (all_get _ front (all_append_left _ front (txn ∷ rest) found_all) f.mover f.there).1,
           f.body,
           subst (λ l. StandsBefore l by id) (sym order_split) (has_before by id (txn_ids front) (txn_ids rest) there),
           has_lookup (serial_outcomes cluster workload events) by (Gave []) outcomes_once whole.gave,
-          ap (λ t. next_mover t key had) before_is ∙ ap (option_map (λ m. m.by)) f.number)
+          ap (λ t. next_mover t key had) before_is ∙ ap (option_map (λ m. m.by)) f.number,
+        )
 
   pub causes_agree : (region : ℕ) (id : TxnId) (outcome : Outcome) → region < cluster.regions → Has (node_at (world_after cluster workload events) region).here.done (id, outcome) → HasCause cluster workload events id outcome
   causes_agree region id outcome lr h =
       let r : HasReason (txns_of (world_after cluster workload events) (order_of events)) (opening_table cluster) (id, outcome) =
-          all_get (HasReason (txns_of (world_after cluster workload events) (order_of events)) (opening_table cluster)) (serial_outcomes cluster workload events) (reasons (opening_table cluster) (unmoved_at_first cluster) (txns_of (world_after cluster workload events) (order_of events))) (id, outcome) (kept_outcome region id outcome lr h) in
+      all_get (HasReason (txns_of (world_after cluster workload events) (order_of events)) (opening_table cluster)) (serial_outcomes cluster workload events) (reasons (opening_table cluster) (unmoved_at_first cluster) (txns_of (world_after cluster workload events) (order_of events))) (id, outcome) (kept_outcome region id outcome lr h) in
       cause_of id r.front r.rest r.txn r.is r.id outcome r.reason
 
   -- drained regions
@@ -209,20 +211,22 @@ module _ (cluster : Cluster) (ok : IsValidCluster cluster) (workload : Workload)
   drained_agree region other lr lo d e alike =
       (i.tables region lr).table
       ∙ one_set (Precedes (logs_of (world_after cluster workload events))) (opening_table cluster) (txns_of (world_after cluster workload events) (order_of events)) past (ran region) (ran other)
-          (region_members cluster workload (world_after cluster workload events) (order_of events) i rooted region lr) (region_members cluster workload (world_after cluster workload events) (order_of events) i rooted other lo)
-          (region_down cluster workload (world_after cluster workload events) (order_of events) i rooted region lr) (region_down cluster workload (world_after cluster workload events) (order_of events) i rooted other lo)
-          (λ id. (
-            λ h. subst (λ l. Has l id) (sym (done_txn_ids cluster workload (world_after cluster workload events) (order_of events) i other lo)) ((drained_done other lo e id).1 (subst (λ v. IsClosed v id) same_view ((drained_done region lr d id).0 (subst (λ l. Has l id) (done_txn_ids cluster workload (world_after cluster workload events) (order_of events) i region lr) h)))),
-            λ h. subst (λ l. Has l id) (sym (done_txn_ids cluster workload (world_after cluster workload events) (order_of events) i region lr)) ((drained_done region lr d id).1 (subst (λ v. IsClosed v id) (sym same_view) ((drained_done other lo e id).0 (subst (λ l. Has l id) (done_txn_ids cluster workload (world_after cluster workload events) (order_of events) i other lo) h))))))
+      (region_members cluster workload (world_after cluster workload events) (order_of events) i rooted region lr) (region_members cluster workload (world_after cluster workload events) (order_of events) i rooted other lo)
+      (region_down cluster workload (world_after cluster workload events) (order_of events) i rooted region lr) (region_down cluster workload (world_after cluster workload events) (order_of events) i rooted other lo)
+      (λ id. (
+        λ h. subst (λ l. Has l id) (sym (done_txn_ids cluster workload (world_after cluster workload events) (order_of events) i other lo)) ((drained_done other lo e id).1 (subst (λ v. IsClosed v id) same_view ((drained_done region lr d id).0 (subst (λ l. Has l id) (done_txn_ids cluster workload (world_after cluster workload events) (order_of events) i region lr) h)))),
+        λ h. subst (λ l. Has l id) (sym (done_txn_ids cluster workload (world_after cluster workload events) (order_of events) i region lr)) ((drained_done region lr d id).1 (subst (λ v. IsClosed v id) (sym same_view) ((drained_done other lo e id).0 (subst (λ l. Has l id) (done_txn_ids cluster workload (world_after cluster workload events) (order_of events) i other lo) h)))),
+      ))
       ∙ sym (i.tables other lo).table
     where
       all_in : (q : ℕ) (home : ℕ) → IsDrained (received_logs (world_after cluster workload events) q) (node_at (world_after cluster workload events) q).here → slice_index (node_at (world_after cluster workload events) q).here.inserted home ≡ length (take (received_of (world_after cluster workload events) q home) (log_of (world_after cluster workload events) home))
       all_in q home x = x.inserted home ∙ ap length (received_log (world_after cluster workload events) q home)
+
       same_view : view_at (world_after cluster workload events) region ≡ view_at (world_after cluster workload events) other
       same_view =
           view_fronts cluster workload (world_after cluster workload events) (order_of events) i region lr
           ∙ fronts_alike (node_at (world_after cluster workload events) region).here.inserted (node_at (world_after cluster workload events) other).here.inserted (logs_of (world_after cluster workload events))
-              (λ home. all_in region home d ∙ ap (λ n. length (take n (log_of (world_after cluster workload events) home))) (alike home) ∙ sym (all_in other home e))
+          (λ home. all_in region home d ∙ ap (λ n. length (take n (log_of (world_after cluster workload events) home))) (alike home) ∙ sym (all_in other home e))
           ∙ sym (view_fronts cluster workload (world_after cluster workload events) (order_of events) i other lo)
 
 -- what was answered
@@ -244,29 +248,36 @@ module _ (cluster : Cluster) (ok : IsValidCluster cluster) (workload : Workload)
       → StandsBefore (order_of (first ++ Answer region session ∷ middle ++ Submit other name ∷ last)) a (next_id (world_after cluster workload (first ++ Answer region session ∷ middle)) other)
   real_time_at first region session middle other name last a legal awaited executed =
       subst (λ l. StandsBefore l a b) front.1 (stands_across (order_of (first ++ Answer region session ∷ middle)) front.0 a b
-        (any_front (λ y. y ≡ a) (order_of first) (order_of (first ++ Answer region session ∷ middle)) (order_front first (Answer region session ∷ middle)) answered)
-        (elim (any_append (λ y. y ≡ b) (order_of (first ++ Answer region session ∷ middle)) front.0 (subst (λ l. Has l b) (sym front.1) executed)) [
-            inl h ↦ absurd (new h)
-          | inr h ↦ h
-          ]))
+      (any_front (λ y. y ≡ a) (order_of first) (order_of (first ++ Answer region session ∷ middle)) (order_front first (Answer region session ∷ middle)) answered)
+      (elim (any_append (λ y. y ≡ b) (order_of (first ++ Answer region session ∷ middle)) front.0 (subst (λ l. Has l b) (sym front.1) executed)) [
+        | inl h ↦ absurd (new h)
+        | inr h ↦ h
+      ]))
     where
       b : TxnId
       b = next_id (world_after cluster workload (first ++ Answer region session ∷ middle)) other
+
       front : IsFront (order_of (first ++ Answer region session ∷ middle)) (order_of (first ++ Answer region session ∷ middle ++ Submit other name ∷ last))
       front = order_front (first ++ Answer region session ∷ middle) (Submit other name ∷ last)
+
       outer : AreLegal cluster workload (first ++ Answer region session ∷ middle) × AreLegalFrom cluster workload (world_after cluster workload (first ++ Answer region session ∷ middle)) (Submit other name ∷ last)
       outer = legal_append cluster workload (opening_world cluster workload) (first ++ Answer region session ∷ middle) (Submit other name ∷ last) legal
+
       inner : AreLegal cluster workload first × AreLegalFrom cluster workload (world_after cluster workload first) (Answer region session ∷ middle)
       inner = legal_append cluster workload (opening_world cluster workload) first (Answer region session ∷ middle) outer.0
+
       early : Inv cluster workload (world_after cluster workload first) (order_of first)
       early = legal_keeps cluster ok workload fits first inner.0
+
       late : Inv cluster workload (world_after cluster workload (first ++ Answer region session ∷ middle)) (order_of (first ++ Answer region session ∷ middle))
       late = legal_keeps cluster ok workload fits (first ++ Answer region session ∷ middle) outer.0
+
       answered : Has (order_of first) a
       answered = (early.ordered.executed a).1 (region, inner.1.0.regions, answered_done cluster (world_after cluster workload first) region (session_at workload.sessions (world_after cluster workload first).places region session) a inner.1.0.allowed awaited)
+
       new : ¬ (Has (order_of (first ++ Answer region session ∷ middle)) b)
       new h = next_unknown cluster workload (world_after cluster workload (first ++ Answer region session ∷ middle)) (order_of (first ++ Answer region session ∷ middle)) late other
-        (all_get (IsKnown (world_after cluster workload (first ++ Answer region session ∷ middle))) (order_of (first ++ Answer region session ∷ middle)) (order_known cluster workload (world_after cluster workload (first ++ Answer region session ∷ middle)) (order_of (first ++ Answer region session ∷ middle)) late) b h)
+          (all_get (IsKnown (world_after cluster workload (first ++ Answer region session ∷ middle))) (order_of (first ++ Answer region session ∷ middle)) (order_known cluster workload (world_after cluster workload (first ++ Answer region session ∷ middle)) (order_of (first ++ Answer region session ∷ middle)) late) b h)
 
   -- all regions agree
   pub legal_agree : (events : List Event) → AreLegal cluster workload events → Agree cluster workload events
@@ -274,7 +285,7 @@ module _ (cluster : Cluster) (ok : IsValidCluster cluster) (workload : Workload)
     outcomes = outcomes_agree cluster ok workload fits events legal;
     tables = tables_agree cluster ok workload fits events legal;
     real_time = λ first region session middle other name last a split awaited executed.
-      subst (λ l. StandsBefore (order_of l) a (next_id (world_after cluster workload (first ++ Answer region session ∷ middle)) other)) (sym split)
+        subst (λ l. StandsBefore (order_of l) a (next_id (world_after cluster workload (first ++ Answer region session ∷ middle)) other)) (sym split)
         (real_time_at first region session middle other name last a (subst (AreLegal cluster workload) split legal) awaited (subst (λ l. Has (order_of l) (next_id (world_after cluster workload (first ++ Answer region session ∷ middle)) other)) split executed));
     causes = causes_agree cluster ok workload fits events legal;
     drained = drained_agree cluster ok workload fits events legal;

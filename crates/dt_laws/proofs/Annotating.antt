@@ -132,6 +132,6 @@ annotated_valid regions id body t fits below = record {
   where
     home : (x : ℕ) → Has (homes_of (annotate id body t)) x → x < regions
     home x h = elim (any_append (λ y. y ≡ x) (map (λ a. a.home) (map (annotated t) (uses_of body))) (targets_of body) (set_of_has (map (λ a. a.home) (map (annotated t) (uses_of body)) ++ targets_of body) x h)) [
-        inl l ↦ (let r : (u : Bytes × Mode) × Has (uses_of body) u × (home_of t u.0 ≡ x) = any_get (λ u. home_of t u.0 ≡ x) (uses_of body) (any_of_image (λ a. a.home ≡ x) (annotated t) (uses_of body) (any_of_image (λ y. y ≡ x) (λ a. a.home) (map (annotated t) (uses_of body)) l)) in subst (λ y. y < regions) r.2 (below r.0.0))
+      | inl l ↦ (let r : (u : Bytes × Mode) × Has (uses_of body) u × (home_of t u.0 ≡ x) = any_get (λ u. home_of t u.0 ≡ x) (uses_of body) (any_of_image (λ a. a.home ≡ x) (annotated t) (uses_of body) (any_of_image (λ y. y ≡ x) (λ a. a.home) (map (annotated t) (uses_of body)) l)) in subst (λ y. y < regions) r.2 (below r.0.0))
       | inr k ↦ target_below regions body fits x k
-      ]
+    ]

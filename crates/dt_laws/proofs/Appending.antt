@@ -101,8 +101,8 @@ module _ (cluster : Cluster) (workload : Workload) (w : World) (order : List Txn
     sized : Sized cluster.regions v
     unfolding v n'
     sized q lt = each_of_set (λ k n. IsSized cluster.regions n) w.nodes home n' no_node
-      (let s : IsSized cluster.regions (node_at w home) = i.sized home lh in record { asked = s.asked; taken = length-set (node_at w home).taken source (taken_from w home source + 1) ∙ s.taken; received = s.received; inserted = s.inserted })
-      (λ k lk. i.sized k (subst (λ m. k < m) i.nodes lk)) q (subst (λ m. q < m) (sym i.nodes) lt)
+        (let s : IsSized cluster.regions (node_at w home) = i.sized home lh in record { asked = s.asked; taken = length-set (node_at w home).taken source (taken_from w home source + 1) ∙ s.taken; received = s.received; inserted = s.inserted })
+        (λ k lk. i.sized k (subst (λ m. k < m) i.nodes lk)) q (subst (λ m. q < m) (sym i.nodes) lt)
 
     -- the requests that are taken
 
@@ -129,10 +129,10 @@ module _ (cluster : Cluster) (workload : Workload) (w : World) (order : List Txn
         by (inl e) =
             let passes : eqb txn.id.region s ≡ true = test_of_equal txn.id.region s (request.region ∙ sym e) in
             rw passes (ap (λ l. l ++ txn.id ∷ []) ((i.logs home lh).given s lt)
-              ∙ subst (λ y. take (taken_from w home y) (asked_of w y home) ++ txn.id ∷ [] ≡ take (taken_from v home y) (asked_of v y home)) (sym e)
-                (ap (λ x. take (taken_from w home source) (asked_of w source home) ++ x ∷ []) (sym (get_or_from_slice_get (asked_of w source home) (taken_from w home source) txn.id txn.id next_one))
-                 ∙ sym (take_more (asked_of w source home) (taken_from w home source) txn.id within)
-                 ∙ sym (ap₂ take taken_here (asked_same source))))
+            ∙ subst (λ y. take (taken_from w home y) (asked_of w y home) ++ txn.id ∷ [] ≡ take (taken_from v home y) (asked_of v y home)) (sym e)
+            (ap (λ x. take (taken_from w home source) (asked_of w source home) ++ x ∷ []) (sym (get_or_from_slice_get (asked_of w source home) (taken_from w home source) txn.id txn.id next_one))
+            ∙ sym (take_more (asked_of w source home) (taken_from w home source) txn.id within)
+            ∙ sym (ap₂ take taken_here (asked_same source))))
         by (inr n) =
             let fails : eqb txn.id.region s ≡ false = false_from_ne_true (eqb txn.id.region s) (λ t. n (sym (equal_of_test txn.id.region s t) ∙ request.region)) in
             rw fails (append-nil (given_by s (ids_of (log_of w home))) ∙ (i.logs home lh).given s lt ∙ sym (ap₂ take (taken_other s n) (asked_same s)))
@@ -142,6 +142,7 @@ module _ (cluster : Cluster) (workload : Workload) (w : World) (order : List Txn
       where
         before : taken_from w home s ≤ length (asked_of w s home)
         before = (i.logs home lh).taken s lt
+
         by : Either (s ≡ source) → taken_from v home s ≤ length (asked_of v s home)
         by (inl e) = subst (λ y. taken_from v home y ≤ length (asked_of v y home)) (sym e) (let a : length (asked_of v source home) ≡ length (asked_of w source home) = ap length (asked_same source) in omega (arith, taken_here, within))
         by (inr n) = let a : length (asked_of v s home) ≡ length (asked_of w s home) = ap length (asked_same s) in omega (arith, taken_other s n, before)
@@ -181,8 +182,10 @@ module _ (cluster : Cluster) (workload : Workload) (w : World) (order : List Txn
       where
         before : AreInOrder w q h
         before = i.lengths q h lq lt
+
         inserted : slice_index (node_at v q).here.inserted h ≡ slice_index (node_at w q).here.inserted h
         inserted = ap (λ t. get_or t h 0) (keeps (λ n. n.here.inserted) refl q)
+
         by : Either (h ≡ q) → AreInOrder v q h
         by (inl e) = subst (AreInOrder v q) (sym e) (
             let now : received_of v q q ≡ length (log_of v q) = received_own v q (subst (λ m. q < m) (sym (sized q lq).received) lq) in
@@ -196,7 +199,7 @@ module _ (cluster : Cluster) (workload : Workload) (w : World) (order : List Txn
     unfolding n'
     view_same q lq =
         let le : slice_index (node_at w q).here.inserted home ≤ length (log_at (logs_of w) home) =
-            subst (λ l. slice_index (node_at w q).here.inserted home ≤ length l) (sym (log_is w home)) (let b : AreInOrder w q home = i.lengths q home lq lh in omega (arith, b.inserted, b.received)) in
+        subst (λ l. slice_index (node_at w q).here.inserted home ≤ length l) (sym (log_is w home)) (let b : AreInOrder w q home = i.lengths q home lq lh in omega (arith, b.inserted, b.received)) in
         view_is v q (λ h lo. (lengths q h lq (subst (λ m. h < m) nodes_now lo)).inserted)
         ∙ ap₂ fronts (keeps (λ n. n.here.inserted) refl q) logs_now
         ∙ fronts_grown (node_at w q).here.inserted (logs_of w) home (part ∷ []) le
@@ -215,7 +218,8 @@ module _ (cluster : Cluster) (workload : Workload) (w : World) (order : List Txn
     ordered = record {
       executed = λ x. (
         λ h. let r : (q : ℕ) × (q < cluster.regions) × IsExecutedAt w q x = (i.ordered.executed x).0 h in (r.0, r.1, subst (λ l. Has (map (λ d. d.0) l) x) (sym (keeps (λ n. n.here.done) refl r.0)) r.2),
-        λ r. (i.ordered.executed x).1 (r.0, r.1, subst (λ l. Has (map (λ d. d.0) l) x) (keeps (λ n. n.here.done) refl r.0) r.2));
+        λ r. (i.ordered.executed x).1 (r.0, r.1, subst (λ l. Has (map (λ d. d.0) l) x) (keeps (λ n. n.here.done) refl r.0) r.2),
+      );
       down = record {
         once = i.ordered.down.once;
         preceders = λ u t h p. i.ordered.down.preceders u t h ((preceders_stay (logs_of w) (logs_of v) full_longer full_well_formed u t (order_closed cluster workload w order i t h)).1 p);
@@ -274,16 +278,18 @@ module _ (cluster : Cluster) (workload : Workload) (w : World) (order : List Txn
           let turn : number ≡ taken_from w home source = equal_of_test number (taken_from w home source) e in
           let r : IsRequest w home source at.0 = request_is cluster workload w order home source lh ls i at.0 (has_place (asked_of w source home) number at.0 at.1) in
           let id : at.0 ≡ r.submission.txn.id = sym r.same in
-          inr (r.submission.txn,
+          inr (
+            r.submission.txn,
             record {
               number = subst (λ n. slice_get (asked_of w source home) n ≡ Some r.submission.txn.id) turn (at.1 ∙ ap Some id);
               request = subst (IsRequest w home source) id r;
               found = subst (λ x. txn_of w x ≡ Some r.submission.txn) id r.found;
             },
-            ap (λ o. placed w home source (option_and_then (txn_of w) o)) at.1 ∙ ap (placed w home source) r.found)
+            ap (λ o. placed w home source (option_and_then (txn_of w) o)) at.1 ∙ ap (placed w home source) r.found,
+          )
 
   pub append_keeps : Inv cluster workload (next workload w (Append home source number)) order
   append_keeps = elim append_cases [
-      inl e ↦ subst (λ x. Inv cluster workload x order) (sym e) i
+    | inl e ↦ subst (λ x. Inv cluster workload x order) (sym e) i
     | inr r ↦ subst (λ x. Inv cluster workload x order) (sym r.2) (placed_keeps cluster workload w order home source lh ls i r.0 r.1.number r.1.request r.1.found)
-    ]
+  ]

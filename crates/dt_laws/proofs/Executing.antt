@@ -77,8 +77,8 @@ module _ (cluster : Cluster) (workload : Workload) (w : World) (order : List Txn
   sized : Sized cluster.regions v
   unfolding v n'
   sized q lt = each_of_set (λ k n. IsSized cluster.regions n) w.nodes region n' no_node
-    (let s : IsSized cluster.regions (node_at w region) = i.sized region lr in record { asked = s.asked; taken = s.taken; received = s.received; inserted = s.inserted })
-    (λ k lk. i.sized k (subst (λ m. k < m) i.nodes lk)) q (subst (λ m. q < m) (sym i.nodes) lt)
+      (let s : IsSized cluster.regions (node_at w region) = i.sized region lr in record { asked = s.asked; taken = s.taken; received = s.received; inserted = s.inserted })
+      (λ k lk. i.sized k (subst (λ m. k < m) i.nodes lk)) q (subst (λ m. q < m) (sym i.nodes) lt)
 
   view_same : (q : ℕ) → view_at v q ≡ view_at w q
   unfolding n'
@@ -96,9 +96,9 @@ module _ (cluster : Cluster) (workload : Workload) (w : World) (order : List Txn
       by : Either (q ≡ region) → IsSound (view_at w q) (node_at v q).here.resolved (done_ids (node_at v q).here)
       by (inr n) = subst (λ x. IsSound (view_at w q) x.here.resolved (done_ids x.here)) (sym (other q n)) (i.sound q lq)
       by (inl e) = subst (λ y. IsSound (view_at w y) (node_at v y).here.resolved (done_ids (node_at v y).here)) (sym e)
-        (subst (λ l. IsSound (view_at w region) (node_at v region).here.resolved l) (sym done_now)
-        (subst (λ x. IsSound (view_at w region) x.here.resolved (done_ids (node_at w region).here ++ id ∷ [])) (sym node)
-        (sound_execute (view_at w region) (node_at w region).here.resolved (done_ids (node_at w region).here) id may (i.sound region lr))))
+          (subst (λ l. IsSound (view_at w region) (node_at v region).here.resolved l) (sym done_now)
+          (subst (λ x. IsSound (view_at w region) x.here.resolved (done_ids (node_at w region).here ++ id ∷ [])) (sym node)
+          (sound_execute (view_at w region) (node_at w region).here.resolved (done_ids (node_at w region).here) id may (i.sound region lr))))
 
   tables : Tables cluster v
   unfolding n'
@@ -106,11 +106,11 @@ module _ (cluster : Cluster) (workload : Workload) (w : World) (order : List Txn
     where
       by : Either (q ≡ region) → IsRunOf (opening_table cluster) (txns_of v (done_ids (node_at v q).here)) (node_at v q).here
       by (inr n) = subst (λ x. IsRunOf (opening_table cluster) (txns_of v (done_ids x.here)) x.here) (sym (other q n))
-        (subst (λ l. IsRunOf (opening_table cluster) l (node_at w q).here) (sym (txns_same w v subs_same (done_ids (node_at w q).here))) (i.tables q lq))
+          (subst (λ l. IsRunOf (opening_table cluster) l (node_at w q).here) (sym (txns_same w v subs_same (done_ids (node_at w q).here))) (i.tables q lq))
       by (inl e) = subst (λ y. IsRunOf (opening_table cluster) (txns_of v (done_ids (node_at v y).here)) (node_at v y).here) (sym e)
-        (subst (λ l. IsRunOf (opening_table cluster) l (node_at v region).here) (sym (txns_same w v subs_same (done_ids (node_at v region).here) ∙ ap (txns_of w) done_now ∙ txns_more w (done_ids (node_at w region).here) id txn found))
-        (subst (λ x. IsRunOf (opening_table cluster) (txns_of w (done_ids (node_at w region).here) ++ txn ∷ []) x.here) (sym node)
-        (run_more (opening_table cluster) (txns_of w (done_ids (node_at w region).here)) txn (node_at w region).here (i.tables region lr))))
+          (subst (λ l. IsRunOf (opening_table cluster) l (node_at v region).here) (sym (txns_same w v subs_same (done_ids (node_at v region).here) ∙ ap (txns_of w) done_now ∙ txns_more w (done_ids (node_at w region).here) id txn found))
+          (subst (λ x. IsRunOf (opening_table cluster) (txns_of w (done_ids (node_at w region).here) ++ txn ∷ []) x.here) (sym node)
+          (run_more (opening_table cluster) (txns_of w (done_ids (node_at w region).here)) txn (node_at w region).here (i.tables region lr))))
 
   -- what regions have executed: as before, and this
 
@@ -130,15 +130,16 @@ module _ (cluster : Cluster) (workload : Workload) (w : World) (order : List Txn
       by : Either (q ≡ region) → IsExecutedAt w q x ⊎ (id ≡ x)
       by (inr n) = inl (subst (λ y. Has (done_ids y.here) x) (other q n) h)
       by (inl e) = elim (has_more (done_ids (node_at w region).here) id x (subst (λ l. Has l x) done_now (subst (λ y. IsExecutedAt v y x) e h))) [
-          inl k ↦ inl (subst (λ y. IsExecutedAt w y x) (sym e) k)
+        | inl k ↦ inl (subst (λ y. IsExecutedAt w y x) (sym e) k)
         | inr k ↦ inr k
-        ]
+      ]
 
   ordered_again : Has order id → IsOrder cluster.regions v order
   ordered_again known = record {
     executed = λ x. (
       λ h. let r : (q : ℕ) × (q < cluster.regions) × IsExecutedAt w q x = (i.ordered.executed x).0 h in (r.0, r.1, still r.0 x r.2),
-      λ r. elim (was r.0 x r.2) [ inl k ↦ (i.ordered.executed x).1 (r.0, r.1, k) | inr e ↦ subst (Has order) e known ]);
+      λ r. elim (was r.0 x r.2) [ inl k ↦ (i.ordered.executed x).1 (r.0, r.1, k) | inr e ↦ subst (Has order) e known ],
+    );
     down = subst (λ l. IsDown (Precedes l) order) (sym logs_same) i.ordered.down;
   }
 
@@ -146,12 +147,13 @@ module _ (cluster : Cluster) (workload : Workload) (w : World) (order : List Txn
   ordered_first new = record {
     executed = λ x. (
       λ h. elim (has_more order id x h) [
-          inl k ↦ let r : (q : ℕ) × (q < cluster.regions) × IsExecutedAt w q x = (i.ordered.executed x).0 k in (r.0, r.1, still r.0 x r.2)
+        | inl k ↦ let r : (q : ℕ) × (q < cluster.regions) × IsExecutedAt w q x = (i.ordered.executed x).0 k in (r.0, r.1, still r.0 x r.2)
         | inr e ↦ (region, lr, subst (IsExecutedAt v region) e this)
-        ],
-      λ r. elim (was r.0 x r.2) [ inl k ↦ has_longer order (id ∷ []) x ((i.ordered.executed x).1 (r.0, r.1, k)) | inr e ↦ subst (Has (order ++ id ∷ [])) e (has_last order id) ]);
+      ],
+      λ r. elim (was r.0 x r.2) [ inl k ↦ has_longer order (id ∷ []) x ((i.ordered.executed x).1 (r.0, r.1, k)) | inr e ↦ subst (Has (order ++ id ∷ [])) e (has_last order id) ],
+    );
     down = subst (λ l. IsDown (Precedes l) (order ++ id ∷ [])) (sym logs_same) (down_push (Precedes (logs_of w)) order id i.ordered.down new
-      (λ u p. (i.ordered.executed u).1 (region, lr, may.preceders u ((precedes_full cluster workload w order i region u id lr may.closed).1 p))));
+        (λ u p. (i.ordered.executed u).1 (region, lr, may.preceders u ((precedes_full cluster workload w order i region u id lr may.closed).1 p))));
   }
 
   with_order : (later : List TxnId) → IsOrder cluster.regions v later → Inv cluster workload v later

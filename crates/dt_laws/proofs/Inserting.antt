@@ -62,8 +62,8 @@ module _ (cluster : Cluster) (workload : Workload) (w : World) (order : List Txn
   sized : Sized cluster.regions v
   unfolding v n'
   sized q lt = each_of_set (λ k n. IsSized cluster.regions n) w.nodes region n' no_node
-    (let s : IsSized cluster.regions (node_at w region) = i.sized region lr in record { asked = s.asked; taken = s.taken; received = s.received; inserted = length-set (node_at w region).here.inserted home (slice_index (node_at w region).here.inserted home + 1) ∙ s.inserted })
-    (λ k lk. i.sized k (subst (λ m. k < m) i.nodes lk)) q (subst (λ m. q < m) (sym i.nodes) lt)
+      (let s : IsSized cluster.regions (node_at w region) = i.sized region lr in record { asked = s.asked; taken = s.taken; received = s.received; inserted = length-set (node_at w region).here.inserted home (slice_index (node_at w region).here.inserted home + 1) ∙ s.inserted })
+      (λ k lk. i.sized k (subst (λ m. k < m) i.nodes lk)) q (subst (λ m. q < m) (sym i.nodes) lt)
 
   -- there was more to insert
   more : slice_index (node_at w region).here.inserted home < received_of w region home
@@ -77,6 +77,7 @@ module _ (cluster : Cluster) (workload : Workload) (w : World) (order : List Txn
     where
       before : AreInOrder w region other
       before = i.lengths region other lr lo
+
       by : Either (other ≡ home) → (slice_index (set (node_at w region).here.inserted home (slice_index (node_at w region).here.inserted home + 1)) other ≤ received_of w region other) × (slice_index (node_at w region).here.inserted other ≤ slice_index (set (node_at w region).here.inserted home (slice_index (node_at w region).here.inserted home + 1)) other)
       by (inl e) = subst (λ x. (slice_index (set (node_at w region).here.inserted home (slice_index (node_at w region).here.inserted home + 1)) x ≤ received_of w region x) × (slice_index (node_at w region).here.inserted x ≤ slice_index (set (node_at w region).here.inserted home (slice_index (node_at w region).here.inserted home + 1)) x)) (sym e)
           (let now : slice_index (set (node_at w region).here.inserted home (slice_index (node_at w region).here.inserted home + 1)) home ≡ slice_index (node_at w region).here.inserted home + 1 = get_or-set_same (node_at w region).here.inserted home (slice_index (node_at w region).here.inserted home + 1) 0 (subst (λ m. home < m) (sym sizes) lh) in
@@ -94,8 +95,10 @@ module _ (cluster : Cluster) (workload : Workload) (w : World) (order : List Txn
     where
       before : AreInOrder w q other
       before = i.lengths q other lq lo
+
       log : length (log_of v other) ≡ length (log_of w other)
       log = ap length (keeps (λ n. n.log) refl other)
+
       by : Either (q ≡ region) → AreInOrder v q other
       by (inl e) = subst (λ x. AreInOrder v x other) (sym e) (
           let inserted : slice_index (node_at v region).here.inserted other ≡ slice_index ins' other = ap (λ n. slice_index n.here.inserted other) node in
@@ -116,6 +119,7 @@ module _ (cluster : Cluster) (workload : Workload) (w : World) (order : List Txn
     where
       before : IsSound (view_at w q) (node_at w q).here.resolved (done_ids (node_at w q).here)
       before = i.sound q lq
+
       by : Either (q ≡ region) → IsSound (view_at v q) (node_at v q).here.resolved (done_ids (node_at v q).here)
       by (inr n) =
           let same : node_at v q ≡ node_at w q = unfold v in get_or-set_other w.nodes region q n' no_node n in

@@ -52,6 +52,6 @@ module _ (cluster : Cluster) (ok : IsValidCluster cluster) (workload : Workload)
   legal_keeps events legal = from_right (λ es. AreLegal cluster workload es → Inv cluster workload (world_after cluster workload es) (order_of es))
       (λ l. opening_keeps cluster workload)
       (λ es e keeps l.
-        let r : AreLegal cluster workload es × IsLegal cluster workload (world_after cluster workload es) e = legal_more cluster workload es e l in
-        subst₂ (Inv cluster workload) (sym (world_after_more cluster workload es e)) (sym (order_of_more es e)) (next_keeps (world_after cluster workload es) (order_of es) e r.1 (keeps r.0)))
+      let r : AreLegal cluster workload es × IsLegal cluster workload (world_after cluster workload es) e = legal_more cluster workload es e l in
+      subst₂ (Inv cluster workload) (sym (world_after_more cluster workload es e)) (sym (order_of_more es e)) (next_keeps (world_after cluster workload es) (order_of es) e r.1 (keeps r.0)))
       events legal

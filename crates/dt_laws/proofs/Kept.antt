@@ -111,7 +111,8 @@ module _ (w v : World) where
   ordered_kept regions order e k o = record {
     executed = λ id. (
       λ h. let r : (region : ℕ) × (region < regions) × IsExecutedAt w region id = (o.executed id).0 h in (r.0, r.1, subst (λ l. Has (map (λ d. d.0) l) id) (sym (k r.0)) r.2),
-      λ r. (o.executed id).1 (r.0, r.1, subst (λ l. Has (map (λ d. d.0) l) id) (k r.0) r.2));
+      λ r. (o.executed id).1 (r.0, r.1, subst (λ l. Has (map (λ d. d.0) l) id) (k r.0) r.2),
+    );
     down = subst (λ l. IsDown (Precedes l) order) (sym e) o.down;
   }
 
@@ -125,8 +126,8 @@ module _ (w v : World) where
   places_kept tries k (s ∷ ss) (y ∷ ys) p = (place_kept tries k s y p.0, places_kept tries k ss ys p.1)
 
   pub known_kept : (cluster : Cluster) (workload : Workload) → Keeps (λ n. n.submitted) w v
-    → ((region : ℕ) → region < cluster.regions → AllIn (λ s. AnyIn (IsSubmissionOf cluster.tries region s) workload.sessions) (node_at w region).submitted)
-    → (region : ℕ) → region < cluster.regions → AllIn (λ s. AnyIn (IsSubmissionOf cluster.tries region s) workload.sessions) (node_at v region).submitted
+      → ((region : ℕ) → region < cluster.regions → AllIn (λ s. AnyIn (IsSubmissionOf cluster.tries region s) workload.sessions) (node_at w region).submitted)
+      → (region : ℕ) → region < cluster.regions → AllIn (λ s. AnyIn (IsSubmissionOf cluster.tries region s) workload.sessions) (node_at v region).submitted
   known_kept cluster workload k a region lt = subst (AllIn (λ s. AnyIn (IsSubmissionOf cluster.tries region s) workload.sessions)) (sym (k region)) (a region lt)
 
   pub sessions_kept : (cluster : Cluster) (workload : Workload) → Keeps (λ n. n.submitted) w v → v.places ≡ w.places → AreSessions cluster workload w → AreSessions cluster workload v

@@ -39,8 +39,8 @@ module _ (cluster : Cluster) (workload : Workload) (w : World) (order : List Txn
   sized : Sized cluster.regions v
   unfolding v n'
   sized q lt = each_of_set (λ k n. IsSized cluster.regions n) w.nodes region n' no_node
-    (let s : IsSized cluster.regions (node_at w region) = i.sized region lr in record { asked = s.asked; taken = s.taken; received = s.received; inserted = s.inserted })
-    (λ k lk. i.sized k (subst (λ m. k < m) i.nodes lk)) q (subst (λ m. q < m) (sym i.nodes) lt)
+      (let s : IsSized cluster.regions (node_at w region) = i.sized region lr in record { asked = s.asked; taken = s.taken; received = s.received; inserted = s.inserted })
+      (λ k lk. i.sized k (subst (λ m. k < m) i.nodes lk)) q (subst (λ m. q < m) (sym i.nodes) lt)
 
   view_same : (q : ℕ) → view_at v q ≡ view_at w q
   unfolding n'
@@ -53,8 +53,8 @@ module _ (cluster : Cluster) (workload : Workload) (w : World) (order : List Txn
       by : Either (q ≡ region) → IsSound (view_at w q) (node_at v q).here.resolved (done_ids (node_at v q).here)
       by (inr n) = subst (λ x. IsSound (view_at w q) x.here.resolved (done_ids x.here)) (sym (get_or-set_other w.nodes region q n' no_node n)) (i.sound q lq)
       by (inl e) = subst (λ y. IsSound (view_at w y) (node_at v y).here.resolved (done_ids (node_at v y).here)) (sym e)
-        (subst (λ x. IsSound (view_at w region) x.here.resolved (done_ids x.here)) (sym (get_or-set_same w.nodes region n' no_node (subst (λ m. region < m) (sym i.nodes) lr)))
-        (sound_resolve (view_at w region) (node_at w region).here.resolved (done_ids (node_at w region).here) ids may (i.sound region lr)))
+          (subst (λ x. IsSound (view_at w region) x.here.resolved (done_ids x.here)) (sym (get_or-set_same w.nodes region n' no_node (subst (λ m. region < m) (sym i.nodes) lr)))
+          (sound_resolve (view_at w region) (node_at w region).here.resolved (done_ids (node_at w region).here) ids may (i.sound region lr)))
 
   pub resolve_keeps : Inv cluster workload (moved_on w region (Resolve region ids)) order
   unfolding v n'

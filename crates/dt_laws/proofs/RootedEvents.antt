@@ -51,22 +51,28 @@ module _ (cluster : Cluster) (workload : Workload) (w : World) (order : List Txn
     where
       r : Submits cluster workload w region name
       r = submits cluster ok workload w order region name may i
+
       found : session_at workload.sessions w.places region r.session.name ≡ Some (r.session, r.place)
       found = subst (λ n. session_at workload.sessions w.places region n ≡ Some (r.session, r.place)) (sym r.named) r.found
+
       v : World
       v = world_submitted workload w region r.session r.place (submission_for w region r.session r.place r.call)
+
       logs : logs_of v ≡ logs_of w
       logs = submitted_logs cluster ok workload fits w order region r.session r.place r.call lr r.member r.here found r.wants r.on i
+
       histories : (key : Bytes) → history_of cluster v order key ≡ history_of cluster w order key
       histories key = ap (λ l. moves_of (table_after l (opening_table cluster)) key) (txns_stay w v (submitted_txns cluster ok workload fits w order region r.session r.place r.call lr r.member r.here found r.wants r.on i) order (order_known cluster workload w order i))
+
       fresh : AllIn (λ a. IsRooted cluster (logs_of w) (history_of cluster w order a.key) (next_id w region) a) (map (annotated (node_at w region).here.table) (uses_of (body_of r.call)))
       fresh = all_image (λ a. IsRooted cluster (logs_of w) (history_of cluster w order a.key) (next_id w region) a) (annotated (node_at w region).here.table) (uses_of (body_of r.call)) (all_put _ (uses_of (body_of r.call)) (λ u h. annotated_rooted cluster workload w order i rooted region lr u))
+
       each : (s : Submission) → Has (submissions v) s → AllIn (λ a. IsRooted cluster (logs_of v) (history_of cluster v order a.key) s.txn.id a) s.txn.access
       each s h = elim (submitted_was cluster ok workload fits w order region r.session r.place r.call lr r.member r.here found r.wants r.on i s h) [
-          inl k ↦ entries_kept cluster (logs_of w) (logs_of v) (history_of cluster w order) (history_of cluster v order) logs histories s.txn.id s.txn.access (all_get (λ x. AllIn (λ a. IsRooted cluster (logs_of w) (history_of cluster w order a.key) x.txn.id a) x.txn.access) (submissions w) rooted s k)
+        | inl k ↦ entries_kept cluster (logs_of w) (logs_of v) (history_of cluster w order) (history_of cluster v order) logs histories s.txn.id s.txn.access (all_get (λ x. AllIn (λ a. IsRooted cluster (logs_of w) (history_of cluster w order a.key) x.txn.id a) x.txn.access) (submissions w) rooted s k)
         | inr e ↦ subst (λ x. AllIn (λ a. IsRooted cluster (logs_of v) (history_of cluster v order a.key) x.txn.id a) x.txn.access) e
             (entries_kept cluster (logs_of w) (logs_of v) (history_of cluster w order) (history_of cluster v order) logs histories (next_id w region) (map (annotated (node_at w region).here.table) (uses_of (body_of r.call))) fresh)
-        ]
+      ]
 
   -- a placed request: its part comes after the parts of the movers before it
   module _ (home source : ℕ) (lh : home < cluster.regions) (ls : source < cluster.regions) (txn : Txn) (request : IsNextRequest w home source txn) where
@@ -88,6 +94,7 @@ module _ (cluster : Cluster) (workload : Workload) (w : World) (order : List Txn
       where
         is : log_at (logs_of (placed w home source (Some txn))) h ≡ log_at (set (logs_of w) home (log_at (logs_of w) home ++ part_of txn home ∷ [])) h
         is = ap (λ l. log_at l h) (logs_placed cluster workload w order home source lh ls i txn request.number request.request request.found)
+
         by : Either (h ≡ home) → Either (home < length (logs_of w)) → (log_at (logs_of (placed w home source (Some txn))) h ≡ log_at (logs_of w) h) ⊎ (log_at (logs_of (placed w home source (Some txn))) h ≡ log_at (logs_of w) h ++ part_of txn home ∷ [])
         by (inr n) l = inl (is ∙ get_or-set_other (logs_of w) home h (log_at (logs_of w) home ++ part_of txn home ∷ []) [] n)
         by (inl e) (inl lt) = inr (is ∙ ap (λ x. log_at (set (logs_of w) home (log_at (logs_of w) home ++ part_of txn home ∷ [])) x) e ∙ get_or-set_same (logs_of w) home (log_at (logs_of w) home ++ part_of txn home ∷ []) [] lt ∙ ap (λ x. log_at (logs_of w) x ++ part_of txn home ∷ []) (sym e))
@@ -106,12 +113,13 @@ module _ (cluster : Cluster) (workload : Workload) (w : World) (order : List Txn
         last : HasPart (part_of txn home ∷ []) t → StandsBefore (ids_of (log_at (logs_of w) h) ++ txn.id ∷ []) by t
         last (inl e) = subst (StandsBefore (ids_of (log_at (logs_of w) h) ++ txn.id ∷ []) by) e (has_before by txn.id (ids_of (log_at (logs_of w) h)) [] (any_image (λ y. y ≡ by) (λ p. p.id) (log_at (logs_of w) h) there))
         last (inr f) = absurd f
+
         at : (log_at (logs_of u) h ≡ log_at (logs_of w) h) ⊎ (log_at (logs_of u) h ≡ log_at (logs_of w) h ++ part_of txn home ∷ []) → StandsBefore (ids_of (log_at (logs_of u) h)) by t
         at (inl e) = subst (λ l. StandsBefore (ids_of l) by t) (sym e) (before (subst (λ l. HasPart l t) e now))
         at (inr e) = subst (λ l. StandsBefore (ids_of l) by t) (sym e) (subst (λ l. StandsBefore l by t) (sym (map_push (λ p. p.id) (log_at (logs_of w) h) (part_of txn home)))
-          (elim (any_append (λ p. p.id ≡ t) (log_at (logs_of w) h) (part_of txn home ∷ []) (subst (λ l. HasPart l t) e now)) [
-              inl k ↦ some_append_left _ (ids_of (log_at (logs_of w) h)) (txn.id ∷ []) (before k)
-            | inr k ↦ last k
+            (elim (any_append (λ p. p.id ≡ t) (log_at (logs_of w) h) (part_of txn home ∷ []) (subst (λ l. HasPart l t) e now)) [
+              | inl k ↦ some_append_left _ (ids_of (log_at (logs_of w) h)) (txn.id ∷ []) (before k)
+              | inr k ↦ last k
             ]))
 
     root_placed : (t : TxnId) (a : Access) → IsRooted cluster (logs_of w) (history_of cluster w order a.key) t a → IsRooted cluster (logs_of u) (history_of cluster w order a.key) t a
@@ -119,8 +127,13 @@ module _ (cluster : Cluster) (workload : Workload) (w : World) (order : List Txn
       where
         go : (c : ℕ) → a.home ≡ home_after (opening_home cluster.regions cluster.homes a.key) (take c (history_of cluster w order a.key)) → HasRoot (logs_of w) t a.home (history_of cluster w order a.key) c → HasRoot (logs_of u) t a.home (history_of cluster w order a.key) c
         go zero e x = tt
-        go (suc c) e x = (x.0, x.1, closed_stays (logs_of w) (logs_of u) longer formed x.0.by x.2, (λ s. x.3 (reaches_back (logs_of w) (logs_of u) longer formed s x.2)),
-          stands t a.home x.0.by (mover_there a c x.0 x.1 x.2 e) x.4)
+        go (suc c) e x = (
+          x.0,
+          x.1,
+          closed_stays (logs_of w) (logs_of u) longer formed x.0.by x.2,
+          (λ s. x.3 (reaches_back (logs_of w) (logs_of u) longer formed s x.2)),
+          stands t a.home x.0.by (mover_there a c x.0 x.1 x.2 e) x.4,
+        )
 
     placed_roots : Rooted cluster (placed w home source (Some txn)) order
     unfolding u
@@ -129,25 +142,26 @@ module _ (cluster : Cluster) (workload : Workload) (w : World) (order : List Txn
       where
         same : submissions (placed w home source (Some txn)) ≡ submissions w
         same = submissions_placed cluster workload w order home source lh ls i txn request.number request.request request.found
+
         histories : (key : Bytes) → history_of cluster (placed w home source (Some txn)) order key ≡ history_of cluster w order key
         histories key = ap (λ l. moves_of (table_after l (opening_table cluster)) key) (txns_same w (placed w home source (Some txn)) same order)
 
   append_roots : (home source number : ℕ) → home < cluster.regions → source < cluster.regions → number < length (asked_of w source home) → Rooted cluster (next workload w (Append home source number)) order
   append_roots home source number lh ls more = elim (append_cases cluster workload w order home source number lh ls more i) [
-      inl e ↦ subst (λ x. Rooted cluster x order) (sym e) rooted
+    | inl e ↦ subst (λ x. Rooted cluster x order) (sym e) rooted
     | inr r ↦ subst (λ x. Rooted cluster x order) (sym r.2) (placed_roots home source lh ls r.0 r.1)
-    ]
+  ]
 
   -- a step by which a region changes only what it made of the logs
   step_roots : (region : ℕ) (h : Replica) → Rooted cluster (with_node w region (record (node_at w region) { here = h })) order
   step_roots region h = rooted_kept cluster w (with_node w region (record (node_at w region) { here = h })) order
-    (map_of_set (λ n. n.log) w.nodes region (record (node_at w region) { here = h }) no_node refl)
-    (flat_map_of_set (λ n. n.submitted) w.nodes region (record (node_at w region) { here = h }) no_node refl) rooted
+      (map_of_set (λ n. n.log) w.nodes region (record (node_at w region) { here = h }) no_node refl)
+      (flat_map_of_set (λ n. n.submitted) w.nodes region (record (node_at w region) { here = h }) no_node refl) rooted
 
   received_roots : (region home last : ℕ) → Rooted cluster (received w region home last) order
   received_roots region home last = rooted_kept cluster w (received w region home last) order
-    (map_of_set (λ n. n.log) w.nodes region (record (node_at w region) { received = set (node_at w region).received home last }) no_node refl)
-    (flat_map_of_set (λ n. n.submitted) w.nodes region (record (node_at w region) { received = set (node_at w region).received home last }) no_node refl) rooted
+      (map_of_set (λ n. n.log) w.nodes region (record (node_at w region) { received = set (node_at w region).received home last }) no_node refl)
+      (flat_map_of_set (λ n. n.submitted) w.nodes region (record (node_at w region) { received = set (node_at w region).received home last }) no_node refl) rooted
 
   deliver_roots : (region home first last : ℕ) → Rooted cluster (next workload w (Deliver region home first last)) order
   deliver_roots region home first last = go (leb first (received_of w region home) && ltb (received_of w region home) last)
@@ -162,7 +176,7 @@ module _ (cluster : Cluster) (workload : Workload) (w : World) (order : List Txn
     where
       front : (key : Bytes) → IsFront (history_of cluster w order key) (history_of cluster w (order ++ id ∷ []) key)
       front key = subst (λ l. IsFront (history_of cluster w order key) (moves_of l key)) (sym (ap (λ l. table_after l (opening_table cluster)) (txns_more w order id txn e) ∙ table_after_append (txns_of w order) (txn ∷ []) (opening_table cluster)))
-        (moves_grow (txn ∷ []) (table_after (txns_of w order) (opening_table cluster)) key)
+          (moves_grow (txn ∷ []) (table_after (txns_of w order) (opening_table cluster)) key)
 
 answer_roots : (cluster : Cluster) (workload : Workload) (w : World) (order : List TxnId) (region : ℕ) (o : Option (Session × Place)) → Rooted cluster w order → Rooted cluster (answered workload w region o) order
 answer_roots cluster workload w order region None r = r
@@ -173,9 +187,9 @@ module _ (cluster : Cluster) (ok : IsValidCluster cluster) (workload : Workload)
   execute_roots w order region id lr may i r =
       let k : IsKnown w id = executable_known cluster workload w order region id lr may i in
       rooted_kept cluster w (moved_on w region (Execute region id)) (cond (is_among order id) order (order ++ id ∷ []))
-        (map_of_set (λ n. n.log) w.nodes region (record (node_at w region) { here = stepped (txn_of w) (node_at w region).here (Execute region id) }) no_node refl)
-        (flat_map_of_set (λ n. n.submitted) w.nodes region (record (node_at w region) { here = stepped (txn_of w) (node_at w region).here (Execute region id) }) no_node refl)
-        (go (is_among order id) k)
+      (map_of_set (λ n. n.log) w.nodes region (record (node_at w region) { here = stepped (txn_of w) (node_at w region).here (Execute region id) }) no_node refl)
+      (flat_map_of_set (λ n. n.submitted) w.nodes region (record (node_at w region) { here = stepped (txn_of w) (node_at w region).here (Execute region id) }) no_node refl)
+      (go (is_among order id) k)
     where
       go : (b : Bool) → IsKnown w id → Rooted cluster w (cond b order (order ++ id ∷ []))
       go true k = r
@@ -196,6 +210,6 @@ module _ (cluster : Cluster) (ok : IsValidCluster cluster) (workload : Workload)
   legal_roots events legal = from_right (λ es. AreLegal cluster workload es → Rooted cluster (world_after cluster workload es) (order_of es))
       (λ l. opening_rooted cluster workload)
       (λ es e keeps l.
-        let r : AreLegal cluster workload es × IsLegal cluster workload (world_after cluster workload es) e = legal_more cluster workload es e l in
-        subst₂ (Rooted cluster) (sym (world_after_more cluster workload es e)) (sym (order_of_more es e)) (next_roots (world_after cluster workload es) (order_of es) e r.1 (legal_keeps cluster ok workload fits es r.0) (keeps r.0)))
+      let r : AreLegal cluster workload es × IsLegal cluster workload (world_after cluster workload es) e = legal_more cluster workload es e l in
+      subst₂ (Rooted cluster) (sym (world_after_more cluster workload es e)) (sym (order_of_more es e)) (next_roots (world_after cluster workload es) (order_of es) e r.1 (legal_keeps cluster ok workload fits es r.0) (keeps r.0)))
       events legal

@@ -105,16 +105,21 @@ module _ (cluster : Cluster) (workload : Workload) (w : World) (order : List Txn
     where
       unreached : (m : Moved) → Has front m → ¬ (Reaches (logs_of w) t m.by)
       unreached m h r = elim (reach_source (logs_of w) r) [
-          inl e ↦ absent (subst (IsPresent (logs_of w)) (sym e) (present_of_complete (logs_of w) m.by (complete_of_closed (logs_of w) m.by (all_get (λ x. IsClosed (logs_of w) x.by) front closed m h))))
+        | inl e ↦ absent (subst (IsPresent (logs_of w)) (sym e) (present_of_complete (logs_of w) m.by (complete_of_closed (logs_of w) m.by (all_get (λ x. IsClosed (logs_of w) x.by) front closed m h))))
         | inr p ↦ absent p
-        ]
+      ]
+
       go : (n : ℕ) → length front ≡ n → HasRoot (logs_of w) t home whole n
       go zero e = tt
       go (suc c) e =
           let m : (x : Moved) × (slice_get front c ≡ Some x) = at_place front c (omega arith) in
-          let there : Has front m.0 = has_place front c m.0 m.1 in
-          (m.0, subst (λ l. slice_get l c ≡ Some m.0) f.1 (place_in_longer front f.0 c m.0 m.1), all_get (λ x. IsClosed (logs_of w) x.by) front closed m.0 there, unreached m.0 there,
-            λ h. absurd (absent (any_from_at (λ log. HasPart log t) [] (logs_of w) home (λ e. e) h)))
+          let there : Has front m.0 = has_place front c m.0 m.1 in (
+            m.0,
+            subst (λ l. slice_get l c ≡ Some m.0) f.1 (place_in_longer front f.0 c m.0 m.1),
+            all_get (λ x. IsClosed (logs_of w) x.by) front closed m.0 there,
+            unreached m.0 there,
+            λ h. absurd (absent (any_from_at (λ log. HasPart log t) [] (logs_of w) home (λ e. e) h)),
+          )
 
   module _ (rooted : Rooted cluster w order) where
     -- what a region annotates is rooted
@@ -123,22 +128,30 @@ module _ (cluster : Cluster) (workload : Workload) (w : World) (order : List Txn
       where
         here : Table
         here = (node_at w region).here.table
+
         ran : List Txn
         ran = txns_of w (done_ids (node_at w region).here)
+
         table : here ≡ table_after ran (opening_table cluster)
         table = (i.tables region lr).table
+
         moves : List Moved
         moves = moves_of (table_after ran (opening_table cluster)) used.0
+
         same : moves_of here used.0 ≡ moves
         same = ap (λ t. moves_of t used.0) table
+
         front : IsFront moves (history_of cluster w order used.0)
         front = moves_front (Precedes (logs_of w)) (opening_table cluster) (txns_of w order) (history cluster workload w order i rooted) ran used.0 (region_members cluster workload w order i rooted region lr) (region_down cluster workload w order i rooted region lr)
+
         closed : AllIn (λ m. IsClosed (logs_of w) m.by) moves
         closed = all_map _ _ moves (λ m h. closed_full cluster workload w order i region m.by lr (executed_closed cluster workload w order i region m.by lr (subst (λ l. Has l m.by) (done_txn_ids cluster workload w order i region lr) h)))
-          (movers_ran ran (opening_table cluster) used.0 (unmoved_at_first cluster used.0))
+            (movers_ran ran (opening_table cluster) used.0 (unmoved_at_first cluster used.0))
+
         home : home_after (opening_home here.regions here.homes used.0) (moves_of here used.0) ≡ home_after (opening_home cluster.regions cluster.homes used.0) (take (length (moves_of here used.0)) (history_of cluster w order used.0))
         home = ap₂ home_after (ap₂ (λ r h. opening_home r h used.0) (ap (λ t. t.regions) table ∙ regions_stay ran (opening_table cluster)) (ap (λ t. t.homes) table ∙ homes_stay ran (opening_table cluster)))
-          (same ∙ sym (ap₂ take (ap length same) (sym front.1) ∙ take_at moves front.0 (length moves) refl))
+            (same ∙ sym (ap₂ take (ap length same) (sym front.1) ∙ take_at moves front.0 (length moves) refl))
+
         root : HasRoot (logs_of w) (next_id w region) (home_after (opening_home here.regions here.homes used.0) (moves_of here used.0)) (history_of cluster w order used.0) (length (moves_of here used.0))
         root = subst (HasRoot (logs_of w) (next_id w region) (home_after (opening_home here.regions here.homes used.0) (moves_of here used.0)) (history_of cluster w order used.0)) (sym (ap length same))
-          (front_roots (next_id w region) (home_after (opening_home here.regions here.homes used.0) (moves_of here used.0)) moves (history_of cluster w order used.0) front closed (next_absent region))
+            (front_roots (next_id w region) (home_after (opening_home here.regions here.homes used.0) (moves_of here used.0)) moves (history_of cluster w order used.0) front closed (next_absent region))

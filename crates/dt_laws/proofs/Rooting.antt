@@ -157,20 +157,24 @@ module _ (cluster : Cluster) (workload : Workload) (w : World) (order : List Txn
       where
         closed : IsClosed (logs_of w) x.id
         closed = order_closed cluster workload w order i x.id (in_order x hx).0
+
         there : HasPart (log_at (logs_of w) a.home) x.id
         there = parts_of_closed x.id x a.home closed (in_order x hx).1 (home_of_entry x a ha)
+
         follows : (c : ℕ) → HasRoot (logs_of w) x.id a.home (history_of cluster w order a.key) c → FollowsMove (Precedes (logs_of w)) (history_of cluster w order a.key) c x.id
         follows zero r = tt
         follows (suc c) r = (r.0, r.1, (ne, chain_step edge, inl r.3))
           where
             ne : r.0.by ≢ x.id
             ne e = r.3 (subst (λ u. Reaches (logs_of w) x.id u) (sym e) here)
+
             clashing : (p q : Part) → Has (log_at (logs_of w) a.home) p → Has (log_at (logs_of w) a.home) q → (p.id ≡ r.0.by) × (q.id ≡ x.id) → AreClashing r.0.by x.id p q
             clashing p q hp hq e =
                 let m : (y : Txn) × (txn_of w r.0.by ≡ Some y) × (y.body ≡ Move a.key r.0.target) × IsValid cluster.regions y = maker_found a.key c r.0 r.1 in
                 let left : p.keys ≡ (a.key, Write) ∷ [] = part_keys a.home p m.0 hp (ap (txn_of w) e.0 ∙ m.1) ∙ listed_of_move cluster.regions m.0 a.key r.0.target a.home m.3 m.2 in
                 let right : q.keys ≡ (part_of x a.home).keys = part_keys a.home q x hq (ap (txn_of w) e.1 ∙ (in_order x hx).1) in
                 (e.0, e.1, subst₂ (λ k l. clash k l ≡ true) (sym left) (sym right) (clash_of_uses ((a.key, Write) ∷ []) (part_of x a.home).keys (inl (any_put (λ b. uses_clash (a.key, Write) b ≡ true) (part_of x a.home).keys (used_of a) (listed x.body a.home x.access a ha refl) (writes_clash a.key a.key a.mode refl)))))
+
             edge : Edge (logs_of w) r.0.by x.id
             edge = edge_at_home (logs_of w) a.home r.0.by x.id ne (some_map_in _ (AreClashing r.0.by x.id) (log_at (logs_of w) a.home) clashing (some_of_image (λ u t. (u ≡ r.0.by) × (t ≡ x.id)) (λ p. p.id) (log_at (logs_of w) a.home) (r.4 there)))
 
@@ -187,8 +191,8 @@ module _ (cluster : Cluster) (workload : Workload) (w : World) (order : List Txn
         let right : q.0.keys ≡ (part_of y a.home).keys = part_keys a.home q.0 y q.1 (ap (txn_of w) q.2 ∙ (in_order y hy).1) in
         let apart : p.0.id ≢ q.0.id = λ s. ne (sym p.2 ∙ s ∙ q.2) in
         let clashes : clash (part_of x a.home).keys (part_of y a.home).keys ≡ true = clash_of_uses (part_of x a.home).keys (part_of y a.home).keys
-          (any_put (λ u. AnyIn (λ v. uses_clash u v ≡ true) (part_of y a.home).keys) (part_of x a.home).keys (used_of a) (listed x.body a.home x.access a ha refl)
-          (any_put (λ v. uses_clash (used_of a) v ≡ true) (part_of y a.home).keys (used_of b) (listed y.body a.home y.access b hb (sym home)) c)) in
+        (any_put (λ u. AnyIn (λ v. uses_clash u v ≡ true) (part_of y a.home).keys) (part_of x a.home).keys (used_of a) (listed x.body a.home x.access a ha refl)
+        (any_put (λ v. uses_clash (used_of a) v ≡ true) (part_of y a.home).keys (used_of b) (listed y.body a.home y.access b hb (sym home)) c)) in
         subst₂ (λ u t. Ordered (Precedes (logs_of w)) u t) p.2 q.2 (comparable_in_log (logs_of w) a.home p.0 q.0 p.1 q.1 apart (subst₂ (λ k l. clash k l ≡ true) (sym left) (sym right) clashes))
 
     -- the order is a history

@@ -64,24 +64,34 @@ firsts_more (x ∷ xs) y = go (cases_Bool (is_among (firsts xs) y)) (cases_Bool 
   where
     rest : List TxnId
     rest = without x (firsts xs)
+
     kept_here : same_id x y ≡ false → without x (y ∷ []) ≡ y ∷ []
     kept_here n = rw n refl
+
     gone_here : same_id x y ≡ true → without x (y ∷ []) ≡ []
     gone_here p = rw p refl
+
     shorter : (zs : List TxnId) → firsts (xs ++ y ∷ []) ≡ zs → firsts ((x ∷ xs) ++ y ∷ []) ≡ x ∷ without x zs
     shorter zs e = ap (λ l. x ∷ without x l) e
+
     joined : without x (firsts xs ++ y ∷ []) ≡ without x (firsts xs) ++ without x (y ∷ [])
     joined = filter-append (λ other. not (same_id x other)) (firsts xs) (y ∷ [])
+
     there : Has (x ∷ without x (firsts xs)) y → with_executed (x ∷ without x (firsts xs)) (Some y) ≡ x ∷ without x (firsts xs)
     there h = rw (among_id (x ∷ without x (firsts xs)) y h) refl
+
     absent : ¬ (Has (x ∷ without x (firsts xs)) y) → with_executed (x ∷ without x (firsts xs)) (Some y) ≡ (x ∷ without x (firsts xs)) ++ y ∷ []
     absent n = rw (not_among (x ∷ without x (firsts xs)) y n) refl
+
     before : is_among (firsts xs) y ≡ true → firsts (xs ++ y ∷ []) ≡ with_executed (firsts xs) (Some y) → firsts (xs ++ y ∷ []) ≡ firsts xs
     before p ih = ih ∙ rw p refl
+
     after : is_among (firsts xs) y ≡ false → firsts (xs ++ y ∷ []) ≡ with_executed (firsts xs) (Some y) → firsts (xs ++ y ∷ []) ≡ firsts xs ++ y ∷ []
     after n ih = ih ∙ rw n refl
+
     stays : same_id x y ≡ false → not (same_id x y) ≡ true
     stays n = rw n refl
+
     go : (is_among (firsts xs) y ≡ true) ⊎ (is_among (firsts xs) y ≡ false) → (same_id x y ≡ true) ⊎ (same_id x y ≡ false) → firsts (xs ++ y ∷ []) ≡ with_executed (firsts xs) (Some y) → firsts ((x ∷ xs) ++ y ∷ []) ≡ with_executed (firsts (x ∷ xs)) (Some y)
     go (inl p) (inl q) ih = shorter (firsts xs) (before p ih) ∙ sym (there (inl (id_of_test x y q)))
     go (inl p) (inr q) ih = shorter (firsts xs) (before p ih) ∙ sym (there (inr (has_filtered (λ other. not (same_id x other)) (firsts xs) y (has_of_among (firsts xs) y p) (stays q))))

@@ -67,8 +67,9 @@ may_go_on cluster valid workload w order i region session place may p = go place
   where
     tries : 1 ≤ cluster.tries
     tries = valid.tries
+
     go : (waits : Option TxnId) → MayTry cluster w region session place.answered waits → IsPlaced cluster.tries (node_at w session.region).submitted session place.answered waits
-      → MayGoOn cluster w session (record { answered = place.answered; waits = waits })
+        → MayGoOn cluster w session (record { answered = place.answered; waits = waits })
     go None m q = record { call = m; from = omega arith; to = tries; attempts = omega (arith, q) }
     go (Some id) m q =
         let found : attempt_of w id ≡ q.submission.attempt = ap (λ o. unwrap_or (option_map (λ s. s.attempt) o) 0) (awaited_attempt cluster workload w order i cluster.tries session.region place.answered session id q) in
@@ -117,8 +118,8 @@ module _ (cluster : Cluster) (ok : IsValidCluster cluster) (workload : Workload)
   sized : Sized cluster.regions v
   unfolding v n'
   sized q lt = each_of_set (λ k n. IsSized cluster.regions n) w.nodes region n' no_node
-    (let z : IsSized cluster.regions (node_at w region) = i.sized region lr in record { asked = ask_length (homes_of s.txn) s.txn.id (node_at w region).asked ∙ z.asked; taken = z.taken; received = z.received; inserted = z.inserted })
-    (λ k lk. i.sized k (subst (λ m. k < m) i.nodes lk)) q (subst (λ m. q < m) (sym i.nodes) lt)
+      (let z : IsSized cluster.regions (node_at w region) = i.sized region lr in record { asked = ask_length (homes_of s.txn) s.txn.id (node_at w region).asked ∙ z.asked; taken = z.taken; received = z.received; inserted = z.inserted })
+      (λ k lk. i.sized k (subst (λ m. k < m) i.nodes lk)) q (subst (λ m. q < m) (sym i.nodes) lt)
 
   ids : Numbered cluster.regions v
   unfolding s
@@ -146,9 +147,9 @@ module _ (cluster : Cluster) (ok : IsValidCluster cluster) (workload : Workload)
     where
       by : (r : ℕ) → Has (node_at v r).submitted x → Either (r ≡ region) → Has (submissions w) x ⊎ (s ≡ x)
       by r h (inl e) = elim (has_more (node_at w region).submitted s x (subst (λ l. Has l x) submitted_here (subst (λ y. Has (node_at v y).submitted x) e h))) [
-          inl k ↦ inl (from_region w region x k)
+        | inl k ↦ inl (from_region w region x k)
         | inr k ↦ inr k
-        ]
+      ]
       by r h (inr n) = inl (from_region w r x (subst (λ y. Has y.submitted x) (other r n) h))
 
   this : Has (submissions v) s
@@ -163,14 +164,14 @@ module _ (cluster : Cluster) (ok : IsValidCluster cluster) (workload : Workload)
   valid_one : IsValid cluster.regions s.txn
   unfolding s
   valid_one = annotated_valid cluster.regions (next_id w region) (body_of call) (node_at w region).here.table
-    (body_fits cluster.regions call (all_get (WantedFits cluster.regions) session.calls (all_get (IsValidSession cluster.regions) workload.sessions fits.sessions session member).calls call (has_place session.calls place.answered call wants)))
-    (λ key. subst (λ t. home_of t key < cluster.regions) (sym (i.tables region lr).table) (home_below cluster ok (txns_of w (done_ids (node_at w region).here)) (txns_valid cluster.regions w i.valid (done_ids (node_at w region).here)) key))
+      (body_fits cluster.regions call (all_get (WantedFits cluster.regions) session.calls (all_get (IsValidSession cluster.regions) workload.sessions fits.sessions session member).calls call (has_place session.calls place.answered call wants)))
+      (λ key. subst (λ t. home_of t key < cluster.regions) (sym (i.tables region lr).table) (home_below cluster ok (txns_of w (done_ids (node_at w region).here)) (txns_valid cluster.regions w i.valid (done_ids (node_at w region).here)) key))
 
   valid : Valid cluster.regions v
   valid = all_put (λ x. IsValid cluster.regions x.txn) (submissions v) (λ x h. elim (was x h) [
-      inl k ↦ all_get (λ y. IsValid cluster.regions y.txn) (submissions w) i.valid x k
+    | inl k ↦ all_get (λ y. IsValid cluster.regions y.txn) (submissions w) i.valid x k
     | inr e ↦ subst (λ y. IsValid cluster.regions y.txn) e valid_one
-    ])
+  ])
 
   -- requests
 
@@ -187,7 +188,7 @@ module _ (cluster : Cluster) (ok : IsValidCluster cluster) (workload : Workload)
     where
       by : Either (q ≡ region) → asked_of v q home ≡ requests home (node_at v q).submitted
       by (inl e) = subst (λ x. asked_of v x home ≡ requests home (node_at v x).submitted) (sym e)
-        (asked_here home lh ∙ ap (λ l. l ++ requests home (s ∷ [])) (i.asked region home lr lh) ∙ sym (requests_append home (node_at w region).submitted (s ∷ [])) ∙ ap (requests home) (sym submitted_here))
+          (asked_here home lh ∙ ap (λ l. l ++ requests home (s ∷ [])) (i.asked region home lr lh) ∙ sym (requests_append home (node_at w region).submitted (s ∷ [])) ∙ ap (requests home) (sym submitted_here))
       by (inr n) = ap (λ x. get_or x.asked home []) (other q n) ∙ i.asked q home lq lh ∙ ap (λ x. requests home x.submitted) (sym (other q n))
 
   -- a list of requests goes on
@@ -208,12 +209,14 @@ module _ (cluster : Cluster) (ok : IsValidCluster cluster) (workload : Workload)
     where
       same : (source : ℕ) → taken_from v home source ≡ taken_from w home source
       same source = ap (λ l. slice_index l source) (keeps (λ n. n.taken) refl home)
+
       taken : (source : ℕ) → source < cluster.regions → taken_from v home source ≤ length (asked_of v source home)
       taken source ls =
           let g : (rest : List TxnId) × (asked_of v source home ≡ asked_of w source home ++ rest) = goes_on source home lh in
           let longer : length (asked_of v source home) ≡ length (asked_of w source home) + length g.0 = ap length g.1 ∙ length-append (asked_of w source home) g.0 in
           let is : taken_from v home source ≡ taken_from w home source = same source in
           omega (arith, (i.logs home lh).taken source ls)
+
       given : (source : ℕ) → source < cluster.regions → take (taken_from v home source) (asked_of v source home) ≡ take (taken_from w home source) (asked_of w source home)
       given source ls =
           let g : (rest : List TxnId) × (asked_of v source home ≡ asked_of w source home ++ rest) = goes_on source home lh in
@@ -247,6 +250,7 @@ module _ (cluster : Cluster) (ok : IsValidCluster cluster) (workload : Workload)
     where
       count : attempts_by t.name ((node_at w t.region).submitted ++ s ∷ []) ≡ attempts_by t.name (node_at w t.region).submitted
       count = attempts_of_other t.name (node_at w t.region).submitted s (λ e. n (sym e))
+
       more : (waits : Option TxnId) → IsPlaced cluster.tries (node_at w t.region).submitted t x.answered waits → IsPlaced cluster.tries ((node_at w t.region).submitted ++ s ∷ []) t x.answered waits
       more None q = omega (arith, count, q)
       more (Some id) q = record {
@@ -260,6 +264,7 @@ module _ (cluster : Cluster) (ok : IsValidCluster cluster) (workload : Workload)
         attempt_to = q.attempt_to;
         attempts = omega (arith, count, q.attempts);
       }
+
       by : Either (t.region ≡ region) → (waits : Option TxnId) → IsPlaced cluster.tries (node_at w t.region).submitted t x.answered waits → IsPlaced cluster.tries (node_at v t.region).submitted t x.answered waits
       by (inr m) waits q = subst (λ y. IsPlaced cluster.tries y.submitted t x.answered waits) (sym (other t.region m)) q
       by (inl e) waits q = subst (λ l. IsPlaced cluster.tries l t x.answered waits) (sym (subst (λ r. (node_at v r).submitted ≡ (node_at w r).submitted ++ s ∷ []) (sym e) submitted_here)) (more waits q)
@@ -281,8 +286,8 @@ module _ (cluster : Cluster) (ok : IsValidCluster cluster) (workload : Workload)
       by : Either (q ≡ region) → AllIn (λ x. AnyIn (IsSubmissionOf cluster.tries q x) workload.sessions) (node_at v q).submitted
       by (inr n) = subst (λ y. AllIn (λ x. AnyIn (IsSubmissionOf cluster.tries q x) workload.sessions) y.submitted) (sym (other q n)) (i.sessions.known q lq)
       by (inl e) = subst (λ r. AllIn (λ x. AnyIn (IsSubmissionOf cluster.tries r x) workload.sessions) (node_at v r).submitted) (sym e)
-        (subst (AllIn (λ x. AnyIn (IsSubmissionOf cluster.tries region x) workload.sessions)) (sym submitted_here)
-        (all_more (λ x. AnyIn (IsSubmissionOf cluster.tries region x) workload.sessions) (node_at w region).submitted s (i.sessions.known region lr) of_session))
+          (subst (AllIn (λ x. AnyIn (IsSubmissionOf cluster.tries region x) workload.sessions)) (sym submitted_here)
+          (all_more (λ x. AnyIn (IsSubmissionOf cluster.tries region x) workload.sessions) (node_at w region).submitted s (i.sessions.known region lr) of_session))
 
   sessions : AreSessions cluster workload v
   sessions = record {
@@ -368,4 +373,4 @@ pub submit_keeps : (cluster : Cluster) → IsValidCluster cluster → (workload 
 submit_keeps cluster ok workload fits w order region name lr may i =
     let r : Submits cluster workload w region name = submits cluster ok workload w order region name may i in
     subst (λ x. Inv cluster workload x order) (sym r.next)
-      (submitted_keeps cluster ok workload fits w order region r.session r.place r.call lr r.member r.here (subst (λ n. session_at workload.sessions w.places region n ≡ Some (r.session, r.place)) (sym r.named) r.found) r.wants r.on i)
+    (submitted_keeps cluster ok workload fits w order region r.session r.place r.call lr r.member r.here (subst (λ n. session_at workload.sessions w.places region n ≡ Some (r.session, r.place)) (sym r.named) r.found) r.wants r.on i)

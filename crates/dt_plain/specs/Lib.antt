@@ -3,3 +3,4 @@ pub mod Grown
 pub mod Links
 pub mod Graphs
 pub mod Deciding
+pub mod Kept

@@ -13,6 +13,7 @@ use std::alloc::Global;
 use std::marker::Model;
 
 /// The dependency graph of logs. Contracts see the logs.
+#[derive(Drop)]
 pub struct Graph<'a> {
     logs: &'a [Listed<Part>],
     ids: Ids,

@@ -6,4 +6,7 @@ mod complete;
 mod decide;
 mod graph;
 mod ids;
+mod plain;
 mod search;
+
+pub use plain::PlainSched;
