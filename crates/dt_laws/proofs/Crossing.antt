@@ -91,7 +91,7 @@ module _ (cluster : Cluster) (ok : IsValidCluster cluster) (workload : Workload)
       let p : IsRun a x = run_of a x ha ea na in
       let q : IsRun b y = run_of b y hb eb nb in
       subst₂ (Ordered (Precedes (logs_of (world_after cluster workload events)))) p.own q.own
-        (across_moves (Precedes (logs_of (world_after cluster workload events))) (opening_table cluster) (txns_of (world_after cluster workload events) (order_of events)) past x y p.outcome q.outcome p.there q.there (λ e. ne (sym p.own ∙ e ∙ q.own)) p.gave q.gave p.fresh q.fresh c)
+      (across_moves (Precedes (logs_of (world_after cluster workload events))) (opening_table cluster) (txns_of (world_after cluster workload events) (order_of events)) past x y p.outcome q.outcome p.there q.there (λ e. ne (sym p.own ∙ e ∙ q.own)) p.gave q.gave p.fresh q.fresh c)
 
   -- of two executed attempts with one key, that with fewer moves of it, if it is not stale, precedes the other
   pub legal_fewer : (a b : TxnId) (x y : Txn) → Has (order_of events) a → Has (order_of events) b
@@ -113,25 +113,33 @@ pub legal_counters : (cluster : Cluster) → IsValidCluster cluster → (workloa
     → AllIn (λ a. a.counter ≤ counter_of (node_at (world_after cluster workload events) region).here.table a.key) x.access
 legal_counters cluster ok workload fits events region id x legal l found =
     subst (λ t. AllIn (λ a. a.counter ≤ counter_of t a.key) x.access) (sym (i.tables region l.regions).table)
-      (counters_reached (Precedes (logs_of v)) (opening_table cluster) (txns_of v (order_of later)) (history cluster workload v (order_of later) j rooted) ran x []
-        (subst (AllIn (Has (txns_of v (order_of later)))) ran_now (region_members cluster workload v (order_of later) j rooted region l.regions))
-        (subst (λ xs. IsDown (Precedes (logs_of v)) (txn_ids xs)) ran_now (region_down cluster workload v (order_of later) j rooted region l.regions)))
+    (counters_reached (Precedes (logs_of v)) (opening_table cluster) (txns_of v (order_of later)) (history cluster workload v (order_of later) j rooted) ran x []
+    (subst (AllIn (Has (txns_of v (order_of later)))) ran_now (region_members cluster workload v (order_of later) j rooted region l.regions))
+    (subst (λ xs. IsDown (Precedes (logs_of v)) (txn_ids xs)) ran_now (region_down cluster workload v (order_of later) j rooted region l.regions)))
   where
     w : World
     w = world_after cluster workload events
+
     later : List Event
     later = events ++ Execute region id ∷ []
+
     v : World
     v = world_after cluster workload later
+
     ran : List Txn
     ran = txns_of w (done_ids (node_at w region).here)
+
     i : Inv cluster workload w (order_of events)
     i = legal_keeps cluster ok workload fits events legal
+
     all : AreLegal cluster workload later
     all = more_legal cluster workload events (Execute region id) legal l
+
     j : Inv cluster workload v (order_of later)
     j = legal_keeps cluster ok workload fits later all
+
     rooted : Rooted cluster v (order_of later)
     rooted = legal_roots cluster ok workload fits later all
+
     ran_now : txns_of v (done_ids (node_at v region).here) ≡ ran ++ x ∷ []
     ran_now = subst (λ u. txns_of u (done_ids (node_at u region).here) ≡ ran ++ x ∷ []) (sym (world_after_more cluster workload events (Execute region id))) (executed_txns cluster workload w (order_of events) region id l.regions l.allowed x found i)

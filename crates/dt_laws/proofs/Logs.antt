@@ -8,7 +8,8 @@ use Rattle.dt_lists.specs.Lists.{AnyIn, AllIn, Has, EachThen, Distinct, IsFront,
 use Rattle.dt_lists.proofs.Words.{any_get, any_put, any_of_image, any_image, all_map, all_get, all_put, all_of_image}
 use Rattle.dt_lists.proofs.Fronts.{front_take, each_front, any_front}
 use Rattle.dt_lists.proofs.Decided.{either_le}
-use Rattle.dt_lists.proofs.Places.{has_filtered, has_of_filtered, distinct_by_key}
+use Rattle.dt_lists.proofs.Places.{has_of_filtered, distinct_by_key}
+use Rattle.dt_lists.proofs.Filters.{has_filter}
 use Rattle.dt_access.specs.declared.TxnId.{TxnId}
 use Rattle.dt_access.specs.declared.Part.{Part}
 use Rattle.dt_sched.specs.Views.{View, ids_of, log_at, HasPart, IsComplete, IsPresent, IsWellFormed}
@@ -49,7 +50,7 @@ module _ (regions : ℕ) (w : World) (nodes : length w.nodes ≡ regions) where
     pub id_requested : (home : ℕ) (id : TxnId) → home < regions → Has (ids_of (log_of w home)) id → Has (requests home (node_at w id.region).submitted) id
     id_requested home id lt h =
         let k : (txn : Txn) × (txn_of w id ≡ Some txn) × (id.region < regions) = id_known home id lt h in
-        let g : Has (given_by id.region (ids_of (log_of w home))) id = has_filtered (λ i. eqb i.region id.region) (ids_of (log_of w home)) id h (test_of_equal id.region id.region refl) in
+        let g : Has (given_by id.region (ids_of (log_of w home))) id = has_filter (λ i. eqb i.region id.region) (ids_of (log_of w home)) id h (test_of_equal id.region id.region refl) in
         let t : Has (take (taken_from w home id.region) (asked_of w id.region home)) id = subst (λ l. Has l id) ((logs home lt).given id.region k.2) g in
         subst (λ l. Has l id) (asked id.region home k.2 lt) (any_front _ (take (taken_from w home id.region) (asked_of w id.region home)) (asked_of w id.region home) (front_take (taken_from w home id.region) (asked_of w id.region home)) t)
 

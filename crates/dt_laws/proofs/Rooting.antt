@@ -5,7 +5,8 @@ use Rattle.std.proofs.lemmas.Option.{same_Some}
 use Rattle.dt_lists.specs.Lists.{AnyIn, AllIn, SomeThen, Has, Either}
 use Rattle.dt_lists.proofs.Decided.{either_le}
 use Rattle.dt_lists.proofs.Words.{any_map, any_get, any_put, any_append_left, any_append_right, all_get, all_put, has_map, any_image, any_of_image}
-use Rattle.dt_lists.proofs.Places.{has_filtered, has_place}
+use Rattle.dt_lists.proofs.Places.{has_place}
+use Rattle.dt_lists.proofs.Filters.{has_filter}
 use Rattle.dt_access.specs.Clash.{Bytes, same_key, uses_clash, clash}
 use Rattle.dt_access.specs.declared.Mode.{Mode}
 use Rattle.dt_access.specs.declared.Mode.TheVariants.{Write}
@@ -62,7 +63,7 @@ some_of_image R f (x ∷ xs) (inr s) = inr (some_of_image R f xs s)
 
 -- an entry is listed by the part at its home
 pub listed : (body : Body) (home : ℕ) (access : List Access) (a : Access) → Has access a → a.home ≡ home → Has (map used_of (entries_at body home access)) (used_of a)
-listed (Call proc args) home access a h e = has_map used_of (filter (λ x. eqb x.home home) access) a (has_filtered (λ x. eqb x.home home) access a h (test_of_equal a.home home e))
+listed (Call proc args) home access a h e = has_map used_of (filter (λ x. eqb x.home home) access) a (has_filter (λ x. eqb x.home home) access a h (test_of_equal a.home home e))
 listed (Move key target) home access a h e = has_map used_of access a h
 
 -- each part of a move lists its key for writing

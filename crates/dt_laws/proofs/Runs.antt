@@ -5,7 +5,8 @@ use Rattle.std.specs.List.{cons_option}
 use Rattle.std.proofs.lemmas.Bool.{cases_Bool, false_from_ne_true}
 use Rattle.std.proofs.lemmas.List.Elements.{filter-append, filter_map-append}
 use Rattle.dt_lists.specs.Lists.{Has, IsFront, Either}
-use Rattle.dt_lists.proofs.Places.{has_filtered, has_of_filtered, has_last, has_longer}
+use Rattle.dt_lists.proofs.Places.{has_of_filtered, has_last, has_longer}
+use Rattle.dt_lists.proofs.Filters.{has_filter}
 use Rattle.dt_lists.proofs.Fronts.{front_refl, front_append}
 use Rattle.dt_access.specs.Ids.{same_id}
 use Rattle.dt_access.specs.declared.TxnId.{TxnId}
@@ -94,7 +95,7 @@ firsts_more (x ∷ xs) y = go (cases_Bool (is_among (firsts xs) y)) (cases_Bool 
 
     go : (is_among (firsts xs) y ≡ true) ⊎ (is_among (firsts xs) y ≡ false) → (same_id x y ≡ true) ⊎ (same_id x y ≡ false) → firsts (xs ++ y ∷ []) ≡ with_executed (firsts xs) (Some y) → firsts ((x ∷ xs) ++ y ∷ []) ≡ with_executed (firsts (x ∷ xs)) (Some y)
     go (inl p) (inl q) ih = shorter (firsts xs) (before p ih) ∙ sym (there (inl (id_of_test x y q)))
-    go (inl p) (inr q) ih = shorter (firsts xs) (before p ih) ∙ sym (there (inr (has_filtered (λ other. not (same_id x other)) (firsts xs) y (has_of_among (firsts xs) y p) (stays q))))
+    go (inl p) (inr q) ih = shorter (firsts xs) (before p ih) ∙ sym (there (inr (has_filter (λ other. not (same_id x other)) (firsts xs) y (has_of_among (firsts xs) y p) (stays q))))
     go (inr n) (inl q) ih = shorter (firsts xs ++ y ∷ []) (after n ih) ∙ ap (λ l. x ∷ l) (joined ∙ ap (λ l. without x (firsts xs) ++ l) (gone_here q) ∙ append-nil (without x (firsts xs))) ∙ sym (there (inl (id_of_test x y q)))
     go (inr n) (inr q) ih = shorter (firsts xs ++ y ∷ []) (after n ih) ∙ ap (λ l. x ∷ l) (joined ∙ ap (λ l. without x (firsts xs) ++ l) (kept_here q)) ∙ sym (absent new)
       where

@@ -4,4 +4,6 @@
 
 mod laws;
 
-pub use laws::{across_moves, agreement, drained_regions, invariant_of_legal_worlds, reached_counters};
+pub use laws::{
+    across_moves, agreement, drained_regions, invariant_of_legal_worlds, reached_counters,
+};
