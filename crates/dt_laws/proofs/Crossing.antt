@@ -1,21 +1,20 @@
 -- Attempts that clash are ordered across moves, and no attempt runs before the moves that it was annotated with.
-use Rattle.std.proofs.Common.{◌≡◌, ◌≢◌, ◌<◌, ◌≤◌, ◌⊎◌, ℕ, true, List, [], ◌∷◌, ◌++◌, map, Some, None, refl, sym, ap, subst, subst₂, ◌∙◌, inl, inr}
-use Rattle.std.specs.Prelude.{Option}
+use Rattle.std.proofs.Common.{◌≡◌, ◌≢◌, ◌<◌, ◌≤◌, ℕ, true, List, [], ◌∷◌, ◌++◌, map, Some, sym, subst, subst₂, ◌∙◌}
 use Rattle.dt_lists.specs.Lists.{AllIn, Has, Distinct}
 use Rattle.dt_lists.proofs.Words.{any_get, any_of_image}
 use Rattle.dt_lists.proofs.Before.{Spot, spot}
-use Rattle.dt_access.specs.Clash.{Bytes, clash}
+use Rattle.dt_access.specs.Clash.{clash}
 use Rattle.dt_access.specs.declared.TxnId.{TxnId}
 use Rattle.dt_access.specs.declared.Access.{Access}
-use Rattle.dt_sched.specs.Views.{View, Precedes}
+use Rattle.dt_sched.specs.Views.{Precedes}
 use Rattle.dt_events.specs.declared.Event.{Event}
 use Rattle.dt_events.specs.declared.Event.TheVariants.{Execute}
-use Rattle.dt_table.specs.Table.{Table, counter_of}
+use Rattle.dt_table.specs.Table.{counter_of}
 use Rattle.dt_txn.specs.declared.Txn.{Txn}
 use Rattle.dt_txn.specs.declared.Outcome.{Outcome}
 use Rattle.dt_txn.specs.declared.outcome.Outcome.TheVariants.{Gave, Aborted, Stale}
 use Rattle.dt_txn.specs.Execution.{one}
-use Rattle.dt_txn.specs.Serial.{outcomes, table_after}
+use Rattle.dt_txn.specs.Serial.{table_after}
 use Rattle.dt_txn.specs.Replica.{done_ids}
 use Rattle.dt_serial.specs.Order as serial
 use Rattle.dt_serial.specs.Order.{IsLive, IsDown, IsHistory, Ordered, txn_ids, uses_in}
@@ -29,11 +28,11 @@ use Rattle.dt_cluster.specs.Valid.{IsValidCluster}
 use Rattle.dt_workload.specs.declared.Workload.{Workload}
 use Rattle.dt_workload.specs.Valid.{IsValidWorkload}
 use Rattle.dt_session.specs.World.{World, opening_table, node_at, logs_of, txn_of}
-use Rattle.dt_session.specs.Step.{IsStale, IsLegal, moved_on, next}
+use Rattle.dt_session.specs.Step.{IsStale, IsLegal}
 use Rattle.dt_session.specs.Run.{world_after, AreLegal, order_of, txns_of, serial_outcomes, serial_outcome}
 use Rattle.dt_laws.specs.Invariant.{Rooted, Inv}
-use Rattle.dt_laws.proofs.Submissions.{IsKnown, txn_id}
-use Rattle.dt_laws.proofs.Executing.{executable_known, executed_txns}
+use Rattle.dt_laws.proofs.Submissions.{txn_id}
+use Rattle.dt_laws.proofs.Executing.{executed_txns}
 use Rattle.dt_laws.proofs.Runs.{world_after_more, more_legal}
 use Rattle.dt_laws.proofs.Keeping.{legal_keeps}
 use Rattle.dt_laws.proofs.Rooting.{order_ids, history, region_members, region_down}

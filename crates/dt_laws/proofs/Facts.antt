@@ -1,32 +1,31 @@
 -- What the code of worlds and regions cites of the invariant, one small fact each. More stand in `Submissions`, `Logs`,
 -- `Known`, `Sessions`, `Appending` (requests) and `RootedSteps` (new ids).
-use Rattle.std.proofs.Common.{◌≡◌, ◌≢◌, ◌<◌, ◌≤◌, ◌+◌, ◌⊎◌, ℕ, List, length, map, take, slice_get, Some, None, refl, sym, ap, subst, ◌∙◌, inl, inr, arith}
+use Rattle.std.proofs.Common.{◌≡◌, ◌<◌, ◌≤◌, ◌+◌, ℕ, List, length, slice_get, Some, None, refl, sym, ap, subst, ◌∙◌}
 use Rattle.std.specs.Prelude.{Option, option_map, unwrap_or, slice_index}
-use Rattle.dt_lists.specs.Lists.{AnyIn, AllIn, Has, Distinct}
-use Rattle.dt_lists.proofs.Words.{any_image, any_put, all_get}
+use Rattle.dt_lists.specs.Lists.{Has, Distinct}
+use Rattle.dt_lists.proofs.Words.{all_get}
 use Rattle.dt_lists.proofs.Places.{place_of}
 use Rattle.dt_lists.proofs.Fronts.{pairwise_length}
 use Rattle.dt_access.specs.Clash.{Bytes}
 use Rattle.dt_access.specs.declared.TxnId.{TxnId}
 use Rattle.dt_access.specs.declared.Part.{Part}
-use Rattle.dt_sched.specs.Views.{View, ids_of, log_at, HasPart, IsPresent, IsLonger, IsWellFormed}
+use Rattle.dt_sched.specs.Views.{ids_of, IsLonger, IsWellFormed}
 use Rattle.dt_txn.specs.declared.Txn.{Txn}
-use Rattle.dt_txn.specs.Transaction.{homes_of, part_of, IsValid}
+use Rattle.dt_txn.specs.Transaction.{IsValid}
 use Rattle.dt_txn.specs.Replica.{fronts, done_ids}
 use Rattle.dt_cluster.specs.declared.Cluster.{Cluster}
 use Rattle.dt_workload.specs.declared.Session.{Session}
 use Rattle.dt_workload.specs.declared.Workload.{Workload}
-use Rattle.dt_session.specs.World.{World, Place, Submission, node_at, asked_of, taken_from, log_of, logs_of, received_of, received_logs, view_at, submissions, submission_of, attempt_of, txn_of, session_at}
+use Rattle.dt_session.specs.World.{World, Place, Submission, node_at, asked_of, log_of, logs_of, received_of, view_at, submissions, submission_of, attempt_of, txn_of, session_at}
 use Rattle.dt_session.specs.Step.{next_id}
-use Rattle.dt_laws.specs.Invariant.{AreNumbered, requests, IsPartAt, IsSubmissionOf, IsWaiting, IsPlaced, IsPlaceOf, Inv}
-use Rattle.dt_laws.proofs.Submissions.{IsKnown, find_of_has, from_region, txn_found, txn_there, txn_id, numbered, home_region}
-use Rattle.dt_laws.proofs.Views.{log_is}
+use Rattle.dt_laws.specs.Invariant.{IsPartAt, IsWaiting, IsPlaced, IsPlaceOf, Inv}
+use Rattle.dt_laws.proofs.Submissions.{IsKnown, find_of_has, from_region, txn_found, txn_there, txn_id, home_region}
 use Rattle.dt_laws.proofs.Logs.{log_once, id_known, part_homed}
 use Rattle.dt_laws.proofs.Requests.{requests_once}
 use Rattle.dt_laws.proofs.Sessions.{session_found}
 use Rattle.dt_laws.proofs.Known.{view_fronts, view_longer, view_well_formed, full_well_formed, submissions_unlike, done_known, order_known}
 use Rattle.dt_laws.proofs.Submitting.{awaited_attempt}
-use Rattle.dt_laws.proofs.RootedSteps.{next_unknown, next_absent}
+use Rattle.dt_laws.proofs.RootedSteps.{next_unknown}
 
 -- a session waits for an attempt of its own region: its number, and that it is found
 pub record WaitsAt (cluster : Cluster) (w : World) (session : Session) (place : Place) (id : TxnId) : Type 0 where

@@ -24,3 +24,4 @@ pub mod RootedEvents
 pub mod Agreeing
 pub mod Crossing
 pub mod Facts
+pub mod Growth

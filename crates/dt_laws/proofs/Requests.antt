@@ -1,11 +1,10 @@
 -- The requests of a region at a home: they grow with its submissions, and none stands twice.
-use Rattle.std.proofs.Common.{◌≡◌, ◌≢◌, ◌<◌, ◌≤◌, ◌+◌, ◌⊎◌, ℕ, zero, suc, Bool, true, false, cond, List, [], ◌∷◌, ◌++◌, length, get_or, set, map, take, slice_get, Some, None, refl, sym, ap, subst, ◌∙◌, inl, inr, arith}
+use Rattle.std.proofs.Common.{◌≡◌, ◌<◌, ◌+◌, ℕ, suc, true, false, List, [], ◌∷◌, ◌++◌, length, map, slice_get, Some, refl, sym, ap, subst, ◌∙◌, inl, inr, arith}
 use Rattle.std.specs.Prelude.{filter}
 use Rattle.std.proofs.lemmas.List.{map-append}
 use Rattle.std.proofs.lemmas.List.Elements.{filter-append}
-use Rattle.std.proofs.lemmas.Bool.{cases_Bool}
-use Rattle.dt_lists.specs.Lists.{AnyIn, AllIn, Has, EachThen, Distinct, IsFront}
-use Rattle.dt_lists.proofs.Words.{any_get, any_put, any_of_image, any_image, all_get, all_put, each_map, each_image}
+use Rattle.dt_lists.specs.Lists.{Has, EachThen, Distinct, IsFront}
+use Rattle.dt_lists.proofs.Words.{any_get, any_put, any_of_image, any_image, each_map, each_image}
 use Rattle.dt_lists.proofs.Before.{each_of_steps}
 use Rattle.dt_lists.proofs.Places.{place_in_more, has_of_filtered}
 use Rattle.dt_lists.proofs.Filters.{has_filter, filter_each}
