@@ -1,32 +1,29 @@
 -- In every legal world all regions agree.
-use Rattle.std.proofs.Common.{◌≡◌, ◌≢◌, ◌<◌, ◌≤◌, ◌⊎◌, ◌↔◌, ℕ, zero, suc, Bool, true, false, cond, List, [], ◌∷◌, ◌++◌, length, map, take, slice_get, Some, None, refl, sym, ap, ap₂, subst, subst₂, ◌∙◌, inl, inr, arith, append_assoc, append-nil}
-use Rattle.std.specs.Prelude.{Option, option_map, filter, filter_map, slice_index}
+use Rattle.std.proofs.Common.{◌≡◌, ◌<◌, ◌⊎◌, ◌↔◌, ℕ, zero, suc, true, false, List, [], ◌∷◌, ◌++◌, length, map, take, Some, None, refl, sym, ap, ap₂, subst, subst₂, ◌∙◌, inl, inr, append_assoc, append-nil}
+use Rattle.std.specs.Prelude.{Option, option_map, filter, slice_index}
 use Rattle.std.specs.List.{cons_option}
 use Rattle.std.proofs.lemmas.Bool.{cases_Bool}
 use Rattle.std.proofs.lemmas.Option.{same_Some}
 use Rattle.std.proofs.lemmas.List.{map-append}
-use Rattle.dt_lists.specs.Lists.{AnyIn, AllIn, SomeThen, Has, IsFront, Distinct}
-use Rattle.dt_lists.proofs.Words.{any_put, any_append, any_append_right, all_get, all_put, all_map, has_map, all_append_left, each_across}
+use Rattle.dt_lists.specs.Lists.{AllIn, Has, IsFront, Distinct}
+use Rattle.dt_lists.proofs.Words.{any_put, any_append, any_append_right, all_get, all_map, has_map, all_append_left, each_across}
 use Rattle.dt_lists.proofs.Before.{has_before, has_middle}
 use Rattle.dt_lists.proofs.Fronts.{front_refl, front_trans, any_front}
 use Rattle.dt_access.specs.Ids.{same_id}
-use Rattle.dt_access.specs.Clash.{Bytes, clash}
+use Rattle.dt_access.specs.Clash.{Bytes}
 use Rattle.dt_access.specs.declared.TxnId.{TxnId}
-use Rattle.dt_access.specs.declared.Access.{Access}
-use Rattle.dt_sched.specs.Views.{View, log_at, IsClosed, Precedes}
-use Rattle.dt_sched.specs.Decide.{HasNothingToDo}
+use Rattle.dt_sched.specs.Views.{View, IsClosed, Precedes}
 use Rattle.dt_sched.proofs.NothingToDo.{done_where_closed}
 use Rattle.dt_events.specs.declared.Event.{Event}
-use Rattle.dt_events.specs.declared.Event.TheVariants.{Submit, Execute, Answer}
-use Rattle.dt_table.specs.Table.{Table, moves_of, counter_of, next_mover}
-use Rattle.dt_txn.specs.declared.txn.Body.TheVariants.{Move}
+use Rattle.dt_events.specs.declared.Event.TheVariants.{Submit, Answer}
+use Rattle.dt_table.specs.Table.{next_mover}
 use Rattle.dt_txn.specs.declared.Txn.{Txn}
 use Rattle.dt_txn.specs.declared.Outcome.{Outcome}
 use Rattle.dt_txn.specs.declared.outcome.Outcome.TheVariants.{Gave, Aborted, Stale}
 use Rattle.dt_txn.specs.Execution.{see, reads_of, result_of}
 use Rattle.dt_txn.specs.Serial.{outcomes, table_after}
 use Rattle.dt_txn.specs.Replica.{IsDrained, fronts, done_ids}
-use Rattle.dt_serial.specs.Order.{IsDown, IsHistory, Ordered, txn_ids, uses_in}
+use Rattle.dt_serial.specs.Order.{IsHistory, txn_ids}
 use Rattle.dt_serial.specs.Evidence.{MadeMove, IsGrounded, HasReason}
 use Rattle.dt_serial.proofs.Runs.{outcomes_ids}
 use Rattle.dt_serial.proofs.Causes.{reasons}
@@ -38,16 +35,16 @@ use Rattle.dt_workload.specs.declared.Session.{Session}
 use Rattle.dt_workload.specs.declared.Workload.{Workload}
 use Rattle.dt_workload.specs.Valid.{IsValidWorkload}
 use Rattle.dt_session.specs.World.{World, Place, opening_table, opening_world, node_at, logs_of, log_of, received_of, received_logs, view_at, txn_of, attempt_of, outcome_in, outcome_at, session_at}
-use Rattle.dt_session.specs.Step.{IsLast, MayEnd, MayAnswer, IsLegal, next_id, next}
-use Rattle.dt_session.specs.Run.{world_from, world_after, AreLegalFrom, AreLegal, executed_id, is_among, order_of, txns_of, serial_outcomes, serial_outcome, ids_before, table_before, region_table}
+use Rattle.dt_session.specs.Step.{IsLast, MayEnd, MayAnswer, next_id}
+use Rattle.dt_session.specs.Run.{world_after, AreLegalFrom, AreLegal, executed_id, is_among, order_of, txns_of, serial_outcomes, serial_outcome, ids_before, table_before, region_table}
 use Rattle.dt_session.specs.Agreement.{StandsBefore, WaitsFor, IsAwaited, HasCause, ReceivedAlike, Agree}
 use Rattle.dt_laws.specs.Invariant.{IsExecutedAt, Rooted, Inv}
 use Rattle.dt_laws.proofs.Ids.{id_of_test, test_of_id}
 use Rattle.dt_laws.proofs.Submissions.{IsKnown, txn_id}
-use Rattle.dt_laws.proofs.Views.{fronts_at, received_log}
+use Rattle.dt_laws.proofs.Views.{received_log}
 use Rattle.dt_laws.proofs.Known.{view_fronts, order_known}
 use Rattle.dt_laws.proofs.Annotating.{unmoved_at_first}
-use Rattle.dt_laws.proofs.Runs.{ordered, with_executed_front, world_from_append, world_after_more, legal_append, order_of_more}
+use Rattle.dt_laws.proofs.Runs.{with_executed_front, legal_append, order_of_more}
 use Rattle.dt_laws.proofs.Keeping.{legal_keeps}
 use Rattle.dt_laws.proofs.Rooting.{order_ids, done_txn_ids, history, region_members, region_down}
 use Rattle.dt_laws.proofs.RootedSteps.{next_unknown}
@@ -232,7 +229,7 @@ module _ (cluster : Cluster) (ok : IsValidCluster cluster) (workload : Workload)
 -- what was answered
 
 -- an id that is awaited where its session may be answered was executed there
-answered_done : (cluster : Cluster) (w : World) (region : ℕ) (o : Option (Session × Place)) (a : TxnId) → MayAnswer cluster w region o → WaitsFor o a → IsExecutedAt w region a
+pub answered_done : (cluster : Cluster) (w : World) (region : ℕ) (o : Option (Session × Place)) (a : TxnId) → MayAnswer cluster w region o → WaitsFor o a → IsExecutedAt w region a
 answered_done cluster w region None a m f = absurd m
 answered_done cluster w region (Some (session, place)) a m f = go (outcome_at w region a) refl (subst (MayEnd cluster w region) f m)
   where

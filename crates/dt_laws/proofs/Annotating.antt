@@ -1,37 +1,33 @@
 -- What a region annotates is a valid transaction: the homes that its table knows are regions.
-use Rattle.std.proofs.Common.{◌≡◌, ◌≢◌, ◌<◌, ◌≤◌, ◌%◌, ◌⊎◌, ℕ, zero, suc, Bool, true, false, cond, List, [], ◌∷◌, ◌++◌, length, map, slice_get, Some, None, refl, sym, ap, ap₂, subst, ◌∙◌, inl, inr, arith}
+use Rattle.std.proofs.Common.{◌≡◌, ◌<◌, ◌≤◌, ◌%◌, ℕ, Bool, true, false, cond, List, [], ◌∷◌, ◌++◌, map, slice_get, Some, None, refl, sym, ap, ap₂, subst, ◌∙◌, inl, inr, arith}
 use Rattle.std.specs.Prelude.{Option, slice_index, unwrap_or, filter_map}
 use Rattle.std.specs.Map.{lookup}
 use Rattle.std.proofs.lemmas.Option.{same_Some}
 use Rattle.std.specs.List.{cons_option}
-use Rattle.dt_lists.specs.Lists.{AnyIn, AllIn, Has}
-use Rattle.dt_lists.proofs.Words.{any_get, any_put, any_append, any_of_image, all_get, all_put}
+use Rattle.dt_lists.specs.Lists.{AllIn, Has}
+use Rattle.dt_lists.proofs.Words.{any_get, any_append, any_of_image, all_get, all_put}
 use Rattle.dt_lists.proofs.Places.{place_of}
 use Rattle.dt_access.specs.Clash.{Bytes, same_key}
 use Rattle.dt_access.specs.declared.Mode.{Mode}
 use Rattle.dt_access.specs.declared.TxnId.{TxnId}
-use Rattle.dt_access.specs.declared.Access.{Access}
 use Rattle.dt_table.specs.Table.{Table, Moved, moves_of, opening_home, home_after, home_of}
 use Rattle.dt_txn.specs.declared.Body.{Body}
 use Rattle.dt_txn.specs.declared.txn.Body.TheVariants.{Call, Move}
 use Rattle.dt_txn.specs.declared.Txn.{Txn}
 use Rattle.dt_txn.specs.Execution.{one}
-use Rattle.dt_txn.specs.Transaction.{uses_of, annotated, annotate, set_of, targets_of, homes_of, BodyFits, IsValid}
+use Rattle.dt_txn.specs.Transaction.{uses_of, annotated, annotate, targets_of, homes_of, BodyFits, IsValid}
 use Rattle.dt_txn.specs.Serial.{after, table_after}
-use Rattle.dt_txn.specs.Replica.{done_ids}
 use Rattle.dt_serial.specs.Evidence.{MadeMove}
 use Rattle.dt_serial.proofs.Rows.{apply_regions, apply_homes, opening_unmoved}
 use Rattle.dt_serial.proofs.Causes.{move_made}
 use Rattle.dt_cluster.specs.declared.Cluster.{Cluster}
 use Rattle.dt_cluster.specs.Valid.{IsValidCluster}
-use Rattle.dt_workload.specs.declared.Workload.{Workload}
 use Rattle.dt_workload.specs.declared.Wanted.{Wanted}
 use Rattle.dt_workload.specs.declared.Wanted.TheVariants as wanted
 use Rattle.dt_workload.specs.Valid.{WantedFits}
-use Rattle.dt_session.specs.World.{World, Submission, opening_table, node_at, submissions, txn_of}
+use Rattle.dt_session.specs.World.{World, Submission, opening_table, submissions, txn_of}
 use Rattle.dt_session.specs.Step.{body_of}
 use Rattle.dt_session.specs.Run.{txns_of}
-use Rattle.dt_laws.specs.Invariant.{Inv}
 use Rattle.dt_laws.proofs.Submissions.{txn_there}
 use Rattle.dt_laws.proofs.Homes.{set_of_has}
 

@@ -1,17 +1,17 @@
 -- An answer keeps the invariant.
-use Rattle.std.proofs.Common.{◌≡◌, ◌≢◌, ◌<◌, ◌≤◌, ◌+◌, ◌*◌, ◌⊎◌, ℕ, zero, suc, List, [], ◌∷◌, length, map, Some, None, refl, sym, ap, subst, ◌∙◌, inl, inr, arith}
+use Rattle.std.proofs.Common.{◌≡◌, ◌<◌, ◌≤◌, ◌+◌, ℕ, List, length, Some, None, refl, sym, subst, arith}
 use Rattle.std.specs.Prelude.{Option}
-use Rattle.dt_lists.specs.Lists.{AnyIn, AllIn, Has, Distinct, Pairwise}
+use Rattle.dt_lists.specs.Lists.{Has}
 use Rattle.dt_access.specs.Clash.{Bytes}
 use Rattle.dt_access.specs.declared.TxnId.{TxnId}
 use Rattle.dt_cluster.specs.declared.Cluster.{Cluster}
 use Rattle.dt_workload.specs.declared.Workload.{Workload}
 use Rattle.dt_workload.specs.declared.Session.{Session}
 use Rattle.dt_workload.specs.Valid.{IsValidWorkload}
-use Rattle.dt_session.specs.World.{World, Place, node_at, session_at, with_place}
+use Rattle.dt_session.specs.World.{World, Place, node_at, session_at}
 use Rattle.dt_session.specs.Step.{MayAnswer, MayEnd, answered}
-use Rattle.dt_laws.specs.Invariant.{IsPlaced, IsPlaceOf, IsWaiting, AreSessions, Inv}
-use Rattle.dt_laws.proofs.Kept.{sized_kept, ids_kept, valid_kept, asked_kept, logs_kept, lengths_kept, sound_kept, tables_kept, ordered_kept, known_kept}
+use Rattle.dt_laws.specs.Invariant.{IsPlaced, IsPlaceOf, Inv}
+use Rattle.dt_laws.proofs.Kept.{logs_kept, lengths_kept, ordered_kept}
 use Rattle.dt_laws.proofs.Sessions.{session_found, place_changed}
 
 -- a session that is answered has not more answered calls than calls, and made not too many attempts

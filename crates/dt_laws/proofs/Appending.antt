@@ -1,18 +1,17 @@
 -- A placed request keeps the invariant.
-use Rattle.std.proofs.Common.{◌≡◌, ◌≢◌, ◌<◌, ◌≤◌, ◌+◌, ◌⊎◌, ◌↔◌, ℕ, zero, suc, Bool, true, false, cond, eqb, List, [], ◌∷◌, ◌++◌, length, map, get_or, set, take, slice_get, Some, None, refl, sym, ap, ap₂, subst, ◌∙◌, inl, inr, append-nil, arith}
-use Rattle.std.specs.Prelude.{slice_index, Option, option_and_then}
-use Rattle.std.proofs.lemmas.Bool.{cases_Bool, false_from_ne_true}
+use Rattle.std.proofs.Common.{◌≡◌, ◌≢◌, ◌<◌, ◌≤◌, ◌+◌, ◌⊎◌, ℕ, Bool, true, false, cond, eqb, List, [], ◌∷◌, ◌++◌, length, map, get_or, set, take, slice_get, Some, refl, sym, ap, ap₂, subst, ◌∙◌, inl, inr, append-nil, arith}
+use Rattle.std.specs.Prelude.{slice_index, option_and_then}
+use Rattle.std.proofs.lemmas.Bool.{false_from_ne_true}
 use Rattle.std.proofs.lemmas.List.{length-set, length_push, map-set, map_push, take_more, get_or-set_same, get_or-set_other}
 use Rattle.std.proofs.lemmas.List.Elements.{filter-append}
 use Rattle.std.proofs.lemmas.Option.{get_or_from_slice_get}
 use Rattle.dt_lists.specs.Lists.{AllIn, Has, Either}
 use Rattle.dt_lists.proofs.Decided.{either_nat}
-use Rattle.dt_lists.proofs.Places.{field_of_set, map_of_set, flat_map_of_set, each_of_set, all_more, place_of, has_place, at_place, place_within}
+use Rattle.dt_lists.proofs.Places.{field_of_set, flat_map_of_set, each_of_set, all_more, place_of, has_place, at_place, place_within}
 use Rattle.dt_access.specs.declared.TxnId.{TxnId}
 use Rattle.dt_access.specs.declared.Part.{Part}
-use Rattle.dt_sched.specs.Views.{View, ids_of, log_at, IsLonger, Precedes, IsWellFormed}
+use Rattle.dt_sched.specs.Views.{ids_of, log_at, IsLonger, IsWellFormed}
 use Rattle.dt_sched.proofs.Closed.{preceders_stay}
-use Rattle.dt_serial.specs.Order.{IsDown}
 use Rattle.dt_txn.specs.declared.Txn.{Txn}
 use Rattle.dt_txn.specs.Transaction.{homes_of, part_of}
 use Rattle.dt_txn.specs.Replica.{fronts, done_ids}
@@ -21,10 +20,10 @@ use Rattle.dt_cluster.specs.declared.Cluster.{Cluster}
 use Rattle.dt_workload.specs.declared.Workload.{Workload}
 use Rattle.dt_session.specs.World.{World, Node, Submission, no_node, node_at, asked_of, taken_from, log_of, logs_of, received_of, view_at, submissions, txn_of}
 use Rattle.dt_session.specs.Step.{placed, next}
-use Rattle.dt_laws.specs.Invariant.{IsSized, requests, IsPartAt, given_by, IsLog, AreInOrder, IsExecutedAt, IsOrder, has_home, Inv}
+use Rattle.dt_laws.specs.Invariant.{IsSized, IsPartAt, given_by, IsLog, AreInOrder, IsExecutedAt, IsOrder, has_home, Inv}
 use Rattle.dt_laws.proofs.Ids.{equal_of_test, test_of_equal}
-use Rattle.dt_laws.proofs.Kept.{Keeps, Sized, Numbered, Asked, Logs, Lengths, ids_kept, valid_kept, asked_kept, parts_kept, log_kept, sound_kept, tables_kept, ordered_kept, executed_kept, sessions_kept}
-use Rattle.dt_laws.proofs.Submissions.{IsKnown, txns_same, txn_same, txn_id, txn_found, from_region}
+use Rattle.dt_laws.proofs.Kept.{Keeps, Sized, Numbered, Asked, Logs, Lengths, ids_kept, valid_kept, asked_kept, parts_kept, log_kept, sound_kept, tables_kept, sessions_kept}
+use Rattle.dt_laws.proofs.Submissions.{txns_same, txn_same, txn_found, from_region}
 use Rattle.dt_laws.proofs.Requests.{request_has}
 use Rattle.dt_laws.proofs.Homes.{home_of_test}
 use Rattle.dt_laws.proofs.Logs.{logs_well_formed}

@@ -1,7 +1,6 @@
 -- A delivery keeps the invariant.
-use Rattle.std.proofs.Common.{◌≡◌, ◌≢◌, ◌<◌, ◌≤◌, ◌⊎◌, ℕ, zero, suc, Bool, true, false, cond, ltb, leb, ◌&&◌, List, [], ◌∷◌, length, map, get_or, set, refl, sym, ap, subst, ◌∙◌, inl, inr, arith}
+use Rattle.std.proofs.Common.{◌≡◌, ◌<◌, ◌≤◌, ℕ, Bool, true, false, cond, ltb, leb, ◌&&◌, List, length, get_or, set, refl, sym, ap, subst, ◌∙◌, inl, inr, arith}
 use Rattle.std.specs.Prelude.{slice_index}
-use Rattle.std.proofs.lemmas.Bool.{cases_Bool}
 use Rattle.std.proofs.lemmas.Bool.Decides.{nat_tests}
 use Rattle.std.proofs.lemmas.List.{length-set, get_or-set_same, get_or-set_other}
 use Rattle.dt_lists.specs.Lists.{Either}
@@ -10,11 +9,11 @@ use Rattle.dt_lists.proofs.Places.{field_of_set, map_of_set, flat_map_of_set, ea
 use Rattle.dt_access.specs.declared.TxnId.{TxnId}
 use Rattle.dt_cluster.specs.declared.Cluster.{Cluster}
 use Rattle.dt_workload.specs.declared.Workload.{Workload}
-use Rattle.dt_session.specs.World.{World, Node, no_node, node_at, with_node, log_of, logs_of, received_of, view_at, submissions}
+use Rattle.dt_session.specs.World.{World, Node, no_node, node_at, log_of, logs_of, received_of, view_at, submissions}
 use Rattle.dt_session.specs.Step.{received, next}
 use Rattle.dt_events.specs.declared.Event.TheVariants.{Deliver}
 use Rattle.dt_laws.specs.Invariant.{IsSized, AreInOrder, Inv}
-use Rattle.dt_laws.proofs.Kept.{Keeps, Sized, Lengths, sized_kept, ids_kept, valid_kept, asked_kept, logs_kept, lengths_kept, sound_kept, tables_kept, ordered_kept, sessions_kept}
+use Rattle.dt_laws.proofs.Kept.{Keeps, Sized, Lengths, ids_kept, valid_kept, asked_kept, logs_kept, sound_kept, tables_kept, ordered_kept, sessions_kept}
 use Rattle.dt_laws.proofs.Submissions.{txns_same}
 use Rattle.dt_laws.proofs.Views.{view_is}
 use Rattle.dt_laws.proofs.Known.{view_fronts}

@@ -1,5 +1,5 @@
 -- An execution keeps the invariant; one of an id that no region has executed puts it at the end of the order.
-use Rattle.std.proofs.Common.{◌≡◌, ◌≢◌, ◌<◌, ◌≤◌, ◌⊎◌, ◌↔◌, ℕ, List, [], ◌∷◌, ◌++◌, length, map, get_or, set, Some, None, refl, sym, ap, ap₂, subst, ◌∙◌, inl, inr}
+use Rattle.std.proofs.Common.{◌≡◌, ◌≢◌, ◌<◌, ◌⊎◌, ℕ, List, [], ◌∷◌, ◌++◌, Some, refl, sym, ap, ap₂, subst, ◌∙◌, inl, inr}
 use Rattle.std.specs.Prelude.{Option, filter_map}
 use Rattle.std.proofs.lemmas.List.{length-set, get_or-set_same, get_or-set_other, map_push}
 use Rattle.std.proofs.lemmas.List.Elements.{filter_map-append}
@@ -7,15 +7,14 @@ use Rattle.dt_lists.specs.Lists.{Has, Either}
 use Rattle.dt_lists.proofs.Decided.{either_nat}
 use Rattle.dt_lists.proofs.Places.{field_of_set, map_of_set, flat_map_of_set, each_of_set, has_more, has_last, has_longer}
 use Rattle.dt_access.specs.declared.TxnId.{TxnId}
-use Rattle.dt_sched.specs.Views.{View, IsClosed, Precedes}
-use Rattle.dt_sched.specs.Decide.{IsSound, IsExecutable}
+use Rattle.dt_sched.specs.Views.{Precedes}
+use Rattle.dt_sched.specs.Decide.{IsSound}
 use Rattle.dt_sched.proofs.Sound.{sound_execute}
 use Rattle.dt_events.specs.declared.Event.TheVariants.{Execute}
 use Rattle.dt_table.specs.Table.{Table}
 use Rattle.dt_txn.specs.declared.Txn.{Txn}
-use Rattle.dt_txn.specs.declared.Outcome.{Outcome}
 use Rattle.dt_txn.specs.Execution.{one}
-use Rattle.dt_txn.specs.Serial.{after, outcomes, table_after}
+use Rattle.dt_txn.specs.Serial.{after}
 use Rattle.dt_txn.specs.Replica.{Replica, MayStep, executed, done_ids}
 use Rattle.dt_serial.specs.Order.{IsDown}
 use Rattle.dt_serial.proofs.Runs.{outcomes_append, table_after_append}

@@ -1,10 +1,9 @@
 -- The homes of a transaction are a set, and asking them asks each once.
-use Rattle.std.proofs.Common.{◌≡◌, ◌≢◌, ◌<◌, ◌≤◌, ◌⊎◌, ◌↔◌, ℕ, zero, suc, Bool, true, false, cond, ltb, eqb, List, [], ◌∷◌, ◌++◌, length, get_or, set, map, refl, sym, ap, subst, ◌∙◌, inl, inr, arith}
-use Rattle.std.specs.List.{list_any}
+use Rattle.std.proofs.Common.{◌≡◌, ◌<◌, ◌⊎◌, ℕ, true, false, ltb, eqb, List, [], ◌∷◌, ◌++◌, length, get_or, set, map, refl, sym, ap, subst, ◌∙◌, inl, inr, arith}
 use Rattle.std.proofs.lemmas.Bool.{cases_Bool}
 use Rattle.std.proofs.lemmas.Bool.Decides.{nat_tests}
 use Rattle.std.proofs.lemmas.List.{length-set, get_or-set_same, get_or-set_other}
-use Rattle.dt_lists.specs.Lists.{AnyIn, AllIn, Has, EachThen, Distinct, Either}
+use Rattle.dt_lists.specs.Lists.{AllIn, Has, EachThen, Distinct}
 use Rattle.dt_lists.proofs.Words.{any_map, all_map, all_get, each_map}
 use Rattle.dt_lists.proofs.Tests.{any_of_test, test_of_any}
 use Rattle.dt_access.specs.declared.TxnId.{TxnId}

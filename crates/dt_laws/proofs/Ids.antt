@@ -1,14 +1,10 @@
 -- Tests on ids and numbers say what they test.
-use Rattle.std.proofs.Common.{◌≡◌, ◌≢◌, ◌⊎◌, ℕ, Bool, true, false, ◌&&◌, eqb, List, [], ◌∷◌, refl, sym, ap, subst, ◌∙◌, inl, inr, arith, eq-eqb}
-use Rattle.std.proofs.lemmas.Bool.{cases_Bool, false_from_ne_true}
+use Rattle.std.proofs.Common.{◌≡◌, ◌≢◌, ℕ, Bool, true, false, ◌&&◌, eqb, refl, ap, arith}
+use Rattle.std.proofs.lemmas.Bool.{false_from_ne_true}
 use Rattle.std.proofs.lemmas.Bool.Decides.{nat_tests}
-use Rattle.std.specs.List.{list_any}
-use Rattle.dt_lists.specs.Lists.{AnyIn, Has, Either}
-use Rattle.dt_lists.proofs.Words.{any_map}
-use Rattle.dt_lists.proofs.Tests.{any_of_test, test_of_any}
 use Rattle.dt_access.specs.Ids.{same_id}
 use Rattle.dt_access.specs.declared.TxnId.{TxnId}
-use Rattle.dt_sched.proofs.Ids.{same_by_parts, either_id}
+use Rattle.dt_sched.proofs.Ids.{same_by_parts}
 
 pub equal_of_test : (a b : ℕ) → eqb a b ≡ true → a ≡ b
 equal_of_test a b e = grind (arith, nat_tests)

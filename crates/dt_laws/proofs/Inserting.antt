@@ -1,17 +1,17 @@
 -- An insertion keeps the invariant.
-use Rattle.std.proofs.Common.{◌≡◌, ◌≢◌, ◌<◌, ◌≤◌, ◌+◌, ◌⊎◌, ℕ, zero, suc, min, List, [], ◌∷◌, length, map, get_or, set, take, refl, sym, ap, subst, ◌∙◌, inl, inr, arith}
+use Rattle.std.proofs.Common.{◌≡◌, ◌<◌, ◌≤◌, ◌+◌, ℕ, min, List, length, set, refl, sym, ap, subst, ◌∙◌, inl, inr, arith}
 use Rattle.std.specs.Prelude.{slice_index}
 use Rattle.std.proofs.lemmas.List.{length-set, length-take, get_or-set_same, get_or-set_other}
 use Rattle.dt_lists.specs.Lists.{Either}
 use Rattle.dt_lists.proofs.Decided.{either_nat}
 use Rattle.dt_lists.proofs.Places.{field_of_set, map_of_set, flat_map_of_set, each_of_set}
 use Rattle.dt_access.specs.declared.TxnId.{TxnId}
-use Rattle.dt_sched.specs.Views.{View, log_at, IsLonger}
+use Rattle.dt_sched.specs.Views.{log_at, IsLonger}
 use Rattle.dt_sched.specs.Decide.{IsSound}
 use Rattle.dt_sched.proofs.Longer.{well_formed_front}
 use Rattle.dt_sched.proofs.Sound.{sound_longer}
 use Rattle.dt_events.specs.declared.Event.TheVariants.{Insert}
-use Rattle.dt_txn.specs.Replica.{Replica, MayStep, fronts, done_ids}
+use Rattle.dt_txn.specs.Replica.{MayStep, fronts, done_ids}
 use Rattle.dt_cluster.specs.declared.Cluster.{Cluster}
 use Rattle.dt_workload.specs.declared.Workload.{Workload}
 use Rattle.dt_session.specs.World.{World, Node, no_node, node_at, log_of, logs_of, received_of, received_logs, view_at, submissions}

@@ -1,12 +1,10 @@
 -- Each legal event keeps the invariant, so every legal world has it.
-use Rattle.std.proofs.Common.{◌≡◌, ◌≢◌, ◌<◌, ◌≤◌, ◌⊎◌, ℕ, Bool, true, false, cond, List, [], ◌∷◌, ◌++◌, length, refl, sym, ap, subst, subst₂, ◌∙◌, inl, inr, Some}
-use Rattle.std.proofs.lemmas.Bool.{cases_Bool}
-use Rattle.dt_lists.specs.Lists.{Has}
+use Rattle.std.proofs.Common.{◌≡◌, ◌<◌, ℕ, Bool, true, false, cond, List, [], ◌∷◌, ◌++◌, refl, sym, subst₂}
 use Rattle.dt_lists.proofs.Places.{from_right}
 use Rattle.dt_access.specs.declared.TxnId.{TxnId}
 use Rattle.dt_events.specs.declared.Event.{Event}
 use Rattle.dt_events.specs.declared.Event.TheVariants.{Submit, Append, Deliver, Insert, Resolve, Execute, Answer}
-use Rattle.dt_serial.proofs.Past.{has_of_among, among_of_has, not_among}
+use Rattle.dt_serial.proofs.Past.{has_of_among, among_of_has}
 use Rattle.dt_cluster.specs.declared.Cluster.{Cluster}
 use Rattle.dt_cluster.specs.Valid.{IsValidCluster}
 use Rattle.dt_workload.specs.declared.Workload.{Workload}

@@ -1,23 +1,23 @@
 -- What of the invariant an event leaves as it was, since it leaves what that speaks of.
-use Rattle.std.proofs.Common.{◌≡◌, ◌≢◌, ◌<◌, ◌≤◌, ◌⊎◌, ℕ, zero, suc, List, [], ◌∷◌, ◌++◌, length, get_or, set, map, take, refl, sym, ap, ap₂, subst, ◌∙◌, inl, inr, arith}
-use Rattle.std.specs.Prelude.{slice_index, option_map, Some, filter_map}
+use Rattle.std.proofs.Common.{◌≡◌, ◌<◌, ◌≤◌, ℕ, List, [], ◌∷◌, length, get_or, set, map, take, sym, ap, ap₂, subst, ◌∙◌}
+use Rattle.std.specs.Prelude.{slice_index, Some}
 use Rattle.dt_lists.specs.Lists.{AnyIn, AllIn, Has, Pairwise}
 use Rattle.dt_lists.proofs.Words.{all_map}
 use Rattle.dt_access.specs.declared.TxnId.{TxnId}
 use Rattle.dt_access.specs.declared.Part.{Part}
-use Rattle.dt_sched.specs.Views.{View, log_at, ids_of, IsLonger, Precedes}
+use Rattle.dt_sched.specs.Views.{ids_of, Precedes}
 use Rattle.dt_sched.specs.Decide.{IsSound}
 use Rattle.dt_txn.specs.Transaction.{IsValid}
 use Rattle.dt_txn.specs.Serial.{outcomes, table_after}
-use Rattle.dt_txn.specs.Replica.{Replica, fronts, done_ids}
+use Rattle.dt_txn.specs.Replica.{fronts, done_ids}
 use Rattle.dt_serial.specs.Order.{IsDown}
 use Rattle.dt_cluster.specs.declared.Cluster.{Cluster}
 use Rattle.dt_workload.specs.declared.Session.{Session}
 use Rattle.dt_workload.specs.declared.Workload.{Workload}
-use Rattle.dt_session.specs.World.{World, Node, Place, Submission, opening_table, node_at, asked_of, taken_from, logs_of, log_of, received_of, view_at, submissions, find_submission, txn_of}
+use Rattle.dt_session.specs.World.{World, Node, Place, opening_table, node_at, asked_of, taken_from, logs_of, log_of, received_of, view_at, submissions, txn_of}
 use Rattle.dt_session.specs.Run.{txns_of}
 use Rattle.dt_laws.specs.Invariant.{IsSized, AreNumbered, requests, IsPartAt, given_by, IsLog, AreInOrder, IsRunOf, IsExecutedAt, IsOrder, IsPlaced, IsPlaceOf, IsSubmissionOf, AreSessions}
-use Rattle.dt_laws.proofs.Submissions.{txn_same, txns_same}
+use Rattle.dt_laws.proofs.Submissions.{txn_same}
 
 -- each region has this of its node in the second world as in the first
 abbrev pub Keeps : {A : Type 0} → (Node → A) → World → World → Type 0

@@ -1,12 +1,11 @@
 -- What regions know in a world that keeps the invariant: all that is in their views was submitted, and what is closed in a
 -- view is closed in the whole logs.
-use Rattle.std.proofs.Common.{◌≡◌, ◌≢◌, ◌<◌, ◌≤◌, ◌⊎◌, ◌↔◌, ℕ, zero, suc, List, [], ◌∷◌, ◌++◌, length, get_or, map, refl, sym, ap, subst, ◌∙◌, inl, inr, arith}
-use Rattle.dt_lists.specs.Lists.{AnyIn, AllIn, Has, Either}
+use Rattle.std.proofs.Common.{◌≡◌, ◌<◌, ◌↔◌, ℕ, List, [], length, sym, subst}
+use Rattle.dt_lists.specs.Lists.{AllIn, Has}
 use Rattle.dt_lists.proofs.Words.{any_at, any_image, all_get, all_put}
 use Rattle.dt_access.specs.declared.TxnId.{TxnId}
-use Rattle.dt_access.specs.declared.Part.{Part}
-use Rattle.dt_sched.specs.Views.{View, ids_of, log_at, HasPart, IsLonger, IsPresent, IsComplete, IsClosed, Precedes, IsWellFormed}
-use Rattle.dt_sched.proofs.Longer.{present_longer, well_formed_front}
+use Rattle.dt_sched.specs.Views.{log_at, HasPart, IsLonger, IsPresent, IsClosed, Precedes, IsWellFormed}
+use Rattle.dt_sched.proofs.Longer.{well_formed_front}
 use Rattle.dt_sched.proofs.Reach.{present_of_complete}
 use Rattle.dt_sched.proofs.Closed.{complete_of_closed, closed_stays, preceders_stay}
 use Rattle.dt_txn.specs.Replica.{fronts, done_ids}

@@ -22,3 +22,6 @@ pub mod Rooting
 pub mod RootedSteps
 pub mod RootedEvents
 pub mod Agreeing
+pub mod Crossing
+pub mod Facts
+pub mod Growth

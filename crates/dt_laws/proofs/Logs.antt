@@ -1,24 +1,25 @@
 -- The logs of a world: each id stands once in a log, at a home that its part names, and all parts of an id are those of
 -- its one transaction.
-use Rattle.std.proofs.Common.{◌≡◌, ◌≢◌, ◌<◌, ◌≤◌, ◌+◌, ◌⊎◌, ℕ, zero, suc, Bool, true, false, cond, eqb, List, [], ◌∷◌, ◌++◌, length, get_or, set, map, take, slice_get, Some, None, refl, sym, ap, subst, ◌∙◌, inl, inr, arith}
+use Rattle.std.proofs.Common.{◌≡◌, ◌<◌, ◌≤◌, ℕ, suc, Bool, true, false, eqb, List, [], ◌∷◌, length, take, Some, refl, sym, ap, subst, ◌∙◌, inl, inr, arith}
 use Rattle.std.specs.Prelude.{filter}
-use Rattle.std.proofs.lemmas.Bool.{cases_Bool, false_from_ne_true}
+use Rattle.std.proofs.lemmas.Bool.{false_from_ne_true}
 use Rattle.std.proofs.lemmas.List.{get_or_past}
-use Rattle.dt_lists.specs.Lists.{AnyIn, AllIn, Has, EachThen, Distinct, IsFront, Either}
-use Rattle.dt_lists.proofs.Words.{any_get, any_put, any_of_image, any_image, all_map, all_get, all_put, all_of_image}
+use Rattle.dt_lists.specs.Lists.{AllIn, Has, Distinct, Either}
+use Rattle.dt_lists.proofs.Words.{any_get, any_put, any_of_image, any_image, all_get, all_put}
 use Rattle.dt_lists.proofs.Fronts.{front_take, each_front, any_front}
 use Rattle.dt_lists.proofs.Decided.{either_le}
-use Rattle.dt_lists.proofs.Places.{has_filtered, has_of_filtered, distinct_by_key}
+use Rattle.dt_lists.proofs.Places.{distinct_by_key}
+use Rattle.dt_lists.proofs.Filters.{has_filter}
 use Rattle.dt_access.specs.declared.TxnId.{TxnId}
 use Rattle.dt_access.specs.declared.Part.{Part}
-use Rattle.dt_sched.specs.Views.{View, ids_of, log_at, HasPart, IsComplete, IsPresent, IsWellFormed}
+use Rattle.dt_sched.specs.Views.{ids_of, log_at, IsWellFormed}
 use Rattle.dt_txn.specs.declared.Txn.{Txn}
-use Rattle.dt_txn.specs.Transaction.{homes_of, part_of}
+use Rattle.dt_txn.specs.Transaction.{homes_of}
 use Rattle.dt_session.specs.World.{World, Submission, no_node, node_at, asked_of, taken_from, logs_of, log_of, submissions, txn_of}
-use Rattle.dt_laws.specs.Invariant.{AreNumbered, has_home, requests, IsPartAt, given_by, IsLog}
+use Rattle.dt_laws.specs.Invariant.{has_home, requests, IsPartAt, given_by}
 use Rattle.dt_laws.proofs.Ids.{equal_of_test, test_of_equal}
-use Rattle.dt_laws.proofs.Submissions.{txn_there, home_region, from_region, txn_found, IsKnown}
-use Rattle.dt_laws.proofs.Homes.{home_of_test, test_of_home}
+use Rattle.dt_laws.proofs.Submissions.{txn_there, home_region, from_region, txn_found}
+use Rattle.dt_laws.proofs.Homes.{home_of_test}
 use Rattle.dt_laws.proofs.Requests.{request_has, requests_once}
 use Rattle.dt_laws.proofs.Views.{log_is}
 use Rattle.dt_laws.proofs.Kept.{Numbered, Asked, Logs}
@@ -49,7 +50,7 @@ module _ (regions : ℕ) (w : World) (nodes : length w.nodes ≡ regions) where
     pub id_requested : (home : ℕ) (id : TxnId) → home < regions → Has (ids_of (log_of w home)) id → Has (requests home (node_at w id.region).submitted) id
     id_requested home id lt h =
         let k : (txn : Txn) × (txn_of w id ≡ Some txn) × (id.region < regions) = id_known home id lt h in
-        let g : Has (given_by id.region (ids_of (log_of w home))) id = has_filtered (λ i. eqb i.region id.region) (ids_of (log_of w home)) id h (test_of_equal id.region id.region refl) in
+        let g : Has (given_by id.region (ids_of (log_of w home))) id = has_filter (λ i. eqb i.region id.region) (ids_of (log_of w home)) id h (test_of_equal id.region id.region refl) in
         let t : Has (take (taken_from w home id.region) (asked_of w id.region home)) id = subst (λ l. Has l id) ((logs home lt).given id.region k.2) g in
         subst (λ l. Has l id) (asked id.region home k.2 lt) (any_front _ (take (taken_from w home id.region) (asked_of w id.region home)) (asked_of w id.region home) (front_take (taken_from w home id.region) (asked_of w id.region home)) t)
 

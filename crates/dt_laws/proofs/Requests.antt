@@ -1,13 +1,13 @@
 -- The requests of a region at a home: they grow with its submissions, and none stands twice.
-use Rattle.std.proofs.Common.{◌≡◌, ◌≢◌, ◌<◌, ◌≤◌, ◌+◌, ◌⊎◌, ℕ, zero, suc, Bool, true, false, cond, List, [], ◌∷◌, ◌++◌, length, get_or, set, map, take, slice_get, Some, None, refl, sym, ap, subst, ◌∙◌, inl, inr, arith}
+use Rattle.std.proofs.Common.{◌≡◌, ◌<◌, ◌+◌, ℕ, suc, true, false, List, [], ◌∷◌, ◌++◌, length, map, slice_get, Some, refl, sym, ap, subst, ◌∙◌, inl, inr, arith}
 use Rattle.std.specs.Prelude.{filter}
 use Rattle.std.proofs.lemmas.List.{map-append}
 use Rattle.std.proofs.lemmas.List.Elements.{filter-append}
-use Rattle.std.proofs.lemmas.Bool.{cases_Bool}
-use Rattle.dt_lists.specs.Lists.{AnyIn, AllIn, Has, EachThen, Distinct, IsFront}
-use Rattle.dt_lists.proofs.Words.{any_get, any_put, any_of_image, any_image, all_get, all_put, each_map, each_image}
+use Rattle.dt_lists.specs.Lists.{Has, EachThen, Distinct, IsFront}
+use Rattle.dt_lists.proofs.Words.{any_get, any_put, any_of_image, any_image, each_map, each_image}
 use Rattle.dt_lists.proofs.Before.{each_of_steps}
-use Rattle.dt_lists.proofs.Places.{place_in_more, has_filtered, has_of_filtered, each_filtered}
+use Rattle.dt_lists.proofs.Places.{place_in_more, has_of_filtered}
+use Rattle.dt_lists.proofs.Filters.{has_filter, filter_each}
 use Rattle.dt_access.specs.declared.TxnId.{TxnId}
 use Rattle.dt_session.specs.World.{Submission}
 use Rattle.dt_laws.specs.Invariant.{AreNumbered, has_home, requests}
@@ -32,7 +32,7 @@ request_has home xs id h =
     (r.0, k.0, r.2, k.1)
 
 pub has_request : (home : ℕ) (xs : List Submission) (s : Submission) → Has xs s → has_home home s.txn ≡ true → Has (requests home xs) s.txn.id
-has_request home xs s h e = any_image (λ y. y ≡ s.txn.id) (λ x. x.txn.id) (filter (λ s. has_home home s.txn) xs) (any_put _ (filter (λ s. has_home home s.txn) xs) s (has_filtered (λ s. has_home home s.txn) xs s h e) refl)
+has_request home xs s h e = any_image (λ y. y ≡ s.txn.id) (λ x. x.txn.id) (filter (λ s. has_home home s.txn) xs) (any_put _ (filter (λ s. has_home home s.txn) xs) s (has_filter (λ s. has_home home s.txn) xs s h e) refl)
 
 -- a region counts on
 pub numbered_more : (region : ℕ) (xs : List Submission) (s : Submission) → AreNumbered region xs → s.txn.id ≡ record { seq = length xs + 1; region = region } → AreNumbered region (xs ++ s ∷ [])
@@ -53,4 +53,4 @@ numbered_once region xs a = each_map _ _ xs (λ x y (lt : x.txn.id.seq < y.txn.i
         omega arith
 
 pub requests_once : (region home : ℕ) (xs : List Submission) → AreNumbered region xs → Distinct (requests home xs)
-requests_once region home xs a = each_image _ (λ s. s.txn.id) (filter (λ s. has_home home s.txn) xs) (each_filtered _ (λ s. has_home home s.txn) xs (numbered_once region xs a))
+requests_once region home xs a = each_image _ (λ s. s.txn.id) (filter (λ s. has_home home s.txn) xs) (filter_each _ (λ s. has_home home s.txn) xs (numbered_once region xs a))

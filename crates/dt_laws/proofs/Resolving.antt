@@ -1,5 +1,5 @@
 -- A resolution keeps the invariant.
-use Rattle.std.proofs.Common.{◌≡◌, ◌≢◌, ◌<◌, ◌≤◌, ◌⊎◌, ℕ, List, [], ◌∷◌, ◌++◌, length, map, get_or, set, refl, sym, ap, subst, ◌∙◌, inl, inr}
+use Rattle.std.proofs.Common.{◌≡◌, ◌<◌, ℕ, List, [], ◌∷◌, ◌++◌, refl, sym, subst, ◌∙◌, inl, inr}
 use Rattle.std.proofs.lemmas.List.{length-set, get_or-set_same, get_or-set_other}
 use Rattle.dt_lists.specs.Lists.{Either}
 use Rattle.dt_lists.proofs.Decided.{either_nat}
@@ -8,7 +8,7 @@ use Rattle.dt_access.specs.declared.TxnId.{TxnId}
 use Rattle.dt_sched.specs.Decide.{IsSound}
 use Rattle.dt_sched.proofs.Sound.{sound_resolve}
 use Rattle.dt_events.specs.declared.Event.TheVariants.{Resolve}
-use Rattle.dt_txn.specs.Replica.{Replica, MayStep, done_ids}
+use Rattle.dt_txn.specs.Replica.{MayStep, done_ids}
 use Rattle.dt_cluster.specs.declared.Cluster.{Cluster}
 use Rattle.dt_workload.specs.declared.Workload.{Workload}
 use Rattle.dt_session.specs.World.{World, Node, no_node, node_at, logs_of, received_logs, view_at, submissions}

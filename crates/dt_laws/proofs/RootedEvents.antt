@@ -1,26 +1,24 @@
 -- Each legal event keeps every annotation rooted, so in every legal world all are.
-use Rattle.std.proofs.Common.{◌≡◌, ◌≢◌, ◌<◌, ◌≤◌, ◌+◌, ◌⊎◌, ℕ, zero, suc, Bool, true, false, cond, ltb, leb, ◌&&◌, List, [], ◌∷◌, ◌++◌, length, map, get_or, set, take, slice_get, Some, None, refl, sym, ap, ap₂, subst, subst₂, ◌∙◌, inl, inr, arith}
+use Rattle.std.proofs.Common.{◌≡◌, ◌<◌, ◌⊎◌, ℕ, zero, suc, Bool, true, false, cond, ltb, leb, ◌&&◌, List, [], ◌∷◌, ◌++◌, length, map, set, take, slice_get, Some, None, refl, sym, ap, subst, subst₂, ◌∙◌, inl, inr, arith}
 use Rattle.std.specs.Prelude.{Option}
 use Rattle.std.proofs.lemmas.List.{map_push, get_or-set_same, get_or-set_other, set_past}
-use Rattle.dt_lists.specs.Lists.{AnyIn, AllIn, SomeThen, Has, IsFront, Either}
-use Rattle.dt_lists.proofs.Words.{any_get, any_append, any_image, some_append_left, all_map, all_get, all_put, all_image}
+use Rattle.dt_lists.specs.Lists.{AllIn, Has, IsFront, Either}
+use Rattle.dt_lists.proofs.Words.{any_append, any_image, some_append_left, all_map, all_get, all_put, all_image}
 use Rattle.dt_lists.proofs.Decided.{either_nat, either_le}
 use Rattle.dt_lists.proofs.Before.{has_before}
 use Rattle.dt_lists.proofs.Places.{from_right, map_of_set, flat_map_of_set}
 use Rattle.dt_access.specs.Clash.{Bytes}
-use Rattle.dt_access.specs.declared.Mode.{Mode}
 use Rattle.dt_access.specs.declared.TxnId.{TxnId}
 use Rattle.dt_access.specs.declared.Access.{Access}
-use Rattle.dt_access.specs.declared.Part.{Part}
-use Rattle.dt_sched.specs.Views.{View, ids_of, log_at, HasPart, IsLonger, Reaches, IsClosed, IsWellFormed}
+use Rattle.dt_sched.specs.Views.{ids_of, log_at, HasPart, IsLonger, IsClosed, IsWellFormed}
 use Rattle.dt_sched.proofs.Closed.{closed_stays, reaches_back}
 use Rattle.dt_events.specs.declared.Event.{Event}
 use Rattle.dt_events.specs.declared.Event.TheVariants.{Submit, Append, Deliver, Insert, Resolve, Execute, Answer}
-use Rattle.dt_table.specs.Table.{Table, Moved, moves_of, opening_home, home_after}
+use Rattle.dt_table.specs.Table.{Moved, moves_of, opening_home, home_after}
 use Rattle.dt_txn.specs.declared.txn.Body.TheVariants.{Move}
 use Rattle.dt_txn.specs.declared.Txn.{Txn}
-use Rattle.dt_txn.specs.Transaction.{uses_of, annotated, homes_of, part_of, IsValid}
-use Rattle.dt_txn.specs.Serial.{after, table_after}
+use Rattle.dt_txn.specs.Transaction.{uses_of, annotated, part_of, IsValid}
+use Rattle.dt_txn.specs.Serial.{table_after}
 use Rattle.dt_txn.specs.Replica.{Replica, MayStep, stepped}
 use Rattle.dt_serial.specs.Order.{StandsBefore}
 use Rattle.dt_serial.proofs.Runs.{moves_grow, table_after_append}
@@ -29,12 +27,11 @@ use Rattle.dt_cluster.specs.Valid.{IsValidCluster}
 use Rattle.dt_workload.specs.declared.Workload.{Workload}
 use Rattle.dt_workload.specs.declared.Session.{Session}
 use Rattle.dt_workload.specs.Valid.{IsValidWorkload}
-use Rattle.dt_session.specs.World.{World, Node, Place, Submission, no_node, node_at, with_node, opening_table, asked_of, log_of, logs_of, received_of, received_logs, submissions, txn_of, session_at}
-use Rattle.dt_session.specs.Step.{IsLegal, MaySubmit, MayAnswer, next_id, submission_for, world_submitted, submitted, placed, received, moved_on, answered, next, body_of}
+use Rattle.dt_session.specs.World.{World, Place, Submission, no_node, node_at, with_node, opening_table, asked_of, logs_of, received_of, received_logs, submissions, txn_of, session_at}
+use Rattle.dt_session.specs.Step.{IsLegal, MaySubmit, next_id, submission_for, world_submitted, submitted, placed, received, moved_on, answered, next, body_of}
 use Rattle.dt_session.specs.Run.{world_after, AreLegal, is_among, order_of, txns_of}
 use Rattle.dt_laws.specs.Invariant.{history_of, HasRoot, IsRooted, Rooted, Inv}
-use Rattle.dt_laws.proofs.Submissions.{IsKnown, txns_stay, txns_same, txn_id}
-use Rattle.dt_laws.proofs.Views.{log_is}
+use Rattle.dt_laws.proofs.Submissions.{IsKnown, txns_stay, txns_same}
 use Rattle.dt_laws.proofs.Known.{order_known}
 use Rattle.dt_laws.proofs.Submitting.{Submits, submits, submitted_logs, submitted_was, submitted_txns}
 use Rattle.dt_laws.proofs.Appending.{IsNextRequest, append_cases, logs_placed, submissions_placed, placed_longer, placed_well_formed}

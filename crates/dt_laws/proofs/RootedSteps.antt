@@ -1,52 +1,35 @@
 -- Each legal event keeps every annotation rooted in the one history of moves.
-use Rattle.std.proofs.Common.{◌≡◌, ◌≢◌, ◌<◌, ◌≤◌, ◌+◌, ◌⊎◌, ℕ, zero, suc, Bool, true, false, cond, List, [], ◌∷◌, ◌++◌, length, map, get_or, set, take, slice_get, Some, None, refl, sym, ap, ap₂, subst, subst₂, ◌∙◌, inl, inr, arith}
-use Rattle.std.specs.Prelude.{Option, option_map, filter_map}
-use Rattle.std.proofs.lemmas.List.{take_at, take-append-le, map_push, get_or-set_same, get_or-set_other, set_past}
-use Rattle.std.proofs.lemmas.Option.{same_Some}
-use Rattle.dt_lists.specs.Lists.{AnyIn, AllIn, SomeThen, Has, IsFront, Either}
-use Rattle.dt_lists.proofs.Words.{any_map, any_get, any_put, any_append, any_from_at, any_image, some_append_left, all_map, all_get, all_put, all_image}
-use Rattle.dt_lists.proofs.Decided.{either_nat, either_le}
-use Rattle.dt_lists.proofs.Before.{has_before}
-use Rattle.dt_lists.proofs.Places.{from_right, map_of_set, flat_map_of_set, has_place, place_within, at_place, place_in_longer}
+use Rattle.std.proofs.Common.{◌≡◌, ◌<◌, ◌≤◌, ◌+◌, ℕ, zero, suc, List, [], ◌++◌, length, take, slice_get, Some, refl, sym, ap, ap₂, subst, subst₂, ◌∙◌, inl, inr, arith}
+use Rattle.std.specs.Prelude.{option_map, filter_map}
+use Rattle.std.proofs.lemmas.List.{take_at, take-append-le}
+use Rattle.dt_lists.specs.Lists.{AllIn, Has, IsFront}
+use Rattle.dt_lists.proofs.Words.{any_from_at, all_map, all_get, all_put}
+use Rattle.dt_lists.proofs.Places.{has_place, place_within, at_place, place_in_longer}
 use Rattle.dt_access.specs.Clash.{Bytes}
 use Rattle.dt_access.specs.declared.Mode.{Mode}
 use Rattle.dt_access.specs.declared.TxnId.{TxnId}
 use Rattle.dt_access.specs.declared.Access.{Access}
-use Rattle.dt_access.specs.declared.Part.{Part}
-use Rattle.dt_sched.specs.Views.{View, ids_of, log_at, HasPart, IsLonger, IsPresent, Reaches, IsClosed, Precedes, IsWellFormed}
-use Rattle.dt_sched.proofs.Closed.{complete_of_closed, closed_stays, reaches_back}
+use Rattle.dt_sched.specs.Views.{View, HasPart, IsPresent, Reaches, IsClosed, Precedes}
+use Rattle.dt_sched.proofs.Closed.{complete_of_closed}
 use Rattle.dt_sched.proofs.Reach.{reach_source, present_of_complete}
-use Rattle.dt_events.specs.declared.Event.{Event}
-use Rattle.dt_events.specs.declared.Event.TheVariants.{Submit, Append, Deliver, Insert, Resolve, Execute, Answer}
 use Rattle.dt_table.specs.Table.{Table, Moved, moves_of, opening_home, home_after}
 use Rattle.dt_txn.specs.declared.Txn.{Txn}
-use Rattle.dt_txn.specs.Execution.{one}
-use Rattle.dt_txn.specs.Transaction.{uses_of, annotated, homes_of, part_of}
-use Rattle.dt_txn.specs.Serial.{after, table_after}
-use Rattle.dt_txn.specs.Replica.{MayStep, stepped, done_ids}
-use Rattle.dt_serial.specs.Order.{StandsBefore, txn_ids}
+use Rattle.dt_txn.specs.Transaction.{annotated}
+use Rattle.dt_txn.specs.Serial.{table_after}
+use Rattle.dt_txn.specs.Replica.{done_ids}
 use Rattle.dt_serial.proofs.Outcome.{moves_front}
-use Rattle.dt_serial.proofs.Runs.{moves_grow, movers_ran, table_after_append}
-use Rattle.dt_serial.proofs.Past.{has_of_among}
+use Rattle.dt_serial.proofs.Runs.{movers_ran}
 use Rattle.dt_cluster.specs.declared.Cluster.{Cluster}
-use Rattle.dt_cluster.specs.Valid.{IsValidCluster}
 use Rattle.dt_workload.specs.declared.Workload.{Workload}
-use Rattle.dt_workload.specs.Valid.{IsValidWorkload}
-use Rattle.dt_session.specs.World.{World, Node, Submission, no_node, node_at, with_node, opening_table, opening_world, asked_of, log_of, logs_of, received_of, received_logs, submissions, find_submission, txn_of, session_at}
-use Rattle.dt_session.specs.Step.{IsLegal, MaySubmit, next_id, submission_for, world_submitted, submitted, placed, received, moved_on, answered, next, body_of}
-use Rattle.dt_session.specs.Run.{world_after, AreLegal, is_among, order_of, txns_of}
-use Rattle.dt_laws.specs.Invariant.{IsExecutedAt, history_of, HasRoot, IsRooted, Rooted, Inv}
-use Rattle.dt_laws.proofs.Submissions.{IsKnown, txn_there, numbered, txns_stay, txns_same}
-use Rattle.dt_laws.proofs.Views.{log_is, logs_length}
-use Rattle.dt_laws.proofs.Known.{closed_full, present_known, executed_closed, order_known, full_well_formed}
+use Rattle.dt_session.specs.World.{World, Submission, node_at, opening_table, opening_world, logs_of, submissions, find_submission}
+use Rattle.dt_session.specs.Step.{next_id}
+use Rattle.dt_session.specs.Run.{txns_of}
+use Rattle.dt_laws.specs.Invariant.{history_of, HasRoot, IsRooted, Rooted, Inv}
+use Rattle.dt_laws.proofs.Submissions.{IsKnown, txn_there, numbered}
+use Rattle.dt_laws.proofs.Known.{closed_full, present_known, executed_closed}
 use Rattle.dt_laws.proofs.Opening.{opening_submissions}
 use Rattle.dt_laws.proofs.Annotating.{regions_stay, homes_stay, unmoved_at_first}
-use Rattle.dt_laws.proofs.Submitting.{Submits, submits, submitted_logs, submitted_was, submitted_txns}
-use Rattle.dt_laws.proofs.Appending.{IsNextRequest, append_cases, logs_placed, submissions_placed, placed_longer, placed_well_formed}
-use Rattle.dt_laws.proofs.Executing.{executable_known, txns_more}
-use Rattle.dt_laws.proofs.Runs.{ordered, world_after_more, legal_more, order_of_more}
-use Rattle.dt_laws.proofs.Keeping.{legal_keeps}
-use Rattle.dt_laws.proofs.Rooting.{home_after_last, home_of_target, done_txn_ids, parts_of_closed, maker_found, region_members, region_down, history}
+use Rattle.dt_laws.proofs.Rooting.{done_txn_ids, region_members, region_down, history}
 
 -- where logs, submissions and the order stay, so does what is rooted
 pub rooted_kept : (cluster : Cluster) (w v : World) (order : List TxnId) → logs_of v ≡ logs_of w → submissions v ≡ submissions w → Rooted cluster w order → Rooted cluster v order

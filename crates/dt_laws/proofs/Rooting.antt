@@ -1,49 +1,48 @@
 -- The one history of a legal world: what roots every annotation in it gives what the theory of serial runs asks.
-use Rattle.std.proofs.Common.{◌≡◌, ◌≢◌, ◌<◌, ◌≤◌, ◌⊎◌, ◌↔◌, ℕ, zero, suc, Bool, true, false, ◌&&◌, ◌||◌, eqb, List, [], ◌∷◌, ◌++◌, length, map, take, slice_get, Some, None, refl, sym, ap, ap₂, subst, subst₂, ◌∙◌, inl, inr, arith}
+use Rattle.std.proofs.Common.{◌≡◌, ◌≢◌, ◌<◌, ℕ, zero, suc, Bool, true, false, ◌&&◌, eqb, List, [], ◌∷◌, ◌++◌, map, take, slice_get, Some, refl, sym, ap, ap₂, subst, subst₂, ◌∙◌, inl, inr, arith}
 use Rattle.std.specs.Prelude.{filter}
 use Rattle.std.proofs.lemmas.Option.{same_Some}
 use Rattle.dt_lists.specs.Lists.{AnyIn, AllIn, SomeThen, Has, Either}
 use Rattle.dt_lists.proofs.Decided.{either_le}
-use Rattle.dt_lists.proofs.Words.{any_map, any_get, any_put, any_append_left, any_append_right, all_get, all_put, has_map, any_image, any_of_image}
-use Rattle.dt_lists.proofs.Places.{has_filtered, has_place}
+use Rattle.dt_lists.proofs.Words.{any_get, any_put, any_append_left, any_append_right, all_get, all_put, has_map, any_of_image}
+use Rattle.dt_lists.proofs.Filters.{has_filter}
 use Rattle.dt_access.specs.Clash.{Bytes, same_key, uses_clash, clash}
 use Rattle.dt_access.specs.declared.Mode.{Mode}
 use Rattle.dt_access.specs.declared.Mode.TheVariants.{Write}
 use Rattle.dt_access.specs.declared.TxnId.{TxnId}
 use Rattle.dt_access.specs.declared.Access.{Access}
 use Rattle.dt_access.specs.declared.Part.{Part}
-use Rattle.dt_sched.specs.Views.{View, ids_of, log_at, HasPart, HasParts, AreClashing, Edge, Chain, here, Reaches, IsComplete, IsClosed, Precedes}
+use Rattle.dt_sched.specs.Views.{log_at, HasPart, HasParts, AreClashing, Edge, here, Reaches, IsClosed, Precedes}
 use Rattle.dt_sched.specs.Decide.{IsSound}
 use Rattle.dt_sched.proofs.Clash.{clash_of_uses}
 use Rattle.dt_sched.proofs.Chains.{chain_step}
 use Rattle.dt_sched.proofs.Closed.{part_of_complete, edge_at_home, complete_of_closed}
 use Rattle.dt_sched.proofs.Precedence.{precedes_irreflexive, precedes_transitive, comparable_in_log}
 use Rattle.dt_sched.proofs.Sound.{sound_longer}
-use Rattle.dt_table.specs.Table.{Table, Moved, moves_of, opening_home, home_after}
+use Rattle.dt_table.specs.Table.{Moved, opening_home, home_after}
 use Rattle.dt_txn.specs.declared.Body.{Body}
 use Rattle.dt_txn.specs.declared.txn.Body.TheVariants.{Call, Move}
 use Rattle.dt_txn.specs.declared.Txn.{Txn}
-use Rattle.dt_txn.specs.Transaction.{uses_of, targets_of, set_of, homes_of, entries_at, used_of, part_of, IsValid}
-use Rattle.dt_txn.specs.Serial.{table_after}
+use Rattle.dt_txn.specs.Transaction.{uses_of, targets_of, homes_of, entries_at, used_of, part_of, IsValid}
 use Rattle.dt_txn.specs.Replica.{done_ids}
-use Rattle.dt_serial.specs.Order.{StandsBefore, Ordered, IsDown, FollowsMove, IsAnchored, IsShared, IsHistory, IsPart, txn_ids, KeepsToKeys}
+use Rattle.dt_serial.specs.Order.{Ordered, IsDown, FollowsMove, IsShared, IsHistory, txn_ids, KeepsToKeys}
 use Rattle.dt_serial.specs.Evidence.{MadeMove}
 use Rattle.dt_serial.proofs.Causes.{move_made}
 use Rattle.dt_serial.proofs.Past.{down_of_order}
-use Rattle.dt_serial.proofs.Lookups.{looked_ids, looked_has, looked_from, looked_members}
+use Rattle.dt_serial.proofs.Lookups.{looked_ids, looked_from, looked_members}
 use Rattle.dt_serial.proofs.Valid.{valid_keeps}
 use Rattle.dt_cluster.specs.declared.Cluster.{Cluster}
 use Rattle.dt_workload.specs.declared.Workload.{Workload}
 use Rattle.dt_session.specs.World.{World, Submission, node_at, opening_table, logs_of, log_of, view_at, submissions, txn_of}
 use Rattle.dt_session.specs.Run.{txns_of}
-use Rattle.dt_laws.specs.Invariant.{IsPartAt, IsExecutedAt, history_of, HasRoot, IsRooted, Rooted, Inv}
+use Rattle.dt_laws.specs.Invariant.{IsPartAt, history_of, HasRoot, IsRooted, Rooted, Inv}
 use Rattle.dt_laws.proofs.Ids.{test_of_equal}
-use Rattle.dt_laws.proofs.Submissions.{IsKnown, txn_id, txn_found}
+use Rattle.dt_laws.proofs.Submissions.{txn_id}
 use Rattle.dt_laws.proofs.Views.{log_is}
 use Rattle.dt_laws.proofs.Homes.{has_set_of}
 use Rattle.dt_laws.proofs.Logs.{logs_past}
 use Rattle.dt_laws.proofs.Sessions.{key_of_test, test_of_key}
-use Rattle.dt_laws.proofs.Known.{view_longer, full_well_formed, closed_full, closed_known, executed_closed, done_known, order_closed, order_known}
+use Rattle.dt_laws.proofs.Known.{view_longer, full_well_formed, done_known, order_closed, order_known}
 use Rattle.dt_laws.proofs.Annotating.{txns_submitted, txns_valid, unmoved_at_first}
 
 -- pairs of a list, by membership and by images
@@ -62,7 +61,7 @@ some_of_image R f (x ∷ xs) (inr s) = inr (some_of_image R f xs s)
 
 -- an entry is listed by the part at its home
 pub listed : (body : Body) (home : ℕ) (access : List Access) (a : Access) → Has access a → a.home ≡ home → Has (map used_of (entries_at body home access)) (used_of a)
-listed (Call proc args) home access a h e = has_map used_of (filter (λ x. eqb x.home home) access) a (has_filtered (λ x. eqb x.home home) access a h (test_of_equal a.home home e))
+listed (Call proc args) home access a h e = has_map used_of (filter (λ x. eqb x.home home) access) a (has_filter (λ x. eqb x.home home) access a h (test_of_equal a.home home e))
 listed (Move key target) home access a h e = has_map used_of access a h
 
 -- each part of a move lists its key for writing

@@ -1,11 +1,12 @@
 -- Events one after another: worlds, what is legal, and the order of first executions, with one more event at the end.
-use Rattle.std.proofs.Common.{◌≡◌, ◌≢◌, ◌⊎◌, ℕ, Bool, true, false, cond, ◌||◌, List, [], ◌∷◌, ◌++◌, Some, None, refl, sym, ap, subst, ◌∙◌, inl, inr, append-nil}
-use Rattle.std.specs.Prelude.{Option, filter, filter_map, not}
+use Rattle.std.proofs.Common.{◌≡◌, ◌⊎◌, Bool, true, false, cond, List, [], ◌∷◌, ◌++◌, Some, None, refl, sym, ap, ◌∙◌, inl, inr, append-nil}
+use Rattle.std.specs.Prelude.{Option, filter_map, not}
 use Rattle.std.specs.List.{cons_option}
-use Rattle.std.proofs.lemmas.Bool.{cases_Bool, false_from_ne_true}
+use Rattle.std.proofs.lemmas.Bool.{cases_Bool}
 use Rattle.std.proofs.lemmas.List.Elements.{filter-append, filter_map-append}
-use Rattle.dt_lists.specs.Lists.{Has, IsFront, Either}
-use Rattle.dt_lists.proofs.Places.{has_filtered, has_of_filtered, has_last, has_longer}
+use Rattle.dt_lists.specs.Lists.{Has, IsFront}
+use Rattle.dt_lists.proofs.Places.{has_of_filtered}
+use Rattle.dt_lists.proofs.Filters.{has_filter}
 use Rattle.dt_lists.proofs.Fronts.{front_refl, front_append}
 use Rattle.dt_access.specs.Ids.{same_id}
 use Rattle.dt_access.specs.declared.TxnId.{TxnId}
@@ -16,7 +17,7 @@ use Rattle.dt_workload.specs.declared.Workload.{Workload}
 use Rattle.dt_session.specs.World.{World, opening_world}
 use Rattle.dt_session.specs.Step.{IsLegal, next}
 use Rattle.dt_session.specs.Run.{world_from, world_after, AreLegalFrom, AreLegal, executed_id, is_among, without, firsts, order_of}
-use Rattle.dt_laws.proofs.Ids.{id_of_test, test_of_id, test_of_other}
+use Rattle.dt_laws.proofs.Ids.{id_of_test, test_of_id}
 
 -- the order after the id of an event, if it executes one: an id that is executed for the first time comes last
 abbrev pub with_executed : List TxnId → Option TxnId → List TxnId
@@ -94,7 +95,7 @@ firsts_more (x ∷ xs) y = go (cases_Bool (is_among (firsts xs) y)) (cases_Bool 
 
     go : (is_among (firsts xs) y ≡ true) ⊎ (is_among (firsts xs) y ≡ false) → (same_id x y ≡ true) ⊎ (same_id x y ≡ false) → firsts (xs ++ y ∷ []) ≡ with_executed (firsts xs) (Some y) → firsts ((x ∷ xs) ++ y ∷ []) ≡ with_executed (firsts (x ∷ xs)) (Some y)
     go (inl p) (inl q) ih = shorter (firsts xs) (before p ih) ∙ sym (there (inl (id_of_test x y q)))
-    go (inl p) (inr q) ih = shorter (firsts xs) (before p ih) ∙ sym (there (inr (has_filtered (λ other. not (same_id x other)) (firsts xs) y (has_of_among (firsts xs) y p) (stays q))))
+    go (inl p) (inr q) ih = shorter (firsts xs) (before p ih) ∙ sym (there (inr (has_filter (λ other. not (same_id x other)) (firsts xs) y (has_of_among (firsts xs) y p) (stays q))))
     go (inr n) (inl q) ih = shorter (firsts xs ++ y ∷ []) (after n ih) ∙ ap (λ l. x ∷ l) (joined ∙ ap (λ l. without x (firsts xs) ++ l) (gone_here q) ∙ append-nil (without x (firsts xs))) ∙ sym (there (inl (id_of_test x y q)))
     go (inr n) (inr q) ih = shorter (firsts xs ++ y ∷ []) (after n ih) ∙ ap (λ l. x ∷ l) (joined ∙ ap (λ l. without x (firsts xs) ++ l) (kept_here q)) ∙ sym (absent new)
       where

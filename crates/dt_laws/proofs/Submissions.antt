@@ -1,14 +1,14 @@
 -- Submissions by their ids: each id has one, and it is found.
-use Rattle.std.proofs.Common.{◌≡◌, ◌≢◌, ◌<◌, ◌≤◌, ◌+◌, ◌⊎◌, ℕ, zero, suc, Bool, true, false, cond, List, [], ◌∷◌, ◌++◌, length, get_or, set, map, flat_map, slice_get, Some, None, refl, sym, ap, subst, ◌∙◌, inl, inr, arith}
+use Rattle.std.proofs.Common.{◌≡◌, ◌≢◌, ◌<◌, ◌+◌, ◌⊎◌, ℕ, true, false, List, [], ◌∷◌, length, slice_get, Some, None, refl, sym, ap, subst, ◌∙◌, inl, inr, arith}
 use Rattle.std.specs.Prelude.{Option, option_map, filter_map}
 use Rattle.std.proofs.lemmas.Bool.{cases_Bool}
-use Rattle.dt_lists.specs.Lists.{AnyIn, AllIn, Has, Either}
-use Rattle.dt_lists.proofs.Words.{any_map, any_get, any_put, any_at, any_from_at, all_get}
+use Rattle.dt_lists.specs.Lists.{AllIn, Has}
+use Rattle.dt_lists.proofs.Words.{any_at, any_from_at}
 use Rattle.dt_lists.proofs.Places.{place_of, any_in_joined, any_of_joined}
 use Rattle.dt_access.specs.Ids.{same_id}
 use Rattle.dt_access.specs.declared.TxnId.{TxnId}
 use Rattle.dt_txn.specs.declared.Txn.{Txn}
-use Rattle.dt_session.specs.World.{World, Node, Submission, no_node, node_at, submissions, find_submission, txn_of}
+use Rattle.dt_session.specs.World.{World, Submission, no_node, node_at, submissions, find_submission, txn_of}
 use Rattle.dt_session.specs.Run.{txns_of}
 use Rattle.dt_laws.specs.Invariant.{AreNumbered}
 use Rattle.dt_laws.proofs.Ids.{id_of_test, test_of_id, test_of_other}

@@ -1,10 +1,10 @@
 -- A submission keeps the invariant.
-use Rattle.std.proofs.Common.{◌≡◌, ◌≢◌, ◌<◌, ◌≤◌, ◌+◌, ◌*◌, ◌⊎◌, ℕ, zero, suc, Bool, true, false, cond, List, [], ◌∷◌, ◌++◌, length, map, get_or, set, take, slice_get, Some, None, refl, sym, ap, ap₂, subst, ◌∙◌, inl, inr, append-nil, arith}
+use Rattle.std.proofs.Common.{◌≡◌, ◌≢◌, ◌<◌, ◌≤◌, ◌+◌, ◌*◌, ◌⊎◌, ℕ, true, false, List, [], ◌∷◌, ◌++◌, length, get_or, take, slice_get, Some, None, refl, sym, ap, ap₂, subst, ◌∙◌, inl, inr, append-nil, arith}
 use Rattle.std.specs.Prelude.{Option, option_map, unwrap_or, slice_index, filter}
 use Rattle.std.proofs.lemmas.Bool.{cases_Bool, false_from_ne_true}
 use Rattle.std.proofs.lemmas.List.{length-set, length-append, take-append-le, get_or-set_same, get_or-set_other}
 use Rattle.std.proofs.lemmas.List.Elements.{filter-append}
-use Rattle.dt_lists.specs.Lists.{AnyIn, AllIn, Has, IsFront, Pairwise, Either}
+use Rattle.dt_lists.specs.Lists.{AnyIn, AllIn, Has, Either}
 use Rattle.dt_lists.proofs.Words.{any_put, all_get, all_put}
 use Rattle.dt_lists.proofs.Decided.{either_nat}
 use Rattle.dt_lists.proofs.Places.{field_of_set, map_of_set, each_of_set, all_more, has_more, has_last, has_longer, has_place, at_place}
@@ -12,8 +12,7 @@ use Rattle.dt_access.specs.Clash.{Bytes, same_key}
 use Rattle.dt_access.specs.declared.TxnId.{TxnId}
 use Rattle.dt_sched.specs.Views.{ids_of}
 use Rattle.dt_txn.specs.declared.Txn.{Txn}
-use Rattle.dt_txn.specs.Transaction.{annotate, homes_of, IsValid}
-use Rattle.dt_txn.specs.Serial.{table_after}
+use Rattle.dt_txn.specs.Transaction.{homes_of, IsValid}
 use Rattle.dt_table.specs.Table.{home_of}
 use Rattle.dt_txn.specs.Replica.{done_ids}
 use Rattle.dt_cluster.specs.declared.Cluster.{Cluster}
@@ -22,10 +21,10 @@ use Rattle.dt_workload.specs.declared.Session.{Session}
 use Rattle.dt_workload.specs.declared.Wanted.{Wanted}
 use Rattle.dt_workload.specs.declared.Workload.{Workload}
 use Rattle.dt_workload.specs.Valid.{WantedFits, IsValidSession, IsValidWorkload}
-use Rattle.dt_session.specs.World.{World, Node, Place, Submission, no_node, node_at, asked_of, taken_from, log_of, logs_of, opening_table, view_at, submissions, submission_of, attempt_of, txn_of, session_at, with_place}
+use Rattle.dt_session.specs.World.{World, Node, Place, Submission, no_node, node_at, asked_of, taken_from, log_of, logs_of, submissions, submission_of, attempt_of, txn_of, session_at}
 use Rattle.dt_session.specs.Step.{MayTry, MaySubmit, ask, body_of, next_id, next_attempt, submission_for, node_submitted, world_submitted, called, submitted}
 use Rattle.dt_session.specs.Run.{txns_of}
-use Rattle.dt_laws.specs.Invariant.{IsSized, AreNumbered, has_home, requests, given_by, IsLog, attempts_by, IsSubmissionOf, IsWaiting, IsPlaced, IsPlaceOf, AreSessions, Inv}
+use Rattle.dt_laws.specs.Invariant.{IsSized, AreNumbered, has_home, requests, given_by, attempts_by, IsSubmissionOf, IsWaiting, IsPlaced, IsPlaceOf, AreSessions, Inv}
 use Rattle.dt_laws.proofs.Kept.{Keeps, Sized, Numbered, Valid, Asked, Logs, parts_kept, lengths_kept, view_kept, sound_kept, tables_kept, ordered_kept}
 use Rattle.dt_laws.proofs.Submissions.{AreUnlike, find_of_has, at_region, from_region, unlike, txn_stays, txns_stay}
 use Rattle.dt_laws.proofs.Homes.{home_of_test, test_of_home, homes_once, ask_length, ask_here, ask_other}

@@ -1,14 +1,14 @@
 -- Fronts of logs as views, and the view of a region.
-use Rattle.std.proofs.Common.{◌≡◌, ◌≢◌, ◌<◌, ◌≤◌, ◌⊎◌, ℕ, zero, suc, List, [], ◌∷◌, ◌++◌, length, get_or, set, map, take, refl, sym, ap, ap₂, subst, ◌∙◌, inl, inr, arith}
+use Rattle.std.proofs.Common.{◌≡◌, ◌≢◌, ◌<◌, ◌≤◌, ℕ, zero, suc, List, [], ◌∷◌, ◌++◌, length, set, take, refl, ap, ap₂, subst, ◌∙◌, arith}
 use Rattle.std.specs.Prelude.{slice_index}
 use Rattle.std.proofs.lemmas.List.{take-take, take-append-le, length-map, get_or-set_same, get_or-set_other}
-use Rattle.dt_lists.specs.Lists.{AnyIn, AllIn, Has, IsFront, Pairwise}
+use Rattle.dt_lists.specs.Lists.{IsFront}
 use Rattle.dt_lists.proofs.Fronts.{front_refl, front_take, front_takes, front_empty, front_append, pairwise_refl}
-use Rattle.dt_lists.proofs.Places.{get_of_map, field_of_set, map_of_set}
+use Rattle.dt_lists.proofs.Places.{get_of_map}
 use Rattle.dt_access.specs.declared.Part.{Part}
 use Rattle.dt_sched.specs.Views.{View, log_at, IsLonger}
 use Rattle.dt_txn.specs.Replica.{fronts}
-use Rattle.dt_session.specs.World.{World, Node, no_node, node_at, logs_of, log_of, received_of, received_lengths, received_logs, view_at}
+use Rattle.dt_session.specs.World.{World, no_node, node_at, logs_of, log_of, received_of, received_lengths, received_logs, view_at}
 
 pub fronts_at : (lengths : List ℕ) (view : View) (home : ℕ) → log_at (fronts lengths view) home ≡ take (slice_index lengths home) (log_at view home)
 fronts_at lengths [] home = take_none (slice_index lengths home)

@@ -1,7 +1,7 @@
 -- What every legal world keeps, for any number of regions, homes and moves.
-use Rattle.std.specs.Prelude.{◌≡◌, ◌<◌, ◌≤◌, ◌↔◌, ◌+◌, ◌*◌, ◌==◌, ℕ, zero, suc, Bool, List, [], ◌∷◌, length, map, filter, take, slice_index, slice_get, Option, Some, None}
+use Rattle.std.specs.Prelude.{◌≡◌, ◌<◌, ◌≤◌, ◌↔◌, ◌+◌, ◌*◌, ◌==◌, ℕ, zero, suc, Bool, List, length, map, filter, take, slice_index, slice_get, Option, Some, None}
 use Rattle.std.specs.List.{list_any}
-use Rattle.dt_lists.specs.Lists.{AnyIn, AllIn, SomeThen, Has, Distinct, Pairwise}
+use Rattle.dt_lists.specs.Lists.{AnyIn, AllIn, Has, Pairwise}
 use Rattle.dt_access.specs.Clash.{Bytes, same_key}
 use Rattle.dt_access.specs.declared.TxnId.{TxnId}
 use Rattle.dt_access.specs.declared.Access.{Access}

@@ -1,9 +1,10 @@
 -- Lists by place: an item is put in or added at the end; and what is said of a list by its last item.
-use Rattle.std.proofs.Common.{◌≡◌, ◌≢◌, ◌<◌, ◌≤◌, ◌+◌, ◌⊎◌, ◌∙◌, ℕ, zero, suc, Bool, true, false, cond, List, [], ◌∷◌, ◌++◌, length, get_or, set, map, flat_map, slice_get, Some, None, refl, sym, ap, ap₂, subst, inl, inr, append_assoc, append-nil, arith}
-use Rattle.std.specs.Prelude.{filter, Option}
+use Rattle.std.proofs.Common.{◌≡◌, ◌<◌, ◌⊎◌, ℕ, zero, suc, Bool, true, false, List, [], ◌∷◌, ◌++◌, length, get_or, set, map, flat_map, slice_get, Some, refl, sym, ap, subst, inl, inr, append_assoc, append-nil, arith}
+use Rattle.std.specs.Prelude.{filter}
 use Rattle.std.proofs.lemmas.Bool.{cases_Bool}
-use Rattle.dt_lists.specs.Lists.{AnyIn, AllIn, SomeThen, Has, EachThen, Distinct}
-use Rattle.dt_lists.proofs.Words.{any_map, any_get, any_put, any_append, any_append_left, any_append_right, all_append, all_get, all_put, each_append}
+use Rattle.dt_lists.specs.Lists.{AnyIn, AllIn, Has, Distinct}
+use Rattle.dt_lists.proofs.Words.{any_append, any_append_left, any_append_right, all_append, all_get, all_put}
+use Rattle.dt_lists.proofs.Filters.{has_filter, of_filter}
 
 -- what holds of the empty list, and with each list of the list with one more item at its end, holds of all lists
 pub from_right : {A : Type 0} (P : List A → Type 0) → P [] → ((xs : List A) (x : A) → P xs → P (xs ++ x ∷ [])) → (xs : List A) → P xs
@@ -72,10 +73,6 @@ place_in_longer [] ys i x e = cc
 place_in_longer (z ∷ zs) ys zero x e = e
 place_in_longer (z ∷ zs) ys (suc i) x e = place_in_longer zs ys i x e
 
-pub place_of_last : {A : Type 0} (xs : List A) (y : A) → slice_get (xs ++ y ∷ []) (length xs) ≡ Some y
-place_of_last [] y = refl
-place_of_last (z ∷ zs) y = place_of_last zs y
-
 -- an item of a list with one more at its end is one of the list, or the last one
 pub place_in_more : {A : Type 0} (xs : List A) (y : A) (i : ℕ) (x : A) → slice_get (xs ++ y ∷ []) i ≡ Some x → (slice_get xs i ≡ Some x) ⊎ ((i ≡ length xs) × (y ≡ x))
 place_in_more [] y zero x e = inr (refl, cc)
@@ -87,10 +84,6 @@ place_in_more (z ∷ zs) y (suc i) x e = elim (place_in_more zs y i x e) [ inl l
 
 pub all_more : {A : Type 0} (P : A → Type 0) (xs : List A) (x : A) → AllIn P xs → P x → AllIn P (xs ++ x ∷ [])
 all_more P xs x a p = all_append P xs (x ∷ []) a (p, tt)
-
-pub each_more : {A : Type 0} (R : A → A → Type 0) (xs : List A) (x : A) → EachThen R xs → AllIn (λ y. R y x) xs → EachThen R (xs ++ x ∷ [])
-each_more R [] x e a = (tt, tt)
-each_more R (y ∷ ys) x e a = (all_more (R y) ys x e.0 a.0, each_more R ys x e.1 a.1)
 
 pub has_more : {A : Type 0} (xs : List A) (x y : A) → Has (xs ++ x ∷ []) y → Has xs y ⊎ (x ≡ y)
 has_more xs x y h = elim (any_append _ xs (x ∷ []) h) [ inl l ↦ inl l | inr r ↦ elim r [ inl e ↦ inr e | inr f ↦ absurd f ] ]
@@ -114,40 +107,8 @@ any_of_joined P f (x ∷ xs) (inr e) = any_append_right P (f x) (flat_map f xs) 
 
 -- filters
 
-cond_list : {A : Type 0} (P : List A → Type 0) (b : Bool) (xs ys : List A) → (b ≡ true → P xs) → (b ≡ false → P ys) → P (cond b xs ys)
-cond_list P true xs ys f g = f refl
-cond_list P false xs ys f g = g refl
-
-pub has_filtered : {A : Type 0} (test : A → Bool) (xs : List A) (x : A) → Has xs x → test x ≡ true → Has (filter test xs) x
-has_filtered test [] x h t = h
-has_filtered test (y ∷ ys) x (inl e) t = cond_list (λ l. Has l x) (test y) (y ∷ filter test ys) (filter test ys) (λ p. inl e) (λ n. cc (ap test e))
-has_filtered test (y ∷ ys) x (inr h) t =
-    let r : Has (filter test ys) x = has_filtered test ys x h t in
-    cond_list (λ l. Has l x) (test y) (y ∷ filter test ys) (filter test ys) (λ p. inr r) (λ n. r)
-
-pub all_filtered : {A : Type 0} (P : A → Type 0) (test : A → Bool) (xs : List A) → AllIn P xs → AllIn P (filter test xs)
-all_filtered P test [] a = tt
-all_filtered P test (y ∷ ys) a =
-    let r : AllIn P (filter test ys) = all_filtered P test ys a.1 in
-    cond_list (AllIn P) (test y) (y ∷ filter test ys) (filter test ys) (λ p. (a.0, r)) (λ n. r)
-
-pub each_filtered : {A : Type 0} (R : A → A → Type 0) (test : A → Bool) (xs : List A) → EachThen R xs → EachThen R (filter test xs)
-each_filtered R test [] a = tt
-each_filtered R test (y ∷ ys) a =
-    let r : EachThen R (filter test ys) = each_filtered R test ys a.1 in
-    cond_list (EachThen R) (test y) (y ∷ filter test ys) (filter test ys) (λ p. (all_filtered (R y) test ys a.0, r)) (λ n. r)
-
 pub has_of_filtered : {A : Type 0} (test : A → Bool) (xs : List A) (x : A) → Has (filter test xs) x → Has xs x × (test x ≡ true)
-has_of_filtered test [] x h = absurd h
-has_of_filtered test (y ∷ ys) x h = go (cases_Bool (test y)) (has_of_filtered test ys x) h
-  where
-    go : (test y ≡ true) ⊎ (test y ≡ false) → (Has (filter test ys) x → Has ys x × (test x ≡ true)) → Has (filter test (y ∷ ys)) x → Has (y ∷ ys) x × (test x ≡ true)
-    go (inl p) f h = at (rw p at h)
-      where
-        at : Has (y ∷ filter test ys) x → Has (y ∷ ys) x × (test x ≡ true)
-        at (inl e) = (inl e, sym (ap test e) ∙ p)
-        at (inr k) = let r : Has ys x × (test x ≡ true) = f k in (inr r.0, r.1)
-    go (inr n) f h = let r : Has ys x × (test x ≡ true) = f (rw n at h) in (inr r.0, r.1)
+has_of_filtered test xs x h = all_get (λ y. Has xs y × (test y ≡ true)) (filter test xs) (of_filter test xs) x h
 
 -- what is distinct in a filtered list, for each test, is distinct
 pub distinct_by_key : {A B : Type 0} (same : B → A → Bool) (key : A → B) (xs : List A) → ((x : A) → same (key x) x ≡ true) → ((b : B) → Distinct (filter (same b) xs)) → Distinct xs
@@ -158,7 +119,7 @@ distinct_by_key same key (x ∷ xs) self d = (all_put _ xs (λ y h e. twice y h 
     head_of h = rw (self x) at h
 
     twice : (y : _) → Has xs y → x ≡ y → ⊥
-    twice y h e = all_get _ (filter (same (key x)) xs) (head_of (d (key x))).0 y (has_filtered (same (key x)) xs y h (subst (λ z. same (key x) z ≡ true) e (self x))) e
+    twice y h e = all_get _ (filter (same (key x)) xs) (head_of (d (key x))).0 y (has_filter (same (key x)) xs y h (subst (λ z. same (key x) z ≡ true) e (self x))) e
 
     rest : (b : _) → Distinct (filter (same b) xs)
     rest b = go (cases_Bool (same b x)) (d b)
