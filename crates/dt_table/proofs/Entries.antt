@@ -1,11 +1,11 @@
 -- A list of entries with a look-up by `==`, and the finite map that it makes: how a write of one entry changes both.
-use Rattle.std.proofs.Common.{◌≡◌, Bool, true, false, cond, List, [], ◌∷◌, map, refl, sym, ap, ◌∙◌, subst, Option, Some, None, true≢false}
+use Rattle.std.proofs.Common.{◌≡◌, Bool, true, false, cond, List, [], ◌∷◌, map, refl, sym, ap, ◌∙◌, subst, Some, None}
 use Rattle.std.specs.Option.{option_map}
 use Rattle.std.specs.Ordering.{eq_by_cmp}
 use Rattle.std.specs.declared.cmp.Ordering.{Ordering}
 use Rattle.std.specs.Cmp.{IsTotalOrder, IsEquivalence}
 use Rattle.std.specs.Map.{lookup, set_value}
-use Rattle.std.specs.FinMap.{FinMap, get, insert, from_entries, get-insert, get-from_entries, same_map, IsAntisymmetric}
+use Rattle.std.specs.FinMap.{get, insert, from_entries, get-insert, get-from_entries, same_map, IsAntisymmetric}
 use Rattle.std.specs.FinMap.Entries.{find}
 use Rattle.indexmap.specs.IndexMap.{insert_entry}
 use Rattle.dt_lists.specs.Lists.{AllIn}

@@ -1,6 +1,5 @@
 -- A list with distinct keys is entered into a map entry by entry, and the table that opens so.
-use Rattle.std.proofs.Common.{◌≡◌, ℕ, zero, suc, ◌+◌, ◌<◌, Bool, true, false, cond, List, [], ◌∷◌, ◌++◌, map, length, take, get_or, refl, sym, ap, ◌∙◌, subst, arith, true≢false, Some, Option}
-use Rattle.std.specs.Cmp.Lexicographic.{bytes_decides}
+use Rattle.std.proofs.Common.{◌≡◌, ℕ, zero, suc, ◌+◌, ◌<◌, false, cond, List, [], ◌∷◌, ◌++◌, map, length, take, get_or, refl, sym, ap, ◌∙◌, arith, Some}
 use Rattle.std.proofs.lemmas.List.{map-id, map-append, take_more}
 use Rattle.std.specs.FinMap.{from_entries}
 use Rattle.indexmap.specs.IndexMap.{insert_entry}
@@ -8,7 +7,7 @@ use Rattle.dt_lists.specs.Lists.{AllIn}
 use Rattle.dt_access.specs.Clash.{Bytes, same_key}
 use Rattle.dt_access.specs.Orders.{HasDistinctKeys}
 use Rattle.dt_text.specs.declared.Value.{Value}
-use Rattle.dt_table.specs.Table.{Table, Row, opening, opening_home}
+use Rattle.dt_table.specs.Table.{Table, Row, opening}
 use Rattle.dt_table.specs.Stored.{opening_row}
 use Rattle.dt_table.specs.History.{row_in, IsStored}
 use Rattle.dt_table.proofs.TableLaws.{same_key-other}

@@ -1,20 +1,18 @@
 -- What a report shows of a table, by the rows that it keeps.
-use Rattle.std.proofs.Common.{◌≡◌, ℕ, T, Bool, true, false, cond, ◌&&◌, not, if◌then◌else◌, is_none, ◌==◌, List, [], ◌∷◌, ◌++◌, map, flat_map, length, refl, sym, ap, ◌∙◌, subst, arith, Some, None, Option}
-use Rattle.std.specs.Option.{option_map}
+use Rattle.std.proofs.Common.{◌≡◌, T, Bool, true, false, cond, ◌&&◌, not, if◌then◌else◌, is_none, ◌==◌, List, [], ◌∷◌, ◌++◌, map, flat_map, length, refl, sym, ap, ◌∙◌, Some}
 use Rattle.std.specs.declared.cmp.Ordering.{Ordering}
 use Rattle.std.specs.declared.cmp.Ordering.TheVariants.{Less, Equal, Greater}
-use Rattle.std.specs.Ordering.{nat_cmp, is_lt, is_eq, ordering_reverse, eq_by_cmp}
-use Rattle.std.specs.Cmp.{IsTotalOrder, tied_itself}
-use Rattle.std.specs.Cmp.Lexicographic.{slice_cmp, nat_list_cmp_total, texts_ties}
+use Rattle.std.specs.Ordering.{is_lt, is_eq, ordering_reverse, eq_by_cmp}
+use Rattle.std.specs.Cmp.{tied_itself}
+use Rattle.std.specs.Cmp.Lexicographic.{nat_list_cmp_total}
 use Rattle.std.specs.Map.{lookup}
-use Rattle.std.specs.FinMap.{FinMap, get, entries, empty, insert, from_entries, from_sorted, is_sorted, put, len, entries_sorted, entries-from_sorted, entries-insert, get-entries, get-from_entries, len-entries, empty_of_len}
+use Rattle.std.specs.FinMap.{entries, empty, from_entries, from_sorted, is_sorted, put, entries_sorted, entries-from_sorted, entries-insert, get-entries, get-from_entries, len-entries, empty_of_len}
 use Rattle.std.specs.FinMap.Entries.{find, below_all, by_order}
 use Rattle.dt_lists.specs.Lists.{AllIn}
 use Rattle.dt_access.specs.Clash.{Bytes, same_key}
-use Rattle.dt_table.specs.Table.{Row, Table, shown, shown_row}
-use Rattle.dt_table.specs.Stored.{in_key_order, is_shown, shown_as, shown_stored}
-use Rattle.dt_table.specs.History.{row_in, history, kept_of, IsSound, IsStored}
-use Rattle.dt_table.specs.declared.shown.Shown.{Shown}
+use Rattle.dt_table.specs.Table.{shown, shown_row}
+use Rattle.dt_table.specs.Stored.{in_key_order, shown_as, shown_stored}
+use Rattle.dt_table.specs.History.{row_in, kept_of, IsSound}
 use Rattle.dt_table.specs.declared.stored.StoredRow.{StoredRow}
 use Rattle.dt_table.specs.declared.table.Table.TheInside.{Inside}
 use Rattle.dt_table.proofs.Sorted.{order, find-lookup}

@@ -1,4 +1,4 @@
-use Rattle.std.specs.Prelude.{◌≡◌, ◌+◌, ◌-◌, ◌%◌, ◌==◌, ℕ, List, [], ◌∷◌, ◌++◌, length, map, flat_map, slice_index, slice_get, Option, Some, None, unwrap_or, option_map, option_to_list, if◌then◌else◌, is_none, ◌&&◌}
+use Rattle.std.specs.Prelude.{◌+◌, ◌%◌, ◌==◌, ℕ, List, [], ◌∷◌, ◌++◌, length, map, flat_map, slice_index, slice_get, Option, Some, None, unwrap_or, option_map, option_to_list, if◌then◌else◌, is_none, ◌&&◌}
 use Rattle.std.specs.Ordering.{nat_cmp}
 use Rattle.std.specs.Cmp.Lexicographic.{slice_cmp}
 use Rattle.std.specs.Map.{lookup}

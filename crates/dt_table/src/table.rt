@@ -24,6 +24,8 @@ pub struct Mastership {
 }
 
 /// The rows of a region.
+///
+/// Contracts see its `state`, and as `spare` how many writes and moves it has room for, so that `apply` takes no memory.
 #[derive(Drop)]
 pub struct Table {
     regions: u8,
@@ -104,7 +106,8 @@ impl Table {
         mover_of(&self.moves, self.rows.get(key)?, number)
     }
 
-    /// Makes room for so many writes and moves, of any keys. After `NoMemory` too, nothing else has changed.
+    /// Makes room for so many writes and moves, of any keys. Nothing else changes, whatever the answer. A table keeps at
+    /// most 4,294,967,295 moves, so `NoMemory` comes also where more could follow.
     pub fn reserve(&mut self, places: u32) -> Result<(), NoMemory>
         ensures state { self.new.state ≡ self.old.state }
         ensures room { OnOk result (places ≤ self.new.spare) }

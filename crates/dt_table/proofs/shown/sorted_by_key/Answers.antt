@@ -1,12 +1,9 @@
-use Rattle.std.proofs.Common.{◌≡◌, ◌∙◌, sym, ap, subst, map, rules, IsPermutation, Bor, Bool}
+use Rattle.std.proofs.Common.{◌≡◌, subst, map, rules, IsPermutation, Bor}
 use Rattle.std.specs.Map.Iter.{deref_pair}
-use Rattle.std.specs.Map.{keys_of}
 use Rattle.std.specs.Ordering.{is_lt}
-use Rattle.std.specs.List.{IsDistinct}
-use Rattle.std.specs.List.Sorted.{IsSortedBy}
 use Rattle.std.proofs.lemmas.List.Sorted.{IsPermutation-map, ranks_by, answers_always}
 use Rattle.std.specs.Cmp.Lexicographic.{nat_list_cmp_total}
-use Rattle.dt_access.specs.Clash.{Bytes, same_key}
+use Rattle.dt_access.specs.Clash.{Bytes}
 use Rattle.dt_table.specs.declared.stored.StoredRow.{StoredRow}
 use Rattle.dt_table.proofs.Sorted.{in_order-sorted, IsSortedBy-map, order}
 use Rattle.dt_table.proofs.shown.sorted_by_key.Goals as goal

@@ -1,4 +1,4 @@
-use Rattle.std.proofs.Common.{◌≡◌, take, map}
+use Rattle.std.proofs.Common.{◌≡◌, take}
 use Rattle.dt_table.proofs.stored.index_homes.Given as goal
 
 abbrev pub invariant-loop-key : goal.invariant-loop-key

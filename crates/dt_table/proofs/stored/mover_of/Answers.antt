@@ -1,4 +1,4 @@
-use Rattle.std.proofs.Common.{◌≡◌, ℕ, ◌+◌, ◌-◌, ◌<◌, ap, sym, subst, ◌∙◌, arith, length, get_or, slice_get, Some, None, Option}
+use Rattle.std.proofs.Common.{◌≡◌, ℕ, ◌+◌, ◌-◌, ◌<◌, ap, sym, ◌∙◌, arith, length, get_or, slice_get, Some, None, Option}
 use Rattle.std.specs.Option.{option_map}
 use Rattle.dt_table.specs.Table.{Moved}
 use Rattle.dt_table.specs.History.{history}

@@ -1,4 +1,4 @@
-use Rattle.std.proofs.Common.{ℕ, ◌∙◌, ap, map, take, Some, None}
+use Rattle.std.proofs.Common.{◌∙◌, ap, map, take, Some, None}
 use Rattle.indexmap.specs.IndexMap.{insert_entry}
 use Rattle.dt_text.specs.declared.Value.{Value}
 use Rattle.dt_access.specs.Clash.{Bytes, same_key}

@@ -1,4 +1,4 @@
-use Rattle.std.proofs.Common.{sym, ◌∙◌, Some}
+use Rattle.std.proofs.Common.{sym, ◌∙◌}
 use Rattle.dt_table.specs.declared.stored.StoredRow.{StoredRow}
 use Rattle.dt_table.specs.Table.{opening_home}
 use Rattle.dt_table.proofs.Written.{set_value-stored}

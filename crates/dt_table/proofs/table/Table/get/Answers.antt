@@ -1,4 +1,4 @@
-use Rattle.std.proofs.Common.{◌≡◌, ap, sym, ◌∙◌, None}
+use Rattle.std.proofs.Common.{ap, sym, ◌∙◌, None}
 use Rattle.std.specs.Option.{option_copied}
 use Rattle.dt_table.specs.Table.{Row}
 use Rattle.dt_table.proofs.Rows.{row_of-kept}

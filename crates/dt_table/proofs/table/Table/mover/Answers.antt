@@ -1,7 +1,5 @@
-use Rattle.std.proofs.Common.{◌≡◌, List, [], ap, subst, sym, ◌∙◌, length, Option, ℕ}
-use Rattle.dt_access.specs.declared.TxnId.{TxnId}
-use Rattle.dt_table.specs.Table.{Moved}
-use Rattle.dt_table.specs.History.{kept_of, history, mover_in, IsBelow}
+use Rattle.std.proofs.Common.{List, [], ap, sym, ◌∙◌}
+use Rattle.dt_table.specs.History.{kept_of, history, mover_in}
 use Rattle.dt_table.specs.declared.stored.StoredMove.{StoredMove}
 use Rattle.dt_table.proofs.Rows.{IsStored-found, moves_of-found, moves_of-absent, mover_in-none, next_mover-mover_in, IsSome-mover, counter_of-few}
 use Rattle.dt_table.proofs.table.Table.mover.Goals as goal

@@ -1,5 +1,5 @@
-use Rattle.std.proofs.Common.{◌≡◌, [], arith, subst, sym}
-use Rattle.dt_table.specs.History.{AreLinked, IsStored}
+use Rattle.std.proofs.Common.{arith, subst, sym}
+use Rattle.dt_table.specs.History.{AreLinked}
 use Rattle.dt_table.proofs.Opened.{state-opened, stored-opened}
 use Rattle.dt_table.proofs.table.Table.new.Goals as goal
 

@@ -1,8 +1,7 @@
-use Rattle.std.proofs.Common.{◌≡◌, ℕ, ◌+◌, ◌∷◌, [], ◌++◌, List, Option, ap, sym, subst, ◌∙◌, arith, length}
+use Rattle.std.proofs.Common.{◌≡◌, ℕ, ◌∷◌, [], ◌++◌, Option, ap, sym, subst, ◌∙◌, arith, length}
 use Rattle.dt_table.specs.Table.{Kept}
-use Rattle.dt_table.specs.History.{AreLinked, IsStored}
-use Rattle.dt_table.specs.declared.stored.StoredMove.{StoredMove}
-use Rattle.dt_table.proofs.Rows.{pushed_move, counter-moved, linked-moved, stored-moved, state-moved}
+use Rattle.dt_table.specs.History.{AreLinked}
+use Rattle.dt_table.proofs.Rows.{counter-moved, linked-moved, stored-moved, state-moved}
 use Rattle.dt_table.proofs.table.Table.record_move.Goals as goal
 
 pub put_move-before-requires-clause-counter : goal.put_move-before-requires-clause-counter

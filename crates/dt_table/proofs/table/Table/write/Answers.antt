@@ -1,6 +1,5 @@
 use Rattle.std.proofs.Common.{refl}
 use Rattle.dt_table.specs.Table.{opening_home}
-use Rattle.dt_table.specs.History.{IsStored}
 use Rattle.dt_table.proofs.Rows.{state-written, stored-written}
 use Rattle.dt_table.proofs.table.Table.write.Goals as goal
 
