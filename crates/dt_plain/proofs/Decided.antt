@@ -21,12 +21,14 @@ use Rattle.dt_plain.specs.Deciding.{IsNoObstacle, AreCommon, AreCandidates, IsUn
 -- a class is what is behind and ahead
 pub class_from : (view : View) (t : TxnId) (behind ahead ids : List TxnId) → AreBehind view t behind → AreAhead view t ahead → AreCommon behind ahead ids → IsClass view t ids
 class_from view t behind ahead ids b a c =
-    record
-      { ascending = c.ascending
-      ; members =
-        λ u.
-        ( λ h. let m : Has behind u × Has ahead u = (c.members u).0 h in ((b.members u).0 m.0, (a.members u).0 m.1)
-        , λ m. (c.members u).1 ((b.members u).1 m.0, (a.members u).1 m.1) ) }
+    record {
+      ascending = c.ascending;
+      members =
+          λ u. (
+            λ h. let m : Has behind u × Has ahead u = (c.members u).0 h in ((b.members u).0 m.0, (a.members u).0 m.1),
+            λ m. (c.members u).1 ((b.members u).1 m.0, (a.members u).1 m.1),
+          );
+    }
 
 pub class_found : (view : View) (t : TxnId) (behind ahead : List TxnId) (r : Result (List TxnId) NoMemory) → AreBehind view t behind → AreAhead view t ahead → IfOk r (AreCommon behind ahead) → IfOk r (IsClass view t)
 class_found view t behind ahead (Ok ids) b a c = class_from view t behind ahead ids b a c
@@ -69,16 +71,18 @@ module _ (view : View) (resolved : List (List TxnId)) (done : List TxnId) (t : T
   pub settled_tells : (behind ahead ids : List TxnId) (b : Bool) → ¬ (Has done t) → AreBehind view t behind → AreAhead view t ahead → AreCommon behind ahead ids
       → AllIn (IsComplete view) behind → AllIn (IsNoObstacle ahead done t) behind → (IsTrue b ↔ (2 ≤ length ids → Has resolved ids)) → IsTrue b ↔ IsExecutable view resolved done t
   settled_tells behind ahead ids b w r a c complete free k =
-    let class : IsClass view t ids = class_from view t behind ahead ids r a c in
-    ( λ h.
-      record
-        { closed = λ u reach. all_get _ behind complete u ((r.members u).1 reach)
-        ; waiting = w
-        ; preceders = λ u p. done_unless ahead u a (all_get _ behind free u ((r.members u).1 p.1)) p
-        ; settled =
-          λ others o l. let e : ids ≡ others = class_unique view t ids others class o in
-          subst (Has resolved) e (k.0 h (subst (λ xs. 2 ≤ length xs) (sym e) l)) }
-    , λ x. k.1 (x.settled ids class) )
+      let class : IsClass view t ids = class_from view t behind ahead ids r a c in (
+        λ h.
+            record {
+              closed = λ u reach. all_get _ behind complete u ((r.members u).1 reach);
+              waiting = w;
+              preceders = λ u p. done_unless ahead u a (all_get _ behind free u ((r.members u).1 p.1)) p;
+              settled =
+                  λ others o l. let e : ids ≡ others = class_unique view t ids others class o in
+                  subst (Has resolved) e (k.0 h (subst (λ xs. 2 ≤ length xs) (sym e) l));
+            },
+        λ x. k.1 (x.settled ids class),
+      )
 
 module _ (view : View) (resolved : List (List TxnId)) (done ids : List TxnId) where
   pub not_candidates : (b : Bool) → (IsTrue b ↔ AreCandidates view resolved ids) → b ≡ false → IsTrue false ↔ IsResolvable view resolved done ids
@@ -87,20 +91,23 @@ module _ (view : View) (resolved : List (List TxnId)) (done ids : List TxnId) wh
   pub unhindered_tells : (behind ahead class : List TxnId) (b : Bool) → AreCandidates view resolved ids → AreBehind view (get_or ids 0 no_id) behind → AreAhead view (get_or ids 0 no_id) ahead
       → AreCommon behind ahead class → (IsTrue b ↔ IsUnhindered behind class ids done) → IsTrue b ↔ IsResolvable view resolved done ids
   unhindered_tells behind ahead class b w r a c k =
-    let first : TxnId = get_or ids 0 no_id in
-    let own : IsClass view first class = class_from view first behind ahead class r a c in
-    let there : Has ids first = has_at ids 0 no_id (let l : 2 ≤ length ids = w.0 in omega arith) in
-    ( λ h.
-      let f : IsUnhindered behind class ids done = k.0 h in
-      let group : IsClass view first ids = subst (IsClass view first) f.0 own in
-      record
-        { group = (first, group)
-        ; several = w.0
-        ; complete = w.1
-        ; unresolved = w.2
-        ; before = λ u t m reach. all_get _ behind f.1 u ((r.members u).1 (chain_join reach ((group.members t).0 m).0)) }
-    , λ x.
-      let group : IsClass view first ids = class_of_member view x.group.0 first ids x.group.1 there in
-      k.1
-      ( class_unique view first class ids own group
-      , all_put _ behind (λ u h. x.before u first there ((r.members u).0 h)) ) )
+      let first : TxnId = get_or ids 0 no_id in
+      let own : IsClass view first class = class_from view first behind ahead class r a c in
+      let there : Has ids first = has_at ids 0 no_id (let l : 2 ≤ length ids = w.0 in omega arith) in (
+        λ h.
+            let f : IsUnhindered behind class ids done = k.0 h in
+            let group : IsClass view first ids = subst (IsClass view first) f.0 own in
+            record {
+              group = (first, group);
+              several = w.0;
+              complete = w.1;
+              unresolved = w.2;
+              before = λ u t m reach. all_get _ behind f.1 u ((r.members u).1 (chain_join reach ((group.members t).0 m).0));
+            },
+        λ x.
+            let group : IsClass view first ids = class_of_member view x.group.0 first ids x.group.1 there in
+            k.1 (
+              class_unique view first class ids own group,
+              all_put _ behind (λ u h. x.before u first there ((r.members u).0 h)),
+            ),
+      )

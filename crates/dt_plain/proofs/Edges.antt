@@ -21,30 +21,37 @@ gains_none P links n = record { members = λ u t. (λ k. inl k, λ k. elim k [ i
 -- what is to be gained may be said otherwise
 pub gains_same : (P Q : TxnId → TxnId → Type 0) (old new : List Link) → ((u t : TxnId) → P u t → Q u t) → ((u t : TxnId) → Q u t → P u t) → Gains P old new → Gains Q old new
 gains_same P Q old new f h g =
-    record
-      { members =
-        λ u t.
-        ( λ k. elim ((g.members u t).0 k) [ inl a ↦ inl a | inr p ↦ inr (f u t p) ]
-        , λ k. (g.members u t).1 (elim k [ inl a ↦ inl a | inr q ↦ inr (h u t q) ]) ) }
+    record {
+      members =
+          λ u t. (
+            λ k. elim ((g.members u t).0 k) [ inl a ↦ inl a | inr p ↦ inr (f u t p) ],
+            λ k. (g.members u t).1 (elim k [ inl a ↦ inl a | inr q ↦ inr (h u t q) ]),
+          );
+    }
 
 -- two gains, one after the other
 pub gains_both : (P Q : TxnId → TxnId → Type 0) (old mid new : List Link) → Gains P old mid → Gains Q mid new → Gains (λ u t. P u t ⊎ Q u t) old new
 gains_both P Q old mid new g h =
-    record
-      { members =
-        λ u t.
-        ( λ k. elim ((h.members u t).0 k) [ inl m ↦ elim ((g.members u t).0 m) [ inl o ↦ inl o | inr p ↦ inr (inl p) ] | inr q ↦ inr (inr q) ]
-        , λ k. (h.members u t).1 (elim k
-          [ inl o ↦ inl ((g.members u t).1 (inl o))
-          | inr r ↦ elim r [ inl p ↦ inl ((g.members u t).1 (inr p)) | inr q ↦ inr q ] ]) ) }
+    record {
+      members =
+          λ u t. (
+            λ k. elim ((h.members u t).0 k) [ inl m ↦ elim ((g.members u t).0 m) [ inl o ↦ inl o | inr p ↦ inr (inl p) ] | inr q ↦ inr (inr q) ],
+            λ k. (h.members u t).1 (elim k [
+              | inl o ↦ inl ((g.members u t).1 (inl o))
+              | inr r ↦ elim r [ inl p ↦ inl ((g.members u t).1 (inr p)) | inr q ↦ inr q ]
+            ]),
+          );
+    }
 
 gains_one : (links : List Link) (l : Link) → Gains (λ u t. (l.from ≡ u) × (l.to ≡ t)) links (links ++ l ∷ [])
 gains_one links l =
-    record
-      { members =
-        λ u t.
-        ( λ k. elim (any_append _ links (l ∷ []) k) [ inl a ↦ inl a | inr b ↦ elim b [ inl p ↦ inr p | inr z ↦ absurd z ] ]
-        , λ k. elim k [ inl a ↦ any_append_left _ links (l ∷ []) a | inr p ↦ any_append_right _ links (l ∷ []) (inl p) ] ) }
+    record {
+      members =
+          λ u t. (
+            λ k. elim (any_append _ links (l ∷ []) k) [ inl a ↦ inl a | inr b ↦ elim b [ inl p ↦ inr p | inr z ↦ absurd z ] ],
+            λ k. elim k [ inl a ↦ any_append_left _ links (l ∷ []) a | inr p ↦ any_append_right _ links (l ∷ []) (inl p) ],
+          );
+    }
 
 -- one more part in front
 
@@ -63,9 +70,13 @@ front_linked front p q old mid g m =
 pub front_past : (front : List Part) (p q : Part) (old new : List Link) → Gains (EdgeInto front q) old new → ¬ (MakesEdge p q) → Gains (EdgeInto (front ++ p ∷ []) q) old new
 front_past front p q old new g n =
     gains_same (EdgeInto front q) (EdgeInto (front ++ p ∷ []) q) old new (λ u t e. (e.0, any_append_left _ front (p ∷ []) e.1))
-    (λ u t e. (e.0, elim (any_append _ front (p ∷ []) e.1)
-      [ inl a ↦ a
-      | inr b ↦ elim b [ inl c ↦ absurd (n ((λ s. e.0 (sym c.0 ∙ s ∙ c.1)), c.2)) | inr z ↦ absurd z ] ]))
+    (λ u t e. (
+      e.0,
+      elim (any_append _ front (p ∷ []) e.1) [
+        | inl a ↦ a
+        | inr b ↦ elim b [ inl c ↦ absurd (n ((λ s. e.0 (sym c.0 ∙ s ∙ c.1)), c.2)) | inr z ↦ absurd z ]
+      ],
+    ))
     g
 
 -- one more part in a log
@@ -94,25 +105,31 @@ edges_begin = record { members = λ u t. (absurd, λ e. absurd e.1) }
 
 pub edges_more : (view : View) (log : List Part) (old new : List Link) → AreEdges view old → Gains (EdgeWithin log) old new → AreEdges (view ++ log ∷ []) new
 edges_more view log old new a g =
-    record
-      { members =
-        λ u t.
-        ( λ k. elim ((g.members u t).0 k)
-          [ inl o ↦ let e : Edge view u t = (a.members u t).0 o in (e.0, any_append_left _ view (log ∷ []) e.1)
-          | inr w ↦ (w.0, any_append_right _ view (log ∷ []) (inl w.1)) ]
-        , λ e. (g.members u t).1 (elim (any_append _ view (log ∷ []) e.1)
-          [ inl x ↦ inl ((a.members u t).1 (e.0, x))
-          | inr y ↦ elim y [ inl s ↦ inr (e.0, s) | inr z ↦ absurd z ] ]) ) }
+    record {
+      members =
+          λ u t. (
+            λ k. elim ((g.members u t).0 k) [
+              | inl o ↦ let e : Edge view u t = (a.members u t).0 o in (e.0, any_append_left _ view (log ∷ []) e.1)
+              | inr w ↦ (w.0, any_append_right _ view (log ∷ []) (inl w.1))
+            ],
+            λ e. (g.members u t).1 (elim (any_append _ view (log ∷ []) e.1) [
+              | inl x ↦ inl ((a.members u t).1 (e.0, x))
+              | inr y ↦ elim y [ inl s ↦ inr (e.0, s) | inr z ↦ absurd z ]
+            ]),
+          );
+    }
 
 -- turned round
 
 pub edges_turned : (view : View) (links : List Link) → AreEdges view links → AreTurned view (map turned links)
 edges_turned view links a =
-    record
-      { members =
-        λ u t.
-        ( λ k. (a.members t u).0 (any_map _ _ links (λ l p. (p.1, p.0)) (any_of_image (λ l. (l.from ≡ u) × (l.to ≡ t)) turned links k))
-        , λ e. any_image (λ l. (l.from ≡ u) × (l.to ≡ t)) turned links (any_map _ _ links (λ l p. (p.1, p.0)) ((a.members t u).1 e)) ) }
+    record {
+      members =
+          λ u t. (
+            λ k. (a.members t u).0 (any_map _ _ links (λ l p. (p.1, p.0)) (any_of_image (λ l. (l.from ≡ u) × (l.to ≡ t)) turned links k)),
+            λ e. any_image (λ l. (l.from ≡ u) × (l.to ≡ t)) turned links (any_map _ _ links (λ l p. (p.1, p.0)) ((a.members t u).1 e)),
+          );
+    }
 
 -- reach
 
@@ -122,21 +139,25 @@ chain_turned R S f s t (onward {y = y} c e) = chain_before (f y t e) (chain_turn
 
 pub ahead_from : (view : View) (links : List Link) (t : TxnId) (ids : List TxnId) → AreEdges view links → AreReached links t ids → AreAhead view t ids
 ahead_from view links t ids a r =
-    record
-      { distinct = r.distinct
-      ; members =
-        λ u.
-        ( λ h. chain_map (λ x y. (a.members x y).0) ((r.members u).0 h)
-        , λ c. (r.members u).1 (chain_map (λ x y. (a.members x y).1) c) ) }
+    record {
+      distinct = r.distinct;
+      members =
+          λ u. (
+            λ h. chain_map (λ x y. (a.members x y).0) ((r.members u).0 h),
+            λ c. (r.members u).1 (chain_map (λ x y. (a.members x y).1) c),
+          );
+    }
 
 pub behind_from : (view : View) (back : List Link) (t : TxnId) (ids : List TxnId) → AreTurned view back → AreReached back t ids → AreBehind view t ids
 behind_from view back t ids a r =
-    record
-      { distinct = r.distinct
-      ; members =
-        λ u.
-        ( λ h. chain_turned (IsLinked back) (Edge view) (λ x y. (a.members x y).0) t u ((r.members u).0 h)
-        , λ c. (r.members u).1 (chain_turned (Edge view) (IsLinked back) (λ x y. (a.members y x).1) u t c) ) }
+    record {
+      distinct = r.distinct;
+      members =
+          λ u. (
+            λ h. chain_turned (IsLinked back) (Edge view) (λ x y. (a.members x y).0) t u ((r.members u).0 h),
+            λ c. (r.members u).1 (chain_turned (Edge view) (IsLinked back) (λ x y. (a.members y x).1) u t c),
+          );
+    }
 
 pub ahead_found : (view : View) (links : List Link) (t : TxnId) (r : Result (List TxnId) NoMemory) → AreEdges view links → IfOk r (AreReached links t) → IfOk r (AreAhead view t)
 ahead_found view links t (Ok ids) a r = ahead_from view links t ids a r

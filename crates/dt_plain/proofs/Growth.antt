@@ -13,21 +13,24 @@ use Rattle.dt_plain.specs.declared.search.Link.{Link}
 -- an id that is there is not added
 pub adds_old : (ids : List TxnId) (id : TxnId) → Distinct ids → Has ids id → AddsOnce ids id ids
 adds_old ids id d h =
-    record
-      { front = front_refl ids
-      ; distinct = d
-      ; members = λ u. (λ k. inl k, λ k. elim k [ inl a ↦ a | inr e ↦ subst (Has ids) (sym e) h ]) }
+    record {
+      front = front_refl ids;
+      distinct = d;
+      members = λ u. (λ k. inl k, λ k. elim k [ inl a ↦ a | inr e ↦ subst (Has ids) (sym e) h ]);
+    }
 
 -- an id that isn't there is added at the back
 pub adds_new : (ids : List TxnId) (id : TxnId) → Distinct ids → ¬ (Has ids id) → AddsOnce ids id (ids ++ id ∷ [])
 adds_new ids id d n =
-    record
-      { front = front_append ids (id ∷ [])
-      ; distinct = each_append _ ids (id ∷ []) d (all_put _ ids (λ x h. ((λ e. n (subst (Has ids) e h)), tt))) (tt, tt)
-      ; members =
-        λ u.
-        ( λ k. elim (any_append _ ids (id ∷ []) k) [ inl a ↦ inl a | inr b ↦ inr (elim b [ inl e ↦ sym e | inr z ↦ absurd z ]) ]
-        , λ k. elim k [ inl a ↦ any_append_left _ ids (id ∷ []) a | inr e ↦ any_append_right _ ids (id ∷ []) (inl (sym e)) ] ) }
+    record {
+      front = front_append ids (id ∷ []);
+      distinct = each_append _ ids (id ∷ []) d (all_put _ ids (λ x h. ((λ e. n (subst (Has ids) e h)), tt))) (tt, tt);
+      members =
+          λ u. (
+            λ k. elim (any_append _ ids (id ∷ []) k) [ inl a ↦ inl a | inr b ↦ inr (elim b [ inl e ↦ sym e | inr z ↦ absurd z ]) ],
+            λ k. elim k [ inl a ↦ any_append_left _ ids (id ∷ []) a | inr e ↦ any_append_right _ ids (id ∷ []) (inl (sym e)) ],
+          );
+    }
 
 -- what stands at a place past the end of a list of links, for `get_or`
 abbrev pub no_link : Link
@@ -41,30 +44,37 @@ follows_none u ids d =
 -- one more link, that goes from u
 pub follows_more : (done : List Link) (l : Link) (u : TxnId) (old mid new : List TxnId) → Follows done u old mid → l.from ≡ u → AddsOnce mid l.to new → Follows (done ++ l ∷ []) u old new
 follows_more done l u old mid new f e a =
-    record
-      { front = front_trans old mid new f.front a.front
-      ; distinct = a.distinct
-      ; members =
-        λ t.
-        ( λ k. elim ((a.members t).0 k)
-          [ inl m ↦ elim ((f.members t).0 m) [ inl o ↦ inl o | inr s ↦ inr (any_append_left _ done (l ∷ []) s) ]
-          | inr q ↦ inr (any_append_right _ done (l ∷ []) (inl (e, sym q))) ]
-        , λ k. (a.members t).1 (elim k
-          [ inl o ↦ inl ((f.members t).1 (inl o))
-          | inr s ↦ elim (any_append _ done (l ∷ []) s) [ inl x ↦ inl ((f.members t).1 (inr x)) | inr y ↦ elim y [ inl p ↦ inr (sym p.1) | inr z ↦ absurd z ] ] ]) ) }
+    record {
+      front = front_trans old mid new f.front a.front;
+      distinct = a.distinct;
+      members =
+          λ t. (
+            λ k. elim ((a.members t).0 k) [
+              | inl m ↦ elim ((f.members t).0 m) [ inl o ↦ inl o | inr s ↦ inr (any_append_left _ done (l ∷ []) s) ]
+              | inr q ↦ inr (any_append_right _ done (l ∷ []) (inl (e, sym q)))
+            ],
+            λ k. (a.members t).1 (elim k [
+              | inl o ↦ inl ((f.members t).1 (inl o))
+              | inr s ↦ elim (any_append _ done (l ∷ []) s) [ inl x ↦ inl ((f.members t).1 (inr x)) | inr y ↦ elim y [ inl p ↦ inr (sym p.1) | inr z ↦ absurd z ] ]
+            ]),
+          );
+    }
 
 -- one more link, that goes from elsewhere
 pub follows_past : (done : List Link) (l : Link) (u : TxnId) (old new : List TxnId) → Follows done u old new → ¬ (l.from ≡ u) → Follows (done ++ l ∷ []) u old new
 follows_past done l u old new f n =
-    record
-      { front = f.front
-      ; distinct = f.distinct
-      ; members =
-        λ t.
-        ( λ k. elim ((f.members t).0 k) [ inl o ↦ inl o | inr s ↦ inr (any_append_left _ done (l ∷ []) s) ]
-        , λ k. (f.members t).1 (elim k
-          [ inl o ↦ inl o
-          | inr s ↦ elim (any_append _ done (l ∷ []) s) [ inl x ↦ inr x | inr y ↦ elim y [ inl p ↦ absurd (n p.0) | inr z ↦ absurd z ] ] ]) ) }
+    record {
+      front = f.front;
+      distinct = f.distinct;
+      members =
+          λ t. (
+            λ k. elim ((f.members t).0 k) [ inl o ↦ inl o | inr s ↦ inr (any_append_left _ done (l ∷ []) s) ],
+            λ k. (f.members t).1 (elim k [
+              | inl o ↦ inl o
+              | inr s ↦ elim (any_append _ done (l ∷ []) s) [ inl x ↦ inr x | inr y ↦ elim y [ inl p ↦ absurd (n p.0) | inr z ↦ absurd z ] ]
+            ]),
+          );
+    }
 
 -- the same for the first links of a list
 pub follows_more_at : (links : List Link) (i : ℕ) (u : TxnId) (old mid new : List TxnId) → i < length links → Follows (take i links) u old mid → (get_or links i no_link).from ≡ u

@@ -14,16 +14,20 @@ gets_none ids d = record { distinct = d; members = λ u. (λ k. inl k, λ k. eli
 -- one more part
 pub gets_more : (log : List Part) (p : Part) (old mid new : List TxnId) → GetsIds log old mid → AddsOnce mid p.id new → GetsIds (log ++ p ∷ []) old new
 gets_more log p old mid new g a =
-    record
-      { distinct = a.distinct
-      ; members =
-        λ u.
-        ( λ k. elim ((a.members u).0 k)
-          [ inl m ↦ elim ((g.members u).0 m) [ inl o ↦ inl o | inr h ↦ inr (any_append_left _ log (p ∷ []) h) ]
-          | inr e ↦ inr (any_append_right _ log (p ∷ []) (inl (sym e))) ]
-        , λ k. (a.members u).1 (elim k
-          [ inl o ↦ inl ((g.members u).1 (inl o))
-          | inr h ↦ elim (any_append _ log (p ∷ []) h) [ inl x ↦ inl ((g.members u).1 (inr x)) | inr y ↦ elim y [ inl e ↦ inr (sym e) | inr z ↦ absurd z ] ] ]) ) }
+    record {
+      distinct = a.distinct;
+      members =
+          λ u. (
+            λ k. elim ((a.members u).0 k) [
+              | inl m ↦ elim ((g.members u).0 m) [ inl o ↦ inl o | inr h ↦ inr (any_append_left _ log (p ∷ []) h) ]
+              | inr e ↦ inr (any_append_right _ log (p ∷ []) (inl (sym e)))
+            ],
+            λ k. (a.members u).1 (elim k [
+              | inl o ↦ inl ((g.members u).1 (inl o))
+              | inr h ↦ elim (any_append _ log (p ∷ []) h) [ inl x ↦ inl ((g.members u).1 (inr x)) | inr y ↦ elim y [ inl e ↦ inr (sym e) | inr z ↦ absurd z ] ]
+            ]),
+          );
+    }
 
 pub present_none : ArePresent [] []
 present_none = record { distinct = tt; members = λ u. (λ k. k, λ k. k) }
@@ -31,14 +35,16 @@ present_none = record { distinct = tt; members = λ u. (λ k. k, λ k. k) }
 -- one more log
 pub present_more : (view : View) (log : List Part) (old new : List TxnId) → ArePresent view old → GetsIds log old new → ArePresent (view ++ log ∷ []) new
 present_more view log old new a g =
-    record
-      { distinct = g.distinct
-      ; members =
-        λ u.
-        ( λ k. elim ((g.members u).0 k)
-          [ inl o ↦ any_append_left _ view (log ∷ []) ((a.members u).0 o) | inr h ↦ any_append_right _ view (log ∷ []) (inl h) ]
-        , λ k. (g.members u).1 (elim (any_append _ view (log ∷ []) k)
-          [ inl x ↦ inl ((a.members u).1 x) | inr y ↦ elim y [ inl h ↦ inr h | inr z ↦ absurd z ] ]) ) }
+    record {
+      distinct = g.distinct;
+      members =
+          λ u. (
+            λ k. elim ((g.members u).0 k)
+                [ inl o ↦ any_append_left _ view (log ∷ []) ((a.members u).0 o) | inr h ↦ any_append_right _ view (log ∷ []) (inl h) ],
+            λ k. (g.members u).1 (elim (any_append _ view (log ∷ []) k)
+                [ inl x ↦ inl ((a.members u).1 x) | inr y ↦ elim y [ inl h ↦ inr h | inr z ↦ absurd z ] ]),
+          );
+    }
 
 -- what is complete has a part
 pub present_of_complete : (view : View) (t : TxnId) → IsComplete view t → IsPresent view t

@@ -27,9 +27,10 @@ any_found P xs i x d b h e k t p = (λ _. k.0 (rw (drop-at xs i x d h e) (inl (t
 -- the item at hand fails, so one that passes is in the rest
 pub any_on : {A : Type 0} (P : A → Type 0) (xs : List A) (i : ℕ) (x d : A) (b : Bool)
     → i < length xs → x ≡ get_or xs i d → (AnyIn P (drop i xs) ↔ AnyIn P xs) → (IsTrue b ↔ P x) → b ≡ false → (AnyIn P (drop (i + 1) xs) ↔ AnyIn P xs)
-any_on P xs i x d b h e k t n =
-    ( λ a. k.0 (rw (drop-at xs i x d h e) (inr a))
-    , λ a. elim (rw (drop-at xs i x d h e) at (k.1 a)) [ inl p ↦ absurd (refuted b t n p) | inr r ↦ r ] )
+any_on P xs i x d b h e k t n = (
+  λ a. k.0 (rw (drop-at xs i x d h e) (inr a)),
+  λ a. elim (rw (drop-at xs i x d h e) at (k.1 a)) [ inl p ↦ absurd (refuted b t n p) | inr r ↦ r ],
+)
 
 -- the item at hand fails, so not all pass
 pub all_failed : {A : Type 0} (P : A → Type 0) (xs : List A) (i : ℕ) (x d : A) (b : Bool)
@@ -39,6 +40,7 @@ all_failed P xs i x d b h e k t n = (λ f. cc, λ a. absurd (refuted b t n (rw (
 -- the item at hand passes, so all pass where the rest does
 pub all_on : {A : Type 0} (P : A → Type 0) (xs : List A) (i : ℕ) (x d : A) (b : Bool)
     → i < length xs → x ≡ get_or xs i d → (AllIn P (drop i xs) ↔ AllIn P xs) → (IsTrue b ↔ P x) → b ≡ true → (AllIn P (drop (i + 1) xs) ↔ AllIn P xs)
-all_on P xs i x d b h e k t p =
-    ( λ a. k.0 (rw (drop-at xs i x d h e) (tested b t p, a))
-    , λ a. (rw (drop-at xs i x d h e) at (k.1 a)).1 )
+all_on P xs i x d b h e k t p = (
+  λ a. k.0 (rw (drop-at xs i x d h e) (tested b t p, a)),
+  λ a. (rw (drop-at xs i x d h e) at (k.1 a)).1,
+)

@@ -13,27 +13,33 @@ use Rattle.dt_plain.specs.Deciding.{AreShared, AreCommon, IsOrderOf}
 -- one more id of the first list, that is in the second
 shared_push : (left right ids : List TxnId) (x : TxnId) → ¬ (Has left x) → AreShared left right ids → Has right x → AreShared (left ++ x ∷ []) right (ids ++ x ∷ [])
 shared_push left right ids x n s h =
-    record
-      { distinct = distinct_push ids x s.distinct (λ k. n ((s.members x).0 k).0)
-      ; members =
-        λ u.
-        ( λ k. elim (any_append _ ids (x ∷ []) k)
-          [ inl a ↦ let m : Has left u × Has right u = (s.members u).0 a in (any_append_left _ left (x ∷ []) m.0, m.1)
-          | inr b ↦ elim b [ inl e ↦ (any_append_right _ left (x ∷ []) (inl e), subst (Has right) e h) | inr z ↦ absurd z ] ]
-        , λ k. elim (any_append _ left (x ∷ []) k.0)
-          [ inl a ↦ any_append_left _ ids (x ∷ []) ((s.members u).1 (a, k.1)) | inr b ↦ any_append_right _ ids (x ∷ []) b ] ) }
+    record {
+      distinct = distinct_push ids x s.distinct (λ k. n ((s.members x).0 k).0);
+      members =
+          λ u. (
+            λ k. elim (any_append _ ids (x ∷ []) k) [
+              | inl a ↦ let m : Has left u × Has right u = (s.members u).0 a in (any_append_left _ left (x ∷ []) m.0, m.1)
+              | inr b ↦ elim b [ inl e ↦ (any_append_right _ left (x ∷ []) (inl e), subst (Has right) e h) | inr z ↦ absurd z ]
+            ],
+            λ k. elim (any_append _ left (x ∷ []) k.0)
+                [ inl a ↦ any_append_left _ ids (x ∷ []) ((s.members u).1 (a, k.1)) | inr b ↦ any_append_right _ ids (x ∷ []) b ],
+          );
+    }
 
 -- one more, that isn't
 shared_skip : (left right ids : List TxnId) (x : TxnId) → AreShared left right ids → ¬ (Has right x) → AreShared (left ++ x ∷ []) right ids
 shared_skip left right ids x s n =
-    record
-      { distinct = s.distinct
-      ; members =
-        λ u.
-        ( λ k. let m : Has left u × Has right u = (s.members u).0 k in (any_append_left _ left (x ∷ []) m.0, m.1)
-        , λ k. elim (any_append _ left (x ∷ []) k.0)
-          [ inl a ↦ (s.members u).1 (a, k.1)
-          | inr b ↦ elim b [ inl e ↦ absurd (n (subst (Has right) (sym e) k.1)) | inr z ↦ absurd z ] ] ) }
+    record {
+      distinct = s.distinct;
+      members =
+          λ u. (
+            λ k. let m : Has left u × Has right u = (s.members u).0 k in (any_append_left _ left (x ∷ []) m.0, m.1),
+            λ k. elim (any_append _ left (x ∷ []) k.0) [
+              | inl a ↦ (s.members u).1 (a, k.1)
+              | inr b ↦ elim b [ inl e ↦ absurd (n (subst (Has right) (sym e) k.1)) | inr z ↦ absurd z ]
+            ],
+          );
+    }
 
 -- in a list without repeats no item stands among those before it
 new_at : (xs : List TxnId) (i : ℕ) → i < length xs → Distinct xs → ¬ (Has (take i xs) (get_or xs i no_id))
@@ -53,7 +59,8 @@ shared_past left right ids i h s n = rw (take_more left i no_id h) (shared_skip 
 
 pub common_of_order : (left right ids : List TxnId) (r : Result (List TxnId) NoMemory) → AreShared left right ids → IfOk r (IsOrderOf ids) → IfOk r (AreCommon left right)
 common_of_order left right ids (Ok ordered) s o =
-    record
-      { ascending = o.ascending
-      ; members = λ u. (λ h. (s.members u).0 ((o.members u).0 h), λ k. (o.members u).1 ((s.members u).1 k)) }
+    record {
+      ascending = o.ascending;
+      members = λ u. (λ h. (s.members u).0 ((o.members u).0 h), λ k. (o.members u).1 ((s.members u).1 k));
+    }
 common_of_order left right ids (Err e) s o = tt

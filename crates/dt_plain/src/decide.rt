@@ -38,7 +38,13 @@ fn is_settled(resolved: &[Ids], class: &[TxnId]) -> bool
 }
 
 /// Whether the transaction is executable.
-pub fn is_executable(alloc: Global, graph: &Graph, resolved: &[Ids], done: &[TxnId], id: TxnId) -> Result<bool, NoMemory>
+pub fn is_executable(
+    alloc: Global,
+    graph: &Graph,
+    resolved: &[Ids],
+    done: &[TxnId],
+    id: TxnId,
+) -> Result<bool, NoMemory>
     ensures { IfOk result (λ b. IsTrue b ↔ IsExecutable graph.now resolved.now done.now id) }
 {
     if has(done, id) {
@@ -71,7 +77,13 @@ fn is_unhindered(behind: &[TxnId], class: &[TxnId], ids: &[TxnId], done: &[TxnId
 }
 
 /// Whether the ids are a resolvable class in ascending order.
-pub fn is_resolvable(alloc: Global, graph: &Graph, resolved: &[Ids], done: &[TxnId], ids: &[TxnId]) -> Result<bool, NoMemory>
+pub fn is_resolvable(
+    alloc: Global,
+    graph: &Graph,
+    resolved: &[Ids],
+    done: &[TxnId],
+    ids: &[TxnId],
+) -> Result<bool, NoMemory>
     ensures { IfOk result (λ b. IsTrue b ↔ IsResolvable graph.now resolved.now done.now ids.now) }
 {
     if !are_candidates(graph, resolved, ids) {
@@ -84,7 +96,14 @@ pub fn is_resolvable(alloc: Global, graph: &Graph, resolved: &[Ids], done: &[Txn
 }
 
 /// Whether the transaction is executable and not busy.
-fn is_ready(alloc: Global, graph: &Graph, resolved: &[Ids], done: &[TxnId], busy: &[TxnId], id: TxnId) -> Result<bool, NoMemory>
+fn is_ready(
+    alloc: Global,
+    graph: &Graph,
+    resolved: &[Ids],
+    done: &[TxnId],
+    busy: &[TxnId],
+    id: TxnId,
+) -> Result<bool, NoMemory>
     ensures { IfOk result (λ b. IsTrue b ↔ (IsExecutable graph.now resolved.now done.now id × ¬ (Has busy.now id))) }
 {
     if has(busy, id) {
@@ -94,7 +113,13 @@ fn is_ready(alloc: Global, graph: &Graph, resolved: &[Ids], done: &[TxnId], busy
 }
 
 /// Some executable transaction that isn't busy, or `None` where there is none.
-pub fn next_ready(alloc: Global, graph: &Graph, resolved: &[Ids], done: &[TxnId], busy: &[TxnId]) -> Result<Option<TxnId>, NoMemory>
+pub fn next_ready(
+    alloc: Global,
+    graph: &Graph,
+    resolved: &[Ids],
+    done: &[TxnId],
+    busy: &[TxnId],
+) -> Result<Option<TxnId>, NoMemory>
     ensures { IfOk result (IsNextReady (record { logs = graph.now; resolved = resolved.now; done = done.now }) busy.now) }
 {
     for id in graph.ids() {
@@ -106,7 +131,12 @@ pub fn next_ready(alloc: Global, graph: &Graph, resolved: &[Ids], done: &[TxnId]
 }
 
 /// Some resolvable class, or `None` where there is none.
-pub fn next_class(alloc: Global, graph: &Graph, resolved: &[Ids], done: &[TxnId]) -> Result<Option<Ids>, NoMemory>
+pub fn next_class(
+    alloc: Global,
+    graph: &Graph,
+    resolved: &[Ids],
+    done: &[TxnId],
+) -> Result<Option<Ids>, NoMemory>
     ensures { IfOk result (IsNextClass (record { logs = graph.now; resolved = resolved.now; done = done.now })) }
 {
     for id in graph.ids() {

@@ -27,7 +27,7 @@ impl Model for PlainSched {
 }
 
 /// So many empty logs.
-fn empty_logs(alloc: Global, regions: u8) -> Result<Vec<Listed<Part>>, NoMemory>
+pub fn empty_logs(alloc: Global, regions: u8) -> Result<Vec<Listed<Part>>, NoMemory>
     ensures { IfOk result (λ logs. logs.items ≡ replicate regions []) }
 {
     let mut logs = Vec::new(alloc);
@@ -57,22 +57,45 @@ impl Scheduler for PlainSched {
 
     fn executable(&self, alloc: Global, id: TxnId) -> Result<bool, NoMemory> {
         let graph = Graph::of(alloc, self.logs.as_slice())?;
-        is_executable(alloc, &graph, self.resolved.as_slice(), self.done.as_slice(), id)
+        is_executable(
+            alloc,
+            &graph,
+            self.resolved.as_slice(),
+            self.done.as_slice(),
+            id,
+        )
     }
 
     fn next_ready(&self, alloc: Global, busy: &[TxnId]) -> Result<Option<TxnId>, NoMemory> {
         let graph = Graph::of(alloc, self.logs.as_slice())?;
-        next_ready(alloc, &graph, self.resolved.as_slice(), self.done.as_slice(), busy)
+        next_ready(
+            alloc,
+            &graph,
+            self.resolved.as_slice(),
+            self.done.as_slice(),
+            busy,
+        )
     }
 
     fn resolvable(&self, alloc: Global, ids: &[TxnId]) -> Result<bool, NoMemory> {
         let graph = Graph::of(alloc, self.logs.as_slice())?;
-        is_resolvable(alloc, &graph, self.resolved.as_slice(), self.done.as_slice(), ids)
+        is_resolvable(
+            alloc,
+            &graph,
+            self.resolved.as_slice(),
+            self.done.as_slice(),
+            ids,
+        )
     }
 
     fn next_class(&self, alloc: Global) -> Result<Option<Ids>, NoMemory> {
         let graph = Graph::of(alloc, self.logs.as_slice())?;
-        next_class(alloc, &graph, self.resolved.as_slice(), self.done.as_slice())
+        next_class(
+            alloc,
+            &graph,
+            self.resolved.as_slice(),
+            self.done.as_slice(),
+        )
     }
 
     fn resolve(&mut self, alloc: Global, ids: &[TxnId]) -> Result<(), NoMemory> {
