@@ -1,5 +1,5 @@
 -- An id's printed form is taken apart in one way only.
-use Rattle.std.proofs.Common.{◌≡◌, ◌≢◌, ℕ, zero, suc, ◌+◌, ◌<◌, ◌^◌, List, [], ◌∷◌, ◌++◌, length, Contains, None, Result, Ok, Err, refl, ap, sym, ◌∙◌, subst, arith}
+use Rattle.std.proofs.Common.{◌≡◌, ◌≢◌, ℕ, zero, suc, ◌<◌, ◌^◌, List, [], ◌∷◌, ◌++◌, Contains, None, Result, Ok, Err, refl, sym, ◌∙◌, subst, arith}
 use Rattle.std.specs.Fmt.{decimal}
 use Rattle.std.specs.Str.Parse.{AllDigits}
 use Rattle.std.specs.Char.{digit_value}
@@ -52,3 +52,11 @@ id_text-dot word none id e =
 pub cast-refused : {E : Type 0} (r : Result ℕ E) (n : ℕ) → OkIff r (n < 2 ^ 8) n → None ≡ result_ok r → ¬ (n < 2 ^ 8)
 cast-refused (Ok m) n told none = cc
 cast-refused (Err e) n told none = told
+
+-- ids with the same printed form are the same
+pub id_text-injective : (a b : TxnId) → IsCounted a → IsCounted b → id_text a ≡ id_text b → a ≡ b
+id_text-injective a b counted_a counted_b same =
+    let parts = id_parts (id_text a) (decimal a.seq) (decimal a.region) refl (no_dot (decimal a.seq) (decimal_is_IsNumeral a.seq (omega (arith, counted_a))).0.1) b counted_b same in
+    let seq : a.seq ≡ b.seq = decimal_injective a.seq b.seq (omega (arith, counted_a)) (omega (arith, counted_b)) parts.0 in
+    let region : a.region ≡ b.region = decimal_injective a.region b.region (omega (arith, counted_a)) (omega (arith, counted_b)) parts.1 in
+    λ i. record { seq = seq i; region = region i }

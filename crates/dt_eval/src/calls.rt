@@ -1,12 +1,11 @@
 ghost use Rattle.std.specs.Prelude.{◌≡◌, ◌↔◌, ℕ, IsTrue, IfOk, map};
 ghost use Rattle.dt_eval.specs.Meaning.{Fits, HasKeys, keys_of, meaning};
 
-use std::alloc::Global;
-
+use crate::finish::{Finish, Reads, Values};
 use dt_access::{Keys, Mode, Writes};
 use dt_text::{Key, NoMemory, Value};
-
-use crate::finish::{Finish, Reads, Values};
+use std::alloc::Global;
+use std::fmt;
 
 /// The number of the procedure `put`.
 pub const PUT: u32 = 0;
@@ -19,6 +18,17 @@ pub enum KeysError {
     /// Memory ran out.
     NoMemory,
 }
+
+impl fmt::Display for KeysError {
+    fn fmt<W: fmt::Write>(&self, f: &mut fmt::Formatter<W>) -> fmt::Result {
+        match self {
+            KeysError::BadKey(number) => write!(f, "declaration {number} gives no key"),
+            KeysError::NoMemory => write!(f, "no memory"),
+        }
+    }
+}
+
+impl std::error::Error for KeysError {}
 
 impl From<NoMemory> for KeysError {
     ghost use Rattle.dt_eval.specs.declared.calls.KeysError.TheVariants as variants;

@@ -1,9 +1,8 @@
 ghost use Rattle.std.specs.Prelude.{◌≡◌, IfOk};
 
-use std::alloc::Global;
-
 use dt_access::Writes;
 use dt_text::{Key, Listed, NoMemory, Str, Value};
+use std::alloc::Global;
 
 /// The arguments of a call.
 pub type Args = Listed<Value>;

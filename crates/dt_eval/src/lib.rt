@@ -5,6 +5,8 @@
 
 mod calls;
 mod finish;
+#[cfg(test)]
+mod tests;
 
 pub use calls::{KeysError, PUT, fits, keys_of, run};
 pub use finish::{Args, Cause, Finish, Reads, Values};

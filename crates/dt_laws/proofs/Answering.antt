@@ -43,18 +43,21 @@ answer_keeps cluster workload valid w order region name may i = go (session_at w
       ordered = ordered_kept w v cluster.regions order refl (λ r. refl) i.ordered;
       sessions = record {
         places = place_changed (IsPlaceOf cluster.tries w) (IsPlaceOf cluster.tries v) workload.sessions w.places region session.name session place (record { answered = place.answered + 1; waits = None })
-          valid.names_once now (λ t x n p. record { answered = p.answered; placed = p.placed }) i.sessions.places
-          found;
+            valid.names_once now (λ t x n p. record { answered = p.answered; placed = p.placed }) i.sessions.places
+            found;
         known = i.sessions.known;
       };
     }
       where
         v : World
         v = answered workload w region (Some (session, place))
+
         r : Has workload.sessions session × (session.name ≡ name) × (session.region ≡ region) × IsPlaceOf cluster.tries w session place
         r = session_found (IsPlaceOf cluster.tries w) workload.sessions w.places region name session place i.sessions.places e
+
         found : session_at workload.sessions w.places region session.name ≡ Some (session, place)
         found = subst (λ n. session_at workload.sessions w.places region n ≡ Some (session, place)) (sym r.1) e
+
         now : IsPlaceOf cluster.tries v session (record { answered = place.answered + 1; waits = None })
         now =
             let p : IsPlaceOf cluster.tries w session (record { answered = place.answered + 1; waits = None }) = placed_answered cluster.tries cluster w region session place m r.3 in

@@ -42,8 +42,8 @@ module _ (cluster : Cluster) (workload : Workload) (w : World) (order : List Txn
   sized : Sized cluster.regions v
   unfolding v n'
   sized q lt = each_of_set (λ k n. IsSized cluster.regions n) w.nodes region n' no_node
-    (let s : IsSized cluster.regions (node_at w region) = i.sized region lr in record { asked = s.asked; taken = s.taken; received = length-set (node_at w region).received home last ∙ s.received; inserted = s.inserted })
-    (λ k lk. i.sized k (subst (λ m. k < m) i.nodes lk)) q (subst (λ m. q < m) (sym i.nodes) lt)
+      (let s : IsSized cluster.regions (node_at w region) = i.sized region lr in record { asked = s.asked; taken = s.taken; received = length-set (node_at w region).received home last ∙ s.received; inserted = s.inserted })
+      (λ k lk. i.sized k (subst (λ m. k < m) i.nodes lk)) q (subst (λ m. q < m) (sym i.nodes) lt)
 
   -- what the region received, of each home
   received_here : (other : ℕ) → other < cluster.regions → (received_of w region other ≤ received_of v region other) × (received_of v region other ≤ length (log_of w other))
@@ -52,14 +52,19 @@ module _ (cluster : Cluster) (workload : Workload) (w : World) (order : List Txn
     where
       node : node_at v region ≡ n'
       node = get_or-set_same w.nodes region n' no_node (subst (λ m. region < m) (sym i.nodes) lr)
+
       log : length (log_of v region) ≡ length (log_of w region)
       log = ap length (keeps (λ n. n.log) refl region)
+
       sizes : length (node_at w region).received ≡ cluster.regions
       sizes = (i.sized region lr).received
+
       now : received_of v region other ≡ get_or (set (set (node_at w region).received home last) region (length (log_of v region))) other 0
       now = ap (λ n. get_or (set n.received region (length (log_of v region))) other 0) node
+
       before : AreInOrder w region other
       before = i.lengths region other lr lo
+
       by : Either (other ≡ region) → Either (other ≡ home) → (received_of w region other ≤ received_of v region other) × (received_of v region other ≤ length (log_of w other))
       by (inl e) h =
           let is : received_of v region other ≡ length (log_of w region) = now ∙ ap (λ x. get_or (set (set (node_at w region).received home last) region (length (log_of v region))) x 0) e ∙ get_or-set_same (set (node_at w region).received home last) region (length (log_of v region)) 0 (subst (λ m. region < m) (sym (length-set (node_at w region).received home last ∙ sizes)) lr) ∙ log in
@@ -82,19 +87,25 @@ module _ (cluster : Cluster) (workload : Workload) (w : World) (order : List Txn
     where
       before : AreInOrder w q other
       before = i.lengths q other lq lo
+
       inserted : slice_index (node_at v q).here.inserted other ≡ slice_index (node_at w q).here.inserted other
       inserted = ap (λ t. get_or t other 0) (keeps (λ n. n.here.inserted) refl q)
+
       log : length (log_of v other) ≡ length (log_of w other)
       log = ap length (keeps (λ n. n.log) refl other)
+
       first : slice_index (node_at w q).here.inserted other ≤ received_of w q other
       first = before.inserted
+
       second : received_of w q other ≤ length (log_of w other)
       second = before.received
+
       put : (received_of w q other ≤ received_of v q other) × (received_of v q other ≤ length (log_of w other)) → AreInOrder v q other
       put b =
           let least : received_of w q other ≤ received_of v q other = b.0 in
           let most : received_of v q other ≤ length (log_of w other) = b.1 in
           record { inserted = omega (arith, inserted, first); received = omega (arith, log) }
+
       by : Either (q ≡ region) → AreInOrder v q other
       by (inl e) = put (subst (λ x. (received_of w x other ≤ received_of v x other) × (received_of v x other ≤ length (log_of w other))) (sym e) (received_here other lo))
       by (inr n) =
@@ -131,8 +142,10 @@ deliver_keeps cluster workload w order region home first last lr lh reaches i = 
     rises : (a b : Bool) → (a && b) ≡ true → b ≡ true
     rises true b e = e
     rises false b e = cc
+
     below : ltb (received_of w region home) last ≡ true → received_of w region home ≤ last
     below e = grind (arith, nat_tests)
+
     go : (b : Bool) → leb first (received_of w region home) && ltb (received_of w region home) last ≡ b → Inv cluster workload (cond b (received w region home last) w) order
     go true e = received_keeps cluster workload w order region home last lr lh (below (rises (leb first (received_of w region home)) (ltb (received_of w region home) last) e)) reaches i
     go false e = i

@@ -65,8 +65,10 @@ ascending_with n (m ∷ ms) a = go (cases_Bool (ltb n m)) (cases_Bool (eqb n m))
   where
     below : ltb n m ≡ true → n < m
     below p = grind (arith, nat_tests)
+
     above : ltb n m ≡ false → eqb n m ≡ false → m < n
     above p q = grind (arith, nat_tests)
+
     go : (ltb n m ≡ true) ⊎ (ltb n m ≡ false) → (eqb n m ≡ true) ⊎ (eqb n m ≡ false) → EachThen (λ x y. x < y) (with_number n ms) → EachThen (λ x y. x < y) (with_number n (m ∷ ms))
     go (inl q) b r = let lt : n < m = below q in rw q ((lt, all_map _ _ ms (λ y (k : m < y). let s : n < y = omega arith in s) a.0), a)
     go (inr q) (inl s) r = rw (q, s) a

@@ -65,12 +65,15 @@ module _ (w v : World) where
   pub parts_kept : (home : ℕ) → ((id : TxnId) (txn : _) → txn_of w id ≡ Some txn → txn_of v id ≡ Some txn) → (log : List Part) → AllIn (IsPartAt w home) log → AllIn (IsPartAt v home) log
   parts_kept home f log a = all_map (IsPartAt w home) (IsPartAt v home) log (λ p x. (x.0, f p.id x.0 x.1, x.2)) a
 
-  pub logs_kept : (regions : ℕ) → Keeps (λ n. n.log) w v → Keeps (λ n. n.taken) w v → Keeps (λ n. n.asked) w v → submissions v ≡ submissions w → Logs regions w → Logs regions v
-  logs_kept regions kl kt ka e l home lt = record {
-    parts = subst (AllIn (IsPartAt v home)) (sym (kl home)) (parts_kept home (λ id txn is. txn_same w v e id ∙ is) (log_of w home) (l home lt).parts);
-    taken = λ source ls. subst (λ n. n ≤ length (asked_of v source home)) (sym (ap (λ t. get_or t source 0) (kt home))) (subst (λ n. taken_from w home source ≤ length n) (sym (ap (λ t. get_or t home []) (ka source))) ((l home lt).taken source ls));
-    given = λ source ls. ap (λ x. given_by source (ids_of x)) (kl home) ∙ (l home lt).given source ls ∙ sym (ap₂ take (ap (λ t. get_or t source 0) (kt home)) (ap (λ t. get_or t home []) (ka source)));
+  pub log_kept : (regions home : ℕ) → (node_at v home).log ≡ (node_at w home).log → (node_at v home).taken ≡ (node_at w home).taken → Keeps (λ n. n.asked) w v → submissions v ≡ submissions w → IsLog regions w home → IsLog regions v home
+  log_kept regions home kl kt ka e l = record {
+    parts = subst (AllIn (IsPartAt v home)) (sym kl) (parts_kept home (λ id txn is. txn_same w v e id ∙ is) (log_of w home) l.parts);
+    taken = λ source ls. subst (λ n. n ≤ length (asked_of v source home)) (sym (ap (λ t. get_or t source 0) kt)) (subst (λ n. taken_from w home source ≤ length n) (sym (ap (λ t. get_or t home []) (ka source))) (l.taken source ls));
+    given = λ source ls. ap (λ x. given_by source (ids_of x)) kl ∙ l.given source ls ∙ sym (ap₂ take (ap (λ t. get_or t source 0) kt) (ap (λ t. get_or t home []) (ka source)));
   }
+
+  pub logs_kept : (regions : ℕ) → Keeps (λ n. n.log) w v → Keeps (λ n. n.taken) w v → Keeps (λ n. n.asked) w v → submissions v ≡ submissions w → Logs regions w → Logs regions v
+  logs_kept regions kl kt ka e l home lt = log_kept regions home (kl home) (kt home) ka e (l home lt)
 
   pub received_kept : Keeps (λ n. n.received) w v → Keeps (λ n. n.log) w v → (region home : ℕ) → received_of v region home ≡ received_of w region home
   received_kept kr kl region home = λ i. get_or (set (kr region i) region (length (kl region i))) home 0
@@ -108,7 +111,8 @@ module _ (w v : World) where
   ordered_kept regions order e k o = record {
     executed = λ id. (
       λ h. let r : (region : ℕ) × (region < regions) × IsExecutedAt w region id = (o.executed id).0 h in (r.0, r.1, subst (λ l. Has (map (λ d. d.0) l) id) (sym (k r.0)) r.2),
-      λ r. (o.executed id).1 (r.0, r.1, subst (λ l. Has (map (λ d. d.0) l) id) (k r.0) r.2));
+      λ r. (o.executed id).1 (r.0, r.1, subst (λ l. Has (map (λ d. d.0) l) id) (k r.0) r.2),
+    );
     down = subst (λ l. IsDown (Precedes l) order) (sym e) o.down;
   }
 
@@ -122,8 +126,8 @@ module _ (w v : World) where
   places_kept tries k (s ∷ ss) (y ∷ ys) p = (place_kept tries k s y p.0, places_kept tries k ss ys p.1)
 
   pub known_kept : (cluster : Cluster) (workload : Workload) → Keeps (λ n. n.submitted) w v
-    → ((region : ℕ) → region < cluster.regions → AllIn (λ s. AnyIn (IsSubmissionOf cluster.tries region s) workload.sessions) (node_at w region).submitted)
-    → (region : ℕ) → region < cluster.regions → AllIn (λ s. AnyIn (IsSubmissionOf cluster.tries region s) workload.sessions) (node_at v region).submitted
+      → ((region : ℕ) → region < cluster.regions → AllIn (λ s. AnyIn (IsSubmissionOf cluster.tries region s) workload.sessions) (node_at w region).submitted)
+      → (region : ℕ) → region < cluster.regions → AllIn (λ s. AnyIn (IsSubmissionOf cluster.tries region s) workload.sessions) (node_at v region).submitted
   known_kept cluster workload k a region lt = subst (AllIn (λ s. AnyIn (IsSubmissionOf cluster.tries region s) workload.sessions)) (sym (k region)) (a region lt)
 
   pub sessions_kept : (cluster : Cluster) (workload : Workload) → Keeps (λ n. n.submitted) w v → v.places ≡ w.places → AreSessions cluster workload w → AreSessions cluster workload v

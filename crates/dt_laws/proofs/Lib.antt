@@ -9,3 +9,16 @@ pub mod Sessions
 pub mod Known
 pub mod Answering
 pub mod Delivering
+pub mod Inserting
+pub mod Resolving
+pub mod Executing
+pub mod Appending
+pub mod Opening
+pub mod Annotating
+pub mod Submitting
+pub mod Runs
+pub mod Keeping
+pub mod Rooting
+pub mod RootedSteps
+pub mod RootedEvents
+pub mod Agreeing

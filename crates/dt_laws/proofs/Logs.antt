@@ -59,7 +59,7 @@ module _ (regions : ℕ) (w : World) (nodes : length w.nodes ≡ regions) where
       where
         by : (b : ℕ) → Either (b < regions) → Distinct (given_by b (ids_of (log_of w home)))
         by b (inl lb) = subst Distinct (sym ((logs home lt).given b lb)) (each_front _ (take (taken_from w home b) (asked_of w b home)) (asked_of w b home) (front_take (taken_from w home b) (asked_of w b home))
-          (subst Distinct (sym (asked b home lb lt)) (requests_once b home (node_at w b).submitted (ids b lb))))
+            (subst Distinct (sym (asked b home lb lt)) (requests_once b home (node_at w b).submitted (ids b lb))))
         by b (inr nb) = subst Distinct (sym (none_filtered (λ i. eqb i.region b) (ids_of (log_of w home)) (all_put _ (ids_of (log_of w home)) none))) tt
           where
             none : (i : TxnId) → Has (ids_of (log_of w home)) i → eqb i.region b ≡ false
@@ -94,11 +94,13 @@ module _ (regions : ℕ) (w : World) (nodes : length w.nodes ≡ regions) where
         once : (home : ℕ) → Either (home < regions) → Distinct (ids_of (log_at (logs_of w) home))
         once home (inl lt) = subst (λ l. Distinct (ids_of l)) (sym (log_is w home)) (log_once home lt)
         once home (inr n) = subst (λ l. Distinct (ids_of l)) (sym (logs_past home (omega arith))) tt
+
         homed : (home : ℕ) → Either (home < regions) → AllIn (λ p. (p.home ≡ home) × Has p.homes home) (log_at (logs_of w) home)
         homed home (inl lt) = subst (AllIn (λ p. (p.home ≡ home) × Has p.homes home)) (sym (log_is w home)) (all_put _ (log_of w home) (λ p h. part_homed home p lt h))
         homed home (inr n) = subst (AllIn (λ p. (p.home ≡ home) × Has p.homes home)) (sym (logs_past home (omega arith))) tt
+
         alike : (home other : ℕ) → Either (home < regions) → Either (other < regions) → AllIn (λ p. AllIn (λ q. p.id ≡ q.id → p.homes ≡ q.homes) (log_at (logs_of w) other)) (log_at (logs_of w) home)
         alike home other (inl lh) (inl lo) = subst (λ l. AllIn (λ p. AllIn (λ q. p.id ≡ q.id → p.homes ≡ q.homes) (log_at (logs_of w) other)) l) (sym (log_is w home))
-          (all_put _ (log_of w home) (λ p hp. subst (AllIn (λ q. p.id ≡ q.id → p.homes ≡ q.homes)) (sym (log_is w other)) (all_put _ (log_of w other) (λ q hq. parts_alike home other p q lh lo hp hq))))
+            (all_put _ (log_of w home) (λ p hp. subst (AllIn (λ q. p.id ≡ q.id → p.homes ≡ q.homes)) (sym (log_is w other)) (all_put _ (log_of w other) (λ q hq. parts_alike home other p q lh lo hp hq))))
         alike home other (inr n) o = subst (λ l. AllIn (λ p. AllIn (λ q. p.id ≡ q.id → p.homes ≡ q.homes) (log_at (logs_of w) other)) l) (sym (logs_past home (omega arith))) tt
         alike home other (inl lh) (inr n) = all_put _ (log_at (logs_of w) home) (λ p hp. subst (AllIn (λ q. p.id ≡ q.id → p.homes ≡ q.homes)) (sym (logs_past other (omega arith))) tt)

@@ -37,9 +37,9 @@ has_request home xs s h e = any_image (λ y. y ≡ s.txn.id) (λ x. x.txn.id) (f
 -- a region counts on
 pub numbered_more : (region : ℕ) (xs : List Submission) (s : Submission) → AreNumbered region xs → s.txn.id ≡ record { seq = length xs + 1; region = region } → AreNumbered region (xs ++ s ∷ [])
 numbered_more region xs s a e i x is = elim (place_in_more xs s i x is) [
-    inl old ↦ a i x old
+  | inl old ↦ a i x old
   | inr new ↦ subst (λ y. y.txn.id ≡ record { seq = i + 1; region = region }) new.1 (subst (λ n. s.txn.id ≡ record { seq = n + 1; region = region }) (sym new.0) e)
-  ]
+]
 
 -- so no two of its submissions have one id
 pub numbered_once : (region : ℕ) (xs : List Submission) → AreNumbered region xs → EachThen (λ a b. ¬ (a.txn.id ≡ b.txn.id)) xs

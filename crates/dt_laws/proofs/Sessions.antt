@@ -54,6 +54,7 @@ place_changed P Q (t ∷ sessions) (x ∷ places) region name s p place once q o
     rest [] (y ∷ ys) n b = b
     rest (u ∷ us) [] n b = b
     rest (u ∷ us) (y ∷ ys) n b = (others u y (n u (inl refl)) b.0, rest us ys (λ v h. n v (inr h)) b.1)
+
     go : (is_session region name t ≡ true) ⊎ (is_session region name t ≡ false) → (session_at sessions places region name ≡ Some (s, p) → Pairwise Q sessions (with_place sessions places region name place)) → Pairwise Q (t ∷ sessions) (with_place (t ∷ sessions) (x ∷ places) region name place)
     go (inl y) f =
         let is : ◌≡◌ {A = Option (Session × Place)} (Some (t, x)) (Some (s, p)) = rw y at e in

@@ -64,7 +64,7 @@ module _ (regions : ℕ) (w : World) (nodes : length w.nodes ≡ regions) (ids :
   unlike a b ha hb e = same (numbered a ha) (numbered b hb)
     where
       same : ((r i : ℕ) × (r < regions) × (slice_get (node_at w r).submitted i ≡ Some a) × (a.txn.id ≡ record { seq = i + 1; region = r }))
-        → ((r i : ℕ) × (r < regions) × (slice_get (node_at w r).submitted i ≡ Some b) × (b.txn.id ≡ record { seq = i + 1; region = r })) → a ≡ b
+          → ((r i : ℕ) × (r < regions) × (slice_get (node_at w r).submitted i ≡ Some b) × (b.txn.id ≡ record { seq = i + 1; region = r })) → a ≡ b
       same p q =
           let id : ◌≡◌ {A = TxnId} (record { seq = p.1 + 1; region = p.0 }) (record { seq = q.1 + 1; region = q.0 }) = sym p.4 ∙ e ∙ q.4 in
           let region : p.0 ≡ q.0 = ap (λ x. x.region) id in

@@ -1,7 +1,7 @@
 -- Fronts of logs as views, and the view of a region.
 use Rattle.std.proofs.Common.{◌≡◌, ◌≢◌, ◌<◌, ◌≤◌, ◌⊎◌, ℕ, zero, suc, List, [], ◌∷◌, ◌++◌, length, get_or, set, map, take, refl, sym, ap, ap₂, subst, ◌∙◌, inl, inr, arith}
 use Rattle.std.specs.Prelude.{slice_index}
-use Rattle.std.proofs.lemmas.List.{take-take, take-append-le, length-map}
+use Rattle.std.proofs.lemmas.List.{take-take, take-append-le, length-map, get_or-set_same, get_or-set_other}
 use Rattle.dt_lists.specs.Lists.{AnyIn, AllIn, Has, IsFront, Pairwise}
 use Rattle.dt_lists.proofs.Fronts.{front_refl, front_take, front_takes, front_empty, front_append, pairwise_refl}
 use Rattle.dt_lists.proofs.Places.{get_of_map, field_of_set, map_of_set}
@@ -65,3 +65,14 @@ logs_length w = length-map w.nodes (λ n. n.log)
 -- what a region inserted of what it received, it inserted of the logs
 pub view_is : (w : World) (region : ℕ) → ((home : ℕ) → home < length w.nodes → slice_index (node_at w region).here.inserted home ≤ received_of w region home) → view_at w region ≡ fronts (node_at w region).here.inserted (logs_of w)
 view_is w region le = fronts_within (node_at w region).here.inserted (received_lengths w region) (logs_of w) (λ home lt. le home (subst (λ n. home < n) (logs_length w) lt))
+
+-- a region has its own log whole
+pub received_own : (w : World) (region : ℕ) → region < length (node_at w region).received → received_of w region region ≡ length (log_of w region)
+received_own w region lt = get_or-set_same (node_at w region).received region (length (log_of w region)) 0 lt
+
+pub received_other : (w : World) (region home : ℕ) → home ≢ region → received_of w region home ≡ slice_index (node_at w region).received home
+received_other w region home n = get_or-set_other (node_at w region).received region home (length (log_of w region)) 0 n
+
+-- what a region received of a log, as it received it
+pub received_log : (w : World) (region home : ℕ) → log_at (received_logs w region) home ≡ take (received_of w region home) (log_of w home)
+received_log w region home = fronts_at (received_lengths w region) (logs_of w) home ∙ ap (take (received_of w region home)) (log_is w home)

@@ -156,8 +156,10 @@ distinct_by_key same key (x ∷ xs) self d = (all_put _ xs (λ y h e. twice y h 
   where
     head_of : Distinct (filter (same (key x)) (x ∷ xs)) → Distinct (x ∷ filter (same (key x)) xs)
     head_of h = rw (self x) at h
+
     twice : (y : _) → Has xs y → x ≡ y → ⊥
     twice y h e = all_get _ (filter (same (key x)) xs) (head_of (d (key x))).0 y (has_filtered (same (key x)) xs y h (subst (λ z. same (key x) z ≡ true) e (self x))) e
+
     rest : (b : _) → Distinct (filter (same b) xs)
     rest b = go (cases_Bool (same b x)) (d b)
       where

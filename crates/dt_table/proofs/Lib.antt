@@ -4,3 +4,5 @@ pub mod Rows
 pub mod Written
 pub mod Opened
 pub mod Sorted
+pub mod Reported
+pub mod TableLaws

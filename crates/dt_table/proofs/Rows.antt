@@ -1,5 +1,5 @@
 -- What a table shows of each key, by the rows that it keeps.
-use Rattle.std.proofs.Common.{◌≡◌, ℕ, zero, suc, ◌+◌, ◌<◌, ◌≤◌, ◌↔◌, slice_get, is_some, IsSome, List, [], ◌∷◌, ◌++◌, map, length, refl, sym, ap, ◌∙◌, subst, arith, length-append, Option, Some, None, unwrap_or}
+use Rattle.std.proofs.Common.{◌^◌, ◌≡◌, ℕ, zero, suc, ◌+◌, ◌<◌, ◌≤◌, ◌↔◌, slice_get, is_some, IsSome, List, [], ◌∷◌, ◌++◌, map, length, refl, sym, ap, ◌∙◌, subst, arith, length-append, Option, Some, None, unwrap_or}
 use Rattle.std.specs.Option.{option_map}
 use Rattle.std.specs.Ordering.{nat_cmp}
 use Rattle.std.specs.Cmp.Lexicographic.{slice_cmp, nat_list_cmp_total, nat_list_eq_equiv, texts_ties, bytes_decides}
@@ -17,6 +17,7 @@ use Rattle.dt_table.specs.declared.stored.StoredMove.{StoredMove}
 use Rattle.dt_table.specs.declared.stored.StoredRow.{StoredRow}
 use Rattle.dt_table.specs.declared.table.Table.TheInside.{Inside}
 use Rattle.dt_table.proofs.Entries.{get-from_map, insert-from_map, AllIn-insert_entry, AllIn-lookup}
+use Rattle.dt_table.proofs.TableLaws.{home_after-append}
 use Rattle.dt_table.proofs.Histories.{history-push_other, history-push_new, length-history, AreLinked-push, mover_in-next, IsSome-mover_in}
 
 -- the row of a key is the stored one, if there is one
@@ -122,10 +123,6 @@ stored-pushed regions homes moves m (e ∷ rows) all =
       stored-pushed regions homes moves m rows all.1,
     )
 
-home_after-append : (home : ℕ) (moves : List Moved) (m : Moved) → home_after home (moves ++ m ∷ []) ≡ m.target
-home_after-append home [] m = refl
-home_after-append home (x ∷ moves) m = home_after-append x.target moves m
-
 -- the stored row of a key, or a fresh one, has a place and a counter that fit its moves
 pub stored_of-fits : (a : Inside) (key : Bytes) (home : ℕ) → IsSound a
     → let row = stored_of a.rows.entries key home in IsBelow (length a.moves.items) row.last × (row.counter ≡ length (history a.moves.items row.last))
@@ -221,3 +218,13 @@ IsSome-mover t key moves number mover is answer =
       λ some. let h = known.0 (ap is_some (sym answer) ∙ some) in (h.0, omega (arith, h.1, counter)),
       λ h. ap is_some answer ∙ known.1 (h.0, omega (arith, h.1, counter)),
     )
+
+-- and a key has fewer moves than there are numbers for them
+pub counter_of-few : (a : Inside) (key : Bytes) → IsSound a → counter_of (kept_of a).state key < 2 ^ 32
+counter_of-few a key sound = by (lookup (same_key key) a.rows.entries) refl
+  where
+    by : (o : Option StoredRow) → lookup (same_key key) a.rows.entries ≡ o → counter_of (kept_of a).state key < 2 ^ 32
+    by None absent = omega (arith, ap length (moves_of-absent a key absent))
+    by (Some row) found =
+        let stored = IsStored-found a.regions a.homes.entries a.moves.items a.rows.entries key row sound.rows found in
+        omega (arith, ap length (moves_of-found a key row found), length-history a.moves.items row.last sound.linked stored.last, a.moves.ok.0, sound.few)

@@ -52,11 +52,11 @@ strict {V} (p ∷ ps) sorted distinct =
     let all = p ∷ ps in
     let long = length-map all (λ (e : Bytes × V). e.0) in
     sorted_from_all_adjacent nat_list_cmp_total (keys_of all) p.0 (λ k h.
-        let next : k + 1 < length all = omega (arith, long, h) in
-        let later = get_or-map (λ (e : Bytes × V). e.0) all (k + 1) p p.0 next in
-        let earlier = get_or-map (λ (e : Bytes × V). e.0) all k p p.0 (omega arith) in
-        less (get_or (keys_of all) k p.0) (get_or (keys_of all) (k + 1) p.0) ((λ i. is_lt (order (later i) (earlier i))) ∙ sorted k p (omega arith) next)
-            (apart_from_distinct same_key (keys_of all) k (k + 1) p.0 distinct (omega arith) h))
+    let next : k + 1 < length all = omega (arith, long, h) in
+    let later = get_or-map (λ (e : Bytes × V). e.0) all (k + 1) p p.0 next in
+    let earlier = get_or-map (λ (e : Bytes × V). e.0) all k p p.0 (omega arith) in
+    less (get_or (keys_of all) k p.0) (get_or (keys_of all) (k + 1) p.0) ((λ i. is_lt (order (later i) (earlier i))) ∙ sorted k p (omega arith) next)
+    (apart_from_distinct same_key (keys_of all) k (k + 1) p.0 distinct (omega arith) h))
 
 -- so they are the entries of the map
 pub in_order-sorted : {V : Type 0} (es ps : List (Bytes × V)) → IsPermutation es ps → IsDistinct same_key (keys_of es) → IsSortedBy (λ x y. is_lt (order x.0 y.0)) ps
@@ -66,9 +66,9 @@ in_order-sorted {V} es ps moves distinct sorted =
     let rising = is_sorted-from_strict ps (strict ps sorted now) in
     sym (entries-from_sorted order ps rising)
     ∙ ap entries (same_map nat_list_cmp_total (slice_cmp-IsAntisymmetric nat_cmp-IsAntisymmetric) (from_sorted ps) (from_entries es) (λ q.
-        get-from_sorted order ps q rising ∙ find-lookup ps q
-        ∙ lookup_permutation nat_list_eq_equiv es ps moves now (same_key q) (λ x y. nat_list_eq_equiv.congr q x y)
-        ∙ sym (find-lookup es q) ∙ sym (get-from_entries nat_list_cmp_total es q)))
+    get-from_sorted order ps q rising ∙ find-lookup ps q
+    ∙ lookup_permutation nat_list_eq_equiv es ps moves now (same_key q) (λ x y. nat_list_eq_equiv.congr q x y)
+    ∙ sym (find-lookup es q) ∙ sym (get-from_entries nat_list_cmp_total es q)))
 
 -- a list of references, sorted by what they refer to
 pub IsSortedBy-map : {A B : Type 0} (f : A → B) (lt : B → B → Bool) (xs : List A) → IsSortedBy (λ x y. lt (f x) (f y)) xs → IsSortedBy lt (map f xs)

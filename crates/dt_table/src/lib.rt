@@ -9,3 +9,6 @@ mod table;
 pub use effect::Effect;
 pub use shown::{Shown, ShownList};
 pub use table::{Mastership, Table};
+
+#[cfg(test)]
+mod tests;

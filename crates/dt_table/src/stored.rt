@@ -79,24 +79,31 @@ pub fn opening_home(homes: &IndexMap<Key, u8>, regions: u8, key: &Key) -> u8
     }
 }
 
-/// Gives a key its value or none. Where the key is new, `home` is its home.
-pub fn put_value(rows: &mut IndexMap<Key, StoredRow>, key: Key, value: Option<Value>, home: u8)
-    requires { 0 < spare rows.old }
-    ensures rows { rows.new.entries ≡ insert_entry same_key rows.old.entries key (record (stored_of rows.old.entries key home) { value = value }) }
+/// Gives a key its value or none. A key that is new has its opening home.
+pub fn put_value(
+    rows: &mut IndexMap<Key, StoredRow>,
+    homes: &IndexMap<Key, u8>,
+    regions: u8,
+    key: Key,
+    value: Option<Value>,
+)
+    requires room { 0 < spare rows.old }
+    requires regions { 0 < regions }
+    ensures rows { rows.new.entries ≡ insert_entry same_key rows.old.entries key
+        (record (stored_of rows.old.entries key (opening_home_of regions homes.now.entries key)) { value = value }) }
     ensures room { spare rows.old ≤ spare rows.new + 1 }
 {
     match rows.get_mut(&key) {
         Some(row) => row.value = value,
-        None => add_row(
-            rows,
-            key,
-            StoredRow {
+        None => {
+            let row = StoredRow {
                 value,
-                home,
+                home: opening_home(homes, regions, &key),
                 counter: 0,
                 last: None,
-            },
-        ),
+            };
+            add_row(rows, key, row);
+        }
     }
 }
 

@@ -1,4 +1,4 @@
-ghost use Rattle.std.specs.Prelude.{◌≡◌, ◌+◌, ◌-◌, ◌<◌, ◌≤◌, ◌↔◌, ℕ, length, map, IsTrue, IsOk, IsSome, IfOk, OnOk, OnErr, None};
+ghost use Rattle.std.specs.Prelude.{◌≡◌, ◌+◌, ◌-◌, ◌^◌, ◌<◌, ◌≤◌, ◌↔◌, ℕ, length, map, IsTrue, IsOk, IsSome, IfOk, OnOk, OnErr, None};
 ghost use Rattle.std.specs.Option.{option_copied};
 ghost use Rattle.dt_access.specs.Orders.{HasDistinctKeys};
 ghost use Rattle.dt_table.specs.Table.{value_of, home_of, counter_of, next_mover, written, moved, apply, opening, shown, places_for};
@@ -99,6 +99,7 @@ impl Table {
     pub fn mover(&self, key: &Key, number: u32) -> Option<TxnId>
         ensures mover { (before : ℕ) → number ≡ before + 1 → result ≡ next_mover self.now.state key.now before }
         ensures some { IsSome result ↔ ((0 < number) × (number ≤ counter_of self.now.state key.now)) }
+        ensures few { counter_of self.now.state key.now < 2 ^ 32 }
     {
         mover_of(&self.moves, self.rows.get(key)?, number)
     }
@@ -147,8 +148,7 @@ impl Table {
         ensures state { self.new.state ≡ written self.old.state key value }
         ensures spare { self.old.spare ≤ self.new.spare + 1 }
     {
-        let home = opening_home(&self.homes, self.regions, &key);
-        put_value(&mut self.rows, key, value, home);
+        put_value(&mut self.rows, &self.homes, self.regions, key, value);
     }
 
     // Moves a key.

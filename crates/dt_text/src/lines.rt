@@ -1,4 +1,4 @@
-ghost use Rattle.std.specs.Prelude.{◌≡◌, ℕ, ◌+◌, ◌<◌, ◌^◌, ◌==◌, List, [], ◌∷◌, length, position, MatchOption};
+ghost use Rattle.std.specs.Prelude.{◌≡◌, ◌+◌, ◌<◌, ◌^◌, ◌==◌, List, [], ◌∷◌, length, position, MatchOption};
 ghost use Rattle.dt_text.specs.Lines.{FileLine, cut_lines, is_skipped, kept_lines, lines_of};
 
 use std::marker::Model;

@@ -1,4 +1,4 @@
-ghost use Rattle.std.specs.Prelude.{◌≡◌, ℕ, ◌+◌, ◌-◌, ◌*◌, ◌<◌, ◌≤◌, ◌^◌, neg_ℤ, pos, ◌++◌, ◌≢◌, ◌∷◌, length, slice_index, MatchBool, MatchOption, OnOk, OnErr};
+ghost use Rattle.std.specs.Prelude.{◌≡◌, ◌+◌, ◌-◌, ◌*◌, ◌<◌, ◌≤◌, ◌^◌, neg_ℤ, pos, ◌++◌, ◌≢◌, ◌∷◌, length, slice_index, MatchBool, MatchOption, OnOk, OnErr};
 ghost use Rattle.dt_text.specs.Numbers.{StartsPlainly};
 ghost use Rattle.std.specs.Int.{IsInRange};
 ghost use Rattle.std.specs.Option.{SomeIff};
@@ -34,7 +34,8 @@ pub fn read_i64(word: &[u8]) -> Option<i64>
 
 /// What follows a `-`, if the word begins with one.
 fn after_minus(word: &[u8]) -> Option<&[u8]>
-    ensures { MatchOption result (slice_index word.now 0 ≢ 45) (λ digits. word.now ≡ 45 ∷ digits.now) }
+    ensures { MatchOption result (slice_index word.now 0 ≢ 45)
+        (λ digits. word.now ≡ 45 ∷ digits.now) }
 {
     if word.is_empty() || word[0] != b'-' {
         return None;
@@ -70,7 +71,8 @@ fn is_empty_or_padded(word: &[u8]) -> bool
 /// The number that digits write, also with zeros in front; `None` where a byte is no digit or the
 /// number has more than 64 bits.
 fn value_of_digits(word: &[u8]) -> Option<u64>
-    ensures { SomeIff result (AllDigits 10 word.now × (digits_value 10 word.now < 2 ^ 64)) (digits_value 10 word.now) }
+    ensures { SomeIff result (AllDigits 10 word.now × (digits_value 10 word.now < 2 ^ 64))
+        (digits_value 10 word.now) }
 {
     let mut number: u64 = 0;
     for byte in word {
@@ -82,7 +84,8 @@ fn value_of_digits(word: &[u8]) -> Option<u64>
 /// The number whose digits are those of `number` and then this one; `None` where the byte is no
 /// digit or that number has more than 64 bits.
 fn with_digit(number: u64, byte: u8) -> Option<u64>
-    ensures { SomeIff result (IsInRange 48 57 byte × (number * 10 + (byte - 48) < 2 ^ 64)) (number * 10 + (byte - 48)) }
+    ensures { SomeIff result (IsInRange 48 57 byte × (number * 10 + (byte - 48) < 2 ^ 64))
+        (number * 10 + (byte - 48)) }
 {
     if !byte.is_ascii_digit() {
         return None;

@@ -1,4 +1,4 @@
-ghost use Rattle.std.specs.Prelude.{◌≡◌, ◌≢◌, ℕ, ◌+◌, ◌∷◌, ◌++◌, [], ◌<◌, ◌≤◌, ◌^◌, length, drop, ◌==◌, ◌||◌, cond, nat_lt, slice_index, IfOk, IfSome, IsTrue, MatchBool, MatchOption, All};
+ghost use Rattle.std.specs.Prelude.{◌≡◌, ◌≢◌, ◌+◌, ◌<◌, ◌≤◌, ◌^◌, length, drop, ◌==◌, ◌||◌, slice_index, IfOk, IfSome, MatchBool, All};
 ghost use Rattle.dt_text.specs.Texts.{is_text_byte};
 ghost use Rattle.dt_text.specs.Words.{is_visible};
 ghost use Rattle.dt_text.specs.Reading.{IsWordIn, words_from, words_of};

@@ -1,5 +1,5 @@
 -- The keys of parts.
-use Rattle.std.proofs.Common.{◌≡◌, ℕ, Bool, true, false, cond, List, [], ◌∷◌, ◌++◌, map, filter, sym, subst}
+use Rattle.std.proofs.Common.{◌≡◌, ℕ, Bool, true, false, cond, List, [], ◌∷◌, ◌++◌, map, filter, sym, subst, refl, ap}
 use Rattle.dt_lists.specs.Lists.{AllIn, EachThen}
 use Rattle.dt_lists.proofs.Words.{each_image, each_of_image, each_append_left}
 use Rattle.dt_access.specs.Clash.{Bytes}
@@ -8,7 +8,8 @@ use Rattle.dt_access.specs.declared.Access.{Access}
 use Rattle.dt_access.specs.declared.Mode.{Mode}
 use Rattle.dt_txn.specs.declared.txn.Body.{Body}
 use Rattle.dt_txn.specs.declared.txn.Body.TheVariants.{Call, Move}
-use Rattle.dt_txn.specs.Transaction.{entries_at, used_of}
+use Rattle.dt_table.specs.Table.{Table}
+use Rattle.dt_txn.specs.Transaction.{annotated, entries_at, used_of}
 
 pub all_filter : {A : Type 0} (P : A → Type 0) (p : A → Bool) (xs : List A) → AllIn P xs → AllIn P (filter p xs)
 all_filter P p [] all = tt
@@ -38,3 +39,8 @@ pub keys_ascend : (body : Body) (home : ℕ) (access : List Access) (keys rest :
 keys_ascend body home access keys rest e each =
     each_append_left (λ a b. KeyBefore a.0 b.0) keys rest
     (subst (λ (xs : List (Bytes × Mode)). HasAscendingKeys xs) (sym e) (part_ascends body home access each))
+
+-- an annotated access list has the uses that it was made of
+pub annotated_uses : (t : Table) (uses : List (Bytes × Mode)) → map used_of (map (annotated t) uses) ≡ uses
+annotated_uses t [] = refl
+annotated_uses t (u ∷ uses) = ap (λ (us : List (Bytes × Mode)). u ∷ us) (annotated_uses t uses)

@@ -1,5 +1,5 @@
 ghost use Rattle.std.specs.Prelude.{◌≡◌, IfOk, map};
-ghost use Rattle.dt_txn.specs.Transaction.{CanRun, annotate, annotated, uses_of};
+ghost use Rattle.dt_txn.specs.Transaction.{CanRun, annotate, annotated, used_of, uses_of};
 
 use crate::txn::{Body, Txn};
 use dt_access::{Access, Accesses, Keys, Mode, TxnId};
@@ -10,9 +10,11 @@ use std::alloc::Global;
 
 /// The transaction of this id for a body, as a region with this table submits it: each of its keys has the home and the
 /// number of moves that the table gives it.
+#[tactic(auto, using(crate::proofs::PartKeys::annotated_uses))]
 pub fn annotate(alloc: Global, id: TxnId, body: Body, table: &Table) -> Result<Txn, NoMemory>
     requires { CanRun body }
-    ensures { IfOk result (λ txn. txn ≡ annotate id body table.now.state) }
+    ensures annotated { IfOk result (λ txn. txn ≡ annotate id body table.now.state) }
+    ensures uses { IfOk result (λ txn. map used_of txn.access ≡ uses_of body) }
 {
     let access = annotated(alloc, &body, table)?;
     Ok(Txn { id, body, access })

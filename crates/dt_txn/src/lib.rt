@@ -5,6 +5,8 @@ mod annotation;
 mod execution;
 mod outcome;
 mod placement;
+#[cfg(test)]
+mod tests;
 mod txn;
 
 pub use annotation::annotate;

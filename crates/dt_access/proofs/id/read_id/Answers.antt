@@ -1,7 +1,5 @@
-use Rattle.std.proofs.Common.{◌≡◌, ◌<◌, ◌^◌, subst, sym, ◌∙◌, arith}
-use Rattle.std.specs.Fmt.{decimal}
+use Rattle.std.proofs.Common.{sym, ◌∙◌, arith}
 use Rattle.std.proofs.lemmas.Fmt.{decimal_injective}
-use Rattle.dt_access.specs.Ids.{ReadsId, id_text}
 use Rattle.dt_access.proofs.IdTexts.{id_parts, id_text-dot, cast-refused}
 use Rattle.dt_access.proofs.id.read_id.Goals as goal
 

@@ -3,7 +3,7 @@ use Rattle.dt_access.specs.declared.TxnId.{TxnId}
 use Rattle.dt_table.specs.Table.{Moved}
 use Rattle.dt_table.specs.History.{kept_of, history, mover_in, IsBelow}
 use Rattle.dt_table.specs.declared.stored.StoredMove.{StoredMove}
-use Rattle.dt_table.proofs.Rows.{IsStored-found, moves_of-found, moves_of-absent, mover_in-none, next_mover-mover_in, IsSome-mover}
+use Rattle.dt_table.proofs.Rows.{IsStored-found, moves_of-found, moves_of-absent, mover_in-none, next_mover-mover_in, IsSome-mover, counter_of-few}
 use Rattle.dt_table.proofs.table.Table.mover.Goals as goal
 
 pub returns-in_err-get-clause-mover : goal.returns-in_err-get-clause-mover
@@ -43,3 +43,9 @@ returns-clause-some c =
     let row = c.in_ok-get.field-0.now in
     let answer = c.mover_of.ensures ∙ ap (λ (moves : List StoredMove). mover_in (history moves row.last) c.args.number) c.deref.ensures.value in
     rw (← c.self.view_is) (IsSome-mover (kept_of a).state c.args.key.now _ c.args.number c.mover_of.result (moves_of-found a c.args.key.now row (sym c.in_ok-get.ensures.value)) answer)
+
+pub returns-in_err-get-clause-few : goal.returns-in_err-get-clause-few
+returns-in_err-get-clause-few c = rw (← c.self.view_is) (counter_of-few c.self.inside c.args.key.now c.self.invariant)
+
+pub returns-clause-few : goal.returns-clause-few
+returns-clause-few c = rw (← c.self.view_is) (counter_of-few c.self.inside c.args.key.now c.self.invariant)
