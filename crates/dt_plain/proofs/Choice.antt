@@ -1,7 +1,7 @@
 -- Going through the ids of a view for one that may be executed, or whose class may be resolved.
-use Rattle.std.proofs.Common.{◌≡◌, ◌∙◌, ℕ, ◌+◌, ◌<◌, ◌≤◌, ◌↔◌, Bool, true, false, List, [], ◌∷◌, ◌++◌, length, get_or, take, sym, subst, inl, inr, IsTrue}
+use Rattle.std.proofs.Common.{◌≡◌, ℕ, ◌+◌, ◌<◌, ◌≤◌, ◌↔◌, Bool, false, List, [], ◌∷◌, length, get_or, take, subst, inl, inr, IsTrue}
 use Rattle.std.proofs.lemmas.List.{take_more, take_all}
-use Rattle.dt_lists.specs.Lists.{AllIn, Has, Either}
+use Rattle.dt_lists.specs.Lists.{AllIn, Has}
 use Rattle.dt_lists.proofs.Words.{all_append, all_get}
 use Rattle.dt_access.specs.declared.TxnId.{TxnId}
 use Rattle.dt_sched.specs.Views.{View, here, IsComplete, IsClass}

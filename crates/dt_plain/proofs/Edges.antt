@@ -1,13 +1,12 @@
 -- The links that are gathered from logs are the edges of the view, and a search along them follows reach.
 use Rattle.std.specs.Prelude.{Result, Ok, Err, IfOk}
 use Rattle.dt_text.specs.declared.NoMemory.{NoMemory}
-use Rattle.std.proofs.Common.{◌≡◌, ◌≢◌, ℕ, ◌+◌, ◌<◌, ◌⊎◌, ◌↔◌, List, [], ◌∷◌, ◌++◌, length, get_or, take, map, true, refl, sym, ap, subst, inl, inr, arith, ◌∙◌}
-use Rattle.std.proofs.lemmas.List.{take_more, take_all}
-use Rattle.dt_lists.specs.Lists.{AnyIn, SomeThen, Has}
+use Rattle.std.proofs.Common.{◌≡◌, ◌⊎◌, List, [], ◌∷◌, ◌++◌, map, sym, inl, inr, ◌∙◌}
+use Rattle.dt_lists.specs.Lists.{AnyIn, SomeThen}
 use Rattle.dt_lists.proofs.Words.{any_append, any_append_left, any_append_right, any_map, any_image, any_of_image, some_append_left}
 use Rattle.dt_access.specs.declared.TxnId.{TxnId}
 use Rattle.dt_access.specs.declared.Part.{Part}
-use Rattle.dt_sched.specs.Views.{View, Chain, here, onward, AreClashing, Edge, Reaches}
+use Rattle.dt_sched.specs.Views.{View, Chain, here, onward, AreClashing, Edge}
 use Rattle.dt_sched.proofs.Chains.{chain_before, chain_map}
 use Rattle.dt_plain.specs.Links.{IsLinked, AreReached}
 use Rattle.dt_plain.specs.Graphs.{MakesEdge, EdgeInto, EdgeWithin, Gains, AreEdges, AreTurned, turned, AreBehind, AreAhead}

@@ -1,13 +1,13 @@
 -- A list of ids that grows at its back, each id once, while links are followed.
-use Rattle.std.proofs.Common.{◌≡◌, ◌∙◌, ℕ, ◌+◌, ◌<◌, ◌⊎◌, ◌↔◌, List, [], ◌∷◌, ◌++◌, length, get_or, take, refl, sym, ap, subst, inl, inr, arith}
+use Rattle.std.proofs.Common.{◌≡◌, ℕ, ◌+◌, ◌<◌, List, [], ◌∷◌, ◌++◌, length, get_or, take, sym, subst, inl, inr}
 use Rattle.std.proofs.lemmas.List.{take_more}
-use Rattle.dt_lists.specs.Lists.{AnyIn, AllIn, Has, IsFront, EachThen, Distinct}
+use Rattle.dt_lists.specs.Lists.{Has, Distinct}
 use Rattle.dt_lists.proofs.Words.{any_append, any_append_left, any_append_right, all_put, each_append}
 use Rattle.dt_lists.proofs.Fronts.{front_refl, front_trans, front_append}
 use Rattle.dt_access.specs.declared.TxnId.{TxnId}
 use Rattle.dt_plain.proofs.Same.{no_id}
 use Rattle.dt_plain.specs.Grown.{AddsOnce}
-use Rattle.dt_plain.specs.Links.{IsLinked, Follows}
+use Rattle.dt_plain.specs.Links.{Follows}
 use Rattle.dt_plain.specs.declared.search.Link.{Link}
 
 -- an id that is there is not added

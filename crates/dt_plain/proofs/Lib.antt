@@ -8,3 +8,4 @@ pub mod Shared
 pub mod Present
 pub mod Decided
 pub mod Choice
+pub mod Fits

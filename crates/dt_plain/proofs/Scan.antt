@@ -1,5 +1,5 @@
 -- Loops over a list that look for an item: what is left gives what the whole list gives.
-use Rattle.std.proofs.Common.{◌≡◌, ℕ, suc, ◌+◌, ◌<◌, ◌⊎◌, ◌↔◌, Bool, true, false, List, [], ◌∷◌, ◌++◌, ◌∙◌, length, get_or, take, drop, refl, sym, ap, inl, inr, arith, add-one, IsTrue}
+use Rattle.std.proofs.Common.{◌≡◌, ℕ, suc, ◌+◌, ◌<◌, ◌↔◌, Bool, true, false, List, [], ◌∷◌, ◌++◌, ◌∙◌, length, get_or, take, drop, refl, sym, ap, inl, inr, add-one, IsTrue}
 use Rattle.std.proofs.Math.Seq.{drop-cons}
 use Rattle.std.proofs.lemmas.List.{take_more}
 use Rattle.dt_lists.specs.Lists.{AnyIn, AllIn}

@@ -1,9 +1,9 @@
 -- What is in two lists, gathered from the one.
 use Rattle.std.specs.Prelude.{Result, Ok, Err, IfOk}
-use Rattle.std.proofs.Common.{◌≡◌, ◌≢◌, ◌∙◌, ℕ, zero, suc, ◌+◌, ◌<◌, ◌⊎◌, ◌↔◌, List, [], ◌∷◌, ◌++◌, length, get_or, take, drop, refl, sym, subst, inl, inr, arith}
+use Rattle.std.proofs.Common.{◌≡◌, ℕ, ◌+◌, ◌<◌, List, [], ◌∷◌, ◌++◌, length, get_or, take, drop, refl, sym, subst, inl, inr}
 use Rattle.std.proofs.lemmas.List.{take_more, take-append-drop}
 use Rattle.dt_text.specs.declared.NoMemory.{NoMemory}
-use Rattle.dt_lists.specs.Lists.{AnyIn, Has, EachThen, Distinct}
+use Rattle.dt_lists.specs.Lists.{Has, Distinct}
 use Rattle.dt_lists.proofs.Words.{any_append, any_append_left, any_append_right, each_append_left, each_across}
 use Rattle.dt_lists.proofs.Distinct.{distinct_push}
 use Rattle.dt_access.specs.declared.TxnId.{TxnId}

@@ -1,8 +1,8 @@
 -- The search along links: a list of what was found, of which the first ones were followed.
-use Rattle.std.proofs.Common.{◌≡◌, ◌≢◌, ◌∙◌, ℕ, zero, suc, ◌+◌, ◌-◌, ◌<◌, ◌≤◌, ◌⊎◌, ◌↔◌, List, [], ◌∷◌, ◌++◌, length, get_or, take, map, refl, sym, ap, subst, inl, inr, arith, length-append}
+use Rattle.std.proofs.Common.{◌≡◌, ◌∙◌, ℕ, zero, suc, ◌+◌, ◌<◌, ◌≤◌, List, [], ◌∷◌, ◌++◌, length, get_or, take, map, refl, sym, ap, subst, inl, inr, arith, length-append}
 use Rattle.std.proofs.Math.ListN.{length-map}
 use Rattle.std.proofs.lemmas.List.{take_more, take_all, take-append-le}
-use Rattle.dt_lists.specs.Lists.{AnyIn, AllIn, Has, IsFront, IsWithin, EachThen, Distinct}
+use Rattle.dt_lists.specs.Lists.{AllIn, Has, Distinct}
 use Rattle.dt_lists.proofs.Words.{any_map, any_image, all_map, all_get, all_put, all_append}
 use Rattle.dt_lists.proofs.Distinct.{distinct_within}
 use Rattle.dt_access.specs.declared.TxnId.{TxnId}

@@ -19,7 +19,7 @@ pub fn has_part(log: &[Part], id: TxnId) -> bool
 }
 
 /// Whether a part of the transaction is in the log of the home.
-fn is_at(logs: &[Listed<Part>], home: u8, id: TxnId) -> bool
+pub fn is_at(logs: &[Listed<Part>], home: u8, id: TxnId) -> bool
     ensures { IsTrue result ↔ HasPart (log_at logs.now home) id }
 {
     match logs.get(home as usize) {

@@ -10,3 +10,8 @@ mod plain;
 mod search;
 
 pub use plain::PlainSched;
+
+#[cfg(test)]
+mod fitting;
+#[cfg(test)]
+mod tests;

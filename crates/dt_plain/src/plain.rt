@@ -27,7 +27,7 @@ impl Model for PlainSched {
 }
 
 /// So many empty logs.
-fn empty_logs(alloc: Global, regions: u8) -> Result<Vec<Listed<Part>>, NoMemory>
+pub fn empty_logs(alloc: Global, regions: u8) -> Result<Vec<Listed<Part>>, NoMemory>
     ensures { IfOk result (λ logs. logs.items ≡ replicate regions []) }
 {
     let mut logs = Vec::new(alloc);

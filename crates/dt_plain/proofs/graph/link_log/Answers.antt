@@ -1,4 +1,3 @@
-use Rattle.std.proofs.Common.{arith}
 use Rattle.dt_plain.proofs.Scan.{take-at}
 use Rattle.dt_plain.proofs.Edges.{log_linked}
 use Rattle.dt_plain.proofs.graph.link_log.Goals as goal
