@@ -1,5 +1,5 @@
 -- Words on lists, each by recursion on the list. std's `Any`, `All` and `Contains` say the same by index.
-use Rattle.std.specs.Prelude.{◌≡◌, ℕ, ◌+◌, ◌⊎◌, List, [], ◌∷◌, ◌++◌, get_or, set, map}
+use Rattle.std.specs.Prelude.{◌≡◌, ◌⊎◌, List, [], ◌∷◌, ◌++◌}
 
 -- some item of the list has P
 abbrev pub AnyIn : {A : Type 0} → (A → Type 0) → List A → Type 0
@@ -19,6 +19,10 @@ SomeThen R (x ∷ xs) = AnyIn (R x) xs ⊎ SomeThen R xs
 -- the item stands in the list
 abbrev pub Has : {A : Type 0} → List A → A → Type 0
 Has xs x = AnyIn (λ y. y ≡ x) xs
+
+-- each item of the one list is in the other
+abbrev pub IsWithin : {A : Type 0} → List A → List A → Type 0
+IsWithin xs ys = AllIn (Has ys) xs
 
 -- R relates each item to each one that stands later in the list
 abbrev pub EachThen : {A : Type 0} → (A → A → Type 0) → List A → Type 0

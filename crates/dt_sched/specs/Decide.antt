@@ -1,7 +1,7 @@
-use Rattle.std.specs.Prelude.{◌≡◌, ◌≢◌, ◌⊎◌, ◌≤◌, ℕ, List, length}
-use Rattle.dt_lists.specs.Lists.{AllIn, Has}
+use Rattle.std.specs.Prelude.{◌⊎◌, ◌≤◌, List, length}
+use Rattle.dt_lists.specs.Lists.{AllIn, Has, EachThen, Distinct}
 use Rattle.dt_access.specs.declared.TxnId.{TxnId}
-use Rattle.dt_sched.specs.Views.{View, Reaches, IsComplete, IsClosed, Precedes, IsClass}
+use Rattle.dt_sched.specs.Views.{View, Reaches, IsComplete, IsClosed, Precedes, IsClass, IsWellFormed}
 
 -- t may be executed at a region that inserted this view, resolved these classes and has done these ids
 pub record IsExecutable (view : View) (resolved : List (List TxnId)) (done : List TxnId) (t : TxnId) : Type 0 where
@@ -26,3 +26,27 @@ pub record IsResolvable (view : View) (resolved : List (List TxnId)) (done : Lis
   pub unresolved : ¬ (Has resolved ids)
   -- everything outside that reaches it has run
   pub before : (u t : TxnId) → Has ids t → Reaches view u t → Has ids u ⊎ Has done u
+
+-- nothing is left to do for a region that inserted this view, resolved these classes and has done these ids
+pub record HasNothingToDo (view : View) (resolved : List (List TxnId)) (done : List TxnId) : Type 0 where
+  pub none_executable : (t : TxnId) → ¬ (IsExecutable view resolved done t)
+  pub none_resolvable : (ids : List TxnId) → ¬ (IsResolvable view resolved done ids)
+
+-- all that precedes a done id is done
+abbrev pub IsDownward : View → List TxnId → Type 0
+IsDownward view done = (u t : TxnId) → Has done t → Precedes view u t → Has done u
+
+-- what a region keeps true, which inserted this view, resolved these classes and has done these ids
+pub record IsSound (view : View) (resolved : List (List TxnId)) (done : List TxnId) : Type 0 where
+  pub well_formed : IsWellFormed view
+  -- what is done was done once, and is closed
+  pub done_once : Distinct done
+  pub done_closed : AllIn (IsClosed view) done
+  -- all that precedes a done id was done before it
+  pub done_downward : IsDownward view done
+  pub done_in_order : EachThen (λ t later. ¬ (Precedes view later t)) done
+  -- what is resolved was resolved once, and is the class of each of its members, which are at least two and closed
+  pub resolved_once : Distinct resolved
+  pub resolved_several : AllIn (λ ids. 2 ≤ length ids) resolved
+  pub resolved_closed : AllIn (AllIn (IsClosed view)) resolved
+  pub resolved_classes : AllIn (λ ids. AllIn (λ t. IsClass view t ids) ids) resolved

@@ -1,4 +1,4 @@
-use Rattle.std.specs.Prelude.{◌≡◌, ◌≢◌, ◌⊎◌, ◌↔◌, ℕ, List, [], ◌∷◌, get_or, map, true}
+use Rattle.std.specs.Prelude.{◌≡◌, ◌≢◌, ◌⊎◌, ◌↔◌, ℕ, List, [], get_or, map, length, true}
 use Rattle.dt_lists.specs.Lists.{AnyIn, AllIn, SomeThen, Has, IsFront, Pairwise, Distinct}
 use Rattle.dt_access.specs.Ids.{Before, AreAscending}
 use Rattle.dt_access.specs.Clash.{clash}
@@ -25,9 +25,13 @@ HasPart log t = AnyIn (λ p. p.id ≡ t) log
 abbrev pub IsLonger : View → View → Type 0
 IsLonger short long = Pairwise IsFront short long
 
+-- p is a part of u, q is a part of t, and they clash
+abbrev pub AreClashing : TxnId → TxnId → Part → Part → Type 0
+AreClashing u t p q = (p.id ≡ u) × (q.id ≡ t) × (clash p.keys q.keys ≡ true)
+
 -- there is an edge from u to t: they differ, and in some log u's part stands before t's part and clashes with it
 abbrev pub Edge : View → TxnId → TxnId → Type 0
-Edge view u t = (u ≢ t) × AnyIn (SomeThen (λ p q. (p.id ≡ u) × (q.id ≡ t) × (clash p.keys q.keys ≡ true))) view
+Edge view u t = (u ≢ t) × AnyIn (SomeThen (AreClashing u t)) view
 
 -- a chain of steps leads from one thing to another, or they are the same
 pub data Chain {A : Type 0} (Step : A → A → Type 0) : A → A → Type 0 where
@@ -38,9 +42,17 @@ pub data Chain {A : Type 0} (Step : A → A → Type 0) : A → A → Type 0 whe
 abbrev pub Reaches : View → TxnId → TxnId → Type 0
 Reaches view u t = Chain (Edge view) u t
 
+-- t has a part in the view
+abbrev pub IsPresent : View → TxnId → Type 0
+IsPresent view t = AnyIn (λ log. HasPart log t) view
+
+-- t has a part at each of the homes
+abbrev pub HasParts : View → List ℕ → TxnId → Type 0
+HasParts view homes t = AllIn (λ home. HasPart (log_at view home) t) homes
+
 -- t is complete: it has a part in the view, and a part at each of its homes
 abbrev pub IsComplete : View → TxnId → Type 0
-IsComplete view t = AnyIn (AnyIn (λ p. (p.id ≡ t) × AllIn (λ home. HasPart (log_at view home) t) p.homes)) view
+IsComplete view t = AnyIn (AnyIn (λ p. (p.id ≡ t) × HasParts view p.homes t)) view
 
 -- t is closed: everything that reaches it is complete
 abbrev pub IsClosed : View → TxnId → Type 0
@@ -65,3 +77,17 @@ pub record IsWellFormed (view : View) : Type 0 where
   pub once : (home : ℕ) → Distinct (ids_of (log_at view home))
   pub homed : (home : ℕ) → AllIn (λ p. (p.home ≡ home) × Has p.homes home) (log_at view home)
   pub alike : (home other : ℕ) → AllIn (λ p. AllIn (λ q. p.id ≡ q.id → p.homes ≡ q.homes) (log_at view other)) (log_at view home)
+
+-- each transaction of the view has one home
+abbrev pub HasOneHomeEach : View → Type 0
+HasOneHomeEach view = AllIn (AllIn (λ p. length p.homes ≡ 1)) view
+
+-- t stands alike in both views: it is closed in the longer one too, and has in both the same edges into it, the same
+-- ids that reach it, the same class and the same preceders
+pub record StandsAlike (short long : View) (t : TxnId) : Type 0 where
+  pub closed : IsClosed long t
+  pub edges : (u : TxnId) → Edge short u t ↔ Edge long u t
+  pub reaching : (u : TxnId) → Reaches short u t ↔ Reaches long u t
+  pub both_ways : (u : TxnId) → Mutual short u t ↔ Mutual long u t
+  pub class : (ids : List TxnId) → IsClass short t ids ↔ IsClass long t ids
+  pub preceders : (u : TxnId) → Precedes short u t ↔ Precedes long u t

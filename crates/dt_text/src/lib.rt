@@ -1,10 +1,31 @@
 //! Texts: keys, names, values and numbers, each with its one spelling.
 #![tactic(auto)]
 
+mod errors;
+mod key;
+mod laws;
+mod lines;
 mod listed;
+mod name;
 mod no_memory;
-mod stub;
-pub use stub::{Key, Name, Str, Value};
+mod numbers;
+mod printed;
+mod text;
+mod value;
+mod word;
 
+pub use errors::{KeyError, StrError};
+pub use key::Key;
+pub use laws::{numbers_have_one_spelling, printed_texts_read_back, words_are_exact};
+pub use lines::{Line, Lines};
 pub use listed::Listed;
+pub use name::Name;
 pub use no_memory::NoMemory;
+pub use numbers::{put_i64, put_u64, read_i64, read_u32};
+pub use printed::{put_text, put_value};
+pub use text::Str;
+pub use value::Value;
+pub use word::{Word, Words, words};
+
+#[cfg(test)]
+mod tests;

@@ -1,3 +1,6 @@
+ghost use Rattle.std.proofs.Common.{rules};
+ghost use Rattle.std.specs.Cmp.Lexicographic.{pointwise};
+ghost use Rattle.std.specs.Cmp.Rules.{comparing};
 ghost use Rattle.std.specs.Prelude.{◌≡◌, ◌↔◌, [], ◌∷◌, ◌++◌, List, length, IsTrue, OnOk, OnErr, option_to_list};
 
 use crate::no_memory::NoMemory;
@@ -5,7 +8,7 @@ use std::alloc::Global;
 use std::marker::Model;
 
 /// A list. Contracts see the items in order and nothing else: neither room nor where it lies.
-#[derive(Drop)]
+#[derive(Debug, Drop)]
 pub struct Listed<X> {
     items: Vec<X>,
 }
@@ -79,4 +82,18 @@ impl<X> Listed<X> {
     {
         self.items.is_empty()
     }
+}
+
+impl<X: PartialEq> PartialEq for Listed<X> {
+    ghost eq = { pointwise X.eq };
+
+    ghost laws = { Prim.search (comparing, rules) };
+
+    fn eq(&self, other: &Self) -> bool {
+        self.items.as_slice() == other.items.as_slice()
+    }
+}
+
+impl<X: Eq> Eq for Listed<X> {
+    ghost laws = { Prim.search (comparing, rules) };
 }

@@ -1,0 +1,6 @@
+use Rattle.std.specs.Prelude.{ℕ, []}
+use Rattle.dt_cluster.specs.declared.Cluster.{Cluster}
+
+-- the built-in cluster of so many regions: four workers, three tries, nothing lost or repeated, no homes and rows listed
+abbrev pub builtin_cluster : ℕ → Cluster
+builtin_cluster regions = record { regions = regions; workers = 4; tries = 3; drop = 0; repeat = 0; homes = []; rows = [] }

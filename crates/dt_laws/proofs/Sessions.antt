@@ -1,0 +1,66 @@
+-- The places of sessions: one is looked up by its name and region, and one is changed.
+use Rattle.std.proofs.Common.{◌≡◌, ◌≢◌, ◌<◌, ◌≤◌, ◌⊎◌, ℕ, zero, suc, Bool, true, false, cond, eqb, ◌&&◌, List, [], ◌∷◌, ◌++◌, length, map, Some, None, refl, sym, ap, subst, ◌∙◌, inl, inr, arith}
+use Rattle.std.specs.Prelude.{Option}
+use Rattle.std.specs.Cmp.Lexicographic.{bytes_decides}
+use Rattle.std.proofs.lemmas.Bool.{cases_Bool}
+use Rattle.std.proofs.lemmas.Option.{some_pair_parts}
+use Rattle.dt_lists.specs.Lists.{AnyIn, AllIn, Has, Distinct, Pairwise}
+use Rattle.dt_lists.proofs.Words.{has_map, all_get}
+use Rattle.dt_access.specs.Clash.{Bytes, same_key}
+use Rattle.dt_workload.specs.declared.Session.{Session}
+use Rattle.dt_session.specs.World.{Place, is_session, session_at, with_place}
+use Rattle.dt_laws.proofs.Ids.{equal_of_test}
+
+both_true : (a b : Bool) → (a && b) ≡ true → (a ≡ true) × (b ≡ true)
+both_true true b e = (refl, e)
+both_true false b e = cc
+
+pub key_of_test : (a b : Bytes) → same_key a b ≡ true → a ≡ b
+key_of_test a b e = (bytes_decides a b).0 e
+
+pub test_of_key : (a b : Bytes) → a ≡ b → same_key a b ≡ true
+test_of_key a b e = (bytes_decides a b).1 e
+
+pub session_of_test : (region : ℕ) (name : Bytes) (s : Session) → is_session region name s ≡ true → (s.name ≡ name) × (s.region ≡ region)
+session_of_test region name s e =
+    let r : (same_key s.name name ≡ true) × (eqb s.region region ≡ true) = both_true (same_key s.name name) (eqb s.region region) e in
+    (key_of_test s.name name r.0, equal_of_test s.region region r.1)
+
+-- the session that is found has the name and the region, and what holds of all sessions with their places holds of it
+pub session_found : (P : Session → Place → Type 0) (sessions : List Session) (places : List Place) (region : ℕ) (name : Bytes) (s : Session) (p : Place) → Pairwise P sessions places → session_at sessions places region name ≡ Some (s, p) → Has sessions s × (s.name ≡ name) × (s.region ≡ region) × P s p
+session_found P [] places region name s p a e = cc
+session_found P (t ∷ sessions) [] region name s p a e = absurd a
+session_found P (t ∷ sessions) (x ∷ places) region name s p a e = go (cases_Bool (is_session region name t)) (session_found P sessions places region name s p a.1)
+  where
+    go : (is_session region name t ≡ true) ⊎ (is_session region name t ≡ false) → (session_at sessions places region name ≡ Some (s, p) → Has sessions s × (s.name ≡ name) × (s.region ≡ region) × P s p) → Has (t ∷ sessions) s × (s.name ≡ name) × (s.region ≡ region) × P s p
+    go (inl q) f =
+        let is : ◌≡◌ {A = Option (Session × Place)} (Some (t, x)) (Some (s, p)) = rw q at e in
+        let st : t ≡ s = (some_pair_parts t s x p is).0 in
+        let xp : x ≡ p = (some_pair_parts t s x p is).1 in
+        let r : (t.name ≡ name) × (t.region ≡ region) = session_of_test region name t q in
+        (inl st, ap (λ y. y.name) (sym st) ∙ r.0, ap (λ y. y.region) (sym st) ∙ r.1, subst (λ y. P s y) xp (subst (λ y. P y x) st a.0))
+    go (inr n) f = let r : Has sessions s × (s.name ≡ name) × (s.region ≡ region) × P s p = f (rw n at e) in (inr r.0, r.1, r.2, r.3)
+
+-- the place of the session that is found is changed, and of the others only what holds of other names
+pub place_changed : (P Q : Session → Place → Type 0) (sessions : List Session) (places : List Place) (region : ℕ) (name : Bytes) (s : Session) (p place : Place)
+    → Distinct (map (λ t. t.name) sessions) → Q s place → ((t : Session) (x : Place) → t.name ≢ s.name → P t x → Q t x)
+    → Pairwise P sessions places → session_at sessions places region name ≡ Some (s, p) → Pairwise Q sessions (with_place sessions places region name place)
+place_changed P Q [] places region name s p place once q others a e = cc
+place_changed P Q (t ∷ sessions) [] region name s p place once q others a e = absurd a
+place_changed P Q (t ∷ sessions) (x ∷ places) region name s p place once q others a e = go (cases_Bool (is_session region name t)) (place_changed P Q sessions places region name s p place once.1 q others a.1)
+  where
+    rest : (sessions : List Session) (places : List Place) → ((u : Session) → Has sessions u → u.name ≢ s.name) → Pairwise P sessions places → Pairwise Q sessions places
+    rest [] [] n b = tt
+    rest [] (y ∷ ys) n b = b
+    rest (u ∷ us) [] n b = b
+    rest (u ∷ us) (y ∷ ys) n b = (others u y (n u (inl refl)) b.0, rest us ys (λ v h. n v (inr h)) b.1)
+
+    go : (is_session region name t ≡ true) ⊎ (is_session region name t ≡ false) → (session_at sessions places region name ≡ Some (s, p) → Pairwise Q sessions (with_place sessions places region name place)) → Pairwise Q (t ∷ sessions) (with_place (t ∷ sessions) (x ∷ places) region name place)
+    go (inl y) f =
+        let is : ◌≡◌ {A = Option (Session × Place)} (Some (t, x)) (Some (s, p)) = rw y at e in
+        let st : t ≡ s = (some_pair_parts t s x p is).0 in
+        rw y (subst (λ u. Q u place) (sym st) q, rest sessions places (λ u h same. all_get _ (map (λ v. v.name) sessions) once.0 u.name (has_map (λ v. v.name) sessions u h) (ap (λ v. v.name) st ∙ sym same)) a.1)
+    go (inr n) f =
+        let is : session_at sessions places region name ≡ Some (s, p) = rw n at e in
+        let r : Has sessions s × (s.name ≡ name) × (s.region ≡ region) × P s p = session_found P sessions places region name s p a.1 is in
+        rw n (others t x (λ same. all_get _ (map (λ v. v.name) sessions) once.0 s.name (has_map (λ v. v.name) sessions s r.0) same) a.0, f is)

@@ -1,0 +1,11 @@
+pub mod Words
+pub mod Distinct
+pub mod Keys
+pub mod Fronts
+pub mod Tests
+pub mod Decided
+pub mod Least
+pub mod Ascending
+pub mod Before
+pub mod Filters
+pub mod Places

@@ -1,0 +1,168 @@
+-- Lists by place: an item is put in or added at the end; and what is said of a list by its last item.
+use Rattle.std.proofs.Common.{◌≡◌, ◌≢◌, ◌<◌, ◌≤◌, ◌+◌, ◌⊎◌, ◌∙◌, ℕ, zero, suc, Bool, true, false, cond, List, [], ◌∷◌, ◌++◌, length, get_or, set, map, flat_map, slice_get, Some, None, refl, sym, ap, ap₂, subst, inl, inr, append_assoc, append-nil, arith}
+use Rattle.std.specs.Prelude.{filter, Option}
+use Rattle.std.proofs.lemmas.Bool.{cases_Bool}
+use Rattle.dt_lists.specs.Lists.{AnyIn, AllIn, SomeThen, Has, EachThen, Distinct}
+use Rattle.dt_lists.proofs.Words.{any_map, any_get, any_put, any_append, any_append_left, any_append_right, all_append, all_get, all_put, each_append}
+
+-- what holds of the empty list, and with each list of the list with one more item at its end, holds of all lists
+pub from_right : {A : Type 0} (P : List A → Type 0) → P [] → ((xs : List A) (x : A) → P xs → P (xs ++ x ∷ [])) → (xs : List A) → P xs
+from_right {A = A} P none more xs = go [] xs none
+  where
+    go : (front rest : List A) → P front → P (front ++ rest)
+    go front [] p = subst P (sym (append-nil front)) p
+    go front (x ∷ rest) p = subst P (append_assoc front (x ∷ []) rest) (go (front ++ x ∷ []) rest (more front x p))
+
+-- what an item that is put in has in common with the one before
+
+pub field_of_set : {A B : Type 0} (f : A → B) (xs : List A) (i : ℕ) (x d : A) → f x ≡ f (get_or xs i d) → (j : ℕ) → f (get_or (set xs i x) j d) ≡ f (get_or xs j d)
+field_of_set f [] i x d e j = refl
+field_of_set f (y ∷ ys) zero x d e zero = e
+field_of_set f (y ∷ ys) zero x d e (suc j) = refl
+field_of_set f (y ∷ ys) (suc i) x d e zero = refl
+field_of_set f (y ∷ ys) (suc i) x d e (suc j) = field_of_set f ys i x d e j
+
+pub map_of_set : {A B : Type 0} (f : A → B) (xs : List A) (i : ℕ) (x d : A) → f x ≡ f (get_or xs i d) → map f (set xs i x) ≡ map f xs
+map_of_set f [] i x d e = refl
+map_of_set f (y ∷ ys) zero x d e = ap (λ z. z ∷ map f ys) e
+map_of_set f (y ∷ ys) (suc i) x d e = ap (λ zs. f y ∷ zs) (map_of_set f ys i x d e)
+
+pub flat_map_of_set : {A B : Type 0} (f : A → List B) (xs : List A) (i : ℕ) (x d : A) → f x ≡ f (get_or xs i d) → flat_map f (set xs i x) ≡ flat_map f xs
+flat_map_of_set f [] i x d e = refl
+flat_map_of_set f (y ∷ ys) zero x d e = ap (λ z. z ++ flat_map f ys) e
+flat_map_of_set f (y ∷ ys) (suc i) x d e = ap (λ zs. f y ++ zs) (flat_map_of_set f ys i x d e)
+
+pub get_of_map : {A B : Type 0} (f : A → B) (xs : List A) (i : ℕ) (d : A) → get_or (map f xs) i (f d) ≡ f (get_or xs i d)
+get_of_map f [] i d = refl
+get_of_map f (y ∷ ys) zero d = refl
+get_of_map f (y ∷ ys) (suc i) d = get_of_map f ys i d
+
+-- what holds of the item that is put in and of each item, holds of each item then
+pub each_of_set : {A : Type 0} (P : ℕ → A → Type 0) (xs : List A) (i : ℕ) (x d : A) → P i x → ((j : ℕ) → j < length xs → P j (get_or xs j d)) → (j : ℕ) → j < length xs → P j (get_or (set xs i x) j d)
+each_of_set P [] i x d p all j lt = absurd (omega arith)
+each_of_set P (y ∷ ys) zero x d p all zero lt = p
+each_of_set P (y ∷ ys) zero x d p all (suc j) lt = all (suc j) lt
+each_of_set P (y ∷ ys) (suc i) x d p all zero lt = all zero lt
+each_of_set P (y ∷ ys) (suc i) x d p all (suc j) lt = each_of_set (λ k. P (suc k)) ys i x d p (λ k l. all (suc k) (omega arith)) j (omega arith)
+
+-- items by place
+
+pub place_of : {A : Type 0} (xs : List A) (x : A) → Has xs x → (i : ℕ) × (slice_get xs i ≡ Some x)
+place_of [] x h = absurd h
+place_of (y ∷ ys) x (inl e) = (zero, ap Some e)
+place_of (y ∷ ys) x (inr h) = let r : (i : ℕ) × (slice_get ys i ≡ Some x) = place_of ys x h in (suc r.0, r.1)
+
+pub has_place : {A : Type 0} (xs : List A) (i : ℕ) (x : A) → slice_get xs i ≡ Some x → Has xs x
+has_place [] i x e = cc
+has_place (y ∷ ys) zero x e = inl (cc)
+has_place (y ∷ ys) (suc i) x e = inr (has_place ys i x e)
+
+pub place_within : {A : Type 0} (xs : List A) (i : ℕ) (x : A) → slice_get xs i ≡ Some x → i < length xs
+place_within [] i x e = cc
+place_within (y ∷ ys) zero x e = omega arith
+place_within (y ∷ ys) (suc i) x e = let r : i < length ys = place_within ys i x e in omega arith
+
+pub at_place : {A : Type 0} (xs : List A) (i : ℕ) → i < length xs → (x : A) × (slice_get xs i ≡ Some x)
+at_place [] i lt = absurd (omega arith)
+at_place (y ∷ ys) zero lt = (y, refl)
+at_place (y ∷ ys) (suc i) lt = at_place ys i (omega arith)
+
+pub place_in_longer : {A : Type 0} (xs ys : List A) (i : ℕ) (x : A) → slice_get xs i ≡ Some x → slice_get (xs ++ ys) i ≡ Some x
+place_in_longer [] ys i x e = cc
+place_in_longer (z ∷ zs) ys zero x e = e
+place_in_longer (z ∷ zs) ys (suc i) x e = place_in_longer zs ys i x e
+
+pub place_of_last : {A : Type 0} (xs : List A) (y : A) → slice_get (xs ++ y ∷ []) (length xs) ≡ Some y
+place_of_last [] y = refl
+place_of_last (z ∷ zs) y = place_of_last zs y
+
+-- an item of a list with one more at its end is one of the list, or the last one
+pub place_in_more : {A : Type 0} (xs : List A) (y : A) (i : ℕ) (x : A) → slice_get (xs ++ y ∷ []) i ≡ Some x → (slice_get xs i ≡ Some x) ⊎ ((i ≡ length xs) × (y ≡ x))
+place_in_more [] y zero x e = inr (refl, cc)
+place_in_more [] y (suc i) x e = cc
+place_in_more (z ∷ zs) y zero x e = inl e
+place_in_more (z ∷ zs) y (suc i) x e = elim (place_in_more zs y i x e) [ inl l ↦ inl l | inr r ↦ inr (ap suc r.0, r.1) ]
+
+-- a list with one more item at its end
+
+pub all_more : {A : Type 0} (P : A → Type 0) (xs : List A) (x : A) → AllIn P xs → P x → AllIn P (xs ++ x ∷ [])
+all_more P xs x a p = all_append P xs (x ∷ []) a (p, tt)
+
+pub each_more : {A : Type 0} (R : A → A → Type 0) (xs : List A) (x : A) → EachThen R xs → AllIn (λ y. R y x) xs → EachThen R (xs ++ x ∷ [])
+each_more R [] x e a = (tt, tt)
+each_more R (y ∷ ys) x e a = (all_more (R y) ys x e.0 a.0, each_more R ys x e.1 a.1)
+
+pub has_more : {A : Type 0} (xs : List A) (x y : A) → Has (xs ++ x ∷ []) y → Has xs y ⊎ (x ≡ y)
+has_more xs x y h = elim (any_append _ xs (x ∷ []) h) [ inl l ↦ inl l | inr r ↦ elim r [ inl e ↦ inr e | inr f ↦ absurd f ] ]
+
+pub has_last : {A : Type 0} (xs : List A) (x : A) → Has (xs ++ x ∷ []) x
+has_last xs x = any_append_right (λ y. y ≡ x) xs (x ∷ []) (inl refl)
+
+pub has_longer : {A : Type 0} (xs ys : List A) (x : A) → Has xs x → Has (xs ++ ys) x
+has_longer xs ys x h = any_append_left (λ y. y ≡ x) xs ys h
+
+-- joined lists
+
+pub any_in_joined : {A B : Type 0} (P : B → Type 0) (f : A → List B) (xs : List A) → AnyIn P (flat_map f xs) → AnyIn (λ x. AnyIn P (f x)) xs
+any_in_joined P f [] e = e
+any_in_joined P f (x ∷ xs) e = elim (any_append P (f x) (flat_map f xs) e) [ inl l ↦ inl l | inr r ↦ inr (any_in_joined P f xs r) ]
+
+pub any_of_joined : {A B : Type 0} (P : B → Type 0) (f : A → List B) (xs : List A) → AnyIn (λ x. AnyIn P (f x)) xs → AnyIn P (flat_map f xs)
+any_of_joined P f [] e = e
+any_of_joined P f (x ∷ xs) (inl p) = any_append_left P (f x) (flat_map f xs) p
+any_of_joined P f (x ∷ xs) (inr e) = any_append_right P (f x) (flat_map f xs) (any_of_joined P f xs e)
+
+-- filters
+
+cond_list : {A : Type 0} (P : List A → Type 0) (b : Bool) (xs ys : List A) → (b ≡ true → P xs) → (b ≡ false → P ys) → P (cond b xs ys)
+cond_list P true xs ys f g = f refl
+cond_list P false xs ys f g = g refl
+
+pub has_filtered : {A : Type 0} (test : A → Bool) (xs : List A) (x : A) → Has xs x → test x ≡ true → Has (filter test xs) x
+has_filtered test [] x h t = h
+has_filtered test (y ∷ ys) x (inl e) t = cond_list (λ l. Has l x) (test y) (y ∷ filter test ys) (filter test ys) (λ p. inl e) (λ n. cc (ap test e))
+has_filtered test (y ∷ ys) x (inr h) t =
+    let r : Has (filter test ys) x = has_filtered test ys x h t in
+    cond_list (λ l. Has l x) (test y) (y ∷ filter test ys) (filter test ys) (λ p. inr r) (λ n. r)
+
+pub all_filtered : {A : Type 0} (P : A → Type 0) (test : A → Bool) (xs : List A) → AllIn P xs → AllIn P (filter test xs)
+all_filtered P test [] a = tt
+all_filtered P test (y ∷ ys) a =
+    let r : AllIn P (filter test ys) = all_filtered P test ys a.1 in
+    cond_list (AllIn P) (test y) (y ∷ filter test ys) (filter test ys) (λ p. (a.0, r)) (λ n. r)
+
+pub each_filtered : {A : Type 0} (R : A → A → Type 0) (test : A → Bool) (xs : List A) → EachThen R xs → EachThen R (filter test xs)
+each_filtered R test [] a = tt
+each_filtered R test (y ∷ ys) a =
+    let r : EachThen R (filter test ys) = each_filtered R test ys a.1 in
+    cond_list (EachThen R) (test y) (y ∷ filter test ys) (filter test ys) (λ p. (all_filtered (R y) test ys a.0, r)) (λ n. r)
+
+pub has_of_filtered : {A : Type 0} (test : A → Bool) (xs : List A) (x : A) → Has (filter test xs) x → Has xs x × (test x ≡ true)
+has_of_filtered test [] x h = absurd h
+has_of_filtered test (y ∷ ys) x h = go (cases_Bool (test y)) (has_of_filtered test ys x) h
+  where
+    go : (test y ≡ true) ⊎ (test y ≡ false) → (Has (filter test ys) x → Has ys x × (test x ≡ true)) → Has (filter test (y ∷ ys)) x → Has (y ∷ ys) x × (test x ≡ true)
+    go (inl p) f h = at (rw p at h)
+      where
+        at : Has (y ∷ filter test ys) x → Has (y ∷ ys) x × (test x ≡ true)
+        at (inl e) = (inl e, sym (ap test e) ∙ p)
+        at (inr k) = let r : Has ys x × (test x ≡ true) = f k in (inr r.0, r.1)
+    go (inr n) f h = let r : Has ys x × (test x ≡ true) = f (rw n at h) in (inr r.0, r.1)
+
+-- what is distinct in a filtered list, for each test, is distinct
+pub distinct_by_key : {A B : Type 0} (same : B → A → Bool) (key : A → B) (xs : List A) → ((x : A) → same (key x) x ≡ true) → ((b : B) → Distinct (filter (same b) xs)) → Distinct xs
+distinct_by_key same key [] self d = tt
+distinct_by_key same key (x ∷ xs) self d = (all_put _ xs (λ y h e. twice y h e), distinct_by_key same key xs self (λ b. rest b))
+  where
+    head_of : Distinct (filter (same (key x)) (x ∷ xs)) → Distinct (x ∷ filter (same (key x)) xs)
+    head_of h = rw (self x) at h
+
+    twice : (y : _) → Has xs y → x ≡ y → ⊥
+    twice y h e = all_get _ (filter (same (key x)) xs) (head_of (d (key x))).0 y (has_filtered (same (key x)) xs y h (subst (λ z. same (key x) z ≡ true) e (self x))) e
+
+    rest : (b : _) → Distinct (filter (same b) xs)
+    rest b = go (cases_Bool (same b x)) (d b)
+      where
+        go : (same b x ≡ true) ⊎ (same b x ≡ false) → Distinct (filter (same b) (x ∷ xs)) → Distinct (filter (same b) xs)
+        go (inl p) h = (rw p at h).1
+        go (inr n) h = rw n at h

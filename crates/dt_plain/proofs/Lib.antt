@@ -1,0 +1,10 @@
+pub mod Scan
+pub mod Same
+pub mod Growth
+pub mod Walk
+pub mod Edges
+pub mod Order
+pub mod Shared
+pub mod Present
+pub mod Decided
+pub mod Choice

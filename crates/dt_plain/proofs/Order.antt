@@ -1,0 +1,131 @@
+-- Ids in ascending order: what a sort gives, and lists that are compared.
+use Rattle.std.proofs.Common.{◌≡◌, ◌≢◌, ◌∙◌, ℕ, zero, suc, ◌+◌, ◌<◌, ◌≤◌, ◌⊎◌, ◌↔◌, Bool, true, false, ◌&&◌, List, [], ◌∷◌, ◌++◌, length, get_or, take, refl, sym, ap, subst, inl, inr, arith, eqb, IsTrue, IsPermutation, IsSorted, add-one}
+use Rattle.std.specs.Ordering.{nat_cmp, ordering_then, is_lt}
+use Rattle.std.specs.Cmp.{nat_cmp_is}
+use Rattle.std.specs.declared.cmp.Ordering.{Ordering}
+use Rattle.std.specs.declared.cmp.Ordering.TheVariants.{Less, Equal, Greater}
+use Rattle.std.specs.List.{IsDistinct, list_any}
+use Rattle.std.specs.Cmp.Lexicographic.{pointwise}
+use Rattle.std.proofs.lemmas.Map.Keys.{IsDistinct-IsPermutation}
+use Rattle.std.proofs.lemmas.List.Sorted.{list_any-IsPermutation}
+use Rattle.std.proofs.lemmas.Bool.Decides.{nat_tests}
+use Rattle.dt_lists.specs.Lists.{AnyIn, AllIn, Has, EachThen, Distinct}
+use Rattle.dt_lists.proofs.Words.{any_map, all_map, all_get, all_put}
+use Rattle.dt_lists.proofs.Tests.{any_of_test, test_of_any}
+use Rattle.dt_access.specs.Ids.{Before, AreAscending, same_id}
+use Rattle.dt_access.specs.declared.TxnId.{TxnId}
+use Rattle.dt_sched.proofs.Ids.{before_total, before_transitive, same_by_parts}
+use Rattle.dt_plain.proofs.Same.{ids_same, ids_differ}
+use Rattle.dt_plain.specs.Deciding.{IsOrderOf}
+
+-- the order in which a sort compares ids
+abbrev pub by_parts : TxnId → TxnId → Ordering
+by_parts a b = ordering_then (nat_cmp a.seq b.seq) (nat_cmp a.region b.region)
+
+less : (m n : ℕ) → m < n → nat_cmp m n ≡ Less
+less m n h = sym (nat_cmp_is m n Less h)
+
+same_number : (n : ℕ) → nat_cmp n n ≡ Equal
+same_number n = sym (nat_cmp_is n n Equal refl)
+
+before_less : (a b : TxnId) → Before a b → is_lt (by_parts a b) ≡ true
+before_less a b (inl h) = rw (less a.seq b.seq h) refl
+before_less a b (inr h) = rw (h.0, same_number b.seq, less a.region b.region h.1) refl
+
+-- a test that is passed just by one id
+same_to_self : (a : TxnId) → same_id a a ≡ true
+same_to_self a = grind (arith, nat_tests)
+
+pub test_same : (a b : TxnId) → a ≡ b → same_id a b ≡ true
+test_same a b e = subst (λ c. same_id a c ≡ true) e (same_to_self a)
+
+test_differs : (a b : TxnId) → ¬ (a ≡ b) → same_id a b ≡ false
+test_differs a b n = at (same_id a b) refl
+  where
+    at : (t : Bool) → t ≡ same_id a b → same_id a b ≡ false
+    at true e = absurd (n (ids_same a b (same_id a b) refl (sym e)))
+    at false e = sym e
+
+same_flips : (a b : TxnId) → same_id a b ≡ same_id b a
+same_flips a b = grind (arith, nat_tests)
+
+-- a permutation has the same ids, each as often
+has_listed : (xs : List TxnId) (u : TxnId) → Has xs u → list_any (λ x. same_id x u) xs ≡ true
+has_listed xs u h = test_of_any (λ x. same_id x u) xs (any_map _ _ xs (λ x e. test_same x u e) h)
+
+listed_has : (xs : List TxnId) (u : TxnId) → list_any (λ x. same_id x u) xs ≡ true → Has xs u
+listed_has xs u t = any_map _ _ xs (λ x e. ids_same x u _ refl e) (any_of_test (λ x. same_id x u) xs t)
+
+permuted_has : (xs ys : List TxnId) → IsPermutation xs ys → (u : TxnId) → Has ys u ↔ Has xs u
+permuted_has xs ys p u =
+    let e : list_any (λ x. same_id x u) xs ≡ list_any (λ x. same_id x u) ys = list_any-IsPermutation (λ x. same_id x u) xs ys p in
+    (λ h. listed_has xs u (e ∙ has_listed ys u h), λ h. listed_has ys u (sym e ∙ has_listed xs u h))
+
+std_distinct : (xs : List TxnId) → Distinct xs → IsDistinct same_id xs
+unfolding IsDistinct
+std_distinct [] d = tt
+std_distinct (x ∷ xs) d = (each_differs xs d.0, std_distinct xs d.1)
+  where
+    each_differs : (ys : List TxnId) → AllIn (λ y. ¬ (x ≡ y)) ys → Rattle.std.specs.List.AllByRecursion (λ y. same_id x y ≡ false) ys
+    each_differs [] a = tt
+    each_differs (y ∷ ys) a = (test_differs x y a.0, each_differs ys a.1)
+
+own_distinct : (xs : List TxnId) → IsDistinct same_id xs → Distinct xs
+unfolding IsDistinct
+own_distinct [] d = tt
+own_distinct (x ∷ xs) d = (each_apart xs d.0, own_distinct xs d.1)
+  where
+    each_apart : (ys : List TxnId) → Rattle.std.specs.List.AllByRecursion (λ y. same_id x y ≡ false) ys → AllIn (λ y. ¬ (x ≡ y)) ys
+    each_apart [] a = tt
+    each_apart (y ∷ ys) a = ((λ e. ids_differ x y _ refl a.0 e), each_apart ys a.1)
+
+permuted_distinct : (xs ys : List TxnId) → IsPermutation xs ys → Distinct xs → Distinct ys
+permuted_distinct xs ys p d = own_distinct ys (IsDistinct-IsPermutation same_id same_flips xs ys p (std_distinct xs d))
+
+-- each is not above the next
+sorted_tail : (x : TxnId) (xs : List TxnId) → IsSorted by_parts (x ∷ xs) → IsSorted by_parts xs
+sorted_tail x xs s k d low h =
+    let e : suc k + 1 ≡ suc (k + 1) = omega arith in
+    rw e at (s (suc k) d (omega arith) (omega arith))
+
+not_above : (x y : TxnId) (xs : List TxnId) → IsSorted by_parts (x ∷ y ∷ xs) → ¬ (Before y x)
+not_above x y xs s b =
+    let f : is_lt (by_parts y x) ≡ false = s 0 x (omega arith) (omega arith) in
+    let t : is_lt (by_parts y x) ≡ true = before_less y x b in
+    cc
+
+-- sorted without repeats is ascending
+sorted_ascends : (xs : List TxnId) → IsSorted by_parts xs → Distinct xs → AreAscending xs
+sorted_ascends [] s d = tt
+sorted_ascends (x ∷ []) s d = (tt, tt)
+sorted_ascends (x ∷ y ∷ ys) s d =
+    let rest : AreAscending (y ∷ ys) = sorted_ascends (y ∷ ys) (sorted_tail x (y ∷ ys) s) d.1 in
+    let first : Before x y = elim (before_total x y d.0.0) [ inl b ↦ b | inr b ↦ absurd (not_above x y ys s b) ] in
+    ((first, all_map (Before y) (Before x) ys (λ z b. before_transitive x y z first b) rest.0), rest)
+
+pub order_of_sorted : (xs ys : List TxnId) → Distinct xs → IsPermutation xs ys → IsSorted by_parts ys → IsOrderOf xs ys
+order_of_sorted xs ys d p s = record { ascending = sorted_ascends ys s (permuted_distinct xs ys p d); members = permuted_has xs ys p }
+
+-- lists that are equal item by item
+both_true : (a b : Bool) → (a && b) ≡ true → (a ≡ true) × (b ≡ true)
+both_true true true t = (refl, refl)
+both_true true false t = cc
+both_true false b t = cc
+
+pub pointwise_same : (xs ys : List TxnId) → pointwise same_id xs ys ≡ true → xs ≡ ys
+pointwise_same [] [] e = refl
+pointwise_same [] (y ∷ ys) e = cc
+pointwise_same (x ∷ xs) [] e = cc
+pointwise_same (x ∷ xs) (y ∷ ys) e =
+    let t : (same_id x y ≡ true) × (pointwise same_id xs ys ≡ true) = both_true (same_id x y) (pointwise same_id xs ys) e in
+    let h : x ≡ y = ids_same x y _ refl t.0 in
+    let r : xs ≡ ys = pointwise_same xs ys t.1 in
+    cc
+
+pointwise_self : (xs : List TxnId) → pointwise same_id xs xs ≡ true
+pointwise_self [] = refl
+pointwise_self (x ∷ xs) = rw (same_to_self x, pointwise_self xs) refl
+
+pub pointwise_tells : (xs ys : List TxnId) (t : Bool) → t ≡ pointwise same_id xs ys → IsTrue t ↔ (xs ≡ ys)
+pointwise_tells xs ys t e =
+    (λ h. pointwise_same xs ys (sym e ∙ h), λ s. e ∙ subst (λ zs. pointwise same_id xs zs ≡ true) s (pointwise_self xs))

@@ -1,0 +1,20 @@
+use Rattle.std.specs.Prelude.{◌≡◌, ◌⊎◌, ◌↔◌, List}
+use Rattle.dt_lists.specs.Lists.{AnyIn, Has, IsFront, Distinct}
+use Rattle.dt_access.specs.declared.TxnId.{TxnId}
+use Rattle.dt_sched.specs.Views.{Chain}
+use Rattle.dt_plain.specs.declared.search.Link.{Link}
+
+-- some link goes from u to t
+abbrev pub IsLinked : List Link → TxnId → TxnId → Type 0
+IsLinked links u t = AnyIn (λ l. (l.from ≡ u) × (l.to ≡ t)) links
+
+-- the list got, at its back, what the links lead to from u in one step and it didn't have
+pub record Follows (links : List Link) (u : TxnId) (old new : List TxnId) : Type 0 where
+  pub front : IsFront old new
+  pub distinct : Distinct new
+  pub members : (t : TxnId) → Has new t ↔ (Has old t ⊎ IsLinked links u t)
+
+-- the ids are what the links lead to from u, u itself with them, each once
+pub record AreReached (links : List Link) (u : TxnId) (ids : List TxnId) : Type 0 where
+  pub distinct : Distinct ids
+  pub members : (t : TxnId) → Has ids t ↔ Chain (IsLinked links) u t

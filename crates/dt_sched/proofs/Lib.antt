@@ -1,0 +1,15 @@
+pub mod Ids
+pub mod Clash
+pub mod Chains
+pub mod Longer
+pub mod Closed
+pub mod Via
+pub mod Reach
+pub mod Precedence
+pub mod Classes
+pub mod Decisions
+pub mod Staying
+pub mod OneHome
+pub mod NothingToDo
+pub mod Growing
+pub mod Sound

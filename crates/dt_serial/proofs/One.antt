@@ -1,0 +1,176 @@
+-- What one transaction sees and does: whether it is stale hangs on the next movers alone, its result on the values, and
+-- only a live one changes anything.
+use Rattle.std.proofs.Common.{◌≡◌, ◌≤◌, ◌⊎◌, ℕ, zero, suc, true, false, cond, List, [], ◌∷◌, length, map, slice_get, Some, None, refl, sym, ap, ap₂, subst, ◌∙◌, inl, inr, arith}
+use Rattle.std.specs.Prelude.{Option, option_map}
+use Rattle.std.specs.Cmp.Lexicographic.{bytes_decides}
+use Rattle.std.proofs.lemmas.Bool.{cases_Bool}
+use Rattle.dt_lists.specs.Lists.{AllIn, Has}
+use Rattle.dt_access.specs.Clash.{Bytes, same_key}
+use Rattle.dt_access.specs.declared.TxnId.{TxnId}
+use Rattle.dt_access.specs.declared.Access.{Access}
+use Rattle.dt_text.specs.declared.Value.{Value}
+use Rattle.dt_eval.specs.Meaning.{meaning}
+use Rattle.dt_eval.specs.declared.Finish.{Finish}
+use Rattle.dt_eval.specs.declared.finish.Finish.TheVariants as finish
+use Rattle.dt_table.specs.declared.Effect.{Effect}
+use Rattle.dt_table.specs.Table.{Table, Moved, value_of, moves_of, counter_of, next_mover}
+use Rattle.dt_txn.specs.declared.txn.Body.{Body}
+use Rattle.dt_txn.specs.declared.txn.Body.TheVariants.{Call, Move}
+use Rattle.dt_txn.specs.declared.txn.Txn.{Txn}
+use Rattle.dt_txn.specs.declared.outcome.Outcome.{Outcome}
+use Rattle.dt_txn.specs.declared.outcome.Outcome.TheVariants.{Gave, Stale}
+use Rattle.dt_txn.specs.Execution.{seen_of, see, stale_at, stale_of, reads_of, of_finish, result_of, unless_stale, one}
+use Rattle.dt_serial.specs.Order.{Changes, MayWrite, KeepsToKeys, IsLive, IsStale}
+use Rattle.dt_serial.proofs.Rows.{moved_on}
+
+-- next movers
+
+pub next_none : (t : Table) (key : Bytes) (c : ℕ) → next_mover t key c ≡ None → counter_of t key ≤ c
+next_none t key c e = past (moves_of t key) c e
+  where
+    past : (ms : List Moved) (c : ℕ) → option_map (λ m. m.by) (slice_get ms c) ≡ None → length ms ≤ c
+    past [] c e = omega arith
+    past (m ∷ ms) zero e = cc
+    past (m ∷ ms) (suc c) e = let r : length ms ≤ c = past ms c e in omega arith
+
+-- the move that the next mover made
+pub mover_at : (ms : List Moved) (c : ℕ) (by : TxnId) → option_map (λ m. m.by) (slice_get ms c) ≡ Some by → (m : Moved) × (slice_get ms c ≡ Some m) × (m.by ≡ by)
+mover_at ms c by e = go (slice_get ms c) refl e
+  where
+    go : (o : Option Moved) → slice_get ms c ≡ o → option_map (λ m. m.by) o ≡ Some by → (m : Moved) × (slice_get ms c ≡ Some m) × (m.by ≡ by)
+    go None f e = cc
+    go (Some m) f e = (m, f, cc)
+
+-- staleness
+
+pub stale_alike : (access : List Access) (t u : Table) → AllIn (λ a. next_mover t a.key a.counter ≡ next_mover u a.key a.counter) access → stale_of access (map (seen_of t) access) ≡ stale_of access (map (seen_of u) access)
+stale_alike [] t u all = refl
+stale_alike (a ∷ access) t u all = ap₂ (stale_at a) all.0 (stale_alike access t u all.1)
+
+stale_at_none : (a : Access) (m : Option TxnId) (later : Option Outcome) → stale_at a m later ≡ None → (m ≡ None) × (later ≡ None)
+stale_at_none a None later e = (refl, e)
+stale_at_none a (Some by) later e = cc
+
+stale_none : (access : List Access) (t : Table) → stale_of access (map (seen_of t) access) ≡ None → AllIn (λ a. next_mover t a.key a.counter ≡ None) access
+stale_none [] t e = tt
+stale_none (a ∷ access) t e = let s : (next_mover t a.key a.counter ≡ None) × (stale_of access (map (seen_of t) access) ≡ None) = stale_at_none a _ _ e in (s.0, stale_none access t s.1)
+
+-- no key of a live transaction was moved since it was annotated
+pub live_entries : (x : Txn) (t : Table) → IsLive x t → AllIn (λ a. counter_of t a.key ≤ a.counter) x.access
+live_entries x t e = go x.access (stale_none x.access t e)
+  where
+    go : (access : List Access) → AllIn (λ a. next_mover t a.key a.counter ≡ None) access → AllIn (λ a. counter_of t a.key ≤ a.counter) access
+    go [] all = tt
+    go (a ∷ access) all = (next_none t a.key a.counter all.0, go access all.1)
+
+-- the entry at which a transaction is stale
+pub record IsStaleAt (access : List Access) (t : Table) (o : Outcome) : Type 0 where
+  pub entry : Access
+  pub there : Has access entry
+  pub by : TxnId
+  pub next : next_mover t entry.key entry.counter ≡ Some by
+  pub is : o ≡ Stale entry.key entry.counter by
+
+pub stale_some : (access : List Access) (t : Table) (o : Outcome) → stale_of access (map (seen_of t) access) ≡ Some o → IsStaleAt access t o
+stale_some [] t o e = cc
+stale_some (a ∷ access) t o e = go (next_mover t a.key a.counter) refl (stale_some access t o) e
+  where
+    go : (m : Option TxnId) → next_mover t a.key a.counter ≡ m → (stale_of access (map (seen_of t) access) ≡ Some o → IsStaleAt access t o) → stale_at a m (stale_of access (map (seen_of t) access)) ≡ Some o → IsStaleAt (a ∷ access) t o
+    go None n rest e = let r : IsStaleAt access t o = rest e in record { entry = r.entry; there = inr r.there; by = r.by; next = r.next; is = r.is }
+    go (Some by) n rest e = record { entry = a; there = inl refl; by = by; next = n; is = cc }
+
+-- a transaction is live or stale
+pub live_or_stale : (x : Txn) (t : Table) → IsLive x t ⊎ IsStaleAt x.access t (one x t).0
+live_or_stale x t = go (stale_of x.access (see x t)) refl
+  where
+    go : (s : Option Outcome) → stale_of x.access (see x t) ≡ s → IsLive x t ⊎ IsStaleAt x.access t (one x t).0
+    go None e = inl e
+    go (Some o) e = inr (subst (IsStaleAt x.access t) (sym (ap (λ s. (unless_stale s (result_of x.id x.body (reads_of x.access (see x t)))).0) e)) (stale_some x.access t o e))
+
+pub live_of_outcome : (x : Txn) (t : Table) → ¬ (IsStale (one x t).0) → IsLive x t
+live_of_outcome x t n = elim (live_or_stale x t) [ inl l ↦ l | inr s ↦ absurd (n (subst IsStale (sym s.is) tt)) ]
+
+-- results
+
+pub reads_alike : (access : List Access) (t u : Table) → AllIn (λ a. value_of t a.key ≡ value_of u a.key) access → reads_of access (map (seen_of t) access) ≡ reads_of access (map (seen_of u) access)
+reads_alike [] t u all = refl
+reads_alike (a ∷ access) t u all = let head : ◌≡◌ {A = Bytes × Option Value} (a.key, value_of t a.key) (a.key, value_of u a.key) = ap (λ v. (a.key, v)) all.0 in ap₂ ◌∷◌ head (reads_alike access t u all.1)
+
+pub one_live : (x : Txn) (t : Table) → IsLive x t → one x t ≡ result_of x.id x.body (reads_of x.access (see x t))
+one_live x t e = ap (λ s. unless_stale s (result_of x.id x.body (reads_of x.access (see x t)))) e
+
+-- a transaction does alike on two tables where its keys have the same next movers and, if it is live, the same values
+pub one_alike : (x : Txn) (t u : Table) → AllIn (λ a. next_mover t a.key a.counter ≡ next_mover u a.key a.counter) x.access → (IsLive x u → AllIn (λ a. value_of t a.key ≡ value_of u a.key) x.access) → one x t ≡ one x u
+one_alike x t u movers values = go (stale_of x.access (see x u)) refl
+  where
+    same : stale_of x.access (see x t) ≡ stale_of x.access (see x u)
+    same = stale_alike x.access t u movers
+
+    go : (s : Option Outcome) → stale_of x.access (see x u) ≡ s → one x t ≡ one x u
+    go None e = one_live x t (same ∙ e) ∙ ap (result_of x.id x.body) (reads_alike x.access t u (values e)) ∙ sym (one_live x u e)
+    go (Some o) e = ap (λ s. unless_stale s (result_of x.id x.body (reads_of x.access (see x t)))) (same ∙ e) ∙ sym (ap (λ s. unless_stale s (result_of x.id x.body (reads_of x.access (see x u)))) e)
+
+-- effects
+
+change_of_result : (s : Option Outcome) (result : Outcome × Effect) (key : Bytes) → Changes (unless_stale s result).1 key → (s ≡ None) × Changes result.1 key
+change_of_result None result key c = (refl, c)
+change_of_result (Some o) result key (inl e) = absurd e
+change_of_result (Some o) result key (inr e) = absurd e
+
+-- only a live transaction changes a row, and it may write that row
+pub change_of_one : (x : Txn) (t : Table) (key : Bytes) → KeepsToKeys x → Changes (one x t).1 key → IsLive x t × MayWrite x key
+change_of_one x t key keeps c = let r : (stale_of x.access (see x t) ≡ None) × Changes (result_of x.id x.body (reads_of x.access (see x t))).1 key = change_of_result _ _ key c in (r.0, keeps _ key r.1)
+
+-- moves
+
+-- the transaction is a move of this key, and it moves the key on this table
+pub record IsMoveOf (x : Txn) (t : Table) (key : Bytes) (m : Moved) : Type 0 where
+  pub live : IsLive x t
+  pub body : x.body ≡ Move key m.target
+  pub by : x.id ≡ m.by
+  pub gave : (one x t).0 ≡ Gave []
+  pub changes : Changes (one x t).1 key
+
+of_finish_moved : (f : Finish) → (of_finish f).1.moved ≡ None
+of_finish_moved (finish.Gave values writes) = refl
+of_finish_moved (finish.Aborted cause) = refl
+
+-- what `IsMoveOf` says, of the parts of a transaction
+record IsMoveIn (id : TxnId) (body : Body) (s : Option Outcome) (reads : List (Bytes × Option Value)) (key : Bytes) (m : Moved) : Type 0 where
+  live : s ≡ None
+  is : body ≡ Move key m.target
+  by : id ≡ m.by
+  gave : (unless_stale s (result_of id body reads)).0 ≡ Gave []
+  changes : Changes (unless_stale s (result_of id body reads)).1 key
+
+move_in : (id : TxnId) (body : Body) (s : Option Outcome) (reads : List (Bytes × Option Value)) (key : Bytes) (m : Moved) → moved_on (unless_stale s (result_of id body reads)).1.moved key ≡ m ∷ [] → IsMoveIn id body s reads key m
+move_in id body (Some o) reads key m e = cc
+move_in id (Call proc args) None reads key m e = let n : moved_on (of_finish (meaning proc args reads)).1.moved key ≡ [] = ap (λ o. moved_on o key) (of_finish_moved (meaning proc args reads)) in cc
+move_in id (Move k target) None reads key m e = go (cases_Bool (same_key key k))
+  where
+    made : Moved
+    made = record { target = target; by = id }
+
+    go : (same_key key k ≡ true) ⊎ (same_key key k ≡ false) → IsMoveIn id (Move k target) None reads key m
+    go (inl y) =
+        let is : key ≡ k = (bytes_decides key k).0 y in
+        let list : made ∷ [] ≡ m ∷ [] = ap (λ b. cond b (made ∷ []) []) (sym y) ∙ e in
+        let head : made ≡ m = cc in
+        record { live = refl; is = ap₂ Move (sym is) (ap (λ x. x.target) head); by = ap (λ x. x.by) head; gave = refl; changes = inr (sym is) }
+    go (inr n) = let list : [] ≡ m ∷ [] = ap (λ b. cond b (made ∷ []) []) (sym n) ∙ e in cc
+
+pub move_of_one : (x : Txn) (t : Table) (key : Bytes) (m : Moved) → moved_on (one x t).1.moved key ≡ m ∷ [] → IsMoveOf x t key m
+move_of_one x t key m e =
+    let r : IsMoveIn x.id x.body (stale_of x.access (see x t)) (reads_of x.access (see x t)) key m = move_in x.id x.body _ _ key m e in
+    record { live = r.live; body = r.is; by = r.by; gave = r.gave; changes = r.changes }
+
+pub moved_on_cases : (o : Option (Bytes × ℕ × TxnId)) (key : Bytes) → (moved_on o key ≡ []) ⊎ ((m : Moved) × (moved_on o key ≡ m ∷ []))
+moved_on_cases None key = inl refl
+moved_on_cases (Some m) key = go (cases_Bool (same_key key m.0))
+  where
+    made : Moved
+    made = record { target = m.1; by = m.2 }
+
+    go : (same_key key m.0 ≡ true) ⊎ (same_key key m.0 ≡ false) → (moved_on (Some m) key ≡ []) ⊎ ((n : Moved) × (moved_on (Some m) key ≡ n ∷ []))
+    go (inl y) = inr (made, ap (λ b. cond b (made ∷ []) []) y)
+    go (inr n) = inl (ap (λ b. cond b (made ∷ []) []) n)

@@ -1,0 +1,32 @@
+-- A valid transaction changes only keys that it may write. Of what procedures mean, only this is used elsewhere.
+use Rattle.std.proofs.Common.{◌≡◌, ℕ, zero, List, [], ◌∷◌, refl, sym, subst, inl, inr}
+use Rattle.std.specs.Prelude.{Option}
+use Rattle.dt_lists.specs.Lists.{AnyIn}
+use Rattle.dt_lists.proofs.Words.{any_of_image}
+use Rattle.dt_access.specs.Clash.{Bytes}
+use Rattle.dt_access.specs.declared.TxnId.{TxnId}
+use Rattle.dt_access.specs.declared.Mode.TheVariants.{Write}
+use Rattle.dt_text.specs.declared.Value.{Value}
+use Rattle.dt_text.specs.declared.Value.TheVariants.{Int, Text}
+use Rattle.dt_eval.specs.Meaning.{Fits, keys_of, meaning}
+use Rattle.dt_txn.specs.declared.txn.Body.{Body}
+use Rattle.dt_txn.specs.declared.txn.Body.TheVariants.{Call, Move}
+use Rattle.dt_txn.specs.declared.txn.Txn.{Txn}
+use Rattle.dt_txn.specs.Transaction.{uses_of, BodyFits, IsValid}
+use Rattle.dt_txn.specs.Execution.{of_finish, result_of}
+use Rattle.dt_serial.specs.Order.{Changes, KeepsToKeys}
+
+-- a call whose arguments fit changes only keys that it uses in the mode for writing, whatever it reads
+pub call_keeps : (proc : ℕ) (args : List Value) (reads : List (Bytes × Option Value)) (key : Bytes) → Fits proc args → Changes (of_finish (meaning proc args reads)).1 key → AnyIn (λ u. (u.0 ≡ key) × (u.1 ≡ Write)) (keys_of proc args)
+call_keeps zero (Text k ∷ Int n ∷ []) reads key fits (inl (inl e)) = inl (e, refl)
+call_keeps zero (Text k ∷ Int n ∷ []) reads key fits (inl (inr e)) = absurd e
+call_keeps zero (Text k ∷ Int n ∷ []) reads key fits (inr e) = absurd e
+call_keeps proc args reads key fits changes = absurd fits
+
+body_keeps : (regions : ℕ) (id : TxnId) (body : Body) (reads : List (Bytes × Option Value)) (key : Bytes) → BodyFits regions body → Changes (result_of id body reads).1 key → AnyIn (λ u. (u.0 ≡ key) × (u.1 ≡ Write)) (uses_of body)
+body_keeps regions id (Call proc args) reads key fits changes = call_keeps proc args reads key fits.0 changes
+body_keeps regions id (Move k target) reads key fits (inl e) = absurd e
+body_keeps regions id (Move k target) reads key fits (inr e) = inl (e, refl)
+
+pub valid_keeps : (regions : ℕ) (x : Txn) → IsValid regions x → KeepsToKeys x
+valid_keeps regions x valid reads key changes = any_of_image (λ u. (u.0 ≡ key) × (u.1 ≡ Write)) (λ a. (a.key, a.mode)) x.access (subst (AnyIn (λ u. (u.0 ≡ key) × (u.1 ≡ Write))) (sym valid.uses) (body_keeps regions x.id x.body reads key valid.body changes))

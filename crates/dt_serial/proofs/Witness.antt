@@ -1,0 +1,125 @@
+-- A history can be met: a move of a key, one that was annotated after it, and one that was annotated before it and is
+-- stale. The last two are not ordered, and a region may run them either way round.
+use Rattle.std.proofs.Common.{◌≡◌, ◌≢◌, ◌⊎◌, ℕ, true, cond, List, [], ◌∷◌, ◌++◌, slice_get, None, refl, sym, ap, ◌∙◌, inl, inr, arith}
+use Rattle.std.specs.Prelude.{option_map}
+use Rattle.std.specs.Cmp.Lexicographic.{bytes_decides}
+use Rattle.dt_lists.specs.Lists.{AllIn, Has}
+use Rattle.dt_lists.proofs.Words.{all_get}
+use Rattle.dt_lists.proofs.Before.{get_front}
+use Rattle.dt_access.specs.Clash.{Bytes, same_key, uses_clash}
+use Rattle.dt_access.specs.declared.TxnId.{TxnId}
+use Rattle.dt_access.specs.declared.Access.{Access}
+use Rattle.dt_access.specs.declared.Mode.TheVariants.{Write}
+use Rattle.dt_table.specs.Table.{Table, Moved, moves_of}
+use Rattle.dt_txn.specs.declared.txn.Body.TheVariants.{Move}
+use Rattle.dt_txn.specs.declared.txn.Txn.{Txn}
+use Rattle.dt_txn.specs.Execution.{stale_at}
+use Rattle.dt_txn.specs.Serial.{after, table_after}
+use Rattle.dt_serial.specs.Order.{Ordered, FollowsMove, IsHistory, IsPart, IsDown, IsLive, KeepsToKeys}
+use Rattle.dt_serial.proofs.Rows.{moved_on}
+use Rattle.dt_serial.proofs.One.{one_live}
+use Rattle.dt_serial.proofs.Runs.{after_moves, moves_grow}
+
+abbrev use_of : Bytes → ℕ → Access
+use_of key counter = record { key = key; mode = Write; home = counter; counter = counter }
+
+abbrev mover : Bytes → Txn
+mover key = record { id = record { seq = 1; region = 0 }; body = Move key 1; access = use_of key 0 ∷ [] }
+
+abbrev later : Bytes → Txn
+later key = record { id = record { seq = 2; region = 0 }; body = Move key 0; access = use_of key 1 ∷ [] }
+
+abbrev stale : Bytes → Txn
+stale key = record { id = record { seq = 1; region = 1 }; body = Move key 2; access = use_of key 0 ∷ [] }
+
+-- the first move precedes the two others
+abbrev First : TxnId → TxnId → Type 0
+First u t = (u ≡ record { seq = 1; region = 0 }) × ((t ≡ record { seq = 2; region = 0 }) ⊎ (t ≡ record { seq = 1; region = 1 }))
+
+no_later : (t : TxnId) → t ≡ record { seq = 1; region = 0 } → ¬ ((t ≡ record { seq = 2; region = 0 }) ⊎ (t ≡ record { seq = 1; region = 1 }))
+no_later t e (inl f) = let s : ◌≡◌ {A = ℕ} 1 2 = ap (λ i. i.seq) (sym e ∙ f) in omega arith
+no_later t e (inr f) = let s : ◌≡◌ {A = ℕ} 0 1 = ap (λ i. i.region) (sym e ∙ f) in omega arith
+
+move_keeps : (key : Bytes) (id : TxnId) (target counter : ℕ) → KeepsToKeys (record { id = id; body = Move key target; access = use_of key counter ∷ [] })
+move_keeps key id target counter reads q (inl e) = absurd e
+move_keeps key id target counter reads q (inr e) = inl (e, refl)
+
+mover_not_later : ◌≢◌ {A = TxnId} (record { seq = 1; region = 0 }) (record { seq = 2; region = 0 })
+mover_not_later e = let s : ◌≡◌ {A = ℕ} 1 2 = ap (λ i. i.seq) e in omega arith
+
+mover_not_stale : ◌≢◌ {A = TxnId} (record { seq = 1; region = 0 }) (record { seq = 1; region = 1 })
+mover_not_stale e = let s : ◌≡◌ {A = ℕ} 0 1 = ap (λ i. i.region) e in omega arith
+
+later_not_stale : ◌≢◌ {A = TxnId} (record { seq = 2; region = 0 }) (record { seq = 1; region = 1 })
+later_not_stale e = let s : ◌≡◌ {A = ℕ} 2 1 = ap (λ i. i.seq) e in omega arith
+
+later_first : IsDown First (record { seq = 1; region = 0 } ∷ record { seq = 2; region = 0 } ∷ record { seq = 1; region = 1 } ∷ [])
+later_first = record {
+  once = ((mover_not_later, (mover_not_stale, tt)), ((later_not_stale, tt), (tt, tt)));
+  preceders = λ u t h r. elim r.1 [ inl e ↦ inl (inl (sym r.0, sym e)) | inr e ↦ inl (inr (inl (sym r.0, sym e))) ];
+}
+
+stale_first : IsDown First (record { seq = 1; region = 0 } ∷ record { seq = 1; region = 1 } ∷ record { seq = 2; region = 0 } ∷ [])
+stale_first = record {
+  once = ((mover_not_stale, (mover_not_later, tt)), ((λ e. later_not_stale (sym e), tt), (tt, tt)));
+  preceders = λ u t h r. elim r.1 [ inl e ↦ inl (inr (inl (sym r.0, sym e))) | inr e ↦ inl (inl (sym r.0, sym e)) ];
+}
+
+abbrev CanBeShared : Txn → Txn → Type 0
+CanBeShared x y = x.id ≢ y.id → (a b : Access) → Has x.access a → Has y.access b → a.counter ≡ b.counter → uses_clash (a.key, a.mode) (b.key, b.mode) ≡ true → Ordered First x.id y.id
+
+differ : (key : Bytes) (a b : Access) → Has (use_of key 1 ∷ []) a → Has (use_of key 0 ∷ []) b → ¬ (a.counter ≡ b.counter)
+differ key a b (inl e) (inl f) s = let r : ◌≡◌ {A = ℕ} 1 0 = ap (λ c. c.counter) e ∙ s ∙ sym (ap (λ c. c.counter) f) in omega arith
+differ key a b (inl e) (inr f) s = f
+differ key a b (inr e) f s = e
+
+pairs : (key : Bytes) → AllIn (λ x. AllIn (CanBeShared x) (mover key ∷ later key ∷ stale key ∷ [])) (mover key ∷ later key ∷ stale key ∷ [])
+pairs key = (
+  (λ ne a b ha hb e c. absurd (ne refl), (λ ne a b ha hb e c. inl (refl, inl refl), (λ ne a b ha hb e c. inl (refl, inr refl), tt))),
+  (
+    (λ ne a b ha hb e c. inr (refl, inl refl), (λ ne a b ha hb e c. absurd (ne refl), (λ ne a b ha hb e c. absurd (differ key a b ha hb e), tt))),
+    (
+      (λ ne a b ha hb e c. inr (refl, inr refl), (λ ne a b ha hb e c. absurd (differ key b a hb ha (sym e)), (λ ne a b ha hb e c. absurd (ne refl), tt))),
+      tt,
+    ),
+  ),
+)
+
+module _ (start : Table) (unmoved : (key : Bytes) → moves_of start key ≡ []) (key : Bytes) where
+  made : Moved
+  made = record { target = 1; by = record { seq = 1; region = 0 } }
+
+  live : IsLive (mover key) start
+  live = ap (λ l. stale_at (use_of key 0) (option_map (λ m. m.by) (slice_get l 0)) None) (unmoved key)
+
+  moved_once : moves_of (after (mover key) start) key ≡ made ∷ []
+  unfolding made
+  moved_once =
+      after_moves (mover key) start key
+      ∙ ap (λ e. moves_of start key ++ moved_on e.1.moved key) (one_live (mover key) start live)
+      ∙ ap (λ l. l ++ cond (same_key key key) (made ∷ []) []) (unmoved key)
+      ∙ ap (λ b. cond b (made ∷ []) []) ((bytes_decides key key).1 refl)
+
+  first_move : (txns : List Txn) → FollowsMove First (moves_of (table_after txns (after (mover key) start)) key) 1 (later key).id
+  unfolding made
+  first_move txns = (made, get_front _ _ 0 made (moves_grow txns (after (mover key) start) key) (ap (λ l. slice_get l 0) moved_once), (refl, inl refl))
+
+  anchored_later : (txns : List Txn) → AllIn (λ a. FollowsMove First (moves_of (table_after txns (after (mover key) start)) a.key) a.counter (later key).id) (later key).access
+  anchored_later txns = (first_move txns, tt)
+
+  pub history : IsHistory First start (mover key ∷ later key ∷ stale key ∷ [])
+  history = record {
+    transitive = λ u v t r s. absurd (no_later v s.0 r.1);
+    unmoved = unmoved;
+    keys = (move_keeps key (mover key).id 1 0, (move_keeps key (later key).id 0 1, (move_keeps key (stale key).id 2 0, tt)));
+    down = later_first;
+    anchored = ((tt, tt), (anchored_later (later key ∷ stale key ∷ []), ((tt, tt), tt)));
+    shared = λ x y hx hy. all_get (CanBeShared x) (mover key ∷ later key ∷ stale key ∷ []) (all_get (λ z. AllIn (CanBeShared z) (mover key ∷ later key ∷ stale key ∷ [])) (mover key ∷ later key ∷ stale key ∷ []) (pairs key) x hx) y hy;
+  }
+
+  -- both orders of the last two are parts of it
+  pub either_way : IsPart First start (mover key ∷ later key ∷ stale key ∷ []) (mover key ∷ later key ∷ stale key ∷ []) × IsPart First start (mover key ∷ later key ∷ stale key ∷ []) (mover key ∷ stale key ∷ later key ∷ [])
+  either_way = (
+    record { fits = history; members = (inl refl, (inr (inl refl), (inr (inr (inl refl)), tt))); down = later_first },
+    record { fits = history; members = (inl refl, (inr (inr (inl refl)), (inr (inl refl), tt))); down = stale_first },
+  )

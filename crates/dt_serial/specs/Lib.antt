@@ -1,0 +1,10 @@
+pub mod Order
+pub mod Replay
+pub mod Evidence
+pub use Rattle.dt_txn.specs.Transaction
+pub use Rattle.dt_txn.specs.Execution
+pub use Rattle.dt_txn.specs.Serial
+pub use Rattle.dt_table.specs.Table
+pub use Rattle.dt_access.specs.Ids
+pub use Rattle.dt_access.specs.Clash
+pub use Rattle.dt_lists.specs.Lists

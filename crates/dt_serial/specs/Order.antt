@@ -1,0 +1,94 @@
+-- When an order of ids fits a serial run of transactions, so that runs of them in other orders agree with it.
+use Rattle.std.specs.Prelude.{◌≡◌, ◌≢◌, ◌⊎◌, ℕ, zero, suc, Bool, true, List, [], map, slice_get, Option, Some, None, IsSomeAnd}
+use Rattle.dt_lists.specs.Lists.{AnyIn, AllIn, SomeThen, Has, Distinct}
+use Rattle.dt_access.specs.Clash.{Bytes, uses_clash}
+use Rattle.dt_access.specs.declared.TxnId.{TxnId}
+use Rattle.dt_access.specs.declared.Access.{Access}
+use Rattle.dt_access.specs.declared.Mode.{Mode}
+use Rattle.dt_access.specs.declared.Mode.TheVariants.{Write}
+use Rattle.dt_text.specs.declared.Value.{Value}
+use Rattle.dt_table.specs.declared.Effect.{Effect}
+use Rattle.dt_table.specs.Table.{Table, Moved, moves_of}
+use Rattle.dt_txn.specs.declared.txn.Txn.{Txn}
+use Rattle.dt_txn.specs.declared.outcome.Outcome.{Outcome}
+use Rattle.dt_txn.specs.declared.outcome.Outcome.TheVariants.{Stale}
+use Rattle.dt_txn.specs.Execution.{result_of, stale_of, see}
+use Rattle.dt_txn.specs.Serial.{table_after}
+
+-- the ids of transactions, in their order
+abbrev pub txn_ids : List Txn → List TxnId
+txn_ids txns = map (λ x. x.id) txns
+
+-- u stands before t in the list
+abbrev pub StandsBefore : List TxnId → TxnId → TxnId → Type 0
+StandsBefore ids u t = SomeThen (λ a b. (a ≡ u) × (b ≡ t)) ids
+
+-- one of the two precedes the other
+abbrev pub Ordered : (TxnId → TxnId → Type 0) → TxnId → TxnId → Type 0
+Ordered order u t = order u t ⊎ order t u
+
+-- no id stands twice in the list, and all that precedes one of its ids stands before that id in the list
+pub record IsDown (order : TxnId → TxnId → Type 0) (ids : List TxnId) : Type 0 where
+  pub once : Distinct ids
+  pub preceders : (u t : TxnId) → Has ids t → order u t → StandsBefore ids u t
+
+-- t comes after so many of these moves: the last one of so many is there, and its mover precedes t; of none there is none
+abbrev pub FollowsMove : (TxnId → TxnId → Type 0) → List Moved → ℕ → TxnId → Type 0
+FollowsMove order moves zero t = Unit {0}
+FollowsMove order moves (suc c) t = (m : Moved) × (slice_get moves c ≡ Some m) × order m.by t
+
+-- each transaction comes after the moves that it was annotated with: for each key that it uses, after as many of the
+-- table's moves of that key
+abbrev pub IsAnchored : (TxnId → TxnId → Type 0) → Table → List Txn → Type 0
+IsAnchored order table txns = AllIn (λ x. AllIn (λ a. FollowsMove order (moves_of table a.key) a.counter x.id) x.access) txns
+
+-- of two transactions that have uses which clash and are annotated with the same number of moves one precedes the other
+abbrev pub IsShared : (TxnId → TxnId → Type 0) → List Txn → Type 0
+IsShared order txns =
+    (x y : Txn) → Has txns x → Has txns y → x.id ≢ y.id
+    → (a b : Access) → Has x.access a → Has y.access b → a.counter ≡ b.counter → uses_clash (a.key, a.mode) (b.key, b.mode) ≡ true
+    → Ordered order x.id y.id
+
+-- the outcome says that a row was moved since the transaction was annotated
+abbrev pub IsStale : Outcome → Type 0
+IsStale (Stale key had by) = Unit {0}
+IsStale outcome = ⊥
+
+-- on this table the transaction is live: none of its keys was moved since it was annotated
+abbrev pub IsLive : Txn → Table → Type 0
+IsLive x t = stale_of x.access (see x t) ≡ None
+
+-- the effect changes the row of this key
+abbrev pub Changes : Effect → Bytes → Type 0
+Changes effect key = AnyIn (λ w. w.0 ≡ key) effect.writes ⊎ IsSomeAnd effect.moved (λ m. m.0 ≡ key)
+
+-- the transaction uses this key and may write it
+abbrev pub MayWrite : Txn → Bytes → Type 0
+MayWrite x key = AnyIn (λ a. (a.key ≡ key) × (a.mode ≡ Write)) x.access
+
+-- whatever it reads, the transaction changes only keys that it may write
+abbrev pub KeepsToKeys : Txn → Type 0
+KeepsToKeys x = (reads : List (Bytes × Option Value)) (key : Bytes) → Changes (result_of x.id x.body reads).1 key → MayWrite x key
+
+-- the transactions ran one after another from a table without moves, and the order fits that run
+pub record IsHistory (order : TxnId → TxnId → Type 0) (start : Table) (txns : List Txn) : Type 0 where
+  pub transitive : (u v t : TxnId) → order u v → order v t → order u t
+  pub unmoved : (key : Bytes) → moves_of start key ≡ []
+  pub keys : AllIn KeepsToKeys txns
+  pub down : IsDown order (txn_ids txns)
+  pub anchored : IsAnchored order (table_after txns start) txns
+  pub shared : IsShared order txns
+
+-- the transactions are some of those of a history, each after all that precedes it
+pub record IsPart (order : TxnId → TxnId → Type 0) (start : Table) (history txns : List Txn) : Type 0 where
+  pub fits : IsHistory order start history
+  pub members : AllIn (λ x. Has history x) txns
+  pub down : IsDown order (txn_ids txns)
+
+-- the order that a test tells
+abbrev pub ByTest : (TxnId → TxnId → Bool) → TxnId → TxnId → Type 0
+ByTest precedes u t = precedes u t ≡ true
+
+-- the keys that a transaction uses, each with its mode
+abbrev pub uses_in : Txn → List (Bytes × Mode)
+uses_in x = map (λ a. (a.key, a.mode)) x.access

@@ -1,0 +1,73 @@
+use Rattle.std.specs.Prelude.{◌≡◌, ◌≢◌, ◌<◌, ◌+◌, ◌==◌, ℕ, List, [], ◌∷◌, length, flat_map, filter, Bool, if◌then◌else◌}
+use Rattle.std.specs.Ordering.{nat_cmp, is_lt}
+use Rattle.std.specs.Cmp.Lexicographic.{slice_cmp}
+use Rattle.std.specs.List.{list_any}
+use Rattle.dt_lists.specs.Lists.{IsFront, AllIn, Has}
+use Rattle.dt_events.specs.declared.Event.{Event}
+use Rattle.dt_events.specs.declared.Event.TheVariants.{Submit, Append}
+use Rattle.dt_table.specs.Table.{Table}
+use Rattle.dt_txn.specs.Transaction.{annotate, homes_of}
+use Rattle.dt_txn.specs.Replica.{done_ids, region_of}
+use Rattle.dt_cluster.specs.declared.Cluster.{Cluster}
+use Rattle.dt_workload.specs.declared.Workload.{Workload}
+use Rattle.dt_workload.specs.declared.Session.{Session}
+use Rattle.dt_workload.specs.declared.Wanted.{Wanted}
+use Rattle.dt_session.specs.World.{World, Place, opening_table, opening_world, node_at}
+use Rattle.dt_session.specs.Step.{next, body_of}
+use Rattle.dt_session.specs.Run.{world_after}
+
+-- the sessions with one more, in byte order of names
+abbrev pub with_session : Session → List Session → List Session
+with_session s [] = s ∷ []
+with_session s (t ∷ sessions) = if is_lt (slice_cmp nat_cmp s.name t.name) then s ∷ t ∷ sessions else t ∷ with_session s sessions
+
+-- the sessions of a region, in byte order of names
+abbrev pub sessions_at : ℕ → List Session → List Session
+sessions_at region [] = []
+sessions_at region (s ∷ sessions) = if s.region == region then with_session s (sessions_at region sessions) else sessions_at region sessions
+
+-- whether a session's first call has a key, or its target, at the session's region, before anything was moved
+abbrev pub is_home : ℕ → Table → Wanted → Bool
+is_home region t call = list_any (λ home. home == region) (homes_of (annotate (record { seq = 1; region = region }) (body_of call) t))
+
+-- a session with its first call, if it has one
+abbrev pub with_first_call : Session → List Wanted → List (Session × Wanted)
+with_first_call s [] = []
+with_first_call s (call ∷ calls) = (s, call) ∷ []
+
+-- the sessions that have a call, each with its first one
+abbrev pub first_calls : List Session → List (Session × Wanted)
+first_calls sessions = flat_map (λ s. with_first_call s s.calls) sessions
+
+-- one submission of each of these sessions, each followed at once by the region's own append where the region is a home;
+-- `placed` is the number of the next append
+abbrev pub first_events : ℕ → Table → List (Session × Wanted) → ℕ → List Event
+first_events region t [] placed = []
+first_events region t ((s, call) ∷ sessions) placed =
+    if is_home region t call
+    then Submit region s.name ∷ Append region region placed ∷ first_events region t sessions (placed + 1)
+    else Submit region s.name ∷ first_events region t sessions placed
+
+-- each event changes the world
+abbrev pub AllChange : Workload → World → List Event → Type 0
+AllChange workload w [] = Unit {0}
+AllChange workload w (event ∷ events) = (next workload w event ≢ w) × AllChange workload (next workload w event) events
+
+-- nothing is done in vain, and every region begins by submitting the first call of each of its sessions
+pub record IsEager (cluster : Cluster) (workload : Workload) (events : List Event) : Type 0 where
+  pub changing : AllChange workload (opening_world cluster workload) events
+  pub begins : (region : ℕ) → region < cluster.regions →
+      IsFront (first_events region (opening_table cluster) (first_calls (sessions_at region workload.sessions)) 0) (filter (λ event. region_of event == region) events)
+
+-- every call of every session is answered
+abbrev pub AreAnswered : List Session → List Place → Type 0
+AreAnswered [] places = Unit {0}
+AreAnswered (s ∷ sessions) [] = ⊥
+AreAnswered (s ∷ sessions) (p ∷ places) = (p.answered ≡ length s.calls) × AreAnswered sessions places
+
+-- every call is answered, and every region has executed every attempt
+pub record IsFinished (cluster : Cluster) (workload : Workload) (events : List Event) : Type 0 where
+  pub answered : AreAnswered workload.sessions (world_after cluster workload events).places
+  pub executed : (region source : ℕ) → region < cluster.regions → source < cluster.regions →
+      AllIn (λ s. Has (done_ids (node_at (world_after cluster workload events) region).here) s.txn.id)
+      (node_at (world_after cluster workload events) source).submitted

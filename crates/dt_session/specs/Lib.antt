@@ -1,0 +1,16 @@
+pub mod World
+pub mod Step
+pub mod Run
+pub mod Agreement
+pub mod Course
+pub use Rattle.dt_txn.specs.Transaction
+pub use Rattle.dt_txn.specs.Execution
+pub use Rattle.dt_txn.specs.Serial
+pub use Rattle.dt_txn.specs.Replica
+pub use Rattle.dt_table.specs.Table
+pub use Rattle.dt_eval.specs.Meaning
+pub use Rattle.dt_sched.specs.Views
+pub use Rattle.dt_sched.specs.Decide
+pub use Rattle.dt_access.specs.Ids
+pub use Rattle.dt_access.specs.Clash
+pub use Rattle.dt_lists.specs.Lists

@@ -1,0 +1,184 @@
+use Rattle.std.specs.Prelude.{◌≡◌, ◌<◌, ◌≤◌, ◌+◌, ℕ, List, [], ◌∷◌, ◌++◌, length, get_or, set, slice_get, Option, Some, None, option_and_then, if◌then◌else◌, ◌&&◌, ◌==◌, nat_le, nat_lt}
+use Rattle.dt_access.specs.declared.TxnId.{TxnId}
+use Rattle.dt_events.specs.declared.Event.{Event}
+use Rattle.dt_events.specs.declared.Event.TheVariants.{Submit, Append, Deliver, Insert, Resolve, Execute, Answer}
+use Rattle.dt_txn.specs.declared.Body.{Body}
+use Rattle.dt_txn.specs.declared.txn.Body.TheVariants.{Call, Move}
+use Rattle.dt_txn.specs.declared.Txn.{Txn}
+use Rattle.dt_txn.specs.declared.Outcome.{Outcome}
+use Rattle.dt_txn.specs.declared.outcome.Outcome.TheVariants.{Gave, Aborted, Stale}
+use Rattle.dt_txn.specs.Transaction.{annotate, homes_of, part_of}
+use Rattle.dt_txn.specs.Replica.{MayStep, stepped}
+use Rattle.dt_cluster.specs.declared.Cluster.{Cluster}
+use Rattle.dt_workload.specs.declared.Workload.{Workload}
+use Rattle.dt_workload.specs.declared.Session.{Session}
+use Rattle.dt_workload.specs.declared.Wanted.{Wanted}
+use Rattle.dt_workload.specs.declared.Wanted.TheVariants as wanted
+use Rattle.dt_session.specs.World.{World, Node, Place, Submission, node_at, with_node, asked_of, taken_from, log_of, received_of, received_logs, txn_of, attempt_of, outcome_at, session_at, with_place}
+
+-- the outcome is there, and it is Stale
+abbrev pub IsStale : Option Outcome → Type 0
+IsStale None = ⊥
+IsStale (Some (Gave values)) = ⊥
+IsStale (Some (Aborted cause)) = ⊥
+IsStale (Some (Stale key had by)) = Unit {0}
+
+-- an attempt ends its call: its outcome is there, and it is not Stale or this was the last try
+abbrev pub IsLast : ℕ → ℕ → Option Outcome → Type 0
+IsLast tries attempt None = ⊥
+IsLast tries attempt (Some (Gave values)) = Unit {0}
+IsLast tries attempt (Some (Aborted cause)) = Unit {0}
+IsLast tries attempt (Some (Stale key had by)) = attempt ≡ tries
+
+-- a session that waits for nothing may try its next call, if one is left; one that waits for an attempt may try again
+-- where that is Stale at its region and was not the last try
+abbrev pub MayTry : Cluster → World → ℕ → Session → ℕ → Option TxnId → Type 0
+MayTry cluster w region session answered None = answered < length session.calls
+MayTry cluster w region session answered (Some id) = IsStale (outcome_at w region id) × (attempt_of w id < cluster.tries)
+
+-- there is such a session, and it may submit
+abbrev pub MaySubmit : Cluster → World → ℕ → Option (Session × Place) → Type 0
+MaySubmit cluster w region None = ⊥
+MaySubmit cluster w region (Some (session, place)) = MayTry cluster w region session place.answered place.waits
+
+-- a session may be answered where the attempt that it waits for ends its call at its region
+abbrev pub MayEnd : Cluster → World → ℕ → Option TxnId → Type 0
+MayEnd cluster w region None = ⊥
+MayEnd cluster w region (Some id) = IsLast cluster.tries (attempt_of w id) (outcome_at w region id)
+
+-- there is such a session, and it may be answered
+abbrev pub MayAnswer : Cluster → World → ℕ → Option (Session × Place) → Type 0
+MayAnswer cluster w region None = ⊥
+MayAnswer cluster w region (Some (session, place)) = MayEnd cluster w region place.waits
+
+-- the regions that an event names exist, in a cluster of so many
+abbrev pub RegionsExist : ℕ → Event → Type 0
+RegionsExist regions (Submit region session) = region < regions
+RegionsExist regions (Append home source number) = (home < regions) × (source < regions)
+RegionsExist regions (Deliver region home first last) = (region < regions) × (home < regions)
+RegionsExist regions (Insert region home) = (region < regions) × (home < regions)
+RegionsExist regions (Resolve region ids) = region < regions
+RegionsExist regions (Execute region id) = region < regions
+RegionsExist regions (Answer region session) = region < regions
+
+-- where each kind of event may happen
+abbrev pub MayHappen : Cluster → Workload → World → Event → Type 0
+-- a session of the region may try a call
+MayHappen cluster workload w (Submit region session) = MaySubmit cluster w region (session_at workload.sessions w.places region session)
+-- the source asked the home for more parts than that
+MayHappen cluster workload w (Append home source number) = number < length (asked_of w source home)
+-- the places are in order, and the home's log reaches so far
+MayHappen cluster workload w (Deliver region home first last) = (first ≤ last) × (last ≤ length (log_of w home))
+-- the region may make the step by what it received
+MayHappen cluster workload w (Insert region home) = MayStep (received_logs w region) (node_at w region).here (Insert region home)
+MayHappen cluster workload w (Resolve region ids) = MayStep (received_logs w region) (node_at w region).here (Resolve region ids)
+MayHappen cluster workload w (Execute region id) = MayStep (received_logs w region) (node_at w region).here (Execute region id)
+-- a session of the region may be answered
+MayHappen cluster workload w (Answer region session) = MayAnswer cluster w region (session_at workload.sessions w.places region session)
+
+-- an event is legal in a world
+pub record IsLegal (cluster : Cluster) (workload : Workload) (w : World) (event : Event) : Type 0 where
+  pub regions : RegionsExist cluster.regions event
+  pub allowed : MayHappen cluster workload w event
+
+-- the number of the rule by which an event is legal or not
+abbrev pub rule_of : Event → ℕ
+rule_of (Submit region session) = 1
+rule_of (Append home source number) = 2
+rule_of (Deliver region home first last) = 3
+rule_of (Insert region home) = 4
+rule_of (Resolve region ids) = 5
+rule_of (Execute region id) = 6
+rule_of (Answer region session) = 7
+
+-- what a call or a move of a workload is to do
+abbrev pub body_of : Wanted → Body
+body_of (wanted.Call proc args) = Call proc args
+body_of (wanted.Move key target) = Move key target
+
+-- the number of the attempt that comes next: 1 for a new call, else one above that of the attempt that is waited for
+abbrev pub next_attempt : World → Option TxnId → ℕ
+next_attempt w None = 1
+next_attempt w (Some id) = attempt_of w id + 1
+
+-- the id of a region's next submission
+abbrev pub next_id : World → ℕ → TxnId
+next_id w region = record { seq = length (node_at w region).submitted + 1; region = region }
+
+-- what a session submits: its next call, annotated by its region's table
+abbrev pub submission_for : World → ℕ → Session → Place → Wanted → Submission
+submission_for w region session place call = record {
+  txn = annotate (next_id w region) (body_of call) (node_at w region).here.table;
+  session = session.name;
+  call = place.answered + 1;
+  attempt = next_attempt w place.waits;
+}
+
+-- the asked lists after each of these homes is asked to place an id
+abbrev pub ask : List ℕ → TxnId → List (List TxnId) → List (List TxnId)
+ask [] id asked = asked
+ask (home ∷ homes) id asked = ask homes id (set asked home (get_or asked home [] ++ id ∷ []))
+
+-- the region after it submitted an attempt: each home of it is asked for its part
+abbrev pub node_submitted : Node → Submission → Node
+node_submitted node s = record node {
+  submitted = node.submitted ++ s ∷ [];
+  asked = ask (homes_of s.txn) s.txn.id node.asked;
+}
+
+-- the world after a session submitted an attempt, for which it waits
+abbrev pub world_submitted : Workload → World → ℕ → Session → Place → Submission → World
+world_submitted workload w region session place s = record {
+  nodes = set w.nodes region (node_submitted (node_at w region) s);
+  places = with_place workload.sessions w.places region session.name (record place { waits = Some s.txn.id });
+}
+
+-- the world after a session submits its next call, if there are a session and a call
+abbrev pub called : Workload → World → ℕ → Session → Place → Option Wanted → World
+called workload w region session place None = w
+called workload w region session place (Some call) = world_submitted workload w region session place (submission_for w region session place call)
+
+abbrev pub submitted : Workload → World → ℕ → Option (Session × Place) → World
+submitted workload w region None = w
+submitted workload w region (Some (session, place)) = called workload w region session place (slice_get session.calls place.answered)
+
+-- the world after a home placed a transaction's part at the end of its log, as the source's next request
+abbrev pub placed : World → ℕ → ℕ → Option Txn → World
+placed w home source None = w
+placed w home source (Some txn) = with_node w home (record (node_at w home) {
+  log = log_of w home ++ part_of txn home ∷ [];
+  taken = set (node_at w home).taken source (taken_from w home source + 1);
+})
+
+-- the world after a region received a home's log up to a place
+abbrev pub received : World → ℕ → ℕ → ℕ → World
+received w region home last = with_node w region (record (node_at w region) { received = set (node_at w region).received home last })
+
+-- the world after a step that a region makes by itself
+abbrev pub moved_on : World → ℕ → Event → World
+moved_on w region event = with_node w region (record (node_at w region) { here = stepped (txn_of w) (node_at w region).here event })
+
+-- the world after a session is answered: it waits for nothing, before its next call
+abbrev pub answered : Workload → World → ℕ → Option (Session × Place) → World
+answered workload w region None = w
+answered workload w region (Some (session, place)) = record w {
+  places = with_place workload.sessions w.places region session.name (record { answered = place.answered + 1; waits = None });
+}
+
+-- the world after an event
+abbrev pub next : Workload → World → Event → World
+next workload w (Submit region session) = submitted workload w region (session_at workload.sessions w.places region session)
+-- a request is placed once, in its turn
+next workload w (Append home source number) =
+    if number == taken_from w home source
+    then placed w home source (option_and_then (txn_of w) (slice_get (asked_of w source home) number))
+    else w
+-- only a delivery that joins what was received and goes past it changes anything
+next workload w (Deliver region home first last) =
+    if nat_le first (received_of w region home) && nat_lt (received_of w region home) last
+    then received w region home last
+    else w
+next workload w (Insert region home) = moved_on w region (Insert region home)
+next workload w (Resolve region ids) = moved_on w region (Resolve region ids)
+next workload w (Execute region id) = moved_on w region (Execute region id)
+next workload w (Answer region session) = answered workload w region (session_at workload.sessions w.places region session)

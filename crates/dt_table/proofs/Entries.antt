@@ -1,0 +1,92 @@
+-- A list of entries with a look-up by `==`, and the finite map that it makes: how a write of one entry changes both.
+use Rattle.std.proofs.Common.{◌≡◌, Bool, true, false, cond, List, [], ◌∷◌, map, refl, sym, ap, ◌∙◌, subst, Option, Some, None, true≢false}
+use Rattle.std.specs.Option.{option_map}
+use Rattle.std.specs.Ordering.{eq_by_cmp}
+use Rattle.std.specs.declared.cmp.Ordering.{Ordering}
+use Rattle.std.specs.Cmp.{IsTotalOrder, IsEquivalence}
+use Rattle.std.specs.Map.{lookup, set_value}
+use Rattle.std.specs.FinMap.{FinMap, get, insert, from_entries, get-insert, get-from_entries, same_map, IsAntisymmetric}
+use Rattle.std.specs.FinMap.Entries.{find}
+use Rattle.indexmap.specs.IndexMap.{insert_entry}
+use Rattle.dt_lists.specs.Lists.{AllIn}
+
+module _ {K V : Type 0} (eq : K → K → Bool) where
+  -- where the key is there, to insert is to set its value
+  pub insert_entry-present : (es : List (K × V)) (k : K) (v w : V) → lookup (eq k) es ≡ Some v → insert_entry eq es k w ≡ set_value (eq k) es w
+  insert_entry-present [] k v w there = cc
+  insert_entry-present (e ∷ es) k v w there =
+      elim (eq k e.0) as (λ b. cond b (Some e.1) (lookup (eq k) es) ≡ Some v → cond b ((e.0, w) ∷ es) (e ∷ insert_entry eq es k w) ≡ cond b ((e.0, w) ∷ es) (e ∷ set_value (eq k) es w)) [
+        | true ↦ λ _. refl
+        | false ↦ λ later. ap (λ l. e ∷ l) (insert_entry-present es k v w later)
+      ] there
+
+  -- a look-up after an insert
+  pub lookup-insert_entry : IsEquivalence eq → (es : List (K × V)) (k : K) (w : V) (q : K) → lookup (eq q) (insert_entry eq es k w) ≡ cond (eq k q) (Some w) (lookup (eq q) es)
+  lookup-insert_entry laws [] k w q = ap (λ b. cond b (Some w) None) (laws.symm q k)
+  lookup-insert_entry laws (e ∷ es) k w q =
+      elim (eq k e.0) as (λ b. eq k e.0 ≡ b → lookup (eq q) (cond b ((e.0, w) ∷ es) (e ∷ insert_entry eq es k w)) ≡ cond (eq k q) (Some w) (cond (eq q e.0) (Some e.1) (lookup (eq q) es))) [
+        | true ↦ λ tied.
+            let alike : eq q e.0 ≡ eq k q = laws.symm q e.0 ∙ sym (laws.congr k e.0 q tied) in
+            ap (λ b. cond b (Some w) (lookup (eq q) es)) alike
+            ∙ elim (eq k q) as (λ b. eq q e.0 ≡ b → cond b (Some w) (lookup (eq q) es) ≡ cond b (Some w) (cond (eq q e.0) (Some e.1) (lookup (eq q) es))) [
+              | true ↦ λ _. refl
+              | false ↦ λ apart. ap (λ b. cond b (Some e.1) (lookup (eq q) es)) (sym apart)
+            ] alike
+        | false ↦ λ apart.
+            ap (cond (eq q e.0) (Some e.1)) (lookup-insert_entry laws es k w q)
+            ∙ elim (eq q e.0) as (λ b. eq q e.0 ≡ b → cond b (Some e.1) (cond (eq k q) (Some w) (lookup (eq q) es)) ≡ cond (eq k q) (Some w) (cond b (Some e.1) (lookup (eq q) es))) [
+              | true ↦ λ tied.
+                  let other : eq k q ≡ false = laws.symm k q ∙ laws.congr q e.0 k tied ∙ laws.symm e.0 k ∙ apart in
+                  ap (λ b. cond b (Some w) (Some e.1)) (sym other)
+              | false ↦ λ _. refl
+            ] refl
+      ] refl
+
+  module _ (P : K × V → Type 0) (same : (x y : K) → eq x y ≡ true → x ≡ y) where
+    -- what holds of each entry, and of the key with its new value, holds of each entry after the insert
+    pub AllIn-insert_entry : (es : List (K × V)) (k : K) (w : V) → AllIn P es → P (k, w) → AllIn P (insert_entry eq es k w)
+    AllIn-insert_entry [] k w all now = (now, tt)
+    AllIn-insert_entry (e ∷ es) k w all now =
+        elim (eq k e.0) as (λ b. eq k e.0 ≡ b → AllIn P (cond b ((e.0, w) ∷ es) (e ∷ insert_entry eq es k w))) [
+          | true ↦ λ tied. (subst (λ x. P (x, w)) (same k e.0 tied) now, all.1)
+          | false ↦ λ _. (all.0, AllIn-insert_entry es k w all.1 now)
+        ] refl
+
+    -- what holds of each entry holds of the one that a look-up finds
+    pub AllIn-lookup : (es : List (K × V)) (k : K) (v : V) → AllIn P es → lookup (eq k) es ≡ Some v → P (k, v)
+    AllIn-lookup [] k v all there = cc
+    AllIn-lookup (e ∷ es) k v all there =
+        elim (eq k e.0) as (λ b. eq k e.0 ≡ b → cond b (Some e.1) (lookup (eq k) es) ≡ Some v → P (k, v)) [
+          | true ↦ λ tied is.
+              let value : e.1 ≡ v = cc in
+              subst (λ x. P (k, x)) value (subst (λ x. P (x, e.1)) (sym (same k e.0 tied)) all.0)
+          | false ↦ λ _ later. AllIn-lookup es k v all.1 later
+        ] refl there
+
+module _ {K : Type 0} {R : K → K → Ordering} {eq : K → K → Bool} (o : IsTotalOrder R) (ties : (x y : K) → eq x y ≡ eq_by_cmp R x y) where
+  module _ {V X : Type 0} (f : V → X) where
+    find-map : (es : List (K × V)) (q : K) → find R q (map (λ e. (e.0, f e.1)) es) ≡ option_map f (lookup (eq q) es)
+    find-map [] q = refl
+    find-map (e ∷ es) q =
+        let rest : List (K × X) = map (λ e. (e.0, f e.1)) es in
+        ap (λ b. cond b (Some (f e.1)) (find R q rest)) (sym (ties q e.0))
+        ∙ elim (eq q e.0) as (λ b. cond b (Some (f e.1)) (find R q rest) ≡ option_map f (cond b (Some e.1) (lookup (eq q) es))) [ true ↦ refl | false ↦ find-map es q ]
+
+    -- the map of the entries, with f at each value, answers f of what a look-up finds
+    pub get-from_map : (es : List (K × V)) (q : K) → get (from_entries {R = R} (map (λ e. (e.0, f e.1)) es)) q ≡ option_map f (lookup (eq q) es)
+    get-from_map es q = get-from_entries o (map (λ e. (e.0, f e.1)) es) q ∙ find-map es q
+
+    -- an insert into the list is an insert into the map
+    pub insert-from_map : IsEquivalence eq → IsAntisymmetric R → (es : List (K × V)) (k : K) (w : V)
+        → from_entries {R = R} (map (λ e. (e.0, f e.1)) (insert_entry eq es k w)) ≡ insert (from_entries (map (λ e. (e.0, f e.1)) es)) k (f w)
+    insert-from_map laws exact es k w = same_map o exact _ _ at
+      where
+        by : (q : K) (b : Bool) → option_map f (cond b (Some w) (lookup (eq q) es)) ≡ cond b (Some (f w)) (option_map f (lookup (eq q) es))
+        by q true = refl
+        by q false = refl
+
+        at : (q : K) → get (from_entries {R = R} (map (λ e. (e.0, f e.1)) (insert_entry eq es k w))) q ≡ get (insert (from_entries {R = R} (map (λ e. (e.0, f e.1)) es)) k (f w)) q
+        at q =
+            get-from_map (insert_entry eq es k w) q ∙ ap (option_map f) (lookup-insert_entry eq laws es k w q) ∙ by q (eq k q)
+            ∙ ap (λ b. cond b (Some (f w)) (option_map f (lookup (eq q) es))) (laws.symm k q ∙ ties q k)
+            ∙ sym (get-insert o (from_entries (map (λ e. (e.0, f e.1)) es)) k (f w) q ∙ ap (cond (eq_by_cmp R q k) (Some (f w))) (get-from_map es q))

@@ -1,0 +1,76 @@
+-- A list with distinct keys is entered into a map entry by entry, and the table that opens so.
+use Rattle.std.proofs.Common.{◌≡◌, ℕ, zero, suc, ◌+◌, ◌<◌, Bool, true, false, cond, List, [], ◌∷◌, ◌++◌, map, length, take, get_or, refl, sym, ap, ◌∙◌, subst, arith, true≢false, Some, Option}
+use Rattle.std.specs.Cmp.Lexicographic.{bytes_decides}
+use Rattle.std.proofs.lemmas.List.{map-id, map-append, take_more}
+use Rattle.std.specs.FinMap.{from_entries}
+use Rattle.indexmap.specs.IndexMap.{insert_entry}
+use Rattle.dt_lists.specs.Lists.{AllIn}
+use Rattle.dt_access.specs.Clash.{Bytes, same_key}
+use Rattle.dt_access.specs.Orders.{HasDistinctKeys}
+use Rattle.dt_text.specs.declared.Value.{Value}
+use Rattle.dt_table.specs.Table.{Table, Row, opening, opening_home}
+use Rattle.dt_table.specs.Stored.{opening_row}
+use Rattle.dt_table.specs.History.{row_in, IsStored}
+use Rattle.dt_table.proofs.TableLaws.{same_key-other}
+use Rattle.dt_table.specs.declared.stored.StoredMove.{StoredMove}
+use Rattle.dt_table.specs.declared.stored.StoredRow.{StoredRow}
+
+at_place : {A : Type 0} (P : Bytes → Type 0) (xs : List (Bytes × A)) (i : ℕ) (d : Bytes × A) → AllIn P (map (λ e. e.0) xs) → i < length xs → P (get_or xs i d).0
+at_place P [] i d all within = absurd (omega arith)
+at_place P (x ∷ xs) zero d all within = all.0
+at_place P (x ∷ xs) (suc i) d all within = at_place P xs i d all.1 (omega arith)
+
+module _ {A B : Type 0} (entry : Bytes × A → Bytes × B) (same : (e : Bytes × A) → (entry e).0 ≡ e.0) where
+  -- the entry of a key that none of the entries before it has goes last
+  pub insert_entry-next : (xs : List (Bytes × A)) (i : ℕ) (d : Bytes × A) (w : B) → HasDistinctKeys xs → i < length xs
+      → insert_entry same_key (map entry (take i xs)) (get_or xs i d).0 w ≡ map entry (take i xs) ++ ((get_or xs i d).0, w) ∷ []
+  insert_entry-next [] i d w distinct within = absurd (omega arith)
+  insert_entry-next (x ∷ xs) zero d w distinct within = refl
+  insert_entry-next (x ∷ xs) (suc i) d w distinct within =
+      let key = (get_or xs i d).0 in
+      let apart : same_key key (entry x).0 ≡ false = ap (same_key key) (same x) ∙ same_key-other key x.0 (λ e. at_place (λ y. ¬ (x.0 ≡ y)) xs i d distinct.0 (omega arith) (sym e)) in
+      ap (λ b. cond b (((entry x).0, w) ∷ map entry (take i xs)) (entry x ∷ insert_entry same_key (map entry (take i xs)) key w)) apart
+      ∙ ap (λ l. entry x ∷ l) (insert_entry-next xs i d w distinct.1 (omega arith))
+
+  -- so the map is the list, one entry further
+  pub map-next : (xs : List (Bytes × A)) (i : ℕ) (d : Bytes × A) → HasDistinctKeys xs → i < length xs
+      → insert_entry same_key (map entry (take i xs)) (entry (get_or xs i d)).0 (entry (get_or xs i d)).1 ≡ map entry (take (i + 1) xs)
+  map-next xs i d distinct within =
+      let x = get_or xs i d in
+      ap (λ k. insert_entry same_key (map entry (take i xs)) k (entry x).1) (same x) ∙ insert_entry-next xs i d (entry x).1 distinct within
+      ∙ ap (λ k. map entry (take i xs) ++ (k, (entry x).1) ∷ []) (sym (same x))
+      ∙ sym (ap (map entry) (take_more xs i d within) ∙ map-append entry (take i xs) (x ∷ []))
+
+pub next-entry : {A : Type 0} (xs : List (Bytes × A)) (i : ℕ) (d : Bytes × A) → HasDistinctKeys xs → i < length xs
+    → insert_entry same_key (take i xs) (get_or xs i d).0 (get_or xs i d).1 ≡ take (i + 1) xs
+next-entry xs i d distinct within =
+    let x = get_or xs i d in
+    ap (λ es. insert_entry same_key es x.0 x.1) (sym (map-id (take i xs))) ∙ map-next (λ e. e) (λ _. refl) xs i d distinct within ∙ map-id (take (i + 1) xs)
+
+pub next-opening_row : (regions : ℕ) (homes : List (Bytes × ℕ)) (rows : List (Bytes × Value)) (i : ℕ) (d : Bytes × Value) → HasDistinctKeys rows → i < length rows
+    → insert_entry same_key (map (opening_row regions homes) (take i rows)) (get_or rows i d).0 (opening_row regions homes (get_or rows i d)).1 ≡ map (opening_row regions homes) (take (i + 1) rows)
+next-opening_row regions homes rows i d distinct within = map-next (opening_row regions homes) (λ _. refl) rows i d distinct within
+
+-- ---- the table that opens so
+
+-- shows the values that are listed, and no move
+shown-opened : (regions : ℕ) (homes : List (Bytes × ℕ)) (rows : List (Bytes × Value))
+    → map {B = Bytes × Row} (λ e. (e.0, row_in [] e.1)) (map (opening_row regions homes) rows) ≡ map (λ r. (r.0, record { value = Some r.1; moves = [] })) rows
+shown-opened regions homes [] = refl
+shown-opened regions homes (r ∷ rows) = ap (λ l. (r.0, record { value = Some r.1; moves = [] }) ∷ l) (shown-opened regions homes rows)
+
+pub state-opened : (regions : ℕ) (homes : List (Bytes × ℕ)) (rows : List (Bytes × Value)) (index : List (Bytes × ℕ)) (stored : List (Bytes × StoredRow)) (moves : List StoredMove)
+    → index ≡ homes → stored ≡ map (opening_row regions index) rows → moves ≡ []
+    → ◌≡◌ {A = Table} (record { regions = regions; homes = index; rows = from_entries (map (λ e. (e.0, row_in moves e.1)) stored) }) (opening regions homes rows)
+state-opened regions homes rows index stored moves same is none =
+    (λ i. record { regions = regions; homes = same i; rows = from_entries (map (λ e. (e.0, row_in (none i) e.1)) (is i)) })
+    ∙ ap (λ es. record { regions = regions; homes = homes; rows = from_entries es }) (shown-opened regions index rows)
+
+-- and each row fits its moves
+stored-opening : (regions : ℕ) (homes : List (Bytes × ℕ)) (rows : List (Bytes × Value)) → AllIn (IsStored regions homes []) (map (opening_row regions homes) rows)
+stored-opening regions homes [] = tt
+stored-opening regions homes (r ∷ rows) = (record { last = tt; counter = refl; home = refl }, stored-opening regions homes rows)
+
+pub stored-opened : (regions : ℕ) (homes : List (Bytes × ℕ)) (rows : List (Bytes × Value)) (stored : List (Bytes × StoredRow)) (moves : List StoredMove)
+    → stored ≡ map (opening_row regions homes) rows → moves ≡ [] → AllIn (IsStored regions homes moves) stored
+stored-opened regions homes rows stored moves is none = rw (is, none) (stored-opening regions homes rows)

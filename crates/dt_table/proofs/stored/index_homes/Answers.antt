@@ -1,0 +1,14 @@
+use Rattle.std.proofs.Common.{ℕ, ◌∙◌, ap, take}
+use Rattle.indexmap.specs.IndexMap.{insert_entry}
+use Rattle.dt_access.specs.Clash.{Bytes, same_key}
+use Rattle.dt_table.proofs.Opened.{next-entry}
+use Rattle.dt_table.proofs.stored.index_homes.Goals as goal
+
+pub loop-key-preserved : goal.loop-key-preserved
+loop-key-preserved c =
+    let x = c.loop-key-item.result in
+    let done = take c.loop-key.key-index c.args.homes.now in
+    c.in_ok-insert.ensures.entries
+    ∙ (λ i. insert_entry same_key (c.loop-key.invariant i) (c.in_ok-copy.ensures.same i) x.1)
+    ∙ ap (λ (y : Bytes × ℕ). insert_entry same_key done y.0 y.1) c.loop-key-item.is
+    ∙ next-entry c.args.homes.now c.loop-key.key-index x c.requires c.loop-key-test.true

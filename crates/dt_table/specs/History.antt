@@ -1,0 +1,72 @@
+-- How a table keeps its moves: those of all rows in one list, each with the place of the move that it follows.
+use Rattle.std.specs.Prelude.{◌≡◌, ◌+◌, ◌-◌, ◌<◌, ◌^◌, ℕ, zero, suc, slice_get, option_map, List, [], ◌∷◌, ◌++◌, map, length, get_or, min, Option, Some, None, vec_len, vec_capacity}
+use Rattle.std.specs.FinMap.{from_entries}
+use Rattle.indexmap.specs.IndexMap.{spare}
+use Rattle.dt_lists.specs.Lists.{AllIn}
+use Rattle.dt_access.specs.Clash.{Bytes}
+use Rattle.dt_access.specs.declared.TxnId.{TxnId}
+use Rattle.dt_table.specs.Table.{Moved, Row, Kept, opening_home, home_after}
+use Rattle.dt_table.specs.declared.stored.StoredMove.{StoredMove}
+use Rattle.dt_table.specs.declared.stored.StoredRow.{StoredRow}
+use Rattle.dt_table.specs.declared.table.Table.TheInside.{Inside}
+
+-- the move itself
+abbrev pub moved_of : StoredMove → Moved
+moved_of m = record { target = m.target; by = m.by }
+
+-- the history that ends at a place, where these are the histories that end at each place: none where no place is named
+abbrev pub history_at : List (List Moved) → Option ℕ → List Moved
+history_at known None = []
+history_at known (Some place) = get_or known place []
+
+-- the histories that end at each place: that of the move which it follows, and then the move itself
+abbrev pub histories_after : List (List Moved) → List StoredMove → List (List Moved)
+histories_after known [] = known
+histories_after known (m ∷ moves) = histories_after (known ++ (history_at known m.before ++ moved_of m ∷ []) ∷ []) moves
+
+-- the moves of the row whose last move stands at this place, oldest first
+abbrev pub history : List StoredMove → Option ℕ → List Moved
+history moves last = history_at (histories_after [] moves) last
+
+-- who made the move `number` of these, counted from 1, if there is one
+abbrev pub mover_in : List Moved → ℕ → Option TxnId
+mover_in moves zero = None
+mover_in moves (suc earlier) = option_map (λ m. m.by) (slice_get moves earlier)
+
+-- the row that is stored so
+abbrev pub row_in : List StoredMove → StoredRow → Row
+row_in moves row = record { value = row.value; moves = history moves row.last }
+
+-- no place, or one below the bound
+abbrev pub IsBelow : ℕ → Option ℕ → Type 0
+IsBelow bound None = Unit {0}
+IsBelow bound (Some place) = place < bound
+
+-- each move follows an earlier one, or none; the first of them stands at this place
+abbrev pub AreLinked : ℕ → List StoredMove → Type 0
+AreLinked place [] = Unit {0}
+AreLinked place (m ∷ moves) = IsBelow place m.before × AreLinked (place + 1) moves
+
+-- a stored row has the home and the counter that its moves give it
+pub record IsStored (regions : ℕ) (homes : List (Bytes × ℕ)) (moves : List StoredMove) (e : Bytes × StoredRow) : Type 0 where
+  pub last : IsBelow (length moves) e.1.last
+  pub counter : e.1.counter ≡ length (history moves e.1.last)
+  pub home : e.1.home ≡ home_after (opening_home regions homes e.0) (history moves e.1.last)
+
+-- the table that is kept so, and how many writes and moves fit before memory is needed
+abbrev pub kept_of : Inside → Kept
+kept_of a = record {
+  state = record {
+    regions = a.regions;
+    homes = a.homes.entries;
+    rows = from_entries (map (λ e. (e.0, row_in a.moves.items e.1)) a.rows.entries);
+  };
+  spare = min (spare a.rows) (min (vec_capacity a.moves - vec_len a.moves) (2 ^ 32 - 1 - vec_len a.moves));
+}
+
+-- what every table keeps: there is a region, the moves are fewer than 4,294,967,296 and linked, and each row fits them
+pub record IsSound (a : Inside) : Type 0 where
+  pub regions : 0 < a.regions
+  pub few : vec_len a.moves < 2 ^ 32
+  pub linked : AreLinked 0 a.moves.items
+  pub rows : AllIn (IsStored a.regions a.homes.entries a.moves.items) a.rows.entries

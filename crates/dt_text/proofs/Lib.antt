@@ -1,0 +1,6 @@
+pub mod Allowed
+pub mod Cuts
+pub mod Numerals
+pub mod ReadingAt
+pub mod ReadingLaws
+pub mod ReadingSteps

@@ -1,0 +1,144 @@
+ghost use Rattle.std.specs.Prelude.{◌≡◌, ◌↔◌, ◌<◌, ◌≤◌, ◌^◌, ℕ, [], List, length, refl, nat_eq, IfOk, Some};
+ghost use Rattle.std.specs.Ordering.{nat_cmp};
+ghost use Rattle.std.specs.Cmp.{partial_equiv_from_equiv};
+ghost use Rattle.std.specs.Cmp.Lexicographic.{pointwise, slice_cmp, nat_list_eq_equiv, nat_list_cmp_total, texts_ties, texts_po, bytes_decides};
+ghost use Rattle.std.specs.Hash as fed;
+ghost use Rattle.std.proofs.Common.{ap};
+ghost use Rattle.dt_text.specs.Texts.{IsName, is_name_byte, first_outside};
+
+use crate::errors::KeyError;
+use crate::no_memory::NoMemory;
+use std::alloc::Global;
+use std::cmp::Ordering;
+use std::hash::{Hash, Hasher};
+use std::marker::Model;
+
+/// A name, as sessions and procedures have: 1 to 32 bytes out of `a-z`, `0-9` and `_`.
+///
+/// Contracts see its bytes. Names are ordered by their bytes, a proper prefix being less.
+#[derive(Debug, Drop)]
+pub struct Name {
+    bytes: Vec<u8>,
+}
+
+impl Model for Name {
+    ghost Value = { List ℕ };
+
+    ghost view = { λ n. n.bytes.items };
+
+    ghost invariant = { λ n. IsName n.bytes.items };
+}
+
+impl Name {
+    /// The longest name, in bytes.
+    pub const LONGEST: usize = 32;
+
+    /// Reads a name, which has exactly these bytes. The causes of a refusal are tried in the
+    /// order of `KeyError`.
+    #[tactic(auto, using(crate::proofs::Allowed::none_outside))]
+    pub fn read(alloc: Global, bytes: &[u8]) -> Result<Self, KeyError>
+        requires { length bytes.now < 2 ^ 32 }
+        ensures ok { IfOk result (λ name. (name ≡ bytes.now) × IsName name) }
+        ensures empty { (result ≡ Err KeyError.Empty) ↔ (bytes.now ≡ []) }
+        ensures long { (result ≡ Err KeyError.Long) ↔ (32 < length bytes.now) }
+
+        // Where the length fits, the first byte that no name has is named.
+        ensures bad_byte { (place : ℕ) → (result ≡ Err (KeyError.BadByte place))
+            ↔ ((length bytes.now ≤ 32) × (first_outside is_name_byte bytes.now ≡ Some place)) }
+        ensures no_memory { result ≡ Err KeyError.NoMemory → IsName bytes.now }
+    {
+        if bytes.is_empty() {
+            return Err(KeyError::Empty);
+        }
+        if bytes.len() > Name::LONGEST {
+            return Err(KeyError::Long);
+        }
+        match first_bad(bytes) {
+            Some(place) => Err(KeyError::BadByte(place as u32)),
+            None => Ok(Name {
+                bytes: Vec::from_slice(alloc, bytes)?,
+            }),
+        }
+    }
+
+    /// The bytes of the name.
+    pub fn bytes(&self) -> &[u8]
+        ensures same { result.now ≡ self.now }
+        ensures name { IsName self.now }
+    {
+        self.bytes.as_slice()
+    }
+
+    /// A name with the same bytes.
+    pub fn copy(&self, alloc: Global) -> Result<Self, NoMemory>
+        ensures same { IfOk result (λ name. name ≡ self.now) }
+        ensures name { IsName self.now }
+    {
+        Ok(Name {
+            bytes: Vec::from_slice(alloc, self.bytes.as_slice())?,
+        })
+    }
+}
+
+/// The place of the first byte that a name may not have.
+fn first_bad(bytes: &[u8]) -> Option<usize>
+    ensures { result ≡ first_outside is_name_byte bytes.now }
+{
+    bytes.iter().position(|byte| !is_allowed(*byte))
+}
+
+/// Whether a name may have the byte.
+fn is_allowed(byte: u8) -> bool
+    ensures { result ≡ is_name_byte byte }
+{
+    matches!(byte, b'a'..=b'z' | b'0'..=b'9' | b'_')
+}
+
+impl PartialEq for Name {
+    ghost eq = { pointwise nat_eq };
+
+    ghost laws = { partial_equiv_from_equiv nat_list_eq_equiv };
+
+    fn eq(&self, other: &Self) -> bool {
+        self.bytes.as_slice() == other.bytes.as_slice()
+    }
+}
+
+impl Eq for Name {
+    ghost laws = { nat_list_eq_equiv };
+}
+
+impl PartialOrd for Name {
+    ghost partial_cmp = { λ a b. Some (slice_cmp nat_cmp a b) };
+
+    ghost laws = { texts_po };
+
+    fn partial_cmp(&self, other: &Self) -> Option<Ordering> {
+        Some(self.cmp(other))
+    }
+}
+
+impl Ord for Name {
+    ghost cmp = { slice_cmp nat_cmp };
+
+    ghost total = { nat_list_cmp_total };
+
+    ghost matches_partial_cmp = { λ a b. refl };
+
+    ghost matches_eq = { texts_ties };
+
+    fn cmp(&self, other: &Self) -> Ordering {
+        self.bytes.as_slice().cmp(other.bytes.as_slice())
+    }
+}
+
+impl Hash for Name {
+    ghost hash_input = { fed.str };
+
+    ghost respects_eq = { λ a b e. ap fed.str ((bytes_decides a b).0 e) };
+
+    fn hash<H: Hasher>(&self, state: &mut H) {
+        state.write(self.bytes.as_slice());
+        state.write_u8(0xff);
+    }
+}

@@ -1,0 +1,160 @@
+ghost use Rattle.std.specs.Prelude.{◌≡◌, ◌↔◌, ◌<◌, ◌≤◌, ◌^◌, ℕ, List, length, refl, nat_eq, IfOk, IsTrue, OnOk, OnErr, Some, [], ◌∷◌, ◌++◌};
+ghost use Rattle.std.specs.Ordering.{nat_cmp};
+ghost use Rattle.std.specs.Cmp.{partial_equiv_from_equiv};
+ghost use Rattle.std.specs.Cmp.Lexicographic.{pointwise, slice_cmp, nat_list_eq_equiv, nat_list_cmp_total, texts_ties, texts_po, bytes_decides};
+ghost use Rattle.std.specs.Hash as fed;
+ghost use Rattle.std.proofs.Common.{ap};
+ghost use Rattle.dt_text.specs.Texts.{IsStr, is_text_byte, first_outside};
+
+use crate::errors::StrError;
+use crate::no_memory::NoMemory;
+use std::alloc::Global;
+use std::cmp::Ordering;
+use std::hash::{Hash, Hasher};
+use std::marker::Model;
+
+/// A text: 0 to 256 bytes, each a space or a visible character of ASCII (0x20 to 0x7E).
+///
+/// Contracts see its bytes. Strs are ordered by their bytes, a proper prefix being less.
+#[derive(Debug, Drop)]
+pub struct Str {
+    bytes: Vec<u8>,
+}
+
+impl Model for Str {
+    ghost Value = { List ℕ };
+
+    ghost view = { λ t. t.bytes.items };
+
+    ghost invariant = { λ t. IsStr t.bytes.items };
+}
+
+impl Str {
+    /// The longest text, in bytes.
+    pub const LONGEST: usize = 256;
+
+    /// Reads a text, which has exactly these bytes. The causes of a refusal are tried in the
+    /// order of `StrError`.
+    #[tactic(auto, using(crate::proofs::Allowed::none_outside))]
+    pub fn read(alloc: Global, bytes: &[u8]) -> Result<Self, StrError>
+        requires { length bytes.now < 2 ^ 32 }
+        ensures ok { IfOk result (λ text. (text ≡ bytes.now) × IsStr text) }
+        ensures long { (result ≡ Err StrError.Long) ↔ (256 < length bytes.now) }
+
+        // Where the length fits, the first byte that no text has is named.
+        ensures bad_byte { (place : ℕ) → (result ≡ Err (StrError.BadByte place))
+            ↔ ((length bytes.now ≤ 256) × (first_outside is_text_byte bytes.now ≡ Some place)) }
+        ensures no_memory { result ≡ Err StrError.NoMemory → IsStr bytes.now }
+    {
+        if bytes.len() > Str::LONGEST {
+            return Err(StrError::Long);
+        }
+        match first_bad(bytes) {
+            Some(place) => Err(StrError::BadByte(place as u32)),
+            None => Ok(Str {
+                bytes: Vec::from_slice(alloc, bytes)?,
+            }),
+        }
+    }
+
+    /// The text of no bytes. Takes no memory.
+    pub(crate) fn new(alloc: Global) -> Self
+        ensures { result ≡ [] }
+    {
+        Str {
+            bytes: Vec::new(alloc),
+        }
+    }
+
+    /// Adds a byte at the back; after `NoMemory` the text is as before.
+    pub(crate) fn push(&mut self, byte: u8) -> Result<(), NoMemory>
+        requires room { length self.old < 256 }
+        requires allowed { IsTrue (is_text_byte byte) }
+        ensures added { OnOk result (self.new ≡ self.old ++ byte ∷ []) }
+        ensures same { OnErr result (self.new ≡ self.old) }
+    {
+        self.bytes.push(byte)?;
+        Ok(())
+    }
+
+    /// The bytes of the text.
+    pub fn bytes(&self) -> &[u8]
+        ensures same { result.now ≡ self.now }
+        ensures text { IsStr self.now }
+    {
+        self.bytes.as_slice()
+    }
+
+    /// A text with the same bytes.
+    pub fn copy(&self, alloc: Global) -> Result<Self, NoMemory>
+        ensures same { IfOk result (λ text. text ≡ self.now) }
+        ensures text { IsStr self.now }
+    {
+        Ok(Str {
+            bytes: Vec::from_slice(alloc, self.bytes.as_slice())?,
+        })
+    }
+}
+
+/// The place of the first byte that a text may not have.
+fn first_bad(bytes: &[u8]) -> Option<usize>
+    ensures { result ≡ first_outside is_text_byte bytes.now }
+{
+    bytes.iter().position(|byte| !is_allowed(*byte))
+}
+
+/// Whether a text may have the byte.
+fn is_allowed(byte: u8) -> bool
+    ensures { result ≡ is_text_byte byte }
+{
+    matches!(byte, b' '..=b'~')
+}
+
+impl PartialEq for Str {
+    ghost eq = { pointwise nat_eq };
+
+    ghost laws = { partial_equiv_from_equiv nat_list_eq_equiv };
+
+    fn eq(&self, other: &Self) -> bool {
+        self.bytes.as_slice() == other.bytes.as_slice()
+    }
+}
+
+impl Eq for Str {
+    ghost laws = { nat_list_eq_equiv };
+}
+
+impl PartialOrd for Str {
+    ghost partial_cmp = { λ a b. Some (slice_cmp nat_cmp a b) };
+
+    ghost laws = { texts_po };
+
+    fn partial_cmp(&self, other: &Self) -> Option<Ordering> {
+        Some(self.cmp(other))
+    }
+}
+
+impl Ord for Str {
+    ghost cmp = { slice_cmp nat_cmp };
+
+    ghost total = { nat_list_cmp_total };
+
+    ghost matches_partial_cmp = { λ a b. refl };
+
+    ghost matches_eq = { texts_ties };
+
+    fn cmp(&self, other: &Self) -> Ordering {
+        self.bytes.as_slice().cmp(other.bytes.as_slice())
+    }
+}
+
+impl Hash for Str {
+    ghost hash_input = { fed.str };
+
+    ghost respects_eq = { λ a b e. ap fed.str ((bytes_decides a b).0 e) };
+
+    fn hash<H: Hasher>(&self, state: &mut H) {
+        state.write(self.bytes.as_slice());
+        state.write_u8(0xff);
+    }
+}

@@ -1,0 +1,3 @@
+pub mod HomeSets
+pub mod PartKeys
+pub mod Sight

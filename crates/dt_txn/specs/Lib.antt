@@ -1,0 +1,11 @@
+pub mod Transaction
+pub mod Execution
+pub mod Serial
+pub mod Replica
+pub use Rattle.dt_table.specs.Table
+pub use Rattle.dt_eval.specs.Meaning
+pub use Rattle.dt_sched.specs.Views
+pub use Rattle.dt_sched.specs.Decide
+pub use Rattle.dt_access.specs.Ids
+pub use Rattle.dt_access.specs.Clash
+pub use Rattle.dt_lists.specs.Lists

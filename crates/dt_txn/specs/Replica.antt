@@ -1,0 +1,79 @@
+use Rattle.std.specs.Prelude.{◌≡◌, ◌<◌, ◌+◌, ℕ, List, [], ◌∷◌, ◌++◌, take, map, set, slice_index, length, Option, Some, None}
+use Rattle.dt_access.specs.declared.TxnId.{TxnId}
+use Rattle.dt_events.specs.declared.Event.{Event}
+use Rattle.dt_events.specs.declared.Event.TheVariants.{Submit, Append, Deliver, Insert, Resolve, Execute, Answer}
+use Rattle.dt_sched.specs.Views.{View, log_at}
+use Rattle.dt_sched.specs.Decide.{IsExecutable, IsResolvable}
+use Rattle.dt_table.specs.Table.{Table}
+use Rattle.dt_txn.specs.declared.txn.Txn.{Txn}
+use Rattle.dt_txn.specs.declared.outcome.Outcome.{Outcome}
+use Rattle.dt_txn.specs.Execution.{one}
+use Rattle.dt_txn.specs.Serial.{after}
+
+-- the region whose step an event is: the first number in its text
+abbrev pub region_of : Event → ℕ
+region_of (Submit region session) = region
+region_of (Append home source number) = home
+region_of (Deliver region home first last) = region
+region_of (Insert region home) = region
+region_of (Resolve region ids) = region
+region_of (Execute region id) = region
+region_of (Answer region session) = region
+
+-- what a region has made of the logs that it received
+pub record Replica : Type 0 where
+  -- how many parts of each home's log it inserted
+  pub inserted : List ℕ
+  -- the deadlocked groups that it resolved, oldest first
+  pub resolved : List (List TxnId)
+  -- what it executed, in order, each with its outcome
+  pub done : List (TxnId × Outcome)
+  pub table : Table
+
+-- the ids that a region has executed, in order
+abbrev pub done_ids : Replica → List TxnId
+done_ids here = map (λ d. d.0) here.done
+
+-- of each log the front of the given length; where no length is given, nothing
+abbrev pub fronts : List ℕ → View → View
+fronts lengths [] = []
+fronts [] (log ∷ logs) = [] ∷ fronts [] logs
+fronts (n ∷ lengths) (log ∷ logs) = take n log ∷ fronts lengths logs
+
+-- the view of a region: what it inserted of the logs that it received
+abbrev pub view_of : View → Replica → View
+view_of received here = fronts here.inserted received
+
+-- which of its own three kinds of steps a region may make
+abbrev pub MayStep : View → Replica → Event → Type 0
+-- more of that log was received than is inserted
+MayStep received here (Insert region home) = slice_index here.inserted home < length (log_at received home)
+-- the ids are a group that is resolvable here
+MayStep received here (Resolve region ids) = IsResolvable (view_of received here) here.resolved (done_ids here) ids
+-- the transaction is executable here
+MayStep received here (Execute region id) = IsExecutable (view_of received here) here.resolved (done_ids here) id
+MayStep received here event = ⊥
+
+-- the region after executing a transaction
+abbrev pub executed : Replica → Option Txn → Replica
+executed here None = here
+executed here (Some txn) = record here { done = here.done ++ (txn.id, (one txn here.table).0) ∷ []; table = after txn here.table }
+
+-- the region after one of these steps; `txn_of` finds a transaction by its id
+abbrev pub stepped : (TxnId → Option Txn) → Replica → Event → Replica
+stepped txn_of here (Insert region home) = record here { inserted = set here.inserted home (slice_index here.inserted home + 1) }
+stepped txn_of here (Resolve region ids) = record here { resolved = here.resolved ++ ids ∷ [] }
+stepped txn_of here (Execute region id) = executed here (txn_of id)
+stepped txn_of here event = here
+
+-- the region has inserted all that it received, and may neither execute nor resolve anything
+pub record IsDrained (received : View) (here : Replica) : Type 0 where
+  pub inserted : (home : ℕ) → slice_index here.inserted home ≡ length (log_at received home)
+  pub executed : (id : TxnId) → ¬ (IsExecutable (view_of received here) here.resolved (done_ids here) id)
+  pub resolved : (ids : List TxnId) → ¬ (IsResolvable (view_of received here) here.resolved (done_ids here) ids)
+
+-- the events are steps of region `region`, each of which it may make after those before it
+abbrev pub IsContinuation : (TxnId → Option Txn) → ℕ → View → Replica → List Event → Type 0
+IsContinuation txn_of region received here [] = Unit {0}
+IsContinuation txn_of region received here (event ∷ events) =
+    (region_of event ≡ region) × MayStep received here event × IsContinuation txn_of region received (stepped txn_of here event) events

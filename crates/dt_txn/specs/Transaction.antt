@@ -1,0 +1,84 @@
+use Rattle.std.specs.Prelude.{◌≡◌, ◌<◌, ◌==◌, nat_lt, ℕ, List, [], ◌∷◌, ◌++◌, map, filter, if◌then◌else◌}
+use Rattle.dt_lists.specs.Lists.{AllIn}
+use Rattle.dt_access.specs.Clash.{Bytes}
+use Rattle.dt_access.specs.declared.TxnId.{TxnId}
+use Rattle.dt_access.specs.declared.Mode.{Mode}
+use Rattle.dt_access.specs.declared.Mode.TheVariants.{Write}
+use Rattle.dt_access.specs.declared.Access.{Access}
+use Rattle.dt_access.specs.declared.Part.{Part}
+use Rattle.dt_eval.specs.Meaning.{Fits, HasKeys, keys_of}
+use Rattle.dt_table.specs.Table.{Table, home_of, counter_of}
+use Rattle.dt_txn.specs.declared.txn.Body.{Body}
+use Rattle.dt_txn.specs.declared.txn.Body.TheVariants.{Call, Move}
+use Rattle.dt_txn.specs.declared.txn.Txn.{Txn}
+
+-- the keys that a body uses, in ascending order, each with its mode
+abbrev pub uses_of : Body → List (Bytes × Mode)
+uses_of (Call proc args) = keys_of proc args
+uses_of (Move key target) = (key, Write) ∷ []
+
+-- a use of a key, with the home and the number of moves that a table gives it
+abbrev pub annotated : Table → Bytes × Mode → Access
+annotated t used = record { key = used.0; mode = used.1; home = home_of t used.0; counter = counter_of t used.0 }
+
+-- the transaction of this id for a body, as a region with this table submits it
+abbrev pub annotate : TxnId → Body → Table → Txn
+annotate id body t = record { id = id; body = body; access = map (annotated t) (uses_of body) }
+
+-- the set with one more number, as an ascending list
+abbrev pub with_number : ℕ → List ℕ → List ℕ
+with_number n [] = n ∷ []
+with_number n (m ∷ ms) = if nat_lt n m then n ∷ m ∷ ms else (if n == m then m ∷ ms else m ∷ with_number n ms)
+
+-- the set of these numbers, as an ascending list
+abbrev pub set_of : List ℕ → List ℕ
+set_of [] = []
+set_of (n ∷ ns) = with_number n (set_of ns)
+
+-- where a move leads, if the body is one
+abbrev pub targets_of : Body → List ℕ
+targets_of (Call proc args) = []
+targets_of (Move key target) = target ∷ []
+
+-- the key and the mode of an access entry
+abbrev pub used_of : Access → Bytes × Mode
+used_of a = (a.key, a.mode)
+
+-- the homes of a transaction: those of its keys, and for a move also its target
+abbrev pub homes_of : Txn → List ℕ
+homes_of txn = set_of (map (λ a. a.home) txn.access ++ targets_of txn.body)
+
+-- the entries that the part at a home has: those of that home, and in each part of a move its one entry
+abbrev pub entries_at : Body → ℕ → List Access → List Access
+entries_at (Call proc args) home access = filter (λ a. a.home == home) access
+entries_at (Move key target) home access = access
+
+-- the part of a transaction at a home
+abbrev pub part_of : Txn → ℕ → Part
+part_of txn home = record {
+  id = txn.id;
+  home = home;
+  keys = map used_of (entries_at txn.body home txn.access);
+  homes = homes_of txn;
+}
+
+-- the parts of a transaction, one for each home, in ascending order of homes
+abbrev pub parts_of : Txn → List Part
+parts_of txn = map (part_of txn) (homes_of txn)
+
+-- a body can be run: a call's arguments fit and name keys
+abbrev pub CanRun : Body → Type 0
+CanRun (Call proc args) = Fits proc args × HasKeys proc args
+CanRun (Move key target) = Unit {0}
+
+-- the body's arguments fit and name keys, and a move leads to a region
+abbrev pub BodyFits : ℕ → Body → Type 0
+BodyFits regions (Call proc args) = Fits proc args × HasKeys proc args
+BodyFits regions (Move key target) = target < regions
+
+-- a transaction of a cluster with so many regions: its body fits, it uses the keys of its body in their modes, and its
+-- homes are regions
+pub record IsValid (regions : ℕ) (txn : Txn) : Type 0 where
+  pub body : BodyFits regions txn.body
+  pub uses : map used_of txn.access ≡ uses_of txn.body
+  pub homes : AllIn (λ home. home < regions) (homes_of txn)

@@ -1,0 +1,59 @@
+ghost use Rattle.std.specs.Prelude.{◌≡◌, IfOk, map};
+ghost use Rattle.dt_txn.specs.Transaction.{CanRun, annotate, annotated, used_of, uses_of};
+
+use crate::txn::{Body, Txn};
+use dt_access::{Access, Accesses, Keys, Mode, TxnId};
+use dt_eval::{KeysError, keys_of};
+use dt_table::Table;
+use dt_text::NoMemory;
+use std::alloc::Global;
+
+/// The transaction of this id for a body, as a region with this table submits it: each of its keys has the home and the
+/// number of moves that the table gives it.
+#[tactic(auto, using(crate::proofs::PartKeys::annotated_uses))]
+pub fn annotate(alloc: Global, id: TxnId, body: Body, table: &Table) -> Result<Txn, NoMemory>
+    requires { CanRun body }
+    ensures annotated { IfOk result (λ txn. txn ≡ annotate id body table.now.state) }
+    ensures uses { IfOk result (λ txn. map used_of txn.access ≡ uses_of body) }
+{
+    let access = annotated(alloc, &body, table)?;
+    Ok(Txn { id, body, access })
+}
+
+/// The access list of a body by this table.
+fn annotated(alloc: Global, body: &Body, table: &Table) -> Result<Accesses, NoMemory>
+    requires { CanRun body.now }
+    ensures { IfOk result (λ access. access ≡ map (annotated table.now.state) (uses_of body.now)) }
+{
+    let uses = uses(alloc, body)?;
+    let mut access = Accesses::new(alloc);
+    for (key, mode) in uses.as_slice() {
+        let mastership = table.mastership(key);
+        access.push(Access {
+            key: key.copy(alloc)?,
+            mode: *mode,
+            home: mastership.home,
+            counter: mastership.counter,
+        })?;
+    }
+    Ok(access)
+}
+
+/// The keys that a body uses, in ascending order, each with its mode.
+fn uses(alloc: Global, body: &Body) -> Result<Keys, NoMemory>
+    requires { CanRun body.now }
+    ensures { IfOk result (λ keys. keys ≡ uses_of body.now) }
+{
+    match body {
+        Body::Call(proc, args) => match keys_of(alloc, *proc, args.as_slice()) {
+            Ok(keys) => Ok(keys),
+            Err(KeysError::NoMemory) => Err(NoMemory),
+            Err(KeysError::BadKey(_)) => unreachable!(),
+        },
+        Body::Move(key, _) => {
+            let mut keys = Keys::new(alloc);
+            keys.push((key.copy(alloc)?, Mode::Write))?;
+            Ok(keys)
+        }
+    }
+}

@@ -1,0 +1,146 @@
+ghost use Rattle.std.specs.Prelude.{◌≡◌, IfOk, length, map};
+ghost use Rattle.std.specs.Option.{option_copied};
+ghost use Rattle.dt_table.specs.Table.{next_mover};
+ghost use Rattle.dt_txn.specs.Transaction.{CanRun, used_of, uses_of};
+ghost use Rattle.dt_txn.specs.Execution.{execution, see, one, reads_of, result_of, stale_of, of_finish, no_effect};
+
+use crate::outcome::{Outcome, Seen, Seens};
+use crate::txn::{Body, Txn};
+use dt_access::{Access, TryCopy, TxnId, Writes};
+use dt_eval::{Finish, Reads, Values, run};
+use dt_table::{Effect, Table};
+use dt_text::{Key, NoMemory, Value};
+use std::alloc::Global;
+
+/// What a transaction sees in a table, for each entry of its access list, in order.
+pub fn see(alloc: Global, txn: &Txn, table: &Table) -> Result<Seens, NoMemory>
+    ensures { IfOk result (λ seen. seen ≡ see txn.now table.now.state) }
+{
+    let mut seen = Seens::new(alloc);
+    for entry in txn.access.as_slice() {
+        seen.push(Seen {
+            value: copied(alloc, table.get(&entry.key))?,
+            counter: table.mastership(&entry.key).counter,
+            mover: next_mover(table, &entry.key, entry.counter),
+        })?;
+    }
+    Ok(seen)
+}
+
+/// A copy of what is borrowed, if there is something.
+fn copied(alloc: Global, value: Option<&Value>) -> Result<Option<Value>, NoMemory>
+    ensures { IfOk result (λ copy. copy ≡ option_copied value.entry) }
+{
+    match value {
+        Some(value) => Ok(Some(value.copy(alloc)?)),
+        None => Ok(None),
+    }
+}
+
+/// Who made the move of a key that follows its first `had` moves, if there is one.
+#[tactic(auto, using(crate::proofs::Sight::next_mover_none))]
+fn next_mover(table: &Table, key: &Key, had: u32) -> Option<TxnId>
+    ensures { result ≡ next_mover table.now.state key.now had }
+{
+    if table.mastership(key).counter <= had {
+        return None;
+    }
+    table.mover(key, had + 1)
+}
+
+/// What a transaction comes to on every table in which it sees this: its outcome, and the changes that it makes.
+pub fn execute_seen(alloc: Global, txn: &Txn, seen: &Seens) -> Result<(Outcome, Effect), NoMemory>
+    requires body { CanRun txn.now.body }
+    requires uses { map used_of txn.now.access ≡ uses_of txn.now.body }
+    requires seen { length seen.now ≡ length txn.now.access }
+    ensures { IfOk result (λ r. r ≡ execution txn.now seen.now) }
+{
+    if let Some(outcome) = stale(alloc, txn.access.as_slice(), seen.as_slice())? {
+        return Ok((outcome, no_effect(alloc)));
+    }
+    let reads = reads(alloc, txn.access.as_slice(), seen.as_slice())?;
+    result_of(alloc, txn, &reads)
+}
+
+/// What a transaction comes to on a table: its outcome, and the changes that it makes.
+pub fn execute(alloc: Global, txn: &Txn, table: &Table) -> Result<(Outcome, Effect), NoMemory>
+    requires body { CanRun txn.now.body }
+    requires uses { map used_of txn.now.access ≡ uses_of txn.now.body }
+    ensures { IfOk result (λ r. r ≡ one txn.now table.now.state) }
+{
+    let seen = see(alloc, txn, table)?;
+    execute_seen(alloc, txn, &seen)
+}
+
+/// No changes.
+fn no_effect(alloc: Global) -> Effect
+    ensures { result ≡ no_effect }
+{
+    Effect {
+        writes: Writes::new(alloc),
+        moved: None,
+    }
+}
+
+/// The outcome Stale of the first key that was moved since it was annotated, if there is one.
+fn stale(alloc: Global, access: &[Access], seen: &[Seen]) -> Result<Option<Outcome>, NoMemory>
+    requires { length seen.now ≡ length access.now }
+    ensures { IfOk result (λ stale. stale ≡ stale_of access.now seen.now) }
+{
+    for (place, entry) in access.iter().enumerate() {
+        if let Some(by) = seen[place].mover {
+            return Ok(Some(Outcome::Stale {
+                key: entry.key.copy(alloc)?,
+                had: entry.counter,
+                by,
+            }));
+        }
+    }
+    Ok(None)
+}
+
+/// The rows that a transaction reads, from what it saw.
+fn reads(alloc: Global, access: &[Access], seen: &[Seen]) -> Result<Reads, NoMemory>
+    requires { length seen.now ≡ length access.now }
+    ensures { IfOk result (λ reads. reads ≡ reads_of access.now seen.now) }
+{
+    let mut reads = Reads::new(alloc);
+    for (place, entry) in access.iter().enumerate() {
+        reads.push((entry.key.copy(alloc)?, seen[place].value.copy(alloc)?))?;
+    }
+    Ok(reads)
+}
+
+/// What the body of a transaction gives where nothing is stale.
+fn result_of(alloc: Global, txn: &Txn, reads: &Reads) -> Result<(Outcome, Effect), NoMemory>
+    requires body { CanRun txn.now.body }
+    requires reads { map (λ read. read.0) reads.now ≡ map (λ used. used.0) (uses_of txn.now.body) }
+    ensures { IfOk result (λ r. r ≡ result_of txn.now.id txn.now.body reads.now) }
+{
+    match &txn.body {
+        Body::Call(proc, args) => Ok(finished(alloc, run(alloc, *proc, args.as_slice(), reads)?)),
+        Body::Move(key, target) => Ok((
+            Outcome::Gave(Values::new(alloc)),
+            Effect {
+                writes: Writes::new(alloc),
+                moved: Some((key.copy(alloc)?, *target, txn.id)),
+            },
+        )),
+    }
+}
+
+/// How a call's run ends, as an outcome and an effect.
+fn finished(alloc: Global, finish: Finish) -> (Outcome, Effect)
+    ensures { result ≡ of_finish finish }
+{
+    match finish {
+        Finish::Gave(values, writes) => (
+            Outcome::Gave(values),
+            Effect {
+                writes,
+                moved: None,
+            },
+        ),
+        Finish::Aborted(cause) => (Outcome::Aborted(cause), no_effect(alloc)),
+    }
+}

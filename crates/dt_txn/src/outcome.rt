@@ -1,0 +1,49 @@
+ghost use Rattle.std.specs.Prelude.{◌≡◌, IfOk};
+
+use dt_access::{TryCopy, TxnId};
+use dt_eval::{Cause, Values};
+use dt_text::{Key, Listed, NoMemory, Value};
+use std::alloc::Global;
+
+/// What a transaction came to.
+#[derive(Drop)]
+pub enum Outcome {
+    /// It gave these values.
+    Gave(Values),
+    /// Its procedure aborted, and it changed nothing.
+    Aborted(Cause),
+    /// A row was moved since the transaction was annotated, so it changed nothing: the key, the number of moves that
+    /// it was annotated with, and the transaction that made the next one.
+    Stale { key: Key, had: u32, by: TxnId },
+}
+
+impl Outcome {
+    /// An equal outcome.
+    pub fn copy(&self, alloc: Global) -> Result<Self, NoMemory>
+        ensures { IfOk result (λ copied. copied ≡ self.now) }
+    {
+        match self {
+            Outcome::Gave(values) => Ok(Outcome::Gave(values.copy(alloc)?)),
+            Outcome::Aborted(cause) => Ok(Outcome::Aborted(cause.copy(alloc)?)),
+            Outcome::Stale { key, had, by } => Ok(Outcome::Stale {
+                key: key.copy(alloc)?,
+                had: *had,
+                by: *by,
+            }),
+        }
+    }
+}
+
+/// What a transaction sees of one row that it uses.
+#[derive(Drop)]
+pub struct Seen {
+    /// Its value, or none.
+    pub value: Option<Value>,
+    /// How often it was moved.
+    pub counter: u32,
+    /// Who made the move that follows the annotated ones, if there is one.
+    pub mover: Option<TxnId>,
+}
+
+/// What a transaction sees, in the order of its access list.
+pub type Seens = Listed<Seen>;

@@ -1,0 +1,59 @@
+ghost use Rattle.std.specs.Prelude.{◌≡◌, IfOk};
+
+use dt_access::{Accesses, Part, TryCopy, TxnId};
+use dt_eval::Args;
+use dt_text::{Key, Listed, NoMemory};
+use std::alloc::Global;
+
+/// What a transaction is to do.
+#[derive(Drop)]
+pub enum Body {
+    /// Calls the procedure of this number.
+    Call(u32, Args),
+    /// Moves a key to a home.
+    Move(Key, u8),
+}
+
+impl Body {
+    /// An equal body.
+    pub fn copy(&self, alloc: Global) -> Result<Self, NoMemory>
+        ensures { IfOk result (λ copied. copied ≡ self.now) }
+    {
+        match self {
+            Body::Call(proc, args) => Ok(Body::Call(*proc, args.copy(alloc)?)),
+            Body::Move(key, target) => Ok(Body::Move(key.copy(alloc)?, *target)),
+        }
+    }
+}
+
+/// One attempt of a call or of a move.
+#[derive(Drop)]
+pub struct Txn {
+    pub id: TxnId,
+    pub body: Body,
+    /// The rows that it uses, in ascending order of keys, with what the submitting region knew of them.
+    pub access: Accesses,
+}
+
+impl Txn {
+    /// An equal transaction.
+    pub fn copy(&self, alloc: Global) -> Result<Self, NoMemory>
+        ensures { IfOk result (λ copied. copied ≡ self.now) }
+    {
+        Ok(Txn {
+            id: self.id,
+            body: self.body.copy(alloc)?,
+            access: self.access.copy(alloc)?,
+        })
+    }
+}
+
+/// Transactions.
+pub type Txns = Listed<Txn>;
+
+/// What one region sends another of its log: a part, with the transaction that it is of.
+#[derive(Drop)]
+pub struct Entry {
+    pub part: Part,
+    pub txn: Txn,
+}
