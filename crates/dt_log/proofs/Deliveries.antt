@@ -1,7 +1,6 @@
 -- What has been taken stands in the log.
-use Rattle.std.proofs.Common.{◌≡◌, ℕ, zero, suc, ◌+◌, ◌-◌, ◌<◌, ◌≤◌, ◌⊎◌, inl, inr, List, [], ◌∷◌, ◌++◌, length, drop, refl, ap, sym, ◌∙◌, arith, length-append, length-drop}
+use Rattle.std.proofs.Common.{◌≡◌, ℕ, ◌+◌, ◌-◌, ◌<◌, ◌≤◌, inl, inr, List, [], ◌++◌, length, drop, ap, sym, ◌∙◌, arith, length-append, length-drop}
 use Rattle.std.proofs.lemmas.Grind.{common_steps}
-use Rattle.dt_lists.specs.Lists.{IsFront}
 use Rattle.dt_access.specs.declared.Part.{Part}
 use Rattle.dt_log.specs.Logs.{AgreeOnOverlap, StandFrom}
 
