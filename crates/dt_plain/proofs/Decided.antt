@@ -16,7 +16,7 @@ use Rattle.dt_plain.proofs.Scan.{refuted}
 use Rattle.dt_plain.proofs.Same.{no_id}
 use Rattle.dt_plain.proofs.Walk.{has_at}
 use Rattle.dt_plain.specs.Graphs.{AreBehind, AreAhead}
-use Rattle.dt_plain.specs.Deciding.{IsNoObstacle, AreCommon, AreCandidates, IsUnhindered}
+use Rattle.dt_plain.specs.Deciding.{IsNoObstacle, IsClear, AreCommon, AreCandidates, IsUnhindered}
 
 -- a class is what is behind and ahead
 pub class_from : (view : View) (t : TxnId) (behind ahead ids : List TxnId) → AreBehind view t behind → AreAhead view t ahead → AreCommon behind ahead ids → IsClass view t ids
@@ -43,10 +43,6 @@ module _ (view : View) (resolved : List (List TxnId)) (done : List TxnId) (t : T
   pub not_done : (b : Bool) → (IsTrue b ↔ Has done t) → b ≡ true → IsTrue false ↔ IsExecutable view resolved done t
   not_done b k e = no_answer (λ x. x.waiting (k.0 e))
 
-  -- nor is what has something incomplete behind it
-  pub not_closed : (behind : List TxnId) (b : Bool) → AreBehind view t behind → (IsTrue b ↔ AllIn (IsComplete view) behind) → b ≡ false → IsTrue false ↔ IsExecutable view resolved done t
-  not_closed behind b r k e = no_answer (λ x. refuted b k e (all_put _ behind (λ u h. x.closed u ((r.members u).0 h))))
-
   -- what an executable id has behind it is no obstacle
   no_obstacle : (behind ahead : List TxnId) → AreBehind view t behind → AreAhead view t ahead → IsExecutable view resolved done t → (u : TxnId) → Has behind u → IsNoObstacle ahead done t u
   no_obstacle behind ahead r a x u h = at (either_id u t) (has_id_decided ahead u) (before_decided u t)
@@ -57,9 +53,11 @@ module _ (view : View) (resolved : List (List TxnId)) (done : List TxnId) (t : T
       at (inr ne) (inl f) (inr ng) = inr (inr (f, ng))
       at (inr ne) (inr nf) g = inr (inl (x.preceders u (ne, (r.members u).0 h, inl (λ c. nf ((a.members u).1 c)))))
 
-  pub not_preceded : (behind ahead : List TxnId) (b : Bool) → AreBehind view t behind → AreAhead view t ahead → (IsTrue b ↔ AllIn (IsNoObstacle ahead done t) behind) → b ≡ false
+  -- so what has something unclear behind it is not executable
+  pub not_clear : (behind ahead : List TxnId) (b : Bool) → AreBehind view t behind → AreAhead view t ahead → (IsTrue b ↔ AllIn (IsClear view ahead done t) behind) → b ≡ false
       → IsTrue false ↔ IsExecutable view resolved done t
-  not_preceded behind ahead b r a k e = no_answer (λ x. refuted b k e (all_put _ behind (no_obstacle behind ahead r a x)))
+  not_clear behind ahead b r a k e =
+      no_answer (λ x. refuted b k e (all_put _ behind (λ u h. (x.closed u ((r.members u).0 h), no_obstacle behind ahead r a x u h))))
 
   -- what is no obstacle is done, if it precedes
   done_unless : (ahead : List TxnId) (u : TxnId) → AreAhead view t ahead → IsNoObstacle ahead done t u → Precedes view u t → Has done u
@@ -67,16 +65,16 @@ module _ (view : View) (resolved : List (List TxnId)) (done : List TxnId) (t : T
   done_unless ahead u a (inr (inl d)) p = d
   done_unless ahead u a (inr (inr m)) p = elim p.2 [ inl n ↦ absurd (n ((a.members u).0 m.0)) | inr b ↦ absurd (m.1 b) ]
 
-  -- where nothing is against it, it is executable where its class is settled
+  -- where all behind it is clear, it is executable where its class is settled
   pub settled_tells : (behind ahead ids : List TxnId) (b : Bool) → ¬ (Has done t) → AreBehind view t behind → AreAhead view t ahead → AreCommon behind ahead ids
-      → AllIn (IsComplete view) behind → AllIn (IsNoObstacle ahead done t) behind → (IsTrue b ↔ (2 ≤ length ids → Has resolved ids)) → IsTrue b ↔ IsExecutable view resolved done t
-  settled_tells behind ahead ids b w r a c complete free k =
+      → AllIn (IsClear view ahead done t) behind → (IsTrue b ↔ (2 ≤ length ids → Has resolved ids)) → IsTrue b ↔ IsExecutable view resolved done t
+  settled_tells behind ahead ids b w r a c clear k =
       let class : IsClass view t ids = class_from view t behind ahead ids r a c in (
         λ h.
             record {
-              closed = λ u reach. all_get _ behind complete u ((r.members u).1 reach);
+              closed = λ u reach. (all_get _ behind clear u ((r.members u).1 reach)).0;
               waiting = w;
-              preceders = λ u p. done_unless ahead u a (all_get _ behind free u ((r.members u).1 p.1)) p;
+              preceders = λ u p. done_unless ahead u a (all_get _ behind clear u ((r.members u).1 p.1)).1 p;
               settled =
                   λ others o l. let e : ids ≡ others = class_unique view t ids others class o in
                   subst (Has resolved) e (k.0 h (subst (λ xs. 2 ≤ length xs) (sym e) l));

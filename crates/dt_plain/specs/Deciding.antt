@@ -8,6 +8,10 @@ use Rattle.dt_sched.specs.Views.{View, IsComplete}
 abbrev pub IsNoObstacle : List TxnId → List TxnId → TxnId → TxnId → Type 0
 IsNoObstacle ahead done t u = (u ≡ t) ⊎ (Has done u ⊎ (Has ahead u × ¬ (Before u t)))
 
+-- of what reaches t, u is complete and no obstacle to executing t
+abbrev pub IsClear : View → List TxnId → List TxnId → TxnId → TxnId → Type 0
+IsClear view ahead done t u = IsComplete view u × IsNoObstacle ahead done t u
+
 -- the ids are those that are in both lists, in ascending order
 pub record AreCommon (left right ids : List TxnId) : Type 0 where
   pub ascending : AreAscending ids

@@ -2,7 +2,7 @@ ghost use Rattle.std.specs.Prelude.{◌≡◌, ◌↔◌, ◌≤◌, IsTrue, IfO
 ghost use Rattle.dt_lists.specs.Lists.{AllIn, Has};
 ghost use Rattle.dt_sched.specs.Decide.{IsExecutable, IsResolvable};
 ghost use Rattle.dt_sched.specs.Sched.{IsNextReady, IsNextClass};
-ghost use Rattle.dt_plain.specs.Deciding.{IsNoObstacle, AreCandidates, IsUnhindered};
+ghost use Rattle.dt_plain.specs.Deciding.{IsNoObstacle, IsClear, AreCandidates, IsUnhindered};
 
 use crate::class::{are_among, common, has_class, same};
 use crate::graph::Graph;
@@ -18,12 +18,19 @@ fn is_no_obstacle(ahead: &[TxnId], done: &[TxnId], id: TxnId, other: TxnId) -> b
     other == id || has(done, other) || has(ahead, other) && !other.before(&id)
 }
 
-/// Whether nothing of `behind` is an obstacle to executing `id`.
-fn are_no_obstacles(behind: &[TxnId], ahead: &[TxnId], done: &[TxnId], id: TxnId) -> bool
-    ensures { IsTrue result ↔ AllIn (IsNoObstacle ahead.now done.now id) behind.now }
+/// Whether `other`, which reaches `id`, is complete and no obstacle to executing it.
+fn is_clear(graph: &Graph, ahead: &[TxnId], done: &[TxnId], id: TxnId, other: TxnId) -> bool
+    ensures { IsTrue result ↔ IsClear graph.now ahead.now done.now id other }
+{
+    graph.is_complete(other) && is_no_obstacle(ahead, done, id, other)
+}
+
+/// Whether all of `behind` is complete and no obstacle to executing `id`.
+fn are_clear(graph: &Graph, behind: &[TxnId], ahead: &[TxnId], done: &[TxnId], id: TxnId) -> bool
+    ensures { IsTrue result ↔ AllIn (IsClear graph.now ahead.now done.now id) behind.now }
 {
     for other in behind {
-        if !is_no_obstacle(ahead, done, id, *other) {
+        if !is_clear(graph, ahead, done, id, *other) {
             return false;
         }
     }
@@ -51,11 +58,8 @@ pub fn is_executable(
         return Ok(false);
     }
     let behind = graph.behind(alloc, id)?;
-    if !graph.are_complete(behind.as_slice()) {
-        return Ok(false);
-    }
     let ahead = graph.ahead(alloc, id)?;
-    if !are_no_obstacles(behind.as_slice(), ahead.as_slice(), done, id) {
+    if !are_clear(graph, behind.as_slice(), ahead.as_slice(), done, id) {
         return Ok(false);
     }
     let class = common(alloc, behind.as_slice(), ahead.as_slice())?;

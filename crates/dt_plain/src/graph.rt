@@ -4,7 +4,7 @@ ghost use Rattle.dt_lists.specs.Lists.{AllIn, Distinct};
 ghost use Rattle.dt_sched.specs.Views.{IsComplete, IsClass};
 
 use crate::class::common;
-use crate::complete::are_complete;
+use crate::complete::{are_complete, is_complete};
 use crate::ids::add_once;
 use crate::search::{Link, reached};
 use dt_access::{Ids, Part, TxnId, clash};
@@ -129,6 +129,13 @@ impl<'a> Graph<'a> {
         ensures { ArePresent self.now result.now }
     {
         self.ids.as_slice()
+    }
+
+    /// Whether the transaction is complete.
+    pub fn is_complete(&self, id: TxnId) -> bool
+        ensures { IsTrue result ↔ IsComplete self.now id }
+    {
+        is_complete(self.logs, id)
     }
 
     /// Whether each of the transactions is complete.
