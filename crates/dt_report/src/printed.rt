@@ -54,12 +54,7 @@ fn put_tables(alloc: Global, out: &mut Vec<u8>, tables: &[ShownList]) -> Result<
     Ok(())
 }
 
-fn put_table(
-    alloc: Global,
-    out: &mut Vec<u8>,
-    region: u64,
-    rows: &[Shown],
-) -> Result<(), NoMemory>
+fn put_table(alloc: Global, out: &mut Vec<u8>, region: u64, rows: &[Shown]) -> Result<(), NoMemory>
     ensures { OnOk result (out.new.items ≡ out.old.items ++ table_text region rows.now) }
 {
     out.extend_from_slice(b"table")?;
