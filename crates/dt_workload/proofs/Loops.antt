@@ -144,30 +144,50 @@ all_read regions bytes done rest so_far none =
 
 -- ---- names and limits
 
-pub names_on : (n : List ℕ) (ns whole : List (List ℕ)) → (Distinct (n ∷ ns) ↔ Distinct whole) → (Has ns n → ⊥) → Distinct ns ↔ Distinct whole
-names_on n ns whole so_far none = (λ d. so_far.0 (apart n ns none, d), λ d. (so_far.1 d).1)
-  where
-    apart : (n : List ℕ) (ns : List (List ℕ)) → (Has ns n → ⊥) → AllIn (λ y. ¬ (n ≡ y)) ns
-    apart n [] none = tt
-    apart n (m ∷ ns) none = ((λ e. none (inl (sym e))), apart n ns (λ h. none (inr h)))
+-- the names of sessions
+abbrev names : List Session → List (List ℕ)
+names sessions = map (λ s. s.name) sessions
 
-pub names_meet : (n : List ℕ) (ns whole : List (List ℕ)) → (Distinct (n ∷ ns) ↔ Distinct whole) → Has ns n → ¬ (Distinct whole)
-names_meet n ns whole so_far has d = meet n ns (so_far.1 d).0 has
-  where
-    meet : (n : List ℕ) (ns : List (List ℕ)) → AllIn (λ y. ¬ (n ≡ y)) ns → Has ns n → ⊥
-    meet n [] apart h = h
-    meet n (m ∷ ns) apart (inl e) = apart.0 (sym e)
-    meet n (m ∷ ns) apart (inr h) = meet n ns apart.1 h
+apart : (n : List ℕ) (ns : List (List ℕ)) → (Has ns n → ⊥) → AllIn (λ y. ¬ (n ≡ y)) ns
+apart n [] none = tt
+apart n (m ∷ ns) none = ((λ e. none (inl (sym e))), apart n ns (λ h. none (inr h)))
+
+meet : (n : List ℕ) (ns : List (List ℕ)) → AllIn (λ y. ¬ (n ≡ y)) ns → Has ns n → ⊥
+meet n [] all h = h
+meet n (m ∷ ns) all (inl e) = all.0 (sym e)
+meet n (m ∷ ns) all (inr h) = meet n ns all.1 h
+
+-- the first of the names that are left stands not among the others
+pub names_on : (rest others : List Session) (first : Session) (whole : List (List ℕ)) → rest ≡ first ∷ others → (Distinct (names rest) ↔ Distinct whole) → ((false ≡ true) ↔ Has (names others) first.name) → Distinct (names others) ↔ Distinct whole
+names_on rest others first whole cut so_far none =
+    let on = rw cut at so_far in
+    ((λ d. on.0 (apart first.name (names others) (λ h. false≢true (none.1 h)), d)), (λ d. (on.1 d).1))
+
+-- it does
+pub names_meet : (rest others : List Session) (first : Session) (whole : List (List ℕ)) → rest ≡ first ∷ others → (Distinct (names rest) ↔ Distinct whole) → ((true ≡ true) ↔ Has (names others) first.name) → (false ≡ true) ↔ Distinct whole
+names_meet rest others first whole cut so_far has =
+    let on = rw cut at so_far in
+    ((λ t. absurd (false≢true t)), (λ d. absurd (meet first.name (names others) (on.1 d).0 (has.0 refl))))
 
 -- ---- from sessions to a workload
 
 pub no_sessions : (regions : ℕ) (bytes : List ℕ) → ((sessions : List Session) → AllIn (IsFirstSession regions) sessions → bytes ≢ sessions_text sessions) → (workload : Workload) → ¬ (IsFirstForm regions bytes workload)
 no_sessions regions bytes none workload is = none workload.sessions is.sessions is.text
 
-pub no_other : (regions : ℕ) (bytes : List ℕ) (sessions : List Session) → regions < 2 ^ 8 → AllIn (IsFirstSession regions) sessions → bytes ≡ sessions_text sessions → ¬ (Distinct (map (λ s. s.name) sessions) × (length sessions ≤ 64) × (sum_by (λ s. length s.calls) sessions ≤ 20000)) → (workload : Workload) → ¬ (IsFirstForm regions bytes workload)
-no_other regions bytes sessions few all text none workload is =
-    let same = same_sessions regions workload.sessions sessions few is.sessions all (sym is.text ∙ text) in
-    none (subst (λ ss. Distinct (map (λ s. s.name) ss) × (length ss ≤ 64) × (sum_by (λ s. length s.calls) ss ≤ 20000)) same (is.names_once, is.few_sessions, is.few_calls))
+-- there is no other workload than the one with these sessions
+the_only : (regions : ℕ) (bytes : List ℕ) (sessions : List Session) → regions < 2 ^ 8 → AllIn (IsFirstSession regions) sessions × (bytes ≡ sessions_text sessions) → (workload : Workload) → IsFirstForm regions bytes workload → workload.sessions ≡ sessions
+the_only regions bytes sessions few read workload is =
+    same_sessions regions workload.sessions sessions few is.sessions read.0 (sym is.text ∙ read.1)
+
+pub too_much : (regions : ℕ) (bytes : List ℕ) (sessions : List Session) → regions < 2 ^ 8 → AllIn (IsFirstSession regions) sessions × (bytes ≡ sessions_text sessions) → ((false ≡ true) ↔ ((length sessions ≤ 64) × (sum_by (λ s. length s.calls) sessions ≤ 20000))) → (workload : Workload) → ¬ (IsFirstForm regions bytes workload)
+too_much regions bytes sessions few read none workload is =
+    let same = the_only regions bytes sessions few read workload is in
+    false≢true (none.1 (subst (λ ss. (length ss ≤ 64) × (sum_by (λ s. length s.calls) ss ≤ 20000)) same (is.few_sessions, is.few_calls)))
+
+pub name_twice : (regions : ℕ) (bytes : List ℕ) (sessions : List Session) → regions < 2 ^ 8 → AllIn (IsFirstSession regions) sessions × (bytes ≡ sessions_text sessions) → ((false ≡ true) ↔ Distinct (names sessions)) → (workload : Workload) → ¬ (IsFirstForm regions bytes workload)
+name_twice regions bytes sessions few read none workload is =
+    let same = the_only regions bytes sessions few read workload is in
+    false≢true (none.1 (subst (λ ss. Distinct (names ss)) same is.names_once))
 
 -- ---- counting calls
 

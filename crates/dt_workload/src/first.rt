@@ -32,7 +32,10 @@ pub fn read_first(alloc: Global, bytes: &[u8], regions: u8) -> Result<Option<Wor
     let Some(sessions) = read_sessions(alloc, bytes, regions)? else {
         return Ok(None);
     };
-    if !are_few(sessions.as_slice()) || !have_own_names(sessions.as_slice()) {
+    if !are_few(sessions.as_slice()) {
+        return Ok(None);
+    }
+    if !have_own_names(sessions.as_slice()) {
         return Ok(None);
     }
     Ok(Some(Workload { sessions }))
@@ -85,11 +88,7 @@ fn has_name(sessions: &[Session], name: &Name) -> bool
 }
 
 /// Reads sessions up to the end of the bytes, each with its calls.
-fn read_sessions(
-    alloc: Global,
-    bytes: &[u8],
-    regions: u8,
-) -> Result<Option<SessionList>, NoMemory>
+fn read_sessions(alloc: Global, bytes: &[u8], regions: u8) -> Result<Option<SessionList>, NoMemory>
     requires { length bytes.now < 2 ^ 32 }
     ensures { IfOk result (λ found. MatchOption found
         ((sessions : List Session) → AllIn (IsFirstSession regions) sessions → bytes.now ≢ sessions_text sessions)

@@ -11,3 +11,6 @@ mod workload;
 pub use first::read_first;
 pub use laws::{files_are_one_workload, first_forms_are_valid};
 pub use workload::{Bodies, Session, SessionList, Wanted, Workload};
+
+#[cfg(test)]
+mod tests;
