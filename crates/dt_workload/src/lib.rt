@@ -1,34 +1,16 @@
-//! What the sessions of a cluster want.
+//! What the sessions of a cluster want, and the reader of its first form, in which all calls are puts.
 #![tactic(auto)]
 
-use dt_eval::Args;
-use dt_text::{Key, Listed, Name};
+mod copies;
+mod fields;
+mod first;
+mod laws;
+mod lines;
+mod workload;
 
-/// What one call or move of a session wants.
-#[derive(Drop)]
-pub enum Wanted {
-    /// A call of the procedure of this number.
-    Call(u32, Args),
-    /// A move of a key to a home.
-    Move(Key, u8),
-}
+pub use first::read_first;
+pub use laws::{files_are_one_workload, first_forms_are_valid};
+pub use workload::{Bodies, Session, SessionList, Wanted, Workload};
 
-/// The calls and moves of a session, in order.
-pub type Bodies = Listed<Wanted>;
-
-/// A session: its calls and moves are made one after another at its region.
-#[derive(Drop)]
-pub struct Session {
-    pub name: Name,
-    pub region: u8,
-    pub calls: Bodies,
-}
-
-/// Sessions.
-pub type SessionList = Listed<Session>;
-
-/// The sessions of a cluster, in the order of the file.
-#[derive(Drop)]
-pub struct Workload {
-    pub sessions: SessionList,
-}
+#[cfg(test)]
+mod tests;
