@@ -1,6 +1,8 @@
 pub mod Reported
 pub mod Kept
 pub mod Codes
+pub mod Seated
+pub mod SeatedCode
 pub use Rattle.dt_session.specs.World
 pub use Rattle.dt_session.specs.Step
 pub use Rattle.dt_session.specs.Run

@@ -2,6 +2,7 @@
 //! reports what they came to.
 #![tactic(auto)]
 
+mod seats;
 mod world;
 
 pub use world::{StepError, World};
