@@ -3,6 +3,9 @@ pub mod Kept
 pub mod Codes
 pub mod Seated
 pub mod SeatedCode
+pub mod Posted
+pub mod PostedCode
+pub mod Lawful
 pub use Rattle.dt_session.specs.World
 pub use Rattle.dt_session.specs.Step
 pub use Rattle.dt_session.specs.Run

@@ -3,6 +3,7 @@
 #![tactic(auto)]
 
 mod seats;
+mod site;
 mod world;
 
 pub use world::{StepError, World};
