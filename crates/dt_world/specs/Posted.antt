@@ -1,12 +1,13 @@
-use Rattle.std.specs.Prelude.{◌≡◌, ◌+◌, ℕ, List, [], ◌∷◌, ◌++◌, length, map, set}
-use Rattle.dt_access.specs.declared.TxnId.{TxnId}
+use Rattle.std.specs.Prelude.{ℕ, List, [], ◌∷◌, ◌++◌, length, map, set}
+use Rattle.std.specs.List.{range_with_len}
 use Rattle.dt_sched.specs.Views.{log_at}
 use Rattle.dt_table.specs.Table.{opening}
 use Rattle.dt_txn.specs.declared.Body.{Body}
 use Rattle.dt_txn.specs.declared.Txn.{Txn}
 use Rattle.dt_region.specs.State.{State}
 use Rattle.dt_region.specs.Rules.{opening_state, after_submit}
-use Rattle.dt_session.specs.World.{World, Node, Place, Submission}
+use Rattle.dt_cluster.specs.declared.Cluster.{Cluster}
+use Rattle.dt_session.specs.World.{World, Node, Place, Submission, opening_table}
 use Rattle.dt_world.specs.declared.site.Origin.{Origin}
 
 -- a region, and whose its submissions are, in their order
@@ -54,3 +55,7 @@ posted p body origin = record { state = after_submit p.state body; origins = p.o
 -- a region in another state
 abbrev pub in_state : Posted → State → Posted
 in_state p state = record p { state = state }
+
+-- the regions of a cluster before anything happens
+abbrev pub opening_posts : Cluster → List Posted
+opening_posts cluster = map (λ number. opening_post (opening_state number cluster.regions (opening_table cluster))) (range_with_len 0 cluster.regions)

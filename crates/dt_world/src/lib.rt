@@ -2,6 +2,7 @@
 //! reports what they came to.
 #![tactic(auto)]
 
+mod rules;
 mod seats;
 mod site;
 mod world;

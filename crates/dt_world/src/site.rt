@@ -50,12 +50,15 @@ impl<S: Scheduler> Site<S> {
         requires number { number < regions }
         requires regions { regions ≤ 8 }
         requires table { IsTableFor regions table.state }
-        ensures { IfOk result (λ site. site ≡ opening_post (opening_state number regions table.state)) }
+        ensures opening { IfOk result (λ site. site ≡ opening_post (opening_state number regions table.state)) }
+        ensures sound { IfOk result (λ site. IsSoundRegion site.state) }
     {
-        Ok(Site {
+        let site = Site {
             region: Region::new(alloc, number, regions, table)?,
             origins: Vec::new(alloc),
-        })
+        };
+        site.keep_sound();
+        Ok(site)
     }
 
     /// The region.
@@ -63,6 +66,13 @@ impl<S: Scheduler> Site<S> {
         ensures state { result.now.state ≡ self.now.state }
     {
         &self.region
+    }
+
+    /// Does nothing, and tells what every region keeps.
+    fn keep_sound(&self)
+        ensures { IsSoundRegion self.now.state }
+    {
+        let _number = self.region.number();
     }
 
     /// Whose the submission of this number is, counted from 1.
@@ -81,11 +91,15 @@ impl<S: Scheduler> Site<S> {
         ensures posted { OnOk result (self.new ≡ posted self.old body origin) }
         ensures id { IfOk result (λ id. id ≡ next_id self.old.state) }
         ensures same { OnErr result (self.new ≡ self.old) }
+        ensures sound { OnOk result (IsSoundRegion self.new.state) }
     {
         self.origins.reserve(1)?;
         let id = self.region.submit(alloc, body)?;
         match self.origins.push(origin) {
-            Ok(()) => Ok(id),
+            Ok(()) => {
+                self.keep_sound();
+                Ok(id)
+            }
             Err(_) => unreachable!(),
         }
     }
@@ -102,8 +116,11 @@ impl<S: Scheduler> Site<S> {
         requires can { CanAppend self.old.state source number txn.now }
         ensures appends { Appends self.old.state source number txn.now result self.new.state }
         ensures origins { self.new.origins ≡ self.old.origins }
+        ensures sound { IsSoundRegion self.new.state }
     {
-        self.region.append(alloc, source, number, txn)
+        let answer = self.region.append(alloc, source, number, txn);
+        self.keep_sound();
+        answer
     }
 
     /// As the region's.
@@ -118,8 +135,11 @@ impl<S: Scheduler> Site<S> {
         requires can { CanDeliver self.old.state home first entries.items }
         ensures delivers { Delivers self.old.state home first entries.items result self.new.state }
         ensures origins { self.new.origins ≡ self.old.origins }
+        ensures sound { IsSoundRegion self.new.state }
     {
-        self.region.deliver(alloc, home, first, entries)
+        let answer = self.region.deliver(alloc, home, first, entries);
+        self.keep_sound();
+        answer
     }
 
     /// As the region's.
@@ -127,23 +147,32 @@ impl<S: Scheduler> Site<S> {
         requires { home < self.old.state.regions }
         ensures steps { Steps self.old.state (Insert self.old.state.number home) result self.new.state }
         ensures origins { self.new.origins ≡ self.old.origins }
+        ensures sound { IsSoundRegion self.new.state }
     {
-        self.region.insert(alloc, home)
+        let answer = self.region.insert(alloc, home);
+        self.keep_sound();
+        answer
     }
 
     /// As the region's.
     pub fn resolve(&mut self, alloc: Global, ids: &[TxnId]) -> Result<bool, NoMemory>
         ensures steps { Steps self.old.state (Resolve self.old.state.number ids.now) result self.new.state }
         ensures origins { self.new.origins ≡ self.old.origins }
+        ensures sound { IsSoundRegion self.new.state }
     {
-        self.region.resolve(alloc, ids)
+        let answer = self.region.resolve(alloc, ids);
+        self.keep_sound();
+        answer
     }
 
     /// As the region's.
     pub fn execute(&mut self, alloc: Global, id: TxnId) -> Result<bool, NoMemory>
         ensures steps { Steps self.old.state (Execute self.old.state.number id) result self.new.state }
         ensures origins { self.new.origins ≡ self.old.origins }
+        ensures sound { IsSoundRegion self.new.state }
     {
-        self.region.execute(alloc, id)
+        let answer = self.region.execute(alloc, id);
+        self.keep_sound();
+        answer
     }
 }
