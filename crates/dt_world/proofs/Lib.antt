@@ -1,1 +1,5 @@
 pub mod Seating
+pub mod Opened
+pub mod OneSite
+pub mod Standing
+pub mod Stepping

@@ -5,6 +5,7 @@ pub mod Seated
 pub mod SeatedCode
 pub mod Posted
 pub mod PostedCode
+pub mod Sited
 pub mod Lawful
 pub use Rattle.dt_session.specs.World
 pub use Rattle.dt_session.specs.Step

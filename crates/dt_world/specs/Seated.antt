@@ -1,7 +1,8 @@
-use Rattle.std.specs.Prelude.{◌≡◌, ◌+◌, ℕ, List, length, map, set, get_or, Some, None}
+use Rattle.std.specs.Prelude.{◌≡◌, ◌+◌, ℕ, List, [], length, map, set, get_or, Some, None}
 use Rattle.dt_lists.specs.Lists.{Distinct}
 use Rattle.dt_access.specs.Clash.{Bytes}
 use Rattle.dt_access.specs.declared.TxnId.{TxnId}
+use Rattle.dt_workload.specs.declared.Session.{Session}
 use Rattle.dt_workload.specs.declared.Workload.{Workload}
 use Rattle.dt_session.specs.World.{Place, idle_place}
 use Rattle.dt_world.specs.declared.seats.Seat.{Seat}
@@ -22,6 +23,14 @@ all_idle workload = record { workload = workload; places = map (λ session. idle
 -- where the session at a place of the workload stands
 abbrev pub stand_of : Seated → ℕ → Place
 stand_of s at = get_or s.places at idle_place
+
+-- stands for a session that there is not
+abbrev pub no_session : Session
+no_session = record { name = []; region = 0; calls = [] }
+
+-- the session at a place of the workload
+abbrev pub session_of : Seated → ℕ → Session
+session_of s at = get_or s.workload.sessions at no_session
 
 -- the sessions after the one at this place began to wait for an attempt
 abbrev pub after_wait : Seated → ℕ → TxnId → Seated

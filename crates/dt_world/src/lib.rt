@@ -5,6 +5,7 @@
 mod rules;
 mod seats;
 mod site;
+mod sites;
 mod world;
 
 pub use world::{StepError, World};

@@ -1,11 +1,13 @@
-ghost use Rattle.std.specs.Prelude.{◌≡◌, ◌+◌, ◌<◌, ◌^◌, get_or, length, map, position, IfOk, IfSome};
+ghost use Rattle.std.specs.Prelude.{◌≡◌, ◌+◌, ◌<◌, ◌^◌, length, map, option_map, position, slice_get, Some, IfOk};
 ghost use Rattle.dt_lists.specs.Lists.{Distinct};
 ghost use Rattle.dt_session.specs.World.{is_session};
-ghost use Rattle.dt_world.specs.Seated.{after_answer, after_wait, all_idle, place_of, stand_of};
+ghost use Rattle.dt_session.specs.Step.{body_of};
+ghost use Rattle.dt_world.specs.Seated.{after_answer, after_wait, all_idle, place_of, session_of, stand_of};
 
-use dt_access::TxnId;
+use dt_access::{TryCopy, TxnId};
 use dt_text::{Name, NoMemory};
-use dt_workload::{Session, Workload};
+use dt_txn::Body;
+use dt_workload::{Session, Wanted, Workload};
 use indexmap::IndexSet;
 use std::alloc::Global;
 use std::marker::Model;
@@ -86,9 +88,23 @@ impl Seats {
     /// The session at a place.
     pub fn session(&self, place: usize) -> &Session
         requires { place < length self.now.workload.sessions }
-        ensures { result.now ≡ get_or self.now.workload.sessions place result.now }
+        ensures { result.now ≡ session_of self.now place }
     {
         &self.workload.sessions.as_slice()[place]
+    }
+
+    /// What the next call of the session at a place is to do.
+    pub fn body(&self, alloc: Global, place: usize) -> Result<Body, NoMemory>
+        requires session { place < length self.now.workload.sessions }
+        requires stands { place < length self.now.places }
+        requires call { (stand_of self.now place).answered < length (session_of self.now place).calls }
+        ensures { IfOk result (λ body. option_map body_of (slice_get (session_of self.now place).calls (stand_of self.now place).answered) ≡ Some body) }
+    {
+        let calls = self.session(place).calls.as_slice();
+        match &calls[self.seat(place).answered as usize] {
+            Wanted::Call(proc, args) => Ok(Body::Call(*proc, args.copy(alloc)?)),
+            Wanted::Move(key, target) => Ok(Body::Move(key.copy(alloc)?, *target)),
+        }
     }
 
     /// Where the session at a place stands.

@@ -7,16 +7,13 @@ ghost use Rattle.dt_session.specs.World.{opening_world};
 ghost use Rattle.dt_session.specs.Step.{IsLegal, next, rule_of};
 ghost use Rattle.dt_session.specs.Run.{AreLegal, world_after};
 ghost use Rattle.dt_world.specs.Reported.{report_of, IsOutcomeOf, IsReplyOf};
-ghost use Rattle.dt_region.specs.Sound.{IsSoundRegion};
-ghost use Rattle.dt_world.specs.Posted.{opening_posts};
 
 use crate::seats::Seats;
-use crate::site::Site;
+use crate::sites::Sites;
 use dt_cluster::Cluster;
 use dt_events::Event;
 use dt_report::Report;
 use dt_sched::Scheduler;
-use dt_table::Table;
 use dt_text::NoMemory;
 use dt_workload::Workload;
 use std::alloc::Global;
@@ -50,7 +47,7 @@ impl From<NoMemory> for StepError {
 pub struct World<S: Scheduler + Drop> {
     pub(crate) cluster: Cluster,
     pub(crate) seats: Seats,
-    pub(crate) sites: Vec<Site<S>>,
+    pub(crate) sites: Sites<S>,
     pub(crate) steps: u32,
 }
 
@@ -65,9 +62,9 @@ impl<S: Scheduler + Drop> Model for World<S> {
     ghost use Rattle.dt_world.specs.Posted.{world_of};
     ghost use Rattle.dt_world.specs.Lawful.{AreLawful};
 
-    ghost view = { λ w. record { cluster = w.cluster; workload = w.seats.workload; state = world_of w.sites.items w.seats.places; steps = w.steps } };
+    ghost view = { λ w. record { cluster = w.cluster; workload = w.seats.workload; state = world_of w.sites w.seats.places; steps = w.steps } };
 
-    ghost invariant = { λ w. AreLawful w.cluster w.seats w.sites.items w.steps };
+    ghost invariant = { λ w. AreLawful w.cluster w.seats w.sites w.steps };
 }
 
 impl<S: Scheduler + Drop> World<S> {
@@ -81,7 +78,7 @@ impl<S: Scheduler + Drop> World<S> {
         Ok(World {
             cluster: cluster.copy(alloc)?,
             seats: Seats::new(alloc, workload.copy(alloc)?)?,
-            sites: opening_sites(alloc, cluster)?,
+            sites: Sites::new(alloc, cluster)?,
             steps: 0,
         })
     }
@@ -131,23 +128,4 @@ impl<S: Scheduler + Drop> World<S> {
     {
         Err(NoMemory)
     }
-}
-
-/// All regions of a cluster before anything happens.
-fn opening_sites<S: Scheduler + Drop>(alloc: Global, cluster: &Cluster) -> Result<Vec<Site<S>>, NoMemory>
-    requires { IsValidCluster cluster.now }
-    ensures opening { IfOk result (λ sites. sites.items ≡ opening_posts cluster.now) }
-    ensures sound { IfOk result (λ sites. AllIn (λ post. IsSoundRegion post.state) sites.items) }
-{
-    let mut sites = Vec::new(alloc);
-    for number in 0..cluster.regions {
-        let table = Table::new(
-            alloc,
-            cluster.regions,
-            cluster.homes.as_slice(),
-            cluster.rows.as_slice(),
-        )?;
-        sites.push(Site::new(alloc, number, cluster.regions, table)?)?;
-    }
-    Ok(sites)
 }
