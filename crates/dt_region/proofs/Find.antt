@@ -66,6 +66,14 @@ found (x ∷ txns) id txn e =
           (inr r.0, r.1)
     ] refl e
 
+-- one is found, or none
+pub found_or_none : (txns : List Txn) (id : TxnId) → ((txn : Txn) × (find_txn txns id ≡ Some txn)) ⊎ (find_txn txns id ≡ None)
+found_or_none txns id = by (find_txn txns id)
+  where
+    by : (o : Option Txn) → ((txn : Txn) × (o ≡ Some txn)) ⊎ (o ≡ None)
+    by None = inr refl
+    by (Some txn) = inl (txn, refl)
+
 -- what has none of the id finds nothing
 pub find_none : (txns : List Txn) (id : TxnId) → AllIn (λ txn. txn.id ≢ id) txns → find_txn txns id ≡ None
 find_none [] id none = refl
@@ -121,7 +129,7 @@ counted_at region seq (suc place) (x ∷ txns) id counted own at =
 
 -- what a region with this number holds of an id: of its own region what it submitted, and else what it got from others
 
-apart : (number : ℕ) (foreign : List Txn) (id : TxnId) → AllIn (λ txn. txn.id.region ≢ number) foreign → id.region ≡ number → find_txn foreign id ≡ None
+pub apart : (number : ℕ) (foreign : List Txn) (id : TxnId) → AllIn (λ txn. txn.id.region ≢ number) foreign → id.region ≡ number → find_txn foreign id ≡ None
 apart number foreign id others own = find_none foreign id (all_map _ _ foreign (λ txn other e. other (ap (λ i. i.region) e ∙ own)) others)
 
 pub held_own : (number : ℕ) (submitted foreign : List Txn) (id : TxnId) (place : ℕ) → AreCounted number 1 submitted → AllIn (λ txn. txn.id.region ≢ number) foreign → id.region ≡ number → id.seq ≡ 1 + place → find_txn (submitted ++ foreign) id ≡ slice_get submitted place

@@ -1,2 +1,11 @@
 pub mod Ids
 pub mod Find
+pub mod Tables
+pub mod Asking
+pub mod Holds
+pub mod Logs
+pub mod Opening
+pub mod Submitting
+pub mod Appending
+pub mod Delivering
+pub mod Stepping

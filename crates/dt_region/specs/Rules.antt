@@ -14,7 +14,7 @@ use Rattle.dt_txn.specs.declared.txn.Entry.{Entry}
 use Rattle.dt_txn.specs.Transaction.{annotate, homes_of, part_of}
 use Rattle.dt_txn.specs.Asking.{ask}
 use Rattle.dt_txn.specs.Replica.{MayStep, stepped}
-use Rattle.dt_region.specs.State.{State, held}
+use Rattle.dt_region.specs.State.{State, find_txn, held}
 
 -- a region before anything happens, in a cluster of so many regions, with this table
 abbrev pub opening_state : ℕ → ℕ → Table → State
@@ -45,14 +45,23 @@ with_submission s txn = record s { submitted = s.submitted ++ txn ∷ []; asked 
 abbrev pub after_submit : State → Body → State
 after_submit s body = with_submission s (submission_for s body)
 
--- the region after it got a transaction: it keeps it, unless it holds it already
+-- what a region that submitted the ones has of others after it got one more transaction: it keeps it, unless it holds it
+-- already
+abbrev pub keep : List Txn → List Txn → Txn → List Txn
+keep submitted foreign txn = if is_some (find_txn (submitted ++ foreign) txn.id) then foreign else foreign ++ txn ∷ []
+
+-- the same after several, one after another
+abbrev pub keep_all : List Txn → List Txn → List Txn → List Txn
+keep_all submitted foreign [] = foreign
+keep_all submitted foreign (txn ∷ txns) = keep_all submitted (keep submitted foreign txn) txns
+
+-- the region after it got a transaction
 abbrev pub hold : State → Txn → State
-hold s txn = record s { foreign = if is_some (held s txn.id) then s.foreign else s.foreign ++ txn ∷ [] }
+hold s txn = record s { foreign = keep s.submitted s.foreign txn }
 
 -- the region after it got transactions, one after another
 abbrev pub hold_all : State → List Txn → State
-hold_all s [] = s
-hold_all s (txn ∷ txns) = hold_all (hold s txn) txns
+hold_all s txns = record s { foreign = keep_all s.submitted s.foreign txns }
 
 -- the number of the next request of a region that is to be placed here
 abbrev pub taken_from : State → ℕ → ℕ
