@@ -1,9 +1,12 @@
 //! What a cluster is: its regions, the homes and values of its rows, and its limits.
 #![tactic(auto)]
 
+mod copies;
+
 ghost use Rattle.std.specs.Prelude.{◌≡◌, ◌≤◌, ◌<◌, IfOk};
 ghost use Rattle.dt_cluster.specs.Builtin.{builtin_cluster};
 
+use crate::copies::{copy_homes, copy_rows};
 use dt_text::{Key, Listed, NoMemory, Value};
 use std::alloc::Global;
 
@@ -47,4 +50,21 @@ pub fn builtin(alloc: Global, regions: u8) -> Result<Cluster, NoMemory>
         homes: Listed::new(alloc),
         rows: Listed::new(alloc),
     })
+}
+
+impl Cluster {
+    /// An equal cluster.
+    pub fn copy(&self, alloc: Global) -> Result<Self, NoMemory>
+        ensures { IfOk result (λ copied. copied ≡ self.now) }
+    {
+        Ok(Cluster {
+            regions: self.regions,
+            workers: self.workers,
+            tries: self.tries,
+            drop: self.drop,
+            repeat: self.repeat,
+            homes: copy_homes(alloc, self.homes.as_slice())?,
+            rows: copy_rows(alloc, self.rows.as_slice())?,
+        })
+    }
 }

@@ -1,8 +1,12 @@
 //! What the sessions of a cluster want.
 #![tactic(auto)]
 
+ghost use Rattle.std.specs.Prelude.{◌≡◌, IfOk};
+
+use dt_access::TryCopy;
 use dt_eval::Args;
-use dt_text::{Key, Listed, Name};
+use dt_text::{Key, Listed, Name, NoMemory};
+use std::alloc::Global;
 
 /// What one call or move of a session wants.
 #[derive(Drop)]
@@ -31,4 +35,52 @@ pub type SessionList = Listed<Session>;
 #[derive(Drop)]
 pub struct Workload {
     pub sessions: SessionList,
+}
+
+impl Wanted {
+    /// An equal call or move.
+    pub fn copy(&self, alloc: Global) -> Result<Self, NoMemory>
+        ensures { IfOk result (λ copied. copied ≡ self.now) }
+    {
+        match self {
+            Wanted::Call(proc, args) => Ok(Wanted::Call(*proc, args.copy(alloc)?)),
+            Wanted::Move(key, target) => Ok(Wanted::Move(key.copy(alloc)?, *target)),
+        }
+    }
+}
+
+impl TryCopy for Wanted {
+    fn copy(&self, alloc: Global) -> Result<Self, NoMemory> {
+        Wanted::copy(self, alloc)
+    }
+}
+
+impl Session {
+    /// An equal session.
+    pub fn copy(&self, alloc: Global) -> Result<Self, NoMemory>
+        ensures { IfOk result (λ copied. copied ≡ self.now) }
+    {
+        Ok(Session {
+            name: self.name.copy(alloc)?,
+            region: self.region,
+            calls: self.calls.copy(alloc)?,
+        })
+    }
+}
+
+impl TryCopy for Session {
+    fn copy(&self, alloc: Global) -> Result<Self, NoMemory> {
+        Session::copy(self, alloc)
+    }
+}
+
+impl Workload {
+    /// An equal workload.
+    pub fn copy(&self, alloc: Global) -> Result<Self, NoMemory>
+        ensures { IfOk result (λ copied. copied ≡ self.now) }
+    {
+        Ok(Workload {
+            sessions: self.sessions.copy(alloc)?,
+        })
+    }
 }

@@ -1,0 +1,7 @@
+//! The world: all regions and all sessions, in one hand. It takes one event after another where that is legal, and
+//! reports what they came to.
+#![tactic(auto)]
+
+mod world;
+
+pub use world::{StepError, World};
