@@ -33,7 +33,7 @@ pub record Replay : Type 0 where
 
 -- the words are `replay`, the word of a built-in cluster, and the names of a workload's and an events' file
 pub record IsReplay (words : List Bytes) (replay : Replay) : Type 0 where
-  pub words : words ≡ codes "replay" ∷ builtin_word replay.regions ∷ replay.workload ∷ replay.events ∷ []
+  pub form : words ≡ codes "replay" ∷ builtin_word replay.regions ∷ replay.workload ∷ replay.events ∷ []
   pub cluster : IsBuiltin replay.regions
   pub workload : IsFileName replay.workload
   pub events : IsFileName replay.events

@@ -1,4 +1,4 @@
-ghost use Rattle.std.specs.Prelude.{◌≡◌, ◌≢◌, ℕ, MatchBool, MatchOption};
+ghost use Rattle.std.specs.Prelude.{◌≡◌, ◌≢◌, ◌≤◌, ℕ, MatchBool, MatchOption};
 ghost use Rattle.std.specs.Fmt.{decimal};
 ghost use Rattle.detock.specs.Words.{IsBig, IsBuiltin, IsFileName, IsReplay, IsRun, NamesCluster, NeedsThreads, builtin_word, spelled};
 ghost use Rattle.detock.specs.Asked.{asked_for};
@@ -29,7 +29,7 @@ pub fn replay_words(words: &[String]) -> Option<ReplayWords<'_>>
         return None;
     }
     Some(ReplayWords {
-        regions: builtin_regions(words[1].as_str())?,
+        regions: builtin_regions(words[1].as_bytes())?,
         workload,
         events,
     })
@@ -47,47 +47,47 @@ fn is_run(words: &[String]) -> bool
 {
     words.len() == 3
         && words[0].as_str() == "run"
-        && names_cluster(words[1].as_str())
+        && names_cluster(words[1].as_bytes())
         && !words[2].is_empty()
 }
 
 fn is_big(words: &[String]) -> bool
     ensures { MatchBool result (¬ IsBig (spelled words.now)) (IsBig (spelled words.now)) }
 {
-    words.len() == 2 && words[0].as_str() == "big" && is_size(words[1].as_str())
+    words.len() == 2 && words[0].as_str() == "big" && is_size(words[1].as_bytes())
 }
 
 /// Whether the word is a number from 1 to 20000.
-fn is_size(word: &str) -> bool
+fn is_size(word: &[u8]) -> bool
     ensures { MatchBool result ((n : ℕ) → 1 ≤ n → n ≤ 20000 → word.now ≢ decimal n)
         ((n : ℕ) × (1 ≤ n) × (n ≤ 20000) × (word.now ≡ decimal n)) }
 {
     if word.len() > 5 {
         return false;
     }
-    match read_u32(word.as_bytes()) {
+    match read_u32(word) {
         Some(number) => (1..=20_000).contains(&number),
         None => false,
     }
 }
 
 /// Whether the word names a cluster.
-fn names_cluster(word: &str) -> bool
+fn names_cluster(word: &[u8]) -> bool
     ensures { MatchBool result (¬ NamesCluster word.now) (NamesCluster word.now) }
 {
     if word.is_empty() {
         return false;
     }
-    word.as_bytes()[0] != b':' || builtin_regions(word).is_some()
+    word[0] != b':' || builtin_regions(word).is_some()
 }
 
 /// How many regions the built-in cluster of this word has. `None` exactly where the word names none.
-fn builtin_regions(word: &str) -> Option<u8>
+fn builtin_regions(word: &[u8]) -> Option<u8>
     ensures { MatchOption result ((n : ℕ) → IsBuiltin n → word.now ≢ builtin_word n)
         (λ n. IsBuiltin n × (word.now ≡ builtin_word n)) }
 {
-    match word.as_bytes() {
-        [b':', digit] if (b'1'..=b'8').contains(digit) => Some(digit - b'0'),
-        _ => None,
+    if word.len() != 2 || word[0] != b':' || word[1] < b'1' || word[1] > b'8' {
+        return None;
     }
+    Some(word[1] - b'0')
 }
