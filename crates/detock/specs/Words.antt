@@ -43,9 +43,13 @@ abbrev pub IsRun : List Bytes → Type 0
 IsRun words =
     (cluster workload : Bytes) × (words ≡ codes "run" ∷ cluster ∷ workload ∷ []) × NamesCluster cluster × IsFileName workload
 
+-- a word that is a number from 1 to 20000
+abbrev pub IsSize : Bytes → Type 0
+IsSize word = (n : ℕ) × (1 ≤ n) × (n ≤ 20000) × (word ≡ decimal n)
+
 -- the words are `big` and a number from 1 to 20000
 abbrev pub IsBig : List Bytes → Type 0
-IsBig words = (n : ℕ) × (words ≡ codes "big" ∷ decimal n ∷ []) × (1 ≤ n) × (n ≤ 20000)
+IsBig words = (size : Bytes) × (words ≡ codes "big" ∷ size ∷ []) × IsSize size
 
 -- the words of a form whose work is done by threads
 abbrev pub NeedsThreads : List Bytes → Type 0

@@ -1,6 +1,5 @@
-ghost use Rattle.std.specs.Prelude.{◌≡◌, ◌≢◌, ◌≤◌, ℕ, MatchBool, MatchOption};
-ghost use Rattle.std.specs.Fmt.{decimal};
-ghost use Rattle.detock.specs.Words.{IsBig, IsBuiltin, IsFileName, IsReplay, IsRun, NamesCluster, NeedsThreads, builtin_word, spelled};
+ghost use Rattle.std.specs.Prelude.{◌≡◌, ◌≢◌, ℕ, MatchBool, MatchOption};
+ghost use Rattle.detock.specs.Words.{IsBig, IsBuiltin, IsFileName, IsReplay, IsRun, IsSize, NamesCluster, NeedsThreads, builtin_word, spelled};
 ghost use Rattle.detock.specs.Asked.{asked_for};
 
 use dt_text::read_u32;
@@ -37,13 +36,13 @@ pub fn replay_words(words: &[String]) -> Option<ReplayWords<'_>>
 
 /// Whether the words ask for what threads do: `run`, or `big`. Takes no memory.
 pub fn needs_threads(words: &[String]) -> bool
-    ensures { MatchBool result (¬ NeedsThreads (spelled words.now)) (NeedsThreads (spelled words.now)) }
+    ensures { MatchBool result (NeedsThreads (spelled words.now)) (¬ NeedsThreads (spelled words.now)) }
 {
     is_run(words) || is_big(words)
 }
 
 fn is_run(words: &[String]) -> bool
-    ensures { MatchBool result (¬ IsRun (spelled words.now)) (IsRun (spelled words.now)) }
+    ensures { MatchBool result (IsRun (spelled words.now)) (¬ IsRun (spelled words.now)) }
 {
     words.len() == 3
         && words[0].as_str() == "run"
@@ -52,15 +51,14 @@ fn is_run(words: &[String]) -> bool
 }
 
 fn is_big(words: &[String]) -> bool
-    ensures { MatchBool result (¬ IsBig (spelled words.now)) (IsBig (spelled words.now)) }
+    ensures { MatchBool result (IsBig (spelled words.now)) (¬ IsBig (spelled words.now)) }
 {
     words.len() == 2 && words[0].as_str() == "big" && is_size(words[1].as_bytes())
 }
 
 /// Whether the word is a number from 1 to 20000.
 fn is_size(word: &[u8]) -> bool
-    ensures { MatchBool result ((n : ℕ) → 1 ≤ n → n ≤ 20000 → word.now ≢ decimal n)
-        ((n : ℕ) × (1 ≤ n) × (n ≤ 20000) × (word.now ≡ decimal n)) }
+    ensures { MatchBool result (IsSize word.now) (¬ IsSize word.now) }
 {
     if word.len() > 5 {
         return false;
@@ -73,7 +71,7 @@ fn is_size(word: &[u8]) -> bool
 
 /// Whether the word names a cluster.
 fn names_cluster(word: &[u8]) -> bool
-    ensures { MatchBool result (¬ NamesCluster word.now) (NamesCluster word.now) }
+    ensures { MatchBool result (NamesCluster word.now) (¬ NamesCluster word.now) }
 {
     if word.is_empty() {
         return false;
