@@ -1,4 +1,4 @@
-ghost use Rattle.std.specs.Prelude.{◌≡◌, ◌≢◌, ℕ, MatchBool, MatchOption};
+ghost use Rattle.std.specs.Prelude.{◌≡◌, ◌≢◌, ◌∷◌, [], ℕ, List, MatchBool, MatchOption};
 ghost use Rattle.detock.specs.Words.{IsBig, IsBuiltin, IsFileName, IsReplay, IsRun, IsSize, NamesCluster, NeedsThreads, builtin_word, spelled};
 ghost use Rattle.detock.specs.Asked.{asked_for};
 
@@ -20,15 +20,13 @@ pub fn replay_words(words: &[String]) -> Option<ReplayWords<'_>>
     ensures { MatchOption result ((replay : _) → ¬ IsReplay (spelled words.now) replay)
         (λ replay. IsReplay (spelled words.now) (asked_for replay)) }
 {
-    if words.len() != 4 || words[0].as_str() != "replay" {
+    let (verb, cluster, workload, events) = four_words(words)?;
+    if verb != "replay" || workload.is_empty() || events.is_empty() {
         return None;
     }
-    let (workload, events) = (words[2].as_str(), words[3].as_str());
-    if workload.is_empty() || events.is_empty() {
-        return None;
-    }
+    let regions = builtin_regions(cluster.as_bytes())?;
     Some(ReplayWords {
-        regions: builtin_regions(words[1].as_bytes())?,
+        regions,
         workload,
         events,
     })
@@ -44,16 +42,63 @@ pub fn needs_threads(words: &[String]) -> bool
 fn is_run(words: &[String]) -> bool
     ensures { MatchBool result (IsRun (spelled words.now)) (¬ IsRun (spelled words.now)) }
 {
-    words.len() == 3
-        && words[0].as_str() == "run"
-        && names_cluster(words[1].as_bytes())
-        && !words[2].is_empty()
+    let Some((verb, cluster, workload)) = three_words(words) else {
+        return false;
+    };
+    if verb != "run" || workload.is_empty() {
+        return false;
+    }
+    names_cluster(cluster.as_bytes())
 }
 
 fn is_big(words: &[String]) -> bool
     ensures { MatchBool result (IsBig (spelled words.now)) (¬ IsBig (spelled words.now)) }
 {
-    words.len() == 2 && words[0].as_str() == "big" && is_size(words[1].as_bytes())
+    let Some((verb, size)) = two_words(words) else {
+        return false;
+    };
+    if verb != "big" {
+        return false;
+    }
+    is_size(size.as_bytes())
+}
+
+/// The two words, if there are as many.
+fn two_words(words: &[String]) -> Option<(&str, &str)>
+    ensures { MatchOption result ((a b : List ℕ) → spelled words.now ≢ a ∷ b ∷ [])
+        (λ w. spelled words.now ≡ w.0.now ∷ w.1.now ∷ []) }
+{
+    if words.len() != 2 {
+        return None;
+    }
+    Some((words[0].as_str(), words[1].as_str()))
+}
+
+/// The three words, if there are as many.
+fn three_words(words: &[String]) -> Option<(&str, &str, &str)>
+    ensures { MatchOption result ((a b c : List ℕ) → spelled words.now ≢ a ∷ b ∷ c ∷ [])
+        (λ w. spelled words.now ≡ w.0.now ∷ w.1.now ∷ w.2.now ∷ []) }
+{
+    if words.len() != 3 {
+        return None;
+    }
+    Some((words[0].as_str(), words[1].as_str(), words[2].as_str()))
+}
+
+/// The four words, if there are as many.
+fn four_words(words: &[String]) -> Option<(&str, &str, &str, &str)>
+    ensures { MatchOption result ((a b c d : List ℕ) → spelled words.now ≢ a ∷ b ∷ c ∷ d ∷ [])
+        (λ w. spelled words.now ≡ w.0.now ∷ w.1.now ∷ w.2.now ∷ w.3.now ∷ []) }
+{
+    if words.len() != 4 {
+        return None;
+    }
+    Some((
+        words[0].as_str(),
+        words[1].as_str(),
+        words[2].as_str(),
+        words[3].as_str(),
+    ))
 }
 
 /// Whether the word is a number from 1 to 20000.
@@ -63,10 +108,13 @@ fn is_size(word: &[u8]) -> bool
     if word.len() > 5 {
         return false;
     }
-    match read_u32(word) {
-        Some(number) => (1..=20_000).contains(&number),
-        None => false,
+    let Some(number) = read_u32(word) else {
+        return false;
+    };
+    if number < 1 || number > 20_000 {
+        return false;
     }
+    true
 }
 
 /// Whether the word names a cluster.
