@@ -9,7 +9,7 @@ ghost use Rattle.detock.specs.Refusals.{IsEventsRefusal, IsWorkloadRefusal};
 use crate::status::{EventsCause, Status};
 use dt_events::{Event, EventsError, read_events};
 use dt_outside::{Folder, LoadError};
-use dt_workload::{FirstError, Workload, read_first};
+use dt_workload::{Workload, read_first};
 use std::alloc::Global;
 
 /// No file may be longer than this: 16 MiB.
@@ -37,10 +37,9 @@ pub fn load_workload<F: Folder>(
     ensures later { F.faults files.old ≤ F.faults files.new }
 {
     let bytes = load(alloc, files, name, WORKLOAD_WORD, Status::NotBuilt)?;
-    match read_first(alloc, regions, bytes.as_slice()) {
-        Ok(workload) => Ok(workload),
-        Err(FirstError::NotFirst) => Err(Status::NotBuilt),
-        Err(FirstError::NoMemory) => Err(Status::NoMemory),
+    match read_first(alloc, bytes.as_slice(), regions)? {
+        Some(workload) => Ok(workload),
+        None => Err(Status::NotBuilt),
     }
 }
 

@@ -5,6 +5,8 @@ mod faults;
 mod loading;
 mod replay;
 mod status;
+#[cfg(test)]
+mod tests;
 mod top;
 mod words;
 
