@@ -3,6 +3,9 @@ ghost use Rattle.detock.specs.Words.{IsBig, IsBuiltin, IsFileName, IsReplay, IsR
 ghost use Rattle.detock.specs.Asked.{asked_for};
 
 use dt_text::read_u32;
+use std::alloc::Global;
+use std::env::{Env, args};
+use std::io;
 
 /// What `replay` is asked to do.
 #[derive(Clone, Copy, Debug)]
@@ -13,6 +16,11 @@ pub struct ReplayWords<'a> {
     pub workload: &'a str,
     /// The name of the events' file.
     pub events: &'a str,
+}
+
+/// The words of the command line, without the program's name. Fails where the system does not give them.
+pub fn command_line<R: Env + Alloc<A = Global>>(rt: &R) -> io::Result<Vec<String>> {
+    Ok(args(rt)?.skip(1).collect(rt.alloc())?)
 }
 
 /// Reads the words of a replay on a built-in cluster. `None` exactly where the words are none. Takes no memory.
