@@ -88,16 +88,16 @@ tails_of same = cc
 -- of events, the first that is not legal is one
 module _ (cluster : Cluster) (workload : Workload) where
   one_illegal : (w : World) (a b after later : List (ℕ × Event)) (x y : ℕ × Event) → a ++ x ∷ after ≡ b ++ y ∷ later → AreLegalFrom cluster workload w (unnumbered a) → AreLegalFrom cluster workload w (unnumbered b) → ¬ IsLegal cluster workload (world_from workload w (unnumbered a)) x.1 → ¬ IsLegal cluster workload (world_from workload w (unnumbered b)) y.1 → x ≡ y
-  one_illegal w [] [] after later x y same before also no none = heads_of same
-  one_illegal w [] (z ∷ b) after later x y same before (legal, also) no none =
-      let P : ℕ × Event → Type 0 = λ event. IsLegal cluster workload w event.1 in absurd (no (subst P (sym (heads_of same)) legal))
-  one_illegal w (z ∷ a) [] after later x y same (legal, before) also no none =
+  one_illegal w [] [] after later x y same before also never none = heads_of same
+  one_illegal w [] (z ∷ b) after later x y same before (legal, also) never none =
+      let P : ℕ × Event → Type 0 = λ event. IsLegal cluster workload w event.1 in absurd (never (subst P (sym (heads_of same)) legal))
+  one_illegal w (z ∷ a) [] after later x y same (legal, before) also never none =
       let P : ℕ × Event → Type 0 = λ event. IsLegal cluster workload w event.1 in absurd (none (subst P (heads_of same) legal))
-  one_illegal w (u ∷ a) (v ∷ b) after later x y same (legal, before) (too, also) no none =
+  one_illegal w (u ∷ a) (v ∷ b) after later x y same (legal, before) (too, also) never none =
       let head : v ≡ u = sym (heads_of same) in
       let P : ℕ × Event → Type 0 = λ event. AreLegalFrom cluster workload (next workload w event.1) (unnumbered b) in
       let Q : ℕ × Event → Type 0 = λ event. ¬ IsLegal cluster workload (world_from workload (next workload w event.1) (unnumbered b)) y.1 in
-      one_illegal (next workload w u.1) a b after later x y (tails_of same) before (subst P head also) no (subst Q head none)
+      one_illegal (next workload w u.1) a b after later x y (tails_of same) before (subst P head also) never (subst Q head none)
 
   -- it has one line and one rule
   same_illegal : (events : List (ℕ × Event)) (l m n k : ℕ) → IsFirstIllegal cluster workload events l n → IsFirstIllegal cluster workload events m k → (l ≡ m) × (n ≡ k)
@@ -142,14 +142,14 @@ module _ (files : Files) (words : List Bytes) where
       let same = one_replay words r s a.asked b.asked in
       let P : Replay → Type 0 = λ q. IsSomeAnd (files q.workload) (AreWorkload q.regions w) in
       let (bytes, one, other) = both_told (files r.workload) (AreWorkload r.regions v) (AreWorkload r.regions w) a.workload_file (subst P (sym same) b.workload_file) in
-      (same, one_workload r.regions bytes v w one.form other.form)
+      (same, one_workload r.regions (omega (arith, a.asked.cluster.1)) bytes v w one.form other.form)
 
   -- what has a workload is built
   built : (r : Replay) (v : Workload) → HasWorkload (Some files) words r v → IsNotBuilt (Some files) words → ⊥
   built r v a (inl none) = none r a.asked
-  built r v a (inr (s, asked, no)) =
+  built r v a (inr (s, asked, never)) =
       let P : Replay → Type 0 = λ q. IsSomeAnd (files q.workload) (AreNoWorkload q.regions) in
-      let (bytes, is, isnt) = both_told (files r.workload) (AreWorkload r.regions v) (AreNoWorkload r.regions) a.workload_file (subst P (sym (one_replay words r s a.asked asked)) no) in
+      let (bytes, is, isnt) = both_told (files r.workload) (AreWorkload r.regions v) (AreNoWorkload r.regions) a.workload_file (subst P (sym (one_replay words r s a.asked asked)) never) in
       contradiction bytes is isnt
     where
       contradiction : (bytes : Bytes) → AreWorkload r.regions v bytes → AreNoWorkload r.regions bytes → ⊥
@@ -220,7 +220,7 @@ could_not told words before now word (inr (is, replay, workload, has, loaded, la
 
 -- a status that is no fault of a device is the one that is due
 pub comes_due : (told : Option Files) (words : List Bytes) (before now : ℕ) (status due : Status) → IsSome told → IsDue told words due → ¬ Rose before now → (status ≡ Done → IsReplayable told words) → (status ≢ Done → status ≢ CannotWrite → IsRefusal told words before now status) → status ≢ CannotWrite → (status ≡ due) ⊎ (status ≡ NoMemory)
-comes_due None words before now status due some is still done refused written = absurd some
+comes_due None words before now status due some is still done refused written = cc
 comes_due (Some files) words before now Done due some is still done refused written = inl (one_due files words Done due (done refl) is)
 comes_due (Some files) words before now NoMemory due some is still done refused written = inr refl
 comes_due (Some files) words before now (CannotRead word) due some is still done refused written = absurd (still (could_not (Some files) words before now word (refused (λ e. cc) (λ e. cc))))

@@ -1,5 +1,5 @@
 -- A file has no more events than bytes.
-use Rattle.std.proofs.Common.{◌≡◌, ℕ, ◌+◌, ◌≤◌, Bool, true, false, cond, ◌==◌, List, [], ◌∷◌, length, ap, sym, ◌∙◌, arith, subst}
+use Rattle.std.proofs.Common.{◌≡◌, ℕ, suc, ◌+◌, ◌≤◌, Bool, true, false, cond, ◌==◌, List, [], ◌∷◌, length, ap, sym, ◌∙◌, arith, subst}
 use Rattle.std.specs.List.{onto_first}
 use Rattle.dt_lists.proofs.Fronts.{pairwise_length}
 use Rattle.dt_text.specs.Lines.{FileLine, cut_lines, is_skipped, kept_lines, lines_of}
@@ -7,7 +7,7 @@ use Rattle.dt_events.specs.declared.Event.{Event}
 use Rattle.dt_events.specs.Events.{AreEvents, IsNumberedEvent}
 
 -- a byte put before the first line makes one line at most
-onto_one : (b n : ℕ) (lines : List (List ℕ)) → length lines ≤ n → length (onto_first b lines) ≤ n + 1
+onto_one : (b n : ℕ) (lines : List (List ℕ)) → length lines ≤ n → length (onto_first b lines) ≤ suc n
 onto_one b n [] few = omega arith
 onto_one b n (line ∷ lines) few = omega (arith, few)
 
@@ -15,14 +15,14 @@ onto_one b n (line ∷ lines) few = omega (arith, few)
 few_lines : (file : List ℕ) → length (cut_lines file) ≤ length file
 few_lines [] = omega arith
 few_lines (b ∷ bs) =
-    elim (b == 10) as (λ ends. length (cond ends ([] ∷ cut_lines bs) (onto_first b (cut_lines bs))) ≤ length bs + 1)
+    elim (b == 10) as (λ ends. length (cond ends ([] ∷ cut_lines bs) (onto_first b (cut_lines bs))) ≤ suc (length bs))
     [ true ↦ omega (arith, few_lines bs) | false ↦ onto_one b (length bs) (cut_lines bs) (few_lines bs) ]
 
 -- and no more that are not skipped
 few_kept : (number : ℕ) (lines : List (List ℕ)) → length (kept_lines number lines) ≤ length lines
 few_kept number [] = omega arith
 few_kept number (line ∷ lines) =
-    elim (is_skipped line) as (λ skipped. length (cond skipped (kept_lines (number + 1) lines) (record { number = number; bytes = line } ∷ kept_lines (number + 1) lines)) ≤ length lines + 1)
+    elim (is_skipped line) as (λ skipped. length (cond skipped (kept_lines (number + 1) lines) (record { number = number; bytes = line } ∷ kept_lines (number + 1) lines)) ≤ suc (length lines))
     [ true ↦ omega (arith, few_kept (number + 1) lines) | false ↦ omega (arith, few_kept (number + 1) lines) ]
 
 -- a file has no more events than bytes
