@@ -1,7 +1,7 @@
 -- What the calls make of a region's fields is what the rules say.
-use Rattle.std.proofs.Common.{◌≡◌, ◌<◌, ◌≤◌, ◌+◌, ◌-◌, ◌^◌, ℕ, zero, suc, List, [], ◌∷◌, ◌++◌, map, length, set, drop, replicate, slice_get, Some, refl, sym, ap, ap₂, subst, ◌∙◌, arith}
+use Rattle.std.proofs.Common.{◌≡◌, ◌<◌, ◌≤◌, ◌+◌, ◌-◌, ◌^◌, ℕ, zero, suc, List, [], ◌∷◌, ◌++◌, map, length, set, drop, replicate, slice_get, Some, Ok, ◌≢◌, refl, sym, ap, ap₂, subst, ◌∙◌, arith}
 use Rattle.std.specs.Prelude.{slice_index}
-use Rattle.std.proofs.lemmas.List.{length-map, length-append, length-drop, get_or-set_same}
+use Rattle.std.proofs.lemmas.List.{length-map, length-append, length-drop, get_or-set_same, set-get_or}
 use Rattle.std.proofs.lemmas.Option.{slice_get_within}
 use Rattle.dt_lists.specs.Lists.{AllIn, Has}
 use Rattle.dt_lists.proofs.Words.{all_map, all_image}
@@ -13,6 +13,9 @@ use Rattle.dt_access.specs.declared.TxnId.{TxnId}
 use Rattle.dt_text.specs.declared.Value.{Value}
 use Rattle.dt_text.specs.declared.Value.TheVariants.{Int, Text}
 use Rattle.dt_eval.specs.Meaning.{keys_of}
+use Rattle.dt_log.specs.Logs.{Takes}
+use Rattle.dt_log.specs.declared.Taken.{Taken}
+use Rattle.dt_log.specs.declared.Taken.TheVariants.{New, Old, Gap}
 use Rattle.dt_events.specs.declared.Event.TheVariants.{Insert, Resolve, Execute}
 use Rattle.dt_sched.specs.Views.{View, log_at}
 use Rattle.dt_sched.specs.Sched.{Sched, CanInsert, CanExecute, CanResolve, with_part, nothing_yet, after_insert, after_resolve, after_finish}
@@ -30,7 +33,7 @@ use Rattle.dt_txn.specs.Replica.{view_of, executed}
 use Rattle.dt_region.specs.Fields.{state_of}
 use Rattle.dt_region.specs.Holding.{keep_other, keep_others}
 use Rattle.dt_region.specs.State.{State, Kept, held, sched_of}
-use Rattle.dt_region.specs.Rules.{opening_state, next_id, submission_for, keep, keep_all, taken_from, past_end, with_entries, after_submit, after_append, after_deliver, after_step, MayMake}
+use Rattle.dt_region.specs.Rules.{opening_state, next_id, submission_for, keep, keep_all, taken_from, past_end, with_entries, after_submit, after_append, after_deliver, after_step, MayMake, Delivers}
 use Rattle.dt_region.specs.Conditions.{IsTableFor, CanAppend, CanDeliver}
 use Rattle.dt_region.specs.Sound.{IsSoundRegion, AreWell}
 use Rattle.dt_region.proofs.Appending.{append_well}
@@ -40,6 +43,7 @@ use Rattle.dt_region.proofs.Kept.{keep_other_is, keep_others_is}
 use Rattle.dt_region.proofs.Logs.{log_few, parts_with}
 use Rattle.dt_region.proofs.Stepping.{held_id, held_valid, executable_held, can_insert, insert_well, resolve_well, execute_well}
 use Rattle.dt_region.proofs.Submitting.{submit_sound}
+use Rattle.dt_region.proofs.Tables.{annotate_valid}
 
 -- a body that fits can be run, and uses its keys in ascending order
 
@@ -80,9 +84,18 @@ submit_made k s view seen well body fits submitted asked txn id homes i t h sub 
     let fits_here : BodyFits s.regions body = subst (λ x. BodyFits x.state.regions body) (sym view) fits in
     let new : txn ≡ submission_for s body = t ∙ ap (λ j. annotate j body s.here.table) i in
     let same : state_of s.number s.regions submitted s.foreign asked s.taken s.logs s.here.inserted s.here.resolved s.here.done s.here.table ≡ after_submit s body =
-      ap₂ (λ b a. state_of s.number s.regions b s.foreign a s.taken s.logs s.here.inserted s.here.resolved s.here.done s.here.table)
-      (sub ∙ ap (λ x. s.submitted ++ x ∷ []) new) (ask ∙ (λ j. ask_of (h j) (i j) s.asked) ∙ ap (λ x. ask_of (homes_of x) (next_id s) s.asked) new) in
+    ap₂ (λ b a. state_of s.number s.regions b s.foreign a s.taken s.logs s.here.inserted s.here.resolved s.here.done s.here.table)
+    (sub ∙ ap (λ x. s.submitted ++ x ∷ []) new) (ask ∙ (λ j. ask_of (h j) (i j) s.asked) ∙ ap (λ x. ask_of (homes_of x) (next_id s) s.asked) new) in
     (subst (λ x. AreWell x seen) (sym same) (submit_sound s well.0 body fits_here, well.1), same ∙ ap (λ x. after_submit x.state body) view, i ∙ ap (λ x. next_id x.state) view)
+
+-- the homes that are asked have lists
+pub submit_homes : (k : Kept) (s : State) → record { state = s } ≡ k → IsSoundRegion s → (body : Body) → BodyFits k.state.regions body →
+    (id : TxnId) (txn : Txn) (homes : List ℕ) (n : ℕ) → txn ≡ annotate id body s.here.table → homes ≡ homes_of txn → n ≡ length s.asked → AllIn (λ home. home < n) homes
+submit_homes k s view sound body fits id txn homes n t h l =
+    let fits_here : BodyFits s.regions body = subst (λ x. BodyFits x.state.regions body) (sym view) fits in
+    let below = sound.number in
+    let valid : IsValid s.regions (annotate id body s.here.table) = annotate_valid s.regions id body s.here.table (omega (arith, below)) sound.table fits_here in
+    subst (λ m. AllIn (λ home. home < m) homes) (sym (l ∙ sound.asked)) (subst (AllIn (λ home. home < s.regions)) (sym (h ∙ ap homes_of t)) valid.homes)
 
 -- appends
 
@@ -108,7 +121,7 @@ append_made k s view seen well source number txn known can turn foreign logs f l
     let known_here : source < s.regions = subst (λ x. source < x.state.regions) (sym view) known in
     let kept : foreign ≡ keep s.submitted s.foreign txn = f ∙ keep_other_is s.number s.submitted s.foreign txn well.0.counted here.agrees.own in
     let same : state_of s.number s.regions s.submitted foreign s.asked (set s.taken source (number + 1)) logs s.here.inserted s.here.resolved s.here.done s.here.table ≡ after_append s source txn =
-      λ j. state_of s.number s.regions s.submitted (kept j) s.asked (set s.taken source (turn_here j + 1)) (l j) s.here.inserted s.here.resolved s.here.done s.here.table in
+    λ j. state_of s.number s.regions s.submitted (kept j) s.asked (set s.taken source (turn_here j + 1)) (l j) s.here.inserted s.here.resolved s.here.done s.here.table in
     (subst (λ x. AreWell x seen) (sym same) (append_well s well.0 source number txn known_here here turn_here seen well.1), same ∙ ap (λ x. after_append x.state source txn) view)
 
 -- deliveries
@@ -135,28 +148,75 @@ deliver_made k s view seen well home first entries known can n parts txns foreig
     let here : CanDeliver s home first entries = subst (λ x. CanDeliver x.state home first entries) (sym view) can in
     let known_here : home < s.regions = subst (λ x. home < x.state.regions) (sym view) known in
     let new_txns : drop (length txns - n) txns ≡ map (λ e. e.txn) (past_end (log_at s.logs home) first entries) =
-      ap (λ l. drop (length l - n) l) t ∙ last_are (λ (e : Entry). e.txn) entries (length (log_at s.logs home)) first n reach count in
+    ap (λ l. drop (length l - n) l) t ∙ last_are (λ (e : Entry). e.txn) entries (length (log_at s.logs home)) first n reach count in
     let new_parts : drop (length parts - n) parts ≡ map (λ e. e.part) (past_end (log_at s.logs home) first entries) =
-      ap (λ l. drop (length l - n) l) p ∙ last_are (λ (e : Entry). e.part) entries (length (log_at s.logs home)) first n reach count in
+    ap (λ l. drop (length l - n) l) p ∙ last_are (λ (e : Entry). e.part) entries (length (log_at s.logs home)) first n reach count in
     let own : AllIn (λ txn. txn.id.region ≡ s.number → Has s.submitted txn) (map (λ e. e.txn) (past_end (log_at s.logs home) first entries)) =
-      all_image _ (λ (e : Entry). e.txn) (past_end (log_at s.logs home) first entries) (all_drop _ (length (log_at s.logs home) - first) entries (all_map _ _ entries (λ e agrees. agrees.own) here.agree)) in
+    all_image _ (λ (e : Entry). e.txn) (past_end (log_at s.logs home) first entries) (all_drop _ (length (log_at s.logs home) - first) entries (all_map _ _ entries (λ e agrees. agrees.own) here.agree)) in
     let kept : foreign ≡ keep_all s.submitted s.foreign (map (λ e. e.txn) (past_end (log_at s.logs home) first entries)) =
-      f ∙ ap (keep_others s.number s.foreign) new_txns ∙ keep_others_is s.number s.submitted s.foreign (map (λ e. e.txn) (past_end (log_at s.logs home) first entries)) well.0.counted own in
+    f ∙ ap (keep_others s.number s.foreign) new_txns ∙ keep_others_is s.number s.submitted s.foreign (map (λ e. e.txn) (past_end (log_at s.logs home) first entries)) well.0.counted own in
     let grown : logs ≡ set s.logs home (with_entries (log_at s.logs home) first entries) = l ∙ ap (λ x. set s.logs home (log_at s.logs home ++ x)) new_parts in
     let same : state_of s.number s.regions s.submitted foreign s.asked s.taken logs s.here.inserted s.here.resolved s.here.done s.here.table ≡ after_deliver s home first entries =
-      λ j. state_of s.number s.regions s.submitted (kept j) s.asked s.taken (grown j) s.here.inserted s.here.resolved s.here.done s.here.table in
+    λ j. state_of s.number s.regions s.submitted (kept j) s.asked s.taken (grown j) s.here.inserted s.here.resolved s.here.done s.here.table in
     (subst (λ x. AreWell x seen) (sym same) (deliver_well s well.0 home first entries known_here here reach seen well.1), same ∙ ap (λ x. after_deliver x.state home first entries) view)
 
 -- where there is no gap, there is a place for the delivered entries
 pub deliver_places : (s : State) (home first : ℕ) (entries : List Entry) → home < length s.logs → CanDeliver s home first entries → first ≤ length (log_at s.logs home) → first + length entries < 2 ^ 32
 deliver_places s home first entries known can reach =
     let a : length (log_at (set s.logs home (with_entries (log_at s.logs home) first entries)) home) ≡ length (log_at s.logs home) + length (map (λ (e : Entry). e.part) (past_end (log_at s.logs home) first entries)) =
-      ap length (get_or-set_same s.logs home (with_entries (log_at s.logs home) first entries) [] known) ∙ length-append (log_at s.logs home) (map (λ e. e.part) (past_end (log_at s.logs home) first entries)) in
+    ap length (get_or-set_same s.logs home (with_entries (log_at s.logs home) first entries) [] known) ∙ length-append (log_at s.logs home) (map (λ e. e.part) (past_end (log_at s.logs home) first entries)) in
     let b = log_few (set s.logs home (with_entries (log_at s.logs home) first entries)) home in
     let c = can.few reach in
     let d = length-map (past_end (log_at s.logs home) first entries) (λ (e : Entry). e.part) in
     let f = length-drop (length (log_at s.logs home) - first) entries in
     omega (arith, a, b, c, d, f)
+
+-- the same from how the delivery was taken into the log
+pub deliver_new : (k : Kept) (s : State) → record { state = s } ≡ k → (seen : Sched) → AreWell s seen → (home first : ℕ) (entries : List Entry) → home < k.state.regions → CanDeliver k.state home first entries →
+    (n : ℕ) (parts : List Part) (txns : List Txn) (foreign : List Txn) (logs : View) → parts ≡ map (λ e. e.part) entries → txns ≡ map (λ e. e.txn) entries →
+    (taken : Taken) → taken ≡ New n → Takes (log_at s.logs home) first parts (Ok taken) (log_at logs home) → logs ≡ set s.logs home (log_at logs home) →
+    foreign ≡ keep_others s.number s.foreign (drop (length txns - n) txns) →
+    AreWell (state_of s.number s.regions s.submitted foreign s.asked s.taken logs s.here.inserted s.here.resolved s.here.done s.here.table) seen
+    × Delivers k.state home first entries (Ok (New n)) (state_of s.number s.regions s.submitted foreign s.asked s.taken logs s.here.inserted s.here.resolved s.here.done s.here.table)
+deliver_new k s view seen well home first entries known can n parts txns foreign logs p t taken is takes others kept =
+    let new : Takes (log_at s.logs home) first parts (Ok (New n)) (log_at logs home) = subst (λ x. Takes (log_at s.logs home) first parts (Ok x) (log_at logs home)) is takes in
+    let long : length parts ≡ length entries = ap length p ∙ length-map entries (λ (e : Entry). e.part) in
+    let count : length (log_at s.logs home) + n ≡ first + length entries = subst (λ m. length (log_at s.logs home) + n ≡ first + m) long new.2 in
+    let past : length (log_at s.logs home) < first + length entries = subst (λ m. length (log_at s.logs home) < first + m) long new.1 in
+    let made : AreWell (state_of s.number s.regions s.submitted foreign s.asked s.taken logs s.here.inserted s.here.resolved s.here.done s.here.table) seen
+    × (state_of s.number s.regions s.submitted foreign s.asked s.taken logs s.here.inserted s.here.resolved s.here.done s.here.table ≡ after_deliver k.state home first entries) =
+    deliver_made k s view seen well home first entries known can n parts txns foreign logs p t new.0 count kept (others ∙ ap (set s.logs home) new.3) in
+    (made.0, (subst (λ x. first ≤ length (log_at x.state.logs home)) view new.0, subst (λ x. length (log_at x.state.logs home) < first + length entries) view past, subst (λ x. length (log_at x.state.logs home) + n ≡ first + length entries) view count, made.1))
+
+-- an old delivery, and one across a gap, change nothing
+pub deliver_old : (k : Kept) (s : State) → record { state = s } ≡ k → (seen : Sched) → AreWell s seen → (home first : ℕ) (entries : List Entry) →
+    (parts : List Part) (foreign : List Txn) (logs : View) → parts ≡ map (λ e. e.part) entries → foreign ≡ s.foreign →
+    (taken : Taken) → ((n : ℕ) → taken ≢ New n) → Takes (log_at s.logs home) first parts (Ok taken) (log_at logs home) → logs ≡ set s.logs home (log_at logs home) →
+    AreWell (state_of s.number s.regions s.submitted foreign s.asked s.taken logs s.here.inserted s.here.resolved s.here.done s.here.table) seen
+    × Delivers k.state home first entries (Ok taken) (state_of s.number s.regions s.submitted foreign s.asked s.taken logs s.here.inserted s.here.resolved s.here.done s.here.table)
+deliver_old k s view seen well home first entries parts foreign logs p f taken not takes others = by taken not takes
+  where
+    same : log_at logs home ≡ log_at s.logs home → state_of s.number s.regions s.submitted foreign s.asked s.taken logs s.here.inserted s.here.resolved s.here.done s.here.table ≡ s
+    same e = ap₂ (λ x l. state_of s.number s.regions s.submitted x s.asked s.taken l s.here.inserted s.here.resolved s.here.done s.here.table) f (others ∙ ap (set s.logs home) e ∙ set-get_or s.logs home [])
+
+    by : (x : Taken) → ((n : ℕ) → x ≢ New n) → Takes (log_at s.logs home) first parts (Ok x) (log_at logs home) →
+        AreWell (state_of s.number s.regions s.submitted foreign s.asked s.taken logs s.here.inserted s.here.resolved s.here.done s.here.table) seen
+        × Delivers k.state home first entries (Ok x) (state_of s.number s.regions s.submitted foreign s.asked s.taken logs s.here.inserted s.here.resolved s.here.done s.here.table)
+    by (New n) none h = absurd (none n refl)
+    by Old none h =
+        let long : length parts ≡ length entries = ap length p ∙ length-map entries (λ (e : Entry). e.part) in (
+          subst (λ x. AreWell x seen) (sym (same h.2)) well,
+          (subst (λ x. first ≤ length (log_at x.state.logs home)) view h.0, subst (λ x. first + length entries ≤ length (log_at x.state.logs home)) view (subst (λ m. first + m ≤ length (log_at s.logs home)) long h.1), same h.2 ∙ ap (λ x. x.state) view),
+        )
+    by Gap none h = (subst (λ x. AreWell x seen) (sym (same h.1)) well, (subst (λ x. length (log_at x.state.logs home) < first) view h.0, same h.1 ∙ ap (λ x. x.state) view))
+
+pub deliver_places_at : (k : Kept) (s : State) → record { state = s } ≡ k → IsSoundRegion s → (home first : ℕ) (entries : List Entry) → home < k.state.regions → CanDeliver k.state home first entries →
+    (parts : List Part) (n : ℕ) → parts ≡ map (λ e. e.part) entries → n ≡ length parts → first ≤ length (log_at s.logs home) → first + n < 2 ^ 32
+deliver_places_at k s view sound home first entries known can parts n p l reach =
+    let here : CanDeliver s home first entries = subst (λ x. CanDeliver x.state home first entries) (sym view) can in
+    let known_here : home < length s.logs = subst (λ m. home < m) (sym sound.logs) (subst (λ x. home < x.state.regions) (sym view) known) in
+    let long : n ≡ length entries = l ∙ ap length p ∙ length-map entries (λ (e : Entry). e.part) in
+    subst (λ m. first + m < 2 ^ 32) (sym long) (deliver_places s home first entries known_here here reach)
 
 -- insertions
 
@@ -170,11 +230,11 @@ insert_can k s view seen well home known part copy next same =
 pub insert_count : (k : Kept) (s : State) → record { state = s } ≡ k → IsSoundRegion s → (home : ℕ) (part : Part) → slice_get (log_at k.state.logs home) (slice_index k.state.here.inserted home) ≡ Some part → slice_index k.state.here.inserted home + 1 < 2 ^ 32
 insert_count k s view sound home part next =
     let here : slice_index s.here.inserted home + 1 < 2 ^ 32 =
-      let next_here : slice_get (log_at s.logs home) (slice_index s.here.inserted home) ≡ Some part = subst (λ x. slice_get (log_at x.state.logs home) (slice_index x.state.here.inserted home) ≡ Some part) (sym view) next in
-      let a = log_few s.logs home in
-      let b = slice_get_within (log_at s.logs home) (slice_index s.here.inserted home) part next_here in
-      let c = sound.few in
-      omega (arith, a, b, c) in
+    let next_here : slice_get (log_at s.logs home) (slice_index s.here.inserted home) ≡ Some part = subst (λ x. slice_get (log_at x.state.logs home) (slice_index x.state.here.inserted home) ≡ Some part) (sym view) next in
+    let a = log_few s.logs home in
+    let b = slice_get_within (log_at s.logs home) (slice_index s.here.inserted home) part next_here in
+    let c = sound.few in
+    omega (arith, a, b, c) in
     subst (λ x. slice_index x.state.here.inserted home + 1 < 2 ^ 32) view here
 
 pub insert_made : (k : Kept) (s : State) → record { state = s } ≡ k → (seen : Sched) → AreWell s seen → (home : ℕ) → home < k.state.regions →
@@ -189,7 +249,7 @@ insert_made k s view seen well home known part copy next same place now at made 
     let at_here : place ≡ slice_index s.here.inserted home = subst (λ x. place ≡ slice_index x.state.here.inserted home) (sym view) at in
     let made_here : now ≡ after_insert (sched_of s.logs s.here) part = made ∙ ap₂ after_insert well.1 same in
     let is : state_of s.number s.regions s.submitted s.foreign s.asked s.taken s.logs (set s.here.inserted home (place + 1)) now.resolved s.here.done s.here.table ≡ after_step s (Insert s.number home) =
-      λ j. state_of s.number s.regions s.submitted s.foreign s.asked s.taken s.logs (set s.here.inserted home (at_here j + 1)) (made_here j).resolved s.here.done s.here.table in
+    λ j. state_of s.number s.regions s.submitted s.foreign s.asked s.taken s.logs (set s.here.inserted home (at_here j + 1)) (made_here j).resolved s.here.done s.here.table in
     let may : MayMake s (Insert s.number home) = slice_get_within (log_at s.logs home) (slice_index s.here.inserted home) part next_here in
     (subst (λ x. AreWell x now) (sym is) (insert_well s well.0 home part known_here next_here now made_here), subst (λ x. MayMake x.state (Insert x.state.number home)) view may, is ∙ ap (λ x. after_step x.state (Insert x.state.number home)) view)
 
@@ -202,7 +262,7 @@ pub resolve_made : (k : Kept) (s : State) → record { state = s } ≡ k → (se
 resolve_made k s view seen well ids can now made =
     let made_here : now ≡ after_resolve (sched_of s.logs s.here) ids = made ∙ ap (λ x. after_resolve x ids) well.1 in
     let is : state_of s.number s.regions s.submitted s.foreign s.asked s.taken s.logs s.here.inserted now.resolved s.here.done s.here.table ≡ after_step s (Resolve s.number ids) =
-      λ j. state_of s.number s.regions s.submitted s.foreign s.asked s.taken s.logs s.here.inserted (made_here j).resolved s.here.done s.here.table in
+    λ j. state_of s.number s.regions s.submitted s.foreign s.asked s.taken s.logs s.here.inserted (made_here j).resolved s.here.done s.here.table in
     let may : MayMake s (Resolve s.number ids) = subst (λ x. CanResolve x ids) well.1 can in
     (subst (λ x. AreWell x now) (sym is) (resolve_well s well.0 ids now made_here), subst (λ x. MayMake x.state (Resolve x.state.number ids)) view may, is ∙ ap (λ x. after_step x.state (Resolve x.state.number ids)) view)
 
@@ -225,8 +285,8 @@ execute_made k s view seen well id can txn e now done table outcome effect run m
     let here : held s id ≡ Some txn = subst (λ x. held x.state id ≡ Some txn) (sym view) e in
     let made_here : now ≡ after_finish (sched_of s.logs s.here) id = made ∙ ap (λ x. after_finish x id) well.1 in
     let is : state_of s.number s.regions s.submitted s.foreign s.asked s.taken s.logs s.here.inserted now.resolved done table ≡ record s { here = executed s.here (Some txn) } =
-      λ j. state_of s.number s.regions s.submitted s.foreign s.asked s.taken s.logs s.here.inserted (made_here j).resolved
-        ((noted ∙ (λ i. s.here.done ++ (sym (held_id s id txn here) i, (run i).0) ∷ [])) j) ((applied ∙ ap (λ r. apply r.1 s.here.table) run) j) in
+    λ j. state_of s.number s.regions s.submitted s.foreign s.asked s.taken s.logs s.here.inserted (made_here j).resolved
+    ((noted ∙ (λ i. s.here.done ++ (sym (held_id s id txn here) i, (run i).0) ∷ [])) j) ((applied ∙ ap (λ r. apply r.1 s.here.table) run) j) in
     let step : record s { here = executed s.here (Some txn) } ≡ after_step s (Execute s.number id) = ap (λ o. record s { here = executed s.here o }) (sym here) in
     let may : MayMake s (Execute s.number id) = subst (λ x. CanExecute x id) well.1 can in
     (subst (λ x. AreWell x now) (sym is) (execute_well s well.0 id txn now here made_here), subst (λ x. MayMake x.state (Execute x.state.number id)) view may, is ∙ step ∙ ap (λ x. after_step x.state (Execute x.state.number id)) view)

@@ -9,12 +9,7 @@ use std::alloc::Global;
 use std::mem;
 
 /// Asks each of the homes to place an id, one after another; after `NoMemory` none of them is asked.
-pub fn ask(
-    alloc: Global,
-    asked: &mut Vec<Ids>,
-    homes: &[u8],
-    id: TxnId,
-) -> Result<(), NoMemory>
+pub fn ask(alloc: Global, asked: &mut Vec<Ids>, homes: &[u8], id: TxnId) -> Result<(), NoMemory>
     requires { AllIn (λ home. home < vec_len asked.old) homes.now }
     ensures len { vec_len asked.new ≡ vec_len asked.old }
     ensures ok { OnOk result (asked.new.items ≡ ask homes.now id asked.old.items) }

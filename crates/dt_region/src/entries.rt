@@ -12,10 +12,7 @@ use dt_txn::{Entry, Txn};
 use std::alloc::Global;
 
 /// The parts and the transactions of entries, each in the entries' order.
-pub fn parts_and_txns(
-    alloc: Global,
-    entries: Vec<Entry>,
-) -> Result<(Vec<Part>, Vec<Txn>), NoMemory>
+pub fn parts_and_txns(alloc: Global, entries: Vec<Entry>) -> Result<(Vec<Part>, Vec<Txn>), NoMemory>
     ensures parts { IfOk result (λ both. both.0.items ≡ map (λ e. e.part) entries.items) }
     ensures txns { IfOk result (λ both. both.1.items ≡ map (λ e. e.txn) entries.items) }
 {
@@ -41,12 +38,7 @@ pub fn place(logs: &mut Vec<Log>, part: Part) -> Result<(), NoMemory>
 }
 
 /// Takes a delivery into a home's log, as `Log::take`; the other logs stay.
-pub fn take(
-    logs: &mut Vec<Log>,
-    home: u8,
-    first: u32,
-    parts: Vec<Part>,
-) -> Result<Taken, NoMemory>
+pub fn take(logs: &mut Vec<Log>, home: u8, first: u32, parts: Vec<Part>) -> Result<Taken, NoMemory>
     requires home { home < vec_len logs.old }
     requires overlap { AgreeOnOverlap (log_at logs.old.items home) first parts.items }
     requires place { first ≤ length (log_at logs.old.items home) → first + vec_len parts < 2 ^ 32 }

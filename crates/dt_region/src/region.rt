@@ -1,8 +1,10 @@
-ghost use Rattle.std.specs.Prelude.{◌≡◌, ◌<◌, ◌≤◌, ◌+◌, ◌^◌, [], ℕ, length, slice_index, slice_get, get_or, None, IfOk, OnOk, OnErr};
+ghost use Rattle.std.specs.Prelude.{◌≡◌, ◌<◌, ◌≤◌, ◌+◌, ◌^◌, [], ◌∷◌, ◌++◌, ℕ, length, vec_len, vec_capacity, slice_index, slice_get, get_or, None, Some, IfOk, OnOk, OnErr};
 ghost use Rattle.std.specs.Option.{option_copied};
 ghost use Rattle.dt_events.specs.declared.Event.TheVariants.{Insert, Resolve, Execute};
 ghost use Rattle.dt_sched.specs.Views.{log_at};
 ghost use Rattle.dt_sched.specs.Sched.{IsNextClass};
+ghost use Rattle.dt_txn.specs.declared.txn.Txn.{Txn};
+ghost use Rattle.dt_txn.specs.Execution.{one};
 ghost use Rattle.dt_txn.specs.Transaction.{BodyFits};
 ghost use Rattle.dt_region.specs.State.{held, outcome_of, sched_of};
 ghost use Rattle.dt_region.specs.Rules.{opening_state, next_id, after_submit, Appends, Delivers, Steps};
@@ -18,7 +20,7 @@ use crate::opening::{no_counts, no_ids, no_parts};
 use dt_access::{Ids, TxnId};
 use dt_log::{Log, Taken};
 use dt_sched::Scheduler;
-use dt_table::Table;
+use dt_table::{Effect, Table};
 use dt_text::NoMemory;
 use dt_txn::{Body, Entry, Outcome, Txn, annotate, execute, homes, part_at};
 use indexmap::IndexMap;
@@ -176,10 +178,8 @@ impl<S: Scheduler> Region<S> {
         let homes = homes(alloc, &txn)?;
         self.submitted.reserve(1)?;
         ask(alloc, &mut self.asked, homes.as_slice(), id)?;
-        match self.submitted.push(txn) {
-            Ok(()) => Ok(id),
-            Err(_) => unreachable!(),
-        }
+        add_last(&mut self.submitted, txn);
+        Ok(id)
     }
 
     /// Places the part of a transaction at the end of the region's own log, as request `number` of a region. False
@@ -224,11 +224,12 @@ impl<S: Scheduler> Region<S> {
         ensures delivers { Delivers self.old.state home first entries.items result self.new.state }
         ensures sound { IsSoundRegion self.new.state }
     {
+        let number = self.number;
         let (parts, txns) = parts_and_txns(alloc, entries)?;
         self.foreign.reserve(txns.len())?;
         let taken = take(&mut self.logs, home, first, parts)?;
         if let Taken::New(count) = taken {
-            keep_last(self.number, &mut self.foreign, txns, count as usize);
+            keep_last(number, &mut self.foreign, txns, count as usize);
         }
         Ok(taken)
     }
@@ -263,6 +264,17 @@ impl<S: Scheduler> Region<S> {
         Ok(true)
     }
 
+    // What a transaction that the region holds comes to on its table.
+    fn run(&self, alloc: Global, id: TxnId) -> Result<(Outcome, Effect), NoMemory>
+        requires { (txn : Txn) × (held self.now.state id ≡ Some txn) }
+        ensures { (txn : Txn) → held self.now.state id ≡ Some txn → IfOk result (λ run. run ≡ one txn self.now.state.here.table) }
+    {
+        match self.txn(id) {
+            Some(txn) => execute(alloc, txn, &self.table),
+            None => unreachable!(),
+        }
+    }
+
     /// Some class that is resolvable here, in ascending order, or `None` where there is none.
     pub fn next_class(&self, alloc: Global) -> Result<Option<Ids>, NoMemory>
         ensures { IfOk result (IsNextClass (sched_of self.now.state.logs self.now.state.here)) }
@@ -279,10 +291,7 @@ impl<S: Scheduler> Region<S> {
         if !self.scheduler.executable(alloc, id)? {
             return Ok(false);
         }
-        let Some(txn) = self.txn(id) else {
-            unreachable!();
-        };
-        let (outcome, effect) = execute(alloc, txn, &self.table)?;
+        let (outcome, effect) = self.run(alloc, id)?;
         self.table.reserve(places_for(&effect)?)?;
         self.done.reserve(1)?;
         self.scheduler.reserve(alloc, 1)?;
@@ -299,4 +308,15 @@ fn numbered(txns: &[Txn], number: u32) -> Option<&Txn>
     ensures some { (place : ℕ) → number ≡ place + 1 → option_copied result ≡ slice_get txns.now place }
 {
     txns.get((number as usize).checked_sub(1)?)
+}
+
+// Adds a transaction at the end, which takes no memory where there is room.
+fn add_last(txns: &mut Vec<Txn>, txn: Txn)
+    requires { vec_len txns.old < vec_capacity txns.old }
+    ensures { txns.new.items ≡ txns.old.items ++ txn ∷ [] }
+{
+    match txns.push(txn) {
+        Ok(()) => (),
+        Err(_) => unreachable!(),
+    }
 }
