@@ -90,3 +90,7 @@ module _ (told : Option Files) (words : List Bytes) (replay : Replay) where
         let Reported : Cluster → Type 0 = λ c. text.items ≡ report_text (report_of c workload (unnumbered events)) in
         headline events (λ report. text.items ≡ report) file (subst IsValidCluster is valid) fits (subst Legal is legal) (subst Reported is written)
     headline_made (Err e) cluster events is file valid fits legal written = tt
+
+-- an error that a `?` hands on as it is
+pub passed_on : {T U : Type 0} (r : Result T Status) (s : Result U Status) (field made status : Status) → r ≡ Err field → s ≡ Err made → made ≡ field → s ≡ Err status → r ≡ Err status
+passed_on r s field made status was is_made same is = cc

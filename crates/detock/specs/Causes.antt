@@ -64,7 +64,7 @@ abbrev pub CouldNotRead : Option Files → List Bytes → ℕ → ℕ → ℕ �
 CouldNotRead told words before now word =
     ((word ≡ 3) × (replay : Replay) × IsReplay words replay × Rose before now)
     ⊎ ((word ≡ 4) × (replay : Replay) × (workload : Workload) × HasWorkload told words replay workload
-        × (loaded : ℕ) × (before ≤ loaded) × Rose loaded now)
+    × (loaded : ℕ) × (before ≤ loaded) × Rose loaded now)
 
 -- the status that the words and the files call for, where no device fails
 abbrev pub IsDue : Option Files → List Bytes → Status → Type 0

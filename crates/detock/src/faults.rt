@@ -62,7 +62,10 @@ fn put_bad_events<E: Sink>(line: u32, cause: EventsCause, err: &mut E) -> Result
         EventsCause::Rule(rule) => {
             let mut digits = Buffer::new();
             let digits = digits.format(rule).as_bytes();
-            write_pieces(err, &[b"detock: events line ", number, b": rule ", digits, b"\n"])
+            write_pieces(
+                err,
+                &[b"detock: events line ", number, b": rule ", digits, b"\n"],
+            )
         }
     }
 }

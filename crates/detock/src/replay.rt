@@ -22,11 +22,7 @@ use dt_world::{StepError, World};
 use std::alloc::Global;
 
 /// The text of the report that the words ask for, or why there is none.
-pub fn report<F: Folder>(
-    alloc: Global,
-    words: &[String],
-    files: &mut F,
-) -> Result<Vec<u8>, Status>
+pub fn report<F: Folder>(alloc: Global, words: &[String], files: &mut F) -> Result<Vec<u8>, Status>
     ensures done { IfOk result (λ text. Headline (F.told files.old) (spelled words.now) (λ report. text.items ≡ report)) }
     ensures refused { (status : _) → result ≡ Err status →
         IsRefusal (F.told files.old) (spelled words.now) (F.faults files.old) (F.faults files.new) status }

@@ -12,6 +12,7 @@ const AMPLE: u64 = 4096;
 
 /// The workload and the events of one put in one region.
 const ONE_PUT: &str = "session a at 0\ncall put \"b\" 5\n";
+
 const ONE_PUT_EVENTS: &str = "submit 0 a\nappend 0 0 0\ninsert 0 0\nexecute 0 1.0\nanswer 0 a\n";
 
 /// How a call ended, and its sinks.
@@ -38,8 +39,14 @@ fn folder_of(
     failing: &[u64],
 ) -> Result<MemoryFolder, Fail> {
     let files = vec![in alloc;
-        (String::from_str(alloc, "w")?, workload.as_bytes().to_vec(alloc)?),
-        (String::from_str(alloc, "e")?, events.as_bytes().to_vec(alloc)?),
+        (
+            String::from_str(alloc, "w")?,
+            workload.as_bytes().to_vec(alloc)?
+        ),
+        (
+            String::from_str(alloc, "e")?,
+            events.as_bytes().to_vec(alloc)?
+        ),
     ]?;
     Ok(MemoryFolder::new(files, failing.to_vec(alloc)?))
 }
@@ -68,43 +75,61 @@ fn replay<R: Threads + Wait + Sync>(
     events: &str,
 ) -> Result<Ended, Fail> {
     let files = folder_of(alloc, workload, events, &[])?;
-    call(rt, alloc, &["replay", cluster, "w", "e"], files, (AMPLE, AMPLE))
+    call(
+        rt,
+        alloc,
+        &["replay", cluster, "w", "e"],
+        files,
+        (AMPLE, AMPLE),
+    )
 }
 
 #[test]
 fn nothing_is_reported_of_nothing(rt: HostRuntime) -> Result<(), Fail> {
     let ended = replay(&rt, rt.alloc(), ":1", "", "")?;
     assert_eq!(rt; ended.status, Status::Done);
-    assert_eq!(rt; ended.out.bytes(), b"replies\norder\ntable 0\nevents\n".as_slice());
+    assert_eq!(rt;
+        ended.out.bytes(),
+        b"replies\norder\ntable 0\nevents\n".as_slice()
+    );
     assert_eq!(rt; ended.err.bytes(), b"".as_slice());
     Ok(())
 }
 
 #[test]
 fn repeated_and_lost_deliveries_change_nothing(rt: HostRuntime) -> Result<(), Fail> {
-    let workload = "session x at 0\ncall put \"b\" 1\nsession y at 0\ncall put \"d\" 2\nsession z at 0\ncall put \"f\" 3\n";
-    let events = "submit 0 x\nsubmit 0 y\nsubmit 0 z\nappend 0 0 0\nappend 0 0 1\nappend 0 0 2\ndeliver 1 0 0 2\ndeliver 1 0 0 2\ndeliver 1 0 3 3\ndeliver 1 0 1 3\ninsert 1 0\ninsert 1 0\ninsert 1 0\nexecute 1 1.0\nexecute 1 2.0\nexecute 1 3.0\n";
+    let workload =
+        "session x at 0\ncall put \"b\" 1\nsession y at 0\ncall put \"d\" 2\nsession z at 0\ncall put \"f\" 3\n";
+    let events =
+        "submit 0 x\nsubmit 0 y\nsubmit 0 z\nappend 0 0 0\nappend 0 0 1\nappend 0 0 2\ndeliver 1 0 0 2\ndeliver 1 0 0 2\ndeliver 1 0 3 3\ndeliver 1 0 1 3\ninsert 1 0\ninsert 1 0\ninsert 1 0\nexecute 1 1.0\nexecute 1 2.0\nexecute 1 3.0\n";
     let ended = replay(&rt, rt.alloc(), ":2", workload, events)?;
     assert_eq!(rt; ended.status, Status::Done);
-    let sections = "replies\norder\n1.0 x 1 1 done\n2.0 y 1 1 done\n3.0 z 1 1 done\ntable 0\ntable 1\nb = 1 home 0 moves 0\nd = 2 home 0 moves 0\nf = 3 home 0 moves 0\nevents\n";
+    let sections =
+        "replies\norder\n1.0 x 1 1 done\n2.0 y 1 1 done\n3.0 z 1 1 done\ntable 0\ntable 1\nb = 1 home 0 moves 0\nd = 2 home 0 moves 0\nf = 3 home 0 moves 0\nevents\n";
     let report = format!(in rt.alloc(); "{sections}{events}")?;
     assert_eq!(rt; ended.out.bytes(), report.as_bytes());
 
-    let past_the_end = "submit 0 x\nsubmit 0 y\nsubmit 0 z\nappend 0 0 0\nappend 0 0 1\nappend 0 0 2\ndeliver 1 0 0 4\n";
+    let past_the_end =
+        "submit 0 x\nsubmit 0 y\nsubmit 0 z\nappend 0 0 0\nappend 0 0 1\nappend 0 0 2\ndeliver 1 0 0 4\n";
     let refused = replay(&rt, rt.alloc(), ":2", workload, past_the_end)?;
     assert_eq!(rt; refused.status, Status::BadEvents(7, EventsCause::Rule(3)));
     assert_eq!(rt; refused.out.bytes(), b"".as_slice());
-    assert_eq!(rt; refused.err.bytes(), b"detock: events line 7: rule 3\n".as_slice());
+    assert_eq!(rt;
+        refused.err.bytes(),
+        b"detock: events line 7: rule 3\n".as_slice()
+    );
     Ok(())
 }
 
 #[test]
 fn regions_may_execute_what_does_not_clash_in_any_order(rt: HostRuntime) -> Result<(), Fail> {
     let workload = "session x at 0\ncall put \"b\" 1\nsession y at 0\ncall put \"d\" 2\n";
-    let events = "submit 0 x\nsubmit 0 y\nappend 0 0 0\nappend 0 0 1\ninsert 0 0\ninsert 0 0\ndeliver 1 0 0 2\ninsert 1 0\ninsert 1 0\nexecute 1 2.0\nexecute 0 1.0\nexecute 0 2.0\nexecute 1 1.0\n";
+    let events =
+        "submit 0 x\nsubmit 0 y\nappend 0 0 0\nappend 0 0 1\ninsert 0 0\ninsert 0 0\ndeliver 1 0 0 2\ninsert 1 0\ninsert 1 0\nexecute 1 2.0\nexecute 0 1.0\nexecute 0 2.0\nexecute 1 1.0\n";
     let ended = replay(&rt, rt.alloc(), ":2", workload, events)?;
     assert_eq!(rt; ended.status, Status::Done);
-    let sections = "replies\norder\n2.0 y 1 1 done\n1.0 x 1 1 done\ntable 0\nb = 1 home 0 moves 0\nd = 2 home 0 moves 0\ntable 1\nb = 1 home 0 moves 0\nd = 2 home 0 moves 0\nevents\n";
+    let sections =
+        "replies\norder\n2.0 y 1 1 done\n1.0 x 1 1 done\ntable 0\nb = 1 home 0 moves 0\nd = 2 home 0 moves 0\ntable 1\nb = 1 home 0 moves 0\nd = 2 home 0 moves 0\nevents\n";
     let report = format!(in rt.alloc(); "{sections}{events}")?;
     assert_eq!(rt; ended.out.bytes(), report.as_bytes());
     Ok(())
@@ -190,10 +215,30 @@ fn other_words_and_workloads_are_not_built(rt: HostRuntime) -> Result<(), Fail> 
 fn a_file_that_cannot_be_read_is_told_by_its_word(rt: HostRuntime) -> Result<(), Fail> {
     let cases: [(&[&str], &[u64], Status, &str); 5] = [
         // There is no cluster file: the first load is of the workload, the second of the events.
-        (&["replay", ":1", "w", "e"], &[1], Status::CannotRead(3), "detock: cannot read word 3\n"),
-        (&["replay", ":1", "w", "e"], &[2], Status::CannotRead(4), "detock: cannot read word 4\n"),
-        (&["replay", ":1", "x", "e"], &[], Status::CannotRead(3), "detock: cannot read word 3\n"),
-        (&["replay", ":1", "w", "x"], &[], Status::CannotRead(4), "detock: cannot read word 4\n"),
+        (
+            &["replay", ":1", "w", "e"],
+            &[1],
+            Status::CannotRead(3),
+            "detock: cannot read word 3\n",
+        ),
+        (
+            &["replay", ":1", "w", "e"],
+            &[2],
+            Status::CannotRead(4),
+            "detock: cannot read word 4\n",
+        ),
+        (
+            &["replay", ":1", "x", "e"],
+            &[],
+            Status::CannotRead(3),
+            "detock: cannot read word 3\n",
+        ),
+        (
+            &["replay", ":1", "w", "x"],
+            &[],
+            Status::CannotRead(4),
+            "detock: cannot read word 4\n",
+        ),
         (&["replay", ":1", "w", "e"], &[3], Status::Done, ""),
     ];
     for (words, failing, status, line) in cases {
@@ -228,11 +273,20 @@ fn files_above_the_limit_are_too_long(rt: HostRuntime) -> Result<(), Fail> {
     ] {
         let other = if name == "w" { "e" } else { "w" };
         let files = vec![in rt.alloc();
-            (String::from_str(rt.alloc(), name)?, vec![in rt.alloc(); b' '; 16_777_217]?),
+            (
+                String::from_str(rt.alloc(), name)?,
+                vec![in rt.alloc(); b' '; 16_777_217]?
+            ),
             (String::from_str(rt.alloc(), other)?, Vec::new(rt.alloc())),
         ]?;
         let files = MemoryFolder::new(files, Vec::new(rt.alloc()));
-        let ended = call(&rt, rt.alloc(), &["replay", ":1", "w", "e"], files, (AMPLE, AMPLE))?;
+        let ended = call(
+            &rt,
+            rt.alloc(),
+            &["replay", ":1", "w", "e"],
+            files,
+            (AMPLE, AMPLE),
+        )?;
         assert_eq!(rt; ended.status, status);
         assert_eq!(rt; ended.out.bytes(), b"".as_slice());
     }

@@ -105,7 +105,12 @@ pub fn detock_alone<F: Folder, O: Sink, E: Sink>(
 }
 
 /// Makes the report that the words ask for, and writes it.
-fn status_of<F: Folder, O: Sink>(alloc: Global, words: &[String], files: &mut F, out: &mut O) -> Status
+fn status_of<F: Folder, O: Sink>(
+    alloc: Global,
+    words: &[String],
+    files: &mut F,
+    out: &mut O,
+) -> Status
     ensures done { result ≡ Status.Done →
         Headline (F.told files.old) (spelled words.now) (Adds (O.held out.old) (O.held out.new)) }
     ensures refused { result ≢ Status.Done → result ≢ Status.CannotWrite →

@@ -10,7 +10,7 @@ returns-then-word-gt5 c = λ (n, some, few, is). omega (arith, c.if-word-gt5.tru
 pub returns-then-number-lt1 : goal.returns-then-number-lt1
 returns-then-number-lt1 c = λ (n, some, few, is).
     let same = decimal_injective c.in-Some.number n (omega (arith, c.in-Some.ensures.0)) (omega (arith, few)) (sym c.in-Some.ensures.1 ∙ is) in
-    elim c.then-number-lt1.branch
-    [ then-number-lt1-via-then-number-lt1 w ↦ omega (arith, same, some, w.if-number-lt1)
-    | then-number-lt1-via-else-number-lt1+then-number-gt20000 w ↦ omega (arith, same, few, w.if-number-gt20000)
+    elim c.then-number-lt1.branch [
+      | then-number-lt1-via-then-number-lt1 w ↦ omega (arith, same, some, w.if-number-lt1)
+      | then-number-lt1-via-else-number-lt1+then-number-gt20000 w ↦ omega (arith, same, few, w.if-number-gt20000)
     ]
