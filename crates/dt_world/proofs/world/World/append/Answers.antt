@@ -1,0 +1,35 @@
+use Rattle.std.proofs.Common.{rules, ◌≡◌, ◌↔◌, ◌<◌, ◌≤◌, drop, length, map, take, is_some, Some, IsTrue, IfOk, ℕ, ◌+◌, ◌-◌, ◌*◌, ◌/◌, ◌%◌, Bool, true, false, nat_eq, nat_lt, List, [], ◌∷◌, ◌++◌, slice_index_or, slice_set, bit_and, bit_or, Fits, w8, w32, w64, Bor, MutBor}
+use Rattle.dt_events.specs.declared.Event.TheVariants.{Submit, Append, Deliver, Insert, Resolve, Execute, Answer}
+use Rattle.dt_lists.specs.Lists.{AllIn}
+use Rattle.dt_sched.specs.Views.{log_at}
+use Rattle.dt_region.specs.State.{held}
+use Rattle.dt_region.specs.Sound.{IsSoundRegion}
+use Rattle.dt_session.specs.World.{attempt_of, outcome_at}
+use Rattle.dt_session.specs.Step.{IsStale}
+use Rattle.dt_world.specs.Seated.{stand_of}
+use Rattle.dt_world.specs.Lawful.{HasCall, IsNextAttempt, IsSeatOf, Makes, MayEndAt, seated_in}
+use Rattle.dt_world.proofs.world.World.append.Goals as goal
+
+-- src/rules.rt:67:21
+pub at-requires : goal.at-requires
+at-requires g c = ?
+
+-- src/rules.rt:73:13
+pub unreachable-requires : goal.unreachable-requires
+unreachable-requires g c = ?
+
+-- src/rules.rt:76:9
+pub append-requires-clause-home : goal.append-requires-clause-home
+append-requires-clause-home g c = ?
+
+-- src/rules.rt:76:9
+pub append-requires-clause-can : goal.append-requires-clause-can
+append-requires-clause-can g c = ?
+
+-- src/rules.rt:54:5
+pub invariant_of-self-2 : goal.invariant_of-self-2
+invariant_of-self-2 g c = ?
+
+-- src/rules.rt:54:5
+pub returns : goal.returns
+returns g c = ?
