@@ -126,6 +126,10 @@ module _ (cluster : Cluster) (ok : IsValidCluster cluster) (workload : Workload)
   opened_at f (suc n) zero x d a b = a
   opened_at f (suc n) (suc region) x d a b = opened_at f n region x d a b
 
+  no_parts : (n : ℕ) → parts_in (map (λ x. x.log) (replicate n (opening_node cluster.regions (opening_table cluster)))) ≤ 0
+  no_parts zero = omega arith
+  no_parts (suc n) = let a : parts_in (map (λ x. x.log) (replicate n (opening_node cluster.regions (opening_table cluster)))) ≤ 0 = no_parts n in omega arith
+
   idle_short : (sessions : List Session) → AllIn (λ p. p.answered ≤ 0) (map (λ s. idle_place) sessions)
   idle_short [] = tt
   idle_short (s ∷ sessions) = (omega arith, idle_short sessions)
@@ -147,7 +151,3 @@ module _ (cluster : Cluster) (ok : IsValidCluster cluster) (workload : Workload)
         parts = no_parts cluster.regions;
         answered = idle_short workload.sessions;
       }
-
-      no_parts : (n : ℕ) → parts_in (map (λ x. x.log) (replicate n (opening_node cluster.regions (opening_table cluster)))) ≤ 0
-      no_parts zero = omega arith
-      no_parts (suc n) = let a : parts_in (map (λ x. x.log) (replicate n (opening_node cluster.regions (opening_table cluster)))) ≤ 0 = no_parts n in omega arith

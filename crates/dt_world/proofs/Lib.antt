@@ -8,3 +8,5 @@ pub mod Stepping
 pub mod Posting
 pub mod Waiting
 pub mod Placing
+pub mod Receiving
+pub mod Turns

@@ -1,5 +1,5 @@
 //! The seven rules by which a world makes events, one method each.
-ghost use Rattle.std.specs.Prelude.{◌≡◌, ◌↔◌, ◌<◌, ◌≤◌, drop, length, map, take, is_some, Some, IsTrue, IfOk};
+ghost use Rattle.std.specs.Prelude.{◌≡◌, ◌↔◌, ◌&&◌, nat_le, nat_lt, ◌<◌, ◌≤◌, drop, length, map, take, is_some, Some, IsTrue, IfOk};
 ghost use Rattle.dt_events.specs.declared.Event.TheVariants.{Submit, Append, Deliver, Insert, Resolve, Execute, Answer};
 ghost use Rattle.dt_lists.specs.Lists.{AllIn};
 ghost use Rattle.dt_sched.specs.Views.{log_at};
@@ -98,7 +98,7 @@ impl<S: Scheduler + Drop> World<S> {
             return Err(StepError::Illegal(3));
         }
         let received = self.sites.at(region).region().log(home).len();
-        if first > received || received >= last {
+        if !joins(received, first, last) {
             self.steps += 1;
             return Ok(());
         }
@@ -255,6 +255,13 @@ impl<S: Scheduler + Drop> World<S> {
     {
         self.sites.at(region).origin(id.seq).attempt
     }
+}
+
+/// Whether a delivery of the places from `first` up to `last` goes on where what was received ends, and past it.
+fn joins(received: u32, first: u32, last: u32) -> bool
+    ensures { result ≡ (nat_le first received && nat_lt received last) }
+{
+    first <= received && received < last
 }
 
 /// The entries of a home's own log from place `first` up to `last`, each with its transaction.

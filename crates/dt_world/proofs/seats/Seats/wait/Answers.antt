@@ -1,5 +1,5 @@
-use Rattle.dt_world.proofs.Placing.{append_legal}
-use Rattle.dt_world.proofs.Waiting.{stands_at}
+use Rattle.dt_world.proofs.Receiving.{deliver_made}
+use Rattle.dt_world.proofs.Turns.{a_place}
 use Rattle.std.proofs.Common.{◌<◌, length, map, sym, subst}
 use Rattle.std.proofs.lemmas.List.{length-map}
 use Rattle.dt_world.specs.Seated.{Seated, place_of}

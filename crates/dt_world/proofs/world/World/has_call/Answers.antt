@@ -1,15 +1,5 @@
-use Rattle.std.proofs.Common.{rules, ◌≡◌, ◌↔◌, ◌<◌, ◌≤◌, drop, length, map, take, is_some, Some, IsTrue, IfOk, ℕ, ◌+◌, ◌-◌, ◌*◌, ◌/◌, ◌%◌, Bool, true, false, nat_eq, nat_lt, List, [], ◌∷◌, ◌++◌, slice_index_or, slice_set, bit_and, bit_or, Fits, w8, w32, w64, Bor, MutBor}
-use Rattle.dt_events.specs.declared.Event.TheVariants.{Submit, Append, Deliver, Insert, Resolve, Execute, Answer}
-use Rattle.dt_lists.specs.Lists.{AllIn}
-use Rattle.dt_sched.specs.Views.{log_at}
-use Rattle.dt_region.specs.State.{held}
-use Rattle.dt_region.specs.Sound.{IsSoundRegion}
-use Rattle.dt_session.specs.World.{attempt_of, outcome_at}
-use Rattle.dt_session.specs.Step.{IsStale}
-use Rattle.dt_world.specs.Seated.{stand_of}
-use Rattle.dt_world.specs.Lawful.{HasCall, IsNextAttempt, IsSeatOf, Makes, MayEndAt, seated_in}
+use Rattle.dt_world.proofs.Turns.{a_place}
 use Rattle.dt_world.proofs.world.World.has_call.Goals as goal
 
--- src/rules.rt:213:24
 pub seat-answered-requires : goal.seat-answered-requires
-seat-answered-requires g c = ?
+seat-answered-requires g c = a_place c.self.inside.cluster c.self.inside.seats c.self.inside.sites c.self.inside.steps c.self.invariant c.args.self.now c.self.view_is c.args.place c.requires

@@ -1,15 +1,6 @@
-use Rattle.std.proofs.Common.{rules, ◌≡◌, ◌↔◌, ◌<◌, ◌≤◌, drop, length, map, take, is_some, Some, IsTrue, IfOk, ℕ, ◌+◌, ◌-◌, ◌*◌, ◌/◌, ◌%◌, Bool, true, false, nat_eq, nat_lt, List, [], ◌∷◌, ◌++◌, slice_index_or, slice_set, bit_and, bit_or, Fits, w8, w32, w64, Bor, MutBor}
-use Rattle.dt_events.specs.declared.Event.TheVariants.{Submit, Append, Deliver, Insert, Resolve, Execute, Answer}
-use Rattle.dt_lists.specs.Lists.{AllIn}
-use Rattle.dt_sched.specs.Views.{log_at}
-use Rattle.dt_region.specs.State.{held}
-use Rattle.dt_region.specs.Sound.{IsSoundRegion}
-use Rattle.dt_session.specs.World.{attempt_of, outcome_at}
-use Rattle.dt_session.specs.Step.{IsStale}
-use Rattle.dt_world.specs.Seated.{stand_of}
-use Rattle.dt_world.specs.Lawful.{HasCall, IsNextAttempt, IsSeatOf, Makes, MayEndAt, seated_in}
+use Rattle.dt_world.proofs.Stepping.{a_post}
+use Rattle.dt_world.proofs.Turns.{a_number}
 use Rattle.dt_world.proofs.world.World.is_stale.Goals as goal
 
--- src/rules.rt:245:13
 pub at-requires : goal.at-requires
-at-requires g c = ?
+at-requires g c = a_post c.self.inside.cluster c.self.inside.seats c.self.inside.sites c.self.inside.steps c.self.invariant c.args.region (a_number c.self.inside.cluster c.self.inside.seats c.self.inside.sites c.self.inside.steps c.self.invariant c.args.self.now c.self.view_is c.args.region c.requires)
