@@ -1,5 +1,3 @@
-use Rattle.dt_world.proofs.Receiving.{deliver_made}
-use Rattle.dt_world.proofs.Turns.{a_place}
 use Rattle.std.proofs.Common.{◌<◌, length, map, sym, subst}
 use Rattle.std.proofs.lemmas.List.{length-map}
 use Rattle.dt_world.specs.Seated.{Seated, place_of}
