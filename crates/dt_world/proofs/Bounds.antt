@@ -73,6 +73,9 @@ node_short w n region x places es el a s = record {
 places_short : (w : World) (n : ℕ) → IsShort w n → AllIn (λ p. p.answered ≤ n + 1) w.places
 places_short w n s = all_map _ _ w.places (λ p a. omega arith) s.answered
 
+none_long : {A : Type 0} (xs : List A) → xs ≡ [] → length xs ≤ 0
+none_long xs e = subst (λ l. length l ≤ 0) (sym e) (omega arith)
+
 module _ (cluster : Cluster) (ok : IsValidCluster cluster) (workload : Workload) (fits : IsValidWorkload cluster workload) where
   next_short : (w : World) (order : List TxnId) (n : ℕ) (event : Event) → IsLegal cluster workload w event → Inv cluster workload w order → IsShort w n → IsShort (next workload w event) (n + 1)
   next_short w order n (Submit region name) l i s =
@@ -123,6 +126,10 @@ module _ (cluster : Cluster) (ok : IsValidCluster cluster) (workload : Workload)
   opened_at f (suc n) zero x d a b = a
   opened_at f (suc n) (suc region) x d a b = opened_at f n region x d a b
 
+  no_parts : (n : ℕ) → parts_in (map (λ x. x.log) (replicate n (opening_node cluster.regions (opening_table cluster)))) ≤ 0
+  no_parts zero = omega arith
+  no_parts (suc n) = let a : parts_in (map (λ x. x.log) (replicate n (opening_node cluster.regions (opening_table cluster)))) ≤ 0 = no_parts n in omega arith
+
   idle_short : (sessions : List Session) → AllIn (λ p. p.answered ≤ 0) (map (λ s. idle_place) sessions)
   idle_short [] = tt
   idle_short (s ∷ sessions) = (omega arith, idle_short sessions)
@@ -140,14 +147,7 @@ module _ (cluster : Cluster) (ok : IsValidCluster cluster) (workload : Workload)
     where
       opening_short : IsShort (opening_world cluster workload) 0
       opening_short = record {
-        submitted = λ region. either_none (opened_at (λ x. x.submitted) cluster.regions region (opening_node cluster.regions (opening_table cluster)) no_node refl refl);
+        submitted = λ region. none_long _ (opened_at (λ x. x.submitted) cluster.regions region (opening_node cluster.regions (opening_table cluster)) no_node refl refl);
         parts = no_parts cluster.regions;
         answered = idle_short workload.sessions;
       }
-
-      either_none : {A : Type 0} {xs : List A} → xs ≡ [] → length xs ≤ 0
-      either_none e = subst (λ l. length l ≤ 0) (sym e) (omega arith)
-
-      no_parts : (n : ℕ) → parts_in (map (λ x. x.log) (replicate n (opening_node cluster.regions (opening_table cluster)))) ≤ 0
-      no_parts zero = omega arith
-      no_parts (suc n) = let a : parts_in (map (λ x. x.log) (replicate n (opening_node cluster.regions (opening_table cluster)))) ≤ 0 = no_parts n in omega arith

@@ -6,3 +6,7 @@ pub mod OneSite
 pub mod Standing
 pub mod Stepping
 pub mod Posting
+pub mod Waiting
+pub mod Placing
+pub mod Receiving
+pub mod Turns

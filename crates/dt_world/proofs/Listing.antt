@@ -3,6 +3,7 @@ use Rattle.std.proofs.Common.{◌≡◌, ◌≢◌, ◌<◌, ◌≤◌, ◌+◌,
 use Rattle.std.specs.Prelude.{Option, sum_by, is_some}
 use Rattle.std.proofs.lemmas.Bool.{cases_Bool}
 use Rattle.std.proofs.lemmas.List.{length_push, length-take}
+use Rattle.std.proofs.lemmas.List.Sums.{sum_by-cons}
 use Rattle.dt_lists.specs.Lists.{AllIn, Has}
 use Rattle.dt_access.specs.Ids.{same_id}
 use Rattle.dt_access.specs.Clash.{Bytes}
@@ -15,7 +16,7 @@ use Rattle.dt_txn.specs.Replica.{fronts}
 use Rattle.dt_region.specs.State.{State, find_txn, held}
 use Rattle.dt_region.specs.Rules.{keep, keep_all}
 use Rattle.dt_session.specs.World.{Submission}
-use Rattle.dt_laws.proofs.Ids.{id_of_test}
+use Rattle.dt_laws.proofs.Ids.{id_of_test, test_of_id}
 use Rattle.dt_world.specs.declared.site.Origin.{Origin}
 use Rattle.dt_world.specs.Posted.{attempt, attempts}
 
@@ -42,7 +43,7 @@ fronts_set (m ∷ lengths) (l ∷ logs) (suc home) n log lt = ap (λ v. take m l
 -- how many parts there are
 
 parts_cons : (l : List Part) (logs : View) → parts_in (l ∷ logs) ≡ length l + parts_in logs
-parts_cons l logs = refl
+parts_cons l logs = sum_by-cons length l logs
 
 pub parts_set : (logs : View) (home : ℕ) (part : Part) → parts_in (set logs home (log_at logs home ++ part ∷ [])) ≤ parts_in logs + 1
 parts_set [] home part = omega arith
@@ -123,3 +124,13 @@ attempts_have [] origins s h = absurd h
 attempts_have (t ∷ txns) [] s h = absurd h
 attempts_have (t ∷ txns) (o ∷ origins) s (inl e) = inl (ap (λ x. x.txn) e)
 attempts_have (t ∷ txns) (o ∷ origins) s (inr h) = inr (attempts_have txns origins s h)
+
+-- a transaction among the first is found, or another of its id
+pub find_some : (xs ys : List Txn) (t : Txn) → Has xs t → (u : Txn) × (find_txn (xs ++ ys) t.id ≡ Some u)
+find_some [] ys t h = absurd h
+find_some (x ∷ xs) ys t h = go (cases_Bool (same_id x.id t.id)) h (λ r. find_some xs ys t r)
+  where
+    go : (same_id x.id t.id ≡ true) ⊎ (same_id x.id t.id ≡ false) → Has (x ∷ xs) t → (Has xs t → (u : Txn) × (find_txn (xs ++ ys) t.id ≡ Some u)) → (u : Txn) × (find_txn (x ∷ xs ++ ys) t.id ≡ Some u)
+    go (inl y) r f = (x, rw y refl)
+    go (inr n) (inl e) f = absurd (cc (test_of_id x.id t.id (ap (λ z. z.id) e)))
+    go (inr n) (inr r) f = let g : (u : Txn) × (find_txn (xs ++ ys) t.id ≡ Some u) = f r in (g.0, rw n g.1)

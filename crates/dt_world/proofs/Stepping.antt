@@ -15,8 +15,8 @@ use Rattle.dt_world.specs.Kept.{Kept}
 use Rattle.dt_world.specs.Seated.{Seated}
 use Rattle.dt_world.specs.Posted.{Posted, world_of}
 use Rattle.dt_world.specs.Sited.{post_at, with_state, StepsAt}
-use Rattle.dt_world.specs.Lawful.{StandsIn, AreLawful, MayMake, made}
-use Rattle.dt_world.proofs.Standing.{many_posts, node_is, held_closed, step_made, step_lawful}
+use Rattle.dt_world.specs.Lawful.{StandsIn, IsReached, AreLawful, MayMake, made}
+use Rattle.dt_world.proofs.Standing.{many_posts, node_is, held_closed, reached_more, step_made, step_lawful}
 
 -- a world of these sessions and regions, as contracts see it
 abbrev pub kept_of : Cluster → Seated → List Posted → ℕ → Kept
@@ -34,6 +34,14 @@ pub made_before : (cluster : Cluster) (seated : Seated) (posts : List Posted) (s
 made_before cluster seated posts steps event later after now view m = subst (λ v. MayMake v event × (kept_of cluster later after (steps + 1) ≡ made v event)) view (m.legal, m.is)
 
 module _ (cluster : Cluster) (seated : Seated) (posts : List Posted) (steps : ℕ) (k : AreLawful cluster seated posts steps) where
+  -- a legal event that changes nothing
+  pub still_made : (event : Event) → IsLegal cluster seated.workload (world_of posts seated.places) event → next seated.workload (world_of posts seated.places) event ≡ world_of posts seated.places → IsMade cluster seated posts steps event seated posts
+  still_made event l same = record {
+    legal = l;
+    lawful = record { valid = k.valid; fits = k.fits; reached = subst (λ w. IsReached cluster seated.workload w (steps + 1)) same (reached_more cluster seated posts steps k event l); stands = k.stands };
+    is = ap (λ w. record { cluster = cluster; workload = seated.workload; state = w; steps = steps + 1 }) (sym same);
+  }
+
   pub a_post : (region : ℕ) → region < cluster.regions → region < length posts
   a_post region lr = subst (λ n. region < n) (sym (many_posts cluster seated posts steps k)) lr
 

@@ -52,6 +52,10 @@ pub record IsSeatOf (kept : Kept) (region place : ℕ) : Type 0 where
   pub there : place < length kept.workload.sessions
   pub here : (session_of (seated_in kept) place).region ≡ region
 
+-- the session at a place has a call left
+abbrev pub HasCall : Kept → ℕ → Type 0
+HasCall kept place = (stand_of (seated_in kept) place).answered < length (session_of (seated_in kept) place).calls
+
 -- the session at a place may try its next attempt
 abbrev pub MayTryAt : Kept → ℕ → ℕ → Type 0
 MayTryAt kept region place = MayTry kept.cluster kept.state region (session_of (seated_in kept) place) (stand_of (seated_in kept) place).answered (stand_of (seated_in kept) place).waits

@@ -1,11 +1,14 @@
 //! The seven rules by which a world makes events, one method each.
-ghost use Rattle.std.specs.Prelude.{◌≡◌, ◌↔◌, ◌<◌, ◌≤◌, drop, length, map, take, Some, IsTrue, IfOk};
+ghost use Rattle.std.specs.Prelude.{◌≡◌, ◌↔◌, ◌&&◌, nat_le, nat_lt, ◌<◌, ◌≤◌, drop, length, map, take, is_some, Some, IsTrue, IfOk};
 ghost use Rattle.dt_events.specs.declared.Event.TheVariants.{Submit, Append, Deliver, Insert, Resolve, Execute, Answer};
 ghost use Rattle.dt_lists.specs.Lists.{AllIn};
 ghost use Rattle.dt_sched.specs.Views.{log_at};
 ghost use Rattle.dt_region.specs.State.{held};
 ghost use Rattle.dt_region.specs.Sound.{IsSoundRegion};
-ghost use Rattle.dt_world.specs.Lawful.{IsNextAttempt, IsSeatOf, Makes, MayEndAt};
+ghost use Rattle.dt_session.specs.World.{attempt_of, outcome_at};
+ghost use Rattle.dt_session.specs.Step.{IsStale};
+ghost use Rattle.dt_world.specs.Seated.{stand_of};
+ghost use Rattle.dt_world.specs.Lawful.{HasCall, IsNextAttempt, IsSeatOf, Makes, MayEndAt, seated_in};
 
 use crate::site::{Origin, Site};
 use crate::world::{StepError, World};
@@ -95,7 +98,7 @@ impl<S: Scheduler + Drop> World<S> {
             return Err(StepError::Illegal(3));
         }
         let received = self.sites.at(region).region().log(home).len();
-        if first > received || received >= last {
+        if !joins(received, first, last) {
             self.steps += 1;
             return Ok(());
         }
@@ -189,22 +192,26 @@ impl<S: Scheduler + Drop> World<S> {
         requires { IsSeatOf self.now region place }
         ensures { IsNextAttempt self.now region place result }
     {
-        let seat = self.seats.seat(place);
-        let Some(id) = seat.waits else {
-            if seat.answered as usize >= self.seats.session(place).calls.len() {
-                return None;
-            }
-            return Some(1);
+        let Some(id) = self.seats.seat(place).waits else {
+            return if self.has_call(place) { Some(1) } else { None };
         };
-        let site = self.sites.at(region);
-        let Some(Outcome::Stale { .. }) = site.region().outcome(id) else {
+        if !self.is_stale(region, id) {
             return None;
-        };
-        let attempt = site.origin(id.seq).attempt;
+        }
+        let attempt = self.attempt(region, place, id);
         if attempt >= self.cluster.tries {
             return None;
         }
         Some(attempt + 1)
+    }
+
+    /// Whether the session at a place has a call left.
+    fn has_call(&self, place: usize) -> bool
+        requires { place < length self.now.workload.sessions }
+        ensures { IsTrue result ↔ HasCall self.now place }
+    {
+        let answered = self.seats.seat(place).answered as usize;
+        answered < self.seats.session(place).calls.len()
     }
 
     /// Whether the session at a place may be answered.
@@ -215,13 +222,46 @@ impl<S: Scheduler + Drop> World<S> {
         let Some(id) = self.seats.seat(place).waits else {
             return false;
         };
-        let site = self.sites.at(region);
-        match site.region().outcome(id) {
-            None => false,
-            Some(Outcome::Stale { .. }) => site.origin(id.seq).attempt == self.cluster.tries,
-            Some(_) => true,
+        if self.is_stale(region, id) {
+            return self.attempt(region, place, id) == self.cluster.tries;
         }
+        self.is_done(region, id)
     }
+
+    /// Whether a region has executed an id.
+    fn is_done(&self, region: u8, id: TxnId) -> bool
+        requires { region < self.now.cluster.regions }
+        ensures { result ≡ is_some (outcome_at self.now.state region id) }
+    {
+        self.sites.at(region).region().outcome(id).is_some()
+    }
+
+    /// Whether a region has executed an id, and it was stale.
+    fn is_stale(&self, region: u8, id: TxnId) -> bool
+        requires { region < self.now.cluster.regions }
+        ensures { IsTrue result ↔ IsStale (outcome_at self.now.state region id) }
+    {
+        matches!(
+            self.sites.at(region).region().outcome(id),
+            Some(Outcome::Stale { .. })
+        )
+    }
+
+    /// The number of the attempt that the session at a place waits for.
+    fn attempt(&self, region: u8, place: usize, id: TxnId) -> u32
+        requires seat { IsSeatOf self.now region place }
+        requires waits { (stand_of (seated_in self.now) place).waits ≡ Some id }
+        ensures { result ≡ attempt_of self.now.state id }
+    {
+        self.sites.at(region).origin(id.seq).attempt
+    }
+}
+
+/// Whether a delivery of the places from `first` up to `last` goes on where what was received ends, and past it.
+fn joins(received: u32, first: u32, last: u32) -> bool
+    ensures { result ≡ (nat_le first received && nat_lt received last) }
+{
+    first <= received && received < last
 }
 
 /// The entries of a home's own log from place `first` up to `last`, each with its transaction.

@@ -1,4 +1,3 @@
-use Rattle.dt_world.proofs.Posting.{submit_made}
 use Rattle.std.proofs.Common.{◌<◌, length, map, sym, subst}
 use Rattle.std.proofs.lemmas.List.{length-map}
 use Rattle.dt_world.specs.Seated.{Seated, place_of}
