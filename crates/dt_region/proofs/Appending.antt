@@ -24,7 +24,7 @@ ids_more : (log : List Part) (part : Part) → ids_of (log ++ part ∷ []) ≡ i
 ids_more [] part = refl
 ids_more (p ∷ log) part = ap (λ l. p.id ∷ l) (ids_more log part)
 
-once_more : (log : List Part) (part : Part) → Distinct (ids_of log) → ¬ (HasPart log part.id) → Distinct (ids_of (log ++ part ∷ []))
+pub once_more : (log : List Part) (part : Part) → Distinct (ids_of log) → ¬ (HasPart log part.id) → Distinct (ids_of (log ++ part ∷ []))
 once_more log part once fresh = subst Distinct (sym (ids_more log part)) (distinct_push (ids_of log) part.id once (λ h. fresh (any_of_image (λ i. i ≡ part.id) (λ (p : Part). p.id) log h)))
 
 module _ (s : State) (sound : IsSoundRegion s) (source number : ℕ) (txn : Txn) (known : source < s.regions) (can : CanAppend s source number txn) (turn : number ≡ taken_from s source) where

@@ -19,7 +19,7 @@ use Rattle.dt_region.specs.Sound.{IsSoundRegion, IsHeldPart, AreWell}
 use Rattle.dt_region.proofs.Holds.{hold_all_keeps, hold_all_holds, hold_all_foreign, hold_all_valid}
 use Rattle.dt_region.proofs.Logs.{fronts_grown}
 
-all_drop : {A : Type 0} (P : A → Type 0) (n : ℕ) (xs : List A) → AllIn P xs → AllIn P (drop n xs)
+pub all_drop : {A : Type 0} (P : A → Type 0) (n : ℕ) (xs : List A) → AllIn P xs → AllIn P (drop n xs)
 all_drop {A} P n xs all = all_append_right P _ (drop n xs) (subst (λ (l : List A). AllIn P l) (sym (take-append-drop n xs)) all)
 
 same_ids : (home : ℕ) (entries : List Entry) → AllIn (λ e. IsPartAt e.txn home e.part) entries → map (λ p. p.id) (map (λ e. e.part) entries) ≡ map (λ x. x.id) (map (λ e. e.txn) entries)

@@ -40,6 +40,11 @@ absent (e ∷ es) txn none =
       | false ↦ λ h. ap (λ l. e ∷ l) (absent es txn h)
     ] none
 
+-- in a map where nothing stands under an id, what is added under it comes last
+pub added_last : {V : Type 0} (es : List (TxnId × V)) (id : TxnId) (v : V) → ¬ (Has (map (λ e. e.0) es) id) → insert_entry same_id es id v ≡ es ++ (id, v) ∷ []
+added_last [] id v none = refl
+added_last (e ∷ es) id v none = rw (test_of_other id e.0 (λ same. none (inl (sym same)))) (ap (λ l. e ∷ l) (added_last es id v (λ h. none (inr h))))
+
 values_more : (es : List (TxnId × Txn)) (txn : Txn) → map (λ e. e.1) (es ++ (txn.id, txn) ∷ []) ≡ map (λ e. e.1) es ++ txn ∷ []
 values_more [] txn = refl
 values_more (e ∷ es) txn = ap (λ l. e.1 ∷ l) (values_more es txn)

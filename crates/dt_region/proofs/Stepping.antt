@@ -104,13 +104,39 @@ module _ (s : State) (sound : IsSoundRegion s) (home : ℕ) (part : Part) (known
       by (inr n) = subst (λ k. k ≤ length (log_at s.logs other)) (sym (get_or-set_other s.here.inserted home other (slice_index s.here.inserted home + 1) 0 n)) (sound.inserted_few other)
 
   pub insert_well : (seen : Sched) → seen ≡ after_insert (sched_of s.logs s.here) part → AreWell (record s { here = record s.here { inserted = lengths } }) seen
-  insert_well seen e = (record {
+  insert_well seen e = (
+    record {
+      number = sound.number;
+      regions = sound.regions;
+      asked = sound.asked;
+      taken = sound.taken;
+      logs = sound.logs;
+      inserted = length-set s.here.inserted home (slice_index s.here.inserted home + 1) ∙ sound.inserted;
+      counted = sound.counted;
+      foreign = sound.foreign;
+      submitted_valid = sound.submitted_valid;
+      foreign_valid = sound.foreign_valid;
+      once = sound.once;
+      parts = sound.parts;
+      few = sound.few;
+      taken_few = sound.taken_few;
+      inserted_few = inserted_few;
+      table = sound.table;
+    },
+    e ∙ ap (λ v. record (sched_of s.logs s.here) { logs = v }) (sym view_now),
+  )
+
+-- resolutions
+
+pub resolve_well : (s : State) → IsSoundRegion s → (ids : List TxnId) (seen : Sched) → seen ≡ after_resolve (sched_of s.logs s.here) ids → AreWell (record s { here = record s.here { resolved = s.here.resolved ++ ids ∷ [] } }) seen
+resolve_well s sound ids seen e = (
+  record {
     number = sound.number;
     regions = sound.regions;
     asked = sound.asked;
     taken = sound.taken;
     logs = sound.logs;
-    inserted = length-set s.here.inserted home (slice_index s.here.inserted home + 1) ∙ sound.inserted;
+    inserted = sound.inserted;
     counted = sound.counted;
     foreign = sound.foreign;
     submitted_valid = sound.submitted_valid;
@@ -119,31 +145,11 @@ module _ (s : State) (sound : IsSoundRegion s) (home : ℕ) (part : Part) (known
     parts = sound.parts;
     few = sound.few;
     taken_few = sound.taken_few;
-    inserted_few = inserted_few;
+    inserted_few = sound.inserted_few;
     table = sound.table;
-  }, e ∙ ap (λ v. record (sched_of s.logs s.here) { logs = v }) (sym view_now))
-
--- resolutions
-
-pub resolve_well : (s : State) → IsSoundRegion s → (ids : List TxnId) (seen : Sched) → seen ≡ after_resolve (sched_of s.logs s.here) ids → AreWell (record s { here = record s.here { resolved = s.here.resolved ++ ids ∷ [] } }) seen
-resolve_well s sound ids seen e = (record {
-  number = sound.number;
-  regions = sound.regions;
-  asked = sound.asked;
-  taken = sound.taken;
-  logs = sound.logs;
-  inserted = sound.inserted;
-  counted = sound.counted;
-  foreign = sound.foreign;
-  submitted_valid = sound.submitted_valid;
-  foreign_valid = sound.foreign_valid;
-  once = sound.once;
-  parts = sound.parts;
-  few = sound.few;
-  taken_few = sound.taken_few;
-  inserted_few = sound.inserted_few;
-  table = sound.table;
-}, e)
+  },
+  e,
+)
 
 -- executions
 
@@ -152,21 +158,24 @@ ids_done [] d = refl
 ids_done (x ∷ done) d = ap (λ l. x.0 ∷ l) (ids_done done d)
 
 pub execute_well : (s : State) → IsSoundRegion s → (id : TxnId) (txn : Txn) (seen : Sched) → held s id ≡ Some txn → seen ≡ after_finish (sched_of s.logs s.here) id → AreWell (record s { here = executed s.here (Some txn) }) seen
-execute_well s sound id txn seen e f = (record {
-  number = sound.number;
-  regions = sound.regions;
-  asked = sound.asked;
-  taken = sound.taken;
-  logs = sound.logs;
-  inserted = sound.inserted;
-  counted = sound.counted;
-  foreign = sound.foreign;
-  submitted_valid = sound.submitted_valid;
-  foreign_valid = sound.foreign_valid;
-  once = sound.once;
-  parts = sound.parts;
-  few = sound.few;
-  taken_few = sound.taken_few;
-  inserted_few = sound.inserted_few;
-  table = after_table s.regions txn s.here.table sound.table (held_valid s sound id txn e);
-}, f ∙ ap (λ ids. record (sched_of s.logs s.here) { done = ids }) (sym (ids_done s.here.done (txn.id, (one txn s.here.table).0) ∙ ap (λ i. done_ids s.here ++ i ∷ []) (held_id s id txn e))))
+execute_well s sound id txn seen e f = (
+  record {
+    number = sound.number;
+    regions = sound.regions;
+    asked = sound.asked;
+    taken = sound.taken;
+    logs = sound.logs;
+    inserted = sound.inserted;
+    counted = sound.counted;
+    foreign = sound.foreign;
+    submitted_valid = sound.submitted_valid;
+    foreign_valid = sound.foreign_valid;
+    once = sound.once;
+    parts = sound.parts;
+    few = sound.few;
+    taken_few = sound.taken_few;
+    inserted_few = sound.inserted_few;
+    table = after_table s.regions txn s.here.table sound.table (held_valid s sound id txn e);
+  },
+  f ∙ ap (λ ids. record (sched_of s.logs s.here) { done = ids }) (sym (ids_done s.here.done (txn.id, (one txn s.here.table).0) ∙ ap (λ i. done_ids s.here ++ i ∷ []) (held_id s id txn e))),
+)

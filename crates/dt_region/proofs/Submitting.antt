@@ -14,7 +14,7 @@ use Rattle.dt_region.specs.State.{State, find_txn, held}
 use Rattle.dt_region.specs.Rules.{next_id, submission_for, with_submission, after_submit}
 use Rattle.dt_region.specs.Conditions.{IsPartAt}
 use Rattle.dt_region.specs.Sound.{AreCounted, IsSoundRegion, IsHeldPart, AreWell}
-use Rattle.dt_region.proofs.Asking.{ask_length}
+use Rattle.dt_region.proofs.Asked.{ask_length}
 use Rattle.dt_region.proofs.Find.{found_or_none, find_left, find_right, find_only, counted_at, apart}
 use Rattle.dt_region.proofs.Ids.{test_of_other}
 use Rattle.dt_region.proofs.Tables.{annotate_valid}

@@ -66,7 +66,7 @@ pub home_within : (regions : ℕ) (t : Table) → 0 < regions → IsTableFor reg
 home_within regions t some fits key =
     subst (λ n. home_of t key < n) fits.sized
     (home_of-below t key (subst (λ n. 0 < n) (sym fits.sized) some) (subst (λ n. AllIn (λ listed. listed.1 < n) t.homes) (sym fits.sized) fits.homes)
-      (subst (λ n. AllIn (λ m. m.target < n) (moves_of t key)) (sym fits.sized) (fits.moves key)))
+    (subst (λ n. AllIn (λ m. m.target < n) (moves_of t key)) (sym fits.sized) (fits.moves key)))
 
 -- what such a table annotates is valid
 

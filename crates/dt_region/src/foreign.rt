@@ -3,6 +3,7 @@ ghost use Rattle.std.specs.Option.{option_copied};
 ghost use Rattle.indexmap.specs.IndexMap.{insert_entry, spare};
 ghost use Rattle.dt_access.specs.Ids.{same_id};
 ghost use Rattle.dt_region.specs.State.{find_txn};
+ghost use Rattle.dt_region.specs.Holding.{keep_other};
 
 use dt_access::TxnId;
 use dt_text::NoMemory;
@@ -57,8 +58,20 @@ impl Foreign {
         Ok(())
     }
 
-    /// Keeps a transaction, unless there is one of its id. Takes no memory.
-    pub fn hold(&mut self, txn: Txn)
+    /// Keeps a transaction, unless it is of region `number`, or there is one of its id. Takes no memory where there is
+    /// room.
+    pub fn keep(&mut self, number: u8, txn: Txn)
+        requires { 0 < self.old.spare }
+        ensures kept { self.new.txns ≡ keep_other number self.old.txns txn }
+        ensures room { self.old.spare ≤ self.new.spare + 1 }
+    {
+        if txn.id.region != number {
+            self.hold(txn);
+        }
+    }
+
+    // Keeps a transaction, unless there is one of its id.
+    fn hold(&mut self, txn: Txn)
         requires { 0 < self.old.spare }
         ensures held { self.new.txns ≡ (if is_some (find_txn self.old.txns txn.id) then self.old.txns else self.old.txns ++ txn ∷ []) }
         ensures room { self.old.spare ≤ self.new.spare + 1 }

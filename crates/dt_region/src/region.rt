@@ -1,21 +1,28 @@
-ghost use Rattle.std.specs.Prelude.{◌≡◌, ◌<◌, ◌≤◌, ◌+◌, ◌^◌, [], ℕ, length, slice_index, slice_get, get_or, None, IfOk, OnOk, OnErr};
+ghost use Rattle.std.specs.Prelude.{◌≡◌, ◌<◌, ◌≤◌, ◌+◌, ◌^◌, [], ◌∷◌, ◌++◌, ℕ, length, vec_len, vec_capacity, slice_index, slice_get, get_or, None, Some, IfOk, OnOk, OnErr};
 ghost use Rattle.std.specs.Option.{option_copied};
 ghost use Rattle.dt_events.specs.declared.Event.TheVariants.{Insert, Resolve, Execute};
 ghost use Rattle.dt_sched.specs.Views.{log_at};
 ghost use Rattle.dt_sched.specs.Sched.{IsNextClass};
+ghost use Rattle.dt_txn.specs.declared.txn.Txn.{Txn};
+ghost use Rattle.dt_txn.specs.Execution.{one};
 ghost use Rattle.dt_txn.specs.Transaction.{BodyFits};
 ghost use Rattle.dt_region.specs.State.{held, outcome_of, sched_of};
 ghost use Rattle.dt_region.specs.Rules.{opening_state, next_id, after_submit, Appends, Delivers, Steps};
 ghost use Rattle.dt_region.specs.Conditions.{IsTableFor, CanAppend, CanDeliver};
 ghost use Rattle.dt_region.specs.Sound.{IsSoundRegion};
 
+use crate::ascent::are_ascending;
+use crate::asking::ask;
+use crate::entries::{keep_last, parts_and_txns, place, take};
+use crate::execution::{note_outcome, places_for};
 use crate::foreign::Foreign;
+use crate::opening::{no_counts, no_ids, no_parts};
 use dt_access::{Ids, TxnId};
 use dt_log::{Log, Taken};
 use dt_sched::Scheduler;
-use dt_table::Table;
+use dt_table::{Effect, Table};
 use dt_text::NoMemory;
-use dt_txn::{Body, Entry, Outcome, Txn};
+use dt_txn::{Body, Entry, Outcome, Txn, annotate, execute, homes, part_at};
 use indexmap::IndexMap;
 use std::alloc::Global;
 use std::marker::Model;
@@ -63,9 +70,22 @@ impl<S: Scheduler> Region<S> {
         requires number { number < regions }
         requires regions { regions ≤ 8 }
         requires table { IsTableFor regions table.state }
-        ensures { IfOk result (λ region. region.state ≡ opening_state number regions table.state) }
+        ensures opening { IfOk result (λ region. region.state ≡ opening_state number regions table.state) }
+        ensures sound { IfOk result (λ region. IsSoundRegion region.state) }
     {
-        Err(NoMemory)
+        Ok(Region {
+            number,
+            regions,
+            submitted: Vec::new(alloc),
+            foreign: Foreign::new(alloc),
+            asked: no_ids(alloc, regions)?,
+            taken: no_counts(alloc, regions)?,
+            logs: no_parts(alloc, regions)?,
+            inserted: no_counts(alloc, regions)?,
+            done: IndexMap::new(alloc),
+            table,
+            scheduler: S::empty(alloc, regions)?,
+        })
     }
 
     /// Its number. Takes no memory.
@@ -107,6 +127,14 @@ impl<S: Scheduler> Region<S> {
         &self.logs[home as usize]
     }
 
+    // How many parts of a home's log it has inserted.
+    fn inserted(&self, home: u8) -> u32
+        requires { home < self.now.state.regions }
+        ensures { result ≡ slice_index self.now.state.here.inserted home }
+    {
+        self.inserted[home as usize]
+    }
+
     /// Its rows. Takes no memory.
     pub fn table(&self) -> &Table
         ensures { result.now.state ≡ self.now.state.here.table }
@@ -140,8 +168,18 @@ impl<S: Scheduler> Region<S> {
         ensures state { OnOk result (self.new.state ≡ after_submit self.old.state body) }
         ensures id { IfOk result (λ id. id ≡ next_id self.old.state) }
         ensures err { OnErr result (self.new.state ≡ self.old.state) }
+        ensures sound { IsSoundRegion self.new.state }
     {
-        Err(NoMemory)
+        let id = TxnId {
+            seq: self.submitted.len() as u32 + 1,
+            region: self.number,
+        };
+        let txn = annotate(alloc, id, body, &self.table)?;
+        let homes = homes(alloc, &txn)?;
+        self.submitted.reserve(1)?;
+        ask(alloc, &mut self.asked, homes.as_slice(), id)?;
+        add_last(&mut self.submitted, txn);
+        Ok(id)
     }
 
     /// Places the part of a transaction at the end of the region's own log, as request `number` of a region. False
@@ -156,9 +194,19 @@ impl<S: Scheduler> Region<S> {
     ) -> Result<bool, NoMemory>
         requires source { source < self.old.state.regions }
         requires can { CanAppend self.old.state source number txn.now }
-        ensures { Appends self.old.state source number txn.now result self.new.state }
+        ensures appends { Appends self.old.state source number txn.now result self.new.state }
+        ensures sound { IsSoundRegion self.new.state }
     {
-        Err(NoMemory)
+        if number != self.taken(source) {
+            return Ok(false);
+        }
+        let part = part_at(alloc, txn, self.number)?;
+        let copy = txn.copy(alloc)?;
+        self.foreign.reserve(1)?;
+        place(&mut self.logs, part)?;
+        self.taken[source as usize] = number + 1;
+        self.foreign.keep(self.number, copy);
+        Ok(true)
     }
 
     /// Takes a delivery of a home's log: its entries from place `first` on. Those past the end of what the region has of
@@ -173,26 +221,58 @@ impl<S: Scheduler> Region<S> {
     ) -> Result<Taken, NoMemory>
         requires home { home < self.old.state.regions }
         requires can { CanDeliver self.old.state home first entries.items }
-        ensures { Delivers self.old.state home first entries.items result self.new.state }
+        ensures delivers { Delivers self.old.state home first entries.items result self.new.state }
+        ensures sound { IsSoundRegion self.new.state }
     {
-        Err(NoMemory)
+        let number = self.number;
+        let (parts, txns) = parts_and_txns(alloc, entries)?;
+        self.foreign.reserve(txns.len())?;
+        let taken = take(&mut self.logs, home, first, parts)?;
+        if let Taken::New(count) = taken {
+            keep_last(number, &mut self.foreign, txns, count as usize);
+        }
+        Ok(taken)
     }
 
     /// Inserts the next part of a home's log into the region's view. False exactly where all that is received is
     /// inserted; then nothing changes, and neither does after `NoMemory`.
     pub fn insert(&mut self, alloc: Global, home: u8) -> Result<bool, NoMemory>
         requires { home < self.old.state.regions }
-        ensures { Steps self.old.state (Insert self.old.state.number home) result self.new.state }
+        ensures steps { Steps self.old.state (Insert self.old.state.number home) result self.new.state }
+        ensures sound { IsSoundRegion self.new.state }
     {
-        Err(NoMemory)
+        let place = self.inserted(home);
+        let Some(part) = self.log(home).get(place) else {
+            return Ok(false);
+        };
+        let part = part.copy(alloc)?;
+        self.scheduler.insert(alloc, part)?;
+        self.inserted[home as usize] = place + 1;
+        Ok(true)
     }
 
     /// Resolves a class of deadlocked transactions. False exactly where the ids aren't a class that is resolvable here,
     /// in ascending order; then nothing changes, and neither does after `NoMemory`.
     pub fn resolve(&mut self, alloc: Global, ids: &[TxnId]) -> Result<bool, NoMemory>
-        ensures { Steps self.old.state (Resolve self.old.state.number ids.now) result self.new.state }
+        ensures steps { Steps self.old.state (Resolve self.old.state.number ids.now) result self.new.state }
+        ensures sound { IsSoundRegion self.new.state }
     {
-        Err(NoMemory)
+        if !are_ascending(ids) || !self.scheduler.resolvable(alloc, ids)? {
+            return Ok(false);
+        }
+        self.scheduler.resolve(alloc, ids)?;
+        Ok(true)
+    }
+
+    // What a transaction that the region holds comes to on its table.
+    fn run(&self, alloc: Global, id: TxnId) -> Result<(Outcome, Effect), NoMemory>
+        requires { (txn : Txn) × (held self.now.state id ≡ Some txn) }
+        ensures { (txn : Txn) → held self.now.state id ≡ Some txn → IfOk result (λ run. run ≡ one txn self.now.state.here.table) }
+    {
+        match self.txn(id) {
+            Some(txn) => execute(alloc, txn, &self.table),
+            None => unreachable!(),
+        }
     }
 
     /// Some class that is resolvable here, in ascending order, or `None` where there is none.
@@ -205,9 +285,20 @@ impl<S: Scheduler> Region<S> {
     /// Executes a transaction on the region's table. False exactly where it isn't executable here; then nothing changes,
     /// and neither does after `NoMemory`.
     pub fn execute(&mut self, alloc: Global, id: TxnId) -> Result<bool, NoMemory>
-        ensures { Steps self.old.state (Execute self.old.state.number id) result self.new.state }
+        ensures steps { Steps self.old.state (Execute self.old.state.number id) result self.new.state }
+        ensures sound { IsSoundRegion self.new.state }
     {
-        Err(NoMemory)
+        if !self.scheduler.executable(alloc, id)? {
+            return Ok(false);
+        }
+        let (outcome, effect) = self.run(alloc, id)?;
+        self.table.reserve(places_for(&effect)?)?;
+        self.done.reserve(1)?;
+        self.scheduler.reserve(alloc, 1)?;
+        self.table.apply(effect);
+        note_outcome(&mut self.done, id, outcome);
+        self.scheduler.finish(id);
+        Ok(true)
     }
 }
 
@@ -217,4 +308,15 @@ fn numbered(txns: &[Txn], number: u32) -> Option<&Txn>
     ensures some { (place : ℕ) → number ≡ place + 1 → option_copied result ≡ slice_get txns.now place }
 {
     txns.get((number as usize).checked_sub(1)?)
+}
+
+// Adds a transaction at the end, which takes no memory where there is room.
+fn add_last(txns: &mut Vec<Txn>, txn: Txn)
+    requires { vec_len txns.old < vec_capacity txns.old }
+    ensures { txns.new.items ≡ txns.old.items ++ txn ∷ [] }
+{
+    match txns.push(txn) {
+        Ok(()) => (),
+        Err(_) => unreachable!(),
+    }
 }
