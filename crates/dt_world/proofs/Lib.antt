@@ -10,3 +10,4 @@ pub mod Waiting
 pub mod Placing
 pub mod Receiving
 pub mod Turns
+pub mod Begun

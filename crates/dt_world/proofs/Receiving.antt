@@ -2,10 +2,11 @@
 use Rattle.std.proofs.Common.{◌≡◌, ◌≢◌, ◌<◌, ◌≤◌, ◌+◌, ◌-◌, ◌⊎◌, ℕ, zero, suc, Bool, true, false, cond, ltb, leb, ◌&&◌, List, [], ◌∷◌, ◌++◌, length, map, get_or, set, take, drop, slice_get, Ok, Some, None, refl, sym, ap, ap₂, subst, subst₂, ◌∙◌, inl, inr, arith}
 use Rattle.std.specs.Prelude.{Option, Result, slice_index}
 use Rattle.std.proofs.lemmas.Bool.Decides.{nat_tests}
-use Rattle.std.proofs.lemmas.List.{length-map, length-set, length-take-le, length-drop, map-set, get_or-set_same, get_or-set_other, set-get_or}
+use Rattle.std.proofs.lemmas.List.{length-map, length-set, length-take-le, length-drop, map-set, map_push, take_more, get_or-set_same, get_or-set_other, set-get_or}
 use Rattle.dt_lists.specs.Lists.{AllIn, Distinct, Has, IsFront, Either}
 use Rattle.dt_lists.proofs.Decided.{either_nat}
-use Rattle.dt_lists.proofs.Places.{map_of_set}
+use Rattle.std.proofs.lemmas.Option.{get_or_from_slice_get}
+use Rattle.dt_lists.proofs.Places.{map_of_set, place_within}
 use Rattle.dt_lists.proofs.Fronts.{any_front, each_front, front_map, front_take}
 use Rattle.dt_lists.proofs.Words.{all_get, all_image, all_map, all_put, has_map}
 use Rattle.dt_access.specs.declared.TxnId.{TxnId}
@@ -263,3 +264,19 @@ module _ (cluster : Cluster) (seated : Seated) (posts : List Posted) (steps : �
       deliver_made after (New n) s = subst (IsMade cluster seated posts steps (Deliver region home first last) seated) (sym s.1) (deliver_lawful s.0)
       deliver_made after Old s = let a : length (log_at (post_at posts region).state.logs home) + length entries ≤ length (log_at (post_at posts region).state.logs home) = s.0 in absurd (omega (arith, several, goes_on))
       deliver_made after Gap s = let a : length (log_at (post_at posts region).state.logs home) < length (log_at (post_at posts region).state.logs home) = s.0 in absurd (omega arith)
+
+-- the entries of a log, one more at a time
+
+drop_push : {A : Type 0} (n : ℕ) (xs : List A) (y : A) → n ≤ length xs → drop n (xs ++ y ∷ []) ≡ drop n xs ++ y ∷ []
+drop_push zero xs y le = refl
+drop_push (suc n) [] y le = absurd (omega arith)
+drop_push (suc n) (x ∷ xs) y le = drop_push n xs y (omega arith)
+
+pub entries_more : (log : List Part) (first place : ℕ) (items new : List Entry) (e : Entry) → first ≤ place → slice_get log place ≡ Some e.part → map (λ x. x.part) items ≡ drop first (take place log) → new ≡ items ++ e ∷ [] → map (λ x. x.part) new ≡ drop first (take (place + 1) log)
+entries_more log first place items new e le at before is =
+    let lt : place < length log = place_within log place e.part at in
+    let long : length (take place log) ≡ place = length-take-le place log (omega arith) in
+    ap (map (λ x. x.part)) is ∙ map_push (λ x. x.part) items e ∙ ap (λ l. l ++ e.part ∷ []) before
+    ∙ sym (drop_push first (take place log) e.part (omega arith))
+    ∙ ap (λ x. drop first (take place log ++ x ∷ [])) (sym (get_or_from_slice_get log place e.part e.part at))
+    ∙ ap (drop first) (sym (take_more log place e.part lt))
