@@ -1,5 +1,5 @@
 -- The words and the files call for one status.
-use Rattle.std.proofs.Common.{◌≡◌, ◌≢◌, ℕ, ◌+◌, ◌<◌, ◌≤◌, ◌⊎◌, inl, inr, List, [], ◌∷◌, ◌++◌, length, map, Option, Some, None, IsSome, IfSome, IsSomeAnd, refl, ap, sym, ◌∙◌, subst, arith, get_or}
+use Rattle.std.proofs.Common.{◌≡◌, ◌≢◌, ℕ, ◌+◌, ◌<◌, ◌≤◌, ◌⊎◌, inl, inr, List, [], ◌∷◌, ◌++◌, length, map, Option, Some, None, IsSome, refl, ap, sym, ◌∙◌, subst, arith, get_or}
 use Rattle.std.proofs.lemmas.List.{map-append}
 use Rattle.dt_access.specs.Clash.{Bytes}
 use Rattle.dt_text.specs.Lines.{FileLine, lines_of}
@@ -29,9 +29,10 @@ use Rattle.detock.specs.Refusals.{IsRefusal}
 use Rattle.detock.proofs.WordForms.{two_bytes}
 
 -- the bytes of one file
-both_told : (held : Option Bytes) (P Q : Bytes → Type 0) → IsSomeAnd held P → IsSomeAnd held Q → (bytes : Bytes) × P bytes × Q bytes
-both_told None P Q p q = absurd p
-both_told (Some bytes) P Q p q = (bytes, p, q)
+both_told : (files : Files) (name : Bytes) (P Q : Bytes → Type 0) → Told (Some files) name P → Told (Some files) name Q → (bytes : Bytes) × P bytes × Q bytes
+both_told files name P Q (bytes, here, p) (others, there, q) =
+    let same : others ≡ bytes = cc in
+    (bytes, p, subst Q same q)
 
 -- the number of regions in the word of a built-in cluster
 one_builtin : (m n : ℕ) → IsBuiltin m → IsBuiltin n → builtin_word m ≡ builtin_word n → m ≡ n
@@ -140,16 +141,16 @@ module _ (files : Files) (words : List Bytes) where
   same_workload : (r s : Replay) (v w : Workload) → HasWorkload (Some files) words r v → HasWorkload (Some files) words s w → (r ≡ s) × (v ≡ w)
   same_workload r s v w a b =
       let same = one_replay words r s a.asked b.asked in
-      let P : Replay → Type 0 = λ q. IsSomeAnd (files q.workload) (AreWorkload q.regions w) in
-      let (bytes, one, other) = both_told (files r.workload) (AreWorkload r.regions v) (AreWorkload r.regions w) a.workload_file (subst P (sym same) b.workload_file) in
+      let P : Replay → Type 0 = λ q. Told (Some files) q.workload (AreWorkload q.regions w) in
+      let (bytes, one, other) = both_told files r.workload (AreWorkload r.regions v) (AreWorkload r.regions w) a.workload_file (subst P (sym same) b.workload_file) in
       (same, one_workload r.regions (omega (arith, a.asked.cluster.1)) bytes v w one.form other.form)
 
   -- what has a workload is built
   built : (r : Replay) (v : Workload) → HasWorkload (Some files) words r v → IsNotBuilt (Some files) words → ⊥
   built r v a (inl none) = none r a.asked
   built r v a (inr (s, asked, never)) =
-      let P : Replay → Type 0 = λ q. IsSomeAnd (files q.workload) (AreNoWorkload q.regions) in
-      let (bytes, is, isnt) = both_told (files r.workload) (AreWorkload r.regions v) (AreNoWorkload r.regions) a.workload_file (subst P (sym (one_replay words r s a.asked asked)) never) in
+      let P : Replay → Type 0 = λ q. Told (Some files) q.workload (AreNoWorkload q.regions) in
+      let (bytes, is, isnt) = both_told files r.workload (AreWorkload r.regions v) (AreNoWorkload r.regions) a.workload_file (subst P (sym (one_replay words r s a.asked asked)) never) in
       contradiction bytes is isnt
     where
       contradiction : (bytes : Bytes) → AreWorkload r.regions v bytes → AreNoWorkload r.regions bytes → ⊥
@@ -163,18 +164,18 @@ module _ (files : Files) (words : List Bytes) where
   doable : (is : IsReplayable (Some files) words) (l : ℕ) (c : EventsCause) → HasBadEvents (Some files) words l c → ⊥
   doable is l c (s, w, has, bad) =
       let same = same_workload is.replay s is.workload w (workload_of is) has in
-      let P : Replay × Workload → Type 0 = λ q. IsSomeAnd (files q.0.events) (AreBadEvents (builtin_cluster q.0.regions) q.1 l c) in
+      let P : Replay × Workload → Type 0 = λ q. Told (Some files) q.0.events (AreBadEvents (builtin_cluster q.0.regions) q.1 l c) in
       let pair : (s, w) ≡ (is.replay, is.workload) = λ i. (sym same.0 i, sym same.1 i) in
-      let (bytes, are, fault) = both_told (files is.replay.events) (AreNumbered is.events) (AreBadEvents (builtin_cluster is.replay.regions) is.workload l c) is.events_file (subst P pair bad) in
+      let (bytes, are, fault) = both_told files is.replay.events (AreNumbered is.events) (AreBadEvents (builtin_cluster is.replay.regions) is.workload l c) is.events_file (subst P pair bad) in
       no_fault (builtin_cluster is.replay.regions) is.workload bytes is.events l c are is.legal fault
 
   -- two faults of the events are one
   same_fault : (l m : ℕ) (c d : EventsCause) → HasBadEvents (Some files) words l c → HasBadEvents (Some files) words m d → BadEvents l c ≡ BadEvents m d
   same_fault l m c d (r, v, has, bad) (s, w, also, too) =
       let same = same_workload r s v w has also in
-      let P : Replay × Workload → Type 0 = λ q. IsSomeAnd (files q.0.events) (AreBadEvents (builtin_cluster q.0.regions) q.1 m d) in
+      let P : Replay × Workload → Type 0 = λ q. Told (Some files) q.0.events (AreBadEvents (builtin_cluster q.0.regions) q.1 m d) in
       let pair : (s, w) ≡ (r, v) = λ i. (sym same.0 i, sym same.1 i) in
-      let (bytes, one, other) = both_told (files r.events) (AreBadEvents (builtin_cluster r.regions) v l c) (AreBadEvents (builtin_cluster r.regions) v m d) bad (subst P pair too) in
+      let (bytes, one, other) = both_told files r.events (AreBadEvents (builtin_cluster r.regions) v l c) (AreBadEvents (builtin_cluster r.regions) v m d) bad (subst P pair too) in
       one_fault (builtin_cluster r.regions) v bytes l m c d one other
 
   -- the words and the files call for one status
@@ -216,7 +217,7 @@ replayable told words Written h = record {
 -- a file that could not be read is told by the folder's count
 could_not : (told : Option Files) (words : List Bytes) (before now word : ℕ) → CouldNotRead told words before now word → Rose before now
 could_not told words before now word (inl (is, replay, asked, rose)) = rose
-could_not told words before now word (inr (is, replay, workload, has, loaded, later, rose)) = omega (arith, later, rose)
+could_not told words before now word (inr (is, replay, workload, has, rose)) = rose
 
 -- a status that is no fault of a device is the one that is due
 pub comes_due : (told : Option Files) (words : List Bytes) (before now : ℕ) (status due : Status) → IsSome told → IsDue told words due → ¬ Rose before now → (status ≡ Done → IsReplayable told words) → (status ≢ Done → status ≢ CannotWrite → IsRefusal told words before now status) → status ≢ CannotWrite → (status ≡ due) ⊎ (status ≡ NoMemory)

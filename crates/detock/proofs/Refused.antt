@@ -1,5 +1,5 @@
 -- What is answered as a whole, from what its parts answered.
-use Rattle.std.proofs.Common.{◌≡◌, ℕ, ◌≤◌, List, Option, Some, None, IsSomeAnd, Result, Ok, Err, IfOk, Vec, inl, inr, refl, subst}
+use Rattle.std.proofs.Common.{◌≡◌, ℕ, ◌≤◌, List, Option, Result, Ok, Err, IfOk, Vec, inl, inr, refl, subst, arith}
 use Rattle.dt_access.specs.Clash.{Bytes}
 use Rattle.dt_outside.specs.Faults.{Rose}
 use Rattle.dt_outside.specs.Files.{Files}
@@ -24,12 +24,7 @@ use Rattle.detock.specs.Refusals.{IsWorkloadRefusal, IsEventsRefusal, IsStepRefu
 
 -- what holds of a file's bytes, and what follows from it
 told_more : (told : Option Files) (name : Bytes) (P Q : Bytes → Type 0) → ((bytes : Bytes) → P bytes → Q bytes) → Told told name P → Told told name Q
-told_more None name P Q more is = tt
-told_more (Some files) name P Q more is = held (files name) is
-  where
-    held : (o : Option Bytes) → IsSomeAnd o P → IsSomeAnd o Q
-    held None p = p
-    held (Some bytes) p = more bytes p
+told_more told name P Q more (bytes, is, p) = (bytes, is, more bytes p)
 
 module _ (told : Option Files) (words : List Bytes) (replay : Replay) where
   -- the workload's file was refused
@@ -52,7 +47,7 @@ module _ (told : Option Files) (words : List Bytes) (replay : Replay) where
     no_events before loaded now NoMemory later is = tt
     no_events before loaded now (BadEvents line cause) later is =
         (replay, workload, has, told_more told replay.events (AreMalformed line cause) (AreBadEvents (builtin_cluster replay.regions) workload line cause) (malformed line cause) is)
-    no_events before loaded now (CannotRead word) later (four, rose) = inr (four, replay, workload, has, loaded, later, rose)
+    no_events before loaded now (CannotRead word) later (four, rose) = inr (four, replay, workload, has, omega (arith, later, rose))
     no_events before loaded now NotBuilt later is = absurd is
     no_events before loaded now Done later is = is
     no_events before loaded now CannotWrite later is = is

@@ -58,13 +58,12 @@ HasBadEvents told words line cause =
     (replay : Replay) × (workload : Workload) × HasWorkload told words replay workload
     × Told told replay.events (AreBadEvents (builtin_cluster replay.regions) workload line cause)
 
--- the folder's count of faults rose while the file of word 3, the workload, was loaded; or that file was a workload, and
--- the count rose, from what it was then, while the file of word 4, the events, was loaded
+-- the folder's count of faults rose in this call: for word 3, where the words are a replay; for word 4, where moreover the
+-- file of word 3 is a workload
 abbrev pub CouldNotRead : Option Files → List Bytes → ℕ → ℕ → ℕ → Type 0
 CouldNotRead told words before now word =
     ((word ≡ 3) × (replay : Replay) × IsReplay words replay × Rose before now)
-    ⊎ ((word ≡ 4) × (replay : Replay) × (workload : Workload) × HasWorkload told words replay workload
-    × (loaded : ℕ) × (before ≤ loaded) × Rose loaded now)
+    ⊎ ((word ≡ 4) × (replay : Replay) × (workload : Workload) × HasWorkload told words replay workload × Rose before now)
 
 -- the status that the words and the files call for, where no device fails
 abbrev pub IsDue : Option Files → List Bytes → Status → Type 0

@@ -1,5 +1,5 @@
 -- The headline, and when it must come true.
-use Rattle.std.specs.Prelude.{ℕ, ◌≤◌, List, map, length, Option, IfSome, IsSomeAnd}
+use Rattle.std.specs.Prelude.{◌≡◌, ℕ, ◌≤◌, List, map, length, Option, Some, IfSome}
 use Rattle.dt_access.specs.Clash.{Bytes}
 use Rattle.dt_outside.specs.Files.{Files}
 use Rattle.dt_events.specs.declared.Event.{Event}
@@ -17,9 +17,9 @@ use Rattle.detock.specs.Words.{Replay, IsReplay}
 abbrev pub file_limit : ℕ
 file_limit = 16777216
 
--- there is a file of this name, and its bytes have P; of a folder that does not tell its files, nothing is said
+-- some bytes have P, and where the folder tells its files, they are those of the file of this name
 abbrev pub Told : Option Files → Bytes → (Bytes → Type 0) → Type 0
-Told told name P = IfSome told (λ files. IsSomeAnd (files name) P)
+Told told name P = (bytes : Bytes) × IfSome told (λ files. files name ≡ Some bytes) × P bytes
 
 -- these bytes are a workload for the built-in cluster of so many regions
 pub record AreWorkload (regions : ℕ) (workload : Workload) (bytes : Bytes) : Type 0 where
