@@ -1,5 +1,5 @@
 use Rattle.std.specs.Prelude.{ℕ, []}
-use Rattle.dt_cluster.specs.declared.Cluster.{Cluster}
+use Rattle.dt_cluster.specs.declared.cluster.Cluster.{Cluster}
 
 -- the built-in cluster of so many regions: four workers, three tries, nothing lost or repeated, no homes and rows listed
 abbrev pub builtin_cluster : ℕ → Cluster

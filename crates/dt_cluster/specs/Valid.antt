@@ -1,6 +1,6 @@
 use Rattle.std.specs.Prelude.{◌<◌, ◌≤◌, map}
 use Rattle.dt_lists.specs.Lists.{AllIn, Distinct}
-use Rattle.dt_cluster.specs.declared.Cluster.{Cluster}
+use Rattle.dt_cluster.specs.declared.cluster.Cluster.{Cluster}
 
 -- a cluster that can be: it has 1 to 8 regions and at least one try, no key is listed twice for a home or for a value,
 -- and the listed homes are regions

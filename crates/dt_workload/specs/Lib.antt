@@ -1,1 +1,4 @@
 pub mod Valid
+pub mod FirstForm
+pub mod Fields
+pub mod Laws

@@ -2,10 +2,10 @@ use Rattle.std.specs.Prelude.{◌<◌, ℕ, map}
 use Rattle.dt_lists.specs.Lists.{AllIn, Distinct}
 use Rattle.dt_eval.specs.Meaning.{Fits, HasKeys}
 use Rattle.dt_cluster.specs.declared.Cluster.{Cluster}
-use Rattle.dt_workload.specs.declared.Wanted.{Wanted}
-use Rattle.dt_workload.specs.declared.Wanted.TheVariants.{Call, Move}
-use Rattle.dt_workload.specs.declared.Session.{Session}
-use Rattle.dt_workload.specs.declared.Workload.{Workload}
+use Rattle.dt_workload.specs.declared.workload.Wanted.{Wanted}
+use Rattle.dt_workload.specs.declared.workload.Wanted.TheVariants.{Call, Move}
+use Rattle.dt_workload.specs.declared.workload.Session.{Session}
+use Rattle.dt_workload.specs.declared.workload.Workload.{Workload}
 
 -- a call's arguments fit its procedure and name keys, and a move leads to a region
 abbrev pub WantedFits : ℕ → Wanted → Type 0

@@ -1,5 +1,6 @@
+-- The copies so far.
 use Rattle.std.proofs.Common.{◌≡◌, take}
 use Rattle.dt_cluster.proofs.copies.copy_homes.Given as goal
 
 abbrev pub invariant-loop-key : goal.invariant-loop-key
-invariant-loop-key l = l.copied ≡ take l.key-index l.homes
+invariant-loop-key l = l.copied.items ≡ take l.key-index l.homes

@@ -1,0 +1,35 @@
+-- Fault lines, as their pieces are written.
+use Rattle.std.proofs.Common.{◌≡◌, ℕ, List, [], ◌∷◌, ◌++◌, length, take, Option, Result, Ok, Err, OnOk, OnErr, refl, ap, sym, ◌∙◌, append_assoc, codes}
+use Rattle.std.proofs.Math.Seq.{take-length}
+use Rattle.std.specs.Fmt.{decimal}
+use Rattle.dt_access.specs.Clash.{Bytes}
+use Rattle.dt_outside.specs.Held.{Adds, AddsPrefix, held_with}
+use Rattle.detock.specs.Statuses.{fault_line, told_line}
+use Rattle.detock.specs.declared.status.Status.TheVariants.{CannotRead, BadEvents}
+use Rattle.detock.specs.declared.status.EventsCause.TheVariants.{TooLong, Form, Rule}
+
+-- the line of a file that could not be read
+pub cannot_read_line : (number : Bytes) (word : ℕ) → number ≡ decimal word → codes "detock: cannot read word " ++ (number ++ (10 ∷ [])) ≡ fault_line (CannotRead word)
+cannot_read_line number word is = ap (λ digits. codes "detock: cannot read word " ++ (digits ++ 10 ∷ [])) is
+
+-- the line of a fault in an events' file
+events_line : (line : ℕ) (cause : Bytes) → codes "detock: events line " ++ (decimal line ++ (58 ∷ 32 ∷ (cause ++ 10 ∷ []))) ≡ told_line (codes "events line " ++ decimal line ++ codes ": " ++ cause)
+events_line line cause =
+    ap (λ rest. codes "detock: events line " ++ rest) (sym (append_assoc (decimal line ++ codes ": ") cause (10 ∷ []) ∙ append_assoc (decimal line) (codes ": ") (cause ++ 10 ∷ [])))
+
+pub too_long_line : (number : Bytes) (line : ℕ) → number ≡ decimal line → codes "detock: events line " ++ (number ++ (codes ": too long" ++ 10 ∷ [])) ≡ fault_line (BadEvents line TooLong)
+too_long_line number line is = ap (λ digits. codes "detock: events line " ++ (digits ++ (codes ": too long" ++ 10 ∷ []))) is ∙ events_line line (codes "too long")
+
+pub form_line : (number : Bytes) (line : ℕ) → number ≡ decimal line → codes "detock: events line " ++ (number ++ (codes ": no event" ++ 10 ∷ [])) ≡ fault_line (BadEvents line Form)
+form_line number line is = ap (λ digits. codes "detock: events line " ++ (digits ++ (codes ": no event" ++ 10 ∷ []))) is ∙ events_line line (codes "no event")
+
+pub rule_line : (number rule : Bytes) (line n : ℕ) → number ≡ decimal line → rule ≡ decimal n → codes "detock: events line " ++ (number ++ (codes ": rule " ++ (rule ++ 10 ∷ []))) ≡ fault_line (BadEvents line (Rule n))
+rule_line number rule line n is by =
+    ap (λ digits. codes "detock: events line " ++ (digits ++ (codes ": rule " ++ (rule ++ 10 ∷ [])))) is
+    ∙ ap (λ digits. codes "detock: events line " ++ (decimal line ++ (codes ": rule " ++ (digits ++ 10 ∷ [])))) by
+    ∙ events_line line (codes "rule " ++ decimal n)
+
+-- what was added whole, or in part where the sink failed, was added in part
+pub in_part : {E : Type 0} (r : Result (Unit {0}) E) (old new : Option (List ℕ)) (piece : List ℕ) → OnOk r (Adds old new piece) → OnErr r (AddsPrefix old new piece) → AddsPrefix old new piece
+in_part (Ok x) old new piece whole part = (length piece, whole ∙ ap (held_with old) (sym (take-length piece)))
+in_part (Err e) old new piece whole part = part

@@ -1,0 +1,6 @@
+pub mod Words
+pub mod Asked
+pub mod Statuses
+pub mod Headline
+pub mod Causes
+pub mod Refusals

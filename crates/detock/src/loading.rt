@@ -1,0 +1,91 @@
+ghost use Rattle.std.specs.Prelude.{◌≡◌, ◌<◌, ◌≤◌, ◌⊎◌, length, IfOk, IfSome, OnErr, Some};
+ghost use Rattle.dt_outside.specs.Faults.{Rose};
+ghost use Rattle.dt_cluster.specs.Builtin.{builtin_cluster};
+ghost use Rattle.dt_workload.specs.Valid.{IsValidWorkload};
+ghost use Rattle.detock.specs.Words.{IsBuiltin};
+ghost use Rattle.detock.specs.Headline.{AreNumbered, AreWorkload, Told, file_limit};
+ghost use Rattle.detock.specs.Refusals.{IsEventsRefusal, IsWorkloadRefusal};
+
+use crate::status::{EventsCause, Status};
+use dt_events::{Event, EventsError, read_events};
+use dt_outside::{Folder, LoadError};
+use dt_workload::{Workload, read_first};
+use std::alloc::Global;
+
+/// No file may be longer than this: 16 MiB.
+const FILE_LIMIT: u64 = 16_777_216;
+
+/// The number of the word that names the workload's file.
+const WORKLOAD_WORD: u32 = 3;
+
+/// The number of the word that names the events' file.
+const EVENTS_WORD: u32 = 4;
+
+/// Loads and reads a workload for the built-in cluster of so many regions.
+pub fn load_workload<F: Folder>(
+    alloc: Global,
+    files: &mut F,
+    name: &str,
+    regions: u8,
+) -> Result<Workload, Status>
+    requires { IsBuiltin regions }
+    ensures workload { IfOk result (λ workload. Told (F.told files.old) name.now (AreWorkload regions workload)) }
+    ensures valid { IfOk result (λ workload. IsValidWorkload (builtin_cluster regions) workload) }
+    ensures refused { (status : _) → result ≡ Err status →
+        IsWorkloadRefusal (F.told files.old) regions name.now (F.faults files.old) (F.faults files.new) status }
+    ensures same_told { F.told files.new ≡ F.told files.old }
+    ensures later { F.faults files.old ≤ F.faults files.new }
+{
+    let bytes = load(alloc, files, name, WORKLOAD_WORD, Status::NotBuilt)?;
+    match read_first(alloc, bytes.as_slice(), regions)? {
+        Some(workload) => Ok(workload),
+        None => Err(Status::NotBuilt),
+    }
+}
+
+/// Loads and reads events, each with the number of its line.
+pub fn load_events<F: Folder>(
+    alloc: Global,
+    files: &mut F,
+    name: &str,
+) -> Result<Vec<(u32, Event)>, Status>
+    ensures events { IfOk result (λ events. Told (F.told files.old) name.now (AreNumbered events.items)) }
+    ensures few { IfOk result (λ events. length events.items ≤ file_limit) }
+    ensures refused { (status : _) → result ≡ Err status →
+        IsEventsRefusal (F.told files.old) name.now (F.faults files.old) (F.faults files.new) status }
+    ensures same_told { F.told files.new ≡ F.told files.old }
+    ensures later { F.faults files.old ≤ F.faults files.new }
+{
+    let too_long = Status::BadEvents(0, EventsCause::TooLong);
+    let bytes = load(alloc, files, name, EVENTS_WORD, too_long)?;
+    match read_events(alloc, bytes.as_slice()) {
+        Ok(events) => Ok(events),
+        Err(EventsError::Form(line)) => Err(Status::BadEvents(line, EventsCause::Form)),
+        Err(EventsError::NoMemory) => Err(Status::NoMemory),
+    }
+}
+
+/// Loads the file that the word of this number names. `too_long` is the answer where it is longer than the limit.
+fn load<F: Folder>(
+    alloc: Global,
+    files: &mut F,
+    name: &str,
+    word: u32,
+    too_long: Status,
+) -> Result<Vec<u8>, Status>
+    ensures told { IfOk result (λ bytes. IfSome (F.told files.old) (λ told. told name.now ≡ Some bytes.items)) }
+    ensures short { IfOk result (λ bytes. length bytes.items ≤ file_limit) }
+    ensures refused { (status : _) → result ≡ Err status →
+        (status ≡ Status.NoMemory)
+        ⊎ ((status ≡ too_long) × Told (F.told files.old) name.now (λ bytes. file_limit < length bytes))
+        ⊎ ((status ≡ Status.CannotRead word) × Rose (F.faults files.old) (F.faults files.new)) }
+    ensures same_told { F.told files.new ≡ F.told files.old }
+    ensures later { F.faults files.old ≤ F.faults files.new }
+{
+    match files.load(alloc, name, FILE_LIMIT) {
+        Ok(bytes) => Ok(bytes),
+        Err(LoadError::TooLong) => Err(too_long),
+        Err(LoadError::Failed) => Err(Status::CannotRead(word)),
+        Err(LoadError::NoMemory) => Err(Status::NoMemory),
+    }
+}

@@ -1,0 +1,100 @@
+ghost use Rattle.std.specs.Prelude.{◌≡◌, ◌≤◌, length, map, IfOk};
+ghost use Rattle.dt_cluster.specs.Valid.{IsValidCluster};
+ghost use Rattle.dt_workload.specs.Valid.{IsValidWorkload};
+ghost use Rattle.dt_session.specs.Run.{AreLegal, world_after};
+ghost use Rattle.dt_report.specs.Report.{report_text};
+ghost use Rattle.dt_world.specs.Reported.{report_of};
+ghost use Rattle.detock.specs.Words.{spelled};
+ghost use Rattle.detock.specs.Headline.{Headline, file_limit, unnumbered};
+ghost use Rattle.detock.specs.Refusals.{IsRefusal, IsStepRefusal, refusal_of};
+
+use crate::loading::{load_events, load_workload};
+use crate::status::{EventsCause, Status};
+use crate::words::replay_words;
+use dt_cluster::{Cluster, builtin};
+use dt_events::Event;
+use dt_outside::Folder;
+use dt_plain::PlainSched;
+use dt_report::print;
+use dt_text::NoMemory;
+use dt_workload::Workload;
+use dt_world::{StepError, World};
+use std::alloc::Global;
+
+/// The text of the report that the words ask for, or why there is none.
+pub fn report<F: Folder>(alloc: Global, words: &[String], files: &mut F) -> Result<Vec<u8>, Status>
+    ensures done { IfOk result (λ text. Headline (F.told files.old) (spelled words.now) (λ report. text.items ≡ report)) }
+    ensures refused { (status : _) → result ≡ Err status →
+        IsRefusal (F.told files.old) (spelled words.now) (F.faults files.old) (F.faults files.new) status }
+    ensures same_told { F.told files.new ≡ F.told files.old }
+    ensures later { F.faults files.old ≤ F.faults files.new }
+{
+    let Some(replay) = replay_words(words) else {
+        return Err(Status::NotBuilt);
+    };
+    let cluster = builtin(alloc, replay.regions)?;
+    let workload = load_workload(alloc, files, replay.workload, replay.regions)?;
+    let events = load_events(alloc, files, replay.events)?;
+    report_of(alloc, &cluster, &workload, events)
+}
+
+/// The text of the report of these events, if each is legal after those before it.
+fn report_of(
+    alloc: Global,
+    cluster: &Cluster,
+    workload: &Workload,
+    events: Vec<(u32, Event)>,
+) -> Result<Vec<u8>, Status>
+    requires cluster { IsValidCluster cluster.now }
+    requires workload { IsValidWorkload cluster.now workload.now }
+    requires few { length events.items ≤ file_limit }
+    ensures legal { IfOk result (λ _. AreLegal cluster.now workload.now (unnumbered events.items)) }
+    ensures report { IfOk result (λ text. text.items ≡ report_text (report_of cluster.now workload.now (unnumbered events.items))) }
+    ensures refused { (status : _) → result ≡ Err status → IsStepRefusal cluster.now workload.now events.items status }
+{
+    let world = world_after(alloc, cluster, workload, events.as_slice())?;
+    let report = world.report(alloc, without_numbers(alloc, events)?)?;
+    Ok(print(alloc, &report)?)
+}
+
+/// The world after these events, if each is legal after those before it.
+fn world_after(
+    alloc: Global,
+    cluster: &Cluster,
+    workload: &Workload,
+    events: &[(u32, Event)],
+) -> Result<World<PlainSched>, Status>
+    requires cluster { IsValidCluster cluster.now }
+    requires workload { IsValidWorkload cluster.now workload.now }
+    requires few { length events.now ≤ file_limit }
+    ensures legal { IfOk result (λ _. AreLegal cluster.now workload.now (unnumbered events.now)) }
+    ensures cluster { IfOk result (λ world. world.cluster ≡ cluster.now) }
+    ensures workload { IfOk result (λ world. world.workload ≡ workload.now) }
+    ensures state { IfOk result (λ world. world.state ≡ world_after cluster.now workload.now (unnumbered events.now)) }
+    ensures refused { (status : _) → result ≡ Err status → IsStepRefusal cluster.now workload.now events.now status }
+{
+    let mut world = World::begin(alloc, cluster, workload)?;
+    for (line, event) in events {
+        if let Err(error) = world.step(alloc, event) {
+            return Err(refusal(*line, error));
+        }
+    }
+    Ok(world)
+}
+
+/// What is answered where the event of a line was not made.
+fn refusal(line: u32, error: StepError) -> Status
+    ensures { result ≡ refusal_of line error }
+{
+    match error {
+        StepError::Illegal(rule) => Status::BadEvents(line, EventsCause::Rule(rule)),
+        StepError::NoMemory => Status::NoMemory,
+    }
+}
+
+/// The events without the numbers of their lines.
+fn without_numbers(alloc: Global, events: Vec<(u32, Event)>) -> Result<Vec<Event>, NoMemory>
+    ensures { IfOk result (λ all. all.items ≡ unnumbered events.items) }
+{
+    Ok(events.into_iter().map(|(_, event)| event).collect(alloc)?)
+}

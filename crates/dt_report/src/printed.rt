@@ -1,0 +1,77 @@
+ghost use Rattle.std.specs.Prelude.{◌≡◌, ◌++◌, IfOk, OnOk};
+ghost use Rattle.dt_report.specs.Report.{events_text, order_text, replies_text, report_text, table_text, tables_text};
+
+use crate::lines::{put_ran, put_reply, put_row};
+use crate::report::{Ran, Reply, Report};
+use crate::words::put_number;
+use dt_events::{Event, put_event};
+use dt_table::{Shown, ShownList};
+use dt_text::NoMemory;
+use std::alloc::Global;
+
+/// The text of a report, in sections of lines, each ended by the byte 0x0A.
+///
+/// First `replies` and a line for each answer, then `order` and a line for each executed attempt, then for each region its
+/// number and a line for each row that it shows, and at last `events` and a line for each event. The only error is want of
+/// memory.
+pub fn print(alloc: Global, report: &Report) -> Result<Vec<u8>, NoMemory>
+    ensures { IfOk result (λ text. text.items ≡ report_text report.now) }
+{
+    let mut text = Vec::new(alloc);
+    put_replies(alloc, &mut text, report.replies.as_slice())?;
+    put_order(alloc, &mut text, report.order.as_slice())?;
+    put_tables(alloc, &mut text, report.tables.as_slice())?;
+    put_events(alloc, &mut text, report.events.as_slice())?;
+    Ok(text)
+}
+
+fn put_replies(alloc: Global, out: &mut Vec<u8>, replies: &[Reply]) -> Result<(), NoMemory>
+    ensures { OnOk result (out.new.items ≡ out.old.items ++ replies_text replies.now) }
+{
+    out.extend_from_slice(b"replies\n")?;
+    for reply in replies {
+        put_reply(alloc, out, reply)?;
+    }
+    Ok(())
+}
+
+fn put_order(alloc: Global, out: &mut Vec<u8>, order: &[Ran]) -> Result<(), NoMemory>
+    ensures { OnOk result (out.new.items ≡ out.old.items ++ order_text order.now) }
+{
+    out.extend_from_slice(b"order\n")?;
+    for ran in order {
+        put_ran(alloc, out, ran)?;
+    }
+    Ok(())
+}
+
+fn put_tables(alloc: Global, out: &mut Vec<u8>, tables: &[ShownList]) -> Result<(), NoMemory>
+    ensures { OnOk result (out.new.items ≡ out.old.items ++ tables_text 0 tables.now) }
+{
+    for (region, rows) in tables.iter().enumerate() {
+        put_table(alloc, out, region as u64, rows.as_slice())?;
+    }
+    Ok(())
+}
+
+fn put_table(alloc: Global, out: &mut Vec<u8>, region: u64, rows: &[Shown]) -> Result<(), NoMemory>
+    ensures { OnOk result (out.new.items ≡ out.old.items ++ table_text region rows.now) }
+{
+    out.extend_from_slice(b"table")?;
+    put_number(alloc, out, region)?;
+    out.push(b'\n')?;
+    for row in rows {
+        put_row(alloc, out, row)?;
+    }
+    Ok(())
+}
+
+fn put_events(alloc: Global, out: &mut Vec<u8>, events: &[Event]) -> Result<(), NoMemory>
+    ensures { OnOk result (out.new.items ≡ out.old.items ++ events_text events.now) }
+{
+    out.extend_from_slice(b"events\n")?;
+    for event in events {
+        put_event(alloc, out, event)?;
+    }
+    Ok(())
+}

@@ -1,0 +1,54 @@
+ghost use Rattle.std.specs.Prelude.{◌≡◌, IfOk};
+
+use crate::workload::{Session, Wanted, Workload};
+use dt_access::TryCopy;
+use dt_text::NoMemory;
+use std::alloc::Global;
+
+impl Wanted {
+    /// An equal call or move.
+    pub fn copy(&self, alloc: Global) -> Result<Self, NoMemory>
+        ensures { IfOk result (λ copied. copied ≡ self.now) }
+    {
+        match self {
+            Wanted::Call(proc, args) => Ok(Wanted::Call(*proc, args.copy(alloc)?)),
+            Wanted::Move(key, target) => Ok(Wanted::Move(key.copy(alloc)?, *target)),
+        }
+    }
+}
+
+impl TryCopy for Wanted {
+    fn copy(&self, alloc: Global) -> Result<Self, NoMemory> {
+        Wanted::copy(self, alloc)
+    }
+}
+
+impl Session {
+    /// An equal session.
+    pub fn copy(&self, alloc: Global) -> Result<Self, NoMemory>
+        ensures { IfOk result (λ copied. copied ≡ self.now) }
+    {
+        Ok(Session {
+            name: self.name.copy(alloc)?,
+            region: self.region,
+            calls: self.calls.copy(alloc)?,
+        })
+    }
+}
+
+impl TryCopy for Session {
+    fn copy(&self, alloc: Global) -> Result<Self, NoMemory> {
+        Session::copy(self, alloc)
+    }
+}
+
+impl Workload {
+    /// An equal workload.
+    pub fn copy(&self, alloc: Global) -> Result<Self, NoMemory>
+        ensures { IfOk result (λ copied. copied ≡ self.now) }
+    {
+        Ok(Workload {
+            sessions: self.sessions.copy(alloc)?,
+        })
+    }
+}
