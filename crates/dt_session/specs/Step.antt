@@ -8,6 +8,7 @@ use Rattle.dt_txn.specs.declared.Txn.{Txn}
 use Rattle.dt_txn.specs.declared.Outcome.{Outcome}
 use Rattle.dt_txn.specs.declared.outcome.Outcome.TheVariants.{Gave, Aborted, Stale}
 use Rattle.dt_txn.specs.Transaction.{annotate, homes_of, part_of}
+pub use Rattle.dt_txn.specs.Asking.{ask}
 use Rattle.dt_txn.specs.Replica.{MayStep, stepped}
 use Rattle.dt_cluster.specs.declared.Cluster.{Cluster}
 use Rattle.dt_workload.specs.declared.Workload.{Workload}
@@ -113,11 +114,6 @@ submission_for w region session place call = record {
   call = place.answered + 1;
   attempt = next_attempt w place.waits;
 }
-
--- the asked lists after each of these homes is asked to place an id
-abbrev pub ask : List ℕ → TxnId → List (List TxnId) → List (List TxnId)
-ask [] id asked = asked
-ask (home ∷ homes) id asked = ask homes id (set asked home (get_or asked home [] ++ id ∷ []))
 
 -- the region after it submitted an attempt: each home of it is asked for its part
 abbrev pub node_submitted : Node → Submission → Node

@@ -1,4 +1,5 @@
 pub mod Transaction
+pub mod Asking
 pub mod Execution
 pub mod Serial
 pub mod Replica

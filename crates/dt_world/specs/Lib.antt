@@ -1,6 +1,12 @@
 pub mod Reported
 pub mod Kept
 pub mod Codes
+pub mod Seated
+pub mod SeatedCode
+pub mod Posted
+pub mod PostedCode
+pub mod Sited
+pub mod Lawful
 pub use Rattle.dt_session.specs.World
 pub use Rattle.dt_session.specs.Step
 pub use Rattle.dt_session.specs.Run

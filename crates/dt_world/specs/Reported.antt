@@ -1,5 +1,6 @@
 -- What a report says of the events of a cluster and its workload.
-use Rattle.std.specs.Prelude.{◌≡◌, ◌<◌, ◌+◌, ℕ, zero, suc, List, [], ◌∷◌, ◌++◌, map, filter_map, Option, Some, None, option_map, option_and_then, option_to_list}
+use Rattle.std.specs.Prelude.{◌≡◌, ◌<◌, ◌+◌, ℕ, List, [], ◌∷◌, ◌++◌, map, filter_map, Option, Some, None, option_map, option_and_then, option_to_list}
+use Rattle.std.specs.List.{range_with_len}
 use Rattle.dt_lists.specs.Lists.{Has}
 use Rattle.dt_access.specs.declared.TxnId.{TxnId}
 use Rattle.dt_events.specs.declared.Event.{Event}
@@ -56,14 +57,9 @@ ran_of cluster workload events id =
 abbrev pub rans_of : Cluster → Workload → List Event → List Ran
 rans_of cluster workload events = filter_map (ran_of cluster workload events) (order_of events)
 
--- the numbers below n, in order
-abbrev pub numbers_below : ℕ → List ℕ
-numbers_below zero = []
-numbers_below (suc n) = numbers_below n ++ n ∷ []
-
 -- for each region, what is shown of the table of running, in the serial order, what it executed
 abbrev pub tables_of : Cluster → Workload → List Event → List (List Shown)
-tables_of cluster workload events = map (λ region. shown (region_table cluster workload events region)) (numbers_below cluster.regions)
+tables_of cluster workload events = map (λ region. shown (region_table cluster workload events region)) (range_with_len 0 cluster.regions)
 
 -- the report of these events
 abbrev pub report_of : Cluster → Workload → List Event → Report

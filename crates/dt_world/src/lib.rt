@@ -2,6 +2,10 @@
 //! reports what they came to.
 #![tactic(auto)]
 
+mod rules;
+mod seats;
+mod site;
+mod sites;
 mod world;
 
 pub use world::{StepError, World};

@@ -8,6 +8,8 @@ ghost use Rattle.dt_session.specs.Step.{IsLegal, next, rule_of};
 ghost use Rattle.dt_session.specs.Run.{AreLegal, world_after};
 ghost use Rattle.dt_world.specs.Reported.{report_of, IsOutcomeOf, IsReplyOf};
 
+use crate::seats::Seats;
+use crate::sites::Sites;
 use dt_cluster::Cluster;
 use dt_events::Event;
 use dt_report::Report;
@@ -15,7 +17,7 @@ use dt_sched::Scheduler;
 use dt_text::NoMemory;
 use dt_workload::Workload;
 use std::alloc::Global;
-use std::marker::{Model, PhantomData};
+use std::marker::Model;
 
 /// Why an event was not made.
 #[derive(Clone, Copy, Debug, PartialEq, Eq)]
@@ -26,19 +28,30 @@ pub enum StepError {
     NoMemory,
 }
 
+impl From<NoMemory> for StepError {
+    ghost use Rattle.std.specs.Prelude.{◌≡◌};
+    ghost use Rattle.dt_world.specs.declared.world.StepError.TheVariants.{NoMemory};
+
+    ghost from_gives = { λ _ e. e ≡ NoMemory };
+
+    fn from(_error: NoMemory) -> Self {
+        StepError::NoMemory
+    }
+}
+
 /// All regions and all sessions of a cluster and its workload.
 ///
 /// Contracts see the cluster and the workload, as `state` the state of all regions and sessions, and as `steps` how many
 /// events were made.
 #[derive(Drop)]
 pub struct World<S: Scheduler + Drop> {
-    cluster: Cluster,
-    workload: Workload,
-    scheduler: PhantomData<S>,
+    pub(crate) cluster: Cluster,
+    pub(crate) seats: Seats,
+    pub(crate) sites: Sites<S>,
+    pub(crate) steps: u32,
 }
 
 impl<S: Scheduler + Drop> Model for World<S> {
-    ghost use Rattle.dt_session.specs.World.{opening_world};
     ghost use Rattle.dt_world.specs.Kept.{Kept};
     ghost use Rattle.dt_world.specs.Codes.{kept_code};
 
@@ -46,7 +59,12 @@ impl<S: Scheduler + Drop> Model for World<S> {
 
     ghost coded = { kept_code };
 
-    ghost view = { λ w. record { cluster = w.cluster; workload = w.workload; state = opening_world w.cluster w.workload; steps = 0 } };
+    ghost use Rattle.dt_world.specs.Posted.{world_of};
+    ghost use Rattle.dt_world.specs.Lawful.{AreLawful};
+
+    ghost view = { λ w. record { cluster = w.cluster; workload = w.seats.workload; state = world_of w.sites w.seats.places; steps = w.steps } };
+
+    ghost invariant = { λ w. AreLawful w.cluster w.seats w.sites w.steps };
 }
 
 impl<S: Scheduler + Drop> World<S> {
@@ -54,17 +72,14 @@ impl<S: Scheduler + Drop> World<S> {
     pub fn begin(alloc: Global, cluster: &Cluster, workload: &Workload) -> Result<Self, NoMemory>
         requires cluster { IsValidCluster cluster.now }
         requires workload { IsValidWorkload cluster.now workload.now }
-        ensures { IfOk result (λ world. world ≡ record {
-          cluster = cluster.now;
-          workload = workload.now;
-          state = opening_world cluster.now workload.now;
-          steps = 0;
-        }) }
+        ensures { IfOk result (λ world. world ≡ record { cluster = cluster.now; workload = workload.now;
+            state = opening_world cluster.now workload.now; steps = 0 }) }
     {
         Ok(World {
             cluster: cluster.copy(alloc)?,
-            workload: workload.copy(alloc)?,
-            scheduler: PhantomData,
+            seats: Seats::new(alloc, workload.copy(alloc)?)?,
+            sites: Sites::new(alloc, cluster)?,
+            steps: 0,
         })
     }
 
@@ -73,16 +88,31 @@ impl<S: Scheduler + Drop> World<S> {
         requires { self.old.steps < 4294967295 }
         ensures legal { IsOk result → IsLegal self.old.cluster self.old.workload self.old.state event.now }
         ensures next { OnOk result (self.new ≡ record self.old {
-          state = next self.old.workload self.old.state event.now;
-          steps = self.old.steps + 1;
-        }) }
+            state = next self.old.workload self.old.state event.now; steps = self.old.steps + 1 }) }
         ensures same { OnErr result (self.new ≡ self.old) }
 
         // An event is refused by its own rule, and only where it is not legal.
         ensures refused { (rule : ℕ) → result ≡ Err (StepError.Illegal rule) →
             (rule ≡ rule_of event.now) × (¬ (IsLegal self.old.cluster self.old.workload self.old.state event.now)) }
     {
-        Err(StepError::NoMemory)
+        match event {
+            Event::Submit { region, session } => self.submit(alloc, *region, session),
+            Event::Append {
+                home,
+                source,
+                number,
+            } => self.append(alloc, *home, *source, *number),
+            Event::Deliver {
+                region,
+                home,
+                first,
+                last,
+            } => self.deliver(alloc, *region, *home, *first, *last),
+            Event::Insert { region, home } => self.insert(alloc, *region, *home),
+            Event::Resolve { region, ids } => self.resolve(alloc, *region, ids.as_slice()),
+            Event::Execute { region, id } => self.execute(alloc, *region, *id),
+            Event::Answer { region, session } => self.answer(*region, session),
+        }
     }
 
     /// The report of the events that led to this world, from its opening on.

@@ -1,0 +1,15 @@
+pub mod Ids
+pub mod Find
+pub mod Tables
+pub mod Asked
+pub mod Holds
+pub mod Logs
+pub mod Beginning
+pub mod Submitting
+pub mod Appending
+pub mod Delivering
+pub mod Stepping
+pub mod Kept
+pub mod Order
+pub mod Matching
+pub mod Trying

@@ -1,0 +1,124 @@
+-- Logs and their inserted fronts: what they come to while logs grow and parts are inserted.
+use Rattle.std.proofs.Common.{◌≡◌, ◌<◌, ◌≤◌, ◌+◌, ◌*◌, ◌^◌, ℕ, zero, suc, List, [], ◌∷◌, ◌++◌, length, set, get_or, take, replicate, slice_get, Some, None, refl, sym, ap, ap₂, subst, ◌∙◌, inl, inr, arith}
+use Rattle.std.specs.Prelude.{slice_index, sum_by}
+use Rattle.std.proofs.lemmas.List.{take-append-le}
+use Rattle.std.proofs.lemmas.List.Sums.{sum_by-append, sum_by-set}
+use Rattle.dt_lists.specs.Lists.{AllIn, Has, Distinct}
+use Rattle.dt_lists.proofs.Words.{all_get, has_map}
+use Rattle.dt_lists.proofs.Places.{has_place}
+use Rattle.dt_access.specs.declared.Part.{Part}
+use Rattle.dt_access.specs.declared.TxnId.{TxnId}
+use Rattle.dt_sched.specs.Views.{View, log_at, ids_of, HasPart}
+use Rattle.dt_sched.specs.Sched.{parts_in, with_part}
+use Rattle.dt_txn.specs.Replica.{fronts}
+
+-- before anything happens
+
+pub log_none : (regions home : ℕ) → ◌≡◌ {A = List Part} (log_at (replicate regions []) home) []
+log_none zero home = refl
+log_none (suc regions) zero = refl
+log_none (suc regions) (suc home) = log_none regions home
+
+pub number_none : (regions home : ℕ) → slice_index (replicate regions 0) home ≡ 0
+number_none zero home = refl
+number_none (suc regions) zero = refl
+number_none (suc regions) (suc home) = number_none regions home
+
+parts_cons : (log : List Part) (logs : View) → parts_in (log ∷ logs) ≡ length log + parts_in logs
+parts_cons log logs = let e : parts_in (log ∷ logs) ≡ 0 + length log + parts_in logs = sum_by-append length (log ∷ []) logs in omega (arith, e)
+
+pub parts_none : (regions : ℕ) → parts_in (replicate regions []) ≡ 0
+parts_none zero = refl
+parts_none (suc regions) = let later = parts_none regions in rw (parts_cons [] (replicate regions [])) (omega (arith, later))
+
+pub fronts_none : (regions : ℕ) → fronts (replicate regions 0) (replicate regions []) ≡ replicate regions []
+fronts_none zero = refl
+fronts_none (suc regions) = ap (λ (l : View). [] ∷ l) (fronts_none regions)
+
+-- fronts
+
+pub fronts_length : (lengths : List ℕ) (logs : View) → length (fronts lengths logs) ≡ length logs
+fronts_length lengths [] = refl
+fronts_length [] (log ∷ logs) = ap suc (fronts_length [] logs)
+fronts_length (n ∷ lengths) (log ∷ logs) = ap suc (fronts_length lengths logs)
+
+pub fronts_at : (lengths : List ℕ) (logs : View) (home : ℕ) → log_at (fronts lengths logs) home ≡ take (slice_index lengths home) (log_at logs home)
+fronts_at lengths [] home = take_none (slice_index lengths home)
+  where
+    take_none : (n : ℕ) → ◌≡◌ {A = List Part} [] (take n [])
+    take_none zero = refl
+    take_none (suc n) = refl
+fronts_at [] (log ∷ logs) zero = refl
+fronts_at [] (log ∷ logs) (suc home) = fronts_at [] logs home
+fronts_at (n ∷ lengths) (log ∷ logs) zero = refl
+fronts_at (n ∷ lengths) (log ∷ logs) (suc home) = fronts_at lengths logs home
+
+-- a log that goes on past its front leaves the front
+pub fronts_grown : (lengths : List ℕ) (logs : View) (home : ℕ) (rest : List Part) → slice_index lengths home ≤ length (log_at logs home) → fronts lengths (set logs home (log_at logs home ++ rest)) ≡ fronts lengths logs
+fronts_grown lengths [] home rest le = refl
+fronts_grown [] (log ∷ logs) zero rest le = refl
+fronts_grown [] (log ∷ logs) (suc home) rest le = ap (λ (l : View). [] ∷ l) (fronts_grown [] logs home rest le)
+fronts_grown (n ∷ lengths) (log ∷ logs) zero rest le = ap (λ l. l ∷ fronts lengths logs) (take-append-le n log rest le)
+fronts_grown (n ∷ lengths) (log ∷ logs) (suc home) rest le = ap (λ l. take n log ∷ l) (fronts_grown lengths logs home rest le)
+
+take_next : (log : List Part) (n : ℕ) (part : Part) → slice_get log n ≡ Some part → take (suc n) log ≡ take n log ++ part ∷ []
+take_next [] n part e = cc
+take_next (p ∷ log) zero part e = ap (λ x. x ∷ []) (cc)
+take_next (p ∷ log) (suc n) part e = ap (λ l. p ∷ l) (take_next log n part e)
+
+one_more : (n : ℕ) → n + 1 ≡ suc n
+one_more n = omega arith
+
+-- a front that is one part longer
+fronts_next : (lengths : List ℕ) (logs : View) (home : ℕ) (part : Part) → home < length lengths → slice_get (log_at logs home) (slice_index lengths home) ≡ Some part →
+    fronts (set lengths home (slice_index lengths home + 1)) logs ≡ set (fronts lengths logs) home (log_at (fronts lengths logs) home ++ part ∷ [])
+fronts_next lengths [] home part lt e = cc
+fronts_next [] (log ∷ logs) home part lt e = absurd (omega arith)
+fronts_next (n ∷ lengths) (log ∷ logs) zero part lt e = ap (λ l. l ∷ fronts lengths logs) (ap (λ k. take k log) (one_more n) ∙ take_next log n part e)
+fronts_next (n ∷ lengths) (log ∷ logs) (suc home) part lt e = ap (λ l. take n log ∷ l) (fronts_next lengths logs home part (omega arith) e)
+
+pub fronts_insert : (lengths : List ℕ) (logs : View) (home : ℕ) (part : Part) → home < length lengths → slice_get (log_at logs home) (slice_index lengths home) ≡ Some part → part.home ≡ home →
+    fronts (set lengths home (slice_index lengths home + 1)) logs ≡ with_part (fronts lengths logs) part
+fronts_insert lengths logs home part lt e at =
+    fronts_next lengths logs home part lt e ∙ ap (λ h. set (fronts lengths logs) h (log_at (fronts lengths logs) h ++ part ∷ [])) (sym at)
+
+-- how many parts there are
+
+take_few : (log : List Part) (n : ℕ) → length (take n log) ≤ length log
+take_few [] zero = omega arith
+take_few [] (suc n) = omega arith
+take_few (p ∷ log) zero = omega arith
+take_few (p ∷ log) (suc n) = let later = take_few log n in omega (arith, later)
+
+pub fronts_few : (lengths : List ℕ) (logs : View) → parts_in (fronts lengths logs) ≤ parts_in logs
+fronts_few lengths [] = omega arith
+fronts_few [] (log ∷ logs) = let later = fronts_few [] logs in rw (parts_cons [] (fronts [] logs), parts_cons log logs) (omega (arith, later))
+fronts_few (n ∷ lengths) (log ∷ logs) = let first = take_few log n in let later = fronts_few lengths logs in rw (parts_cons (take n log) (fronts lengths logs), parts_cons log logs) (omega (arith, first, later))
+
+pub length_more : (log : List Part) (part : Part) → length (log ++ part ∷ []) ≡ length log + 1
+length_more [] part = refl
+length_more (p ∷ log) part = ap suc (length_more log part) ∙ omega arith
+
+pub parts_with : (logs : View) (part : Part) → part.home < length logs → parts_in (with_part logs part) ≡ parts_in logs + 1
+parts_with logs part lt =
+    let e = sum_by-set length logs part.home (log_at logs part.home ++ part ∷ []) [] lt in
+    let f = length_more (log_at logs part.home) part in
+    omega (arith, e, f)
+
+-- one log has no more than all together
+pub log_few : (logs : View) (home : ℕ) → length (log_at logs home) ≤ parts_in logs
+log_few [] home = omega arith
+log_few (log ∷ logs) zero = rw (parts_cons log logs) (omega arith)
+log_few (log ∷ logs) (suc home) = let later = log_few logs home in rw (parts_cons log logs) (omega (arith, later))
+
+-- the next part of a log in which every id stands once is not among those before it
+pub next_fresh : (log : List Part) (n : ℕ) (part : Part) → slice_get log n ≡ Some part → Distinct (ids_of log) → ¬ (HasPart (take n log) part.id)
+next_fresh [] n part e d h = cc
+next_fresh (p ∷ log) zero part e d h = absurd h
+next_fresh (p ∷ log) (suc n) part e d (inl same) = all_get _ (ids_of log) d.0 part.id (has_map (λ (q : Part). q.id) log part (has_place log n part e)) same
+next_fresh (p ∷ log) (suc n) part e d (inr later) = next_fresh log n part e d.1 later
+
+-- what all logs have, each place among all homes has
+pub all_logs : (P : List Part → Type 0) (logs : View) → ((home : ℕ) → P (log_at logs home)) → AllIn P logs
+all_logs P [] all = tt
+all_logs P (log ∷ logs) all = (all zero, all_logs P logs (λ home. all (suc home)))

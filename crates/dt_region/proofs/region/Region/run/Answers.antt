@@ -1,0 +1,9 @@
+use Rattle.std.proofs.Common.{sym}
+use Rattle.dt_region.proofs.Matching.{can_run, execute_valid}
+use Rattle.dt_region.proofs.region.Region.run.Goals as goal
+
+pub execute-requires-clause-body : goal.execute-requires-clause-body
+execute-requires-clause-body g c = can_run _ _ (execute_valid _ _ c.self.view_is c.self.invariant.0 c.args.id c.in-Some.txn.now (sym c.in-Some.ensures)).body
+
+pub execute-requires-clause-uses : goal.execute-requires-clause-uses
+execute-requires-clause-uses g c = (execute_valid _ _ c.self.view_is c.self.invariant.0 c.args.id c.in-Some.txn.now (sym c.in-Some.ensures)).uses

@@ -1,0 +1,57 @@
+use Rattle.std.specs.Prelude.{◌≡◌, ◌≢◌, ◌<◌, ◌≤◌, ◌^◌, ℕ, List, map, length, set, Some}
+use Rattle.dt_lists.specs.Lists.{AllIn, Has, Distinct}
+use Rattle.dt_access.specs.Clash.{Bytes}
+use Rattle.dt_access.specs.declared.Part.{Part}
+use Rattle.dt_log.specs.Logs.{AgreeOnOverlap}
+use Rattle.dt_sched.specs.Views.{View, HasPart, ids_of, log_at}
+use Rattle.dt_sched.specs.Sched.{parts_in, with_part}
+use Rattle.dt_table.specs.Table.{Table, moves_of}
+use Rattle.dt_txn.specs.declared.txn.Txn.{Txn}
+use Rattle.dt_txn.specs.declared.txn.Entry.{Entry}
+use Rattle.dt_txn.specs.Transaction.{homes_of, part_of, IsValid}
+use Rattle.dt_region.specs.State.{State, held}
+use Rattle.dt_region.specs.Rules.{taken_from, with_entries}
+
+-- a table is one for so many regions: the homes that are listed for keys are regions, and keys were moved to regions
+pub record IsTableFor (regions : ℕ) (table : Table) : Type 0 where
+  pub sized : table.regions ≡ regions
+  pub homes : AllIn (λ listed. listed.1 < regions) table.homes
+  pub moves : (key : Bytes) → AllIn (λ moved. moved.target < regions) (moves_of table key)
+
+-- the part is that of the transaction at a home, which is one of its homes
+abbrev pub IsPartAt : Txn → ℕ → Part → Type 0
+IsPartAt txn home part = Has (homes_of txn) home × (part ≡ part_of txn home)
+
+-- a transaction agrees with a region
+pub record Agrees (s : State) (txn : Txn) : Type 0 where
+  -- its homes are regions
+  pub homes : AllIn (λ home. home < s.regions) (homes_of txn)
+  -- it is the held transaction of its id, if there is one
+  pub same : (other : Txn) → held s txn.id ≡ Some other → other ≡ txn
+  -- if its id is of this region, the region submitted it
+  pub own : txn.id.region ≡ s.number → Has s.submitted txn
+
+-- the parts of all logs together are counted by 32 bits
+abbrev pub AreFew : View → Type 0
+AreFew logs = parts_in logs < 2 ^ 32
+
+-- a region may be given this transaction as request `number` of a region
+pub record CanAppend (s : State) (source number : ℕ) (txn : Txn) : Type 0 where
+  pub home : Has (homes_of txn) s.number
+  pub agrees : Agrees s txn
+  pub valid : IsValid s.regions txn
+  -- where it is the next request, its id isn't in the region's log, which has a place left for it
+  pub fresh : number ≡ taken_from s source → ¬ (HasPart (log_at s.logs s.number) txn.id)
+  pub few : number ≡ taken_from s source → AreFew (with_part s.logs (part_of txn s.number))
+
+-- a region may be given these entries of a home's log, from place `first` on
+pub record CanDeliver (s : State) (home first : ℕ) (entries : List Entry) : Type 0 where
+  pub other : home ≢ s.number
+  -- entries that it has already are the same
+  pub overlap : AgreeOnOverlap (log_at s.logs home) first (map (λ e. e.part) entries)
+  pub parts : AllIn (λ e. IsPartAt e.txn home e.part) entries
+  pub agree : AllIn (λ e. Agrees s e.txn) entries
+  pub valid : AllIn (λ e. IsValid s.regions e.txn) entries
+  -- unless there is a gap: in the log that results no id stands twice, and it has places for all
+  pub distinct : first ≤ length (log_at s.logs home) → Distinct (ids_of (with_entries (log_at s.logs home) first entries))
+  pub few : first ≤ length (log_at s.logs home) → AreFew (set s.logs home (with_entries (log_at s.logs home) first entries))

@@ -1,0 +1,48 @@
+use Rattle.std.specs.Prelude.{ℕ, List, [], ◌∷◌, ◌++◌, Option, Some, None, if◌then◌else◌}
+use Rattle.std.specs.Map.{lookup}
+use Rattle.dt_access.specs.Ids.{same_id}
+use Rattle.dt_access.specs.declared.TxnId.{TxnId}
+use Rattle.dt_sched.specs.Views.{View}
+use Rattle.dt_sched.specs.Sched.{Sched}
+use Rattle.dt_txn.specs.declared.txn.Txn.{Txn}
+use Rattle.dt_txn.specs.declared.outcome.Outcome.{Outcome}
+use Rattle.dt_txn.specs.Replica.{Replica, done_ids, view_of}
+
+-- all that one region holds
+pub record State : Type 0 where
+  -- its number, and how many regions there are
+  pub number : ℕ
+  pub regions : ℕ
+  -- the transactions that it submitted, in order
+  pub submitted : List Txn
+  -- the transactions of other regions that it got with requests and deliveries, in the order in which they came
+  pub foreign : List Txn
+  -- of each home, the ids that it asked it to place, in order
+  pub asked : List (List TxnId)
+  -- of each region, how many of that region's requests it has placed in its log
+  pub taken : List ℕ
+  -- the log of each home as far as it received it; its own log whole
+  pub logs : View
+  -- what it made of the logs
+  pub here : Replica
+
+-- a region, as contracts see it
+pub record Kept : Type 0 where
+  pub state : State
+
+-- the transaction of an id among these, if there is one
+abbrev pub find_txn : List Txn → TxnId → Option Txn
+find_txn [] id = None
+find_txn (txn ∷ txns) id = if same_id txn.id id then Some txn else find_txn txns id
+
+-- the transaction of an id that a region holds, if it holds one: it submitted it, or got it from another region
+abbrev pub held : State → TxnId → Option Txn
+held s id = find_txn (s.submitted ++ s.foreign) id
+
+-- the outcome of an id that a region executed, if it did
+abbrev pub outcome_of : State → TxnId → Option Outcome
+outcome_of s id = lookup (same_id id) s.here.done
+
+-- what the scheduler of a region is seen as: what the region inserted of these logs, resolved and has done
+abbrev pub sched_of : View → Replica → Sched
+sched_of logs here = record { logs = view_of logs here; resolved = here.resolved; done = done_ids here }

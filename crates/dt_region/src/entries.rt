@@ -1,0 +1,64 @@
+ghost use Rattle.std.specs.Prelude.{◌≡◌, ◌+◌, ◌-◌, ◌<◌, ◌≤◌, ◌^◌, drop, length, map, set, vec_len, IfOk, OnOk, OnErr};
+ghost use Rattle.dt_log.specs.Logs.{AgreeOnOverlap, Takes};
+ghost use Rattle.dt_sched.specs.Views.{log_at};
+ghost use Rattle.dt_sched.specs.Sched.{with_part};
+ghost use Rattle.dt_region.specs.Holding.{keep_others};
+
+use crate::foreign::Foreign;
+use dt_access::Part;
+use dt_log::{Log, Taken};
+use dt_text::NoMemory;
+use dt_txn::{Entry, Txn};
+use std::alloc::Global;
+
+/// The parts and the transactions of entries, each in the entries' order.
+pub fn parts_and_txns(alloc: Global, entries: Vec<Entry>) -> Result<(Vec<Part>, Vec<Txn>), NoMemory>
+    ensures parts { IfOk result (λ both. both.0.items ≡ map (λ e. e.part) entries.items) }
+    ensures txns { IfOk result (λ both. both.1.items ≡ map (λ e. e.txn) entries.items) }
+{
+    let mut parts = Vec::with_capacity(alloc, entries.len())?;
+    let mut txns = Vec::with_capacity(alloc, entries.len())?;
+    for entry in entries {
+        let Entry { part, txn } = entry;
+        parts.push(part)?;
+        txns.push(txn)?;
+    }
+    Ok((parts, txns))
+}
+
+/// Places a part at the end of its home's log; after `NoMemory` the logs are as before.
+pub fn place(logs: &mut Vec<Log>, part: Part) -> Result<(), NoMemory>
+    requires home { part.home < vec_len logs.old }
+    requires room { length (log_at logs.old.items part.home) + 1 < 2 ^ 32 }
+    ensures ok { OnOk result (logs.new.items ≡ with_part logs.old.items part) }
+    ensures err { OnErr result (logs.new.items ≡ logs.old.items) }
+{
+    let log = &mut logs[part.home as usize];
+    log.push(part)
+}
+
+/// Takes a delivery into a home's log, as `Log::take`; the other logs stay.
+pub fn take(logs: &mut Vec<Log>, home: u8, first: u32, parts: Vec<Part>) -> Result<Taken, NoMemory>
+    requires home { home < vec_len logs.old }
+    requires overlap { AgreeOnOverlap (log_at logs.old.items home) first parts.items }
+    requires place { first ≤ length (log_at logs.old.items home) → first + vec_len parts < 2 ^ 32 }
+    ensures takes { Takes (log_at logs.old.items home) first parts.items result (log_at logs.new.items home) }
+    ensures others { logs.new.items ≡ set logs.old.items home (log_at logs.new.items home) }
+{
+    let log = &mut logs[home as usize];
+    log.take(first, parts)
+}
+
+/// Of some transactions keeps the last `count` that are of other regions than `number`, unless there is one of their id.
+/// Takes no memory where there is room.
+pub fn keep_last(number: u8, foreign: &mut Foreign, mut txns: Vec<Txn>, count: usize)
+    requires count { count ≤ vec_len txns }
+    requires room { vec_len txns ≤ foreign.old.spare }
+    ensures { foreign.new.txns ≡ keep_others number foreign.old.txns (drop (vec_len txns - count) txns.items) }
+{
+    let first = txns.len() - count;
+    txns.drain(..first);
+    for txn in txns {
+        foreign.keep(number, txn);
+    }
+}

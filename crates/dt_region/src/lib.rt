@@ -1,0 +1,12 @@
+//! One region: what it submitted and holds, the logs as far as it received them, and what it made of them.
+#![tactic(auto)]
+
+mod ascent;
+mod asking;
+mod entries;
+mod execution;
+mod foreign;
+mod opening;
+mod region;
+
+pub use region::Region;

@@ -1,0 +1,7 @@
+use Rattle.std.specs.Prelude.{ℕ, List, [], ◌∷◌, ◌++◌, get_or, set}
+use Rattle.dt_access.specs.declared.TxnId.{TxnId}
+
+-- the asked lists after each of these homes is asked to place an id
+abbrev pub ask : List ℕ → TxnId → List (List TxnId) → List (List TxnId)
+ask [] id asked = asked
+ask (home ∷ homes) id asked = ask homes id (set asked home (get_or asked home [] ++ id ∷ []))

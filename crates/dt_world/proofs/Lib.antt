@@ -1,0 +1,13 @@
+pub mod Seating
+pub mod Listing
+pub mod Bounds
+pub mod Opened
+pub mod OneSite
+pub mod Standing
+pub mod Stepping
+pub mod Posting
+pub mod Waiting
+pub mod Placing
+pub mod Receiving
+pub mod Turns
+pub mod Begun
