@@ -1,6 +1,5 @@
 -- A file of the first form is one workload, which is valid.
-use Rattle.std.proofs.Common.{◌≡◌, ◌≢◌, ℕ, suc, ◌+◌, ◌<◌, ◌≤◌, ◌^◌, true, List, [], ◌∷◌, ◌++◌, length, get_or, codes, map, ℤ, pos, negsuc, w64, FitsSigned, refl, ap, sym, ◌∙◌, subst, arith, append_assoc}
-use Rattle.std.specs.List.{flat_map, list_all}
+use Rattle.std.proofs.Common.{◌≡◌, ◌≢◌, ℕ, suc, ◌<◌, ◌^◌, List, [], ◌∷◌, ◌++◌, get_or, codes, ℤ, pos, negsuc, w64, FitsSigned, refl, ap, sym, ◌∙◌, subst, arith, append_assoc}
 use Rattle.std.specs.Fmt.{decimal, signed_decimal}
 use Rattle.std.proofs.lemmas.Fmt.{decimal_injective}
 use Rattle.dt_lists.specs.Lists.{AllIn}
@@ -8,16 +7,14 @@ use Rattle.dt_lists.proofs.Words.{all_map}
 use Rattle.dt_text.specs.Texts.{IsKey, IsName, is_key_byte, is_name_byte}
 use Rattle.dt_text.proofs.Numerals.{no_minus}
 use Rattle.dt_text.specs.declared.Value.TheVariants.{Int, Text}
-use Rattle.dt_cluster.specs.declared.Cluster.{Cluster}
 use Rattle.dt_workload.specs.declared.workload.Wanted.{Wanted}
-use Rattle.dt_workload.specs.declared.workload.Wanted.TheVariants.{Call, Move}
+use Rattle.dt_workload.specs.declared.workload.Wanted.TheVariants.{Call}
 use Rattle.dt_workload.specs.declared.workload.Session.{Session}
-use Rattle.dt_workload.specs.declared.workload.Workload.{Workload}
-use Rattle.dt_workload.specs.FirstForm.{head_line, put_line, call_line, IsPut, calls_text, sessions_text, IsFirstSession, IsFirstForm}
-use Rattle.dt_workload.specs.Fields.{IsFree, with_fields, BeginsNoCall, BeginsNoSession}
+use Rattle.dt_workload.specs.FirstForm.{head_line, put_line, call_line, IsPut, calls_text, sessions_text, IsFirstSession}
+use Rattle.dt_workload.specs.Fields.{IsFree, with_fields, BeginsNoCall}
 use Rattle.dt_workload.specs.Laws.{FilesAreOneWorkload, FirstFormsAreValid}
-use Rattle.dt_workload.specs.Valid.{WantedFits, IsValidSession, IsValidWorkload}
-use Rattle.dt_workload.proofs.Cuts.{head-is, tail-is, free_allowed, free_decimal, free_signed, same_fields, same_rest}
+use Rattle.dt_workload.specs.Valid.{WantedFits, IsValidSession}
+use Rattle.dt_workload.proofs.Cuts.{head-is, tail-is, free_allowed, free_decimal, free_signed, same_fields}
 
 -- ---- the two kinds of lines have two fields
 

@@ -7,7 +7,7 @@ use Rattle.dt_lists.specs.Lists.{AllIn, Distinct}
 use Rattle.dt_text.specs.Texts.{IsKey, IsName}
 use Rattle.dt_text.specs.declared.Value.TheVariants.{Int, Text}
 use Rattle.dt_workload.specs.declared.workload.Wanted.{Wanted}
-use Rattle.dt_workload.specs.declared.workload.Wanted.TheVariants.{Call, Move}
+use Rattle.dt_workload.specs.declared.workload.Wanted.TheVariants.{Call}
 use Rattle.dt_workload.specs.declared.workload.Session.{Session}
 use Rattle.dt_workload.specs.declared.workload.Workload.{Workload}
 

@@ -1,7 +1,6 @@
 -- The world before anything happens.
-use Rattle.std.proofs.Common.{◌≡◌, ◌<◌, ◌+◌, ℕ, zero, suc, List, [], ◌∷◌, length, map, get_or, set, replicate, Some, refl, sym, ap, ap₂, subst, ◌∙◌, arith}
+use Rattle.std.proofs.Common.{◌≡◌, ◌<◌, ◌+◌, ℕ, zero, suc, List, [], ◌∷◌, length, map, get_or, set, replicate, refl, sym, ap, ap₂, subst, ◌∙◌, arith}
 use Rattle.std.specs.List.{range_with_len}
-use Rattle.std.proofs.lemmas.List.{length-map}
 use Rattle.std.proofs.lemmas.List.FromFn.{get_or-map-range_with_len, length-map-range_with_len}
 use Rattle.dt_lists.specs.Lists.{AllIn}
 use Rattle.dt_access.specs.declared.Part.{Part}
@@ -14,8 +13,7 @@ use Rattle.dt_cluster.specs.declared.Cluster.{Cluster}
 use Rattle.dt_cluster.specs.Valid.{IsValidCluster}
 use Rattle.dt_workload.specs.declared.Workload.{Workload}
 use Rattle.dt_workload.specs.Valid.{IsValidWorkload}
-use Rattle.dt_session.specs.World.{World, Node, logs_of, opening_node, opening_table, opening_world, received_logs}
-use Rattle.dt_world.specs.Kept.{Kept}
+use Rattle.dt_session.specs.World.{Node, opening_node, opening_table, opening_world, received_logs}
 use Rattle.dt_world.specs.Seated.{Seated, all_idle}
 use Rattle.dt_world.specs.Posted.{Posted, no_post, node_of, opening_post, opening_posts, world_of}
 use Rattle.dt_world.specs.Sited.{post_at}
@@ -82,6 +80,7 @@ begun_lawful cluster workload valid fits sound = record {
 pub begun_from : (c cluster : Cluster) (workload now : Workload) (seated : Seated) (posts : List Posted) → c ≡ cluster → workload ≡ now → IsValidCluster cluster → IsValidWorkload cluster now → seated ≡ all_idle workload → posts ≡ opening_posts cluster → AllIn (λ (post : Posted). IsSoundRegion post.state) posts
     → AreLawful c seated posts 0 × (kept_of c seated posts 0 ≡ record { cluster = cluster; workload = now; state = opening_world cluster now; steps = 0 })
 begun_from c cluster workload now seated posts ec ew valid fits es ep sound =
-    let seats : seated ≡ all_idle now = es ∙ ap all_idle ew in
-    (subst (λ x. AreLawful x seated posts 0) (sym ec) (subst (λ x. AreLawful cluster x posts 0) (sym seats) (subst (λ x. AreLawful cluster (all_idle now) x 0) (sym ep) (begun_lawful cluster now valid fits (subst (AllIn (λ (post : Posted). IsSoundRegion post.state)) ep sound)))),
-    ap (λ x. kept_of x seated posts 0) ec ∙ ap (λ x. kept_of cluster x posts 0) seats ∙ ap (λ x. kept_of cluster (all_idle now) x 0) ep ∙ ap (λ w. record { cluster = cluster; workload = now; state = w; steps = 0 }) (begun cluster now))
+    let seats : seated ≡ all_idle now = es ∙ ap all_idle ew in (
+      subst (λ x. AreLawful x seated posts 0) (sym ec) (subst (λ x. AreLawful cluster x posts 0) (sym seats) (subst (λ x. AreLawful cluster (all_idle now) x 0) (sym ep) (begun_lawful cluster now valid fits (subst (AllIn (λ (post : Posted). IsSoundRegion post.state)) ep sound)))),
+      ap (λ x. kept_of x seated posts 0) ec ∙ ap (λ x. kept_of cluster x posts 0) seats ∙ ap (λ x. kept_of cluster (all_idle now) x 0) ep ∙ ap (λ w. record { cluster = cluster; workload = now; state = w; steps = 0 }) (begun cluster now),
+    )

@@ -1,6 +1,6 @@
 -- No list of a legal world is longer than the events that led to it.
-use Rattle.std.proofs.Common.{◌≡◌, ◌<◌, ◌≤◌, ◌+◌, ◌⊎◌, ℕ, zero, suc, Bool, true, false, cond, ltb, leb, ◌&&◌, List, [], ◌∷◌, ◌++◌, length, map, get_or, set, replicate, Some, None, refl, sym, ap, subst, ◌∙◌, inl, inr, arith}
-use Rattle.std.specs.Prelude.{Option, sum_by}
+use Rattle.std.proofs.Common.{◌≡◌, ◌<◌, ◌≤◌, ◌+◌, ◌⊎◌, ℕ, zero, suc, Bool, true, false, cond, ltb, leb, ◌&&◌, List, [], ◌∷◌, ◌++◌, length, map, get_or, set, replicate, Some, None, refl, sym, subst, inl, inr, arith}
+use Rattle.std.specs.Prelude.{Option}
 use Rattle.std.proofs.lemmas.Bool.{cases_Bool}
 use Rattle.std.proofs.lemmas.List.{length_push, get_or-set_same, get_or-set_other}
 use Rattle.std.proofs.lemmas.Option.{some_pair_parts}
@@ -10,7 +10,6 @@ use Rattle.dt_lists.proofs.Decided.{either_nat}
 use Rattle.dt_lists.proofs.Places.{from_right, field_of_set, map_of_set}
 use Rattle.dt_access.specs.Clash.{Bytes}
 use Rattle.dt_access.specs.declared.TxnId.{TxnId}
-use Rattle.dt_sched.specs.Views.{View, log_at}
 use Rattle.dt_sched.specs.Sched.{parts_in}
 use Rattle.dt_events.specs.declared.Event.{Event}
 use Rattle.dt_events.specs.declared.Event.TheVariants.{Submit, Append, Deliver, Insert, Resolve, Execute, Answer}
@@ -21,7 +20,7 @@ use Rattle.dt_workload.specs.declared.Session.{Session}
 use Rattle.dt_workload.specs.declared.Workload.{Workload}
 use Rattle.dt_workload.specs.Valid.{IsValidWorkload}
 use Rattle.dt_session.specs.World.{World, Node, Place, idle_place, is_session, no_node, node_at, opening_node, opening_table, opening_world, logs_of, received_of, session_at, txn_of, with_place}
-use Rattle.dt_session.specs.Step.{IsLegal, MayAnswer, answered, moved_on, next, node_submitted, placed, received, submission_for, submitted, world_submitted}
+use Rattle.dt_session.specs.Step.{IsLegal, MayAnswer, answered, next, node_submitted, placed, received, submission_for}
 use Rattle.dt_session.specs.Run.{AreLegal, order_of, world_after}
 use Rattle.dt_laws.specs.Invariant.{Inv}
 use Rattle.dt_laws.proofs.Appending.{append_cases, logs_placed}

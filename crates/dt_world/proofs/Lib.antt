@@ -11,3 +11,7 @@ pub mod Placing
 pub mod Receiving
 pub mod Turns
 pub mod Begun
+pub mod Growing
+pub mod Executed
+pub mod Followed
+pub mod Reporting

@@ -1,19 +1,18 @@
 -- Lists of logs, of transactions and of attempts, with one more item or with one of them changed.
-use Rattle.std.proofs.Common.{◌≡◌, ◌≢◌, ◌<◌, ◌≤◌, ◌+◌, ◌⊎◌, ℕ, zero, suc, Bool, true, false, cond, List, [], ◌∷◌, ◌++◌, length, map, get_or, set, take, slice_get, Some, None, refl, sym, ap, subst, ◌∙◌, inl, inr, append_assoc, arith}
-use Rattle.std.specs.Prelude.{Option, sum_by, is_some}
+use Rattle.std.proofs.Common.{◌≡◌, ◌≢◌, ◌<◌, ◌≤◌, ◌+◌, ◌⊎◌, ℕ, zero, suc, Bool, true, false, cond, List, [], ◌∷◌, ◌++◌, length, get_or, set, take, slice_get, Some, refl, sym, ap, subst, ◌∙◌, inl, inr, append_assoc, arith}
+use Rattle.std.specs.Prelude.{is_some}
 use Rattle.std.proofs.lemmas.Bool.{cases_Bool}
 use Rattle.std.proofs.lemmas.List.{length_push, length-take}
 use Rattle.std.proofs.lemmas.List.Sums.{sum_by-cons}
-use Rattle.dt_lists.specs.Lists.{AllIn, Has}
+use Rattle.dt_lists.specs.Lists.{Has}
 use Rattle.dt_access.specs.Ids.{same_id}
-use Rattle.dt_access.specs.Clash.{Bytes}
 use Rattle.dt_access.specs.declared.TxnId.{TxnId}
 use Rattle.dt_access.specs.declared.Part.{Part}
 use Rattle.dt_sched.specs.Views.{View, log_at}
 use Rattle.dt_sched.specs.Sched.{parts_in}
 use Rattle.dt_txn.specs.declared.Txn.{Txn}
 use Rattle.dt_txn.specs.Replica.{fronts}
-use Rattle.dt_region.specs.State.{State, find_txn, held}
+use Rattle.dt_region.specs.State.{find_txn}
 use Rattle.dt_region.specs.Rules.{keep, keep_all}
 use Rattle.dt_session.specs.World.{Submission}
 use Rattle.dt_laws.proofs.Ids.{id_of_test, test_of_id}
@@ -79,7 +78,7 @@ find_more (x ∷ xs) ys t id u e = go (cases_Bool (same_id x.id id)) (find_more 
   where
     go : (same_id x.id id ≡ true) ⊎ (same_id x.id id ≡ false) → (find_txn (xs ++ t ∷ ys) id ≡ Some u → (find_txn (xs ++ ys) id ≡ Some u) ⊎ ((t ≡ u) × (t.id ≡ id))) → (find_txn (x ∷ xs ++ ys) id ≡ Some u) ⊎ ((t ≡ u) × (t.id ≡ id))
     go (inl y) f = let is : Some x ≡ Some u = rw y at e in inl (rw y is)
-    go (inr n) f = elim (f (rw n at e)) [ | inl h ↦ inl (rw n h) | inr h ↦ inr h ]
+    go (inr n) f = elim (f (rw n at e)) [ inl h ↦ inl (rw n h) | inr h ↦ inr h ]
 
 append_nil : {A : Type 0} (xs : List A) → xs ++ [] ≡ xs
 append_nil [] = refl
@@ -96,7 +95,7 @@ held_more submitted foreign t id u e = go (is_some (find_txn (submitted ++ forei
 pub held_all : (submitted foreign txns : List Txn) (id : TxnId) (u : Txn) → find_txn (submitted ++ keep_all submitted foreign txns) id ≡ Some u → (find_txn (submitted ++ foreign) id ≡ Some u) ⊎ (Has txns u × (u.id ≡ id))
 held_all submitted foreign [] id u e = inl e
 held_all submitted foreign (t ∷ txns) id u e = elim (held_all submitted (keep submitted foreign t) txns id u e) [
-  | inl h ↦ elim (held_more submitted foreign t id u h) [ | inl o ↦ inl o | inr s ↦ inr (inl s.0, ap (λ x. x.id) (sym s.0) ∙ s.1) ]
+  | inl h ↦ elim (held_more submitted foreign t id u h) [ inl o ↦ inl o | inr s ↦ inr (inl s.0, ap (λ x. x.id) (sym s.0) ∙ s.1) ]
   | inr h ↦ inr (inr h.0, h.1)
 ]
 

@@ -3,9 +3,8 @@ use Rattle.std.proofs.Common.{◌≡◌, ◌<◌, ◌+◌, ℕ, List, [], ◌∷
 use Rattle.std.specs.List.{range_with_len}
 use Rattle.std.proofs.lemmas.List.FromFn.{map-range_with_len_more}
 use Rattle.dt_lists.specs.Lists.{AllIn}
-use Rattle.dt_access.specs.Clash.{Bytes}
 use Rattle.dt_region.specs.Conditions.{IsTableFor}
-use Rattle.dt_table.specs.Table.{Table, Moved, moves_of}
+use Rattle.dt_table.specs.Table.{Table}
 use Rattle.dt_cluster.specs.declared.Cluster.{Cluster}
 use Rattle.dt_cluster.specs.Valid.{IsValidCluster}
 use Rattle.dt_session.specs.World.{opening_table}

@@ -1,42 +1,40 @@
 -- A request that a home places.
-use Rattle.std.proofs.Common.{◌≡◌, ◌≢◌, ◌<◌, ◌≤◌, ◌+◌, ℕ, Bool, true, false, cond, eqb, List, [], ◌∷◌, ◌++◌, length, map, get_or, set, take, slice_get, Ok, Some, None, refl, sym, ap, ap₂, subst, subst₂, ◌∙◌, inl, inr, arith}
-use Rattle.std.specs.Prelude.{Option, Result, slice_index, option_and_then}
-use Rattle.std.proofs.lemmas.Bool.{cases_Bool, false_from_ne_true}
-use Rattle.std.proofs.lemmas.List.{length_push, length-map, length-set, map-set, map_push, get_or-set_same, get_or-set_other, set-get_or}
+use Rattle.std.proofs.Common.{◌≡◌, ◌≢◌, ◌<◌, ◌≤◌, ◌+◌, ℕ, Bool, true, false, cond, eqb, List, [], ◌∷◌, ◌++◌, length, map, get_or, set, take, slice_get, Ok, Some, refl, sym, ap, ap₂, subst, subst₂, ◌∙◌, inl, inr, arith}
+use Rattle.std.specs.Prelude.{slice_index, option_and_then}
+use Rattle.std.proofs.lemmas.Bool.{false_from_ne_true}
+use Rattle.std.proofs.lemmas.List.{map-set, map_push, get_or-set_same, get_or-set_other, set-get_or}
 use Rattle.std.proofs.Math.Seq.{take-length}
-use Rattle.std.proofs.lemmas.Option.{slice_get-get_or}
-use Rattle.dt_lists.specs.Lists.{AnyIn, AllIn, Has, Distinct}
+use Rattle.dt_lists.specs.Lists.{AllIn, Has, Distinct}
 use Rattle.dt_lists.proofs.Words.{each_across, any_image}
 use Rattle.dt_lists.proofs.Places.{has_place}
 use Rattle.dt_access.specs.declared.TxnId.{TxnId}
 use Rattle.dt_access.specs.declared.Part.{Part}
-use Rattle.dt_sched.specs.Views.{View, HasPart, IsWellFormed, ids_of, log_at}
+use Rattle.dt_sched.specs.Views.{HasPart, IsWellFormed, ids_of, log_at}
 use Rattle.dt_sched.specs.Sched.{parts_in, with_part}
 use Rattle.dt_events.specs.declared.Event.TheVariants.{Append}
 use Rattle.dt_txn.specs.declared.Txn.{Txn}
 use Rattle.dt_txn.specs.Transaction.{homes_of, part_of, IsValid}
 use Rattle.dt_txn.specs.Replica.{fronts}
-use Rattle.dt_region.specs.State.{State, held, find_txn}
+use Rattle.dt_region.specs.State.{held}
 use Rattle.dt_region.specs.Rules.{after_append, taken_from as taken_here}
 use Rattle.dt_region.specs.Conditions.{CanAppend}
 use Rattle.dt_region.specs.Sound.{IsSoundRegion}
 use Rattle.dt_cluster.specs.declared.Cluster.{Cluster}
-use Rattle.dt_session.specs.World.{World, Node, asked_of, log_of, logs_of, no_node, node_at, received_lengths, received_logs, received_of, taken_from, txn_of}
+use Rattle.dt_session.specs.World.{Node, asked_of, log_of, logs_of, no_node, node_at, received_lengths, received_logs, received_of, taken_from, txn_of}
 use Rattle.dt_session.specs.Step.{IsLegal, next, placed}
-use Rattle.dt_laws.specs.Invariant.{Inv}
 use Rattle.dt_laws.proofs.Appending.{IsRequest, request_is, logs_placed, placed_well_formed}
 use Rattle.dt_laws.proofs.Facts.{received_within, transaction_valid}
 use Rattle.dt_laws.proofs.Submissions.{txn_id}
 use Rattle.dt_laws.proofs.Ids.{equal_of_test, test_of_equal}
 use Rattle.dt_laws.proofs.Views.{fronts_grown, log_is, logs_length}
 use Rattle.dt_world.specs.Seated.{Seated}
-use Rattle.dt_world.specs.Posted.{Posted, attempts, in_state, node_of, world_of}
+use Rattle.dt_world.specs.Posted.{Posted, in_state, node_of, world_of}
 use Rattle.dt_world.specs.Sited.{AppendsAt, post_at, with_state}
 use Rattle.dt_world.specs.Lawful.{AreLawful, StandsIn}
 use Rattle.dt_world.proofs.Bounds.{IsShort, legal_short}
 use Rattle.dt_world.proofs.Listing.{attempts_have, find_some, fronts_set, held_more, parts_fronts, parts_set, set_again}
-use Rattle.dt_world.proofs.Standing.{inv, many_posts, node_is, one_changes, order, reached_more, stands_still, txns_stay_known}
-use Rattle.dt_world.proofs.Stepping.{IsMade, kept_of, still_made}
+use Rattle.dt_world.proofs.Standing.{inv, node_is, one_changes, order, txns_stay_known}
+use Rattle.dt_world.proofs.Stepping.{IsMade, still_made}
 
 module _ (cluster : Cluster) (seated : Seated) (posts : List Posted) (steps : ℕ) (k : AreLawful cluster seated posts steps) where
   -- the lists of the world are short
@@ -119,7 +117,7 @@ module _ (cluster : Cluster) (seated : Seated) (posts : List Posted) (steps : �
         received_new : received_logs (placed (world_of posts seated.places) home source (Some txn)) home ≡ set (post_at posts home).state.logs home (log_at (logs_of (world_of posts seated.places)) home ++ part_of txn home ∷ [])
         received_new =
             let node_new : node_at (placed (world_of posts seated.places) home source (Some txn)) home ≡ record (node_at (world_of posts seated.places) home) { log = log_of (world_of posts seated.places) home ++ part_of txn home ∷ []; taken = set (node_at (world_of posts seated.places) home).taken source (taken_from (world_of posts seated.places) home source + 1) } =
-                get_or-set_same (map node_of posts) home _ no_node (subst (λ n. home < n) (sym (inv cluster seated posts steps k).nodes) lh) in
+            get_or-set_same (map node_of posts) home _ no_node (subst (λ n. home < n) (sym (inv cluster seated posts steps k).nodes) lh) in
             let log_there : log_of (placed (world_of posts seated.places) home source (Some txn)) home ≡ log_at (logs_of (world_of posts seated.places)) home ++ part_of txn home ∷ [] = ap (λ n. n.log) node_new ∙ ap (λ l. l ++ part_of txn home ∷ []) (sym (log_is (world_of posts seated.places) home)) in
             let lengths_there : (node_at (placed (world_of posts seated.places) home source (Some txn)) home).received ≡ (node_at (world_of posts seated.places) home).received = ap (λ n. n.received) node_new in
             ap₂ (λ a b. fronts (set a home (length b)) (logs_of (placed (world_of posts seated.places) home source (Some txn)))) lengths_there log_there
@@ -128,9 +126,9 @@ module _ (cluster : Cluster) (seated : Seated) (posts : List Posted) (steps : �
             ∙ ap (set (fronts (node_at (world_of posts seated.places) home).received (logs_of (world_of posts seated.places))) home) (take-length (log_at (logs_of (world_of posts seated.places)) home ++ part_of txn home ∷ []))
             ∙ sym (set_again (fronts (node_at (world_of posts seated.places) home).received (logs_of (world_of posts seated.places))) home (take (length (log_of (world_of posts seated.places) home)) (log_at (logs_of (world_of posts seated.places)) home)) (log_at (logs_of (world_of posts seated.places)) home ++ part_of txn home ∷ []))
             ∙ ap (λ l. set l home (log_at (logs_of (world_of posts seated.places)) home ++ part_of txn home ∷ []))
-              (sym ((k.stands home lh).logs
-              ∙ ap (fronts (set (node_at (world_of posts seated.places) home).received home (length (log_of (world_of posts seated.places) home)))) (sym (set-get_or (logs_of (world_of posts seated.places)) home []))
-              ∙ fronts_set (node_at (world_of posts seated.places) home).received (logs_of (world_of posts seated.places)) home (length (log_of (world_of posts seated.places) home)) (log_at (logs_of (world_of posts seated.places)) home) lengths_fit))
+            (sym ((k.stands home lh).logs
+            ∙ ap (fronts (set (node_at (world_of posts seated.places) home).received home (length (log_of (world_of posts seated.places) home)))) (sym (set-get_or (logs_of (world_of posts seated.places)) home []))
+            ∙ fronts_set (node_at (world_of posts seated.places) home).received (logs_of (world_of posts seated.places)) home (length (log_of (world_of posts seated.places) home)) (log_at (logs_of (world_of posts seated.places)) home) lengths_fit))
 
         logs_of_home : with_part (post_at posts home).state.logs (part_of txn (post_at posts home).state.number) ≡ received_logs (placed (world_of posts seated.places) home source (Some txn)) home
         logs_of_home =
@@ -150,7 +148,7 @@ module _ (cluster : Cluster) (seated : Seated) (posts : List Posted) (steps : �
         fresh h =
             let formed : IsWellFormed (logs_of (placed (world_of posts seated.places) home source (Some txn))) = placed_well_formed cluster seated.workload (world_of posts seated.places) (order cluster seated posts steps k) home source lh ls (inv cluster seated posts steps k) txn next_one request_here found_here in
             let log_there : log_at (logs_of (placed (world_of posts seated.places) home source (Some txn))) home ≡ log_at (logs_of (world_of posts seated.places)) home ++ part_of txn home ∷ [] =
-                ap (λ l. log_at l home) logs_now ∙ get_or-set_same (logs_of (world_of posts seated.places)) home (log_at (logs_of (world_of posts seated.places)) home ++ part_of txn home ∷ []) [] (subst (λ n. home < n) (sym (logs_length (world_of posts seated.places) ∙ (inv cluster seated posts steps k).nodes)) lh) in
+            ap (λ l. log_at l home) logs_now ∙ get_or-set_same (logs_of (world_of posts seated.places)) home (log_at (logs_of (world_of posts seated.places)) home ++ part_of txn home ∷ []) [] (subst (λ n. home < n) (sym (logs_length (world_of posts seated.places) ∙ (inv cluster seated posts steps k).nodes)) lh) in
             let once : Distinct (ids_of (log_at (logs_of (world_of posts seated.places)) home) ++ txn.id ∷ []) = subst Distinct (map_push (λ p. p.id) (log_at (logs_of (world_of posts seated.places)) home) (part_of txn home)) (subst (λ l. Distinct (ids_of l)) log_there (formed.once home)) in
             let old : HasPart (log_at (logs_of (world_of posts seated.places)) home) txn.id = subst (λ l. HasPart l txn.id) (ap (log_at (post_at posts home).state.logs) (k.stands home lh).number ∙ own) h in
             each_across (λ a b. ¬ (a ≡ b)) (ids_of (log_at (logs_of (world_of posts seated.places)) home)) (txn.id ∷ []) txn.id txn.id once (any_image (λ y. y ≡ txn.id) (λ p. p.id) (log_at (logs_of (world_of posts seated.places)) home) old) (inl refl) refl
@@ -165,11 +163,11 @@ module _ (cluster : Cluster) (seated : Seated) (posts : List Posted) (steps : �
         node_made =
             let number_is : (post_at posts home).state.number ≡ home = (k.stands home lh).number in
             let log_is_now : log_at (with_part (post_at posts home).state.logs (part_of txn (post_at posts home).state.number)) (post_at posts home).state.number ≡ log_at (post_at posts home).state.logs (post_at posts home).state.number ++ part_of txn home ∷ [] =
-                get_or-set_same (post_at posts home).state.logs (post_at posts home).state.number (log_at (post_at posts home).state.logs (post_at posts home).state.number ++ part_of txn (post_at posts home).state.number ∷ []) [] (subst (λ n. (post_at posts home).state.number < n) (sym (k.stands home lh).sound.logs) (k.stands home lh).sound.number)
-                ∙ ap (λ h. log_at (post_at posts home).state.logs (post_at posts home).state.number ++ part_of txn h ∷ []) number_is in
+            get_or-set_same (post_at posts home).state.logs (post_at posts home).state.number (log_at (post_at posts home).state.logs (post_at posts home).state.number ++ part_of txn (post_at posts home).state.number ∷ []) [] (subst (λ n. (post_at posts home).state.number < n) (sym (k.stands home lh).sound.logs) (k.stands home lh).sound.number)
+            ∙ ap (λ h. log_at (post_at posts home).state.logs (post_at posts home).state.number ++ part_of txn h ∷ []) number_is in
             let received_is : set (map length (with_part (post_at posts home).state.logs (part_of txn (post_at posts home).state.number))) (post_at posts home).state.number 0 ≡ set (map length (post_at posts home).state.logs) (post_at posts home).state.number 0 =
-                ap (λ l. set l (post_at posts home).state.number 0) (map-set length (post_at posts home).state.logs (post_at posts home).state.number (log_at (post_at posts home).state.logs (post_at posts home).state.number ++ part_of txn (post_at posts home).state.number ∷ []))
-                ∙ set_again (map length (post_at posts home).state.logs) (post_at posts home).state.number (length (log_at (post_at posts home).state.logs (post_at posts home).state.number ++ part_of txn (post_at posts home).state.number ∷ [])) 0 in
+            ap (λ l. set l (post_at posts home).state.number 0) (map-set length (post_at posts home).state.logs (post_at posts home).state.number (log_at (post_at posts home).state.logs (post_at posts home).state.number ++ part_of txn (post_at posts home).state.number ∷ []))
+            ∙ set_again (map length (post_at posts home).state.logs) (post_at posts home).state.number (length (log_at (post_at posts home).state.logs (post_at posts home).state.number ++ part_of txn (post_at posts home).state.number ∷ [])) 0 in
             ap₂ (λ (a : List Part) (b : List ℕ). record (node_of (post_at posts home)) { log = a; taken = set (post_at posts home).state.taken source (taken_here (post_at posts home).state source + 1); received = b }) log_is_now received_is
             ∙ ap (λ (n : Node). record n { log = n.log ++ part_of txn home ∷ []; taken = set n.taken source (slice_index n.taken source + 1) }) (sym (node_is cluster seated posts steps k home))
 

@@ -1,10 +1,10 @@
 -- The events of sessions: a submission and an answer.
-use Rattle.std.proofs.Common.{◌≡◌, ◌≢◌, ◌<◌, ◌≤◌, ◌+◌, ℕ, zero, suc, true, List, [], ◌∷◌, ◌++◌, length, map, get_or, set, slice_get, Some, None, refl, sym, ap, ap₂, subst, ◌∙◌, inl, inr, append_assoc, arith}
+use Rattle.std.proofs.Common.{◌≡◌, ◌<◌, ◌+◌, ℕ, List, [], ◌∷◌, length, map, set, slice_get, Some, None, refl, sym, ap, ap₂, subst, ◌∙◌, inl, inr, append_assoc}
 use Rattle.std.specs.Prelude.{Option, option_map}
 use Rattle.std.specs.List.{position}
 use Rattle.std.proofs.lemmas.List.{length_push, map-set, get_or-set_same}
 use Rattle.std.proofs.lemmas.List.Quantifiers.{position-Some}
-use Rattle.dt_lists.specs.Lists.{Has, Pairwise}
+use Rattle.dt_lists.specs.Lists.{Has}
 use Rattle.dt_lists.proofs.Places.{has_last}
 use Rattle.dt_access.specs.Clash.{Bytes}
 use Rattle.dt_access.specs.declared.TxnId.{TxnId}
@@ -12,27 +12,25 @@ use Rattle.dt_events.specs.declared.Event.TheVariants.{Submit, Answer}
 use Rattle.dt_txn.specs.declared.Body.{Body}
 use Rattle.dt_txn.specs.declared.Txn.{Txn}
 use Rattle.dt_txn.specs.Transaction.{annotate}
-use Rattle.dt_region.specs.State.{find_txn, held}
+use Rattle.dt_region.specs.State.{find_txn}
 use Rattle.dt_region.specs.Rules.{after_submit, next_id as next_here, submission_for as submission_here}
 use Rattle.dt_region.specs.Sound.{IsSoundRegion}
 use Rattle.dt_cluster.specs.declared.Cluster.{Cluster}
-use Rattle.dt_workload.specs.declared.Session.{Session}
 use Rattle.dt_workload.specs.declared.Wanted.{Wanted}
-use Rattle.dt_session.specs.World.{World, Node, Place, Submission, idle_place, is_session, no_node, node_at, received_logs, session_at, txn_of, with_place}
-use Rattle.dt_session.specs.Step.{IsLegal, MayAnswer, MayEnd, MaySubmit, MayTry, answered, body_of, called, next, next_attempt, next_id, node_submitted, submission_for, submitted, world_submitted}
-use Rattle.dt_laws.specs.Invariant.{Inv}
+use Rattle.dt_session.specs.World.{Submission, idle_place, is_session, no_node, node_at, received_logs, session_at, txn_of, with_place}
+use Rattle.dt_session.specs.Step.{IsLegal, MayAnswer, MaySubmit, answered, body_of, called, next, next_attempt, next_id, node_submitted, submission_for, submitted, world_submitted}
 use Rattle.dt_laws.proofs.Facts.{places_parallel, transaction_found}
 use Rattle.dt_laws.proofs.Keeping.{next_keeps}
 use Rattle.dt_laws.proofs.Runs.{ordered}
 use Rattle.dt_laws.proofs.Sessions.{session_of_test}
 use Rattle.dt_world.specs.declared.site.Origin.{Origin}
 use Rattle.dt_world.specs.Seated.{Seated, after_answer, after_wait, no_session, session_of, stand_of}
-use Rattle.dt_world.specs.Posted.{Posted, attempt, attempts, node_of, posted, world_of}
-use Rattle.dt_world.specs.Sited.{SubmitsAt, post_at}
+use Rattle.dt_world.specs.Posted.{Posted, attempt, node_of, posted, world_of}
+use Rattle.dt_world.specs.Sited.{post_at}
 use Rattle.dt_world.specs.Lawful.{AreLawful, IsReached, MayEndAt, MayTryAt, StandsIn}
 use Rattle.dt_world.proofs.Listing.{attempts_length, attempts_more, find_more}
 use Rattle.dt_world.proofs.Seating.{no_session_of_none, place_set, session_of_place}
-use Rattle.dt_world.proofs.Standing.{inv, many_posts, node_is, one_changes, order, reached_more, received_stay, stands_still, txns_stay_known}
+use Rattle.dt_world.proofs.Standing.{inv, node_is, one_changes, order, reached_more, received_stay, stands_still, txns_stay_known}
 use Rattle.dt_world.proofs.Stepping.{IsMade, kept_of}
 
 pub some_of_map : {A B : Type 0} (f : A → B) (o : Option A) (y : B) → option_map f o ≡ Some y → (x : A) × (o ≡ Some x) × (f x ≡ y)
@@ -164,11 +162,11 @@ module _ (cluster : Cluster) (seated : Seated) (posts : List Posted) (steps : �
         origins = length_push (post_at posts region).origins origin ∙ ap (λ n. n + 1) (k.stands region lr).origins ∙ sym (length_push (post_at posts region).state.submitted (submission_here (post_at posts region).state body));
         known = λ x u h. elim (find_more (post_at posts region).state.submitted (post_at posts region).state.foreign (submission_here (post_at posts region).state body) x u
             (subst (λ l. find_txn l x ≡ Some u) (append_assoc (post_at posts region).state.submitted (submission_here (post_at posts region).state body ∷ []) (post_at posts region).state.foreign) h)) [
-          | inl o ↦ txns_stay_known cluster seated posts steps k (Submit region name) submit_legal x u ((k.stands region lr).known x u o)
-          | inr e ↦ subst (λ y. txn_of (next seated.workload (world_of posts seated.places) (Submit region name)) y ≡ Some u) e.1
-              (subst (λ y. txn_of (next seated.workload (world_of posts seated.places) (Submit region name)) y.id ≡ Some u) (sym txn_is)
-              (new_found ∙ ap Some (sym txn_is ∙ e.0)))
-        ];
+              | inl o ↦ txns_stay_known cluster seated posts steps k (Submit region name) submit_legal x u ((k.stands region lr).known x u o)
+              | inr e ↦ subst (λ y. txn_of (next seated.workload (world_of posts seated.places) (Submit region name)) y ≡ Some u) e.1
+                  (subst (λ y. txn_of (next seated.workload (world_of posts seated.places) (Submit region name)) y.id ≡ Some u) (sym txn_is)
+                  (new_found ∙ ap Some (sym txn_is ∙ e.0)))
+            ];
       }
 
       pub submit_made : IsMade cluster seated posts steps (Submit region name) (after_wait seated i id) (set posts region (posted (post_at posts region) body origin))

@@ -1,47 +1,41 @@
 -- A delivery that a region takes.
-use Rattle.std.proofs.Common.{◌≡◌, ◌≢◌, ◌<◌, ◌≤◌, ◌+◌, ◌-◌, ◌⊎◌, ℕ, zero, suc, Bool, true, false, cond, ltb, leb, ◌&&◌, List, [], ◌∷◌, ◌++◌, length, map, get_or, set, take, drop, slice_get, Ok, Some, None, refl, sym, ap, ap₂, subst, subst₂, ◌∙◌, inl, inr, arith}
-use Rattle.std.specs.Prelude.{Option, Result, slice_index}
+use Rattle.std.proofs.Common.{◌≡◌, ◌≢◌, ◌<◌, ◌≤◌, ◌+◌, ◌-◌, ℕ, zero, suc, Bool, true, false, cond, ltb, leb, ◌&&◌, List, [], ◌∷◌, ◌++◌, length, map, set, take, drop, slice_get, Ok, Some, refl, sym, ap, ap₂, subst, ◌∙◌, inl, inr, arith}
 use Rattle.std.proofs.lemmas.Bool.Decides.{nat_tests}
 use Rattle.std.proofs.lemmas.List.{length-map, length-set, length-take-le, length-drop, map-set, map_push, take_more, get_or-set_same, get_or-set_other, set-get_or}
-use Rattle.dt_lists.specs.Lists.{AllIn, Distinct, Has, IsFront, Either}
-use Rattle.dt_lists.proofs.Decided.{either_nat}
+use Rattle.dt_lists.specs.Lists.{AllIn, Distinct, Has}
 use Rattle.std.proofs.lemmas.Option.{get_or_from_slice_get}
 use Rattle.dt_lists.proofs.Places.{map_of_set, place_within}
 use Rattle.dt_lists.proofs.Fronts.{any_front, each_front, front_map, front_take}
 use Rattle.dt_lists.proofs.Words.{all_get, all_image, all_map, all_put, has_map}
 use Rattle.dt_access.specs.declared.TxnId.{TxnId}
 use Rattle.dt_access.specs.declared.Part.{Part}
-use Rattle.dt_log.specs.Logs.{AgreeOnOverlap}
 use Rattle.dt_log.specs.declared.Taken.{Taken}
 use Rattle.dt_log.specs.declared.Taken.TheVariants.{New, Old, Gap}
-use Rattle.dt_text.specs.declared.NoMemory.{NoMemory}
-use Rattle.dt_sched.specs.Views.{View, ids_of, log_at}
+use Rattle.dt_sched.specs.Views.{ids_of, log_at}
 use Rattle.dt_sched.specs.Sched.{parts_in}
 use Rattle.dt_events.specs.declared.Event.TheVariants.{Deliver}
 use Rattle.dt_txn.specs.declared.Entry.{Entry}
 use Rattle.dt_txn.specs.declared.Txn.{Txn}
-use Rattle.dt_txn.specs.Transaction.{homes_of, part_of, IsValid}
+use Rattle.dt_txn.specs.Transaction.{homes_of, IsValid}
 use Rattle.dt_txn.specs.Replica.{fronts}
-use Rattle.dt_region.specs.State.{State, held, find_txn}
+use Rattle.dt_region.specs.State.{held}
 use Rattle.dt_region.specs.Rules.{after_deliver, past_end, with_entries}
-use Rattle.dt_region.specs.Conditions.{Agrees, CanDeliver, IsPartAt}
+use Rattle.dt_region.specs.Conditions.{CanDeliver, IsPartAt}
 use Rattle.dt_region.specs.Sound.{IsHeldPart, IsSoundRegion}
 use Rattle.dt_cluster.specs.declared.Cluster.{Cluster}
-use Rattle.dt_session.specs.World.{World, Node, Submission, log_of, logs_of, no_node, node_at, received_lengths, received_logs, received_of, submissions, txn_of}
+use Rattle.dt_session.specs.World.{Node, Submission, log_of, logs_of, no_node, node_at, received_lengths, received_logs, received_of, submissions, txn_of}
 use Rattle.dt_session.specs.Step.{IsLegal, next, received}
-use Rattle.dt_laws.specs.Invariant.{Inv}
 use Rattle.dt_laws.proofs.Facts.{log_distinct, received_within, transaction_valid}
 use Rattle.dt_laws.proofs.Submissions.{home_region, txn_there}
 use Rattle.dt_laws.proofs.Views.{log_is, received_log, received_own}
 use Rattle.dt_world.specs.Seated.{Seated}
-use Rattle.dt_world.specs.Posted.{Posted, attempts, in_state, node_of, world_of}
+use Rattle.dt_world.specs.Posted.{Posted, in_state, node_of, world_of}
 use Rattle.dt_world.specs.Sited.{DeliversAt, post_at, with_state}
 use Rattle.dt_world.specs.Lawful.{AreLawful, StandsIn}
-use Rattle.dt_world.proofs.Bounds.{IsShort}
-use Rattle.dt_world.proofs.Listing.{attempts_have, fronts_set, held_all, parts_fronts, set_again, set_apart}
+use Rattle.dt_world.proofs.Listing.{attempts_have, fronts_set, held_all, parts_fronts, set_apart}
 use Rattle.dt_world.proofs.Placing.{own_log, short}
 use Rattle.dt_world.proofs.Standing.{inv, node_is, one_changes, order, txns_stay_known}
-use Rattle.dt_world.proofs.Stepping.{IsMade, kept_of, still_made}
+use Rattle.dt_world.proofs.Stepping.{IsMade, still_made}
 
 -- a list up to one place, and from there to a later one
 
@@ -208,11 +202,11 @@ module _ (cluster : Cluster) (seated : Seated) (posts : List Posted) (steps : �
       unfolding p'
       node_made =
           let new_log : log_at (set (post_at posts region).state.logs home (with_entries (log_at (post_at posts region).state.logs home) (length (log_at (post_at posts region).state.logs home)) entries)) (post_at posts region).state.number ≡ log_at (post_at posts region).state.logs (post_at posts region).state.number =
-              get_or-set_other (post_at posts region).state.logs home (post_at posts region).state.number (with_entries (log_at (post_at posts region).state.logs home) (length (log_at (post_at posts region).state.logs home)) entries) [] (λ e. apart (sym e ∙ (k.stands region lr).number)) in
+          get_or-set_other (post_at posts region).state.logs home (post_at posts region).state.number (with_entries (log_at (post_at posts region).state.logs home) (length (log_at (post_at posts region).state.logs home)) entries) [] (λ e. apart (sym e ∙ (k.stands region lr).number)) in
           let new_received : set (map length (set (post_at posts region).state.logs home (with_entries (log_at (post_at posts region).state.logs home) (length (log_at (post_at posts region).state.logs home)) entries))) (post_at posts region).state.number 0 ≡ set (set (map length (post_at posts region).state.logs) (post_at posts region).state.number 0) home last =
-              ap (λ l. set (map length (set (post_at posts region).state.logs home l)) (post_at posts region).state.number 0) log_then
-              ∙ ap (λ l. set l (post_at posts region).state.number 0) (map-set length (post_at posts region).state.logs home (take last (log_of (world_of posts seated.places) home)) ∙ ap (set (map length (post_at posts region).state.logs) home) (length-take-le last (log_of (world_of posts seated.places) home) within_log))
-              ∙ set_apart (map length (post_at posts region).state.logs) home (post_at posts region).state.number last 0 (λ e. apart (e ∙ (k.stands region lr).number)) in
+          ap (λ l. set (map length (set (post_at posts region).state.logs home l)) (post_at posts region).state.number 0) log_then
+          ∙ ap (λ l. set l (post_at posts region).state.number 0) (map-set length (post_at posts region).state.logs home (take last (log_of (world_of posts seated.places) home)) ∙ ap (set (map length (post_at posts region).state.logs) home) (length-take-le last (log_of (world_of posts seated.places) home) within_log))
+          ∙ set_apart (map length (post_at posts region).state.logs) home (post_at posts region).state.number last 0 (λ e. apart (e ∙ (k.stands region lr).number)) in
           ap₂ (λ (a : List Part) (b : List ℕ). record (node_of (post_at posts region)) { log = a; received = b }) new_log new_received
           ∙ ap (λ (n : Node). record n { received = set n.received home last }) (sym (node_is cluster seated posts steps k region))
 

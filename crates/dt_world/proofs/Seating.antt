@@ -1,15 +1,13 @@
 -- Sessions and their places: the one of a name at a region is found by its place in the workload.
-use Rattle.std.proofs.Common.{◌≡◌, ◌≢◌, ◌<◌, ◌≤◌, ◌+◌, ◌⊎◌, ℕ, zero, suc, Bool, true, false, cond, ltb, eqb, ◌&&◌, not, List, [], ◌∷◌, ◌++◌, length, map, get_or, set, take, Some, None, refl, sym, ap, ap₂, subst, ◌∙◌, inl, inr, arith}
-use Rattle.std.specs.Prelude.{Option, option_map, nat_eq}
+use Rattle.std.proofs.Common.{◌≡◌, ◌≢◌, ◌<◌, ◌≤◌, ◌+◌, ◌⊎◌, ℕ, zero, suc, Bool, true, false, cond, ltb, List, [], ◌∷◌, ◌++◌, length, map, get_or, set, take, Some, None, refl, sym, ap, ap₂, subst, ◌∙◌, inl, inr, arith}
+use Rattle.std.specs.Prelude.{Option, option_map}
 use Rattle.std.specs.List.{position, position_or_len}
-use Rattle.std.specs.Cmp.Lexicographic.{pointwise}
 use Rattle.std.proofs.lemmas.Bool.{cases_Bool, false_from_ne_true}
 use Rattle.std.proofs.lemmas.Bool.Decides.{nat_tests}
 use Rattle.std.proofs.lemmas.List.{length-map, length-take, map-set, map_push, take-map, take_more, get_or_default}
 use Rattle.std.proofs.lemmas.Option.{slice_get-get_or, get_or_from_slice_get}
 use Rattle.std.specs.List.{list_any, slice_get}
 use Rattle.std.proofs.lemmas.List.Quantifiers.{position-Some}
-use Rattle.std.proofs.lemmas.List.Sums.{position_or_len_is}
 use Rattle.dt_lists.specs.Lists.{Distinct, Either, Has}
 use Rattle.dt_lists.proofs.Words.{any_get}
 use Rattle.dt_lists.proofs.Tests.{any_of_test}
@@ -24,7 +22,7 @@ use Rattle.dt_workload.specs.declared.Workload.{Workload}
 use Rattle.dt_session.specs.World.{Place, idle_place, is_session, session_at, with_place}
 use Rattle.dt_world.specs.declared.seats.Seat.{Seat}
 use Rattle.dt_world.specs.Seated.{Seated, after_wait, after_answer, place_of as place_of_seat}
-use Rattle.dt_laws.proofs.Ids.{equal_of_test, test_of_equal}
+use Rattle.dt_laws.proofs.Ids.{test_of_equal}
 use Rattle.dt_laws.proofs.Sessions.{key_of_test, test_of_key, session_of_test}
 
 -- the first place at which a test passes, by recursion
@@ -220,7 +218,7 @@ pub index_more : (sessions : List Session) (n : ℕ) (keys new : List Bytes) (na
 index_more sessions n keys new name d once lt same named is =
     let at : get_or (map (λ s. s.name) sessions) n d.name ≡ name = get_of_map (λ s. s.name) sessions n d ∙ sym named in
     let fresh : list_any (same_key name) keys ≡ false = subst (λ l. list_any (same_key name) l ≡ false) (sym (same ∙ sym (take-map (λ s. s.name) n sessions)))
-        (subst (λ x. list_any (same_key x) (take n (map (λ s. s.name) sessions)) ≡ false) at (name_new (map (λ s. s.name) sessions) n d.name once (subst (λ m. n < m) (sym (length-map sessions (λ s. s.name))) lt))) in
+    (subst (λ x. list_any (same_key x) (take n (map (λ s. s.name) sessions)) ≡ false) at (name_new (map (λ s. s.name) sessions) n d.name once (subst (λ m. n < m) (sym (length-map sessions (λ s. s.name))) lt))) in
     is ∙ rw fresh (ap₂ (λ l x. l ++ x ∷ []) same named ∙ sym (map_push (λ s. s.name) (take n sessions) (get_or sessions n d)) ∙ ap (map (λ s. s.name)) (sym (take_more sessions n d lt)))
 
 pub idle_more : (sessions : List Session) (n : ℕ) (seats : List Seat) (d : Session) → n < length sessions → map place_of_seat seats ≡ map (λ s. idle_place) (take n sessions)

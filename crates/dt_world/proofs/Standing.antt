@@ -1,28 +1,27 @@
 -- Regions that stand in a world: what follows, and what one of them changes.
-use Rattle.std.proofs.Common.{◌≡◌, ◌≢◌, ◌<◌, ◌+◌, ℕ, List, [], ◌∷◌, ◌++◌, length, map, get_or, set, Some, refl, sym, ap, ap₂, subst, subst₂, ◌∙◌, inl, inr, arith}
-use Rattle.std.proofs.lemmas.List.{length-map, length_push, length-set, map-set, get_or-set_same, get_or-set_other}
-use Rattle.dt_lists.specs.Lists.{AnyIn, Has, Either}
+use Rattle.std.proofs.Common.{◌≡◌, ◌≢◌, ◌<◌, ◌+◌, ℕ, List, [], ◌∷◌, ◌++◌, length, map, get_or, set, Some, refl, sym, ap, subst, ◌∙◌, inl, inr}
+use Rattle.std.proofs.lemmas.List.{length-map, length_push, map-set, get_or-set_same, get_or-set_other}
+use Rattle.dt_lists.specs.Lists.{Has, Either}
 use Rattle.dt_lists.proofs.Words.{any_at, all_any}
 use Rattle.dt_lists.proofs.Fronts.{any_front, front_take}
 use Rattle.dt_lists.proofs.Decided.{either_nat}
 use Rattle.dt_lists.proofs.Places.{field_of_set, map_of_set, get_of_map}
 use Rattle.dt_access.specs.declared.TxnId.{TxnId}
 use Rattle.dt_access.specs.declared.Part.{Part}
-use Rattle.dt_sched.specs.Views.{View, log_at, HasPart, IsClosed}
+use Rattle.dt_sched.specs.Views.{log_at, HasPart, IsClosed}
 use Rattle.dt_sched.proofs.Closed.{complete_of_closed}
 use Rattle.dt_sched.proofs.Reach.{present_of_complete}
 use Rattle.dt_events.specs.declared.Event.{Event}
 use Rattle.dt_txn.specs.declared.Txn.{Txn}
-use Rattle.dt_txn.specs.Replica.{Replica, MayStep, stepped, fronts, view_of}
+use Rattle.dt_txn.specs.Replica.{Replica, stepped, fronts, view_of}
 use Rattle.dt_region.specs.State.{State, held}
 use Rattle.dt_region.specs.Rules.{after_step}
 use Rattle.dt_region.specs.Sound.{IsSoundRegion, IsHeldPart}
 use Rattle.dt_cluster.specs.declared.Cluster.{Cluster}
-use Rattle.dt_workload.specs.declared.Workload.{Workload}
-use Rattle.dt_session.specs.World.{World, Node, Place, no_node, node_at, with_node, logs_of, received_logs, txn_of}
+use Rattle.dt_session.specs.World.{World, Node, Place, no_node, node_at, received_logs, txn_of}
 use Rattle.dt_session.specs.Step.{IsLegal, next, moved_on}
-use Rattle.dt_session.specs.Run.{world_after, order_of}
-use Rattle.dt_laws.specs.Invariant.{Inv, Rooted}
+use Rattle.dt_session.specs.Run.{order_of}
+use Rattle.dt_laws.specs.Invariant.{Inv}
 use Rattle.dt_laws.proofs.Growth.{next_txns}
 use Rattle.dt_laws.proofs.Keeping.{legal_keeps}
 use Rattle.dt_laws.proofs.Runs.{world_after_more, more_legal}

@@ -6,16 +6,14 @@ use Rattle.dt_events.specs.declared.Event.TheVariants.{Insert, Resolve, Execute}
 use Rattle.dt_txn.specs.declared.Txn.{Txn}
 use Rattle.dt_txn.specs.Replica.{MayStep, stepped, executed}
 use Rattle.dt_region.specs.State.{held}
-use Rattle.dt_region.specs.Rules.{after_step}
-use Rattle.dt_region.specs.Sound.{IsSoundRegion}
 use Rattle.dt_cluster.specs.declared.Cluster.{Cluster}
-use Rattle.dt_session.specs.World.{World, node_at, received_logs, txn_of}
-use Rattle.dt_session.specs.Step.{IsLegal, MayHappen, next, moved_on}
+use Rattle.dt_session.specs.World.{node_at, received_logs, txn_of}
+use Rattle.dt_session.specs.Step.{IsLegal, next, moved_on}
 use Rattle.dt_world.specs.Kept.{Kept}
 use Rattle.dt_world.specs.Seated.{Seated}
 use Rattle.dt_world.specs.Posted.{Posted, world_of}
-use Rattle.dt_world.specs.Sited.{post_at, with_state, StepsAt}
-use Rattle.dt_world.specs.Lawful.{StandsIn, IsReached, AreLawful, MayMake, made}
+use Rattle.dt_world.specs.Sited.{post_at, StepsAt}
+use Rattle.dt_world.specs.Lawful.{IsReached, AreLawful, MayMake, made}
 use Rattle.dt_world.proofs.Standing.{many_posts, node_is, held_closed, reached_more, step_made, step_lawful}
 
 -- a world of these sessions and regions, as contracts see it
@@ -80,7 +78,7 @@ module _ (cluster : Cluster) (seated : Seated) (posts : List Posted) (steps : �
         let m : StepsAt posts region (Execute region id) (Ok true) after = subst (λ x. StepsAt posts region (Execute region id) (Ok x) after) e s in
         let h : (txn : Txn) × (held (post_at posts region).state id ≡ Some txn) = held_closed (post_at posts region).state (k.stands region lr).sound id m.0.closed in
         step_done region lr (Execute region id) after (record { regions = lr; allowed = up region lr (Execute region id) m.0 }) refl
-            (ap (executed (post_at posts region).state.here) (h.1 ∙ sym ((k.stands region lr).known id h.0 h.1))) m
+        (ap (executed (post_at posts region).state.here) (h.1 ∙ sym ((k.stands region lr).known id h.0 h.1))) m
 
     pub insert_refused : (home : ℕ) (after : List Posted) (b : Bool) → b ≡ false → StepsAt posts region (Insert region home) (Ok b) after → ¬ (MayMake (kept_of cluster seated posts steps) (Insert region home))
     insert_refused home after b e s l = let m : StepsAt posts region (Insert region home) (Ok false) after = subst (λ x. StepsAt posts region (Insert region home) (Ok x) after) e s in m.0 (down region lr (Insert region home) l.allowed)

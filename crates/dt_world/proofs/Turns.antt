@@ -1,9 +1,8 @@
 -- What the events of sessions need to be made: their sessions are there, and all numbers stay small.
-use Rattle.std.proofs.Common.{◌≡◌, ◌<◌, ◌≤◌, ◌+◌, ℕ, List, length, map, slice_get, Some, None, refl, sym, ap, subst, ◌∙◌, arith}
+use Rattle.std.proofs.Common.{◌≡◌, ◌<◌, ◌≤◌, ℕ, List, length, slice_get, Some, None, refl, sym, ap, subst, ◌∙◌, arith}
 use Rattle.std.specs.Prelude.{Option, option_map}
 use Rattle.std.specs.List.{position}
 use Rattle.std.proofs.lemmas.Option.{slice_get-get_or}
-use Rattle.dt_lists.specs.Lists.{AllIn, Has}
 use Rattle.dt_lists.proofs.Words.{all_at, all_get}
 use Rattle.dt_lists.proofs.Places.{has_place}
 use Rattle.dt_access.specs.Clash.{Bytes}
@@ -11,17 +10,16 @@ use Rattle.dt_access.specs.declared.TxnId.{TxnId}
 use Rattle.dt_txn.specs.declared.Body.{Body}
 use Rattle.dt_txn.specs.Transaction.{BodyFits}
 use Rattle.dt_cluster.specs.declared.Cluster.{Cluster}
-use Rattle.dt_workload.specs.declared.Session.{Session}
 use Rattle.dt_workload.specs.declared.Wanted.{Wanted}
 use Rattle.dt_workload.specs.Valid.{IsValidSession, WantedFits}
-use Rattle.dt_session.specs.World.{idle_place, is_session, node_at, outcome_at}
+use Rattle.dt_session.specs.World.{idle_place, is_session}
 use Rattle.dt_session.specs.Step.{MayTry, body_of}
 use Rattle.dt_laws.proofs.Annotating.{body_fits}
 use Rattle.dt_world.specs.Kept.{Kept}
 use Rattle.dt_world.specs.Seated.{Seated, no_session, session_of, stand_of}
 use Rattle.dt_world.specs.Posted.{Posted, world_of}
 use Rattle.dt_world.specs.Sited.{post_at}
-use Rattle.dt_world.specs.Lawful.{AreLawful, HasCall, IsSeatOf, MayTryAt}
+use Rattle.dt_world.specs.Lawful.{AreLawful, IsSeatOf, MayTryAt}
 use Rattle.dt_world.proofs.Listing.{attempts_length}
 use Rattle.dt_world.proofs.Placing.{short}
 use Rattle.dt_world.proofs.Posting.{here, many_places, some_of_map, there}

@@ -1,16 +1,14 @@
 -- The attempt that a session waits for, and whether it may go on.
-use Rattle.std.proofs.Common.{◌≡◌, ◌≢◌, ◌<◌, ◌≤◌, ◌+◌, ◌-◌, ◌⊎◌, ℕ, zero, suc, Bool, true, false, List, [], ◌∷◌, length, map, get_or, slice_get, Some, None, refl, sym, ap, subst, ◌∙◌, inl, inr, arith}
+use Rattle.std.proofs.Common.{◌≡◌, ◌<◌, ◌≤◌, ◌+◌, ◌-◌, ℕ, zero, suc, true, List, [], ◌∷◌, length, get_or, slice_get, Some, None, refl, sym, ap, subst, ◌∙◌, arith}
 use Rattle.std.specs.Prelude.{Option, is_some}
 use Rattle.dt_lists.specs.Lists.{Has, Pairwise}
 use Rattle.dt_lists.proofs.Places.{place_of}
 use Rattle.dt_access.specs.declared.TxnId.{TxnId}
 use Rattle.dt_txn.specs.declared.Outcome.{Outcome}
 use Rattle.dt_txn.specs.declared.outcome.Outcome.TheVariants.{Gave, Aborted, Stale}
-use Rattle.dt_txn.specs.declared.Txn.{Txn}
 use Rattle.dt_region.specs.State.{outcome_of}
 use Rattle.dt_cluster.specs.declared.Cluster.{Cluster}
-use Rattle.dt_workload.specs.declared.Session.{Session}
-use Rattle.dt_session.specs.World.{World, Place, Submission, attempt_of, idle_place, node_at, outcome_at, outcome_in, submissions}
+use Rattle.dt_session.specs.World.{attempt_of, idle_place, node_at, outcome_at, outcome_in, submissions}
 use Rattle.dt_session.specs.Step.{IsLast, IsStale, MayEnd, MayTry, next_attempt}
 use Rattle.dt_laws.specs.Invariant.{IsPlaceOf}
 use Rattle.dt_laws.proofs.Facts.{WaitsAt, waiting_for}
@@ -18,7 +16,7 @@ use Rattle.dt_laws.proofs.Submissions.{find_has}
 use Rattle.dt_world.specs.Kept.{Kept}
 use Rattle.dt_world.specs.declared.site.Origin.{Origin}
 use Rattle.dt_world.specs.Seated.{Seated, no_session, session_of, stand_of}
-use Rattle.dt_world.specs.Posted.{Posted, attempt, attempts, world_of}
+use Rattle.dt_world.specs.Posted.{Posted, attempts, world_of}
 use Rattle.dt_world.specs.Sited.{post_at}
 use Rattle.dt_world.specs.Lawful.{AreLawful, HasCall, IsNextAttempt, IsSeatOf, MayEndAt, MayTryAt, seated_in}
 use Rattle.dt_world.proofs.Listing.{attempt_at}
@@ -59,7 +57,7 @@ module _ (cluster : Cluster) (seated : Seated) (posts : List Posted) (steps : �
             by : ((j : ℕ) × (slice_get (attempts (post_at posts region).state.submitted (post_at posts region).origins) j ≡ Some x.submission)) → StandsAt id
             by p =
                 let own : x.submission.txn.id ≡ record { seq = p.0 + 1; region = region } = (inv cluster seated posts steps k).ids region seat.some p.0 x.submission
-                    (subst (λ l. slice_get l p.0 ≡ Some x.submission) (sym (ap (λ n. n.submitted) (node_is cluster seated posts steps k region))) p.1) in
+                (subst (λ l. slice_get l p.0 ≡ Some x.submission) (sym (ap (λ n. n.submitted) (node_is cluster seated posts steps k region))) p.1) in
                 let id_is : x.submission.txn.id ≡ id = (find_has (submissions (world_of posts seated.places)) id x.submission x.found).1 in
                 let seq_is : id.seq ≡ p.0 + 1 = ap (λ y. y.seq) (sym id_is ∙ own) in
                 record {

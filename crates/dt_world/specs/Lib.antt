@@ -7,6 +7,7 @@ pub mod Posted
 pub mod PostedCode
 pub mod Sited
 pub mod Lawful
+pub mod Coursed
 pub use Rattle.dt_session.specs.World
 pub use Rattle.dt_session.specs.Step
 pub use Rattle.dt_session.specs.Run

@@ -1,4 +1,4 @@
-use Rattle.std.specs.Prelude.{ℕ, List, [], ◌∷◌, ◌++◌, length, map, set}
+use Rattle.std.specs.Prelude.{List, [], ◌∷◌, ◌++◌, length, map, set}
 use Rattle.std.specs.List.{range_with_len}
 use Rattle.dt_sched.specs.Views.{log_at}
 use Rattle.dt_table.specs.Table.{opening}

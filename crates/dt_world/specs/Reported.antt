@@ -4,7 +4,7 @@ use Rattle.std.specs.List.{range_with_len}
 use Rattle.dt_lists.specs.Lists.{Has}
 use Rattle.dt_access.specs.declared.TxnId.{TxnId}
 use Rattle.dt_events.specs.declared.Event.{Event}
-use Rattle.dt_events.specs.declared.Event.TheVariants.{Submit, Append, Deliver, Insert, Resolve, Execute, Answer}
+use Rattle.dt_events.specs.declared.Event.TheVariants.{Answer}
 use Rattle.dt_table.specs.Table.{shown}
 use Rattle.dt_table.specs.declared.Shown.{Shown}
 use Rattle.dt_txn.specs.declared.Outcome.{Outcome}

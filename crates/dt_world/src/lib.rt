@@ -2,6 +2,8 @@
 //! reports what they came to.
 #![tactic(auto)]
 
+mod course;
+mod report;
 mod rules;
 mod seats;
 mod site;

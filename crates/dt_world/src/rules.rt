@@ -20,12 +20,7 @@ use std::alloc::Global;
 
 impl<S: Scheduler + Drop> World<S> {
     /// Rule 1: a session of the region submits its next attempt.
-    pub(crate) fn submit(
-        &mut self,
-        alloc: Global,
-        region: u8,
-        name: &Name,
-    ) -> Result<(), StepError>
+    pub(crate) fn submit(&mut self, alloc: Global, region: u8, name: &Name) -> Result<(), StepError>
         requires { self.old.steps < 4294967295 }
         ensures { Makes self.old (Submit region name.now) result self.new }
     {
@@ -109,12 +104,7 @@ impl<S: Scheduler + Drop> World<S> {
     }
 
     /// Rule 4: a region inserts the next part of a home's log.
-    pub(crate) fn insert(
-        &mut self,
-        alloc: Global,
-        region: u8,
-        home: u8,
-    ) -> Result<(), StepError>
+    pub(crate) fn insert(&mut self, alloc: Global, region: u8, home: u8) -> Result<(), StepError>
         requires { self.old.steps < 4294967295 }
         ensures { Makes self.old (Insert region home) result self.new }
     {
@@ -149,12 +139,7 @@ impl<S: Scheduler + Drop> World<S> {
     }
 
     /// Rule 6: a region executes a transaction.
-    pub(crate) fn execute(
-        &mut self,
-        alloc: Global,
-        region: u8,
-        id: TxnId,
-    ) -> Result<(), StepError>
+    pub(crate) fn execute(&mut self, alloc: Global, region: u8, id: TxnId) -> Result<(), StepError>
         requires { self.old.steps < 4294967295 }
         ensures { Makes self.old (Execute region id) result self.new }
     {

@@ -53,12 +53,10 @@ impl<S: Scheduler> Site<S> {
         ensures opening { IfOk result (λ site. site ≡ opening_post (opening_state number regions table.state)) }
         ensures sound { IfOk result (λ site. IsSoundRegion site.state) }
     {
-        let site = Site {
+        Ok(Site {
             region: Region::new(alloc, number, regions, table)?,
             origins: Vec::new(alloc),
-        };
-        site.keep_sound();
-        Ok(site)
+        })
     }
 
     /// The region.
@@ -66,13 +64,6 @@ impl<S: Scheduler> Site<S> {
         ensures state { result.now.state ≡ self.now.state }
     {
         &self.region
-    }
-
-    /// Does nothing, and tells what every region keeps.
-    fn keep_sound(&self)
-        ensures { IsSoundRegion self.now.state }
-    {
-        let _number = self.region.number();
     }
 
     /// Whose the submission of this number is, counted from 1.
@@ -96,10 +87,7 @@ impl<S: Scheduler> Site<S> {
         self.origins.reserve(1)?;
         let id = self.region.submit(alloc, body)?;
         match self.origins.push(origin) {
-            Ok(()) => {
-                self.keep_sound();
-                Ok(id)
-            }
+            Ok(()) => Ok(id),
             Err(_) => unreachable!(),
         }
     }
@@ -118,9 +106,7 @@ impl<S: Scheduler> Site<S> {
         ensures origins { self.new.origins ≡ self.old.origins }
         ensures sound { IsSoundRegion self.new.state }
     {
-        let answer = self.region.append(alloc, source, number, txn);
-        self.keep_sound();
-        answer
+        self.region.append(alloc, source, number, txn)
     }
 
     /// As the region's.
@@ -137,9 +123,7 @@ impl<S: Scheduler> Site<S> {
         ensures origins { self.new.origins ≡ self.old.origins }
         ensures sound { IsSoundRegion self.new.state }
     {
-        let answer = self.region.deliver(alloc, home, first, entries);
-        self.keep_sound();
-        answer
+        self.region.deliver(alloc, home, first, entries)
     }
 
     /// As the region's.
@@ -149,9 +133,7 @@ impl<S: Scheduler> Site<S> {
         ensures origins { self.new.origins ≡ self.old.origins }
         ensures sound { IsSoundRegion self.new.state }
     {
-        let answer = self.region.insert(alloc, home);
-        self.keep_sound();
-        answer
+        self.region.insert(alloc, home)
     }
 
     /// As the region's.
@@ -160,9 +142,7 @@ impl<S: Scheduler> Site<S> {
         ensures origins { self.new.origins ≡ self.old.origins }
         ensures sound { IsSoundRegion self.new.state }
     {
-        let answer = self.region.resolve(alloc, ids);
-        self.keep_sound();
-        answer
+        self.region.resolve(alloc, ids)
     }
 
     /// As the region's.
@@ -171,8 +151,6 @@ impl<S: Scheduler> Site<S> {
         ensures origins { self.new.origins ≡ self.old.origins }
         ensures sound { IsSoundRegion self.new.state }
     {
-        let answer = self.region.execute(alloc, id);
-        self.keep_sound();
-        answer
+        self.region.execute(alloc, id)
     }
 }

@@ -64,6 +64,13 @@ impl<S: Scheduler> Sites<S> {
         &self.sites[region as usize]
     }
 
+    /// All regions, by number.
+    pub fn as_slice(&self) -> &[Site<S>]
+        ensures { result.now ≡ self.now }
+    {
+        self.sites.as_slice()
+    }
+
     /// One region submits a body for a session.
     pub fn submit(
         &mut self,

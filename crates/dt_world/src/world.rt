@@ -1,18 +1,13 @@
-ghost use Rattle.std.specs.Prelude.{◌≡◌, ◌<◌, ◌+◌, ℕ, IsOk, IfOk, OnOk, OnErr, map};
-ghost use Rattle.dt_lists.specs.Lists.{AllIn};
-ghost use Rattle.dt_table.specs.Table.{shown};
+ghost use Rattle.std.specs.Prelude.{◌≡◌, ◌<◌, ◌+◌, ℕ, IsOk, IfOk, OnOk, OnErr};
 ghost use Rattle.dt_cluster.specs.Valid.{IsValidCluster};
 ghost use Rattle.dt_workload.specs.Valid.{IsValidWorkload};
 ghost use Rattle.dt_session.specs.World.{opening_world};
 ghost use Rattle.dt_session.specs.Step.{IsLegal, next, rule_of};
-ghost use Rattle.dt_session.specs.Run.{AreLegal, world_after};
-ghost use Rattle.dt_world.specs.Reported.{report_of, IsOutcomeOf, IsReplyOf};
 
 use crate::seats::Seats;
 use crate::sites::Sites;
 use dt_cluster::Cluster;
 use dt_events::Event;
-use dt_report::Report;
 use dt_sched::Scheduler;
 use dt_text::NoMemory;
 use dt_workload::Workload;
@@ -72,8 +67,12 @@ impl<S: Scheduler + Drop> World<S> {
     pub fn begin(alloc: Global, cluster: &Cluster, workload: &Workload) -> Result<Self, NoMemory>
         requires cluster { IsValidCluster cluster.now }
         requires workload { IsValidWorkload cluster.now workload.now }
-        ensures { IfOk result (λ world. world ≡ record { cluster = cluster.now; workload = workload.now;
-            state = opening_world cluster.now workload.now; steps = 0 }) }
+        ensures { IfOk result (λ world. world ≡ record {
+          cluster = cluster.now;
+          workload = workload.now;
+          state = opening_world cluster.now workload.now;
+          steps = 0;
+        }) }
     {
         Ok(World {
             cluster: cluster.copy(alloc)?,
@@ -88,7 +87,9 @@ impl<S: Scheduler + Drop> World<S> {
         requires { self.old.steps < 4294967295 }
         ensures legal { IsOk result → IsLegal self.old.cluster self.old.workload self.old.state event.now }
         ensures next { OnOk result (self.new ≡ record self.old {
-            state = next self.old.workload self.old.state event.now; steps = self.old.steps + 1 }) }
+          state = next self.old.workload self.old.state event.now;
+          steps = self.old.steps + 1;
+        }) }
         ensures same { OnErr result (self.new ≡ self.old) }
 
         // An event is refused by its own rule, and only where it is not legal.
@@ -113,19 +114,5 @@ impl<S: Scheduler + Drop> World<S> {
             Event::Execute { region, id } => self.execute(alloc, *region, *id),
             Event::Answer { region, session } => self.answer(*region, session),
         }
-    }
-
-    /// The report of the events that led to this world, from its opening on.
-    pub fn report(&self, alloc: Global, events: Vec<Event>) -> Result<Report, NoMemory>
-        requires legal { AreLegal self.now.cluster self.now.workload events.items }
-        requires reached { self.now.state ≡ world_after self.now.cluster self.now.workload events.items }
-        ensures report { IfOk result (λ report. report ≡ report_of self.now.cluster self.now.workload events.items) }
-
-        // Each outcome is the one that every region keeps which executed the attempt, and each table is its region's.
-        ensures outcomes { IfOk result (λ report. AllIn (λ ran. IsOutcomeOf self.now.cluster.regions self.now.state ran.id ran.outcome) report.order) }
-        ensures replies { IfOk result (λ report. AllIn (IsReplyOf self.now.cluster.regions self.now.state) report.replies) }
-        ensures tables { IfOk result (λ report. report.tables ≡ map (λ node. shown node.here.table) self.now.state.nodes) }
-    {
-        Err(NoMemory)
     }
 }

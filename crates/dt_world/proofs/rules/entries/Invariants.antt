@@ -1,4 +1,4 @@
-use Rattle.std.proofs.Common.{◌≡◌, List, map, take, drop, Some}
+use Rattle.std.proofs.Common.{◌≡◌, map, take, drop, Some}
 use Rattle.dt_lists.specs.Lists.{AllIn}
 use Rattle.dt_sched.specs.Views.{log_at}
 use Rattle.dt_region.specs.State.{held}

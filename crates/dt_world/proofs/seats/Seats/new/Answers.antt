@@ -1,5 +1,4 @@
-use Rattle.std.proofs.Common.{◌≡◌, ◌<◌, length, map, sym, ap, subst, ◌∙◌}
-use Rattle.std.specs.List.{list_any}
+use Rattle.std.proofs.Common.{map, sym, ap, subst, ◌∙◌}
 use Rattle.dt_lists.specs.Lists.{Distinct}
 use Rattle.dt_world.specs.Seated.{place_of}
 use Rattle.dt_world.proofs.Seating.{index_more, idle_more}

@@ -1,7 +1,7 @@
-use Rattle.std.proofs.Common.{◌≡◌, ◌+◌, ◌≤◌, refl, sym, ap, subst, ◌∙◌, arith}
+use Rattle.std.proofs.Common.{◌≡◌, ◌+◌, refl, sym, subst, ◌∙◌, arith}
 use Rattle.dt_events.specs.declared.Event.TheVariants.{Answer}
 use Rattle.dt_world.specs.Lawful.{AreLawful, MayEndAt, MayMake, made}
-use Rattle.dt_world.specs.Seated.{after_answer, stand_of}
+use Rattle.dt_world.specs.Seated.{after_answer}
 use Rattle.dt_world.proofs.Posting.{answer_made, none_answered, not_answered}
 use Rattle.dt_world.proofs.Stepping.{kept_of, made_before}
 use Rattle.dt_world.proofs.Turns.{answered_few, seat_of, steps_few}

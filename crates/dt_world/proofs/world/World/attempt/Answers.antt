@@ -4,7 +4,6 @@ use Rattle.dt_world.specs.Kept.{Kept}
 use Rattle.dt_world.specs.Lawful.{seated_in}
 use Rattle.dt_world.specs.Posted.{Posted}
 use Rattle.dt_world.specs.Seated.{stand_of}
-use Rattle.dt_world.specs.Sited.{post_at}
 use Rattle.dt_world.specs.declared.site.Origin.{Origin}
 use Rattle.dt_world.proofs.Stepping.{a_post}
 use Rattle.dt_world.proofs.Turns.{a_number, seat_before}

@@ -1,11 +1,11 @@
-use Rattle.std.proofs.Common.{◌≡◌, ◌+◌, ◌≤◌, ◌<◌, set, refl, sym, ap, ap₂, subst, ◌∙◌, arith}
+use Rattle.std.proofs.Common.{◌≡◌, ◌+◌, ◌≤◌, set, refl, sym, ap, ap₂, subst, ◌∙◌, arith}
 use Rattle.dt_events.specs.declared.Event.TheVariants.{Submit}
 use Rattle.dt_session.specs.Step.{next_attempt}
 use Rattle.dt_session.specs.World.{Place}
 use Rattle.dt_world.specs.Kept.{Kept}
 use Rattle.dt_world.specs.Lawful.{AreLawful, MayMake, MayTryAt, made, seated_in}
-use Rattle.dt_world.specs.Posted.{Posted, posted}
-use Rattle.dt_world.specs.Seated.{Seated, after_wait, stand_of}
+use Rattle.dt_world.specs.Posted.{posted}
+use Rattle.dt_world.specs.Seated.{after_wait, stand_of}
 use Rattle.dt_world.specs.Sited.{post_at}
 use Rattle.dt_world.specs.declared.site.Origin.{Origin}
 use Rattle.dt_world.proofs.Posting.{none_submitted, not_submitted, submit_made}
