@@ -74,9 +74,9 @@ fn world_after(
     ensures refused { (status : _) → result ≡ Err status → IsStepRefusal cluster.now workload.now events.now status }
 {
     let mut world = World::begin(alloc, cluster, workload)?;
-    for (line, event) in events {
-        if let Err(error) = world.step(alloc, event) {
-            return Err(refusal(*line, error));
+    for numbered in events {
+        if let Err(error) = world.step(alloc, &numbered.1) {
+            return Err(refusal(numbered.0, error));
         }
     }
     Ok(world)
