@@ -1,23 +1,26 @@
 -- When a region may be given something, from what a test can see of it.
-use Rattle.std.proofs.Common.{◌≡◌, ◌≢◌, ◌<◌, ◌≤◌, ◌+◌, ◌-◌, ◌^◌, ℕ, zero, suc, List, [], ◌∷◌, ◌++◌, map, length, set, take, drop, slice_get, Option, Some, None, refl, sym, ap, subst, ◌∙◌, inl, inr, arith}
+use Rattle.std.proofs.Common.{◌≡◌, ◌≢◌, ◌↔◌, ◌<◌, ◌≤◌, ◌+◌, ◌-◌, ◌^◌, ℕ, zero, suc, List, [], ◌∷◌, ◌++◌, map, length, set, take, drop, slice_get, Option, Some, None, Bor, is_some, IsTrue, Bool, true, false, refl, sym, ap, subst, ◌∙◌, inl, inr, arith}
+use Rattle.std.specs.Option.{option_copied}
 use Rattle.std.proofs.lemmas.Option.{same_Some, slice_get_within}
 use Rattle.std.proofs.lemmas.List.{append-nil, set-get_or}
 use Rattle.dt_lists.specs.Lists.{AnyIn, AllIn, Has, Distinct, IsFront}
-use Rattle.dt_lists.proofs.Words.{any_get, any_append, all_get}
+use Rattle.dt_lists.proofs.Words.{any_get, any_put, any_append, all_get}
 use Rattle.dt_lists.proofs.Places.{has_place}
 use Rattle.dt_access.specs.declared.Part.{Part}
 use Rattle.dt_access.specs.declared.TxnId.{TxnId}
 use Rattle.dt_sched.specs.Views.{View, log_at, ids_of, HasPart}
 use Rattle.dt_sched.specs.Sched.{parts_in, with_part}
+use Rattle.dt_table.specs.Table.{Moved, opening}
+use Rattle.dt_table.proofs.TableLaws.{moves_of-opening}
 use Rattle.dt_txn.specs.declared.txn.Entry.{Entry}
 use Rattle.dt_txn.specs.declared.txn.Txn.{Txn}
 use Rattle.dt_txn.specs.Transaction.{homes_of, part_of, IsValid}
 use Rattle.dt_region.specs.State.{State, held}
 use Rattle.dt_region.specs.Rules.{taken_from, with_entries}
-use Rattle.dt_region.specs.Conditions.{Agrees, CanAppend, CanDeliver}
+use Rattle.dt_region.specs.Conditions.{IsTableFor, Agrees, CanAppend, CanDeliver}
 use Rattle.dt_region.specs.Sound.{IsSoundRegion, IsHeldPart}
 use Rattle.dt_region.proofs.Appending.{once_more}
-use Rattle.dt_region.proofs.Find.{found}
+use Rattle.dt_region.proofs.Find.{found, held_own}
 use Rattle.dt_region.proofs.Logs.{parts_with}
 use Rattle.dt_region.proofs.Stepping.{held_id, held_valid}
 
@@ -135,3 +138,72 @@ can_deliver_none s sound home first other = record {
   where
     same : with_entries (log_at s.logs home) first [] ≡ log_at s.logs home
     same = ap (λ l. log_at s.logs home ++ map (λ (e : Entry). e.part) l) (drop_none (length (log_at s.logs home) - first)) ∙ append-nil (log_at s.logs home)
+
+-- the table of a cluster without rows is one for its regions
+pub opening_fits : (regions : ℕ) → IsTableFor regions (opening regions [] [])
+opening_fits regions = record {
+  sized = refl;
+  homes = tt;
+  moves = λ key. subst (AllIn (λ (m : Moved). m.target < regions)) (sym (moves_of-opening regions [] [] key)) tt;
+}
+
+none_past : {A : Type 0} (xs : List A) (n : ℕ) → slice_get xs n ≡ None → length xs ≤ n
+none_past [] n e = omega arith
+none_past (x ∷ xs) zero e = absurd (no_some e)
+  where
+    no_some : Some x ≡ None → ⊥
+    no_some f = cc
+none_past (x ∷ xs) (suc n) e = let later = none_past xs n e in omega (arith, later)
+
+-- where a region holds no submission number 1000, it made few
+pub few_submitted : (s : State) → IsSoundRegion s → held s (record { seq = 1000; region = s.number }) ≡ None → length s.submitted < 4294967295
+few_submitted s sound e =
+    let past : length s.submitted ≤ 999 = none_past s.submitted 999 (sym (held_own s.number s.submitted s.foreign (record { seq = 1000; region = s.number }) 999 sound.counted sound.foreign refl refl) ∙ e) in
+    omega (arith, past)
+
+-- two short logs have few parts
+pub two_short : (logs : View) → length logs ≡ 2 → length (log_at logs 0) < 1000 → length (log_at logs 1) < 1000 → parts_in logs + 1 < 2 ^ 32
+two_short [] two a b = absurd (omega arith)
+two_short (x ∷ []) two a b = absurd (omega arith)
+two_short (x ∷ y ∷ []) two a b = let all : 0 + length x + length y + 1 < 2 ^ 32 = omega (arith, a, b) in all
+two_short (x ∷ y ∷ z ∷ logs) two a b = absurd (omega arith)
+
+-- going along a log: what is left has a part of the id where the whole log has
+
+pub has_part_on : (log : List Part) (n : ℕ) (p : Part) (id : TxnId) → slice_get log n ≡ Some p → p.id ≢ id → HasPart (drop n log) id ↔ HasPart log id → HasPart (drop (n + 1) log) id ↔ HasPart log id
+has_part_on log n p id at other so =
+    let next : drop n log ≡ p ∷ drop (n + 1) log = drop_at log n p at ∙ ap (λ k. p ∷ drop k log) (one_more n) in
+    (λ h. so.0 (subst (λ l. HasPart l id) (sym next) (inr h)), λ h. elim (subst (λ l. HasPart l id) next (so.1 h)) [ inl same ↦ absurd (other same) | inr later ↦ later ])
+  where
+    one_more : (k : ℕ) → suc k ≡ k + 1
+    one_more k = omega arith
+
+pub has_part_here : (log : List Part) (n : ℕ) (p : Part) → slice_get log n ≡ Some p → HasPart log p.id
+has_part_here log n p at = any_put _ log p (has_place log n p at) refl
+
+-- a look-up that tests as none found nothing
+pub none_of_test : {A : Type 0} (o : Option (Bor A)) → is_some o ≡ false → option_copied o ≡ None
+none_of_test None e = refl
+none_of_test (Some x) e = cc
+
+-- a test that answered false refutes
+pub refuted : {P : Type 0} (b : Bool) → (IsTrue b ↔ P) → b ≡ false → ¬ P
+refuted b so e p = let t : b ≡ true = so.1 p in cc
+
+-- a copy of what is held under an id is held under its own
+pub held_copy : (s : State) (id : TxnId) (txn original : Txn) → held s id ≡ Some original → txn ≡ original → held s txn.id ≡ Some txn
+held_copy s id txn original e same = ap (held s) (ap (λ (x : Txn). x.id) same ∙ held_id s id original e) ∙ e ∙ ap Some (sym same)
+
+-- a home that is among the homes
+pub among : (txn : Txn) (homes : List ℕ) (home number : ℕ) → homes ≡ homes_of txn → home ≡ number → Has homes home → Has (homes_of txn) number
+among txn homes home number e same h = subst (λ n. Has (homes_of txn) n) same (subst (λ hs. Has hs home) e h)
+
+-- a held transaction may be offered as a request that isn't the next one
+pub can_append_other : (s : State) → IsSoundRegion s → (source number : ℕ) (txn : Txn) → held s txn.id ≡ Some txn → Has (homes_of txn) s.number → number ≢ taken_from s source → CanAppend s source number txn
+can_append_other s sound source number txn e home other = record {
+  home = home;
+  agrees = held_agrees s sound txn e;
+  valid = held_valid s sound txn.id txn e;
+  fresh = λ turn. absurd (other turn);
+  few = λ turn. absurd (other turn);
+}
