@@ -12,4 +12,3 @@ pub mod Stepping
 pub mod Kept
 pub mod Order
 pub mod Matching
-pub mod Tried

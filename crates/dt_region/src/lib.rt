@@ -10,8 +10,3 @@ mod opening;
 mod region;
 
 pub use region::Region;
-
-#[cfg(test)]
-mod tests;
-#[cfg(test)]
-mod trying;
