@@ -10,70 +10,120 @@ use dt_txn::Outcome;
 use std::alloc::Global;
 use std::test::Fail;
 
-/// Region 0 after it submitted three puts and placed them in its log, and their ids.
-fn three_placed(alloc: Global) -> Result<(Region<PlainSched>, [TxnId; 3]), Fail> {
+const FIRST: TxnId = TxnId { seq: 1, region: 0 };
+
+const SECOND: TxnId = TxnId { seq: 2, region: 0 };
+
+const THIRD: TxnId = TxnId { seq: 3, region: 0 };
+
+/// Region 0 after it submitted a put at each of three of its keys.
+fn three_submitted(alloc: Global) -> Result<Region<PlainSched>, Fail> {
     let mut region = one_of_two(alloc, 0)?;
-    let first = submit_put(&mut region, alloc, b"b", 1)?;
-    let second = submit_put(&mut region, alloc, b"d", 2)?;
-    let third = submit_put(&mut region, alloc, b"f", 3)?;
-    for id in [first, second, third] {
-        let _placed = append_next(&mut region, alloc, 0, id)?;
+    let _first = submit_put(&mut region, alloc, b"b", 1)?;
+    let _second = submit_put(&mut region, alloc, b"d", 2)?;
+    let _third = submit_put(&mut region, alloc, b"f", 3)?;
+    Ok(region)
+}
+
+/// Region 1 after the first two of these were delivered to it.
+fn two_delivered(alloc: Global) -> Result<Region<PlainSched>, Fail> {
+    let from = three_submitted(alloc)?;
+    let mut region = one_of_two(alloc, 1)?;
+    let _first = deliver_next(&mut region, alloc, 0, &from, FIRST)?;
+    let _second = deliver_next(&mut region, alloc, 0, &from, SECOND)?;
+    Ok(region)
+}
+
+/// Region 0 after it submitted, placed and inserted one put.
+fn one_inserted(alloc: Global) -> Result<Region<PlainSched>, Fail> {
+    let mut region = one_of_two(alloc, 0)?;
+    let id = submit_put(&mut region, alloc, b"b", 1)?;
+    let _placed = append_next(&mut region, alloc, 0, id)?;
+    if region.regions() == 2 {
+        let _inserted = region.insert(alloc, 0)?;
     }
-    Ok((region, [first, second, third]))
+    Ok(region)
+}
+
+/// Region 0 after it executed that put.
+fn one_executed(alloc: Global) -> Result<Region<PlainSched>, Fail> {
+    let mut region = one_inserted(alloc)?;
+    let _executed = region.execute(alloc, FIRST)?;
+    Ok(region)
 }
 
 #[test]
-fn what_is_submitted_is_asked_of_its_home_and_placed_once(rt: HostRuntime) -> Result<(), Fail> {
-    let mut region = one_of_two(rt.alloc(), 0)?;
-    let id = submit_put(&mut region, rt.alloc(), b"b", 1)?;
-    assert_eq!(rt; id, TxnId { seq: 1, region: 0 });
-    assert_eq!(rt; region.asked(0), [id].as_slice());
-    assert!(rt; region.asked(1).is_empty());
-    assert!(rt; append_next(&mut region, rt.alloc(), 0, id)?);
-    assert!(rt; !append_again(&mut region, rt.alloc(), 0, 0, id)?);
-    assert_eq!(rt; region.taken(0), 1);
-    assert_eq!(rt; region.log(0).len(), 1);
+fn submissions_are_counted_and_asked_of_their_homes(rt: HostRuntime) -> Result<(), Fail> {
+    let region = three_submitted(rt.alloc())?;
+    assert!(rt; region.txn(THIRD).is_some());
+    if region.regions() == 2 {
+        assert_eq!(rt; region.asked(0), [FIRST, SECOND, THIRD].as_slice());
+        assert!(rt; region.asked(1).is_empty());
+    }
     Ok(())
 }
 
 #[test]
-fn a_log_is_delivered_in_order_and_each_entry_once(rt: HostRuntime) -> Result<(), Fail> {
-    let (from, ids) = three_placed(rt.alloc())?;
-    let mut region = one_of_two(rt.alloc(), 1)?;
-    let [first, second, third] = ids;
-    assert_eq!(rt;
-        deliver_next(&mut region, rt.alloc(), 0, &from, first)?,
-        Taken::New(1)
-    );
-    assert_eq!(rt;
-        deliver_next(&mut region, rt.alloc(), 0, &from, second)?,
-        Taken::New(1)
-    );
+fn a_request_is_placed_once(rt: HostRuntime) -> Result<(), Fail> {
+    let mut region = three_submitted(rt.alloc())?;
+    assert!(rt; append_next(&mut region, rt.alloc(), 0, FIRST)?);
+    assert!(rt; !append_again(&mut region, rt.alloc(), 0, 0, FIRST)?);
+    assert!(rt; append_next(&mut region, rt.alloc(), 0, SECOND)?);
+    Ok(())
+}
+
+#[test]
+fn entries_past_the_end_are_new(rt: HostRuntime) -> Result<(), Fail> {
+    let from = three_submitted(rt.alloc())?;
+    let mut region = two_delivered(rt.alloc())?;
+    assert!(rt; region.txn(SECOND).is_some());
+    assert!(rt; region.txn(THIRD).is_none());
+    let taken = deliver_next(&mut region, rt.alloc(), 0, &from, THIRD)?;
+    assert_eq!(rt; taken, Taken::New(1));
+    Ok(())
+}
+
+#[test]
+fn a_repeated_delivery_is_old_and_a_late_one_leaves_a_gap(rt: HostRuntime) -> Result<(), Fail> {
+    let mut region = two_delivered(rt.alloc())?;
     assert_eq!(rt; deliver_again(&mut region, rt.alloc(), 0, 1)?, Taken::Old);
     assert_eq!(rt; deliver_none(&mut region, rt.alloc(), 0, 3)?, Taken::Gap);
-    assert_eq!(rt;
-        deliver_next(&mut region, rt.alloc(), 0, &from, third)?,
-        Taken::New(1)
-    );
-    assert_eq!(rt; region.log(0).len(), 3);
-    assert!(rt; region.txn(third).is_some());
     Ok(())
 }
 
 #[test]
 fn what_is_inserted_is_executed_once(rt: HostRuntime) -> Result<(), Fail> {
-    let (mut region, ids) = three_placed(rt.alloc())?;
-    let [first, second, _third] = ids;
-    assert!(rt; !region.execute(rt.alloc(), first)?);
-    assert!(rt; region.insert(rt.alloc(), 0)?);
-    assert!(rt; !region.insert(rt.alloc(), 1)?);
+    let mut region = one_inserted(rt.alloc())?;
+    assert!(rt; !region.execute(rt.alloc(), SECOND)?);
+    assert!(rt; region.execute(rt.alloc(), FIRST)?);
+    assert!(rt; !region.execute(rt.alloc(), FIRST)?);
+    Ok(())
+}
+
+#[test]
+fn only_what_is_received_is_inserted(rt: HostRuntime) -> Result<(), Fail> {
+    let mut region = two_delivered(rt.alloc())?;
+    if region.regions() == 2 {
+        assert!(rt; region.insert(rt.alloc(), 0)?);
+        assert!(rt; !region.insert(rt.alloc(), 1)?);
+    }
+    Ok(())
+}
+
+#[test]
+fn without_a_deadlock_nothing_is_resolved(rt: HostRuntime) -> Result<(), Fail> {
+    let mut region = one_inserted(rt.alloc())?;
     assert!(rt; region.next_class(rt.alloc())?.is_none());
-    assert!(rt; !region.resolve(rt.alloc(), &[first, second])?);
-    assert!(rt; region.execute(rt.alloc(), first)?);
-    assert!(rt; !region.execute(rt.alloc(), first)?);
-    assert!(rt; !region.execute(rt.alloc(), second)?);
-    assert!(rt; matches!(region.outcome(first), Some(Outcome::Gave(_))));
-    assert!(rt; region.outcome(second).is_none());
+    assert!(rt; !region.resolve(rt.alloc(), &[FIRST, SECOND])?);
+    assert!(rt; !region.resolve(rt.alloc(), &[SECOND, FIRST])?);
+    Ok(())
+}
+
+#[test]
+fn an_execution_has_an_outcome_and_changes_the_rows(rt: HostRuntime) -> Result<(), Fail> {
+    let region = one_executed(rt.alloc())?;
+    assert!(rt; matches!(region.outcome(FIRST), Some(Outcome::Gave(_))));
+    assert!(rt; region.outcome(SECOND).is_none());
     let key = Key::read(rt.alloc(), b"b")?;
     assert!(rt; region.table().get(&key) == Some(&Value::Int(1)));
     Ok(())
