@@ -10,4 +10,7 @@ mod site;
 mod sites;
 mod world;
 
+#[cfg(test)]
+mod tests;
+
 pub use world::{StepError, World};
