@@ -1,5 +1,6 @@
 pub mod Codes
 pub mod Falls
+pub mod Names
 pub mod Shown
 pub mod Sound
 pub mod Tree

@@ -1,6 +1,11 @@
 //! Procedures: their trees, and the reader of their text.
 #![tactic(auto)]
 
+mod copies;
+mod error;
+mod procs;
 mod tree;
 
-pub use tree::{Expr, Give, Gives, KeyDecl, KeyItem, KeyItems, Kind, Op, Stmt, Stmts};
+pub use error::ProcError;
+pub use procs::{Proc, Procs};
+pub use tree::{Expr, Give, Gives, KeyDecl, KeyItem, KeyItems, Kind, Op, Sort, Stmt, Stmts};
