@@ -1,3 +1,4 @@
+pub mod Builtin
 pub mod Codes
 pub mod Falls
 pub mod Names

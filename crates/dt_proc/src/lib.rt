@@ -1,11 +1,13 @@
 //! Procedures: their trees, and the reader of their text.
 #![tactic(auto)]
 
+mod builtin;
 mod copies;
 mod error;
 mod procs;
 mod tree;
 
+pub use builtin::builtin_procs;
 pub use error::ProcError;
 pub use procs::{Proc, Procs};
 pub use tree::{Expr, Give, Gives, KeyDecl, KeyItem, KeyItems, Kind, Op, Sort, Stmt, Stmts};
