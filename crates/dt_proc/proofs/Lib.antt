@@ -1,1 +1,4 @@
+pub mod Accepting
 pub mod Blocks
+pub mod Lexing
+pub mod Numbers

@@ -1,7 +1,10 @@
 pub mod Builtin
 pub mod Codes
 pub mod Falls
+pub mod Machine
 pub mod Names
 pub mod Shown
 pub mod Sound
+pub mod Syntax
+pub mod Tokens
 pub mod Tree

@@ -4,7 +4,10 @@
 mod builtin;
 mod copies;
 mod error;
+mod lexer;
+mod machine;
 mod procs;
+mod token;
 mod tree;
 
 pub use builtin::builtin_procs;
