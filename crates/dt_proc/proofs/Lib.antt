@@ -1,4 +1,5 @@
 pub mod Accepting
 pub mod Blocks
+pub mod Finishing
 pub mod Lexing
 pub mod Numbers
