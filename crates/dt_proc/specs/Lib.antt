@@ -1,4 +1,5 @@
 pub mod Builtin
+pub mod Checked
 pub mod Codes
 pub mod Falls
 pub mod Machine

@@ -7,6 +7,7 @@ mod error;
 mod lexer;
 mod machine;
 mod procs;
+mod scope;
 mod token;
 mod tree;
 
