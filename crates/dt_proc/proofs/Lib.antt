@@ -1,5 +1,6 @@
 pub mod Accepting
 pub mod Blocks
+pub mod Entries
 pub mod Finishing
 pub mod Lexing
 pub mod Numbers

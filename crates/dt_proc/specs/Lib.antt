@@ -9,3 +9,4 @@ pub mod Sound
 pub mod Syntax
 pub mod Tokens
 pub mod Tree
+pub mod Walked

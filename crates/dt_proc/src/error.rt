@@ -1,4 +1,5 @@
 use dt_text::NoMemory;
+use std::alloc::{AllocError, AllocFailed};
 use thiserror::Error;
 
 /// Why a text is no procedures: the place of the fault, in bytes from the text's front, or want of memory.
@@ -31,6 +32,28 @@ impl From<NoMemory> for ProcError {
     ghost from_gives = { λ _ e. e ≡ NoMemory };
 
     fn from(_error: NoMemory) -> Self {
+        ProcError::NoMemory
+    }
+}
+
+impl From<AllocError> for ProcError {
+    ghost use Rattle.std.specs.Prelude.{◌≡◌};
+    ghost use Rattle.dt_proc.specs.declared.error.ProcError.TheVariants.{NoMemory};
+
+    ghost from_gives = { λ _ e. e ≡ NoMemory };
+
+    fn from(_error: AllocError) -> Self {
+        ProcError::NoMemory
+    }
+}
+
+impl<T: Drop> From<AllocFailed<T>> for ProcError {
+    ghost use Rattle.std.specs.Prelude.{◌≡◌};
+    ghost use Rattle.dt_proc.specs.declared.error.ProcError.TheVariants.{NoMemory};
+
+    ghost from_gives = { λ _ e. e ≡ NoMemory };
+
+    fn from(_error: AllocFailed<T>) -> Self {
         ProcError::NoMemory
     }
 }

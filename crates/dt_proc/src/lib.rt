@@ -10,6 +10,7 @@ mod procs;
 mod scope;
 mod token;
 mod tree;
+mod walk;
 
 pub use builtin::builtin_procs;
 pub use error::ProcError;
