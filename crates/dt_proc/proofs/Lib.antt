@@ -4,3 +4,4 @@ pub mod Entries
 pub mod Finishing
 pub mod Lexing
 pub mod Numbers
+pub mod Walks

@@ -1,6 +1,6 @@
 //! The second pass: from tokens that are in the grammar to what they mean, or to the first fault.
 
-ghost use Rattle.std.specs.Prelude.{◌≡◌, ◌<◌, ◌≤◌, ℕ, List, [], ◌∷◌, ◌++◌, length, MatchResult, IfOk, IfErr};
+ghost use Rattle.std.specs.Prelude.{◌≡◌, ◌<◌, ◌≤◌, ℕ, List, [], ◌∷◌, ◌++◌, length, MatchResult, IfOk, IfSome};
 ghost use Rattle.dt_proc.specs.declared.token.Placed.{Placed};
 ghost use Rattle.dt_proc.specs.declared.token.Token.TheVariants as tok;
 ghost use Rattle.dt_proc.specs.Syntax.{at, Bracketed, bracketed_tokens, Syntax, syntax_tokens, Links, links_tokens, IsLevel, AreLinks, level_of, minus, denial, makes_length, makes_text};
@@ -25,7 +25,8 @@ const BROKEN: ProcError = ProcError::Syntax(0);
 
 /// What follows the first token.
 fn after_one(tokens: &[Placed]) -> Result<&[Placed], ProcError>
-    ensures { (t : Placed) (rest : List Placed) → t ∷ rest ≡ tokens.now → MatchResult result (λ r. r.now ≡ rest) (λ e. ⊥) }
+    ensures shorter { IfOk result (λ r. length r.now < length tokens.now) }
+    ensures right { (t : Placed) (rest : List Placed) → t ∷ rest ≡ tokens.now → MatchResult result (λ r. r.now ≡ rest) (λ e. ⊥) }
 {
     match tokens {
         [_, rest @ ..] => Ok(rest),
@@ -35,7 +36,8 @@ fn after_one(tokens: &[Placed]) -> Result<&[Placed], ProcError>
 
 /// The name that comes first, with its place, and what follows it.
 fn named(tokens: &[Placed]) -> Result<(u32, &Name, &[Placed]), ProcError>
-    ensures { (p : ℕ) (n : List ℕ) (rest : List Placed) → at p (tok.Name n) ∷ rest ≡ tokens.now
+    ensures shorter { IfOk result (λ r. length r.2.now < length tokens.now) }
+    ensures right { (p : ℕ) (n : List ℕ) (rest : List Placed) → at p (tok.Name n) ∷ rest ≡ tokens.now
         → MatchResult result (λ r. (r.0 ≡ p) × (r.1.now ≡ n) × (r.2.now ≡ rest)) (λ e. ⊥) }
 {
     match tokens {
@@ -49,7 +51,8 @@ fn named(tokens: &[Placed]) -> Result<(u32, &Name, &[Placed]), ProcError>
 
 /// The name in brackets that comes first, with its place, and what follows the brackets.
 fn bracketed(tokens: &[Placed]) -> Result<(u32, &Name, &[Placed]), ProcError>
-    ensures { (b : Bracketed) (rest : List Placed) → bracketed_tokens b ++ rest ≡ tokens.now
+    ensures shorter { IfOk result (λ r. length r.2.now < length tokens.now) }
+    ensures right { (b : Bracketed) (rest : List Placed) → bracketed_tokens b ++ rest ≡ tokens.now
         → MatchResult result (λ r. (r.0 ≡ b.name_at) × (r.1.now ≡ b.name) × (r.2.now ≡ rest)) (λ e. ⊥) }
 {
     let (place, name, rest) = named(after_one(tokens)?)?;
@@ -120,7 +123,8 @@ fn links<'a>(
 
 /// The operator of the level that comes first, with its place, and what follows it.
 fn operator(tokens: &[Placed], level: u8) -> Option<(u32, Op, &[Placed])>
-    ensures { walked.FindsOperator level tokens.now (walked.operator_shown result) }
+    ensures shorter { IfSome result (λ r. length r.2.now < length tokens.now) }
+    ensures right { walked.FindsOperator level tokens.now (walked.operator_shown result) }
 {
     let [first, rest @ ..] = tokens else {
         return None;
@@ -148,7 +152,7 @@ fn operand<'a>(
     requires low { 5 ≤ level }
     requires high { level ≤ 6 }
     ensures shorter { IfOk result (λ r. length r.2.now < length tokens.now) }
-    ensures right { (x : Syntax) (rest : List Placed) → IsLevel level x → syntax_tokens x ++ rest ≡ tokens.now
+    ensures right { (x : Syntax) (rest : List Placed) → IsLevel level x → walked.FrontStops level rest → syntax_tokens x ++ rest ≡ tokens.now
         → walked.Answers (checked.check scope.now x) rest (walked.shown result) }
 {
     let [first, rest @ ..] = tokens else {
@@ -158,22 +162,10 @@ fn operand<'a>(
         Token::Int(number) => Ok((Expr::Int(*number), Sort::Int, rest)),
         Token::Text(text) => Ok((Expr::Text(text.copy(alloc)?), Sort::Text, rest)),
         Token::Truth(truth) => Ok((Expr::Bool(*truth), Sort::Bool, rest)),
-        Token::Name(name) => {
-            let (variable, sort) = variable(scope, first.place, name)?;
-            Ok((Expr::Var(variable), sort, rest))
-        }
-        Token::IntWord => {
-            let (key, rest) = key_in_brackets(scope, rest)?;
-            Ok((Expr::IntOf(key), Sort::Int, rest))
-        }
-        Token::TextWord => {
-            let (key, rest) = key_in_brackets(scope, rest)?;
-            Ok((Expr::TextOf(key), Sort::Text, rest))
-        }
-        Token::Has => {
-            let (key, rest) = key_in_brackets(scope, rest)?;
-            Ok((Expr::Has(key), Sort::Bool, rest))
-        }
+        Token::Name(name) => variable(scope, first.place, name, rest),
+        Token::IntWord => int_of(scope, rest),
+        Token::TextWord => text_of(scope, rest),
+        Token::Has => presence_of(scope, rest),
         Token::Open => inside(alloc, scope, rest),
         Token::Len => length_of(alloc, scope, first.place, rest),
         Token::Show => shown(alloc, scope, first.place, rest),
@@ -183,14 +175,65 @@ fn operand<'a>(
     }
 }
 
-/// The variable that a name means, and what it gives.
-fn variable(scope: &Scope, place: u32, name: &Name) -> Result<(u32, Sort), ProcError>
-    ensures { walked.variable_shown result ≡ checked.as_variable place (meaning scope.now name.now) }
+/// The variable that a name means, with what follows the name.
+fn variable<'a>(
+    scope: &Scope,
+    place: u32,
+    name: &Name,
+    rest: &'a [Placed],
+) -> Result<(Expr, Sort, &'a [Placed]), ProcError>
+    ensures shorter { IfOk result (λ r. length r.2.now ≤ length rest.now) }
+    ensures right { walked.Answers (checked.as_variable place (meaning scope.now name.now)) rest.now (walked.shown result) }
 {
     match scope.meaning(name) {
-        Meaning::Variable(number, sort) => Ok((number, sort)),
+        Meaning::Variable(number, sort) => Ok((Expr::Var(number), sort, rest)),
         Meaning::Key(_, _) => Err(ProcError::Kind(place)),
         Meaning::Unknown => Err(ProcError::Unknown(place)),
+    }
+}
+
+/// The number in the row of the key in brackets.
+fn int_of<'a>(
+    scope: &Scope,
+    tokens: &'a [Placed],
+) -> Result<(Expr, Sort, &'a [Placed]), ProcError>
+    ensures shorter { IfOk result (λ r. length r.2.now < length tokens.now) }
+    ensures right { (b : Bracketed) (rest : List Placed) → bracketed_tokens b ++ rest ≡ tokens.now
+        → walked.Answers (after_ok (checked.key_of scope.now b) (λ k. Ok (tree.number_of k, Sort.Int))) rest (walked.shown result) }
+{
+    match key_in_brackets(scope, tokens) {
+        Ok((key, rest)) => Ok((Expr::IntOf(key), Sort::Int, rest)),
+        Err(fault) => Err(fault),
+    }
+}
+
+/// The text in the row of the key in brackets.
+fn text_of<'a>(
+    scope: &Scope,
+    tokens: &'a [Placed],
+) -> Result<(Expr, Sort, &'a [Placed]), ProcError>
+    ensures shorter { IfOk result (λ r. length r.2.now < length tokens.now) }
+    ensures right { (b : Bracketed) (rest : List Placed) → bracketed_tokens b ++ rest ≡ tokens.now
+        → walked.Answers (after_ok (checked.key_of scope.now b) (λ k. Ok (tree.text_of k, Sort.Text))) rest (walked.shown result) }
+{
+    match key_in_brackets(scope, tokens) {
+        Ok((key, rest)) => Ok((Expr::TextOf(key), Sort::Text, rest)),
+        Err(fault) => Err(fault),
+    }
+}
+
+/// Whether the row of the key in brackets has a value.
+fn presence_of<'a>(
+    scope: &Scope,
+    tokens: &'a [Placed],
+) -> Result<(Expr, Sort, &'a [Placed]), ProcError>
+    ensures shorter { IfOk result (λ r. length r.2.now < length tokens.now) }
+    ensures right { (b : Bracketed) (rest : List Placed) → bracketed_tokens b ++ rest ≡ tokens.now
+        → walked.Answers (after_ok (checked.key_of scope.now b) (λ k. Ok (tree.has_value k, Sort.Bool))) rest (walked.shown result) }
+{
+    match key_in_brackets(scope, tokens) {
+        Ok((key, rest)) => Ok((Expr::Has(key), Sort::Bool, rest)),
+        Err(fault) => Err(fault),
     }
 }
 
