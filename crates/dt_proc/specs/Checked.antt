@@ -90,11 +90,13 @@ as_written place (Variable n s) = Err (fault.Kind place)
 as_written place (Key k w) = if w then Ok k else Err (fault.Kind place)
 as_written place Unknown = Err (fault.Unknown place)
 
+abbrev pub is_unknown : Meaning → Bool
+is_unknown Unknown = true
+is_unknown _ = false
+
 -- a name that is not visible yet
 abbrev pub as_new : ℕ → Meaning → Told (Unit {0})
-as_new place (Variable n s) = Err (fault.Twice place)
-as_new place (Key k w) = Err (fault.Twice place)
-as_new place Unknown = Ok tt
+as_new place m = if is_unknown m then Ok tt else Err (fault.Twice place)
 
 abbrev pub key_of : Scope → Bracketed → Told ℕ
 key_of scope b = as_key b.name_at (meaning scope b.name)
@@ -150,6 +152,10 @@ abbrev pub check_items : Scope → List (ℕ × Item) → Told (List Gift)
 check_items scope [] = Ok []
 check_items scope (m ∷ more) = after_ok (check_item scope m.1) (λ g. after_ok (check_items scope more) (λ gs. Ok (g ∷ gs)))
 
+-- the items of a `give`
+abbrev pub check_all_items : Scope → Item → List (ℕ × Item) → Told (List Gift)
+check_all_items scope i more = after_ok (check_item scope i) (λ g. after_ok (check_items scope more) (λ gs. Ok (g ∷ gs)))
+
 -- a variable more
 abbrev pub with_variable : Scope → List ℕ → Sort → Scope
 with_variable scope n s = record scope { variables = scope.variables ++ (n, s) ∷ [] }
@@ -176,7 +182,7 @@ abbrev mutual
       after_ok (check_block scope ss) (λ c. after_ok (check_block scope rs) (λ d. Ok (scope, tree.choose g c d)))))
   check_statement scope (abort p q t e) = Ok (scope, tree.abort_with t)
   check_statement scope (give p i more e) =
-      after_ok (check_item scope i) (λ g. after_ok (check_items scope more) (λ gs. Ok (scope, tree.give_all (g ∷ gs))))
+      after_ok (check_all_items scope i more) (λ gs. Ok (scope, tree.give_all gs))
 
 -- a parameter in a key expression: one of this kind
 abbrev pub as_param : ℕ → Sort → Meaning → Told ℕ

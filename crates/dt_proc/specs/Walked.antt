@@ -1,5 +1,5 @@
 -- What a walk over tokens answers, in terms of the syntax trees that the tokens spell.
-use Rattle.std.specs.Prelude.{◌≡◌, ◌⊎◌, ℕ, suc, ◌<◌, List, [], ◌∷◌, ◌++◌, Result, Ok, Err, Option, Some, None}
+use Rattle.std.specs.Prelude.{◌≡◌, ◌⊎◌, ℕ, suc, ◌<◌, List, [], ◌∷◌, ◌++◌, map, Result, Ok, Err, Option, Some, None}
 use Rattle.dt_proc.specs.declared.token.Token.{Token}
 use Rattle.dt_proc.specs.declared.token.Token.TheVariants as tok
 use Rattle.dt_proc.specs.declared.token.Placed.{Placed}
@@ -7,7 +7,11 @@ use Rattle.dt_proc.specs.declared.tree.Expr.{Expr}
 use Rattle.dt_proc.specs.declared.tree.Sort.{Sort}
 use Rattle.dt_proc.specs.declared.error.ProcError.{ProcError}
 use Rattle.dt_proc.specs.declared.error.ProcError.TheVariants as fault
-use Rattle.dt_proc.specs.Shown.{formula_of}
+use Rattle.dt_proc.specs.declared.tree.Give.{Give}
+use Rattle.dt_proc.specs.declared.tree.Stmt.{Stmt}
+use Rattle.dt_proc.specs.Names.{Scope}
+use Rattle.dt_proc.specs.Tree.{Gift, Step, Block}
+use Rattle.dt_proc.specs.Shown.{formula_of, gift_of, step_of}
 use Rattle.dt_proc.specs.Checked.{Told, Typed}
 use Rattle.std.specs.Borrow.{Bor}
 use Rattle.dt_proc.specs.declared.tree.Op.{Op}
@@ -50,3 +54,34 @@ operator_shown (Some r) = Some (r.0, r.1, r.2.now)
 abbrev pub FindsOperator : ℕ → List Placed → Option (ℕ × Op × List Placed) → Type 0
 FindsOperator n ts None = (p : ℕ) (o : Op) (rest : List Placed) → at p (tok.Op o) ∷ rest ≡ ts → ¬ (level_of o ≡ n)
 FindsOperator n ts (Some (p, o, rest)) = (at p (tok.Op o) ∷ rest ≡ ts) × (level_of o ≡ n)
+
+abbrev pub gift_shown : Result (Give × Bor (List Placed)) ProcError → Told (Gift × List Placed)
+gift_shown (Ok r) = Ok (gift_of r.0, r.1.now)
+gift_shown (Err e) = Err e
+
+abbrev pub gifts_shown : Result (List Give × Bor (List Placed)) ProcError → Told (List Gift × List Placed)
+gifts_shown (Ok r) = Ok (map gift_of r.0, r.1.now)
+gifts_shown (Err e) = Err e
+
+abbrev pub block_shown : Result (Block × Bor (List Placed)) ProcError → Told (Block × List Placed)
+block_shown (Ok r) = Ok (r.0, r.1.now)
+block_shown (Err e) = Err e
+
+-- a statement, and what is visible after it
+abbrev pub step_shown : Scope → Result (Stmt × Bor (List Placed)) ProcError → Told ((Scope × Step) × List Placed)
+step_shown scope (Ok r) = Ok ((scope, step_of r.0), r.1.now)
+step_shown scope (Err e) = Err e
+
+-- no `else` comes first
+abbrev pub NoElse : List Placed → Type 0
+NoElse [] = Unit {0}
+NoElse (t ∷ ts) = ¬ (t.token ≡ tok.Else)
+
+-- what follows the token, where it comes first; and none where it does not
+abbrev pub Follows : Token → List Placed → Option (List Placed) → Type 0
+Follows t ts None = (p : ℕ) (rest : List Placed) → ¬ (at p t ∷ rest ≡ ts)
+Follows t ts (Some rest) = (p : ℕ) × (at p t ∷ rest ≡ ts)
+
+abbrev pub left_shown : Option (Bor (List Placed)) → Option (List Placed)
+left_shown None = None
+left_shown (Some r) = Some r.now

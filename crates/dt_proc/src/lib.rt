@@ -8,6 +8,7 @@ mod lexer;
 mod machine;
 mod procs;
 mod scope;
+mod steps;
 mod token;
 mod tree;
 mod walk;

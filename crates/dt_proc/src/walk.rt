@@ -21,10 +21,10 @@ use dt_text::Name;
 use std::alloc::Global;
 
 /// The answer where tokens are not in the grammar, which the first pass rules out.
-const BROKEN: ProcError = ProcError::Syntax(0);
+pub(crate) const BROKEN: ProcError = ProcError::Syntax(0);
 
 /// What follows the first token.
-fn after_one(tokens: &[Placed]) -> Result<&[Placed], ProcError>
+pub(crate) fn after_one(tokens: &[Placed]) -> Result<&[Placed], ProcError>
     ensures shorter { IfOk result (λ r. length r.now < length tokens.now) }
     ensures right { (t : Placed) (rest : List Placed) → t ∷ rest ≡ tokens.now → MatchResult result (λ r. r.now ≡ rest) (λ e. ⊥) }
 {
@@ -35,7 +35,7 @@ fn after_one(tokens: &[Placed]) -> Result<&[Placed], ProcError>
 }
 
 /// The name that comes first, with its place, and what follows it.
-fn named(tokens: &[Placed]) -> Result<(u32, &Name, &[Placed]), ProcError>
+pub(crate) fn named(tokens: &[Placed]) -> Result<(u32, &Name, &[Placed]), ProcError>
     ensures shorter { IfOk result (λ r. length r.2.now < length tokens.now) }
     ensures right { (p : ℕ) (n : List ℕ) (rest : List Placed) → at p (tok.Name n) ∷ rest ≡ tokens.now
         → MatchResult result (λ r. (r.0 ≡ p) × (r.1.now ≡ n) × (r.2.now ≡ rest)) (λ e. ⊥) }
@@ -60,7 +60,7 @@ fn bracketed(tokens: &[Placed]) -> Result<(u32, &Name, &[Placed]), ProcError>
 }
 
 /// The number of the key that the name in brackets means, and what follows the brackets.
-fn key_in_brackets<'a>(
+pub(crate) fn key_in_brackets<'a>(
     scope: &Scope,
     tokens: &'a [Placed],
 ) -> Result<(u32, &'a [Placed]), ProcError>
@@ -78,7 +78,7 @@ fn key_in_brackets<'a>(
 
 /// An expression of the level: operands of the next one with operators between, which group from the left.
 #[cycle(walk)]
-fn expression<'a>(
+pub(crate) fn expression<'a>(
     alloc: Global,
     scope: &Scope,
     tokens: &'a [Placed],
