@@ -1,7 +1,9 @@
 pub mod Accepting
+pub mod Blocked
 pub mod Blocks
 pub mod Entries
 pub mod Finishing
+pub mod Items
 pub mod Lexing
 pub mod Numbers
 pub mod Walks

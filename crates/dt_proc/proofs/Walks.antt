@@ -93,10 +93,10 @@ Shape n scope (tok.Op o) p ts x rest =
     (y : Syntax) × (check scope x ≡ check scope (minus p y)) × IsLevel 6 y × (n ≡ 5) × (syntax_tokens y ++ rest ≡ ts)
 Shape n scope t p ts x rest = ⊥
 
-head_is : (t u : Placed) (ts us : List Placed) → t ∷ ts ≡ u ∷ us → t ≡ u
+pub head_is : (t u : Placed) (ts us : List Placed) → t ∷ ts ≡ u ∷ us → t ≡ u
 head_is t u ts us e = cc
 
-tail_is : (t u : Placed) (ts us : List Placed) → t ∷ ts ≡ u ∷ us → ts ≡ us
+pub tail_is : (t u : Placed) (ts us : List Placed) → t ∷ ts ≡ u ∷ us → ts ≡ us
 tail_is t u ts us e = cc
 
 -- a shape that is known at one token holds at the equal one
@@ -209,7 +209,7 @@ pub record IsLinked (n : ℕ) (p : ℕ) (o : Op) (after : List Placed) (ls : Lin
   pub good : AreLinks n more
   pub cut : syntax_tokens x ++ (links_tokens more ++ rest) ≡ after
 
-placed_is : (p q : ℕ) (s t : Token) → at p s ≡ at q t → (p ≡ q) × (s ≡ t)
+pub placed_is : (p q : ℕ) (s t : Token) → at p s ≡ at q t → (p ≡ q) × (s ≡ t)
 placed_is p q s t e = (ap (λ v. v.place) e, ap (λ v. v.token) e)
 
 operator_is : (o u : Op) → tok.Op o ≡ tok.Op u → o ≡ u

@@ -160,6 +160,13 @@ check_all_items scope i more = after_ok (check_item scope i) (λ g. after_ok (ch
 abbrev pub with_variable : Scope → List ℕ → Sort → Scope
 with_variable scope n s = record scope { variables = scope.variables ++ (n, s) ∷ [] }
 
+-- an `if` with one block, and with two
+abbrev pub one_block : Scope → Formula → Told Block → Told (Scope × Step)
+one_block scope f told = after_ok told (λ c. Ok (scope, tree.choose f c done))
+
+abbrev pub two_blocks : Scope → Formula → Told Block → Told Block → Told (Scope × Step)
+two_blocks scope f told other = after_ok told (λ c. after_ok other (λ d. Ok (scope, tree.choose f c d)))
+
 abbrev mutual
   -- statements
   pub check_block : Scope → Statements → Told Block
@@ -175,11 +182,9 @@ abbrev mutual
       after_ok (as_written q (meaning scope n)) (λ k. after_ok (check scope x) (λ a. needs_stored p a (scope, tree.set_row k a.0)))
   check_statement scope (clear_key p q n e) = after_ok (as_written q (meaning scope n)) (λ k. Ok (scope, tree.clear_row k))
   check_statement scope (when p x b ss e) =
-      after_ok (check scope x) (λ a. after_ok (needs p sort.Bool a a.0) (λ f.
-      after_ok (check_block scope ss) (λ c. Ok (scope, tree.choose f c done))))
+      after_ok (check scope x) (λ a. after_ok (needs p sort.Bool a a.0) (λ f. one_block scope f (check_block scope ss)))
   check_statement scope (choose p x b ss e w o rs f) =
-      after_ok (check scope x) (λ a. after_ok (needs p sort.Bool a a.0) (λ g.
-      after_ok (check_block scope ss) (λ c. after_ok (check_block scope rs) (λ d. Ok (scope, tree.choose g c d)))))
+      after_ok (check scope x) (λ a. after_ok (needs p sort.Bool a a.0) (λ g. two_blocks scope g (check_block scope ss) (check_block scope rs)))
   check_statement scope (abort p q t e) = Ok (scope, tree.abort_with t)
   check_statement scope (give p i more e) =
       after_ok (check_all_items scope i more) (λ gs. Ok (scope, tree.give_all gs))

@@ -1,5 +1,5 @@
 -- What a walk over tokens answers, in terms of the syntax trees that the tokens spell.
-use Rattle.std.specs.Prelude.{◌≡◌, ◌⊎◌, ℕ, suc, ◌<◌, List, [], ◌∷◌, ◌++◌, map, Result, Ok, Err, Option, Some, None}
+use Rattle.std.specs.Prelude.{◌≡◌, ◌⊎◌, ℕ, suc, ◌<◌, List, [], ◌∷◌, ◌++◌, Bool, true, MatchBool, map, Result, Ok, Err, Option, Some, None}
 use Rattle.dt_proc.specs.declared.token.Token.{Token}
 use Rattle.dt_proc.specs.declared.token.Token.TheVariants as tok
 use Rattle.dt_proc.specs.declared.token.Placed.{Placed}
@@ -85,3 +85,8 @@ Follows t ts (Some rest) = (p : ℕ) × (at p t ∷ rest ≡ ts)
 abbrev pub left_shown : Option (Bor (List Placed)) → Option (List Placed)
 left_shown None = None
 left_shown (Some r) = Some r.now
+
+-- whether a `}` comes first, or nothing
+abbrev pub EndsBlock : List Placed → Bool → Type 0
+EndsBlock [] ends = ends ≡ true
+EndsBlock (t ∷ ts) ends = MatchBool ends (t.token ≡ tok.End) (¬ (t.token ≡ tok.End))

@@ -12,11 +12,12 @@ ghost use Rattle.dt_proc.specs.Checked.{after_ok};
 ghost use Rattle.dt_proc.specs.Checked as checked;
 ghost use Rattle.dt_proc.specs.Walked as walked;
 ghost use Rattle.dt_proc.specs.Tree as tree;
+ghost use Rattle.dt_proc.specs.Shown.{formula_of};
 
 use crate::error::ProcError;
 use crate::scope::{Meaning, Scope};
 use crate::token::{Placed, Token};
-use crate::tree::{Give, Gives, Sort, Stmt, Stmts};
+use crate::tree::{Expr, Give, Gives, Sort, Stmt, Stmts};
 use crate::walk::{BROKEN, after_one, expression, key_in_brackets, named};
 use dt_text::Name;
 use std::alloc::Global;
@@ -247,5 +248,116 @@ fn give_step<'a>(
     match items(alloc, scope, tokens) {
         Ok((gives, rest)) => Ok((Stmt::Give(gives), rest)),
         Err(fault) => Err(fault),
+    }
+}
+
+/// Statements up to and with the `}` that closes them. What they let is no longer visible after it.
+#[cycle(steps)]
+fn block<'a>(
+    alloc: Global,
+    scope: &mut Scope,
+    tokens: &'a [Placed],
+) -> Result<(Stmts, &'a [Placed]), ProcError>
+    ensures shorter { IfOk result (λ r. length r.1.now < length tokens.now) }
+    ensures right { (ss : syn.Statements) (e : ℕ) (rest : List Placed) → syn.AreStatements ss
+        → syn.statements_tokens ss ++ at e tok.End ∷ rest ≡ tokens.now
+        → walked.Answers (checked.check_block scope.old ss) rest (walked.block_shown result) × OnOk result (scope.new ≡ scope.old) }
+{
+    let outer = scope.variables();
+    let mut stmts = Stmts::new(alloc);
+    let mut rest = tokens;
+    'steps: while !is_end(rest) {
+        let (stmt, after) = step(alloc, scope, rest)?;
+        stmts.push(stmt)?;
+        rest = after;
+    }
+    scope.leave(outer);
+    Ok((stmts, after_one(rest)?))
+}
+
+/// Whether a `}` comes first, or nothing.
+fn is_end(tokens: &[Placed]) -> bool
+    ensures { walked.EndsBlock tokens.now result }
+{
+    match tokens {
+        [first, ..] => matches!(&first.token, Token::End),
+        [] => true,
+    }
+}
+
+/// A statement.
+#[cycle(steps)]
+fn step<'a>(
+    alloc: Global,
+    scope: &mut Scope,
+    tokens: &'a [Placed],
+) -> Result<(Stmt, &'a [Placed]), ProcError>
+    ensures shorter { IfOk result (λ r. length r.1.now < length tokens.now) }
+    ensures right { (s : syn.Statement) (rest : List Placed) → syn.IsStatement s → walked.NoElse rest → syn.statement_tokens s ++ rest ≡ tokens.now
+        → walked.Answers (checked.check_statement scope.old s) rest (walked.step_shown scope.new result) }
+{
+    let [first, rest @ ..] = tokens else {
+        return Err(BROKEN);
+    };
+    match &first.token {
+        Token::Let => let_step(alloc, scope, rest),
+        Token::Set => set_step(alloc, scope, first.place, rest),
+        Token::Clear => clear_step(scope, rest),
+        Token::If => if_step(alloc, scope, first.place, rest),
+        Token::Abort => abort_step(alloc, rest),
+        Token::Give => give_step(alloc, scope, rest),
+        _ => Err(BROKEN),
+    }
+}
+
+/// An `if`, after its word, which stands at the place.
+#[cycle(steps)]
+fn if_step<'a>(
+    alloc: Global,
+    scope: &mut Scope,
+    word: u32,
+    tokens: &'a [Placed],
+) -> Result<(Stmt, &'a [Placed]), ProcError>
+    ensures shorter { IfOk result (λ r. length r.1.now < length tokens.now) }
+    ensures one { (x : Syntax) (b : ℕ) (ss : syn.Statements) (e : ℕ) (rest : List Placed) → IsLevel 0 x → syn.AreStatements ss → walked.NoElse rest
+        → syntax_tokens x ++ at b tok.Begin ∷ (syn.statements_tokens ss ++ at e tok.End ∷ rest) ≡ tokens.now
+        → walked.Answers (checked.check_statement scope.old (syn.when word x b ss e)) rest (walked.step_shown scope.new result) }
+    ensures two { (x : Syntax) (b : ℕ) (ss : syn.Statements) (e w o : ℕ) (rs : syn.Statements) (f : ℕ) (rest : List Placed) → IsLevel 0 x
+        → syn.AreStatements ss → syn.AreStatements rs
+        → syntax_tokens x ++ at b tok.Begin ∷ (syn.statements_tokens ss ++ at e tok.End ∷ at w tok.Else ∷ at o tok.Begin
+            ∷ (syn.statements_tokens rs ++ at f tok.End ∷ rest)) ≡ tokens.now
+        → walked.Answers (checked.check_statement scope.old (syn.choose word x b ss e w o rs f)) rest (walked.step_shown scope.new result) }
+{
+    let (test, sort, rest) = expression(alloc, scope, tokens, 0)?;
+    match sort {
+        Sort::Bool => branches(alloc, scope, test, after_one(rest)?),
+        Sort::Int => Err(ProcError::Kind(word)),
+        Sort::Text => Err(ProcError::Kind(word)),
+    }
+}
+
+/// The blocks of an `if`, after the first `{`.
+#[cycle(steps)]
+fn branches<'a>(
+    alloc: Global,
+    scope: &mut Scope,
+    test: Expr,
+    tokens: &'a [Placed],
+) -> Result<(Stmt, &'a [Placed]), ProcError>
+    ensures shorter { IfOk result (λ r. length r.1.now < length tokens.now) }
+    ensures one { (ss : syn.Statements) (e : ℕ) (rest : List Placed) → syn.AreStatements ss → walked.NoElse rest
+        → syn.statements_tokens ss ++ at e tok.End ∷ rest ≡ tokens.now
+        → walked.Answers (checked.one_block scope.old (formula_of test) (checked.check_block scope.old ss)) rest (walked.step_shown scope.new result) }
+    ensures two { (ss : syn.Statements) (e w o : ℕ) (rs : syn.Statements) (f : ℕ) (rest : List Placed) → syn.AreStatements ss → syn.AreStatements rs
+        → syn.statements_tokens ss ++ at e tok.End ∷ at w tok.Else ∷ at o tok.Begin ∷ (syn.statements_tokens rs ++ at f tok.End ∷ rest) ≡ tokens.now
+        → walked.Answers (checked.two_blocks scope.old (formula_of test) (checked.check_block scope.old ss) (checked.check_block scope.old rs)) rest (walked.step_shown scope.new result) }
+{
+    let (then, rest) = block(alloc, scope, tokens)?;
+    match after_else(rest) {
+        Some(rest) => {
+            let (otherwise, rest) = block(alloc, scope, after_one(rest)?)?;
+            Ok((Stmt::If(test, then, otherwise), rest))
+        }
+        None => Ok((Stmt::If(test, then, Stmts::new(alloc)), rest)),
     }
 }
