@@ -10,10 +10,11 @@ use Rattle.dt_proc.specs.declared.tree.Sort.{Sort}
 use Rattle.dt_proc.specs.declared.error.ProcError.{ProcError}
 use Rattle.dt_proc.specs.declared.error.ProcError.TheVariants as fault
 use Rattle.dt_proc.specs.Tree as tree
-use Rattle.dt_proc.specs.Tree.{Step, Block, done, then, joined}
-use Rattle.dt_proc.specs.Names.{Scope}
-use Rattle.dt_proc.specs.Checked.{Told, after_ok, with_variable, check_block, check_statement}
-use Rattle.dt_proc.specs.Walked.{Answers, NoElse}
+use Rattle.dt_proc.specs.Tree.{Formula, Gift, Step, Block, done, then, joined}
+use Rattle.dt_proc.specs.Names.{Scope, meaning}
+use Rattle.dt_proc.specs.Checked.{Told, Typed, after_ok, with_variable, as_new, as_written, needs, same_sort, check, check_all_items, check_block, check_statement}
+use Rattle.dt_proc.specs.declared.tree.Sort.TheVariants as sort
+use Rattle.dt_proc.specs.Walked.{Answers, NoElse, EndsBlock}
 use Rattle.dt_proc.specs.Syntax.{at, Statement, let_new, set_key, clear_key, when, choose, abort, give, Statements, nothing, first, statement_tokens, statements_tokens, IsStatement, AreStatements, Syntax, syntax_tokens, IsLevel, Item, IsItem, items_tokens}
 use Rattle.dt_lists.specs.Lists.{AllIn}
 use Rattle.dt_proc.proofs.Walks.{head_is, tail_is, placed_is, left_of, cut_first}
@@ -102,43 +103,45 @@ one_more (Ok b) s block = ap Ok (sym (joined_assoc block (then s done) b))
 one_more (Err e) s block = refl
 
 -- a statement lets at most one variable more
-pub ok_parts : {A B : Type 0} (told : Told A) (next : A → Told B) (r : B) → after_ok told next ≡ Ok r → (a : A) × (told ≡ Ok a) × (next a ≡ Ok r)
-ok_parts (Ok a) next r e = (a, refl, e)
-ok_parts (Err f) next r e = absurd cc
+scope_of : Scope → Told (Scope × Step) → Scope
+scope_of other (Ok r) = r.0
+scope_of other (Err e) = other
 
-visible : (a b : Scope) (s t : Step) → ◌≡◌ {A = Told (Scope × Step)} (Ok (a, s)) (Ok (b, t)) → a ≡ b
-visible a b s t e = cc
+-- whatever is told, what was visible is visible still
+abbrev Keeps : Scope → Told (Scope × Step) → Type 0
+Keeps scope told = (new : Scope) (step : Step) → told ≡ Ok (new, step) → Grown scope new
 
-same_grown : (a b : Scope) → a ≡ b → Grown a b
-same_grown a b e = subst (Grown a) e (grown_start a)
+keeps_ok : (scope other : Scope) (s : Step) → Grown scope other → Keeps scope (Ok (other, s))
+unfolding scope_of
+keeps_ok scope other s g new step e = subst (Grown scope) (ap (scope_of other) e) g
 
-stored : (b : Bool) (p : ℕ) (a new : Scope) (s t : Step) → ◌≡◌ {A = Told (Scope × Step)} (cond b (Err (fault.Kind p)) (Ok (a, s))) (Ok (new, t)) → a ≡ new
-stored true p a new s t e = absurd cc
-stored false p a new s t e = cc
+keeps_after : {A : Type 0} (scope : Scope) (told : Told A) (next : A → Told (Scope × Step)) → ((a : A) → Keeps scope (next a)) → Keeps scope (after_ok told next)
+keeps_after scope (Ok a) next h = h a
+keeps_after scope (Err e) next h = λ new step is. absurd cc
 
-lets : (scope new : Scope) (s : Statement) (step : Step) → check_statement scope s ≡ Ok (new, step) → Grown scope new
-lets scope new (let_new p q n i x e) step is =
-    let one = ok_parts _ _ _ is in
-    let two = ok_parts _ _ _ one.2 in
-    subst (Grown scope) (visible _ _ _ _ two.2) (record { keys = refl; variables = ((n, two.0.1) ∷ [], refl) })
-lets scope new (set_key p q n i x e) step is =
-    let one = ok_parts _ _ _ is in
-    let two = ok_parts _ _ _ one.2 in
-    same_grown scope new (stored _ _ _ _ _ _ two.2)
-lets scope new (clear_key p q n e) step is = let one = ok_parts _ _ _ is in same_grown scope new (visible _ _ _ _ one.2)
-lets scope new (when p x b ss e) step is =
-    let one = ok_parts _ _ _ is in
-    let two = ok_parts _ _ _ one.2 in
-    let three = ok_parts _ _ _ two.2 in
-    same_grown scope new (visible _ _ _ _ three.2)
-lets scope new (choose p x b ss e w o rs f) step is =
-    let one = ok_parts _ _ _ is in
-    let two = ok_parts _ _ _ one.2 in
-    let three = ok_parts _ _ _ two.2 in
-    let four = ok_parts _ _ _ three.2 in
-    same_grown scope new (visible _ _ _ _ four.2)
-lets scope new (abort p q t e) step is = same_grown scope new (visible _ _ _ _ is)
-lets scope new (give p i more e) step is = let one = ok_parts _ _ _ is in same_grown scope new (visible _ _ _ _ one.2)
+keeps_stored : (scope : Scope) (b : Bool) (p : ℕ) (s : Step) → Keeps scope (cond b (Err (fault.Kind p)) (Ok (scope, s)))
+keeps_stored scope true p s = λ new step is. absurd cc
+keeps_stored scope false p s = keeps_ok scope scope s (grown_start scope)
+
+lets : (scope : Scope) (s : Statement) → Keeps scope (check_statement scope s)
+lets scope (let_new p q n i x e) =
+    keeps_after {A = Unit {0}} scope (as_new q (meaning scope n)) _ (λ u. keeps_after {A = Typed} scope (check scope x) _
+      (λ a. keeps_ok scope (with_variable scope n a.1) (tree.let_new a.0) (record { keys = refl; variables = ((n, a.1) ∷ [], refl) })))
+lets scope (set_key p q n i x e) =
+    keeps_after {A = ℕ} scope (as_written q (meaning scope n)) _ (λ k. keeps_after {A = Typed} scope (check scope x) _
+      (λ a. keeps_stored scope (same_sort a.1 sort.Bool) p (tree.set_row k a.0)))
+lets scope (clear_key p q n e) =
+    keeps_after {A = ℕ} scope (as_written q (meaning scope n)) _ (λ k. keeps_ok scope scope (tree.clear_row k) (grown_start scope))
+lets scope (when p x b ss e) =
+    keeps_after {A = Typed} scope (check scope x) _ (λ a. keeps_after {A = Formula} scope (needs p sort.Bool a a.0) _
+      (λ f. keeps_after {A = Block} scope (check_block scope ss) _ (λ c. keeps_ok scope scope (tree.choose f c done) (grown_start scope))))
+lets scope (choose p x b ss e w o rs g) =
+    keeps_after {A = Typed} scope (check scope x) _ (λ a. keeps_after {A = Formula} scope (needs p sort.Bool a a.0) _
+      (λ f. keeps_after {A = Block} scope (check_block scope ss) _ (λ c. keeps_after {A = Block} scope (check_block scope rs) _
+      (λ d. keeps_ok scope scope (tree.choose f c d) (grown_start scope)))))
+lets scope (abort p q t e) = keeps_ok scope scope (tree.abort_with t) (grown_start scope)
+lets scope (give p i more e) =
+    keeps_after {A = List Gift} scope (check_all_items scope i more) _ (λ gs. keeps_ok scope scope (tree.give_all gs) (grown_start scope))
 
 pub step_told : (outer scope new : Scope) (told : Told Block) (block after : Block) (left : List Placed) (e : ℕ) (rest : List Placed) (s : Step) (us : List Placed) →
     Grown outer scope → (n : IsStep scope told block left e rest) → check_statement scope n.step ≡ Ok (new, s) → after ≡ joined block (then s done) →
@@ -147,7 +150,7 @@ step_told outer scope new told block after left e rest s us grown n is pushed cu
     (n.more, n.others, sym cut,
       n.told_as ∙ ap (λ t. after_ok (after_ok t (λ r. after_ok (check_block r.0 n.more) (λ b. Ok (then r.1 b)))) (λ b. Ok (joined block b))) is
       ∙ one_more (check_block new n.more) s block ∙ ap (λ v. after_ok (check_block new n.more) (λ b. Ok (joined v b))) (sym pushed),
-      grows outer scope new grown (lets scope new n.step s is))
+      grows outer scope new grown (lets scope n.step new s is))
   where
     grows : (a b c : Scope) → Grown a b → Grown b c → Grown a c
     grows a b c f g = record {
@@ -223,10 +226,10 @@ step_shape (abort p q x e) rest t ts h is = shape_at (at p tok.Abort) t _ ts (ab
 step_shape (give p i more e) rest t ts h is =
     shape_at (at p tok.Give) t _ ts (give p i more e) rest is (i, more, e, refl, h.0, h.1, inner (items_tokens i more) (at e tok.Semicolon) rest)
 
-pub step_when : (s : Statement) (rest ts : List Placed) (first : Placed) (k : Token) → IsStatement s → 1 ≤ length ts → first ≡ get_or ts 0 first →
-    statement_tokens s ++ rest ≡ ts → first.token ≡ k → StepShape k first.place (left_of ts) s rest
-step_when s rest ts first k h some is e same =
-    subst (λ t. StepShape t first.place (left_of ts) s rest) same (step_shape s rest first (left_of ts) h (e ∙ cut_first ts first some is))
+pub step_when : (s : Statement) (rest ts : List Placed) (one : Placed) (k : Token) → IsStatement s → 1 ≤ length ts → one ≡ get_or ts 0 one →
+    statement_tokens s ++ rest ≡ ts → one.token ≡ k → StepShape k one.place (left_of ts) s rest
+step_when s rest ts one k h some is e same =
+    subst (λ t. StepShape t one.place (left_of ts) s rest) same (step_shape s rest one (left_of ts) h (e ∙ cut_first ts one some is))
 
 pub some_statement : (s : Statement) (rest ts : List Placed) → length ts < 1 → statement_tokens s ++ rest ≡ ts → ⊥
 some_statement (let_new p q n i x e) rest ts none is = omega (arith, ap length is)
@@ -246,3 +249,14 @@ no_statement tok.If p ts s rest a b c d e f h = d refl
 no_statement tok.Abort p ts s rest a b c d e f h = e refl
 no_statement tok.Give p ts s rest a b c d e f h = f refl
 no_statement t p ts s rest a b c d e f h = h
+
+pub not_ended : (outer scope : Scope) (told : Told Block) (block : Block) (left : List Placed) (e : ℕ) (rest : List Placed) →
+    EndsBlock left false → StepsLeft outer scope told block left e rest → IsStep scope told block left e rest
+not_ended outer scope told block [] e rest ends left = absurd cc
+not_ended outer scope told block (t ∷ ts) e rest ends left = step_next outer scope told block t ts e rest ends left
+
+pub ended : (outer scope : Scope) (told : Told Block) (block : Block) (left : List Placed) (e : ℕ) (rest : List Placed) →
+    EndsBlock left true → StepsLeft outer scope told block left e rest → (told ≡ Ok block) × (at e tok.End ∷ rest ≡ left) × Grown outer scope
+ended outer scope told block [] e rest ends (ss, good, cut, is, grown) =
+    absurd (omega (arith, ap length cut, length-append (statements_tokens ss) (at e tok.End ∷ rest)))
+ended outer scope told block (t ∷ ts) e rest ends left = steps_end outer scope told block t ts e rest ends left
