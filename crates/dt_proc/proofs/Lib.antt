@@ -5,5 +5,6 @@ pub mod Entries
 pub mod Finishing
 pub mod Items
 pub mod Lexing
+pub mod Listing
 pub mod Numbers
 pub mod Walks

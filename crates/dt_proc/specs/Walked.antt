@@ -12,11 +12,14 @@ use Rattle.dt_proc.specs.declared.tree.Stmt.{Stmt}
 use Rattle.dt_proc.specs.Names.{Scope}
 use Rattle.dt_proc.specs.Tree.{Gift, Step, Block}
 use Rattle.dt_proc.specs.Shown.{formula_of, gift_of, step_of}
-use Rattle.dt_proc.specs.Checked.{Told, Typed}
+use Rattle.dt_proc.specs.declared.tree.KeyDecl.{KeyDecl}
+use Rattle.dt_proc.specs.Checked.{Told, Typed, after_ok, check_key, check_keys, with_key}
 use Rattle.std.specs.Borrow.{Bor}
 use Rattle.dt_proc.specs.declared.tree.Op.{Op}
 use Rattle.dt_proc.specs.Tree.{variable}
-use Rattle.dt_proc.specs.Syntax.{at, level_of}
+use Rattle.dt_proc.specs.declared.tree.KeyItem.{KeyItem}
+use Rattle.dt_proc.specs.declared.tree.Op.TheVariants as op
+use Rattle.dt_proc.specs.Syntax.{at, level_of, Param, param_tokens, KeyPart, part_tokens, KeySyntax}
 
 -- an expression of the level does not go on with this token
 abbrev pub Stops : ℕ → Token → Type 0
@@ -90,3 +93,31 @@ left_shown (Some r) = Some r.now
 abbrev pub EndsBlock : List Placed → Bool → Type 0
 EndsBlock [] ends = ends ≡ true
 EndsBlock (t ∷ ts) ends = MatchBool ends (t.token ≡ tok.End) (¬ (t.token ≡ tok.End))
+
+-- what is left, with what was made on the way
+abbrev pub left_with : {A : Type 0} → A → Result (Bor (List Placed)) ProcError → Told (A × List Placed)
+left_with a (Ok r) = Ok (a, r.now)
+left_with a (Err e) = Err e
+
+abbrev pub part_shown : Result (KeyItem × Bor (List Placed)) ProcError → Told (KeyItem × List Placed)
+part_shown (Ok r) = Ok (r.0, r.1.now)
+part_shown (Err e) = Err e
+
+-- a parameter after a `,`, and a part of a key expression after a `++`
+abbrev pub comma_param : ℕ × Param → List Placed
+comma_param m = at m.0 tok.Comma ∷ param_tokens m.1
+
+abbrev pub joined_part : ℕ × KeyPart → List Placed
+joined_part m = at m.0 (tok.Op op.Join) ∷ part_tokens m.1
+
+abbrev pub left_with_both : {A B : Type 0} → A → B → Result (Bor (List Placed)) ProcError → Told ((A × B) × List Placed)
+left_with_both a b (Ok r) = Ok ((a, b), r.now)
+left_with_both a b (Err e) = Err e
+
+-- a key after others, with what is visible after it
+abbrev pub key_told : Scope → List KeyDecl → KeySyntax → Told (Scope × List KeyDecl)
+key_told scope keys k = after_ok (check_key scope k) (λ d. Ok (with_key scope k.name k.write, keys ++ d ∷ []))
+
+-- keys after others, with what is visible after them
+abbrev pub keys_told : Scope → List KeyDecl → List KeySyntax → Told (Scope × List KeyDecl)
+keys_told scope keys ks = after_ok (check_keys scope ks) (λ r. Ok (r.1, keys ++ r.0))

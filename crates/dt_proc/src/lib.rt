@@ -4,6 +4,7 @@
 mod builtin;
 mod copies;
 mod error;
+mod heads;
 mod lexer;
 mod machine;
 mod procs;

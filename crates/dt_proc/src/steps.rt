@@ -23,7 +23,7 @@ use dt_text::Name;
 use std::alloc::Global;
 
 /// What follows a `,`, if one comes first.
-fn after_comma(tokens: &[Placed]) -> Option<&[Placed]>
+pub(crate) fn after_comma(tokens: &[Placed]) -> Option<&[Placed]>
     ensures shorter { IfSome result (λ r. length r.now < length tokens.now) }
     ensures right { walked.Follows tok.Comma tokens.now (walked.left_shown result) }
 {
@@ -157,7 +157,7 @@ fn let_step<'a>(
 }
 
 /// Whether a name is not visible.
-fn is_new(scope: &Scope, name: &Name) -> bool
+pub(crate) fn is_new(scope: &Scope, name: &Name) -> bool
     ensures { result ≡ checked.is_unknown (meaning scope.now name.now) }
 {
     matches!(scope.meaning(name), Meaning::Unknown)

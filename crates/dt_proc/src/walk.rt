@@ -50,7 +50,7 @@ pub(crate) fn named(tokens: &[Placed]) -> Result<(u32, &Name, &[Placed]), ProcEr
 }
 
 /// The name in brackets that comes first, with its place, and what follows the brackets.
-fn bracketed(tokens: &[Placed]) -> Result<(u32, &Name, &[Placed]), ProcError>
+pub(crate) fn bracketed(tokens: &[Placed]) -> Result<(u32, &Name, &[Placed]), ProcError>
     ensures shorter { IfOk result (λ r. length r.2.now < length tokens.now) }
     ensures right { (b : Bracketed) (rest : List Placed) → bracketed_tokens b ++ rest ≡ tokens.now
         → MatchResult result (λ r. (r.0 ≡ b.name_at) × (r.1.now ≡ b.name) × (r.2.now ≡ rest)) (λ e. ⊥) }
@@ -380,7 +380,7 @@ impl Op {
     }
 
     /// Whether the operator joins texts.
-    fn is_join(self) -> bool
+    pub(crate) fn is_join(self) -> bool
         ensures { result ≡ checked.is_join self }
     {
         matches!(self, Op::Join)
