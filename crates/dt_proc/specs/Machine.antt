@@ -1,6 +1,6 @@
 -- A machine that reads tokens from the front, with a stack of what is expected, the next first. That it goes on exactly
 -- where some procedures begin with the tokens so far is proved.
-use Rattle.std.specs.Prelude.{ℕ, zero, suc, Bool, true, false, if◌then◌else◌, ◌==◌, nat_le, List, [], ◌∷◌, ◌++◌, Option, Some, None}
+use Rattle.std.specs.Prelude.{ℕ, zero, suc, Bool, true, false, if◌then◌else◌, ◌==◌, nat_le, ◌≡◌, List, [], ◌∷◌, ◌++◌, Option, Some, None}
 use Rattle.dt_proc.specs.declared.tree.Op.{Op}
 use Rattle.dt_proc.specs.declared.tree.Op.TheVariants as op
 use Rattle.dt_proc.specs.declared.token.Token.{Token}
@@ -8,6 +8,8 @@ use Rattle.dt_proc.specs.declared.token.Token.TheVariants.{Name, Int, Text, Op a
 use Rattle.dt_proc.specs.declared.token.Placed.{Placed}
 use Rattle.dt_proc.specs.declared.machine.Sym.{Sym}
 use Rattle.dt_proc.specs.declared.machine.Sym.TheVariants as sym
+use Rattle.dt_proc.specs.declared.machine.Step.{Step}
+use Rattle.dt_proc.specs.declared.machine.Step.TheVariants.{Takes, Passes, Refuses}
 use Rattle.dt_proc.specs.Syntax.{level_of}
 
 -- what a token does to what is expected: it is taken, and these are expected after it; or what is expected ends before it; or neither
@@ -147,3 +149,42 @@ onward (Some stack) next = next stack
 abbrev pub run : List Sym → List Placed → Option (List Sym)
 run stack [] = Some stack
 run stack (t ∷ ts) = onward (advance stack t.token) (λ after. run after ts)
+
+-- what a step of the machine is, as the code has it
+abbrev pub turn_of : Step → Turn
+turn_of (Takes now level) = takes (now.now ++ tails level)
+turn_of Passes = passes
+turn_of Refuses = refuses
+
+-- the stack goes on to another, or does not
+abbrev pub Advances : List Sym → Token → List Sym → Bool → Type 0
+Advances old t new true = advance old t ≡ Some new
+Advances old t new false = advance old t ≡ None
+
+-- one token is expected
+abbrev pub IsSingle : Sym → Type 0
+IsSingle sym.Name = Unit {0}
+IsSingle sym.Text = Unit {0}
+IsSingle sym.Open = Unit {0}
+IsSingle sym.Close = Unit {0}
+IsSingle sym.Begin = Unit {0}
+IsSingle sym.Colon = Unit {0}
+IsSingle sym.Is = Unit {0}
+IsSingle sym.Semicolon = Unit {0}
+IsSingle _ = ⊥
+
+abbrev pub IsPart : Sym → Type 0
+IsPart sym.Part = Unit {0}
+IsPart sym.MoreParts = Unit {0}
+IsPart _ = ⊥
+
+abbrev pub IsHead : Sym → Type 0
+IsHead sym.Procs = Unit {0}
+IsHead sym.Params = Unit {0}
+IsHead sym.MoreParams = Unit {0}
+IsHead sym.Kind = Unit {0}
+IsHead sym.Keys = Unit {0}
+IsHead sym.MoreKeys = Unit {0}
+IsHead sym.Part = Unit {0}
+IsHead sym.MoreParts = Unit {0}
+IsHead _ = ⊥

@@ -336,7 +336,7 @@ fn negative<'a>(
 
 impl Op {
     /// The level of the operator: 0 for `or`, 1 for `and`, 2 where it compares, 3 and 4 for the others.
-    fn level(self) -> u8
+    pub(crate) fn level(self) -> u8
         ensures { result ≡ level_of self }
     {
         match self {
