@@ -13,13 +13,14 @@ use Rattle.dt_proc.specs.Names.{Scope}
 use Rattle.dt_proc.specs.Tree.{Gift, Step, Block}
 use Rattle.dt_proc.specs.Shown.{formula_of, gift_of, step_of}
 use Rattle.dt_proc.specs.declared.tree.KeyDecl.{KeyDecl}
-use Rattle.dt_proc.specs.Checked.{Told, Typed, after_ok, check_key, check_keys, with_key}
+use Rattle.dt_proc.specs.Checked.{Told, Typed, after_ok, check_key, check_keys, with_key, check_params, param_kinds}
+use Rattle.dt_proc.specs.declared.tree.Kind.{Kind}
 use Rattle.std.specs.Borrow.{Bor}
 use Rattle.dt_proc.specs.declared.tree.Op.{Op}
 use Rattle.dt_proc.specs.Tree.{variable}
 use Rattle.dt_proc.specs.declared.tree.KeyItem.{KeyItem}
 use Rattle.dt_proc.specs.declared.tree.Op.TheVariants as op
-use Rattle.dt_proc.specs.Syntax.{at, level_of, Param, param_tokens, KeyPart, part_tokens, KeySyntax}
+use Rattle.dt_proc.specs.Syntax.{at, level_of, Param, param_tokens, KeyPart, part_tokens, KeySyntax, Params}
 
 -- an expression of the level does not go on with this token
 abbrev pub Stops : ℕ → Token → Type 0
@@ -121,3 +122,11 @@ key_told scope keys k = after_ok (check_key scope k) (λ d. Ok (with_key scope k
 -- keys after others, with what is visible after them
 abbrev pub keys_told : Scope → List KeyDecl → List KeySyntax → Told (Scope × List KeyDecl)
 keys_told scope keys ks = after_ok (check_keys scope ks) (λ r. Ok (r.1, keys ++ r.0))
+
+-- parameters, with what is visible after them
+abbrev pub params_told : Params → Told (Scope × List Kind)
+params_told ps = after_ok (check_params ps) (λ s. Ok (s, param_kinds ps))
+
+abbrev pub params_shown : Result (Scope × List Kind × Bor (List Placed)) ProcError → Told ((Scope × List Kind) × List Placed)
+params_shown (Ok r) = Ok ((r.0, r.1), r.2.now)
+params_shown (Err e) = Err e

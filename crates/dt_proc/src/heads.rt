@@ -223,3 +223,61 @@ fn key<'a>(
     keys.push(KeyDecl { write, items })?;
     Ok(rest)
 }
+
+/// What follows a `)`, if one comes first.
+fn after_close(tokens: &[Placed]) -> Option<&[Placed]>
+    ensures shorter { IfSome result (λ r. length r.now < length tokens.now) }
+    ensures right { walked.Follows tok.Close tokens.now (walked.left_shown result) }
+{
+    match tokens {
+        [first, rest @ ..] => match &first.token {
+            Token::Close => Some(rest),
+            _ => None,
+        },
+        [] => None,
+    }
+}
+
+/// Parameters, up to and with the `)`: what is visible after them, and their kinds.
+pub(crate) fn params(
+    alloc: Global,
+    tokens: &[Placed],
+) -> Result<(Scope, Listed<Kind>, &[Placed]), ProcError>
+    ensures { (ps : syn.Params) (q : ℕ) (rest : List Placed) → syn.params_tokens ps ++ at q tok.Close ∷ rest ≡ tokens.now
+        → walked.Answers (walked.params_told ps) rest (walked.params_shown result) }
+{
+    let mut scope = Scope::new(alloc);
+    let mut kinds = Listed::new(alloc);
+    if let Some(rest) = after_close(tokens) {
+        return Ok((scope, kinds, rest));
+    }
+    let rest = param(alloc, &mut scope, &mut kinds, tokens)?;
+    let rest = more_params(alloc, &mut scope, &mut kinds, rest)?;
+    Ok((scope, kinds, rest))
+}
+
+/// More keys, up to and with the `{` after them.
+pub(crate) fn more_keys<'a>(
+    alloc: Global,
+    scope: &mut Scope,
+    keys: &mut Listed<KeyDecl>,
+    tokens: &'a [Placed],
+) -> Result<&'a [Placed], ProcError>
+    ensures { (ks : List syn.KeySyntax) (b : ℕ) (rest : List Placed) → flat_map syn.key_tokens ks ++ at b tok.Begin ∷ rest ≡ tokens.now
+        → walked.Answers (walked.keys_told scope.old keys.old ks) rest (walked.left_with_both scope.new keys.new result) }
+{
+    let [first, rest @ ..] = tokens else {
+        return Err(BROKEN);
+    };
+    match &first.token {
+        Token::Read => {
+            let rest = key(alloc, scope, keys, false, rest)?;
+            more_keys(alloc, scope, keys, rest)
+        }
+        Token::Write => {
+            let rest = key(alloc, scope, keys, true, rest)?;
+            more_keys(alloc, scope, keys, rest)
+        }
+        _ => Ok(rest),
+    }
+}

@@ -3,6 +3,7 @@
 
 mod builtin;
 mod copies;
+mod counts;
 mod error;
 mod heads;
 mod lexer;
