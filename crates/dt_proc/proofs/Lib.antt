@@ -7,4 +7,5 @@ pub mod Items
 pub mod Lexing
 pub mod Listing
 pub mod Numbers
+pub mod Reading
 pub mod Walks

@@ -3,6 +3,8 @@ use Rattle.std.specs.Prelude.{◌≡◌, ◌⊎◌, ℕ, ◌+◌, ◌-◌, Bool,
 use Rattle.dt_proc.specs.declared.token.Token.{Token}
 use Rattle.dt_proc.specs.declared.token.Token.TheVariants as tok
 use Rattle.dt_proc.specs.declared.token.Placed.{Placed}
+use Rattle.dt_proc.specs.declared.error.ProcError.{ProcError}
+use Rattle.dt_proc.specs.declared.error.ProcError.TheVariants as fault
 use Rattle.dt_proc.specs.Tokens.{tokens_of}
 use Rattle.dt_proc.specs.Syntax.{InGrammar, Begins}
 
@@ -150,7 +152,7 @@ pub record IsSyntaxFault (text : List ℕ) (place : ℕ) : Type 0 where
   pub before : List Placed
   pub after : List Placed
   pub well : StartsWell text before after
-  pub fault : FaultAfter text before after place
+  pub told : FaultAfter text before after place
 
 -- the first fault is a token that is one too many, with which some procedures go on
 pub record IsTooMany (text : List ℕ) (place : ℕ) : Type 0 where
@@ -161,3 +163,10 @@ pub record IsTooMany (text : List ℕ) (place : ℕ) : Type 0 where
   pub goes_on : Begins (before ++ token ∷ [])
   pub too_many : is_too_many (backwards before []) token.token ≡ true
   pub stands : token.place ≡ place
+
+-- what the first pass refuses a text for
+abbrev pub FirstFault : List ℕ → ProcError → Type 0
+FirstFault text (fault.Syntax place) = IsSyntaxFault text place
+FirstFault text (fault.TooMany place) = IsTooMany text place
+FirstFault text fault.NoMemory = Unit {0}
+FirstFault text _ = ⊥

@@ -6,6 +6,7 @@ mod copies;
 mod counts;
 mod error;
 mod heads;
+mod first_pass;
 mod lexer;
 mod machine;
 mod procs;
