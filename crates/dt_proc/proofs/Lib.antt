@@ -3,9 +3,11 @@ pub mod Blocked
 pub mod Blocks
 pub mod Entries
 pub mod Finishing
+pub mod Fitted
 pub mod Items
 pub mod Lexing
 pub mod Listing
 pub mod Numbers
 pub mod Reading
+pub mod Sorted
 pub mod Walks
