@@ -5,9 +5,11 @@ pub mod Entries
 pub mod Finishing
 pub mod Fitted
 pub mod Items
+pub mod Keyed
 pub mod Lexing
 pub mod Listing
 pub mod Numbers
 pub mod Reading
 pub mod Sorted
+pub mod Soundness
 pub mod Walks

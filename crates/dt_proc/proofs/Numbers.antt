@@ -30,11 +30,11 @@ small_digit c h =
 both : (a b : Bool) → a ≡ true → b ≡ true → (a && b) ≡ true
 both a b p q = cc
 
-left_of : (a b : Bool) → (a && b) ≡ true → a ≡ true
+pub left_of : (a b : Bool) → (a && b) ≡ true → a ≡ true
 left_of true b h = refl
 left_of false b h = h
 
-right_of : (a b : Bool) → (a && b) ≡ true → b ≡ true
+pub right_of : (a b : Bool) → (a && b) ≡ true → b ≡ true
 right_of true b h = h
 right_of false b h = absurd (cc)
 
@@ -105,3 +105,11 @@ number_is word None digit none =
 number_is word (Some (pos n)) digit h = rw (number_known word n (omega (arith, ints, h.0)) h.1) refl
 number_is word (Some (negsuc n)) digit h =
     let never : is_digit 45 ≡ true = subst (λ w. is_digit (get_or w 0 0) ≡ true) h.1 digit in absurd cc
+
+-- a number that a word writes is small
+pub whole_small : (word : List ℕ) (n : ℕ) → whole_number word ≡ Some n → n < 2 ^ 63
+whole_small word n is =
+    let facts = chosen _ _ _ is in
+    let low : digits_value 10 word < 2 ^ 63 = is_below (digits_value 10 word) (2 ^ 63) (right_of _ _ facts.0) in
+    let value : digits_value 10 word ≡ n = facts.1 in
+    omega arith
