@@ -1,6 +1,7 @@
 pub mod Accepting
 pub mod Blocked
 pub mod Blocks
+pub mod Counting
 pub mod Entries
 pub mod Finishing
 pub mod Fitted

@@ -236,14 +236,14 @@ abbrev pub param_kinds : Params → List Kind
 param_kinds no_param = []
 param_kinds (params p more) = p.kind ∷ map (λ m. m.1.kind) more
 
--- a procedure, after others of these names
-abbrev pub check_proc : List (List ℕ) → ProcSyntax → Told ProcTree
-check_proc names p =
-    if list_any (λ n. pointwise nat_eq n p.name) names then Err (fault.Twice p.name_at)
+-- a procedure, after others
+abbrev pub check_proc : List ProcTree → ProcSyntax → Told ProcTree
+check_proc before p =
+    if list_any (λ q. pointwise nat_eq q.name p.name) before then Err (fault.Twice p.name_at)
     else after_ok (check_params p.params) (λ s. after_ok (check_keys s (p.key ∷ p.more_keys)) (λ r. after_ok (check_block r.1 p.body) (λ b.
     Ok (record { name = p.name; params = param_kinds p.params; keys = r.0; body = b }))))
 
-abbrev pub check_procs : List (List ℕ) → List ProcSyntax → Told (List ProcTree)
-check_procs names [] = Ok []
-check_procs names (p ∷ ps) =
-    after_ok (check_proc names p) (λ q. after_ok (check_procs (names ++ p.name ∷ []) ps) (λ qs. Ok (q ∷ qs)))
+abbrev pub check_procs : List ProcTree → List ProcSyntax → Told (List ProcTree)
+check_procs before [] = Ok []
+check_procs before (p ∷ ps) =
+    after_ok (check_proc before p) (λ q. after_ok (check_procs (before ++ q ∷ []) ps) (λ qs. Ok (q ∷ qs)))
