@@ -12,7 +12,7 @@ use Rattle.dt_proc.specs.declared.token.Token.{Token}
 use Rattle.dt_proc.specs.declared.token.Token.TheVariants as tok
 use Rattle.dt_proc.specs.declared.token.Placed.{Placed}
 use Rattle.dt_proc.specs.Checked.{param_kinds}
-use Rattle.dt_proc.specs.Walked.{comma_param, joined_part}
+use Rattle.dt_proc.specs.Walked.{comma_param, joined_part, IsSmall}
 use Rattle.dt_proc.specs.Passes.{is_proc, is_mode, is_name, is_comma, is_close, follows, procs_begun, in_proc, is_proc_too_many, is_param_too_many, is_key_too_many, is_token_too_many, is_bracket_too_many, is_too_many, AreFew, backwards}
 use Rattle.dt_proc.specs.Syntax.{at, Syntax, chain, minus, denial, int, text, truth, name, parens, of_key, made, Links, no_link, link, syntax_tokens, links_tokens, Reader, reads_int, reads_text, reads_presence, reader_token, Maker, makes_length, makes_text, maker_token, Bracketed, bracketed_tokens, kind_token, Param, param_tokens, Params, no_param, params, params_tokens, KeyPart, text_part, name_part, show_part, part_tokens, mode_token, KeySyntax, key_tokens, Item, row_item, value_item, item_tokens, items_tokens, Statement, let_new, set_key, clear_key, when, choose, abort, give, Statements, nothing, first, statement_tokens, statements_tokens, ProcSyntax, proc_tokens, procs_tokens}
 
@@ -228,10 +228,6 @@ params_few e (params p more) is h =
       more_params_few (backwards (param_tokens p) e) 0 more (param_counts e 0 p is) (omega arith) (few_right e (param_tokens p) (flat_map comma_param more) h) in
     let same : length (map (λ (m : ℕ × Param). m.1.kind) more) ≡ length more = length-map more (λ (m : ℕ × Param). m.1.kind) in
     omega arith
-
--- a procedure of few parameters and keys
-abbrev pub IsSmall : ProcSyntax → Type 0
-IsSmall p = (length (param_kinds p.params) ≤ 16) × (length (p.key ∷ p.more_keys) ≤ 16)
 
 -- what is after the name and the `(` of a procedure
 abbrev proc_rest : ProcSyntax → List Placed

@@ -30,8 +30,8 @@ use Rattle.dt_proc.specs.Tree.{Formula, Gift, Step, Block, done, then}
 use Rattle.dt_proc.specs.Checked.{Told, Typed, after_ok, same_sort, needs, needs_stored, fits_both, combined, as_variable, as_key, as_written, as_new, as_param, key_of, read_by, made_by, check, check_links, front_place, check_item, check_items, check_all_items, with_variable, with_key, one_block, two_blocks, check_block, check_statement, check_part, check_parts, check_key, check_keys, check_param, check_more_params, check_params, param_kinds}
 use Rattle.dt_proc.specs.Syntax.{at, Syntax, chain, minus, denial, int, text, truth, name, parens, of_key, made, Links, no_link, link, syntax_tokens, links_tokens, Reader, reads_int, reads_text, reads_presence, Maker, makes_length, makes_text, Bracketed, bracketed_tokens, Param, param_tokens, Params, no_param, params, params_tokens, KeyPart, text_part, name_part, show_part, part_tokens, KeySyntax, key_tokens, Item, row_item, value_item, item_tokens, items_tokens, Statement, let_new, set_key, clear_key, when, choose, abort, give, Statements, nothing, first, statement_tokens, statements_tokens}
 
-use Rattle.dt_proc.proofs.Sorted.{IsSoundToken, AllSound, sound_left, sound_right, Holds, holds_ok, holds_after, holds_cond, sorts, writes, Means, means, same_is}
-use Rattle.dt_proc.specs.Walked.{joined_part, keys_told, params_told}
+use Rattle.dt_proc.proofs.Sorted.{sound_left, sound_right, Holds, holds_ok, holds_after, holds_cond, sorts, writes, Means, means, same_is}
+use Rattle.dt_proc.specs.Walked.{IsSoundToken, AllSound, joined_part, keys_told, params_told}
 
 -- what is visible is these parameters, and keys
 abbrev pub HasParams : List Kind → Scope → Type 0

@@ -10,6 +10,7 @@ pub mod Keyed
 pub mod Lexing
 pub mod Listing
 pub mod Numbers
+pub mod Procedures
 pub mod Reading
 pub mod Sorted
 pub mod Soundness

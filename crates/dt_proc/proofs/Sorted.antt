@@ -29,16 +29,7 @@ use Rattle.dt_proc.specs.Tree as tree
 use Rattle.dt_proc.specs.Tree.{Formula, Gift, Step, Block, done, then}
 use Rattle.dt_proc.specs.Checked.{Told, Typed, after_ok, same_sort, needs, needs_stored, fits_both, combined, as_variable, as_key, as_written, as_new, as_param, key_of, read_by, made_by, check, check_links, front_place, check_item, check_items, check_all_items, with_variable, with_key, one_block, two_blocks, check_block, check_statement, check_part, check_parts, check_key, check_keys, check_param, check_more_params, check_params, param_kinds}
 use Rattle.dt_proc.specs.Syntax.{at, Syntax, chain, minus, denial, int, text, truth, name, parens, of_key, made, Links, no_link, link, syntax_tokens, links_tokens, Reader, reads_int, reads_text, reads_presence, Maker, makes_length, makes_text, Bracketed, bracketed_tokens, Param, param_tokens, Params, no_param, params, params_tokens, KeyPart, text_part, name_part, show_part, part_tokens, KeySyntax, key_tokens, Item, row_item, value_item, item_tokens, items_tokens, Statement, let_new, set_key, clear_key, when, choose, abort, give, Statements, nothing, first, statement_tokens, statements_tokens}
-
--- the value of a token is in range
-abbrev pub IsSoundToken : Token → Type 0
-IsSoundToken (tok.Int z) = FitsSigned w64 z
-IsSoundToken (tok.Text t) = IsStr t
-IsSoundToken (tok.Name n) = IsName n
-IsSoundToken _ = Unit {0}
-
-abbrev pub AllSound : List Placed → Type 0
-AllSound ts = AllIn (λ t. IsSoundToken t.token) ts
+use Rattle.dt_proc.specs.Walked.{IsSoundToken, AllSound}
 
 pub sound_left : (xs ys : List Placed) → AllSound (xs ++ ys) → AllSound xs
 sound_left [] ys h = tt

@@ -11,7 +11,7 @@ use Rattle.dt_proc.specs.declared.token.Token.{Token}
 use Rattle.dt_proc.specs.declared.token.Token.TheVariants as tok
 use Rattle.dt_proc.specs.declared.token.Placed.{Placed}
 use Rattle.dt_proc.specs.Tokens.{tokens_of, tokens_from, Lexed, with_front, front_token, front_word, word_token, word_in, statement_words, expression_words, plain_word, whole_number, is_digit, is_letter, text_after, text_found, items_of, escaped, with_item, sign_before, single_sign, double_sign, first_of, Sized, is_blank, is_no_line_end}
-use Rattle.dt_proc.proofs.Sorted.{IsSoundToken, AllSound}
+use Rattle.dt_proc.specs.Walked.{IsSoundToken, AllSound}
 use Rattle.dt_proc.proofs.Lexing.{all_taken}
 use Rattle.dt_proc.proofs.Numbers.{whole_small, left_of, right_of}
 use Rattle.std.proofs.lemmas.Int.{ints}

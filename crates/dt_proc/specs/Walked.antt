@@ -1,5 +1,5 @@
 -- What a walk over tokens answers, in terms of the syntax trees that the tokens spell.
-use Rattle.std.specs.Prelude.{◌≡◌, ◌⊎◌, ℕ, suc, ◌<◌, List, [], ◌∷◌, ◌++◌, Bool, true, MatchBool, map, Result, Ok, Err, Option, Some, None}
+use Rattle.std.specs.Prelude.{◌≡◌, ◌⊎◌, ℕ, suc, ◌<◌, ◌≤◌, length, FitsSigned, List, [], ◌∷◌, ◌++◌, Bool, true, MatchBool, map, Result, Ok, Err, Option, Some, None}
 use Rattle.dt_proc.specs.declared.token.Token.{Token}
 use Rattle.dt_proc.specs.declared.token.Token.TheVariants as tok
 use Rattle.dt_proc.specs.declared.token.Placed.{Placed}
@@ -10,17 +10,20 @@ use Rattle.dt_proc.specs.declared.error.ProcError.TheVariants as fault
 use Rattle.dt_proc.specs.declared.tree.Give.{Give}
 use Rattle.dt_proc.specs.declared.tree.Stmt.{Stmt}
 use Rattle.dt_proc.specs.Names.{Scope}
-use Rattle.dt_proc.specs.Tree.{Gift, Step, Block}
+use Rattle.dt_proc.specs.Tree.{Gift, Step, Block, ProcTree}
+use Rattle.dt_lists.specs.Lists.{AllIn}
+use Rattle.dt_text.specs.Texts.{IsStr, IsName}
 use Rattle.dt_proc.specs.Shown.{formula_of, gift_of, step_of}
 use Rattle.dt_proc.specs.declared.tree.KeyDecl.{KeyDecl}
 use Rattle.dt_proc.specs.Checked.{Told, Typed, after_ok, check_key, check_keys, with_key, check_params, param_kinds}
 use Rattle.dt_proc.specs.declared.tree.Kind.{Kind}
 use Rattle.std.specs.Borrow.{Bor}
+use Rattle.std.specs.Int.{w64}
 use Rattle.dt_proc.specs.declared.tree.Op.{Op}
 use Rattle.dt_proc.specs.Tree.{variable}
 use Rattle.dt_proc.specs.declared.tree.KeyItem.{KeyItem}
 use Rattle.dt_proc.specs.declared.tree.Op.TheVariants as op
-use Rattle.dt_proc.specs.Syntax.{at, level_of, Param, param_tokens, KeyPart, part_tokens, KeySyntax, Params}
+use Rattle.dt_proc.specs.Syntax.{at, level_of, Param, param_tokens, KeyPart, part_tokens, KeySyntax, Params, ProcSyntax, IsProc, proc_tokens, AreProcs, procs_tokens}
 
 -- an expression of the level does not go on with this token
 abbrev pub Stops : ℕ → Token → Type 0
@@ -130,3 +133,30 @@ params_told ps = after_ok (check_params ps) (λ s. Ok (s, param_kinds ps))
 abbrev pub params_shown : Result (Scope × List Kind × Bor (List Placed)) ProcError → Told ((Scope × List Kind) × List Placed)
 params_shown (Ok r) = Ok ((r.0, r.1), r.2.now)
 params_shown (Err e) = Err e
+
+abbrev pub proc_shown : Result (ProcTree × Bor (List Placed)) ProcError → Told (ProcTree × List Placed)
+proc_shown (Ok r) = Ok (r.0, r.1.now)
+proc_shown (Err e) = Err e
+
+-- the value of a token is in range
+abbrev pub IsSoundToken : Token → Type 0
+IsSoundToken (tok.Int z) = FitsSigned w64 z
+IsSoundToken (tok.Text t) = IsStr t
+IsSoundToken (tok.Name n) = IsName n
+IsSoundToken _ = Unit {0}
+
+abbrev pub AllSound : List Placed → Type 0
+AllSound ts = AllIn (λ t. IsSoundToken t.token) ts
+
+-- a procedure of few parameters and keys
+abbrev pub IsSmall : ProcSyntax → Type 0
+IsSmall p = (length (param_kinds p.params) ≤ 16) × (length (p.key ∷ p.more_keys) ≤ 16)
+
+-- a procedure of the grammar comes first
+pub record StartsProc (ts : List Placed) : Type 0 where
+  pub one : ProcSyntax
+  pub rest : List Placed
+  pub good : IsProc one
+  pub small : IsSmall one
+  pub sound : AllSound (proc_tokens one)
+  pub cut : proc_tokens one ++ rest ≡ ts

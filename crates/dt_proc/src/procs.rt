@@ -162,7 +162,7 @@ impl Procs {
 }
 
 /// Whether a procedure has this name.
-fn is_named(item: &Proc, name: &[u8]) -> bool
+pub(crate) fn is_named(item: &Proc, name: &[u8]) -> bool
     ensures { result ≡ pointwise nat_eq item.now.name name.now }
 {
     item.name().bytes() == name

@@ -253,7 +253,7 @@ fn give_step<'a>(
 
 /// Statements up to and with the `}` that closes them. What they let is no longer visible after it.
 #[cycle(steps)]
-fn block<'a>(
+pub(crate) fn block<'a>(
     alloc: Global,
     scope: &mut Scope,
     tokens: &'a [Placed],
