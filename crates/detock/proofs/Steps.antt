@@ -48,12 +48,12 @@ pub step_made : (cluster : Cluster) (workload : Workload) (events : List (ℕ ×
 step_made cluster workload events i x old new inside item (of_cluster, of_workload, steps, before, state) legal is =
     let Legal : Cluster × (Workload × (World × (ℕ × Event))) → Type 0 = λ q. IsLegal q.0 q.1.0 q.1.1.0 q.1.1.1.1 in
     let same : (old.cluster, (old.workload, (old.state, x))) ≡ (cluster, (workload, (world_after cluster workload (unnumbered (take i events)), get_or events i x))) = λ j. (of_cluster j, (of_workload j, (state j, item j))) in
-    let after : next old.workload old.state x.1 ≡ next workload (world_after cluster workload (unnumbered (take i events))) (get_or events i x).1 = λ j. next (of_workload j) (state j) (item j).1 in
-    ( ap (λ (k : Kept). k.cluster) is ∙ of_cluster
-    , ap (λ (k : Kept). k.workload) is ∙ of_workload
-    , ap (λ (k : Kept). k.steps) is ∙ ap (λ n. n + 1) steps
-    , legal_next cluster workload events i x inside before (subst Legal same legal)
-    , ap (λ (k : Kept). k.state) is ∙ after ∙ world_next cluster workload events i x inside
+    let after : next old.workload old.state x.1 ≡ next workload (world_after cluster workload (unnumbered (take i events))) (get_or events i x).1 = λ j. next (of_workload j) (state j) (item j).1 in (
+      ap (λ (k : Kept). k.cluster) is ∙ of_cluster,
+      ap (λ (k : Kept). k.workload) is ∙ of_workload,
+      ap (λ (k : Kept). k.steps) is ∙ ap (λ n. n + 1) steps,
+      legal_next cluster workload events i x inside before (subst Legal same legal),
+      ap (λ (k : Kept). k.state) is ∙ after ∙ world_next cluster workload events i x inside,
     )
 
 -- the world that legal events led to, and the next event, which is not legal
