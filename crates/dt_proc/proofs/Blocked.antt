@@ -1,0 +1,262 @@
+-- The statements of a block, as the walk over them finds them.
+use Rattle.std.proofs.Common.{◌≡◌, ◌⊎◌, inl, inr, ℕ, suc, ◌+◌, ◌-◌, ◌<◌, ◌≤◌, List, [], ◌∷◌, ◌++◌, map, length, take, get_or, Bool, true, false, cond, Result, Ok, Err, refl, sym, ap, ◌∙◌, subst, arith, append_assoc, append-nil, length-append}
+use Rattle.std.specs.List.{flat_map}
+use Rattle.std.proofs.lemmas.List.{take-append-le}
+use Rattle.std.proofs.Math.Seq.{take-length}
+use Rattle.dt_proc.specs.declared.token.Token.{Token}
+use Rattle.dt_proc.specs.declared.token.Token.TheVariants as tok
+use Rattle.dt_proc.specs.declared.token.Placed.{Placed}
+use Rattle.dt_proc.specs.declared.tree.Sort.{Sort}
+use Rattle.dt_proc.specs.declared.error.ProcError.{ProcError}
+use Rattle.dt_proc.specs.declared.error.ProcError.TheVariants as fault
+use Rattle.dt_proc.specs.Tree as tree
+use Rattle.dt_proc.specs.Tree.{Formula, Gift, Step, Block, done, then, joined}
+use Rattle.dt_proc.specs.Names.{Scope, meaning}
+use Rattle.dt_proc.specs.Checked.{Told, Typed, after_ok, with_variable, as_new, as_written, needs, same_sort, check, check_all_items, check_block, check_statement}
+use Rattle.dt_proc.specs.declared.tree.Sort.TheVariants as sort
+use Rattle.dt_proc.specs.Walked.{Answers, NoElse, EndsBlock}
+use Rattle.dt_proc.specs.Syntax.{at, Statement, let_new, set_key, clear_key, when, choose, abort, give, Statements, nothing, first, statement_tokens, statements_tokens, IsStatement, AreStatements, Syntax, syntax_tokens, IsLevel, Item, IsItem, items_tokens}
+use Rattle.dt_lists.specs.Lists.{AllIn}
+use Rattle.dt_proc.proofs.Walks.{head_is, tail_is, placed_is, left_of, cut_first}
+
+-- what was visible is visible still, before anything new
+pub record Grown (old new : Scope) : Type 0 where
+  pub keys : new.keys ≡ old.keys
+  pub variables : (more : List (List ℕ × Sort)) × (new.variables ≡ old.variables ++ more)
+
+pub grown_start : (scope : Scope) → Grown scope scope
+grown_start scope = record { keys = refl; variables = ([], sym (append-nil scope.variables)) }
+
+-- what is left of the statements, and what they add to those that were told
+abbrev pub StepsLeft : Scope → Scope → Told Block → Block → List Placed → ℕ → List Placed → Type 0
+StepsLeft outer scope told block left e rest =
+    (ss : Statements) × AreStatements ss × (statements_tokens ss ++ at e tok.End ∷ rest ≡ left)
+    × (told ≡ after_ok (check_block scope ss) (λ b. Ok (joined block b))) × Grown outer scope
+
+joined_done : (b : Block) → joined b done ≡ b
+joined_done done = refl
+joined_done (then s b) = ap (then s) (joined_done b)
+
+joined_assoc : (a b c : Block) → joined (joined a b) c ≡ joined a (joined b c)
+joined_assoc done b c = refl
+joined_assoc (then s a) b c = ap (then s) (joined_assoc a b c)
+
+whole : (t : Told Block) → t ≡ after_ok t (λ b. Ok b)
+whole (Ok b) = refl
+whole (Err e) = refl
+
+pub steps_start : (scope : Scope) (ss : Statements) (e : ℕ) (rest left : List Placed) (block : Block) → block ≡ done → AreStatements ss →
+    statements_tokens ss ++ at e tok.End ∷ rest ≡ left → StepsLeft scope scope (check_block scope ss) block left e rest
+steps_start scope ss e rest left block is good cut =
+    (ss, good, cut, whole (check_block scope ss) ∙ ap (λ v. after_ok (check_block scope ss) (λ b. Ok (joined v b))) (sym is), grown_start scope)
+
+-- a statement comes first
+pub record IsStep (scope : Scope) (told : Told Block) (block : Block) (left : List Placed) (e : ℕ) (rest : List Placed) : Type 0 where
+  pub step : Statement
+  pub more : Statements
+  pub good : IsStatement step
+  pub others : AreStatements more
+  pub follows : NoElse (statements_tokens more ++ at e tok.End ∷ rest)
+  pub cut : statement_tokens step ++ (statements_tokens more ++ at e tok.End ∷ rest) ≡ left
+  pub told_as : told ≡ after_ok (after_ok (check_statement scope step) (λ r. after_ok (check_block r.0 more) (λ b. Ok (then r.1 b)))) (λ b. Ok (joined block b))
+
+no_else : (ss : Statements) (e : ℕ) (rest : List Placed) → NoElse (statements_tokens ss ++ at e tok.End ∷ rest)
+no_else nothing e rest = λ h. cc
+no_else (first (let_new p q n i x f) ss) e rest = λ h. cc
+no_else (first (set_key p q n i x f) ss) e rest = λ h. cc
+no_else (first (clear_key p q n f) ss) e rest = λ h. cc
+no_else (first (when p x b ts f) ss) e rest = λ h. cc
+no_else (first (choose p x b ts f w c rs g) ss) e rest = λ h. cc
+no_else (first (abort p q t f) ss) e rest = λ h. cc
+no_else (first (give p i more f) ss) e rest = λ h. cc
+
+pub step_next : (outer scope : Scope) (told : Told Block) (block : Block) (t : Placed) (ts : List Placed) (e : ℕ) (rest : List Placed) →
+    ¬ (t.token ≡ tok.End) → StepsLeft outer scope told block (t ∷ ts) e rest → IsStep scope told block (t ∷ ts) e rest
+step_next outer scope told block t ts e rest other (nothing, good, cut, is, grown) =
+    absurd (other (sym (ap (λ v. v.token) (head_is (at e tok.End) t rest ts cut))))
+step_next outer scope told block t ts e rest other (first s ss, good, cut, is, grown) = record {
+  step = s; more = ss; good = good.0; others = good.1; follows = no_else ss e rest;
+  cut = sym (append_assoc (statement_tokens s) (statements_tokens ss) (at e tok.End ∷ rest)) ∙ cut;
+  told_as = is;
+}
+
+begins_other : (s : Statement) (us : List Placed) (t : Placed) (ts : List Placed) → statement_tokens s ++ us ≡ t ∷ ts → ¬ (t.token ≡ tok.End)
+begins_other (let_new p q n i x f) us t ts e = λ h. let a = ap (λ v. v.token) (head_is _ _ _ _ e) in cc
+begins_other (set_key p q n i x f) us t ts e = λ h. let a = ap (λ v. v.token) (head_is _ _ _ _ e) in cc
+begins_other (clear_key p q n f) us t ts e = λ h. let a = ap (λ v. v.token) (head_is _ _ _ _ e) in cc
+begins_other (when p x b ss f) us t ts e = λ h. let a = ap (λ v. v.token) (head_is _ _ _ _ e) in cc
+begins_other (choose p x b ss f w c rs g) us t ts e = λ h. let a = ap (λ v. v.token) (head_is _ _ _ _ e) in cc
+begins_other (abort p q x f) us t ts e = λ h. let a = ap (λ v. v.token) (head_is _ _ _ _ e) in cc
+begins_other (give p i more f) us t ts e = λ h. let a = ap (λ v. v.token) (head_is _ _ _ _ e) in cc
+
+-- a `}` comes first
+pub steps_end : (outer scope : Scope) (told : Told Block) (block : Block) (t : Placed) (ts : List Placed) (e : ℕ) (rest : List Placed) →
+    t.token ≡ tok.End → StepsLeft outer scope told block (t ∷ ts) e rest → (told ≡ Ok block) × (at e tok.End ∷ rest ≡ t ∷ ts) × Grown outer scope
+steps_end outer scope told block t ts e rest ends (nothing, good, cut, is, grown) = (is ∙ ap Ok (joined_done block), cut, grown)
+steps_end outer scope told block t ts e rest ends (first s ss, good, cut, is, grown) =
+    absurd (begins_other s (statements_tokens ss ++ at e tok.End ∷ rest) t ts
+      (sym (append_assoc (statement_tokens s) (statements_tokens ss) (at e tok.End ∷ rest)) ∙ cut) ends)
+
+one_more : (t : Told Block) (s : Step) (block : Block) →
+    after_ok (after_ok t (λ b. Ok (then s b))) (λ b. Ok (joined block b)) ≡ after_ok t (λ b. Ok (joined (joined block (then s done)) b))
+one_more (Ok b) s block = ap Ok (sym (joined_assoc block (then s done) b))
+one_more (Err e) s block = refl
+
+-- a statement lets at most one variable more
+scope_of : Scope → Told (Scope × Step) → Scope
+scope_of other (Ok r) = r.0
+scope_of other (Err e) = other
+
+-- whatever is told, what was visible is visible still
+abbrev Keeps : Scope → Told (Scope × Step) → Type 0
+Keeps scope told = (new : Scope) (step : Step) → told ≡ Ok (new, step) → Grown scope new
+
+keeps_ok : (scope other : Scope) (s : Step) → Grown scope other → Keeps scope (Ok (other, s))
+unfolding scope_of
+keeps_ok scope other s g new step e = subst (Grown scope) (ap (scope_of other) e) g
+
+keeps_after : {A : Type 0} (scope : Scope) (told : Told A) (next : A → Told (Scope × Step)) → ((a : A) → Keeps scope (next a)) → Keeps scope (after_ok told next)
+keeps_after scope (Ok a) next h = h a
+keeps_after scope (Err e) next h = λ new step is. absurd cc
+
+keeps_stored : (scope : Scope) (b : Bool) (p : ℕ) (s : Step) → Keeps scope (cond b (Err (fault.Kind p)) (Ok (scope, s)))
+keeps_stored scope true p s = λ new step is. absurd cc
+keeps_stored scope false p s = keeps_ok scope scope s (grown_start scope)
+
+lets : (scope : Scope) (s : Statement) → Keeps scope (check_statement scope s)
+lets scope (let_new p q n i x e) =
+    keeps_after {A = Unit {0}} scope (as_new q (meaning scope n)) _ (λ u. keeps_after {A = Typed} scope (check scope x) _
+      (λ a. keeps_ok scope (with_variable scope n a.1) (tree.let_new a.0) (record { keys = refl; variables = ((n, a.1) ∷ [], refl) })))
+lets scope (set_key p q n i x e) =
+    keeps_after {A = ℕ} scope (as_written q (meaning scope n)) _ (λ k. keeps_after {A = Typed} scope (check scope x) _
+      (λ a. keeps_stored scope (same_sort a.1 sort.Bool) p (tree.set_row k a.0)))
+lets scope (clear_key p q n e) =
+    keeps_after {A = ℕ} scope (as_written q (meaning scope n)) _ (λ k. keeps_ok scope scope (tree.clear_row k) (grown_start scope))
+lets scope (when p x b ss e) =
+    keeps_after {A = Typed} scope (check scope x) _ (λ a. keeps_after {A = Formula} scope (needs p sort.Bool a a.0) _
+      (λ f. keeps_after {A = Block} scope (check_block scope ss) _ (λ c. keeps_ok scope scope (tree.choose f c done) (grown_start scope))))
+lets scope (choose p x b ss e w o rs g) =
+    keeps_after {A = Typed} scope (check scope x) _ (λ a. keeps_after {A = Formula} scope (needs p sort.Bool a a.0) _
+      (λ f. keeps_after {A = Block} scope (check_block scope ss) _ (λ c. keeps_after {A = Block} scope (check_block scope rs) _
+      (λ d. keeps_ok scope scope (tree.choose f c d) (grown_start scope)))))
+lets scope (abort p q t e) = keeps_ok scope scope (tree.abort_with t) (grown_start scope)
+lets scope (give p i more e) =
+    keeps_after {A = List Gift} scope (check_all_items scope i more) _ (λ gs. keeps_ok scope scope (tree.give_all gs) (grown_start scope))
+
+pub step_told : (outer scope new : Scope) (told : Told Block) (block after : Block) (left : List Placed) (e : ℕ) (rest : List Placed) (s : Step) (us : List Placed) →
+    Grown outer scope → (n : IsStep scope told block left e rest) → check_statement scope n.step ≡ Ok (new, s) → after ≡ joined block (then s done) →
+    us ≡ statements_tokens n.more ++ at e tok.End ∷ rest → StepsLeft outer new told after us e rest
+step_told outer scope new told block after left e rest s us grown n is pushed cut =
+    (n.more, n.others, sym cut,
+      n.told_as ∙ ap (λ t. after_ok (after_ok t (λ r. after_ok (check_block r.0 n.more) (λ b. Ok (then r.1 b)))) (λ b. Ok (joined block b))) is
+      ∙ one_more (check_block new n.more) s block ∙ ap (λ v. after_ok (check_block new n.more) (λ b. Ok (joined v b))) (sym pushed),
+      grows outer scope new grown (lets scope n.step new s is))
+  where
+    grows : (a b c : Scope) → Grown a b → Grown b c → Grown a c
+    grows a b c f g = record {
+      keys = g.keys ∙ f.keys;
+      variables = (f.variables.0 ++ g.variables.0, g.variables.1 ∙ ap (λ v. v ++ g.variables.0) f.variables.1 ∙ append_assoc a.variables f.variables.0 g.variables.0);
+    }
+
+pub step_fault : (scope : Scope) (told : Told Block) (block : Block) (left : List Placed) (e : ℕ) (rest before : List Placed) (f : ProcError) →
+    (n : IsStep scope told block left e rest) → Answers (check_statement scope n.step) before (Err f) → Answers told rest (Err f)
+step_fault scope told block left e rest before f n (inl m) = inl m
+step_fault scope told block left e rest before f n (inr s) =
+    inr (n.told_as ∙ ap (λ t. after_ok (after_ok t (λ r. after_ok (check_block r.0 n.more) (λ b. Ok (then r.1 b)))) (λ b. Ok (joined block b))) s)
+
+-- what was visible before is what is left of what is visible
+pub left_as_before : (outer scope : Scope) → Grown outer scope → record scope { variables = take (length outer.variables) scope.variables } ≡ outer
+left_as_before outer scope g =
+    let cut : take (length outer.variables) scope.variables ≡ outer.variables =
+      ap (take (length outer.variables)) g.variables.1 ∙ take-append-le (length outer.variables) outer.variables g.variables.0 (omega arith) ∙ take-length outer.variables in
+    λ i. record { variables = cut i; keys = g.keys i }
+
+-- what the first token of a statement says of it
+abbrev pub StepShape : Token → ℕ → List Placed → Statement → List Placed → Type 0
+StepShape tok.Let p ts s rest =
+    (q : ℕ) × (n : List ℕ) × (i : ℕ) × (x : Syntax) × (e : ℕ) × (s ≡ let_new p q n i x e) × IsLevel 0 x
+    × (at q (tok.Name n) ∷ at i tok.Is ∷ (syntax_tokens x ++ at e tok.Semicolon ∷ rest) ≡ ts)
+StepShape tok.Set p ts s rest =
+    (q : ℕ) × (n : List ℕ) × (i : ℕ) × (x : Syntax) × (e : ℕ) × (s ≡ set_key p q n i x e) × IsLevel 0 x
+    × (at q (tok.Name n) ∷ at i tok.Is ∷ (syntax_tokens x ++ at e tok.Semicolon ∷ rest) ≡ ts)
+StepShape tok.Clear p ts s rest =
+    (q : ℕ) × (n : List ℕ) × (e : ℕ) × (s ≡ clear_key p q n e) × (at q (tok.Name n) ∷ at e tok.Semicolon ∷ rest ≡ ts)
+StepShape tok.If p ts s rest =
+    ((x : Syntax) × (b : ℕ) × (ss : Statements) × (e : ℕ) × (s ≡ when p x b ss e) × IsLevel 0 x × AreStatements ss
+      × (syntax_tokens x ++ at b tok.Begin ∷ (statements_tokens ss ++ at e tok.End ∷ rest) ≡ ts))
+    ⊎ ((x : Syntax) × (b : ℕ) × (ss : Statements) × (e : ℕ) × (w : ℕ) × (o : ℕ) × (rs : Statements) × (f : ℕ) × (s ≡ choose p x b ss e w o rs f)
+      × IsLevel 0 x × AreStatements ss × AreStatements rs
+      × (syntax_tokens x ++ at b tok.Begin ∷ (statements_tokens ss ++ at e tok.End ∷ at w tok.Else ∷ at o tok.Begin ∷ (statements_tokens rs ++ at f tok.End ∷ rest)) ≡ ts))
+StepShape tok.Abort p ts s rest =
+    (q : ℕ) × (t : List ℕ) × (e : ℕ) × (s ≡ abort p q t e) × (at q (tok.Text t) ∷ at e tok.Semicolon ∷ rest ≡ ts)
+StepShape tok.Give p ts s rest =
+    (i : Item) × (more : List (ℕ × Item)) × (e : ℕ) × (s ≡ give p i more e) × IsItem i × AllIn (λ m. IsItem m.1) more
+    × (items_tokens i more ++ at e tok.Semicolon ∷ rest ≡ ts)
+StepShape t p ts s rest = ⊥
+
+shape_at : (t u : Placed) (ts us : List Placed) (s : Statement) (rest : List Placed) → t ∷ ts ≡ u ∷ us →
+    StepShape t.token t.place ts s rest → StepShape u.token u.place us s rest
+shape_at t u ts us s rest e h =
+    subst (λ v. StepShape u.token u.place v s rest) (tail_is t u ts us e)
+    (subst (λ v. StepShape v.token v.place ts s rest) (head_is t u ts us e) h)
+
+inner : (xs : List Placed) (y : Placed) (us : List Placed) → xs ++ y ∷ us ≡ (xs ++ y ∷ []) ++ us
+inner xs y us = sym (append_assoc xs (y ∷ []) us)
+
+step_shape : (s : Statement) (rest : List Placed) (t : Placed) (ts : List Placed) → IsStatement s → statement_tokens s ++ rest ≡ t ∷ ts →
+    StepShape t.token t.place ts s rest
+step_shape (let_new p q n i x e) rest t ts h is =
+    shape_at (at p tok.Let) t _ ts (let_new p q n i x e) rest is
+    (q, n, i, x, e, refl, h, ap (λ v. at q (tok.Name n) ∷ at i tok.Is ∷ v) (inner (syntax_tokens x) (at e tok.Semicolon) rest))
+step_shape (set_key p q n i x e) rest t ts h is =
+    shape_at (at p tok.Set) t _ ts (set_key p q n i x e) rest is
+    (q, n, i, x, e, refl, h, ap (λ v. at q (tok.Name n) ∷ at i tok.Is ∷ v) (inner (syntax_tokens x) (at e tok.Semicolon) rest))
+step_shape (clear_key p q n e) rest t ts h is = shape_at (at p tok.Clear) t _ ts (clear_key p q n e) rest is (q, n, e, refl, refl)
+step_shape (when p x b ss e) rest t ts h is =
+    shape_at (at p tok.If) t _ ts (when p x b ss e) rest is
+    (inl (x, b, ss, e, refl, h.0, h.1, ap (λ v. syntax_tokens x ++ at b tok.Begin ∷ v) (inner (statements_tokens ss) (at e tok.End) rest)
+      ∙ sym (append_assoc (syntax_tokens x) (at b tok.Begin ∷ (statements_tokens ss ++ at e tok.End ∷ [])) rest)))
+step_shape (choose p x b ss e w o rs f) rest t ts h is =
+    shape_at (at p tok.If) t _ ts (choose p x b ss e w o rs f) rest is
+    (inr (x, b, ss, e, w, o, rs, f, refl, h.0, h.1, h.2,
+      ap (λ v. syntax_tokens x ++ at b tok.Begin ∷ (statements_tokens ss ++ at e tok.End ∷ at w tok.Else ∷ at o tok.Begin ∷ v)) (inner (statements_tokens rs) (at f tok.End) rest)
+      ∙ ap (λ v. syntax_tokens x ++ at b tok.Begin ∷ v) (sym (append_assoc (statements_tokens ss) (at e tok.End ∷ at w tok.Else ∷ at o tok.Begin ∷ (statements_tokens rs ++ at f tok.End ∷ [])) rest))
+      ∙ sym (append_assoc (syntax_tokens x) (at b tok.Begin ∷ (statements_tokens ss ++ at e tok.End ∷ at w tok.Else ∷ at o tok.Begin ∷ (statements_tokens rs ++ at f tok.End ∷ []))) rest)))
+step_shape (abort p q x e) rest t ts h is = shape_at (at p tok.Abort) t _ ts (abort p q x e) rest is (q, x, e, refl, refl)
+step_shape (give p i more e) rest t ts h is =
+    shape_at (at p tok.Give) t _ ts (give p i more e) rest is (i, more, e, refl, h.0, h.1, inner (items_tokens i more) (at e tok.Semicolon) rest)
+
+pub step_when : (s : Statement) (rest ts : List Placed) (one : Placed) (k : Token) → IsStatement s → 1 ≤ length ts → one ≡ get_or ts 0 one →
+    statement_tokens s ++ rest ≡ ts → one.token ≡ k → StepShape k one.place (left_of ts) s rest
+step_when s rest ts one k h some is e same =
+    subst (λ t. StepShape t one.place (left_of ts) s rest) same (step_shape s rest one (left_of ts) h (e ∙ cut_first ts one some is))
+
+pub some_statement : (s : Statement) (rest ts : List Placed) → length ts < 1 → statement_tokens s ++ rest ≡ ts → ⊥
+some_statement (let_new p q n i x e) rest ts none is = omega (arith, ap length is)
+some_statement (set_key p q n i x e) rest ts none is = omega (arith, ap length is)
+some_statement (clear_key p q n e) rest ts none is = omega (arith, ap length is)
+some_statement (when p x b ss e) rest ts none is = omega (arith, ap length is)
+some_statement (choose p x b ss e w o rs f) rest ts none is = omega (arith, ap length is)
+some_statement (abort p q x e) rest ts none is = omega (arith, ap length is)
+some_statement (give p i more e) rest ts none is = omega (arith, ap length is)
+
+pub no_statement : (k : Token) (p : ℕ) (ts : List Placed) (s : Statement) (rest : List Placed) →
+    ¬ (k ≡ tok.Let) → ¬ (k ≡ tok.Set) → ¬ (k ≡ tok.Clear) → ¬ (k ≡ tok.If) → ¬ (k ≡ tok.Abort) → ¬ (k ≡ tok.Give) → ¬ (StepShape k p ts s rest)
+no_statement tok.Let p ts s rest a b c d e f h = a refl
+no_statement tok.Set p ts s rest a b c d e f h = b refl
+no_statement tok.Clear p ts s rest a b c d e f h = c refl
+no_statement tok.If p ts s rest a b c d e f h = d refl
+no_statement tok.Abort p ts s rest a b c d e f h = e refl
+no_statement tok.Give p ts s rest a b c d e f h = f refl
+no_statement t p ts s rest a b c d e f h = h
+
+pub not_ended : (outer scope : Scope) (told : Told Block) (block : Block) (left : List Placed) (e : ℕ) (rest : List Placed) →
+    EndsBlock left false → StepsLeft outer scope told block left e rest → IsStep scope told block left e rest
+not_ended outer scope told block [] e rest ends left = absurd cc
+not_ended outer scope told block (t ∷ ts) e rest ends left = step_next outer scope told block t ts e rest ends left
+
+pub ended : (outer scope : Scope) (told : Told Block) (block : Block) (left : List Placed) (e : ℕ) (rest : List Placed) →
+    EndsBlock left true → StepsLeft outer scope told block left e rest → (told ≡ Ok block) × (at e tok.End ∷ rest ≡ left) × Grown outer scope
+ended outer scope told block [] e rest ends (ss, good, cut, is, grown) =
+    absurd (omega (arith, ap length cut, length-append (statements_tokens ss) (at e tok.End ∷ rest)))
+ended outer scope told block (t ∷ ts) e rest ends left = steps_end outer scope told block t ts e rest ends left

@@ -1,0 +1,129 @@
+-- The items of a `give`, as the walk over them finds them.
+use Rattle.std.proofs.Common.{◌≡◌, ◌⊎◌, inl, inr, ℕ, suc, ◌+◌, ◌<◌, ◌≤◌, List, [], ◌∷◌, ◌++◌, map, length, Result, Ok, Err, refl, sym, ap, ◌∙◌, subst, arith, append_assoc, append-nil}
+use Rattle.std.specs.List.{flat_map}
+use Rattle.dt_lists.specs.Lists.{AllIn}
+use Rattle.dt_proc.specs.declared.token.Token.{Token}
+use Rattle.dt_proc.specs.declared.token.Token.TheVariants as tok
+use Rattle.dt_proc.specs.declared.token.Placed.{Placed}
+use Rattle.dt_proc.specs.declared.tree.Op.TheVariants as op
+use Rattle.dt_proc.specs.declared.tree.Give.{Give}
+use Rattle.dt_proc.specs.declared.error.ProcError.{ProcError}
+use Rattle.dt_proc.specs.Tree as tree
+use Rattle.dt_proc.specs.Tree.{Gift}
+use Rattle.dt_proc.specs.Shown.{gift_of}
+use Rattle.dt_proc.specs.Names.{Scope}
+use Rattle.dt_proc.specs.Checked.{Told, Typed, after_ok, check, key_of, needs_stored, front_place, check_item, check_items, check_all_items}
+use Rattle.dt_proc.specs.Walked.{FrontStops, Answers}
+use Rattle.dt_proc.specs.Syntax.{at, Bracketed, bracketed_tokens, Syntax, chain, minus, denial, int, text, truth, name, parens, of_key, made, Links, syntax_tokens, links_tokens, IsLevel, reads_int, reads_text, reads_presence, makes_length, makes_text, Item, row_item, value_item, item_tokens, items_tokens, IsItem}
+use Rattle.dt_proc.proofs.Walks.{head_is, tail_is, placed_is}
+
+-- an expression begins with a token that is no `row`
+pub front_token : (x : Syntax) → (u : Placed) × (us : List Placed) × (syntax_tokens x ≡ u ∷ us) × (u.place ≡ front_place x) × ¬ (u.token ≡ tok.Row)
+front_token (chain head links) = let f = front_token head in (f.0, f.1 ++ links_tokens links, ap (λ v. v ++ links_tokens links) f.2, f.3, f.4)
+front_token (minus p x) = (at p (tok.Op op.Sub), syntax_tokens x, refl, refl, λ e. cc)
+front_token (denial p x) = (at p tok.Not, syntax_tokens x, refl, refl, λ e. cc)
+front_token (int p z) = (at p (tok.Int z), [], refl, refl, λ e. cc)
+front_token (text p z) = (at p (tok.Text z), [], refl, refl, λ e. cc)
+front_token (truth p z) = (at p (tok.Truth z), [], refl, refl, λ e. cc)
+front_token (name p z) = (at p (tok.Name z), [], refl, refl, λ e. cc)
+front_token (parens p x q) = (at p tok.Open, syntax_tokens x ++ at q tok.Close ∷ [], refl, refl, λ e. cc)
+front_token (of_key p reads_int b) = (at p tok.IntWord, bracketed_tokens b, refl, refl, λ e. cc)
+front_token (of_key p reads_text b) = (at p tok.TextWord, bracketed_tokens b, refl, refl, λ e. cc)
+front_token (of_key p reads_presence b) = (at p tok.Has, bracketed_tokens b, refl, refl, λ e. cc)
+front_token (made p makes_length o x q) = (at p tok.Len, at o tok.Open ∷ (syntax_tokens x ++ at q tok.Close ∷ []), refl, refl, λ e. cc)
+front_token (made p makes_text o x q) = (at p tok.Show, at o tok.Open ∷ (syntax_tokens x ++ at q tok.Close ∷ []), refl, refl, λ e. cc)
+
+-- an item that begins with `row`
+pub item_row : (scope : Scope) (i : Item) (rest : List Placed) (t : Placed) (ts : List Placed) → item_tokens i ++ rest ≡ t ∷ ts → t.token ≡ tok.Row →
+    (b : Bracketed) × (check_item scope i ≡ after_ok (key_of scope b) (λ k. Ok (tree.row k))) × (bracketed_tokens b ++ rest ≡ ts)
+item_row scope (row_item p b) rest t ts e is = (b, refl, tail_is (at p tok.Row) t (bracketed_tokens b ++ rest) ts e)
+item_row scope (value_item x) rest t ts e is =
+    let f = front_token x in
+    let same : f.0 ≡ t = head_is f.0 t (f.1 ++ rest) ts (ap (λ v. v ++ rest) (sym f.2) ∙ e) in
+    absurd (f.4 (ap (λ v. v.token) same ∙ is))
+
+-- an item that begins with another token
+pub item_value : (scope : Scope) (i : Item) (rest : List Placed) (t : Placed) (ts : List Placed) → item_tokens i ++ rest ≡ t ∷ ts → IsItem i →
+    ¬ (t.token ≡ tok.Row) →
+    (x : Syntax) × IsLevel 0 x × (check_item scope i ≡ after_ok (check scope x) (λ a. needs_stored t.place a (tree.value a.0))) × (syntax_tokens x ++ rest ≡ t ∷ ts)
+item_value scope (row_item p b) rest t ts e h other =
+    absurd (other (sym (ap (λ v. v.token) (head_is (at p tok.Row) t (bracketed_tokens b ++ rest) ts e))))
+item_value scope (value_item x) rest t ts e h other =
+    let f = front_token x in
+    let same : f.0 ≡ t = head_is f.0 t (f.1 ++ rest) ts (ap (λ v. v ++ rest) (sym f.2) ∙ e) in
+    let place : front_place x ≡ t.place = sym f.3 ∙ ap (λ v. v.place) same in
+    (x, h, ap (λ p. after_ok (check scope x) (λ a. needs_stored p a (tree.value a.0))) place, e)
+
+abbrev pub next_item : ℕ × Item → List Placed
+next_item m = at m.0 tok.Comma ∷ item_tokens m.1
+
+abbrev pub AreItems : List (ℕ × Item) → Type 0
+AreItems more = AllIn (λ m. IsItem m.1) more
+
+-- what is left of the items, and what they add to those that were told
+abbrev pub ItemsLeft : Scope → Told (List Gift) → List Gift → List Placed → ℕ → List Placed → Type 0
+ItemsLeft scope told gifts left e rest =
+    (more : List (ℕ × Item)) × AreItems more × (flat_map next_item more ++ at e tok.Semicolon ∷ rest ≡ left)
+    × (told ≡ after_ok (check_items scope more) (λ gs. Ok (gifts ++ gs)))
+
+pub items_stop : (more : List (ℕ × Item)) (e : ℕ) (us : List Placed) → FrontStops 0 (flat_map next_item more ++ at e tok.Semicolon ∷ us)
+items_stop [] e us = tt
+items_stop (m ∷ more) e us = tt
+
+pub items_cut : (i : Item) (more : List (ℕ × Item)) (e : ℕ) (rest ts : List Placed) → items_tokens i more ++ at e tok.Semicolon ∷ rest ≡ ts →
+    item_tokens i ++ (flat_map next_item more ++ at e tok.Semicolon ∷ rest) ≡ ts
+items_cut i more e rest ts h = sym (append_assoc (item_tokens i) (flat_map next_item more) (at e tok.Semicolon ∷ rest)) ∙ h
+
+pub items_start : (scope : Scope) (i : Item) (more : List (ℕ × Item)) (g : Gift) (gifts : List Gift) → check_item scope i ≡ Ok g → gifts ≡ g ∷ [] →
+    check_all_items scope i more ≡ after_ok (check_items scope more) (λ gs. Ok (gifts ++ gs))
+items_start scope i more g gifts told is = rw (told, is) refl
+
+-- one item more
+one_more : (told : Told (List Gift)) (gifts : List Gift) (g : Gift) →
+    after_ok (after_ok told (λ gs. Ok (g ∷ gs))) (λ gs. Ok (gifts ++ gs)) ≡ after_ok told (λ gs. Ok ((gifts ++ g ∷ []) ++ gs))
+one_more (Ok gs) gifts g = ap Ok (sym (append_assoc gifts (g ∷ []) gs))
+one_more (Err e) gifts g = refl
+
+pub record IsNext (scope : Scope) (told : Told (List Gift)) (gifts : List Gift) (after : List Placed) (e : ℕ) (rest : List Placed) : Type 0 where
+  pub item : Item
+  pub more : List (ℕ × Item)
+  pub good : IsItem item
+  pub others : AreItems more
+  pub cut : item_tokens item ++ (flat_map next_item more ++ at e tok.Semicolon ∷ rest) ≡ after
+  pub told_as : told ≡ after_ok (after_ok (check_item scope item) (λ g. after_ok (check_items scope more) (λ gs. Ok (g ∷ gs)))) (λ gs. Ok (gifts ++ gs))
+
+pub after_comma_next : (scope : Scope) (told : Told (List Gift)) (gifts : List Gift) (left : List Placed) (e : ℕ) (rest : List Placed) (p : ℕ) (after : List Placed) →
+    at p tok.Comma ∷ after ≡ left → ItemsLeft scope told gifts left e rest → IsNext scope told gifts after e rest
+after_comma_next scope told gifts left e rest p after comma ([], good, cut, is) =
+    absurd (differ (ap (λ v. v.token) (head_is _ _ _ _ (comma ∙ sym cut))))
+  where
+    differ : tok.Comma ≡ tok.Semicolon → ⊥
+    differ h = cc
+after_comma_next scope told gifts left e rest p after comma (m ∷ more, good, cut, is) =
+    let joined = cut ∙ sym comma in
+    record {
+      item = m.1; more = more; good = good.0; others = good.1;
+      cut = sym (append_assoc (item_tokens m.1) (flat_map next_item more) (at e tok.Semicolon ∷ rest)) ∙ tail_is _ _ _ _ joined;
+      told_as = is;
+    }
+
+pub told_next : (scope : Scope) (told : Told (List Gift)) (gifts : List Gift) (after : List Placed) (e : ℕ) (rest : List Placed) →
+    (n : IsNext scope told gifts after e rest) → (g : Gift) → check_item scope n.item ≡ Ok g →
+    told ≡ after_ok (check_items scope n.more) (λ gs. Ok ((gifts ++ g ∷ []) ++ gs))
+told_next scope told gifts after e rest n g is =
+    n.told_as ∙ ap (λ t. after_ok (after_ok t (λ v. after_ok (check_items scope n.more) (λ gs. Ok (v ∷ gs)))) (λ gs. Ok (gifts ++ gs))) is
+    ∙ one_more (check_items scope n.more) gifts g
+
+pub told_fault : (scope : Scope) (told : Told (List Gift)) (gifts : List Gift) (after : List Placed) (e : ℕ) (rest left : List Placed) (f : ProcError) →
+    (n : IsNext scope told gifts after e rest) → Answers (check_item scope n.item) left (Err f) → Answers told rest (Err f)
+told_fault scope told gifts after e rest left f n (inl m) = inl m
+told_fault scope told gifts after e rest left f n (inr s) =
+    inr (n.told_as ∙ ap (λ t. after_ok (after_ok t (λ v. after_ok (check_items scope n.more) (λ gs. Ok (v ∷ gs)))) (λ gs. Ok (gifts ++ gs))) s)
+
+-- where no comma comes first, no item is left
+pub items_end : (scope : Scope) (told : Told (List Gift)) (gifts : List Gift) (left : List Placed) (e : ℕ) (rest : List Placed) →
+    ((p : ℕ) (us : List Placed) → ¬ (at p tok.Comma ∷ us ≡ left)) → ItemsLeft scope told gifts left e rest →
+    (told ≡ Ok gifts) × (at e tok.Semicolon ∷ rest ≡ left)
+items_end scope told gifts left e rest none ([], good, cut, is) = (is ∙ ap Ok (append-nil gifts), cut)
+items_end scope told gifts left e rest none (m ∷ more, good, cut, is) =
+    absurd (none m.0 ((item_tokens m.1 ++ flat_map next_item more) ++ at e tok.Semicolon ∷ rest) cut)

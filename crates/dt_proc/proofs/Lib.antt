@@ -1,0 +1,17 @@
+pub mod Accepting
+pub mod Blocked
+pub mod Blocks
+pub mod Counting
+pub mod Entries
+pub mod Finishing
+pub mod Fitted
+pub mod Items
+pub mod Keyed
+pub mod Lexing
+pub mod Listing
+pub mod Numbers
+pub mod Procedures
+pub mod Reading
+pub mod Sorted
+pub mod Soundness
+pub mod Walks

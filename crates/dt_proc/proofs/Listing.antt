@@ -1,0 +1,246 @@
+-- Parameters and keys, as the walk over them finds them.
+use Rattle.std.proofs.Common.{◌≡◌, ◌⊎◌, inl, inr, ℕ, List, [], ◌∷◌, ◌++◌, map, length, Bool, true, false, Result, Ok, Err, OnOk, MatchResult, refl, sym, ap, ◌∙◌, subst, append_assoc, append-nil}
+use Rattle.std.specs.List.{flat_map}
+use Rattle.std.specs.Borrow.{Bor}
+use Rattle.dt_proc.specs.declared.token.Token.{Token}
+use Rattle.dt_proc.specs.declared.token.Token.TheVariants as tok
+use Rattle.dt_proc.specs.declared.token.Placed.{Placed}
+use Rattle.dt_proc.specs.declared.tree.Op.TheVariants as op
+use Rattle.dt_proc.specs.declared.tree.Kind.{Kind}
+use Rattle.dt_proc.specs.declared.tree.KeyItem.{KeyItem}
+use Rattle.dt_proc.specs.declared.tree.KeyDecl.{KeyDecl}
+use Rattle.dt_proc.specs.declared.error.ProcError.{ProcError}
+use Rattle.dt_proc.specs.Names.{Scope}
+use Rattle.dt_proc.specs.Checked.{Told, after_ok, check_param, check_more_params, check_part, check_parts, check_key, check_keys, with_key}
+use Rattle.dt_proc.specs.Walked.{Answers, left_with, comma_param, joined_part, key_told, keys_told, params_told}
+use Rattle.dt_proc.specs.Syntax.{at, Bracketed, bracketed_tokens, Param, param_tokens, KeyPart, text_part, name_part, show_part, part_tokens, KeySyntax, key_tokens, mode_token, Params, no_param, params, params_tokens}
+use Rattle.dt_proc.proofs.Walks.{head_is, tail_is}
+
+-- a part that begins with `show`
+pub part_show : (i : KeyPart) (rest : List Placed) (t : Placed) (ts : List Placed) → part_tokens i ++ rest ≡ t ∷ ts → t.token ≡ tok.Show →
+    (p : ℕ) × (b : Bracketed) × (i ≡ show_part p b) × (bracketed_tokens b ++ rest ≡ ts)
+part_show (text_part p t) rest u ts e is = let h = ap (λ v. v.token) (head_is _ _ _ _ e) in absurd cc
+part_show (name_part p n) rest u ts e is = let h = ap (λ v. v.token) (head_is _ _ _ _ e) in absurd cc
+part_show (show_part p b) rest u ts e is = (p, b, refl, tail_is _ _ _ _ e)
+
+-- one more of a list, after the token that joins it to the others
+pub record IsMore {A : Type 0} (joint : Token) (spelled : A → List Placed) (all : List (ℕ × A)) (last after : List Placed) : Type 0 where
+  pub one : A
+  pub joined_at : ℕ
+  pub more : List (ℕ × A)
+  pub is : all ≡ (joined_at, one) ∷ more
+  pub cut : spelled one ++ (flat_map (λ m. at m.0 joint ∷ spelled m.1) more ++ last) ≡ after
+
+pub more_next : {A : Type 0} (joint : Token) (spelled : A → List Placed) (all : List (ℕ × A)) (q : ℕ) (end : Token) (rest : List Placed) (p : ℕ) (after left : List Placed) →
+    ¬ (joint ≡ end) → flat_map (λ m. at m.0 joint ∷ spelled m.1) all ++ at q end ∷ rest ≡ left → at p joint ∷ after ≡ left →
+    IsMore joint spelled all (at q end ∷ rest) after
+more_next joint spelled [] q end rest p after left differ e f =
+    absurd (differ (ap (λ v. v.token) (head_is (at p joint) (at q end) after rest (f ∙ sym e))))
+more_next joint spelled (m ∷ more) q end rest p after left differ e f = record {
+  one = m.1; joined_at = m.0; more = more; is = refl;
+  cut = sym (append_assoc (spelled m.1) (flat_map (λ m. at m.0 joint ∷ spelled m.1) more) (at q end ∷ rest))
+    ∙ tail_is (at m.0 joint) (at p joint) ((spelled m.1 ++ flat_map (λ m. at m.0 joint ∷ spelled m.1) more) ++ at q end ∷ rest) after (e ∙ sym f);
+}
+
+pub more_end : {A : Type 0} (joint : Token) (spelled : A → List Placed) (all : List (ℕ × A)) (q : ℕ) (end : Token) (rest left : List Placed) →
+    flat_map (λ m. at m.0 joint ∷ spelled m.1) all ++ at q end ∷ rest ≡ left → ((p : ℕ) (us : List Placed) → ¬ (at p joint ∷ us ≡ left)) →
+    (all ≡ []) × (at q end ∷ rest ≡ left)
+more_end joint spelled [] q end rest left e none = (refl, e)
+more_end joint spelled (m ∷ more) q end rest left e none =
+    absurd (none m.0 ((spelled m.1 ++ flat_map (λ m. at m.0 joint ∷ spelled m.1) more) ++ at q end ∷ rest) e)
+
+pub no_comma_close : ¬ (tok.Comma ≡ tok.Close)
+no_comma_close e = cc
+
+pub no_join_semicolon : ¬ (tok.Op op.Join ≡ tok.Semicolon)
+no_join_semicolon e = cc
+
+abbrev pub Left : Type 0
+Left = Result (Bor (List Placed)) ProcError
+
+abbrev pub kinds_of : List (ℕ × Param) → List Kind
+kinds_of more = map (λ m. m.1.kind) more
+
+pub more_params_told : (scope one last : Scope) (before between after : List Kind) (all : List (ℕ × Param)) (rest : List Placed) (r : Left) (n : ℕ) (p : Param) (more : List (ℕ × Param)) →
+    all ≡ (n, p) ∷ more → check_param scope p ≡ Ok one → between ≡ before ++ p.kind ∷ [] →
+    Answers (check_more_params one more) rest (left_with last r) × OnOk r (after ≡ between ++ kinds_of more) →
+    Answers (check_more_params scope all) rest (left_with last r) × OnOk r (after ≡ before ++ kinds_of all)
+more_params_told scope one last before between after all rest (Ok b) n p more is told pushed (h, k) =
+    ((ap (check_more_params scope) is ∙ ap (λ t. after_ok t (λ s. check_more_params s more)) told ∙ h.0, h.1),
+      k ∙ ap (λ v. v ++ kinds_of more) pushed ∙ append_assoc before (p.kind ∷ []) (kinds_of more) ∙ ap (λ v. before ++ kinds_of v) (sym is))
+more_params_told scope one last before between after all rest (Err e) n p more is told pushed (inl h, k) = (inl h, tt)
+more_params_told scope one last before between after all rest (Err e) n p more is told pushed (inr h, k) =
+    (inr (ap (check_more_params scope) is ∙ ap (λ t. after_ok t (λ s. check_more_params s more)) told ∙ h), tt)
+
+pub params_fault : (scope : Scope) (all : List (ℕ × Param)) (before rest : List Placed) (e : ProcError) (n : ℕ) (p : Param) (more : List (ℕ × Param)) →
+    all ≡ (n, p) ∷ more → Answers (check_param scope p) before (Err e) → Answers (check_more_params scope all) rest (Err e)
+params_fault scope all before rest e n p more is (inl h) = inl h
+params_fault scope all before rest e n p more is (inr h) =
+    inr (ap (check_more_params scope) is ∙ ap (λ t. after_ok t (λ s. check_more_params s more)) h)
+
+abbrev pub PartsTold : Scope → List (ℕ × KeyPart) → List KeyItem → Told (List KeyItem)
+PartsTold scope all before = after_ok (check_parts scope all) (λ is. Ok (before ++ is))
+
+parts_one : (t : Told (List KeyItem)) (before : List KeyItem) (i : KeyItem) →
+    after_ok (after_ok t (λ is. Ok (i ∷ is))) (λ is. Ok (before ++ is)) ≡ after_ok t (λ is. Ok ((before ++ i ∷ []) ++ is))
+parts_one (Ok is) before i = ap Ok (sym (append_assoc before (i ∷ []) is))
+parts_one (Err e) before i = refl
+
+pub parts_told : (scope : Scope) (all : List (ℕ × KeyPart)) (before between : List KeyItem) (n : ℕ) (p : KeyPart) (more : List (ℕ × KeyPart)) (i : KeyItem) →
+    all ≡ (n, p) ∷ more → check_part scope p ≡ Ok i → between ≡ before ++ i ∷ [] → PartsTold scope all before ≡ PartsTold scope more between
+parts_told scope all before between n p more i is told pushed =
+    ap (λ a. PartsTold scope a before) is
+    ∙ ap (λ t. after_ok (after_ok t (λ i. after_ok (check_parts scope more) (λ is. Ok (i ∷ is)))) (λ is. Ok (before ++ is))) told
+    ∙ parts_one (check_parts scope more) before i ∙ ap (PartsTold scope more) (sym pushed)
+
+pub parts_fault : (scope : Scope) (all : List (ℕ × KeyPart)) (items : List KeyItem) (before rest : List Placed) (e : ProcError) (n : ℕ) (p : KeyPart) (more : List (ℕ × KeyPart)) →
+    all ≡ (n, p) ∷ more → Answers (check_part scope p) before (Err e) → Answers (PartsTold scope all items) rest (Err e)
+parts_fault scope all items before rest e n p more is (inl h) = inl h
+parts_fault scope all items before rest e n p more is (inr h) =
+    inr (ap (λ a. PartsTold scope a items) is
+      ∙ ap (λ t. after_ok (after_ok t (λ i. after_ok (check_parts scope more) (λ is. Ok (i ∷ is)))) (λ is. Ok (items ++ is))) h)
+
+pub params_none : (scope : Scope) (kinds : List Kind) (all : List (ℕ × Param)) (rest : List Placed) (r : Left) → all ≡ [] →
+    MatchResult r (λ b. b.now ≡ rest) (λ e. ⊥) → Answers (check_more_params scope all) rest (left_with scope r) × OnOk r (kinds ≡ kinds ++ kinds_of all)
+params_none scope kinds all rest (Ok b) is h = ((ap (check_more_params scope) is, h), sym (append-nil kinds) ∙ ap (λ v. kinds ++ kinds_of v) (sym is))
+params_none scope kinds all rest (Err e) is h = absurd h
+
+pub parts_none : (scope : Scope) (items : List KeyItem) (all : List (ℕ × KeyPart)) (rest : List Placed) (r : Left) → all ≡ [] →
+    MatchResult r (λ b. b.now ≡ rest) (λ e. ⊥) → Answers (PartsTold scope all items) rest (left_with items r)
+parts_none scope items all rest (Ok b) is h = (ap (λ a. PartsTold scope a items) is ∙ ap Ok (append-nil items), h)
+parts_none scope items all rest (Err e) is h = absurd h
+
+-- a key comes first, or none
+pub record IsKey (all : List KeySyntax) (w : Bool) (p : ℕ) (last after : List Placed) : Type 0 where
+  pub key : KeySyntax
+  pub more : List KeySyntax
+  pub is : all ≡ key ∷ more
+  pub mode : key.write ≡ w
+  pub cut : at key.name_at (tok.Name key.name) ∷ at key.is_at tok.Is ∷ (part_tokens key.first ++ (flat_map joined_part key.more ++ at key.end_at tok.Semicolon ∷
+    (flat_map key_tokens more ++ last))) ≡ after
+
+key_cut : (k : KeySyntax) (us : List Placed) →
+    key_tokens k ++ us ≡ at k.word_at (mode_token k.write) ∷ at k.name_at (tok.Name k.name) ∷ at k.is_at tok.Is
+      ∷ (part_tokens k.first ++ (flat_map joined_part k.more ++ at k.end_at tok.Semicolon ∷ us))
+key_cut k us =
+    ap (λ v. at k.word_at (mode_token k.write) ∷ at k.name_at (tok.Name k.name) ∷ at k.is_at tok.Is ∷ v)
+    (append_assoc (part_tokens k.first) (flat_map joined_part k.more ++ at k.end_at tok.Semicolon ∷ []) us
+    ∙ ap (λ v. part_tokens k.first ++ v) (append_assoc (flat_map joined_part k.more) (at k.end_at tok.Semicolon ∷ []) us))
+
+mode_is : (v w : Bool) → mode_token v ≡ mode_token w → v ≡ w
+mode_is true true e = refl
+mode_is false false e = refl
+mode_is true false e = absurd cc
+mode_is false true e = absurd cc
+
+mode_begin : (w : Bool) → ¬ (tok.Begin ≡ mode_token w)
+mode_begin true e = cc
+mode_begin false e = cc
+
+pub key_first : (all : List KeySyntax) (b : ℕ) (rest : List Placed) (t : Placed) (ts : List Placed) (w : Bool) → t.token ≡ mode_token w →
+    flat_map key_tokens all ++ at b tok.Begin ∷ rest ≡ t ∷ ts → IsKey all w t.place (at b tok.Begin ∷ rest) ts
+key_first [] b rest t ts w is e = absurd (mode_begin w (ap (λ v. v.token) (head_is _ _ _ _ e) ∙ is))
+key_first (k ∷ ks) b rest t ts w is e =
+    let whole = sym (key_cut k (flat_map key_tokens ks ++ at b tok.Begin ∷ rest))
+      ∙ sym (append_assoc (key_tokens k) (flat_map key_tokens ks) (at b tok.Begin ∷ rest)) ∙ e in
+    record {
+      key = k; more = ks; is = refl;
+      mode = mode_is k.write w (ap (λ v. v.token) (head_is _ _ _ _ whole) ∙ is);
+      cut = tail_is _ _ _ _ whole;
+    }
+
+pub key_none : (all : List KeySyntax) (b : ℕ) (rest : List Placed) (t : Placed) (ts : List Placed) → ¬ (t.token ≡ tok.Read) → ¬ (t.token ≡ tok.Write) →
+    flat_map key_tokens all ++ at b tok.Begin ∷ rest ≡ t ∷ ts → (all ≡ []) × (ts ≡ rest)
+key_none [] b rest t ts r w e = (refl, sym (tail_is _ _ _ _ e))
+key_none (k ∷ ks) b rest t ts r w e = absurd (neither k.write (ap (λ v. v.token) (head_is _ _ _ _ whole)))
+  where
+    whole : at k.word_at (mode_token k.write) ∷ at k.name_at (tok.Name k.name) ∷ at k.is_at tok.Is
+      ∷ (part_tokens k.first ++ (flat_map joined_part k.more ++ at k.end_at tok.Semicolon ∷ (flat_map key_tokens ks ++ at b tok.Begin ∷ rest))) ≡ t ∷ ts
+    whole = sym (key_cut k (flat_map key_tokens ks ++ at b tok.Begin ∷ rest)) ∙ sym (append_assoc (key_tokens k) (flat_map key_tokens ks) (at b tok.Begin ∷ rest)) ∙ e
+
+    neither : (v : Bool) → mode_token v ≡ t.token → ⊥
+    neither true h = w (sym h)
+    neither false h = r (sym h)
+
+pair_ok : (s : Scope) (a b : List KeyDecl) → a ≡ b → ◌≡◌ {A = Told (Scope × List KeyDecl)} (Ok (s, a)) (Ok (s, b))
+pair_ok s a b e = λ i. Ok (s, e i)
+
+keys_one : (t : Told (List KeyDecl × Scope)) (keys : List KeyDecl) (d : KeyDecl) →
+    after_ok {A = List KeyDecl × Scope} {B = Scope × List KeyDecl} (after_ok {A = List KeyDecl × Scope} {B = List KeyDecl × Scope} t (λ r. Ok (d ∷ r.0, r.1))) (λ r. Ok (r.1, keys ++ r.0)) ≡ after_ok {A = List KeyDecl × Scope} {B = Scope × List KeyDecl} t (λ r. Ok (r.1, (keys ++ d ∷ []) ++ r.0))
+keys_one (Ok r) keys d = pair_ok r.1 (keys ++ d ∷ r.0) ((keys ++ d ∷ []) ++ r.0) (sym (append_assoc keys (d ∷ []) r.0))
+keys_one (Err e) keys d = refl
+
+abbrev value_of : {A : Type 0} → A → Told A → A
+value_of other (Ok a) = a
+value_of other (Err e) = other
+
+-- one key more
+keys_after : (scope : Scope) (keys : List KeyDecl) (k : KeySyntax) (more : List KeySyntax) (t : Told KeyDecl) (one : Scope) (made : List KeyDecl) → check_key scope k ≡ t →
+    after_ok {A = KeyDecl} {B = Scope × List KeyDecl} t (λ d. Ok (with_key scope k.name k.write, keys ++ d ∷ [])) ≡ Ok (one, made) → keys_told scope keys (k ∷ more) ≡ keys_told one made more
+keys_after scope keys k more (Err e) one made is told = absurd cc
+keys_after scope keys k more (Ok d) one made is told =
+    ap (λ t. after_ok {A = List KeyDecl × Scope} {B = Scope × List KeyDecl} (after_ok {A = KeyDecl} {B = List KeyDecl × Scope} t (λ d. after_ok {A = List KeyDecl × Scope} {B = List KeyDecl × Scope} (check_keys (with_key scope k.name k.write) more) (λ r. Ok (d ∷ r.0, r.1)))) (λ r. Ok (r.1, keys ++ r.0))) is
+    ∙ keys_one (check_keys (with_key scope k.name k.write) more) keys d
+    ∙ ap (λ (v : Scope × List KeyDecl). keys_told v.0 v.1 more) (ap (value_of {A = Scope × List KeyDecl} (with_key scope k.name k.write, keys ++ d ∷ [])) told)
+
+pub keys_next : (scope one : Scope) (keys made : List KeyDecl) (all : List KeySyntax) (k : KeySyntax) (more : List KeySyntax) → all ≡ k ∷ more →
+    key_told scope keys k ≡ Ok (one, made) → keys_told scope keys all ≡ keys_told one made more
+keys_next scope one keys made all k more is told =
+    ap (keys_told scope keys) is ∙ keys_after scope keys k more (check_key scope k) one made refl told
+
+key_err : (scope : Scope) (keys : List KeyDecl) (k : KeySyntax) (more : List KeySyntax) (t : Told KeyDecl) (e : ProcError) → check_key scope k ≡ t →
+    ◌≡◌ {A = Told (Scope × List KeyDecl)} (after_ok {A = KeyDecl} {B = Scope × List KeyDecl} t (λ d. Ok (with_key scope k.name k.write, keys ++ d ∷ []))) (Err e) → keys_told scope keys (k ∷ more) ≡ Err e
+key_err scope keys k more (Ok d) e is told = absurd cc
+key_err scope keys k more (Err f) e is told =
+    ap (λ t. after_ok {A = List KeyDecl × Scope} {B = Scope × List KeyDecl} (after_ok {A = KeyDecl} {B = List KeyDecl × Scope} t (λ d. after_ok {A = List KeyDecl × Scope} {B = List KeyDecl × Scope} (check_keys (with_key scope k.name k.write) more) (λ r. Ok (d ∷ r.0, r.1)))) (λ r. Ok (r.1, keys ++ r.0))) is
+    ∙ ap Err (fault_of told)
+  where
+    fault_of : ◌≡◌ {A = Told (Scope × List KeyDecl)} (Err f) (Err e) → f ≡ e
+    fault_of h = cc
+
+pub keys_fault : (scope : Scope) (keys : List KeyDecl) (all : List KeySyntax) (k : KeySyntax) (more : List KeySyntax) (before rest : List Placed) (e : ProcError) → all ≡ k ∷ more →
+    Answers (key_told scope keys k) before (Err e) → Answers (keys_told scope keys all) rest (Err e)
+keys_fault scope keys all k more before rest e is (inl m) = inl m
+keys_fault scope keys all k more before rest e is (inr h) =
+    inr (ap (keys_told scope keys) is ∙ key_err scope keys k more (check_key scope k) e refl h)
+
+pub keys_end : (scope : Scope) (keys : List KeyDecl) (all : List KeySyntax) → all ≡ [] → keys_told scope keys all ≡ Ok (scope, keys)
+keys_end scope keys all is = ap (keys_told scope keys) is ∙ pair_ok scope (keys ++ []) keys (append-nil keys)
+
+-- the first parameter, or none
+pub params_none_first : (ps : Params) (q : ℕ) (rest ts : List Placed) (p : ℕ) (after : List Placed) → params_tokens ps ++ at q tok.Close ∷ rest ≡ ts → at p tok.Close ∷ after ≡ ts →
+    (ps ≡ no_param) × (after ≡ rest)
+params_none_first no_param q rest ts p after e f = (refl, tail_is (at p tok.Close) (at q tok.Close) after rest (f ∙ sym e))
+params_none_first (params m more) q rest ts p after e f = let h = ap (λ v. v.token) (head_is _ _ _ _ (f ∙ sym e)) in absurd cc
+
+pub record HasParam (ps : Params) (q : ℕ) (rest ts : List Placed) : Type 0 where
+  pub one : Param
+  pub more : List (ℕ × Param)
+  pub is : ps ≡ params one more
+  pub cut : param_tokens one ++ (flat_map comma_param more ++ at q tok.Close ∷ rest) ≡ ts
+
+pub params_first : (ps : Params) (q : ℕ) (rest ts : List Placed) → params_tokens ps ++ at q tok.Close ∷ rest ≡ ts →
+    ((p : ℕ) (us : List Placed) → ¬ (at p tok.Close ∷ us ≡ ts)) → HasParam ps q rest ts
+params_first no_param q rest ts e none = absurd (none q rest e)
+params_first (params m more) q rest ts e none = record { one = m; more = more; is = refl; cut = e }
+
+pub params_told_is : (ps : Params) (one last : Scope) (m : Param) (more : List (ℕ × Param)) (kinds made : List Kind) → ps ≡ params m more →
+    check_param (record { variables = []; keys = [] }) m ≡ Ok one → check_more_params one more ≡ Ok last → kinds ≡ m.kind ∷ [] → made ≡ kinds ++ kinds_of more →
+    params_told ps ≡ Ok (last, made)
+params_told_is ps one last m more kinds made is told others first rest =
+    ap params_told is ∙ ap (λ t. after_ok {A = Scope} {B = Scope × List Kind} (after_ok {A = Scope} {B = Scope} t (λ s. check_more_params s more)) (λ s. Ok (s, m.kind ∷ kinds_of more))) told
+    ∙ ap (λ t. after_ok {A = Scope} {B = Scope × List Kind} t (λ s. Ok (s, m.kind ∷ kinds_of more))) others
+    ∙ λ i. Ok (last, (sym (rest ∙ ap (λ v. v ++ kinds_of more) first)) i)
+
+pub params_first_fault : (ps : Params) (m : Param) (more : List (ℕ × Param)) (before rest : List Placed) (e : ProcError) → ps ≡ params m more →
+    Answers (check_param (record { variables = []; keys = [] }) m) before (Err e) → Answers (params_told ps) rest (Err e)
+params_first_fault ps m more before rest e is (inl h) = inl h
+params_first_fault ps m more before rest e is (inr h) =
+    inr (ap params_told is ∙ ap (λ t. after_ok {A = Scope} {B = Scope × List Kind} (after_ok {A = Scope} {B = Scope} t (λ s. check_more_params s more)) (λ s. Ok (s, m.kind ∷ kinds_of more))) h)
+
+pub params_more_fault : (ps : Params) (one : Scope) (m : Param) (more : List (ℕ × Param)) (before rest : List Placed) (e : ProcError) → ps ≡ params m more →
+    check_param (record { variables = []; keys = [] }) m ≡ Ok one → Answers (check_more_params one more) before (Err e) → Answers (params_told ps) rest (Err e)
+params_more_fault ps one m more before rest e is told (inl h) = inl h
+params_more_fault ps one m more before rest e is told (inr h) =
+    inr (ap params_told is ∙ ap (λ t. after_ok {A = Scope} {B = Scope × List Kind} (after_ok {A = Scope} {B = Scope} t (λ s. check_more_params s more)) (λ s. Ok (s, m.kind ∷ kinds_of more))) told
+      ∙ ap (λ t. after_ok {A = Scope} {B = Scope × List Kind} t (λ s. Ok (s, m.kind ∷ kinds_of more))) h)

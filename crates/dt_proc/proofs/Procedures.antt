@@ -1,0 +1,128 @@
+-- A procedure, as the walk over it finds it.
+use Rattle.std.proofs.Common.{◌≡◌, ◌⊎◌, inl, inr, ℕ, suc, ◌≤◌, ◌<◌, ◌+◌, Bool, true, false, cond, List, [], ◌∷◌, ◌++◌, map, length, append_assoc, Result, Ok, Err, refl, sym, ap, ◌∙◌, subst, arith, nat_eq}
+use Rattle.std.specs.List.{flat_map, list_any}
+use Rattle.std.specs.Cmp.Lexicographic.{pointwise}
+use Rattle.std.proofs.lemmas.List.{length-append}
+use Rattle.dt_lists.specs.Lists.{AllIn}
+use Rattle.dt_text.specs.Texts.{IsName}
+use Rattle.dt_proc.specs.declared.tree.Kind.{Kind}
+use Rattle.dt_proc.specs.declared.tree.KeyDecl.{KeyDecl}
+use Rattle.dt_proc.specs.declared.tree.Sort.{Sort}
+use Rattle.dt_proc.specs.declared.token.Token.TheVariants as tok
+use Rattle.dt_proc.specs.declared.token.Placed.{Placed}
+use Rattle.dt_proc.specs.declared.error.ProcError.{ProcError}
+use Rattle.dt_proc.specs.declared.error.ProcError.TheVariants as fault
+use Rattle.dt_proc.specs.Names.{Scope}
+use Rattle.dt_proc.specs.Tree.{Block, ProcTree}
+use Rattle.dt_proc.specs.Sound.{IsSound, IsSoundItem, AreSound, sort_of}
+use Rattle.dt_proc.specs.Checked.{Told, after_ok, check_params, param_kinds, check_keys, check_block, check_proc}
+use Rattle.dt_proc.specs.Walked.{Answers, AllSound, IsSmall, params_told, keys_told}
+use Rattle.dt_proc.specs.Syntax.{at, params_tokens, key_tokens, KeySyntax, statements_tokens, ProcSyntax, proc_tokens}
+use Rattle.dt_proc.proofs.Sorted.{sound_left, sound_right, Holds, holds_ok, holds_after, sorts, writes}
+use Rattle.dt_proc.proofs.Keyed.{HasParams, KeysMade, keys_make, ParamsMade, params_make}
+use Rattle.dt_proc.proofs.Fitted.{block_fits}
+
+pub proc_cut : (p : ProcSyntax) (rest ts : List Placed) → proc_tokens p ++ rest ≡ ts →
+    at p.word_at tok.Proc ∷ at p.name_at (tok.Name p.name) ∷ at p.open_at tok.Open ∷ (params_tokens p.params ++ at p.close_at tok.Close
+    ∷ (flat_map key_tokens (p.key ∷ p.more_keys) ++ at p.begin_at tok.Begin ∷ (statements_tokens p.body ++ at p.end_at tok.End ∷ rest))) ≡ ts
+proc_cut p rest ts e =
+    let start : List Placed → List Placed = λ v. at p.word_at tok.Proc ∷ at p.name_at (tok.Name p.name) ∷ at p.open_at tok.Open ∷ v in
+    let spelled = params_tokens p.params in
+    let key = key_tokens p.key in
+    let keys = flat_map key_tokens p.more_keys in
+    let body = statements_tokens p.body in
+    let end : (body ++ at p.end_at tok.End ∷ []) ++ rest ≡ body ++ at p.end_at tok.End ∷ rest = append_assoc body (at p.end_at tok.End ∷ []) rest in
+    let one : (key ++ (keys ++ at p.begin_at tok.Begin ∷ (body ++ at p.end_at tok.End ∷ []))) ++ rest
+        ≡ (key ++ keys) ++ at p.begin_at tok.Begin ∷ (body ++ at p.end_at tok.End ∷ rest) =
+      append_assoc key (keys ++ at p.begin_at tok.Begin ∷ (body ++ at p.end_at tok.End ∷ [])) rest
+      ∙ ap (λ v. key ++ v) (append_assoc keys (at p.begin_at tok.Begin ∷ (body ++ at p.end_at tok.End ∷ [])) rest ∙ ap (λ v. keys ++ at p.begin_at tok.Begin ∷ v) end)
+      ∙ sym (append_assoc key keys (at p.begin_at tok.Begin ∷ (body ++ at p.end_at tok.End ∷ rest))) in
+    ap start (sym (append_assoc spelled (at p.close_at tok.Close ∷ (key ++ (keys ++ at p.begin_at tok.Begin ∷ (body ++ at p.end_at tok.End ∷ [])))) rest
+      ∙ ap (λ v. spelled ++ at p.close_at tok.Close ∷ v) one)) ∙ e
+
+pub proc_longer : (p : ProcSyntax) (rest ts : List Placed) → proc_tokens p ++ rest ≡ ts → length rest < length ts
+proc_longer p rest ts e = omega (arith, ap length e, length-append (proc_tokens p) rest)
+
+-- what the walk tells, part after part
+abbrev pub walked_proc : ProcSyntax → Told ProcTree
+walked_proc p =
+    after_ok {A = Scope × List Kind} (params_told p.params) (λ s. after_ok {A = Scope × List KeyDecl} (keys_told s.0 [] (p.key ∷ p.more_keys))
+    (λ r. after_ok {A = Block} (check_block r.0 p.body) (λ b. Ok (record { name = p.name; params = s.1; keys = r.1; body = b }))))
+
+kinds_with : {B : Type 0} (t : Told Scope) (kinds : List Kind) (next : Scope × List Kind → Told B) →
+    after_ok {A = Scope} {B = B} t (λ s. next (s, kinds)) ≡ after_ok {A = Scope × List Kind} {B = B} (after_ok {A = Scope} {B = Scope × List Kind} t (λ s. Ok (s, kinds))) next
+kinds_with (Ok s) kinds next = refl
+kinds_with (Err e) kinds next = refl
+
+keys_with : {B : Type 0} (t : Told (List KeyDecl × Scope)) (next : Scope × List KeyDecl → Told B) →
+    after_ok {A = List KeyDecl × Scope} {B = B} t (λ r. next (r.1, r.0))
+    ≡ after_ok {A = Scope × List KeyDecl} {B = B} (after_ok {A = List KeyDecl × Scope} {B = Scope × List KeyDecl} t (λ r. Ok (r.1, r.0))) next
+keys_with (Ok s) next = refl
+keys_with (Err e) next = refl
+
+after_same : {A B : Type 0} (t : Told A) (f g : A → Told B) → ((a : A) → f a ≡ g a) → after_ok t f ≡ after_ok t g
+after_same (Ok a) f g h = h a
+after_same (Err e) f g h = refl
+
+pub proc_is : (before : List ProcTree) (p : ProcSyntax) → list_any (λ (q : ProcTree). pointwise nat_eq q.name p.name) before ≡ false → check_proc before p ≡ walked_proc p
+proc_is before p free =
+    let made : Scope → Scope × List KeyDecl → Told ProcTree =
+      λ s r. after_ok {A = Block} (check_block r.0 p.body) (λ b. Ok (record { name = p.name; params = param_kinds p.params; keys = r.1; body = b })) in
+    let keys = p.key ∷ p.more_keys in
+    ap (λ t. cond t (Err (fault.Twice p.name_at)) (after_ok {A = Scope} (check_params p.params) (λ s. after_ok {A = List KeyDecl × Scope} (check_keys s keys) (λ r. made s (r.1, r.0))))) free
+    ∙ after_same (check_params p.params) (λ s. after_ok {A = List KeyDecl × Scope} (check_keys s keys) (λ r. made s (r.1, r.0)))
+      (λ s. after_ok {A = Scope × List KeyDecl} (keys_told s [] keys) (made s)) (λ s. keys_with (check_keys s keys) (made s))
+    ∙ kinds_with (check_params p.params) (param_kinds p.params)
+      (λ s. after_ok {A = Scope × List KeyDecl} (keys_told s.0 [] keys) (λ r. after_ok {A = Block} (check_block r.0 p.body) (λ b. Ok (record { name = p.name; params = s.1; keys = r.1; body = b }))))
+
+pub proc_twice : (before : List ProcTree) (p : ProcSyntax) (name : List ℕ) (place : ℕ) → list_any (λ (q : ProcTree). pointwise nat_eq q.name name) before ≡ true →
+    name ≡ p.name → place ≡ p.name_at → check_proc before p ≡ Err (fault.Twice place)
+proc_twice before p name place taken is at_place =
+    ap (λ t. cond t (Err (fault.Twice p.name_at)) (after_ok {A = Scope} (check_params p.params) (λ s. after_ok {A = List KeyDecl × Scope} (check_keys s (p.key ∷ p.more_keys))
+      (λ r. after_ok {A = Block} (check_block r.1 p.body) (λ b. Ok (record { name = p.name; params = param_kinds p.params; keys = r.0; body = b }))))))
+      (ap (λ n. list_any (λ (q : ProcTree). pointwise nat_eq q.name n) before) (sym is) ∙ taken)
+    ∙ ap (λ n. Err (fault.Twice n)) (sym at_place)
+
+-- the parameters that are told
+record IsTold (p : ProcSyntax) (scope : Scope) (kinds : List Kind) : Type 0 where
+  pub made : ParamsMade (param_kinds p.params) (record { variables = []; keys = [] }) scope
+  pub same : kinds ≡ param_kinds p.params
+
+told_params : (p : ProcSyntax) (r : Scope × List Kind) → params_told p.params ≡ Ok r → IsTold p r.0 r.1
+told_params p =
+    holds_after {A = Scope} (λ (r : Scope × List Kind). IsTold p r.0 r.1) (check_params p.params) (λ s. Ok (s, param_kinds p.params))
+    (λ s e. holds_ok (λ (r : Scope × List Kind). IsTold p r.0 r.1) (s, param_kinds p.params) (record { made = params_make p.params s e; same = refl }))
+
+abbrev Made : List Kind → Scope → ℕ → Scope × List KeyDecl → Type 0
+Made kinds scope n r = KeysMade kinds scope n (r.1, r.0)
+
+told_keys : (kinds : List Kind) (scope : Scope) (ks : List KeySyntax) → HasParams kinds scope → AllSound (flat_map key_tokens ks) → (r : Scope × List KeyDecl) → keys_told scope [] ks ≡ Ok r →
+    Made kinds scope (length ks) r
+told_keys kinds scope ks own h =
+    holds_after {A = List KeyDecl × Scope} (Made kinds scope (length ks)) (check_keys scope ks) (λ r. Ok (r.1, [] ++ r.0))
+    (λ r e. holds_ok (Made kinds scope (length ks)) (r.1, r.0) (keys_make kinds scope ks own h r e))
+
+pub proc_sound : (p : ProcSyntax) (name : List ℕ) (scope last : Scope) (kinds : List Kind) (keys : List KeyDecl) (body : Block) → AllSound (proc_tokens p) → IsSmall p → IsName name →
+    params_told p.params ≡ Ok (scope, kinds) → keys_told scope [] (p.key ∷ p.more_keys) ≡ Ok (last, keys) → check_block last p.body ≡ Ok body →
+    IsSound (record { name = name; params = kinds; keys = keys; body = body })
+proc_sound p name scope last kinds keys body h small named ps ks b =
+    let all = p.key ∷ p.more_keys in
+    let block = at p.begin_at tok.Begin ∷ (statements_tokens p.body ++ at p.end_at tok.End ∷ []) in
+    let heads = sound_right (params_tokens p.params) (at p.close_at tok.Close ∷ (key_tokens p.key ++ (flat_map key_tokens p.more_keys ++ block))) h.1.1.1 in
+    let parts : AllSound (flat_map key_tokens all ++ block) = subst AllSound (sym (append_assoc (key_tokens p.key) (flat_map key_tokens p.more_keys) block)) heads.1 in
+    let own = told_params p (scope, kinds) ps in
+    let has : HasParams kinds scope = own.made.0 ∙ ap (map sort_of) (sym own.same) in
+    let made = told_keys kinds scope all has (sound_left (flat_map key_tokens all) block parts) (last, keys) ks in
+    let inner = sound_left (statements_tokens p.body) (at p.end_at tok.End ∷ []) (sound_right (flat_map key_tokens all) block parts).1 in
+    let fits = block_fits last p.body inner body b in
+    let modes : writes last ≡ map (λ (k : KeyDecl). k.write) keys = made.1 ∙ ap (λ (v : List (List ℕ × Bool)). map (λ (k : List ℕ × Bool). k.1) v ++ map (λ (k : KeyDecl). k.write) keys) own.made.1 in
+    let some = made.3 in
+    let few = small.1 in
+    record {
+      name = named;
+      few_params = subst (λ (v : List Kind). length v ≤ 16) (sym own.same) small.0;
+      some_key = omega arith;
+      few_keys = omega arith;
+      items = made.0;
+      body = subst (λ v. AreSound v (map (λ (k : KeyDecl). k.write) keys) body) made.2 (subst (λ v. AreSound (sorts last) v body) modes fits);
+    }

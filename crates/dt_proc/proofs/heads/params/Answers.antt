@@ -1,0 +1,34 @@
+use Rattle.std.proofs.Common.{◌≡◌, [], ◌∷◌, ◌++◌, ap, sym, ◌∙◌, refl, Ok, Err, subst}
+use Rattle.std.specs.List.{flat_map}
+use Rattle.std.proofs.lemmas.Result.{err_from_is_err_and}
+use Rattle.dt_proc.specs.declared.token.Token.TheVariants as tok
+use Rattle.dt_proc.specs.Syntax.{at, param_tokens}
+use Rattle.dt_proc.specs.Checked.{check_param}
+use Rattle.dt_proc.specs.Walked.{comma_param, Answers}
+use Rattle.dt_proc.proofs.Listing.{params_first, params_first_fault, params_more_fault, params_told_is}
+use Rattle.dt_proc.proofs.heads.params.Goals as goal
+
+pub returns-in_err-rest : goal.returns-in_err-rest
+returns-in_err-rest c = λ ps q rest e.
+    let p = err_from_is_err_and c.from_residual.result c.from_residual.ensures.1 in
+    let k = params_first ps q rest c.args.tokens.now e c.in_default.ensures.right in
+    let told = c.in_err-rest.ensures.right k.one (flat_map comma_param k.more ++ at q tok.Close ∷ rest) k.cut in
+    rw (p.1, p.2) (params_first_fault ps k.one k.more (flat_map comma_param k.more ++ at q tok.Close ∷ rest) rest _ k.is
+      (subst (λ s. Answers (check_param s k.one) (flat_map comma_param k.more ++ at q tok.Close ∷ rest) (Err c.in_err-rest.field-0.0)) c.new-scope.ensures told.0))
+
+pub returns-in_err-rest-2 : goal.returns-in_err-rest-2
+returns-in_err-rest-2 c = λ ps q rest e.
+    let p = err_from_is_err_and c.from_residual-in_err-rest-2.result c.from_residual-in_err-rest-2.ensures.1 in
+    let k = params_first ps q rest c.args.tokens.now e c.in_default.ensures.right in
+    let told = c.in_ok-rest.ensures.right k.one (flat_map comma_param k.more ++ at q tok.Close ∷ rest) k.cut in
+    let others = c.in_err-rest-2.ensures.right k.more q rest (sym told.0.1) in
+    rw (p.1, p.2) (params_more_fault ps c.param.new.scope k.one k.more rest rest _ k.is (ap (λ s. check_param s k.one) (sym c.new-scope.ensures) ∙ told.0.0) others.0)
+
+pub returns : goal.returns
+returns c = λ ps q rest e.
+    let k = params_first ps q rest c.args.tokens.now e c.in_default.ensures.right in
+    let told = c.in_ok-rest.ensures.right k.one (flat_map comma_param k.more ++ at q tok.Close ∷ rest) k.cut in
+    let others = c.in_ok-rest-2.ensures.right k.more q rest (sym told.0.1) in
+    (params_told_is ps c.param.new.scope c.more_params.new.scope k.one k.more c.param.new.kinds c.more_params.new.kinds k.is
+      (ap (λ s. check_param s k.one) (sym c.new-scope.ensures) ∙ told.0.0) others.0.0 (told.1 ∙ ap (λ v. v ++ k.one.kind ∷ []) c.new-kinds.ensures) others.1,
+      others.0.1)

@@ -1,0 +1,14 @@
+pub mod Builtin
+pub mod Checked
+pub mod Codes
+pub mod Counted
+pub mod Falls
+pub mod Machine
+pub mod Names
+pub mod Passes
+pub mod Shown
+pub mod Sound
+pub mod Syntax
+pub mod Tokens
+pub mod Tree
+pub mod Walked

@@ -1,0 +1,115 @@
+-- What holds of every procedure, so that a run of it has no case that cannot come: kinds fit, and what is named is there.
+use Rattle.std.specs.Prelude.{◌≡◌, ◌⊎◌, ℕ, ◌<◌, ◌≤◌, Bool, true, List, [], ◌∷◌, ◌++◌, length, map, slice_get, Some, FitsSigned}
+use Rattle.std.specs.Int.{w64}
+use Rattle.dt_lists.specs.Lists.{AllIn, Distinct}
+use Rattle.dt_text.specs.Texts.{IsStr, IsName}
+use Rattle.dt_proc.specs.declared.tree.Kind.{Kind}
+use Rattle.dt_proc.specs.declared.tree.Sort.{Sort}
+use Rattle.dt_proc.specs.declared.tree.Sort.TheVariants as sort
+use Rattle.dt_proc.specs.declared.tree.Kind.TheVariants as kind
+use Rattle.dt_proc.specs.declared.tree.Op.{Op}
+use Rattle.dt_proc.specs.declared.tree.Op.TheVariants.{Or, And, Equal, Differ, Less, AtMost, More, AtLeast, Add, Sub, Join, Mul, Div, Rem}
+use Rattle.dt_proc.specs.declared.tree.KeyItem.{KeyItem}
+use Rattle.dt_proc.specs.declared.tree.KeyItem.TheVariants.{Text, Param, Show}
+use Rattle.dt_proc.specs.declared.tree.KeyDecl.{KeyDecl}
+use Rattle.dt_proc.specs.Tree.{Formula, number, text, truth, variable, number_of, text_of, has_value, length_of, shown, negative, opposite, binary, Gift, row, value, Step, let_new, set_row, clear_row, choose, abort_with, give_all, Block, done, then, ProcTree}
+
+-- an operator needs two operands of this sort
+abbrev pub Takes : Op → Sort → Type 0
+Takes Or s = s ≡ sort.Bool
+Takes And s = s ≡ sort.Bool
+Takes Equal s = (s ≡ sort.Int) ⊎ (s ≡ sort.Text)
+Takes Differ s = (s ≡ sort.Int) ⊎ (s ≡ sort.Text)
+Takes Less s = (s ≡ sort.Int) ⊎ (s ≡ sort.Text)
+Takes AtMost s = (s ≡ sort.Int) ⊎ (s ≡ sort.Text)
+Takes More s = (s ≡ sort.Int) ⊎ (s ≡ sort.Text)
+Takes AtLeast s = (s ≡ sort.Int) ⊎ (s ≡ sort.Text)
+Takes Join s = s ≡ sort.Text
+Takes Add s = s ≡ sort.Int
+Takes Sub s = s ≡ sort.Int
+Takes Mul s = s ≡ sort.Int
+Takes Div s = s ≡ sort.Int
+Takes Rem s = s ≡ sort.Int
+
+-- what an operator gives
+abbrev pub given_by : Op → Sort
+given_by Join = sort.Text
+given_by Add = sort.Int
+given_by Sub = sort.Int
+given_by Mul = sort.Int
+given_by Div = sort.Int
+given_by Rem = sort.Int
+given_by Or = sort.Bool
+given_by And = sort.Bool
+given_by Equal = sort.Bool
+given_by Differ = sort.Bool
+given_by Less = sort.Bool
+given_by AtMost = sort.Bool
+given_by More = sort.Bool
+given_by AtLeast = sort.Bool
+
+-- an expression gives a value of this sort, where the variables have these sorts and there are so many keys
+abbrev pub HasSort : List Sort → ℕ → Formula → Sort → Type 0
+HasSort variables keys (number z) s = (s ≡ sort.Int) × FitsSigned w64 z
+HasSort variables keys (text t) s = (s ≡ sort.Text) × IsStr t
+HasSort variables keys (truth b) s = s ≡ sort.Bool
+HasSort variables keys (variable n) s = slice_get variables n ≡ Some s
+HasSort variables keys (number_of k) s = (s ≡ sort.Int) × (k < keys)
+HasSort variables keys (text_of k) s = (s ≡ sort.Text) × (k < keys)
+HasSort variables keys (has_value k) s = (s ≡ sort.Bool) × (k < keys)
+HasSort variables keys (length_of f) s = (s ≡ sort.Int) × HasSort variables keys f sort.Text
+HasSort variables keys (shown f) s = (s ≡ sort.Text) × HasSort variables keys f sort.Int
+HasSort variables keys (negative f) s = (s ≡ sort.Int) × HasSort variables keys f sort.Int
+HasSort variables keys (opposite f) s = (s ≡ sort.Bool) × HasSort variables keys f sort.Bool
+HasSort variables keys (binary o f g) s =
+    (t : Sort) × Takes o t × HasSort variables keys f t × HasSort variables keys g t × (s ≡ given_by o)
+
+-- a sort that a row may have
+abbrev pub IsStored : Sort → Type 0
+IsStored s = (s ≡ sort.Int) ⊎ (s ≡ sort.Text)
+
+abbrev pub IsSoundGift : List Sort → ℕ → Gift → Type 0
+IsSoundGift variables keys (row k) = k < keys
+IsSoundGift variables keys (value f) = (s : Sort) × IsStored s × HasSort variables keys f s
+
+-- statements fit, where the variables have these sorts, and each key may be set and cleared or not: a `let` adds a variable
+-- for the statements after it
+abbrev pub AreSound : List Sort → List Bool → Block → Type 0
+AreSound variables writes done = Unit {0}
+AreSound variables writes (then (let_new f) rest) =
+    (s : Sort) × HasSort variables (length writes) f s × AreSound (variables ++ s ∷ []) writes rest
+AreSound variables writes (then (set_row k f) rest) =
+    (slice_get writes k ≡ Some true) × ((s : Sort) × IsStored s × HasSort variables (length writes) f s)
+    × AreSound variables writes rest
+AreSound variables writes (then (clear_row k) rest) = (slice_get writes k ≡ Some true) × AreSound variables writes rest
+AreSound variables writes (then (choose f a b) rest) =
+    HasSort variables (length writes) f sort.Bool × AreSound variables writes a × AreSound variables writes b
+    × AreSound variables writes rest
+AreSound variables writes (then (abort_with t) rest) = IsStr t × AreSound variables writes rest
+AreSound variables writes (then (give_all gs) rest) =
+    AllIn (IsSoundGift variables (length writes)) gs × AreSound variables writes rest
+
+-- a part of a key expression fits these parameters
+abbrev pub IsSoundItem : List Kind → KeyItem → Type 0
+IsSoundItem params (Text t) = IsStr t
+IsSoundItem params (Param n) = slice_get params n ≡ Some kind.Text
+IsSoundItem params (Show n) = slice_get params n ≡ Some kind.Int
+
+abbrev pub sort_of : Kind → Sort
+sort_of kind.Int = sort.Int
+sort_of kind.Text = sort.Text
+
+-- a procedure has a name, at most 16 parameters, 1 to 16 keys, and all in it fits
+pub record IsSound (proc : ProcTree) : Type 0 where
+  pub name : IsName proc.name
+  pub few_params : length proc.params ≤ 16
+  pub some_key : 1 ≤ length proc.keys
+  pub few_keys : length proc.keys ≤ 16
+  pub items : AllIn (λ k. AllIn (IsSoundItem proc.params) k.items) proc.keys
+  pub body : AreSound (map sort_of proc.params) (map (λ k. k.write) proc.keys) proc.body
+
+-- procedures: at most 64, of distinct names
+pub record AreProcs (procs : List ProcTree) : Type 0 where
+  pub few : length procs ≤ 64
+  pub distinct : Distinct (map (λ p. p.name) procs)
+  pub sound : AllIn IsSound procs

@@ -1,0 +1,162 @@
+-- What a walk over tokens answers, in terms of the syntax trees that the tokens spell.
+use Rattle.std.specs.Prelude.{◌≡◌, ◌⊎◌, ℕ, suc, ◌<◌, ◌≤◌, length, FitsSigned, List, [], ◌∷◌, ◌++◌, Bool, true, MatchBool, map, Result, Ok, Err, Option, Some, None}
+use Rattle.dt_proc.specs.declared.token.Token.{Token}
+use Rattle.dt_proc.specs.declared.token.Token.TheVariants as tok
+use Rattle.dt_proc.specs.declared.token.Placed.{Placed}
+use Rattle.dt_proc.specs.declared.tree.Expr.{Expr}
+use Rattle.dt_proc.specs.declared.tree.Sort.{Sort}
+use Rattle.dt_proc.specs.declared.error.ProcError.{ProcError}
+use Rattle.dt_proc.specs.declared.error.ProcError.TheVariants as fault
+use Rattle.dt_proc.specs.declared.tree.Give.{Give}
+use Rattle.dt_proc.specs.declared.tree.Stmt.{Stmt}
+use Rattle.dt_proc.specs.Names.{Scope}
+use Rattle.dt_proc.specs.Tree.{Gift, Step, Block, ProcTree}
+use Rattle.dt_lists.specs.Lists.{AllIn}
+use Rattle.dt_text.specs.Texts.{IsStr, IsName}
+use Rattle.dt_proc.specs.Shown.{formula_of, gift_of, step_of}
+use Rattle.dt_proc.specs.declared.tree.KeyDecl.{KeyDecl}
+use Rattle.dt_proc.specs.Checked.{Told, Typed, after_ok, check_key, check_keys, with_key, check_params, param_kinds}
+use Rattle.dt_proc.specs.declared.tree.Kind.{Kind}
+use Rattle.std.specs.Borrow.{Bor}
+use Rattle.std.specs.Int.{w64}
+use Rattle.dt_proc.specs.declared.tree.Op.{Op}
+use Rattle.dt_proc.specs.Tree.{variable}
+use Rattle.dt_proc.specs.declared.tree.KeyItem.{KeyItem}
+use Rattle.dt_proc.specs.declared.tree.Op.TheVariants as op
+use Rattle.dt_proc.specs.Syntax.{at, level_of, Param, param_tokens, KeyPart, part_tokens, KeySyntax, Params, ProcSyntax, IsProc, proc_tokens, AreProcs, procs_tokens}
+
+-- an expression of the level does not go on with this token
+abbrev pub Stops : ℕ → Token → Type 0
+Stops n (tok.Op o) = level_of o < n
+Stops n _ = Unit {0}
+
+-- nor with what comes first of these
+abbrev pub FrontStops : ℕ → List Placed → Type 0
+FrontStops n [] = ⊥
+FrontStops n (t ∷ ts) = Stops n t.token
+
+-- the walk's answer is what is told, with the tokens that follow, or the fault that is told; or memory ran out
+abbrev pub Answers : {A : Type 0} → Told A → List Placed → Told (A × List Placed) → Type 0
+Answers told rest (Ok (a, after)) = (told ≡ Ok a) × (after ≡ rest)
+Answers told rest (Err e) = (e ≡ fault.NoMemory) ⊎ (told ≡ Err e)
+
+-- what a walk gave, with what is left
+abbrev pub shown : Result (Expr × Sort × Bor (List Placed)) ProcError → Told (Typed × List Placed)
+shown (Ok r) = Ok ((formula_of r.0, r.1), r.2.now)
+shown (Err e) = Err e
+
+abbrev pub number_shown : Result (ℕ × Bor (List Placed)) ProcError → Told (ℕ × List Placed)
+number_shown (Ok r) = Ok (r.0, r.1.now)
+number_shown (Err e) = Err e
+
+abbrev pub variable_shown : Result (ℕ × Sort) ProcError → Told Typed
+variable_shown (Ok r) = Ok (variable r.0, r.1)
+variable_shown (Err e) = Err e
+
+abbrev pub operator_shown : Option (ℕ × Op × Bor (List Placed)) → Option (ℕ × Op × List Placed)
+operator_shown None = None
+operator_shown (Some r) = Some (r.0, r.1, r.2.now)
+
+-- the operator of the level that comes first is found, and none where none does
+abbrev pub FindsOperator : ℕ → List Placed → Option (ℕ × Op × List Placed) → Type 0
+FindsOperator n ts None = (p : ℕ) (o : Op) (rest : List Placed) → at p (tok.Op o) ∷ rest ≡ ts → ¬ (level_of o ≡ n)
+FindsOperator n ts (Some (p, o, rest)) = (at p (tok.Op o) ∷ rest ≡ ts) × (level_of o ≡ n)
+
+abbrev pub gift_shown : Result (Give × Bor (List Placed)) ProcError → Told (Gift × List Placed)
+gift_shown (Ok r) = Ok (gift_of r.0, r.1.now)
+gift_shown (Err e) = Err e
+
+abbrev pub gifts_shown : Result (List Give × Bor (List Placed)) ProcError → Told (List Gift × List Placed)
+gifts_shown (Ok r) = Ok (map gift_of r.0, r.1.now)
+gifts_shown (Err e) = Err e
+
+abbrev pub block_shown : Result (Block × Bor (List Placed)) ProcError → Told (Block × List Placed)
+block_shown (Ok r) = Ok (r.0, r.1.now)
+block_shown (Err e) = Err e
+
+-- a statement, and what is visible after it
+abbrev pub step_shown : Scope → Result (Stmt × Bor (List Placed)) ProcError → Told ((Scope × Step) × List Placed)
+step_shown scope (Ok r) = Ok ((scope, step_of r.0), r.1.now)
+step_shown scope (Err e) = Err e
+
+-- no `else` comes first
+abbrev pub NoElse : List Placed → Type 0
+NoElse [] = Unit {0}
+NoElse (t ∷ ts) = ¬ (t.token ≡ tok.Else)
+
+-- what follows the token, where it comes first; and none where it does not
+abbrev pub Follows : Token → List Placed → Option (List Placed) → Type 0
+Follows t ts None = (p : ℕ) (rest : List Placed) → ¬ (at p t ∷ rest ≡ ts)
+Follows t ts (Some rest) = (p : ℕ) × (at p t ∷ rest ≡ ts)
+
+abbrev pub left_shown : Option (Bor (List Placed)) → Option (List Placed)
+left_shown None = None
+left_shown (Some r) = Some r.now
+
+-- whether a `}` comes first, or nothing
+abbrev pub EndsBlock : List Placed → Bool → Type 0
+EndsBlock [] ends = ends ≡ true
+EndsBlock (t ∷ ts) ends = MatchBool ends (t.token ≡ tok.End) (¬ (t.token ≡ tok.End))
+
+-- what is left, with what was made on the way
+abbrev pub left_with : {A : Type 0} → A → Result (Bor (List Placed)) ProcError → Told (A × List Placed)
+left_with a (Ok r) = Ok (a, r.now)
+left_with a (Err e) = Err e
+
+abbrev pub part_shown : Result (KeyItem × Bor (List Placed)) ProcError → Told (KeyItem × List Placed)
+part_shown (Ok r) = Ok (r.0, r.1.now)
+part_shown (Err e) = Err e
+
+-- a parameter after a `,`, and a part of a key expression after a `++`
+abbrev pub comma_param : ℕ × Param → List Placed
+comma_param m = at m.0 tok.Comma ∷ param_tokens m.1
+
+abbrev pub joined_part : ℕ × KeyPart → List Placed
+joined_part m = at m.0 (tok.Op op.Join) ∷ part_tokens m.1
+
+abbrev pub left_with_both : {A B : Type 0} → A → B → Result (Bor (List Placed)) ProcError → Told ((A × B) × List Placed)
+left_with_both a b (Ok r) = Ok ((a, b), r.now)
+left_with_both a b (Err e) = Err e
+
+-- a key after others, with what is visible after it
+abbrev pub key_told : Scope → List KeyDecl → KeySyntax → Told (Scope × List KeyDecl)
+key_told scope keys k = after_ok (check_key scope k) (λ d. Ok (with_key scope k.name k.write, keys ++ d ∷ []))
+
+-- keys after others, with what is visible after them
+abbrev pub keys_told : Scope → List KeyDecl → List KeySyntax → Told (Scope × List KeyDecl)
+keys_told scope keys ks = after_ok (check_keys scope ks) (λ r. Ok (r.1, keys ++ r.0))
+
+-- parameters, with what is visible after them
+abbrev pub params_told : Params → Told (Scope × List Kind)
+params_told ps = after_ok (check_params ps) (λ s. Ok (s, param_kinds ps))
+
+abbrev pub params_shown : Result (Scope × List Kind × Bor (List Placed)) ProcError → Told ((Scope × List Kind) × List Placed)
+params_shown (Ok r) = Ok ((r.0, r.1), r.2.now)
+params_shown (Err e) = Err e
+
+abbrev pub proc_shown : Result (ProcTree × Bor (List Placed)) ProcError → Told (ProcTree × List Placed)
+proc_shown (Ok r) = Ok (r.0, r.1.now)
+proc_shown (Err e) = Err e
+
+-- the value of a token is in range
+abbrev pub IsSoundToken : Token → Type 0
+IsSoundToken (tok.Int z) = FitsSigned w64 z
+IsSoundToken (tok.Text t) = IsStr t
+IsSoundToken (tok.Name n) = IsName n
+IsSoundToken _ = Unit {0}
+
+abbrev pub AllSound : List Placed → Type 0
+AllSound ts = AllIn (λ t. IsSoundToken t.token) ts
+
+-- a procedure of few parameters and keys
+abbrev pub IsSmall : ProcSyntax → Type 0
+IsSmall p = (length (param_kinds p.params) ≤ 16) × (length (p.key ∷ p.more_keys) ≤ 16)
+
+-- a procedure of the grammar comes first
+pub record StartsProc (ts : List Placed) : Type 0 where
+  pub one : ProcSyntax
+  pub rest : List Placed
+  pub good : IsProc one
+  pub small : IsSmall one
+  pub sound : AllSound (proc_tokens one)
+  pub cut : proc_tokens one ++ rest ≡ ts

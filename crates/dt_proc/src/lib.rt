@@ -1,0 +1,23 @@
+//! Procedures: their trees, and the reader of their text.
+#![tactic(auto)]
+
+mod builtin;
+mod copies;
+mod counts;
+mod error;
+mod first_pass;
+mod heads;
+mod lexer;
+mod machine;
+mod procs;
+mod reader;
+mod scope;
+mod steps;
+mod token;
+mod tree;
+mod walk;
+
+pub use builtin::builtin_procs;
+pub use error::ProcError;
+pub use procs::{Proc, Procs};
+pub use tree::{Expr, Give, Gives, KeyDecl, KeyItem, KeyItems, Kind, Op, Sort, Stmt, Stmts};

@@ -1,0 +1,401 @@
+//! The second pass: from tokens that are in the grammar to what they mean, or to the first fault.
+
+ghost use Rattle.std.specs.Prelude.{◌≡◌, ◌<◌, ◌≤◌, ℕ, List, [], ◌∷◌, ◌++◌, length, MatchResult, IfOk, IfSome};
+ghost use Rattle.dt_proc.specs.declared.token.Placed.{Placed};
+ghost use Rattle.dt_proc.specs.declared.token.Token.TheVariants as tok;
+ghost use Rattle.dt_proc.specs.Syntax.{at, Bracketed, bracketed_tokens, Syntax, syntax_tokens, Links, links_tokens, IsLevel, AreLinks, level_of, minus, denial, makes_length, makes_text};
+ghost use Rattle.dt_proc.specs.Names.{meaning};
+ghost use Rattle.dt_proc.specs.Sound.{given_by};
+ghost use Rattle.dt_proc.specs.Checked.{after_ok};
+ghost use Rattle.dt_proc.specs.Checked as checked;
+ghost use Rattle.dt_proc.specs.Walked as walked;
+ghost use Rattle.dt_proc.specs.Shown.{formula_of};
+ghost use Rattle.dt_proc.specs.Tree as tree;
+
+use crate::builtin::binary;
+use crate::error::ProcError;
+use crate::scope::{Meaning, Scope};
+use crate::token::{Placed, Token};
+use crate::tree::{Expr, Op, Sort};
+use dt_text::Name;
+use std::alloc::Global;
+
+/// The answer where tokens are not in the grammar, which the first pass rules out.
+pub(crate) const BROKEN: ProcError = ProcError::Syntax(0);
+
+/// What follows the first token.
+pub(crate) fn after_one(tokens: &[Placed]) -> Result<&[Placed], ProcError>
+    ensures shorter { IfOk result (λ r. length r.now < length tokens.now) }
+    ensures right { (t : Placed) (rest : List Placed) → t ∷ rest ≡ tokens.now → MatchResult result (λ r. r.now ≡ rest) (λ e. ⊥) }
+{
+    match tokens {
+        [_, rest @ ..] => Ok(rest),
+        [] => Err(BROKEN),
+    }
+}
+
+/// The name that comes first, with its place, and what follows it.
+pub(crate) fn named(tokens: &[Placed]) -> Result<(u32, &Name, &[Placed]), ProcError>
+    ensures shorter { IfOk result (λ r. length r.2.now < length tokens.now) }
+    ensures right { (p : ℕ) (n : List ℕ) (rest : List Placed) → at p (tok.Name n) ∷ rest ≡ tokens.now
+        → MatchResult result (λ r. (r.0 ≡ p) × (r.1.now ≡ n) × (r.2.now ≡ rest)) (λ e. ⊥) }
+{
+    match tokens {
+        [first, rest @ ..] => match &first.token {
+            Token::Name(name) => Ok((first.place, name, rest)),
+            _ => Err(BROKEN),
+        },
+        [] => Err(BROKEN),
+    }
+}
+
+/// The name in brackets that comes first, with its place, and what follows the brackets.
+pub(crate) fn bracketed(tokens: &[Placed]) -> Result<(u32, &Name, &[Placed]), ProcError>
+    ensures shorter { IfOk result (λ r. length r.2.now < length tokens.now) }
+    ensures right { (b : Bracketed) (rest : List Placed) → bracketed_tokens b ++ rest ≡ tokens.now
+        → MatchResult result (λ r. (r.0 ≡ b.name_at) × (r.1.now ≡ b.name) × (r.2.now ≡ rest)) (λ e. ⊥) }
+{
+    let (place, name, rest) = named(after_one(tokens)?)?;
+    Ok((place, name, after_one(rest)?))
+}
+
+/// The number of the key that the name in brackets means, and what follows the brackets.
+pub(crate) fn key_in_brackets<'a>(
+    scope: &Scope,
+    tokens: &'a [Placed],
+) -> Result<(u32, &'a [Placed]), ProcError>
+    ensures shorter { IfOk result (λ r. length r.1.now < length tokens.now) }
+    ensures right { (b : Bracketed) (rest : List Placed) → bracketed_tokens b ++ rest ≡ tokens.now
+        → walked.Answers (checked.key_of scope.now b) rest (walked.number_shown result) }
+{
+    let (place, name, rest) = bracketed(tokens)?;
+    match scope.meaning(name) {
+        Meaning::Key(number, _) => Ok((number, rest)),
+        Meaning::Variable(_, _) => Err(ProcError::Kind(place)),
+        Meaning::Unknown => Err(ProcError::Unknown(place)),
+    }
+}
+
+/// An expression of the level: operands of the next one with operators between, which group from the left.
+#[cycle(walk)]
+pub(crate) fn expression<'a>(
+    alloc: Global,
+    scope: &Scope,
+    tokens: &'a [Placed],
+    level: u8,
+) -> Result<(Expr, Sort, &'a [Placed]), ProcError>
+    requires { level ≤ 6 }
+    ensures shorter { IfOk result (λ r. length r.2.now < length tokens.now) }
+    ensures right { (x : Syntax) (rest : List Placed) → IsLevel level x → walked.FrontStops level rest → syntax_tokens x ++ rest ≡ tokens.now
+        → walked.Answers (checked.check scope.now x) rest (walked.shown result) }
+{
+    if level >= 5 {
+        return operand(alloc, scope, tokens, level);
+    }
+    let (first, sort, rest) = expression(alloc, scope, tokens, level + 1)?;
+    links(alloc, scope, first, sort, rest, level)
+}
+
+/// What follows an operand of the next level: operators of the level, each with an operand.
+#[cycle(walk)]
+fn links<'a>(
+    alloc: Global,
+    scope: &Scope,
+    left: Expr,
+    sort: Sort,
+    tokens: &'a [Placed],
+    level: u8,
+) -> Result<(Expr, Sort, &'a [Placed]), ProcError>
+    requires { level < 5 }
+    ensures shorter { IfOk result (λ r. length r.2.now ≤ length tokens.now) }
+    ensures right { (ls : Links) (rest : List Placed) → AreLinks level ls → walked.FrontStops level rest → links_tokens ls ++ rest ≡ tokens.now
+        → walked.Answers (checked.check_links scope.now (formula_of left, sort) ls) rest (walked.shown result) }
+{
+    let Some((place, op, after)) = operator(tokens, level) else {
+        return Ok((left, sort, tokens));
+    };
+    let (right, other, rest) = expression(alloc, scope, after, level + 1)?;
+    if !op.fits(sort, other) {
+        return Err(ProcError::Kind(place));
+    }
+    links(alloc, scope, binary(alloc, op, left, right)?, op.gives(), rest, level)
+}
+
+/// The operator of the level that comes first, with its place, and what follows it.
+fn operator(tokens: &[Placed], level: u8) -> Option<(u32, Op, &[Placed])>
+    ensures shorter { IfSome result (λ r. length r.2.now < length tokens.now) }
+    ensures right { walked.FindsOperator level tokens.now (walked.operator_shown result) }
+{
+    let [first, rest @ ..] = tokens else {
+        return None;
+    };
+    match &first.token {
+        Token::Op(op) => {
+            if op.level() == level {
+                Some((first.place, *op, rest))
+            } else {
+                None
+            }
+        }
+        _ => None,
+    }
+}
+
+/// An operand: an atom, or at level 5 one with `-` or `not` before it.
+#[cycle(walk)]
+fn operand<'a>(
+    alloc: Global,
+    scope: &Scope,
+    tokens: &'a [Placed],
+    level: u8,
+) -> Result<(Expr, Sort, &'a [Placed]), ProcError>
+    requires low { 5 ≤ level }
+    requires high { level ≤ 6 }
+    ensures shorter { IfOk result (λ r. length r.2.now < length tokens.now) }
+    ensures right { (x : Syntax) (rest : List Placed) → IsLevel level x → walked.FrontStops level rest → syntax_tokens x ++ rest ≡ tokens.now
+        → walked.Answers (checked.check scope.now x) rest (walked.shown result) }
+{
+    let [first, rest @ ..] = tokens else {
+        return Err(BROKEN);
+    };
+    match &first.token {
+        Token::Int(number) => Ok((Expr::Int(*number), Sort::Int, rest)),
+        Token::Text(text) => Ok((Expr::Text(text.copy(alloc)?), Sort::Text, rest)),
+        Token::Truth(truth) => Ok((Expr::Bool(*truth), Sort::Bool, rest)),
+        Token::Name(name) => variable(scope, first.place, name, rest),
+        Token::IntWord => int_of(scope, rest),
+        Token::TextWord => text_of(scope, rest),
+        Token::Has => presence_of(scope, rest),
+        Token::Open => inside(alloc, scope, rest),
+        Token::Len => length_of(alloc, scope, first.place, rest),
+        Token::Show => shown(alloc, scope, first.place, rest),
+        Token::Not => opposite(alloc, scope, first.place, rest),
+        Token::Op(_) => negative(alloc, scope, first.place, rest),
+        _ => Err(BROKEN),
+    }
+}
+
+/// The variable that a name means, with what follows the name.
+fn variable<'a>(
+    scope: &Scope,
+    place: u32,
+    name: &Name,
+    rest: &'a [Placed],
+) -> Result<(Expr, Sort, &'a [Placed]), ProcError>
+    ensures shorter { IfOk result (λ r. length r.2.now ≤ length rest.now) }
+    ensures right { walked.Answers (checked.as_variable place (meaning scope.now name.now)) rest.now (walked.shown result) }
+{
+    match scope.meaning(name) {
+        Meaning::Variable(number, sort) => Ok((Expr::Var(number), sort, rest)),
+        Meaning::Key(_, _) => Err(ProcError::Kind(place)),
+        Meaning::Unknown => Err(ProcError::Unknown(place)),
+    }
+}
+
+/// The number in the row of the key in brackets.
+fn int_of<'a>(
+    scope: &Scope,
+    tokens: &'a [Placed],
+) -> Result<(Expr, Sort, &'a [Placed]), ProcError>
+    ensures shorter { IfOk result (λ r. length r.2.now < length tokens.now) }
+    ensures right { (b : Bracketed) (rest : List Placed) → bracketed_tokens b ++ rest ≡ tokens.now
+        → walked.Answers (after_ok (checked.key_of scope.now b) (λ k. Ok (tree.number_of k, Sort.Int))) rest (walked.shown result) }
+{
+    match key_in_brackets(scope, tokens) {
+        Ok((key, rest)) => Ok((Expr::IntOf(key), Sort::Int, rest)),
+        Err(fault) => Err(fault),
+    }
+}
+
+/// The text in the row of the key in brackets.
+fn text_of<'a>(
+    scope: &Scope,
+    tokens: &'a [Placed],
+) -> Result<(Expr, Sort, &'a [Placed]), ProcError>
+    ensures shorter { IfOk result (λ r. length r.2.now < length tokens.now) }
+    ensures right { (b : Bracketed) (rest : List Placed) → bracketed_tokens b ++ rest ≡ tokens.now
+        → walked.Answers (after_ok (checked.key_of scope.now b) (λ k. Ok (tree.text_of k, Sort.Text))) rest (walked.shown result) }
+{
+    match key_in_brackets(scope, tokens) {
+        Ok((key, rest)) => Ok((Expr::TextOf(key), Sort::Text, rest)),
+        Err(fault) => Err(fault),
+    }
+}
+
+/// Whether the row of the key in brackets has a value.
+fn presence_of<'a>(
+    scope: &Scope,
+    tokens: &'a [Placed],
+) -> Result<(Expr, Sort, &'a [Placed]), ProcError>
+    ensures shorter { IfOk result (λ r. length r.2.now < length tokens.now) }
+    ensures right { (b : Bracketed) (rest : List Placed) → bracketed_tokens b ++ rest ≡ tokens.now
+        → walked.Answers (after_ok (checked.key_of scope.now b) (λ k. Ok (tree.has_value k, Sort.Bool))) rest (walked.shown result) }
+{
+    match key_in_brackets(scope, tokens) {
+        Ok((key, rest)) => Ok((Expr::Has(key), Sort::Bool, rest)),
+        Err(fault) => Err(fault),
+    }
+}
+
+/// An expression, after the `(` before it, with the `)` after it.
+#[cycle(walk)]
+fn inside<'a>(
+    alloc: Global,
+    scope: &Scope,
+    tokens: &'a [Placed],
+) -> Result<(Expr, Sort, &'a [Placed]), ProcError>
+    ensures shorter { IfOk result (λ r. length r.2.now < length tokens.now) }
+    ensures right { (x : Syntax) (q : ℕ) (rest : List Placed) → IsLevel 0 x → syntax_tokens x ++ at q tok.Close ∷ rest ≡ tokens.now
+        → walked.Answers (checked.check scope.now x) rest (walked.shown result) }
+{
+    let (expr, sort, rest) = expression(alloc, scope, tokens, 0)?;
+    Ok((expr, sort, after_one(rest)?))
+}
+
+/// The length of the text in brackets.
+#[cycle(walk)]
+fn length_of<'a>(
+    alloc: Global,
+    scope: &Scope,
+    place: u32,
+    tokens: &'a [Placed],
+) -> Result<(Expr, Sort, &'a [Placed]), ProcError>
+    ensures shorter { IfOk result (λ r. length r.2.now < length tokens.now) }
+    ensures right { (o : ℕ) (x : Syntax) (q : ℕ) (rest : List Placed) → IsLevel 0 x
+        → at o tok.Open ∷ (syntax_tokens x ++ at q tok.Close ∷ rest) ≡ tokens.now
+        → walked.Answers (after_ok (checked.check scope.now x) (checked.made_by makes_length place)) rest (walked.shown result) }
+{
+    let (expr, sort, rest) = inside(alloc, scope, after_one(tokens)?)?;
+    match sort {
+        Sort::Text => Ok((Expr::Len(Box::new(alloc, expr)?), Sort::Int, rest)),
+        Sort::Int => Err(ProcError::Kind(place)),
+        Sort::Bool => Err(ProcError::Kind(place)),
+    }
+}
+
+/// The printed form of the number in brackets.
+#[cycle(walk)]
+fn shown<'a>(
+    alloc: Global,
+    scope: &Scope,
+    place: u32,
+    tokens: &'a [Placed],
+) -> Result<(Expr, Sort, &'a [Placed]), ProcError>
+    ensures shorter { IfOk result (λ r. length r.2.now < length tokens.now) }
+    ensures right { (o : ℕ) (x : Syntax) (q : ℕ) (rest : List Placed) → IsLevel 0 x
+        → at o tok.Open ∷ (syntax_tokens x ++ at q tok.Close ∷ rest) ≡ tokens.now
+        → walked.Answers (after_ok (checked.check scope.now x) (checked.made_by makes_text place)) rest (walked.shown result) }
+{
+    let (expr, sort, rest) = inside(alloc, scope, after_one(tokens)?)?;
+    match sort {
+        Sort::Int => Ok((Expr::Show(Box::new(alloc, expr)?), Sort::Text, rest)),
+        Sort::Text => Err(ProcError::Kind(place)),
+        Sort::Bool => Err(ProcError::Kind(place)),
+    }
+}
+
+/// The atom after a `not`, turned round.
+#[cycle(walk)]
+fn opposite<'a>(
+    alloc: Global,
+    scope: &Scope,
+    place: u32,
+    tokens: &'a [Placed],
+) -> Result<(Expr, Sort, &'a [Placed]), ProcError>
+    ensures shorter { IfOk result (λ r. length r.2.now < length tokens.now) }
+    ensures right { (x : Syntax) (rest : List Placed) → IsLevel 6 x → walked.FrontStops 6 rest → syntax_tokens x ++ rest ≡ tokens.now
+        → walked.Answers (checked.check scope.now (denial place x)) rest (walked.shown result) }
+{
+    let (expr, sort, rest) = expression(alloc, scope, tokens, 6)?;
+    match sort {
+        Sort::Bool => Ok((Expr::Not(Box::new(alloc, expr)?), Sort::Bool, rest)),
+        Sort::Int => Err(ProcError::Kind(place)),
+        Sort::Text => Err(ProcError::Kind(place)),
+    }
+}
+
+/// The atom after a `-`, with the other sign.
+#[cycle(walk)]
+fn negative<'a>(
+    alloc: Global,
+    scope: &Scope,
+    place: u32,
+    tokens: &'a [Placed],
+) -> Result<(Expr, Sort, &'a [Placed]), ProcError>
+    ensures shorter { IfOk result (λ r. length r.2.now < length tokens.now) }
+    ensures right { (x : Syntax) (rest : List Placed) → IsLevel 6 x → walked.FrontStops 6 rest → syntax_tokens x ++ rest ≡ tokens.now
+        → walked.Answers (checked.check scope.now (minus place x)) rest (walked.shown result) }
+{
+    let (expr, sort, rest) = expression(alloc, scope, tokens, 6)?;
+    match sort {
+        Sort::Int => Ok((Expr::Neg(Box::new(alloc, expr)?), Sort::Int, rest)),
+        Sort::Text => Err(ProcError::Kind(place)),
+        Sort::Bool => Err(ProcError::Kind(place)),
+    }
+}
+
+impl Op {
+    /// The level of the operator: 0 for `or`, 1 for `and`, 2 where it compares, 3 and 4 for the others.
+    pub(crate) fn level(self) -> u8
+        ensures { result ≡ level_of self }
+    {
+        match self {
+            Op::Or => 0,
+            Op::And => 1,
+            Op::Equal => 2,
+            Op::Differ => 2,
+            Op::Less => 2,
+            Op::AtMost => 2,
+            Op::More => 2,
+            Op::AtLeast => 2,
+            Op::Add => 3,
+            Op::Sub => 3,
+            Op::Join => 3,
+            Op::Mul => 4,
+            Op::Div => 4,
+            Op::Rem => 4,
+        }
+    }
+
+    /// What the operator gives.
+    fn gives(self) -> Sort
+        ensures { result ≡ given_by self }
+    {
+        match self {
+            Op::Join => Sort::Text,
+            Op::Add => Sort::Int,
+            Op::Sub => Sort::Int,
+            Op::Mul => Sort::Int,
+            Op::Div => Sort::Int,
+            Op::Rem => Sort::Int,
+            Op::Or => Sort::Bool,
+            Op::And => Sort::Bool,
+            Op::Equal => Sort::Bool,
+            Op::Differ => Sort::Bool,
+            Op::Less => Sort::Bool,
+            Op::AtMost => Sort::Bool,
+            Op::More => Sort::Bool,
+            Op::AtLeast => Sort::Bool,
+        }
+    }
+
+    /// Whether the operator joins texts.
+    pub(crate) fn is_join(self) -> bool
+        ensures { result ≡ checked.is_join self }
+    {
+        matches!(self, Op::Join)
+    }
+
+    /// Whether the operator may stand between operands that give these.
+    fn fits(self, left: Sort, right: Sort) -> bool
+        ensures { result ≡ checked.fits_both self left right }
+    {
+        let level = self.level();
+        match (left, right) {
+            (Sort::Int, Sort::Int) => level >= 3 && !self.is_join() || level == 2,
+            (Sort::Text, Sort::Text) => self.is_join() || level == 2,
+            (Sort::Bool, Sort::Bool) => level < 2,
+            _ => false,
+        }
+    }
+}
