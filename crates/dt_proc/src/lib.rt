@@ -10,7 +10,6 @@ mod heads;
 mod lexer;
 mod machine;
 mod procs;
-mod reader;
 mod scope;
 mod steps;
 mod token;
