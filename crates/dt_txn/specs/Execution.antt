@@ -3,7 +3,8 @@ use Rattle.dt_access.specs.Clash.{Bytes}
 use Rattle.dt_access.specs.declared.TxnId.{TxnId}
 use Rattle.dt_access.specs.declared.Access.{Access}
 use Rattle.dt_text.specs.declared.Value.{Value}
-use Rattle.dt_eval.specs.Meaning.{meaning}
+use Rattle.dt_proc.specs.Tree.{ProcTree}
+use Rattle.dt_eval.specs.Calls.{call_meaning}
 use Rattle.dt_eval.specs.declared.Finish.{Finish}
 use Rattle.dt_eval.specs.declared.finish.Finish.TheVariants as finish
 use Rattle.dt_table.specs.declared.Effect.{Effect}
@@ -51,9 +52,9 @@ of_finish (finish.Gave values writes) = (Gave values, record { writes = writes; 
 of_finish (finish.Aborted cause) = (Aborted cause, no_effect)
 
 -- what a body gives where nothing is stale: a call has its procedure's result, and a move gives its key a new home
-abbrev pub result_of : TxnId → Body → List (Bytes × Option Value) → Outcome × Effect
-result_of id (Call proc args) reads = of_finish (meaning proc args reads)
-result_of id (Move key target) reads = (Gave [], record { writes = []; moved = Some (key, target, id) })
+abbrev pub result_of : List ProcTree → TxnId → Body → List (Bytes × Option Value) → Outcome × Effect
+result_of procs id (Call proc args) reads = of_finish (call_meaning procs proc args reads)
+result_of procs id (Move key target) reads = (Gave [], record { writes = []; moved = Some (key, target, id) })
 
 -- a stale outcome with no effect, if there is one, else the result
 abbrev pub unless_stale : Option Outcome → Outcome × Effect → Outcome × Effect
@@ -61,10 +62,10 @@ unless_stale None result = result
 unless_stale (Some stale) result = (stale, no_effect)
 
 -- the outcome and the effect of a transaction, from what it saw: Stale and none at all where one of its keys was moved
--- since it was annotated, else those of its body
-abbrev pub execution : Txn → List Seen → Outcome × Effect
-execution txn seen = unless_stale (stale_of txn.access seen) (result_of txn.id txn.body (reads_of txn.access seen))
+-- since it was annotated, else those of its body by these procedures
+abbrev pub execution : List ProcTree → Txn → List Seen → Outcome × Effect
+execution procs txn seen = unless_stale (stale_of txn.access seen) (result_of procs txn.id txn.body (reads_of txn.access seen))
 
--- the outcome and the effect of a transaction on a table
-abbrev pub one : Txn → Table → Outcome × Effect
-one txn t = execution txn (see txn t)
+-- the outcome and the effect of a transaction on a table, by these procedures
+abbrev pub one : List ProcTree → Txn → Table → Outcome × Effect
+one procs txn t = execution procs txn (see txn t)

@@ -4,6 +4,7 @@ use Rattle.dt_events.specs.declared.Event.{Event}
 use Rattle.dt_events.specs.declared.Event.TheVariants.{Submit, Append, Deliver, Insert, Resolve, Execute, Answer}
 use Rattle.dt_sched.specs.Views.{View, log_at}
 use Rattle.dt_sched.specs.Decide.{IsExecutable, IsResolvable}
+use Rattle.dt_proc.specs.Tree.{ProcTree}
 use Rattle.dt_table.specs.Table.{Table}
 use Rattle.dt_txn.specs.declared.txn.Txn.{Txn}
 use Rattle.dt_txn.specs.declared.outcome.Outcome.{Outcome}
@@ -54,17 +55,20 @@ MayStep received here (Resolve region ids) = IsResolvable (view_of received here
 MayStep received here (Execute region id) = IsExecutable (view_of received here) here.resolved (done_ids here) id
 MayStep received here event = ⊥
 
--- the region after executing a transaction
-abbrev pub executed : Replica → Option Txn → Replica
-executed here None = here
-executed here (Some txn) = record here { done = here.done ++ (txn.id, (one txn here.table).0) ∷ []; table = after txn here.table }
+-- the region after executing a transaction, by these procedures
+abbrev pub executed : List ProcTree → Replica → Option Txn → Replica
+executed procs here None = here
+executed procs here (Some txn) = record here {
+  done = here.done ++ (txn.id, (one procs txn here.table).0) ∷ [];
+  table = after procs txn here.table;
+}
 
 -- the region after one of these steps; `txn_of` finds a transaction by its id
-abbrev pub stepped : (TxnId → Option Txn) → Replica → Event → Replica
-stepped txn_of here (Insert region home) = record here { inserted = set here.inserted home (slice_index here.inserted home + 1) }
-stepped txn_of here (Resolve region ids) = record here { resolved = here.resolved ++ ids ∷ [] }
-stepped txn_of here (Execute region id) = executed here (txn_of id)
-stepped txn_of here event = here
+abbrev pub stepped : List ProcTree → (TxnId → Option Txn) → Replica → Event → Replica
+stepped procs txn_of here (Insert region home) = record here { inserted = set here.inserted home (slice_index here.inserted home + 1) }
+stepped procs txn_of here (Resolve region ids) = record here { resolved = here.resolved ++ ids ∷ [] }
+stepped procs txn_of here (Execute region id) = executed procs here (txn_of id)
+stepped procs txn_of here event = here
 
 -- the region has inserted all that it received, and may neither execute nor resolve anything
 pub record IsDrained (received : View) (here : Replica) : Type 0 where
@@ -72,8 +76,8 @@ pub record IsDrained (received : View) (here : Replica) : Type 0 where
   pub executed : (id : TxnId) → ¬ (IsExecutable (view_of received here) here.resolved (done_ids here) id)
   pub resolved : (ids : List TxnId) → ¬ (IsResolvable (view_of received here) here.resolved (done_ids here) ids)
 
--- the events are steps of region `region`, each of which it may make after those before it
-abbrev pub IsContinuation : (TxnId → Option Txn) → ℕ → View → Replica → List Event → Type 0
-IsContinuation txn_of region received here [] = Unit {0}
-IsContinuation txn_of region received here (event ∷ events) =
-    (region_of event ≡ region) × MayStep received here event × IsContinuation txn_of region received (stepped txn_of here event) events
+-- the events are steps of region `region`, each of which it may make, by these procedures, after those before it
+abbrev pub IsContinuation : List ProcTree → (TxnId → Option Txn) → ℕ → View → Replica → List Event → Type 0
+IsContinuation procs txn_of region received here [] = Unit {0}
+IsContinuation procs txn_of region received here (event ∷ events) =
+    (region_of event ≡ region) × MayStep received here event × IsContinuation procs txn_of region received (stepped procs txn_of here event) events

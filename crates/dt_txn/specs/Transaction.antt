@@ -6,24 +6,26 @@ use Rattle.dt_access.specs.declared.Mode.{Mode}
 use Rattle.dt_access.specs.declared.Mode.TheVariants.{Write}
 use Rattle.dt_access.specs.declared.Access.{Access}
 use Rattle.dt_access.specs.declared.Part.{Part}
-use Rattle.dt_eval.specs.Meaning.{Fits, HasKeys, keys_of}
+use Rattle.dt_access.specs.Orders.{HasAscendingKeys}
+use Rattle.dt_proc.specs.Tree.{ProcTree}
+use Rattle.dt_eval.specs.Calls.{CallFits, call_keys}
 use Rattle.dt_table.specs.Table.{Table, home_of, counter_of}
 use Rattle.dt_txn.specs.declared.txn.Body.{Body}
 use Rattle.dt_txn.specs.declared.txn.Body.TheVariants.{Call, Move}
 use Rattle.dt_txn.specs.declared.txn.Txn.{Txn}
 
--- the keys that a body uses, in ascending order, each with its mode
-abbrev pub uses_of : Body → List (Bytes × Mode)
-uses_of (Call proc args) = keys_of proc args
-uses_of (Move key target) = (key, Write) ∷ []
+-- the keys that a body uses by these procedures, in ascending order, each with its mode
+abbrev pub uses_of : List ProcTree → Body → List (Bytes × Mode)
+uses_of procs (Call proc args) = call_keys procs proc args
+uses_of procs (Move key target) = (key, Write) ∷ []
 
 -- a use of a key, with the home and the number of moves that a table gives it
 abbrev pub annotated : Table → Bytes × Mode → Access
 annotated t used = record { key = used.0; mode = used.1; home = home_of t used.0; counter = counter_of t used.0 }
 
--- the transaction of this id for a body, as a region with this table submits it
-abbrev pub annotate : TxnId → Body → Table → Txn
-annotate id body t = record { id = id; body = body; access = map (annotated t) (uses_of body) }
+-- the transaction of this id for a body, as a region with these procedures and this table submits it
+abbrev pub annotate : List ProcTree → TxnId → Body → Table → Txn
+annotate procs id body t = record { id = id; body = body; access = map (annotated t) (uses_of procs body) }
 
 -- the set with one more number, as an ascending list
 abbrev pub with_number : ℕ → List ℕ → List ℕ
@@ -66,19 +68,25 @@ part_of txn home = record {
 abbrev pub parts_of : Txn → List Part
 parts_of txn = map (part_of txn) (homes_of txn)
 
--- a body can be run: a call's arguments fit and name keys
-abbrev pub CanRun : Body → Type 0
-CanRun (Call proc args) = Fits proc args × HasKeys proc args
-CanRun (Move key target) = Unit {0}
+-- a body can be run: a call names a procedure, which its arguments fit and by which they name keys
+abbrev pub CanRun : List ProcTree → Body → Type 0
+CanRun procs (Call proc args) = CallFits procs proc args
+CanRun procs (Move key target) = Unit {0}
 
--- the body's arguments fit and name keys, and a move leads to a region
-abbrev pub BodyFits : ℕ → Body → Type 0
-BodyFits regions (Call proc args) = Fits proc args × HasKeys proc args
-BodyFits regions (Move key target) = target < regions
+-- the body's call can be run, or its move leads to a region
+abbrev pub BodyFits : List ProcTree → ℕ → Body → Type 0
+BodyFits procs regions (Call proc args) = CallFits procs proc args
+BodyFits procs regions (Move key target) = target < regions
 
--- a transaction of a cluster with so many regions: its body fits, it uses the keys of its body in their modes, and its
--- homes are regions
-pub record IsValid (regions : ℕ) (txn : Txn) : Type 0 where
-  pub body : BodyFits regions txn.body
-  pub uses : map used_of txn.access ≡ uses_of txn.body
+-- what every transaction of a cluster with so many regions is: its access list is in ascending order of distinct keys, and
+-- its homes are regions
+pub record IsTransaction (regions : ℕ) (txn : Txn) : Type 0 where
+  pub ascending : HasAscendingKeys (map used_of txn.access)
+  pub homes : AllIn (λ home. home < regions) (homes_of txn)
+
+-- a transaction is valid for these procedures, in a cluster with so many regions: its body fits, it uses the keys of its
+-- body in their modes, and its homes are regions
+pub record IsValid (procs : List ProcTree) (regions : ℕ) (txn : Txn) : Type 0 where
+  pub body : BodyFits procs regions txn.body
+  pub uses : map used_of txn.access ≡ uses_of procs txn.body
   pub homes : AllIn (λ home. home < regions) (homes_of txn)
