@@ -5,10 +5,11 @@ use Rattle.dt_access.specs.declared.Part.{Part}
 use Rattle.dt_log.specs.Logs.{AgreeOnOverlap}
 use Rattle.dt_sched.specs.Views.{View, HasPart, ids_of, log_at}
 use Rattle.dt_sched.specs.Sched.{parts_in, with_part}
+use Rattle.dt_proc.specs.Tree.{ProcTree}
 use Rattle.dt_table.specs.Table.{Table, moves_of}
 use Rattle.dt_txn.specs.declared.txn.Txn.{Txn}
 use Rattle.dt_txn.specs.declared.txn.Entry.{Entry}
-use Rattle.dt_txn.specs.Transaction.{homes_of, part_of, IsValid}
+use Rattle.dt_txn.specs.Transaction.{homes_of, part_of, IsTransaction, IsValid}
 use Rattle.dt_region.specs.State.{State, held}
 use Rattle.dt_region.specs.Rules.{taken_from, with_entries}
 
@@ -39,7 +40,7 @@ AreFew logs = parts_in logs < 2 ^ 32
 pub record CanAppend (s : State) (source number : ℕ) (txn : Txn) : Type 0 where
   pub home : Has (homes_of txn) s.number
   pub agrees : Agrees s txn
-  pub valid : IsValid s.regions txn
+  pub formed : IsTransaction s.regions txn
   -- where it is the next request, its id isn't in the region's log, which has a place left for it
   pub fresh : number ≡ taken_from s source → ¬ (HasPart (log_at s.logs s.number) txn.id)
   pub few : number ≡ taken_from s source → AreFew (with_part s.logs (part_of txn s.number))
@@ -51,7 +52,12 @@ pub record CanDeliver (s : State) (home first : ℕ) (entries : List Entry) : Ty
   pub overlap : AgreeOnOverlap (log_at s.logs home) first (map (λ e. e.part) entries)
   pub parts : AllIn (λ e. IsPartAt e.txn home e.part) entries
   pub agree : AllIn (λ e. Agrees s e.txn) entries
-  pub valid : AllIn (λ e. IsValid s.regions e.txn) entries
+  pub formed : AllIn (λ e. IsTransaction s.regions e.txn) entries
   -- unless there is a gap: in the log that results no id stands twice, and it has places for all
   pub distinct : first ≤ length (log_at s.logs home) → Distinct (ids_of (with_entries (log_at s.logs home) first entries))
   pub few : first ≤ length (log_at s.logs home) → AreFew (set s.logs home (with_entries (log_at s.logs home) first entries))
+
+-- all that a region holds is valid for these procedures
+pub record HoldsValid (procs : List ProcTree) (s : State) : Type 0 where
+  pub submitted : AllIn (IsValid procs s.regions) s.submitted
+  pub foreign : AllIn (IsValid procs s.regions) s.foreign

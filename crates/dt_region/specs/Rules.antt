@@ -7,6 +7,7 @@ use Rattle.dt_log.specs.declared.Taken.TheVariants.{New, Old, Gap}
 use Rattle.dt_events.specs.declared.Event.{Event}
 use Rattle.dt_sched.specs.Views.{View, log_at}
 use Rattle.dt_sched.specs.Sched.{with_part}
+use Rattle.dt_proc.specs.Tree.{ProcTree}
 use Rattle.dt_table.specs.Table.{Table}
 use Rattle.dt_txn.specs.declared.txn.Body.{Body}
 use Rattle.dt_txn.specs.declared.txn.Txn.{Txn}
@@ -34,16 +35,16 @@ abbrev pub next_id : State → TxnId
 next_id s = record { seq = length s.submitted + 1; region = s.number }
 
 -- what a region submits for a body: the transaction of its next id, annotated by its own table
-abbrev pub submission_for : State → Body → Txn
-submission_for s body = annotate (next_id s) body s.here.table
+abbrev pub submission_for : List ProcTree → State → Body → Txn
+submission_for procs s body = annotate procs (next_id s) body s.here.table
 
 -- the region after it submitted a transaction: each home of it is asked for its part
 abbrev pub with_submission : State → Txn → State
 with_submission s txn = record s { submitted = s.submitted ++ txn ∷ []; asked = ask (homes_of txn) txn.id s.asked }
 
 -- the region after it submitted a body
-abbrev pub after_submit : State → Body → State
-after_submit s body = with_submission s (submission_for s body)
+abbrev pub after_submit : List ProcTree → State → Body → State
+after_submit procs s body = with_submission s (submission_for procs s body)
 
 -- what a region that submitted the ones has of others after it got one more transaction: it keeps it, unless it holds it
 -- already
@@ -111,13 +112,13 @@ Delivers s home first entries (Err e) after = after ≡ s
 abbrev pub MayMake : State → Event → Type 0
 MayMake s event = MayStep s.logs s.here event
 
--- the region after one of these steps
-abbrev pub after_step : State → Event → State
-after_step s event = record s { here = stepped (held s) s.here event }
+-- the region after one of these steps, by these procedures
+abbrev pub after_step : List ProcTree → State → Event → State
+after_step procs s event = record s { here = stepped procs (held s) s.here event }
 
 -- how one of these steps is answered, and what the region is after it: it is made exactly where it may be made, and
 -- nothing changes otherwise
-abbrev pub Steps : State → Event → Result Bool NoMemory → State → Type 0
-Steps s event (Ok true) after = MayMake s event × (after ≡ after_step s event)
-Steps s event (Ok false) after = ¬ (MayMake s event) × (after ≡ s)
-Steps s event (Err e) after = after ≡ s
+abbrev pub Steps : List ProcTree → State → Event → Result Bool NoMemory → State → Type 0
+Steps procs s event (Ok true) after = MayMake s event × (after ≡ after_step procs s event)
+Steps procs s event (Ok false) after = ¬ (MayMake s event) × (after ≡ s)
+Steps procs s event (Err e) after = after ≡ s

@@ -3,7 +3,7 @@ use Rattle.dt_lists.specs.Lists.{AllIn, Distinct}
 use Rattle.dt_access.specs.declared.Part.{Part}
 use Rattle.dt_sched.specs.Views.{ids_of, log_at}
 use Rattle.dt_txn.specs.declared.txn.Txn.{Txn}
-use Rattle.dt_txn.specs.Transaction.{IsValid}
+use Rattle.dt_txn.specs.Transaction.{IsTransaction}
 use Rattle.dt_sched.specs.Sched.{Sched}
 use Rattle.dt_region.specs.State.{State, held, sched_of}
 use Rattle.dt_region.specs.Conditions.{IsTableFor, IsPartAt, AreFew}
@@ -29,9 +29,9 @@ pub record IsSoundRegion (s : State) : Type 0 where
   -- its own ids are counted from 1, and all others that it holds are of other regions
   pub counted : AreCounted s.number 1 s.submitted
   pub foreign : AllIn (λ txn. txn.id.region ≢ s.number) s.foreign
-  -- what it holds is valid
-  pub submitted_valid : AllIn (IsValid s.regions) s.submitted
-  pub foreign_valid : AllIn (IsValid s.regions) s.foreign
+  -- what it holds are transactions of its cluster
+  pub submitted_formed : AllIn (IsTransaction s.regions) s.submitted
+  pub foreign_formed : AllIn (IsTransaction s.regions) s.foreign
   -- in each log every id stands once, and every part is that of the held transaction of its id
   pub once : (home : ℕ) → Distinct (ids_of (log_at s.logs home))
   pub parts : (home : ℕ) → AllIn (IsHeldPart s home) (log_at s.logs home)
