@@ -52,9 +52,9 @@ use Rattle.dt_laws.proofs.RootedEvents.{legal_roots}
 
 -- outcomes by ids
 
-pub lookup_has : (es : List (TxnId × Outcome)) (id : TxnId) (o : Outcome) → outcome_in es id ≡ Some o → Has es (id, o)
-lookup_has [] id o e = cc
-lookup_has (x ∷ es) id o e = go (cases_Bool (same_id id x.0)) (lookup_has es id o)
+pub lookup_has : (cluster : Cluster) (es : List (TxnId × Outcome)) (id : TxnId) (o : Outcome) → outcome_in es id ≡ Some o → Has es (id, o)
+lookup_has cluster [] id o e = cc
+lookup_has cluster (x ∷ es) id o e = go (cases_Bool (same_id id x.0)) (lookup_has cluster es id o)
   where
     go : (same_id id x.0 ≡ true) ⊎ (same_id id x.0 ≡ false) → (outcome_in es id ≡ Some o → Has es (id, o)) → Has (x ∷ es) (id, o)
     go (inl p) f = inl (λ i. (sym (id_of_test id x.0 p) i, same_Some x.1 o (rw p at e) i))
@@ -118,7 +118,7 @@ module _ (cluster : Cluster) (ok : IsValidCluster cluster) (workload : Workload)
   ran : ℕ → List Txn
   ran region = txns_of (world_after cluster workload events) (done_ids (node_at (world_after cluster workload events) region).here)
 
-  past : IsHistory (Precedes (logs_of (world_after cluster workload events))) (opening_table cluster) (txns_of (world_after cluster workload events) (order_of events))
+  past : IsHistory cluster.procs (Precedes (logs_of (world_after cluster workload events))) (opening_table cluster) (txns_of (world_after cluster workload events) (order_of events))
   past = history cluster workload (world_after cluster workload events) (order_of events) i rooted
 
   ids_are : txn_ids txns ≡ order_of events
@@ -127,14 +127,14 @@ module _ (cluster : Cluster) (ok : IsValidCluster cluster) (workload : Workload)
 
   outcomes_once : Distinct (map (λ e. e.0) (serial_outcomes cluster workload events))
   unfolding txns
-  outcomes_once = subst Distinct (sym (outcomes_ids txns (opening_table cluster) ∙ ids_are)) i.ordered.down.once
+  outcomes_once = subst Distinct (sym (outcomes_ids cluster.procs txns (opening_table cluster) ∙ ids_are)) i.ordered.down.once
 
   -- an outcome that a region keeps is one of the serial run
   kept_outcome : (region : ℕ) (id : TxnId) (outcome : Outcome) → region < cluster.regions → Has (node_at (world_after cluster workload events) region).here.done (id, outcome) → Has (serial_outcomes cluster workload events) (id, outcome)
   unfolding txns ran
   kept_outcome region id outcome lr h =
-      all_get (Has (outcomes txns (opening_table cluster))) (outcomes (ran region) (opening_table cluster))
-      (one_outcome (Precedes (logs_of (world_after cluster workload events))) (opening_table cluster) txns past (ran region)
+      all_get (Has (outcomes cluster.procs txns (opening_table cluster))) (outcomes cluster.procs (ran region) (opening_table cluster))
+      (one_outcome cluster.procs (Precedes (logs_of (world_after cluster workload events))) (opening_table cluster) txns past (ran region)
       (region_members cluster workload (world_after cluster workload events) (order_of events) i rooted region lr)
       (region_down cluster workload (world_after cluster workload events) (order_of events) i rooted region lr))
       (id, outcome) (subst (λ l. Has l (id, outcome)) (i.tables region lr).outcomes h)
@@ -146,11 +146,11 @@ module _ (cluster : Cluster) (ok : IsValidCluster cluster) (workload : Workload)
   unfolding txns ran
   tables_agree region lr =
       (i.tables region lr).table
-      ∙ one_restricted (Precedes (logs_of (world_after cluster workload events))) (opening_table cluster) txns past (ran region)
+      ∙ one_restricted cluster.procs (Precedes (logs_of (world_after cluster workload events))) (opening_table cluster) txns past (ran region)
       (region_members cluster workload (world_after cluster workload events) (order_of events) i rooted region lr)
       (region_down cluster workload (world_after cluster workload events) (order_of events) i rooted region lr)
-      ∙ ap (λ l. table_after (filter (λ x. is_among l x.id) txns) (opening_table cluster)) (done_txn_ids cluster workload (world_after cluster workload events) (order_of events) i region lr)
-      ∙ ap (λ l. table_after l (opening_table cluster)) (sym (looked_filter (txn_of (world_after cluster workload events)) (txn_id (world_after cluster workload events)) (is_among (done_ids (node_at (world_after cluster workload events) region).here)) (order_of events)))
+      ∙ ap (λ l. table_after cluster.procs (filter (λ x. is_among l x.id) txns) (opening_table cluster)) (done_txn_ids cluster workload (world_after cluster workload events) (order_of events) i region lr)
+      ∙ ap (λ l. table_after cluster.procs l (opening_table cluster)) (sym (looked_filter (txn_of (world_after cluster workload events)) (txn_id (world_after cluster workload events)) (is_among (done_ids (node_at (world_after cluster workload events) region).here)) (order_of events)))
 
   -- causes
 
@@ -166,19 +166,19 @@ module _ (cluster : Cluster) (ok : IsValidCluster cluster) (workload : Workload)
     unfolding txns
     order_split = sym ids_are ∙ ap txn_ids split ∙ map-append (λ x. x.id) front (txn ∷ rest) ∙ ap (λ x. txn_ids front ++ x ∷ txn_ids rest) own
 
-    before_is : table_before cluster workload events id ≡ table_after front (opening_table cluster)
+    before_is : table_before cluster workload events id ≡ table_after cluster.procs front (opening_table cluster)
     before_is =
         let once : Distinct (txn_ids front ++ id ∷ txn_ids rest) = subst Distinct order_split i.ordered.down.once in
         let ids : ids_before id (order_of events) ≡ txn_ids front = ap (ids_before id) order_split ∙ before_at id (txn_ids front) (txn_ids rest) (λ h. each_across _ (txn_ids front) (id ∷ txn_ids rest) id id once h (inl refl) refl) in
-        ap (λ l. table_after (txns_of (world_after cluster workload events) l) (opening_table cluster)) ids
-        ∙ ap (λ l. table_after l (opening_table cluster)) (txns_of_ids (world_after cluster workload events) front (all_map _ _ front (λ x h. h.1) (all_append_left _ front (txn ∷ rest) found_all)))
+        ap (λ l. table_after cluster.procs (txns_of (world_after cluster workload events) l) (opening_table cluster)) ids
+        ∙ ap (λ l. table_after cluster.procs l (opening_table cluster)) (txns_of_ids (world_after cluster workload events) front (all_map _ _ front (λ x h. h.1) (all_append_left _ front (txn ∷ rest) found_all)))
 
-    cause_of : (outcome : Outcome) → IsGrounded front (txns_of (world_after cluster workload events) (order_of events)) (opening_table cluster) txn outcome → HasCause cluster workload events id outcome
+    cause_of : (outcome : Outcome) → IsGrounded cluster.procs front (txns_of (world_after cluster workload events) (order_of events)) (opening_table cluster) txn outcome → HasCause cluster workload events id outcome
     cause_of (Gave values) g = tt
-    cause_of (Aborted cause) g = (txn, found_one, subst₂ (λ x t. (result_of x txn.body (reads_of txn.access (see txn t))).0 ≡ Aborted cause) own (sym before_is) g.1)
+    cause_of (Aborted cause) g = (txn, found_one, subst₂ (λ x t. (result_of cluster.procs x txn.body (reads_of txn.access (see txn t))).0 ≡ Aborted cause) own (sym before_is) g.1)
     cause_of (Stale key had by) g =
-        let f : MadeMove front (opening_table cluster) key had by = g.1 in
-        let whole : MadeMove (txns_of (world_after cluster workload events) (order_of events)) (opening_table cluster) key had by = g.2 in
+        let f : MadeMove cluster.procs front (opening_table cluster) key had by = g.1 in
+        let whole : MadeMove cluster.procs (txns_of (world_after cluster workload events) (order_of events)) (opening_table cluster) key had by = g.2 in
         let there : Has (txn_ids front) by = subst (Has (txn_ids front)) f.id (has_map (λ x. x.id) front f.mover f.there) in (
           f.mover,
           f.target,
@@ -191,8 +191,8 @@ module _ (cluster : Cluster) (ok : IsValidCluster cluster) (workload : Workload)
 
   pub causes_agree : (region : ℕ) (id : TxnId) (outcome : Outcome) → region < cluster.regions → Has (node_at (world_after cluster workload events) region).here.done (id, outcome) → HasCause cluster workload events id outcome
   causes_agree region id outcome lr h =
-      let r : HasReason (txns_of (world_after cluster workload events) (order_of events)) (opening_table cluster) (id, outcome) =
-      all_get (HasReason (txns_of (world_after cluster workload events) (order_of events)) (opening_table cluster)) (serial_outcomes cluster workload events) (reasons (opening_table cluster) (unmoved_at_first cluster) (txns_of (world_after cluster workload events) (order_of events))) (id, outcome) (kept_outcome region id outcome lr h) in
+      let r : HasReason cluster.procs (txns_of (world_after cluster workload events) (order_of events)) (opening_table cluster) (id, outcome) =
+      all_get (HasReason cluster.procs (txns_of (world_after cluster workload events) (order_of events)) (opening_table cluster)) (serial_outcomes cluster workload events) (reasons cluster.procs (opening_table cluster) (unmoved_at_first cluster) (txns_of (world_after cluster workload events) (order_of events))) (id, outcome) (kept_outcome region id outcome lr h) in
       cause_of id r.front r.rest r.txn r.is r.id outcome r.reason
 
   -- drained regions
@@ -207,7 +207,7 @@ module _ (cluster : Cluster) (ok : IsValidCluster cluster) (workload : Workload)
   unfolding ran
   drained_agree region other lr lo d e alike =
       (i.tables region lr).table
-      ∙ one_set (Precedes (logs_of (world_after cluster workload events))) (opening_table cluster) (txns_of (world_after cluster workload events) (order_of events)) past (ran region) (ran other)
+      ∙ one_set cluster.procs (Precedes (logs_of (world_after cluster workload events))) (opening_table cluster) (txns_of (world_after cluster workload events) (order_of events)) past (ran region) (ran other)
       (region_members cluster workload (world_after cluster workload events) (order_of events) i rooted region lr) (region_members cluster workload (world_after cluster workload events) (order_of events) i rooted other lo)
       (region_down cluster workload (world_after cluster workload events) (order_of events) i rooted region lr) (region_down cluster workload (world_after cluster workload events) (order_of events) i rooted other lo)
       (λ id. (
@@ -235,7 +235,7 @@ answered_done cluster w region (Some (session, place)) a m f = go (outcome_at w 
   where
     go : (o : Option Outcome) → outcome_at w region a ≡ o → IsLast cluster.tries (attempt_of w a) o → IsExecutedAt w region a
     go None e l = absurd l
-    go (Some outcome) e l = has_map (λ d. d.0) (node_at w region).here.done (a, outcome) (lookup_has (node_at w region).here.done a outcome e)
+    go (Some outcome) e l = has_map (λ d. d.0) (node_at w region).here.done (a, outcome) (lookup_has cluster (node_at w region).here.done a outcome e)
 
 module _ (cluster : Cluster) (ok : IsValidCluster cluster) (workload : Workload) (fits : IsValidWorkload cluster workload) where
   real_time_at : (first : List Event) (region : ℕ) (session : Bytes) (middle : List Event) (other : ℕ) (name : Bytes) (last : List Event) (a : TxnId)

@@ -51,8 +51,8 @@ txns_submitted w ids x h =
     let t : (s : Submission) × Has (submissions w) s × (s.txn ≡ x) × (s.txn.id ≡ r.0) = txn_there w r.0 x r.2 in
     (t.0, t.1, t.2)
 
-pub txns_valid : (regions : ℕ) (w : World) → AllIn (λ s. IsValid regions s.txn) (submissions w) → (ids : List TxnId) → AllIn (IsValid regions) (txns_of w ids)
-txns_valid regions w a ids = all_put (IsValid regions) (txns_of w ids) (λ x h. let r : (s : Submission) × Has (submissions w) s × (s.txn ≡ x) = txns_submitted w ids x h in subst (IsValid regions) r.2 (all_get (λ s. IsValid regions s.txn) (submissions w) a r.0 r.1))
+pub txns_valid : (cluster : Cluster) (regions : ℕ) (w : World) → AllIn (λ s. IsValid cluster.procs regions s.txn) (submissions w) → (ids : List TxnId) → AllIn (IsValid cluster.procs regions) (txns_of w ids)
+txns_valid cluster regions w a ids = all_put (IsValid cluster.procs regions) (txns_of w ids) (λ x h. let r : (s : Submission) × Has (submissions w) s × (s.txn ≡ x) = txns_submitted w ids x h in subst (IsValid cluster.procs regions) r.2 (all_get (λ s. IsValid cluster.procs regions s.txn) (submissions w) a r.0 r.1))
 
 -- homes
 
@@ -73,36 +73,36 @@ home_after_below regions home (m ∷ moves) lt a = home_after_below regions m.ta
 
 -- the regions and the listed homes of a table stay
 
-pub regions_stay : (txns : List Txn) (t : Table) → (table_after txns t).regions ≡ t.regions
-regions_stay [] t = refl
-regions_stay (x ∷ txns) t = regions_stay txns (after x t) ∙ apply_regions (one x t).1 t
+pub regions_stay : (cluster : Cluster) (txns : List Txn) (t : Table) → (table_after cluster.procs txns t).regions ≡ t.regions
+regions_stay cluster [] t = refl
+regions_stay cluster (x ∷ txns) t = regions_stay cluster txns (after cluster.procs x t) ∙ apply_regions (one cluster.procs x t).1 t
 
-pub homes_stay : (txns : List Txn) (t : Table) → (table_after txns t).homes ≡ t.homes
-homes_stay [] t = refl
-homes_stay (x ∷ txns) t = homes_stay txns (after x t) ∙ apply_homes (one x t).1 t
+pub homes_stay : (cluster : Cluster) (txns : List Txn) (t : Table) → (table_after cluster.procs txns t).homes ≡ t.homes
+homes_stay cluster [] t = refl
+homes_stay cluster (x ∷ txns) t = homes_stay cluster txns (after cluster.procs x t) ∙ apply_homes (one cluster.procs x t).1 t
 
 pub unmoved_at_first : (cluster : Cluster) (key : Bytes) → moves_of (opening_table cluster) key ≡ []
 unmoved_at_first cluster key = opening_unmoved cluster.regions cluster.homes cluster.rows key
 
 -- where valid transactions move keys to
-pub targets_below : (cluster : Cluster) (txns : List Txn) → AllIn (IsValid cluster.regions) txns → (key : Bytes) → AllIn (λ m. m.target < cluster.regions) (moves_of (table_after txns (opening_table cluster)) key)
-targets_below cluster txns a key = all_put _ (moves_of (table_after txns (opening_table cluster)) key) below
+pub targets_below : (cluster : Cluster) (txns : List Txn) → AllIn (IsValid cluster.procs cluster.regions) txns → (key : Bytes) → AllIn (λ m. m.target < cluster.regions) (moves_of (table_after cluster.procs txns (opening_table cluster)) key)
+targets_below cluster txns a key = all_put _ (moves_of (table_after cluster.procs txns (opening_table cluster)) key) below
   where
-    below : (m : Moved) → Has (moves_of (table_after txns (opening_table cluster)) key) m → m.target < cluster.regions
+    below : (m : Moved) → Has (moves_of (table_after cluster.procs txns (opening_table cluster)) key) m → m.target < cluster.regions
     below m h =
-        let p : (i : ℕ) × (slice_get (moves_of (table_after txns (opening_table cluster)) key) i ≡ Some m) = place_of (moves_of (table_after txns (opening_table cluster)) key) m h in
-        let made : MadeMove txns (opening_table cluster) key p.0 m.by = move_made txns (opening_table cluster) key p.0 m (unmoved_at_first cluster key) p.1 in
-        let valid : IsValid cluster.regions made.mover = all_get (IsValid cluster.regions) txns a made.mover made.there in
+        let p : (i : ℕ) × (slice_get (moves_of (table_after cluster.procs txns (opening_table cluster)) key) i ≡ Some m) = place_of (moves_of (table_after cluster.procs txns (opening_table cluster)) key) m h in
+        let made : MadeMove cluster.procs txns (opening_table cluster) key p.0 m.by = move_made cluster.procs txns (opening_table cluster) key p.0 m (unmoved_at_first cluster key) p.1 in
+        let valid : IsValid cluster.procs cluster.regions made.mover = all_get (IsValid cluster.procs cluster.regions) txns a made.mover made.there in
         let both : Some m ≡ Some (record { target = made.target; by = m.by }) = sym p.1 ∙ made.number in
         let same : m ≡ record { target = made.target; by = m.by } = same_Some m (record { target = made.target; by = m.by }) both in
-        let fits : made.target < cluster.regions = subst (BodyFits cluster.regions) made.body valid.body in
+        let fits : made.target < cluster.regions = subst (BodyFits cluster.procs cluster.regions) made.body valid.body in
         subst (λ x. x < cluster.regions) (sym (ap (λ x. x.target) same)) fits
 
 -- the home of a key after valid transactions is a region
-pub home_below : (cluster : Cluster) → IsValidCluster cluster → (txns : List Txn) → AllIn (IsValid cluster.regions) txns → (key : Bytes) → home_of (table_after txns (opening_table cluster)) key < cluster.regions
+pub home_below : (cluster : Cluster) → IsValidCluster cluster → (txns : List Txn) → AllIn (IsValid cluster.procs cluster.regions) txns → (key : Bytes) → home_of (table_after cluster.procs txns (opening_table cluster)) key < cluster.regions
 home_below cluster valid txns a key =
-    subst (λ h. home_after h (moves_of (table_after txns (opening_table cluster)) key) < cluster.regions) (sym (ap₂ (λ r h. opening_home r h key) (regions_stay txns (opening_table cluster)) (homes_stay txns (opening_table cluster))))
-    (home_after_below cluster.regions (opening_home cluster.regions cluster.homes key) (moves_of (table_after txns (opening_table cluster)) key) (opening_home_below cluster valid key) (targets_below cluster txns a key))
+    subst (λ h. home_after h (moves_of (table_after cluster.procs txns (opening_table cluster)) key) < cluster.regions) (sym (ap₂ (λ r h. opening_home r h key) (regions_stay cluster txns (opening_table cluster)) (homes_stay cluster txns (opening_table cluster))))
+    (home_after_below cluster.regions (opening_home cluster.regions cluster.homes key) (moves_of (table_after cluster.procs txns (opening_table cluster)) key) (opening_home_below cluster valid key) (targets_below cluster txns a key))
 
 -- annotated transactions
 
@@ -110,24 +110,24 @@ pub annotated_uses : (t : Table) (us : List (Bytes × Mode)) → map (λ a. (a.k
 annotated_uses t [] = refl
 annotated_uses t (u ∷ us) = ap (λ l. u ∷ l) (annotated_uses t us)
 
-pub body_fits : (regions : ℕ) (call : Wanted) → WantedFits regions call → BodyFits regions (body_of call)
-body_fits regions (wanted.Call proc args) f = f
-body_fits regions (wanted.Move key target) f = f
+pub body_fits : (cluster : Cluster) (regions : ℕ) (call : Wanted) → WantedFits regions call → BodyFits cluster.procs regions (body_of call)
+body_fits cluster regions (wanted.Call proc args) f = f
+body_fits cluster regions (wanted.Move key target) f = f
 
-target_below : (regions : ℕ) (body : Body) → BodyFits regions body → (x : ℕ) → Has (targets_of body) x → x < regions
-target_below regions (Call proc args) f x h = absurd h
-target_below regions (Move key target) f x (inl e) = subst (λ y. y < regions) e f
-target_below regions (Move key target) f x (inr h) = absurd h
+target_below : (cluster : Cluster) (regions : ℕ) (body : Body) → BodyFits cluster.procs regions body → (x : ℕ) → Has (targets_of body) x → x < regions
+target_below cluster regions (Call proc args) f x h = absurd h
+target_below cluster regions (Move key target) f x (inl e) = subst (λ y. y < regions) e f
+target_below cluster regions (Move key target) f x (inr h) = absurd h
 
-pub annotated_valid : (regions : ℕ) (id : TxnId) (body : Body) (t : Table) → BodyFits regions body → ((key : Bytes) → home_of t key < regions) → IsValid regions (annotate id body t)
-annotated_valid regions id body t fits below = record {
+pub annotated_valid : (cluster : Cluster) (regions : ℕ) (id : TxnId) (body : Body) (t : Table) → BodyFits cluster.procs regions body → ((key : Bytes) → home_of t key < regions) → IsValid cluster.procs regions (annotate cluster.procs id body t)
+annotated_valid cluster regions id body t fits below = record {
   body = fits;
-  uses = annotated_uses t (uses_of body);
-  homes = all_put (λ h. h < regions) (homes_of (annotate id body t)) home;
+  uses = annotated_uses t (uses_of cluster.procs body);
+  homes = all_put (λ h. h < regions) (homes_of (annotate cluster.procs id body t)) home;
 }
   where
-    home : (x : ℕ) → Has (homes_of (annotate id body t)) x → x < regions
-    home x h = elim (any_append (λ y. y ≡ x) (map (λ a. a.home) (map (annotated t) (uses_of body))) (targets_of body) (set_of_has (map (λ a. a.home) (map (annotated t) (uses_of body)) ++ targets_of body) x h)) [
-      | inl l ↦ (let r : (u : Bytes × Mode) × Has (uses_of body) u × (home_of t u.0 ≡ x) = any_get (λ u. home_of t u.0 ≡ x) (uses_of body) (any_of_image (λ a. a.home ≡ x) (annotated t) (uses_of body) (any_of_image (λ y. y ≡ x) (λ a. a.home) (map (annotated t) (uses_of body)) l)) in subst (λ y. y < regions) r.2 (below r.0.0))
-      | inr k ↦ target_below regions body fits x k
+    home : (x : ℕ) → Has (homes_of (annotate cluster.procs id body t)) x → x < regions
+    home x h = elim (any_append (λ y. y ≡ x) (map (λ a. a.home) (map (annotated t) (uses_of cluster.procs body))) (targets_of body) (set_of_has (map (λ a. a.home) (map (annotated t) (uses_of cluster.procs body)) ++ targets_of body) x h)) [
+      | inl l ↦ (let r : (u : Bytes × Mode) × Has (uses_of cluster.procs body) u × (home_of t u.0 ≡ x) = any_get (λ u. home_of t u.0 ≡ x) (uses_of cluster.procs body) (any_of_image (λ a. a.home ≡ x) (annotated t) (uses_of cluster.procs body) (any_of_image (λ y. y ≡ x) (λ a. a.home) (map (annotated t) (uses_of cluster.procs body)) l)) in subst (λ y. y < regions) r.2 (below r.0.0))
+      | inr k ↦ target_below cluster regions body fits x k
     ]

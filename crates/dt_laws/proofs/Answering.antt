@@ -36,11 +36,11 @@ answer_keeps cluster workload valid w order region name may i = go (session_at w
       ids = i.ids;
       valid = i.valid;
       asked = i.asked;
-      logs = logs_kept w v cluster.regions (λ r. refl) (λ r. refl) (λ r. refl) refl i.logs;
-      lengths = lengths_kept w v cluster.regions (λ r. refl) (λ r. refl) (λ r. refl) i.lengths;
+      logs = logs_kept cluster w v cluster.regions (λ r. refl) (λ r. refl) (λ r. refl) refl i.logs;
+      lengths = lengths_kept cluster w v cluster.regions (λ r. refl) (λ r. refl) (λ r. refl) i.lengths;
       sound = i.sound;
       tables = i.tables;
-      ordered = ordered_kept w v cluster.regions order refl (λ r. refl) i.ordered;
+      ordered = ordered_kept cluster w v cluster.regions order refl (λ r. refl) i.ordered;
       sessions = record {
         places = place_changed (IsPlaceOf cluster.tries w) (IsPlaceOf cluster.tries v) workload.sessions w.places region session.name session place (record { answered = place.answered + 1; waits = None })
             valid.names_once now (λ t x n p. record { answered = p.answered; placed = p.placed }) i.sessions.places

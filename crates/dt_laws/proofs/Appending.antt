@@ -148,7 +148,7 @@ module _ (cluster : Cluster) (workload : Workload) (w : World) (order : List Txn
 
     parts_now : AllIn (IsPartAt v home) (log_of v home)
     unfolding part
-    parts_now = subst (AllIn (IsPartAt v home)) (sym log_now) (all_more (IsPartAt v home) (log_of w home) (part_of txn home) (parts_kept w v home (λ x t e. txn_same w v subs_same x ∙ e) (log_of w home) (i.logs home lh).parts) (txn, txn_same w v subs_same txn.id ∙ is, refl))
+    parts_now = subst (AllIn (IsPartAt v home)) (sym log_now) (all_more (IsPartAt v home) (log_of w home) (part_of txn home) (parts_kept cluster w v home (λ x t e. txn_same w v subs_same x ∙ e) (log_of w home) (i.logs home lh).parts) (txn, txn_same w v subs_same txn.id ∙ is, refl))
 
     logs : Logs cluster.regions v
     unfolding n'
@@ -156,15 +156,15 @@ module _ (cluster : Cluster) (workload : Workload) (w : World) (order : List Txn
       where
         by : Either (h ≡ home) → IsLog cluster.regions v h
         by (inl e) = subst (IsLog cluster.regions v) (sym e) (record { parts = parts_now; taken = taken_now; given = given_now })
-        by (inr n) = log_kept w v cluster.regions h (ap (λ x. x.log) (other h n)) (ap (λ x. x.taken) (other h n)) (keeps (λ n. n.asked) refl) subs_same (i.logs h lt)
+        by (inr n) = log_kept cluster w v cluster.regions h (ap (λ x. x.log) (other h n)) (ap (λ x. x.taken) (other h n)) (keeps (λ n. n.asked) refl) subs_same (i.logs h lt)
 
     ids : Numbered cluster.regions v
     unfolding n'
-    ids = ids_kept w v cluster.regions (keeps (λ n. n.submitted) refl) i.ids
+    ids = ids_kept cluster w v cluster.regions (keeps (λ n. n.submitted) refl) i.ids
 
     asked : Asked cluster.regions v
     unfolding n'
-    asked = asked_kept w v cluster.regions (keeps (λ n. n.asked) refl) (keeps (λ n. n.submitted) refl) i.asked
+    asked = asked_kept cluster w v cluster.regions (keeps (λ n. n.asked) refl) (keeps (λ n. n.submitted) refl) i.asked
 
     -- lengths
 
@@ -249,11 +249,11 @@ module _ (cluster : Cluster) (workload : Workload) (w : World) (order : List Txn
       nodes = length-set w.nodes home n' ∙ i.nodes;
       sized = sized;
       ids = ids;
-      valid = valid_kept w v cluster.regions subs_same i.valid;
+      valid = valid_kept cluster w v cluster.regions subs_same i.valid;
       asked = asked;
       logs = logs;
       lengths = lengths;
-      sound = sound_kept w v cluster.regions view_same (keeps (λ n. n.here.resolved) refl) (keeps (λ n. n.here.done) refl) i.sound;
+      sound = sound_kept cluster w v cluster.regions view_same (keeps (λ n. n.here.resolved) refl) (keeps (λ n. n.here.done) refl) i.sound;
       tables = tables_kept w v cluster (λ q lq. txns_same w v subs_same (done_ids (node_at w q).here)) (keeps (λ n. n.here.done) refl) (keeps (λ n. n.here.table) refl) i.tables;
       ordered = ordered;
       sessions = sessions_kept w v cluster workload (keeps (λ n. n.submitted) refl) refl i.sessions;
@@ -267,7 +267,7 @@ pub record IsNextRequest (w : World) (home source : ℕ) (txn : Txn) : Type 0 wh
 
 module _ (cluster : Cluster) (workload : Workload) (w : World) (order : List TxnId) (home source number : ℕ) (lh : home < cluster.regions) (ls : source < cluster.regions) (more : number < length (asked_of w source home)) (i : Inv cluster workload w order) where
   -- an append leaves the world, or it places the next request
-  pub append_cases : (next workload w (Append home source number) ≡ w) ⊎ ((txn : Txn) × IsNextRequest w home source txn × (next workload w (Append home source number) ≡ placed w home source (Some txn)))
+  pub append_cases : (next cluster workload w (Append home source number) ≡ w) ⊎ ((txn : Txn) × IsNextRequest w home source txn × (next cluster workload w (Append home source number) ≡ placed w home source (Some txn)))
   append_cases = go (eqb number (taken_from w home source)) refl
     where
       go : (b : Bool) → eqb number (taken_from w home source) ≡ b → (cond b (placed w home source (option_and_then (txn_of w) (slice_get (asked_of w source home) number))) w ≡ w) ⊎ ((txn : Txn) × IsNextRequest w home source txn × (cond b (placed w home source (option_and_then (txn_of w) (slice_get (asked_of w source home) number))) w ≡ placed w home source (Some txn)))
@@ -287,7 +287,7 @@ module _ (cluster : Cluster) (workload : Workload) (w : World) (order : List Txn
             ap (λ o. placed w home source (option_and_then (txn_of w) o)) at.1 ∙ ap (placed w home source) r.found,
           )
 
-  pub append_keeps : Inv cluster workload (next workload w (Append home source number)) order
+  pub append_keeps : Inv cluster workload (next cluster workload w (Append home source number)) order
   append_keeps = elim append_cases [
     | inl e ↦ subst (λ x. Inv cluster workload x order) (sym e) i
     | inr r ↦ subst (λ x. Inv cluster workload x order) (sym r.2) (placed_keeps cluster workload w order home source lh ls i r.0 r.1.number r.1.request r.1.found)

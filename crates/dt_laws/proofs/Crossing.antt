@@ -48,11 +48,11 @@ module _ (cluster : Cluster) (ok : IsValidCluster cluster) (workload : Workload)
   i : Inv cluster workload (world_after cluster workload events) (order_of events)
   i = legal_keeps cluster ok workload fits events legal
 
-  past : IsHistory (Precedes (logs_of (world_after cluster workload events))) (opening_table cluster) (txns_of (world_after cluster workload events) (order_of events))
+  past : IsHistory cluster.procs (Precedes (logs_of (world_after cluster workload events))) (opening_table cluster) (txns_of (world_after cluster workload events) (order_of events))
   past = history cluster workload (world_after cluster workload events) (order_of events) i (legal_roots cluster ok workload fits events legal)
 
   ids_are : map (λ e. e.0) (serial_outcomes cluster workload events) ≡ order_of events
-  ids_are = outcomes_ids (txns_of (world_after cluster workload events) (order_of events)) (opening_table cluster) ∙ order_ids cluster workload (world_after cluster workload events) (order_of events) i
+  ids_are = outcomes_ids cluster.procs (txns_of (world_after cluster workload events) (order_of events)) (opening_table cluster) ∙ order_ids cluster workload (world_after cluster workload events) (order_of events) i
 
   -- an executed attempt has an outcome in the serial run
   pub executed_outcome : (a : TxnId) → Has (order_of events) a → (o : Outcome) × Has (serial_outcomes cluster workload events) (a, o) × (serial_outcome cluster workload events a ≡ Some o)
@@ -90,7 +90,7 @@ module _ (cluster : Cluster) (ok : IsValidCluster cluster) (workload : Workload)
       let p : IsRun a x = run_of a x ha ea na in
       let q : IsRun b y = run_of b y hb eb nb in
       subst₂ (Ordered (Precedes (logs_of (world_after cluster workload events)))) p.own q.own
-      (across_moves (Precedes (logs_of (world_after cluster workload events))) (opening_table cluster) (txns_of (world_after cluster workload events) (order_of events)) past x y p.outcome q.outcome p.there q.there (λ e. ne (sym p.own ∙ e ∙ q.own)) p.gave q.gave p.fresh q.fresh c)
+      (across_moves cluster.procs (Precedes (logs_of (world_after cluster workload events))) (opening_table cluster) (txns_of (world_after cluster workload events) (order_of events)) past x y p.outcome q.outcome p.there q.there (λ e. ne (sym p.own ∙ e ∙ q.own)) p.gave q.gave p.fresh q.fresh c)
 
   -- of two executed attempts with one key, that with fewer moves of it, if it is not stale, precedes the other
   pub legal_fewer : (a b : TxnId) (x y : Txn) → Has (order_of events) a → Has (order_of events) b
@@ -102,9 +102,9 @@ module _ (cluster : Cluster) (ok : IsValidCluster cluster) (workload : Workload)
       let own : y.id ≡ b = txn_id (world_after cluster workload events) b y eb in
       let there : Has (txns_of (world_after cluster workload events) (order_of events)) y = looked_has (txn_of (world_after cluster workload events)) (txn_id (world_after cluster workload events)) (order_of events) b y hb eb in
       let s : Spot (txns_of (world_after cluster workload events) (order_of events)) x = spot (txns_of (world_after cluster workload events) (order_of events)) x p.there in
-      let same : p.outcome ≡ (one x (table_after s.front (opening_table cluster))).0 = single_outcome (Precedes (logs_of (world_after cluster workload events))) (opening_table cluster) (txns_of (world_after cluster workload events) (order_of events)) past x.id p.outcome (one x (table_after s.front (opening_table cluster))).0 p.gave (outcome_at (txns_of (world_after cluster workload events) (order_of events)) (opening_table cluster) x s) in
-      let live : IsLive x (table_after s.front (opening_table cluster)) = live_of_outcome x (table_after s.front (opening_table cluster)) (subst (λ o. ¬ (serial.IsStale o)) same p.fresh) in
-      subst₂ (Precedes (logs_of (world_after cluster workload events))) p.own own (across_fewer (Precedes (logs_of (world_after cluster workload events))) (opening_table cluster) (txns_of (world_after cluster workload events) (order_of events)) past x y s k l live there hk hl key fewer)
+      let same : p.outcome ≡ (one cluster.procs x (table_after cluster.procs s.front (opening_table cluster))).0 = single_outcome cluster.procs (Precedes (logs_of (world_after cluster workload events))) (opening_table cluster) (txns_of (world_after cluster workload events) (order_of events)) past x.id p.outcome (one cluster.procs x (table_after cluster.procs s.front (opening_table cluster))).0 p.gave (outcome_at cluster.procs (txns_of (world_after cluster workload events) (order_of events)) (opening_table cluster) x s) in
+      let live : IsLive x (table_after cluster.procs s.front (opening_table cluster)) = live_of_outcome cluster.procs x (table_after cluster.procs s.front (opening_table cluster)) (subst (λ o. ¬ (serial.IsStale o)) same p.fresh) in
+      subst₂ (Precedes (logs_of (world_after cluster workload events))) p.own own (across_fewer cluster.procs (Precedes (logs_of (world_after cluster workload events))) (opening_table cluster) (txns_of (world_after cluster workload events) (order_of events)) past x y s k l live there hk hl key fewer)
 
 -- where an execution is legal, no key has been moved less often than the attempt was annotated with
 pub legal_counters : (cluster : Cluster) → IsValidCluster cluster → (workload : Workload) → IsValidWorkload cluster workload → (events : List Event) (region : ℕ) (id : TxnId) (x : Txn)
@@ -112,7 +112,7 @@ pub legal_counters : (cluster : Cluster) → IsValidCluster cluster → (workloa
     → AllIn (λ a. a.counter ≤ counter_of (node_at (world_after cluster workload events) region).here.table a.key) x.access
 legal_counters cluster ok workload fits events region id x legal l found =
     subst (λ t. AllIn (λ a. a.counter ≤ counter_of t a.key) x.access) (sym (i.tables region l.regions).table)
-    (counters_reached (Precedes (logs_of v)) (opening_table cluster) (txns_of v (order_of later)) (history cluster workload v (order_of later) j rooted) ran x []
+    (counters_reached cluster.procs (Precedes (logs_of v)) (opening_table cluster) (txns_of v (order_of later)) (history cluster workload v (order_of later) j rooted) ran x []
     (subst (AllIn (Has (txns_of v (order_of later)))) ran_now (region_members cluster workload v (order_of later) j rooted region l.regions))
     (subst (λ xs. IsDown (Precedes (logs_of v)) (txn_ids xs)) ran_now (region_down cluster workload v (order_of later) j rooted region l.regions)))
   where

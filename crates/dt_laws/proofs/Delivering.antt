@@ -124,18 +124,18 @@ module _ (cluster : Cluster) (workload : Workload) (w : World) (order : List Txn
   received_keeps = record {
     nodes = length-set w.nodes region n' ∙ i.nodes;
     sized = sized;
-    ids = ids_kept w v cluster.regions (keeps (λ n. n.submitted) refl) i.ids;
-    valid = valid_kept w v cluster.regions subs_same i.valid;
-    asked = asked_kept w v cluster.regions (keeps (λ n. n.asked) refl) (keeps (λ n. n.submitted) refl) i.asked;
-    logs = logs_kept w v cluster.regions (keeps (λ n. n.log) refl) (keeps (λ n. n.taken) refl) (keeps (λ n. n.asked) refl) subs_same i.logs;
+    ids = ids_kept cluster w v cluster.regions (keeps (λ n. n.submitted) refl) i.ids;
+    valid = valid_kept cluster w v cluster.regions subs_same i.valid;
+    asked = asked_kept cluster w v cluster.regions (keeps (λ n. n.asked) refl) (keeps (λ n. n.submitted) refl) i.asked;
+    logs = logs_kept cluster w v cluster.regions (keeps (λ n. n.log) refl) (keeps (λ n. n.taken) refl) (keeps (λ n. n.asked) refl) subs_same i.logs;
     lengths = lengths;
-    sound = sound_kept w v cluster.regions view_same (keeps (λ n. n.here.resolved) refl) (keeps (λ n. n.here.done) refl) i.sound;
+    sound = sound_kept cluster w v cluster.regions view_same (keeps (λ n. n.here.resolved) refl) (keeps (λ n. n.here.done) refl) i.sound;
     tables = tables_kept w v cluster (λ q lq. txns_same w v subs_same (done_ids (node_at w q).here)) (keeps (λ n. n.here.done) refl) (keeps (λ n. n.here.table) refl) i.tables;
-    ordered = ordered_kept w v cluster.regions order logs_same (keeps (λ n. n.here.done) refl) i.ordered;
+    ordered = ordered_kept cluster w v cluster.regions order logs_same (keeps (λ n. n.here.done) refl) i.ordered;
     sessions = sessions_kept w v cluster workload (keeps (λ n. n.submitted) refl) refl i.sessions;
   }
 
-pub deliver_keeps : (cluster : Cluster) (workload : Workload) (w : World) (order : List TxnId) (region home first last : ℕ) → region < cluster.regions → home < cluster.regions → last ≤ length (log_of w home) → Inv cluster workload w order → Inv cluster workload (next workload w (Deliver region home first last)) order
+pub deliver_keeps : (cluster : Cluster) (workload : Workload) (w : World) (order : List TxnId) (region home first last : ℕ) → region < cluster.regions → home < cluster.regions → last ≤ length (log_of w home) → Inv cluster workload w order → Inv cluster workload (next cluster workload w (Deliver region home first last)) order
 deliver_keeps cluster workload w order region home first last lr lh reaches i = go (leb first (received_of w region home) && ltb (received_of w region home) last) refl
   where
     rises : (a b : Bool) → (a && b) ≡ true → b ≡ true

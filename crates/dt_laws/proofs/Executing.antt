@@ -37,18 +37,18 @@ txns_more w ids id txn e = filter_map-append (txn_of w) ids (id ∷ []) ∙ ap (
     one_txn o is = rw is refl
 
 -- one more step of a run
-run_more : (start : Table) (txns : List Txn) (txn : Txn) (here : Replica) → IsRunOf start txns here → IsRunOf start (txns ++ txn ∷ []) (executed here (Some txn))
-run_more start txns txn here r = record {
-  outcomes = ap₂ (λ l t. l ++ (txn.id, (one txn t).0) ∷ []) r.outcomes r.table ∙ sym (outcomes_append txns (txn ∷ []) start);
-  table = ap (after txn) r.table ∙ sym (table_after_append txns (txn ∷ []) start);
+run_more : (cluster : Cluster) (start : Table) (txns : List Txn) (txn : Txn) (here : Replica) → IsRunOf cluster start txns here → IsRunOf cluster start (txns ++ txn ∷ []) (executed cluster.procs here (Some txn))
+run_more cluster start txns txn here r = record {
+  outcomes = ap₂ (λ l t. l ++ (txn.id, (one cluster.procs txn t).0) ∷ []) r.outcomes r.table ∙ sym (outcomes_append cluster.procs txns (txn ∷ []) start);
+  table = ap (after cluster.procs txn) r.table ∙ sym (table_after_append cluster.procs txns (txn ∷ []) start);
 }
 
 module _ (cluster : Cluster) (workload : Workload) (w : World) (order : List TxnId) (region : ℕ) (id : TxnId) (lr : region < cluster.regions) (may : MayStep (received_logs w region) (node_at w region).here (Execute region id)) (txn : Txn) (found : txn_of w id ≡ Some txn) (i : Inv cluster workload w order) where
   n' : Node
-  n' = record (node_at w region) { here = executed (node_at w region).here (Some txn) }
+  n' = record (node_at w region) { here = executed cluster.procs (node_at w region).here (Some txn) }
 
   v : World
-  v = with_node w region (record (node_at w region) { here = executed (node_at w region).here (Some txn) })
+  v = with_node w region (record (node_at w region) { here = executed cluster.procs (node_at w region).here (Some txn) })
 
   same_id : txn.id ≡ id
   same_id = txn_id w id txn found
@@ -81,12 +81,12 @@ module _ (cluster : Cluster) (workload : Workload) (w : World) (order : List Txn
 
   view_same : (q : ℕ) → view_at v q ≡ view_at w q
   unfolding n'
-  view_same q = view_kept w v logs_same (keeps (λ n. n.here.inserted) refl) (keeps (λ n. n.received) refl) (keeps (λ n. n.log) refl) q
+  view_same q = view_kept cluster w v logs_same (keeps (λ n. n.here.inserted) refl) (keeps (λ n. n.received) refl) (keeps (λ n. n.log) refl) q
 
   -- what the region has executed now
   done_now : done_ids (node_at v region).here ≡ done_ids (node_at w region).here ++ id ∷ []
   unfolding n'
-  done_now = ap (λ n. done_ids n.here) node ∙ map_push (λ d. d.0) (node_at w region).here.done (txn.id, (one txn (node_at w region).here.table).0) ∙ ap (λ x. done_ids (node_at w region).here ++ x ∷ []) same_id
+  done_now = ap (λ n. done_ids n.here) node ∙ map_push (λ d. d.0) (node_at w region).here.done (txn.id, (one cluster.procs txn (node_at w region).here.table).0) ∙ ap (λ x. done_ids (node_at w region).here ++ x ∷ []) same_id
 
   sound : Sound cluster.regions v
   unfolding n'
@@ -103,13 +103,13 @@ module _ (cluster : Cluster) (workload : Workload) (w : World) (order : List Txn
   unfolding n'
   tables q lq = by (either_nat q region)
     where
-      by : Either (q ≡ region) → IsRunOf (opening_table cluster) (txns_of v (done_ids (node_at v q).here)) (node_at v q).here
-      by (inr n) = subst (λ x. IsRunOf (opening_table cluster) (txns_of v (done_ids x.here)) x.here) (sym (other q n))
-          (subst (λ l. IsRunOf (opening_table cluster) l (node_at w q).here) (sym (txns_same w v subs_same (done_ids (node_at w q).here))) (i.tables q lq))
-      by (inl e) = subst (λ y. IsRunOf (opening_table cluster) (txns_of v (done_ids (node_at v y).here)) (node_at v y).here) (sym e)
-          (subst (λ l. IsRunOf (opening_table cluster) l (node_at v region).here) (sym (txns_same w v subs_same (done_ids (node_at v region).here) ∙ ap (txns_of w) done_now ∙ txns_more w (done_ids (node_at w region).here) id txn found))
-          (subst (λ x. IsRunOf (opening_table cluster) (txns_of w (done_ids (node_at w region).here) ++ txn ∷ []) x.here) (sym node)
-          (run_more (opening_table cluster) (txns_of w (done_ids (node_at w region).here)) txn (node_at w region).here (i.tables region lr))))
+      by : Either (q ≡ region) → IsRunOf cluster (opening_table cluster) (txns_of v (done_ids (node_at v q).here)) (node_at v q).here
+      by (inr n) = subst (λ x. IsRunOf cluster (opening_table cluster) (txns_of v (done_ids x.here)) x.here) (sym (other q n))
+          (subst (λ l. IsRunOf cluster (opening_table cluster) l (node_at w q).here) (sym (txns_same w v subs_same (done_ids (node_at w q).here))) (i.tables q lq))
+      by (inl e) = subst (λ y. IsRunOf cluster (opening_table cluster) (txns_of v (done_ids (node_at v y).here)) (node_at v y).here) (sym e)
+          (subst (λ l. IsRunOf cluster (opening_table cluster) l (node_at v region).here) (sym (txns_same w v subs_same (done_ids (node_at v region).here) ∙ ap (txns_of w) done_now ∙ txns_more w (done_ids (node_at w region).here) id txn found))
+          (subst (λ x. IsRunOf cluster (opening_table cluster) (txns_of w (done_ids (node_at w region).here) ++ txn ∷ []) x.here) (sym node)
+          (run_more cluster (opening_table cluster) (txns_of w (done_ids (node_at w region).here)) txn (node_at w region).here (i.tables region lr))))
 
   -- what regions have executed: as before, and this
 
@@ -160,30 +160,30 @@ module _ (cluster : Cluster) (workload : Workload) (w : World) (order : List Txn
   with_order later o = record {
     nodes = length-set w.nodes region n' ∙ i.nodes;
     sized = sized;
-    ids = ids_kept w v cluster.regions (keeps (λ n. n.submitted) refl) i.ids;
-    valid = valid_kept w v cluster.regions subs_same i.valid;
-    asked = asked_kept w v cluster.regions (keeps (λ n. n.asked) refl) (keeps (λ n. n.submitted) refl) i.asked;
-    logs = logs_kept w v cluster.regions (keeps (λ n. n.log) refl) (keeps (λ n. n.taken) refl) (keeps (λ n. n.asked) refl) subs_same i.logs;
-    lengths = lengths_kept w v cluster.regions (keeps (λ n. n.here.inserted) refl) (keeps (λ n. n.received) refl) (keeps (λ n. n.log) refl) i.lengths;
+    ids = ids_kept cluster w v cluster.regions (keeps (λ n. n.submitted) refl) i.ids;
+    valid = valid_kept cluster w v cluster.regions subs_same i.valid;
+    asked = asked_kept cluster w v cluster.regions (keeps (λ n. n.asked) refl) (keeps (λ n. n.submitted) refl) i.asked;
+    logs = logs_kept cluster w v cluster.regions (keeps (λ n. n.log) refl) (keeps (λ n. n.taken) refl) (keeps (λ n. n.asked) refl) subs_same i.logs;
+    lengths = lengths_kept cluster w v cluster.regions (keeps (λ n. n.here.inserted) refl) (keeps (λ n. n.received) refl) (keeps (λ n. n.log) refl) i.lengths;
     sound = sound;
     tables = tables;
     ordered = o;
     sessions = sessions_kept w v cluster workload (keeps (λ n. n.submitted) refl) refl i.sessions;
   }
 
-  world_is : v ≡ moved_on w region (Execute region id)
+  world_is : v ≡ moved_on cluster w region (Execute region id)
   unfolding v
-  world_is = ap (λ o. with_node w region (record (node_at w region) { here = executed (node_at w region).here o })) (sym found)
+  world_is = ap (λ o. with_node w region (record (node_at w region) { here = executed cluster.procs (node_at w region).here o })) (sym found)
 
   -- the region ran one transaction more
-  pub executed_txns : txns_of (moved_on w region (Execute region id)) (done_ids (node_at (moved_on w region (Execute region id)) region).here) ≡ txns_of w (done_ids (node_at w region).here) ++ txn ∷ []
+  pub executed_txns : txns_of (moved_on cluster w region (Execute region id)) (done_ids (node_at (moved_on cluster w region (Execute region id)) region).here) ≡ txns_of w (done_ids (node_at w region).here) ++ txn ∷ []
   executed_txns = subst (λ x. txns_of x (done_ids (node_at x region).here) ≡ txns_of w (done_ids (node_at w region).here) ++ txn ∷ []) world_is
       (txns_same w v subs_same (done_ids (node_at v region).here) ∙ ap (txns_of w) done_now ∙ txns_more w (done_ids (node_at w region).here) id txn found)
 
-  pub execute_again : Has order id → Inv cluster workload (moved_on w region (Execute region id)) order
+  pub execute_again : Has order id → Inv cluster workload (moved_on cluster w region (Execute region id)) order
   execute_again known = subst (λ x. Inv cluster workload x order) world_is (with_order order (ordered_again known))
 
-  pub execute_first : ¬ (Has order id) → Inv cluster workload (moved_on w region (Execute region id)) (order ++ id ∷ [])
+  pub execute_first : ¬ (Has order id) → Inv cluster workload (moved_on cluster w region (Execute region id)) (order ++ id ∷ [])
   execute_first new = subst (λ x. Inv cluster workload x (order ++ id ∷ [])) world_is (with_order (order ++ id ∷ []) (ordered_first new))
 
 -- an executable id was submitted

@@ -22,8 +22,8 @@ use Rattle.dt_laws.proofs.Appending.{append_cases, submissions_placed}
 use Rattle.dt_laws.proofs.Runs.{world_after_more, legal_append, legal_more}
 use Rattle.dt_laws.proofs.Keeping.{legal_keeps}
 
-step_same : (w : World) (region : ℕ) (event : Event) → submissions (moved_on w region event) ≡ submissions w
-step_same w region event = flat_map_of_set (λ n. n.submitted) w.nodes region (record (node_at w region) { here = stepped (txn_of w) (node_at w region).here event }) no_node refl
+step_same : (cluster : Cluster) (w : World) (region : ℕ) (event : Event) → submissions (moved_on cluster w region event) ≡ submissions w
+step_same cluster w region event = flat_map_of_set (λ n. n.submitted) w.nodes region (record (node_at w region) { here = stepped cluster.procs (txn_of w) (node_at w region).here event }) no_node refl
 
 received_same : (w : World) (region home last : ℕ) → submissions (received w region home last) ≡ submissions w
 received_same w region home last = flat_map_of_set (λ n. n.submitted) w.nodes region (record (node_at w region) { received = set (node_at w region).received home last }) no_node refl
@@ -38,7 +38,7 @@ answer_same workload w region (Some (session, place)) = refl
 
 module _ (cluster : Cluster) (ok : IsValidCluster cluster) (workload : Workload) (fits : IsValidWorkload cluster workload) where
   -- a legal event leaves the transactions of ids
-  pub next_txns : (w : World) (order : List TxnId) (event : Event) → IsLegal cluster workload w event → Inv cluster workload w order → (id : TxnId) (txn : Txn) → txn_of w id ≡ Some txn → txn_of (next workload w event) id ≡ Some txn
+  pub next_txns : (w : World) (order : List TxnId) (event : Event) → IsLegal cluster workload w event → Inv cluster workload w order → (id : TxnId) (txn : Txn) → txn_of w id ≡ Some txn → txn_of (next cluster workload w event) id ≡ Some txn
   next_txns w order (Submit region name) l i id txn e =
       let r : Submits cluster workload w region name = submits cluster ok workload w order region name l.allowed i in
       subst (λ x. txn_of x id ≡ Some txn) (sym r.next) (submitted_txns cluster ok workload fits w order region r.session r.place r.call l.regions r.member r.here (subst (λ n. session_at workload.sessions w.places region n ≡ Some (r.session, r.place)) (sym r.named) r.found) r.wants r.on i id txn e)
@@ -46,10 +46,10 @@ module _ (cluster : Cluster) (ok : IsValidCluster cluster) (workload : Workload)
     | inl same ↦ subst (λ x. txn_of x id ≡ Some txn) (sym same) e
     | inr r ↦ subst (λ x. txn_of x id ≡ Some txn) (sym r.2) (txn_same w (placed w home source (Some r.0)) (submissions_placed cluster workload w order home source l.regions.0 l.regions.1 i r.0 r.1.number r.1.request r.1.found) id ∙ e)
   ]
-  next_txns w order (Deliver region home first last) l i id txn e = txn_same w (next workload w (Deliver region home first last)) (deliver_same w region home last (leb first (received_of w region home) && ltb (received_of w region home) last)) id ∙ e
-  next_txns w order (Insert region home) l i id txn e = txn_same w (moved_on w region (Insert region home)) (step_same w region (Insert region home)) id ∙ e
-  next_txns w order (Resolve region ids) l i id txn e = txn_same w (moved_on w region (Resolve region ids)) (step_same w region (Resolve region ids)) id ∙ e
-  next_txns w order (Execute region x) l i id txn e = txn_same w (moved_on w region (Execute region x)) (step_same w region (Execute region x)) id ∙ e
+  next_txns w order (Deliver region home first last) l i id txn e = txn_same w (next cluster workload w (Deliver region home first last)) (deliver_same w region home last (leb first (received_of w region home) && ltb (received_of w region home) last)) id ∙ e
+  next_txns w order (Insert region home) l i id txn e = txn_same w (moved_on cluster w region (Insert region home)) (step_same cluster w region (Insert region home)) id ∙ e
+  next_txns w order (Resolve region ids) l i id txn e = txn_same w (moved_on cluster w region (Resolve region ids)) (step_same cluster w region (Resolve region ids)) id ∙ e
+  next_txns w order (Execute region x) l i id txn e = txn_same w (moved_on cluster w region (Execute region x)) (step_same cluster w region (Execute region x)) id ∙ e
   next_txns w order (Answer region session) l i id txn e = txn_same w (answered workload w region (session_at workload.sessions w.places region session)) (answer_same workload w region (session_at workload.sessions w.places region session)) id ∙ e
 
   -- so do all later ones

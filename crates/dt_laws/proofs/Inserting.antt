@@ -34,7 +34,7 @@ module _ (cluster : Cluster) (workload : Workload) (w : World) (order : List Txn
   n' = record (node_at w region) { here = record (node_at w region).here { inserted = ins' } }
 
   v : World
-  v = moved_on w region (Insert region home)
+  v = moved_on cluster w region (Insert region home)
 
   logs_same : logs_of v ≡ logs_of w
   unfolding v n'
@@ -87,7 +87,7 @@ module _ (cluster : Cluster) (workload : Workload) (w : World) (order : List Txn
           (omega (arith, before.inserted), omega arith)
 
   received_same : (q other : ℕ) → received_of v q other ≡ received_of w q other
-  received_same q other = received_kept w v (keeps (λ n. n.received) (unfold n' in refl)) (keeps (λ n. n.log) (unfold n' in refl)) q other
+  received_same q other = received_kept cluster w v (keeps (λ n. n.received) (unfold n' in refl)) (keeps (λ n. n.log) (unfold n' in refl)) q other
 
   lengths : Lengths cluster.regions v
   unfolding n' ins'
@@ -132,18 +132,18 @@ module _ (cluster : Cluster) (workload : Workload) (w : World) (order : List Txn
           (subst (λ x. IsSound (fronts ins' (logs_of w)) x.here.resolved (done_ids x.here)) (sym node)
           (sound_longer (view_at w region) (fronts ins' (logs_of w)) longer (well_formed_front (fronts ins' (logs_of w)) (logs_of w) (fronts_longer ins' (logs_of w)) (full_well_formed cluster workload w order i)) (node_at w region).here.resolved (done_ids (node_at w region).here) (i.sound region lr))))
 
-  pub insert_keeps : Inv cluster workload (moved_on w region (Insert region home)) order
+  pub insert_keeps : Inv cluster workload (moved_on cluster w region (Insert region home)) order
   unfolding v n'
   insert_keeps = record {
     nodes = length-set w.nodes region n' ∙ i.nodes;
     sized = sized;
-    ids = ids_kept w v cluster.regions (keeps (λ n. n.submitted) refl) i.ids;
-    valid = valid_kept w v cluster.regions subs_same i.valid;
-    asked = asked_kept w v cluster.regions (keeps (λ n. n.asked) refl) (keeps (λ n. n.submitted) refl) i.asked;
-    logs = logs_kept w v cluster.regions (keeps (λ n. n.log) refl) (keeps (λ n. n.taken) refl) (keeps (λ n. n.asked) refl) subs_same i.logs;
+    ids = ids_kept cluster w v cluster.regions (keeps (λ n. n.submitted) refl) i.ids;
+    valid = valid_kept cluster w v cluster.regions subs_same i.valid;
+    asked = asked_kept cluster w v cluster.regions (keeps (λ n. n.asked) refl) (keeps (λ n. n.submitted) refl) i.asked;
+    logs = logs_kept cluster w v cluster.regions (keeps (λ n. n.log) refl) (keeps (λ n. n.taken) refl) (keeps (λ n. n.asked) refl) subs_same i.logs;
     lengths = lengths;
     sound = sound;
     tables = tables_kept w v cluster (λ q lq. txns_same w v subs_same (done_ids (node_at w q).here)) (keeps (λ n. n.here.done) refl) (keeps (λ n. n.here.table) refl) i.tables;
-    ordered = ordered_kept w v cluster.regions order logs_same (keeps (λ n. n.here.done) refl) i.ordered;
+    ordered = ordered_kept cluster w v cluster.regions order logs_same (keeps (λ n. n.here.done) refl) i.ordered;
     sessions = sessions_kept w v cluster workload (keeps (λ n. n.submitted) refl) refl i.sessions;
   }

@@ -26,17 +26,17 @@ use Rattle.dt_laws.proofs.Answering.{answer_keeps}
 use Rattle.dt_laws.proofs.Runs.{ordered, world_after_more, legal_more, order_of_more}
 
 module _ (cluster : Cluster) (ok : IsValidCluster cluster) (workload : Workload) (fits : IsValidWorkload cluster workload) where
-  execute_keeps : (w : World) (order : List TxnId) (region : ℕ) (id : TxnId) → region < cluster.regions → MayStep (received_logs w region) (node_at w region).here (Execute region id) → Inv cluster workload w order → Inv cluster workload (moved_on w region (Execute region id)) (cond (is_among order id) order (order ++ id ∷ []))
+  execute_keeps : (w : World) (order : List TxnId) (region : ℕ) (id : TxnId) → region < cluster.regions → MayStep (received_logs w region) (node_at w region).here (Execute region id) → Inv cluster workload w order → Inv cluster workload (moved_on cluster w region (Execute region id)) (cond (is_among order id) order (order ++ id ∷ []))
   execute_keeps w order region id lr may i =
       let k : IsKnown w id = executable_known cluster workload w order region id lr may i in
       go k (is_among order id) refl
     where
-      go : IsKnown w id → (b : Bool) → is_among order id ≡ b → Inv cluster workload (moved_on w region (Execute region id)) (cond b order (order ++ id ∷ []))
+      go : IsKnown w id → (b : Bool) → is_among order id ≡ b → Inv cluster workload (moved_on cluster w region (Execute region id)) (cond b order (order ++ id ∷ []))
       go k true e = execute_again cluster workload w order region id lr may k.0 k.1 i (has_of_among order id e)
       go k false e = execute_first cluster workload w order region id lr may k.0 k.1 i (λ h. cc (among_of_has order id h))
 
   -- a legal event keeps the invariant
-  pub next_keeps : (w : World) (order : List TxnId) (event : Event) → IsLegal cluster workload w event → Inv cluster workload w order → Inv cluster workload (next workload w event) (ordered order event)
+  pub next_keeps : (w : World) (order : List TxnId) (event : Event) → IsLegal cluster workload w event → Inv cluster workload w order → Inv cluster workload (next cluster workload w event) (ordered order event)
   next_keeps w order (Submit region session) l i = submit_keeps cluster ok workload fits w order region session l.regions l.allowed i
   next_keeps w order (Append home source number) l i = append_keeps cluster workload w order home source number l.regions.0 l.regions.1 l.allowed i
   next_keeps w order (Deliver region home first last) l i = deliver_keeps cluster workload w order region home first last l.regions.0 l.regions.1 l.allowed.1 i

@@ -31,8 +31,8 @@ Sized regions w = (region : ℕ) → region < regions → IsSized regions (node_
 abbrev pub Numbered : ℕ → World → Type 0
 Numbered regions w = (region : ℕ) → region < regions → AreNumbered region (node_at w region).submitted
 
-abbrev pub Valid : ℕ → World → Type 0
-Valid regions w = AllIn (λ s. IsValid regions s.txn) (submissions w)
+abbrev pub Valid : Cluster → ℕ → World → Type 0
+Valid cluster regions w = AllIn (λ s. IsValid cluster.procs regions s.txn) (submissions w)
 
 abbrev pub Asked : ℕ → World → Type 0
 Asked regions w = (region home : ℕ) → region < regions → home < regions → asked_of w region home ≡ requests home (node_at w region).submitted
@@ -47,17 +47,17 @@ abbrev pub Sound : ℕ → World → Type 0
 Sound regions w = (region : ℕ) → region < regions → IsSound (view_at w region) (node_at w region).here.resolved (done_ids (node_at w region).here)
 
 abbrev pub Tables : Cluster → World → Type 0
-Tables cluster w = (region : ℕ) → region < cluster.regions → IsRunOf (opening_table cluster) (txns_of w (done_ids (node_at w region).here)) (node_at w region).here
+Tables cluster w = (region : ℕ) → region < cluster.regions → IsRunOf cluster (opening_table cluster) (txns_of w (done_ids (node_at w region).here)) (node_at w region).here
 
-module _ (w v : World) where
+module _ (cluster : Cluster) (w v : World) where
   pub sized_kept : (regions : ℕ) → Keeps (λ n. n) w v → Sized regions w → Sized regions v
   sized_kept regions k s region lt = subst (IsSized regions) (sym (k region)) (s region lt)
 
   pub ids_kept : (regions : ℕ) → Keeps (λ n. n.submitted) w v → Numbered regions w → Numbered regions v
   ids_kept regions k i region lt = subst (AreNumbered region) (sym (k region)) (i region lt)
 
-  pub valid_kept : (regions : ℕ) → submissions v ≡ submissions w → Valid regions w → Valid regions v
-  valid_kept regions e a = subst (AllIn (λ s. IsValid regions s.txn)) (sym e) a
+  pub valid_kept : (regions : ℕ) → submissions v ≡ submissions w → Valid cluster regions w → Valid cluster regions v
+  valid_kept regions e a = subst (AllIn (λ s. IsValid cluster.procs regions s.txn)) (sym e) a
 
   pub asked_kept : (regions : ℕ) → Keeps (λ n. n.asked) w v → Keeps (λ n. n.submitted) w v → Asked regions w → Asked regions v
   asked_kept regions ka ks a region home lr lh = ap (λ l. get_or l home []) (ka region) ∙ a region home lr lh ∙ ap (requests home) (sym (ks region))
@@ -98,10 +98,10 @@ module _ (w v : World) where
   pub tables_kept : (cluster : Cluster) → ((region : ℕ) → region < cluster.regions → txns_of v (done_ids (node_at w region).here) ≡ txns_of w (done_ids (node_at w region).here)) → Keeps (λ n. n.here.done) w v → Keeps (λ n. n.here.table) w v → Tables cluster w → Tables cluster v
   tables_kept cluster e kd kt t region lt =
       let same : txns_of v (done_ids (node_at v region).here) ≡ txns_of w (done_ids (node_at w region).here) = ap (λ l. txns_of v (map (λ d. d.0) l)) (kd region) ∙ e region lt in
-      let before : IsRunOf (opening_table cluster) (txns_of w (done_ids (node_at w region).here)) (node_at w region).here = t region lt in
+      let before : IsRunOf cluster (opening_table cluster) (txns_of w (done_ids (node_at w region).here)) (node_at w region).here = t region lt in
       record {
-        outcomes = kd region ∙ before.outcomes ∙ ap (λ x. outcomes x (opening_table cluster)) (sym same);
-        table = kt region ∙ before.table ∙ ap (λ x. table_after x (opening_table cluster)) (sym same);
+        outcomes = kd region ∙ before.outcomes ∙ ap (λ x. outcomes cluster.procs x (opening_table cluster)) (sym same);
+        table = kt region ∙ before.table ∙ ap (λ x. table_after cluster.procs x (opening_table cluster)) (sym same);
       }
 
   pub executed_kept : Keeps (λ n. n.here.done) w v → (region : ℕ) (id : TxnId) → IsExecutedAt v region id ≡ IsExecutedAt w region id

@@ -124,8 +124,8 @@ module _ (cluster : Cluster) (workload : Workload) where
         resolved_classes = tt;
       }))
 
-  tables : (q : ℕ) → q < cluster.regions → IsRunOf (opening_table cluster) (txns_of w (done_ids (node_at w q).here)) (node_at w q).here
-  tables q lq = subst (λ n. IsRunOf (opening_table cluster) (txns_of w (done_ids n.here)) n.here) (sym (node q lq)) (record { outcomes = refl; table = refl })
+  tables : (q : ℕ) → q < cluster.regions → IsRunOf cluster (opening_table cluster) (txns_of w (done_ids (node_at w q).here)) (node_at w q).here
+  tables q lq = subst (λ n. IsRunOf cluster (opening_table cluster) (txns_of w (done_ids n.here)) n.here) (sym (node q lq)) (record { outcomes = refl; table = refl })
 
   ordered : IsOrder cluster.regions w []
   ordered = record {

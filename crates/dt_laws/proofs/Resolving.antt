@@ -22,7 +22,7 @@ module _ (cluster : Cluster) (workload : Workload) (w : World) (order : List Txn
   n' = record (node_at w region) { here = record (node_at w region).here { resolved = (node_at w region).here.resolved ++ ids ∷ [] } }
 
   v : World
-  v = moved_on w region (Resolve region ids)
+  v = moved_on cluster w region (Resolve region ids)
 
   logs_same : logs_of v ≡ logs_of w
   unfolding v n'
@@ -44,7 +44,7 @@ module _ (cluster : Cluster) (workload : Workload) (w : World) (order : List Txn
 
   view_same : (q : ℕ) → view_at v q ≡ view_at w q
   unfolding n'
-  view_same q = view_kept w v logs_same (keeps (λ n. n.here.inserted) refl) (keeps (λ n. n.received) refl) (keeps (λ n. n.log) refl) q
+  view_same q = view_kept cluster w v logs_same (keeps (λ n. n.here.inserted) refl) (keeps (λ n. n.received) refl) (keeps (λ n. n.log) refl) q
 
   sound : Sound cluster.regions v
   unfolding v n'
@@ -56,18 +56,18 @@ module _ (cluster : Cluster) (workload : Workload) (w : World) (order : List Txn
           (subst (λ x. IsSound (view_at w region) x.here.resolved (done_ids x.here)) (sym (get_or-set_same w.nodes region n' no_node (subst (λ m. region < m) (sym i.nodes) lr)))
           (sound_resolve (view_at w region) (node_at w region).here.resolved (done_ids (node_at w region).here) ids may (i.sound region lr)))
 
-  pub resolve_keeps : Inv cluster workload (moved_on w region (Resolve region ids)) order
+  pub resolve_keeps : Inv cluster workload (moved_on cluster w region (Resolve region ids)) order
   unfolding v n'
   resolve_keeps = record {
     nodes = length-set w.nodes region n' ∙ i.nodes;
     sized = sized;
-    ids = ids_kept w v cluster.regions (keeps (λ n. n.submitted) refl) i.ids;
-    valid = valid_kept w v cluster.regions subs_same i.valid;
-    asked = asked_kept w v cluster.regions (keeps (λ n. n.asked) refl) (keeps (λ n. n.submitted) refl) i.asked;
-    logs = logs_kept w v cluster.regions (keeps (λ n. n.log) refl) (keeps (λ n. n.taken) refl) (keeps (λ n. n.asked) refl) subs_same i.logs;
-    lengths = lengths_kept w v cluster.regions (keeps (λ n. n.here.inserted) refl) (keeps (λ n. n.received) refl) (keeps (λ n. n.log) refl) i.lengths;
+    ids = ids_kept cluster w v cluster.regions (keeps (λ n. n.submitted) refl) i.ids;
+    valid = valid_kept cluster w v cluster.regions subs_same i.valid;
+    asked = asked_kept cluster w v cluster.regions (keeps (λ n. n.asked) refl) (keeps (λ n. n.submitted) refl) i.asked;
+    logs = logs_kept cluster w v cluster.regions (keeps (λ n. n.log) refl) (keeps (λ n. n.taken) refl) (keeps (λ n. n.asked) refl) subs_same i.logs;
+    lengths = lengths_kept cluster w v cluster.regions (keeps (λ n. n.here.inserted) refl) (keeps (λ n. n.received) refl) (keeps (λ n. n.log) refl) i.lengths;
     sound = sound;
     tables = tables_kept w v cluster (λ q lq. txns_same w v subs_same (done_ids (node_at w q).here)) (keeps (λ n. n.here.done) refl) (keeps (λ n. n.here.table) refl) i.tables;
-    ordered = ordered_kept w v cluster.regions order logs_same (keeps (λ n. n.here.done) refl) i.ordered;
+    ordered = ordered_kept cluster w v cluster.regions order logs_same (keeps (λ n. n.here.done) refl) i.ordered;
     sessions = sessions_kept w v cluster workload (keeps (λ n. n.submitted) refl) refl i.sessions;
   }

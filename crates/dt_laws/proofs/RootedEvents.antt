@@ -43,7 +43,7 @@ use Rattle.dt_laws.proofs.RootedSteps.{rooted_kept, entries_kept, rooted_longer,
 
 module _ (cluster : Cluster) (workload : Workload) (w : World) (order : List TxnId) (i : Inv cluster workload w order) (rooted : Rooted cluster w order) where
   -- a submission: the old entries stay rooted, and the new ones are
-  submit_roots : IsValidCluster cluster → IsValidWorkload cluster workload → (region : ℕ) (name : Bytes) → region < cluster.regions → MaySubmit cluster w region (session_at workload.sessions w.places region name) → Rooted cluster (submitted workload w region (session_at workload.sessions w.places region name)) order
+  submit_roots : IsValidCluster cluster → IsValidWorkload cluster workload → (region : ℕ) (name : Bytes) → region < cluster.regions → MaySubmit cluster w region (session_at workload.sessions w.places region name) → Rooted cluster (submitted cluster workload w region (session_at workload.sessions w.places region name)) order
   submit_roots ok fits region name lr may = subst (λ x. Rooted cluster x order) (sym r.next) (all_put _ (submissions v) each)
     where
       r : Submits cluster workload w region name
@@ -53,22 +53,22 @@ module _ (cluster : Cluster) (workload : Workload) (w : World) (order : List Txn
       found = subst (λ n. session_at workload.sessions w.places region n ≡ Some (r.session, r.place)) (sym r.named) r.found
 
       v : World
-      v = world_submitted workload w region r.session r.place (submission_for w region r.session r.place r.call)
+      v = world_submitted workload w region r.session r.place (submission_for cluster w region r.session r.place r.call)
 
       logs : logs_of v ≡ logs_of w
       logs = submitted_logs cluster ok workload fits w order region r.session r.place r.call lr r.member r.here found r.wants r.on i
 
       histories : (key : Bytes) → history_of cluster v order key ≡ history_of cluster w order key
-      histories key = ap (λ l. moves_of (table_after l (opening_table cluster)) key) (txns_stay w v (submitted_txns cluster ok workload fits w order region r.session r.place r.call lr r.member r.here found r.wants r.on i) order (order_known cluster workload w order i))
+      histories key = ap (λ l. moves_of (table_after cluster.procs l (opening_table cluster)) key) (txns_stay w v (submitted_txns cluster ok workload fits w order region r.session r.place r.call lr r.member r.here found r.wants r.on i) order (order_known cluster workload w order i))
 
-      fresh : AllIn (λ a. IsRooted cluster (logs_of w) (history_of cluster w order a.key) (next_id w region) a) (map (annotated (node_at w region).here.table) (uses_of (body_of r.call)))
-      fresh = all_image (λ a. IsRooted cluster (logs_of w) (history_of cluster w order a.key) (next_id w region) a) (annotated (node_at w region).here.table) (uses_of (body_of r.call)) (all_put _ (uses_of (body_of r.call)) (λ u h. annotated_rooted cluster workload w order i rooted region lr u))
+      fresh : AllIn (λ a. IsRooted cluster (logs_of w) (history_of cluster w order a.key) (next_id w region) a) (map (annotated (node_at w region).here.table) (uses_of cluster.procs (body_of r.call)))
+      fresh = all_image (λ a. IsRooted cluster (logs_of w) (history_of cluster w order a.key) (next_id w region) a) (annotated (node_at w region).here.table) (uses_of cluster.procs (body_of r.call)) (all_put _ (uses_of cluster.procs (body_of r.call)) (λ u h. annotated_rooted cluster workload w order i rooted region lr u))
 
       each : (s : Submission) → Has (submissions v) s → AllIn (λ a. IsRooted cluster (logs_of v) (history_of cluster v order a.key) s.txn.id a) s.txn.access
       each s h = elim (submitted_was cluster ok workload fits w order region r.session r.place r.call lr r.member r.here found r.wants r.on i s h) [
         | inl k ↦ entries_kept cluster (logs_of w) (logs_of v) (history_of cluster w order) (history_of cluster v order) logs histories s.txn.id s.txn.access (all_get (λ x. AllIn (λ a. IsRooted cluster (logs_of w) (history_of cluster w order a.key) x.txn.id a) x.txn.access) (submissions w) rooted s k)
         | inr e ↦ subst (λ x. AllIn (λ a. IsRooted cluster (logs_of v) (history_of cluster v order a.key) x.txn.id a) x.txn.access) e
-            (entries_kept cluster (logs_of w) (logs_of v) (history_of cluster w order) (history_of cluster v order) logs histories (next_id w region) (map (annotated (node_at w region).here.table) (uses_of (body_of r.call))) fresh)
+            (entries_kept cluster (logs_of w) (logs_of v) (history_of cluster w order) (history_of cluster v order) logs histories (next_id w region) (map (annotated (node_at w region).here.table) (uses_of cluster.procs (body_of r.call))) fresh)
       ]
 
   -- a placed request: its part comes after the parts of the movers before it
@@ -100,7 +100,7 @@ module _ (cluster : Cluster) (workload : Workload) (w : World) (order : List Txn
     -- the mover before an entry's number has its part in the log of the entry's home
     mover_there : (a : Access) (c : ℕ) (m : Moved) → slice_get (history_of cluster w order a.key) c ≡ Some m → IsClosed (logs_of w) m.by → a.home ≡ home_after (opening_home cluster.regions cluster.homes a.key) (take (suc c) (history_of cluster w order a.key)) → HasPart (log_at (logs_of w) a.home) m.by
     mover_there a c m e closed homed =
-        let x : (y : Txn) × (txn_of w m.by ≡ Some y) × (y.body ≡ Move a.key m.target) × IsValid cluster.regions y = maker_found cluster workload w order i a.key c m e in
+        let x : (y : Txn) × (txn_of w m.by ≡ Some y) × (y.body ≡ Move a.key m.target) × IsValid cluster.procs cluster.regions y = maker_found cluster workload w order i a.key c m e in
         let target : a.home ≡ m.target = homed ∙ home_after_last (opening_home cluster.regions cluster.homes a.key) (history_of cluster w order a.key) c m e in
         subst (λ h. HasPart (log_at (logs_of w) h) m.by) (sym target) (parts_of_closed cluster workload w order i m.by x.0 m.target closed x.1 (home_of_target x.0 a.key m.target x.2))
 
@@ -141,9 +141,9 @@ module _ (cluster : Cluster) (workload : Workload) (w : World) (order : List Txn
         same = submissions_placed cluster workload w order home source lh ls i txn request.number request.request request.found
 
         histories : (key : Bytes) → history_of cluster (placed w home source (Some txn)) order key ≡ history_of cluster w order key
-        histories key = ap (λ l. moves_of (table_after l (opening_table cluster)) key) (txns_same w (placed w home source (Some txn)) same order)
+        histories key = ap (λ l. moves_of (table_after cluster.procs l (opening_table cluster)) key) (txns_same w (placed w home source (Some txn)) same order)
 
-  append_roots : (home source number : ℕ) → home < cluster.regions → source < cluster.regions → number < length (asked_of w source home) → Rooted cluster (next workload w (Append home source number)) order
+  append_roots : (home source number : ℕ) → home < cluster.regions → source < cluster.regions → number < length (asked_of w source home) → Rooted cluster (next cluster workload w (Append home source number)) order
   append_roots home source number lh ls more = elim (append_cases cluster workload w order home source number lh ls more i) [
     | inl e ↦ subst (λ x. Rooted cluster x order) (sym e) rooted
     | inr r ↦ subst (λ x. Rooted cluster x order) (sym r.2) (placed_roots home source lh ls r.0 r.1)
@@ -160,7 +160,7 @@ module _ (cluster : Cluster) (workload : Workload) (w : World) (order : List Txn
       (map_of_set (λ n. n.log) w.nodes region (record (node_at w region) { received = set (node_at w region).received home last }) no_node refl)
       (flat_map_of_set (λ n. n.submitted) w.nodes region (record (node_at w region) { received = set (node_at w region).received home last }) no_node refl) rooted
 
-  deliver_roots : (region home first last : ℕ) → Rooted cluster (next workload w (Deliver region home first last)) order
+  deliver_roots : (region home first last : ℕ) → Rooted cluster (next cluster workload w (Deliver region home first last)) order
   deliver_roots region home first last = go (leb first (received_of w region home) && ltb (received_of w region home) last)
     where
       go : (b : Bool) → Rooted cluster (cond b (received w region home last) w) order
@@ -172,20 +172,20 @@ module _ (cluster : Cluster) (workload : Workload) (w : World) (order : List Txn
   more_roots id txn e = all_map _ _ (submissions w) (λ s x. all_map _ _ s.txn.access (λ a y. rooted_longer cluster (logs_of w) (history_of cluster w order a.key) (history_of cluster w (order ++ id ∷ []) a.key) s.txn.id a (front a.key) y) x) rooted
     where
       front : (key : Bytes) → IsFront (history_of cluster w order key) (history_of cluster w (order ++ id ∷ []) key)
-      front key = subst (λ l. IsFront (history_of cluster w order key) (moves_of l key)) (sym (ap (λ l. table_after l (opening_table cluster)) (txns_more w order id txn e) ∙ table_after_append (txns_of w order) (txn ∷ []) (opening_table cluster)))
-          (moves_grow (txn ∷ []) (table_after (txns_of w order) (opening_table cluster)) key)
+      front key = subst (λ l. IsFront (history_of cluster w order key) (moves_of l key)) (sym (ap (λ l. table_after cluster.procs l (opening_table cluster)) (txns_more w order id txn e) ∙ table_after_append cluster.procs (txns_of w order) (txn ∷ []) (opening_table cluster)))
+          (moves_grow cluster.procs (txn ∷ []) (table_after cluster.procs (txns_of w order) (opening_table cluster)) key)
 
 answer_roots : (cluster : Cluster) (workload : Workload) (w : World) (order : List TxnId) (region : ℕ) (o : Option (Session × Place)) → Rooted cluster w order → Rooted cluster (answered workload w region o) order
 answer_roots cluster workload w order region None r = r
 answer_roots cluster workload w order region (Some (session, place)) r = r
 
 module _ (cluster : Cluster) (ok : IsValidCluster cluster) (workload : Workload) (fits : IsValidWorkload cluster workload) where
-  execute_roots : (w : World) (order : List TxnId) (region : ℕ) (id : TxnId) → region < cluster.regions → MayStep (received_logs w region) (node_at w region).here (Execute region id) → Inv cluster workload w order → Rooted cluster w order → Rooted cluster (moved_on w region (Execute region id)) (cond (is_among order id) order (order ++ id ∷ []))
+  execute_roots : (w : World) (order : List TxnId) (region : ℕ) (id : TxnId) → region < cluster.regions → MayStep (received_logs w region) (node_at w region).here (Execute region id) → Inv cluster workload w order → Rooted cluster w order → Rooted cluster (moved_on cluster w region (Execute region id)) (cond (is_among order id) order (order ++ id ∷ []))
   execute_roots w order region id lr may i r =
       let k : IsKnown w id = executable_known cluster workload w order region id lr may i in
-      rooted_kept cluster w (moved_on w region (Execute region id)) (cond (is_among order id) order (order ++ id ∷ []))
-      (map_of_set (λ n. n.log) w.nodes region (record (node_at w region) { here = stepped (txn_of w) (node_at w region).here (Execute region id) }) no_node refl)
-      (flat_map_of_set (λ n. n.submitted) w.nodes region (record (node_at w region) { here = stepped (txn_of w) (node_at w region).here (Execute region id) }) no_node refl)
+      rooted_kept cluster w (moved_on cluster w region (Execute region id)) (cond (is_among order id) order (order ++ id ∷ []))
+      (map_of_set (λ n. n.log) w.nodes region (record (node_at w region) { here = stepped cluster.procs (txn_of w) (node_at w region).here (Execute region id) }) no_node refl)
+      (flat_map_of_set (λ n. n.submitted) w.nodes region (record (node_at w region) { here = stepped cluster.procs (txn_of w) (node_at w region).here (Execute region id) }) no_node refl)
       (go (is_among order id) k)
     where
       go : (b : Bool) → IsKnown w id → Rooted cluster w (cond b order (order ++ id ∷ []))
@@ -193,12 +193,12 @@ module _ (cluster : Cluster) (ok : IsValidCluster cluster) (workload : Workload)
       go false k = more_roots cluster workload w order i r id k.0 k.1
 
   -- a legal event keeps all annotations rooted
-  pub next_roots : (w : World) (order : List TxnId) (event : Event) → IsLegal cluster workload w event → Inv cluster workload w order → Rooted cluster w order → Rooted cluster (next workload w event) (ordered order event)
+  pub next_roots : (w : World) (order : List TxnId) (event : Event) → IsLegal cluster workload w event → Inv cluster workload w order → Rooted cluster w order → Rooted cluster (next cluster workload w event) (ordered order event)
   next_roots w order (Submit region session) l i r = submit_roots cluster workload w order i r ok fits region session l.regions l.allowed
   next_roots w order (Append home source number) l i r = append_roots cluster workload w order i r home source number l.regions.0 l.regions.1 l.allowed
   next_roots w order (Deliver region home first last) l i r = deliver_roots cluster workload w order i r region home first last
-  next_roots w order (Insert region home) l i r = step_roots cluster workload w order i r region (stepped (txn_of w) (node_at w region).here (Insert region home))
-  next_roots w order (Resolve region ids) l i r = step_roots cluster workload w order i r region (stepped (txn_of w) (node_at w region).here (Resolve region ids))
+  next_roots w order (Insert region home) l i r = step_roots cluster workload w order i r region (stepped cluster.procs (txn_of w) (node_at w region).here (Insert region home))
+  next_roots w order (Resolve region ids) l i r = step_roots cluster workload w order i r region (stepped cluster.procs (txn_of w) (node_at w region).here (Resolve region ids))
   next_roots w order (Execute region id) l i r = execute_roots w order region id l.regions l.allowed i r
   next_roots w order (Answer region session) l i r = answer_roots cluster workload w order region (session_at workload.sessions w.places region session) r
 

@@ -34,7 +34,7 @@ use Rattle.dt_laws.proofs.Rooting.{done_txn_ids, region_members, region_down, hi
 -- where logs, submissions and the order stay, so does what is rooted
 pub rooted_kept : (cluster : Cluster) (w v : World) (order : List TxnId) → logs_of v ≡ logs_of w → submissions v ≡ submissions w → Rooted cluster w order → Rooted cluster v order
 rooted_kept cluster w v order e f r =
-    subst₂ (λ logs subs. AllIn (λ s. AllIn (λ a. IsRooted cluster logs (moves_of (table_after (filter_map (λ id. option_map (λ y. y.txn) (find_submission subs id)) order) (opening_table cluster)) a.key) s.txn.id a) s.txn.access) subs) (sym e) (sym f) r
+    subst₂ (λ logs subs. AllIn (λ s. AllIn (λ a. IsRooted cluster logs (moves_of (table_after cluster.procs (filter_map (λ id. option_map (λ y. y.txn) (find_submission subs id)) order) (opening_table cluster)) a.key) s.txn.id a) s.txn.access) subs) (sym e) (sym f) r
 
 -- where logs and the history of each key stay, so does what roots an entry
 pub entries_kept : (cluster : Cluster) (l k : View) (m n : Bytes → List Moved) → k ≡ l → ((key : Bytes) → n key ≡ m key) → (t : TxnId) (access : List Access) → AllIn (λ a. IsRooted cluster l (m a.key) t a) access → AllIn (λ a. IsRooted cluster k (n a.key) t a) access
@@ -115,24 +115,24 @@ module _ (cluster : Cluster) (workload : Workload) (w : World) (order : List Txn
         ran : List Txn
         ran = txns_of w (done_ids (node_at w region).here)
 
-        table : here ≡ table_after ran (opening_table cluster)
+        table : here ≡ table_after cluster.procs ran (opening_table cluster)
         table = (i.tables region lr).table
 
         moves : List Moved
-        moves = moves_of (table_after ran (opening_table cluster)) used.0
+        moves = moves_of (table_after cluster.procs ran (opening_table cluster)) used.0
 
         same : moves_of here used.0 ≡ moves
         same = ap (λ t. moves_of t used.0) table
 
         front : IsFront moves (history_of cluster w order used.0)
-        front = moves_front (Precedes (logs_of w)) (opening_table cluster) (txns_of w order) (history cluster workload w order i rooted) ran used.0 (region_members cluster workload w order i rooted region lr) (region_down cluster workload w order i rooted region lr)
+        front = moves_front cluster.procs (Precedes (logs_of w)) (opening_table cluster) (txns_of w order) (history cluster workload w order i rooted) ran used.0 (region_members cluster workload w order i rooted region lr) (region_down cluster workload w order i rooted region lr)
 
         closed : AllIn (λ m. IsClosed (logs_of w) m.by) moves
         closed = all_map _ _ moves (λ m h. closed_full cluster workload w order i region m.by lr (executed_closed cluster workload w order i region m.by lr (subst (λ l. Has l m.by) (done_txn_ids cluster workload w order i region lr) h)))
-            (movers_ran ran (opening_table cluster) used.0 (unmoved_at_first cluster used.0))
+            (movers_ran cluster.procs ran (opening_table cluster) used.0 (unmoved_at_first cluster used.0))
 
         home : home_after (opening_home here.regions here.homes used.0) (moves_of here used.0) ≡ home_after (opening_home cluster.regions cluster.homes used.0) (take (length (moves_of here used.0)) (history_of cluster w order used.0))
-        home = ap₂ home_after (ap₂ (λ r h. opening_home r h used.0) (ap (λ t. t.regions) table ∙ regions_stay ran (opening_table cluster)) (ap (λ t. t.homes) table ∙ homes_stay ran (opening_table cluster)))
+        home = ap₂ home_after (ap₂ (λ r h. opening_home r h used.0) (ap (λ t. t.regions) table ∙ regions_stay cluster ran (opening_table cluster)) (ap (λ t. t.homes) table ∙ homes_stay cluster ran (opening_table cluster)))
             (same ∙ sym (ap₂ take (ap length same) (sym front.1) ∙ take_at moves front.0 (length moves) refl))
 
         root : HasRoot (logs_of w) (next_id w region) (home_after (opening_home here.regions here.homes used.0) (moves_of here used.0)) (history_of cluster w order used.0) (length (moves_of here used.0))

@@ -65,8 +65,8 @@ listed (Call proc args) home access a h e = has_map used_of (filter (λ x. eqb x
 listed (Move key target) home access a h e = has_map used_of access a h
 
 -- each part of a move lists its key for writing
-pub listed_of_move : (regions : ℕ) (x : Txn) (key : Bytes) (target : ℕ) (home : ℕ) → IsValid regions x → x.body ≡ Move key target → (part_of x home).keys ≡ (key, Write) ∷ []
-listed_of_move regions x key target home valid e = ap (λ b. map used_of (entries_at b home x.access)) e ∙ valid.uses ∙ ap uses_of e
+pub listed_of_move : (cluster : Cluster) (regions : ℕ) (x : Txn) (key : Bytes) (target : ℕ) (home : ℕ) → IsValid cluster.procs regions x → x.body ≡ Move key target → (part_of x home).keys ≡ (key, Write) ∷ []
+listed_of_move cluster regions x key target home valid e = ap (λ b. map used_of (entries_at b home x.access)) e ∙ valid.uses ∙ ap (uses_of cluster.procs) e
 
 -- an entry's home is one of the homes
 pub home_of_entry : (x : Txn) (a : Access) → Has x.access a → Has (homes_of x) a.home
@@ -127,17 +127,17 @@ module _ (cluster : Cluster) (workload : Workload) (w : World) (order : List Txn
       ap (λ q. q.keys) (part.2 ∙ ap (λ t. part_of t home) (same_Some part.0 x both))
 
   -- a move of the history is made by one of the transactions of the order
-  pub maker : (key : Bytes) (c : ℕ) (m : Moved) → slice_get (history_of cluster w order key) c ≡ Some m → MadeMove (txns_of w order) (opening_table cluster) key c m.by
-  maker key c m e = move_made (txns_of w order) (opening_table cluster) key c m (unmoved_at_first cluster key) e
+  pub maker : (key : Bytes) (c : ℕ) (m : Moved) → slice_get (history_of cluster w order key) c ≡ Some m → MadeMove cluster.procs (txns_of w order) (opening_table cluster) key c m.by
+  maker key c m e = move_made cluster.procs (txns_of w order) (opening_table cluster) key c m (unmoved_at_first cluster key) e
 
-  pub maker_found : (key : Bytes) (c : ℕ) (m : Moved) → (e : slice_get (history_of cluster w order key) c ≡ Some m) → (x : Txn) × (txn_of w m.by ≡ Some x) × (x.body ≡ Move key m.target) × IsValid cluster.regions x
+  pub maker_found : (key : Bytes) (c : ℕ) (m : Moved) → (e : slice_get (history_of cluster w order key) c ≡ Some m) → (x : Txn) × (txn_of w m.by ≡ Some x) × (x.body ≡ Move key m.target) × IsValid cluster.procs cluster.regions x
   maker_found key c m e =
-      let made : MadeMove (txns_of w order) (opening_table cluster) key c m.by = maker key c m e in
+      let made : MadeMove cluster.procs (txns_of w order) (opening_table cluster) key c m.by = maker key c m e in
       let from : Has order made.mover.id × (txn_of w made.mover.id ≡ Some made.mover) = all_get (λ x. Has order x.id × (txn_of w x.id ≡ Some x)) (txns_of w order) (looked_from (txn_of w) (txn_id w) order) made.mover made.there in
       let both : Some m ≡ Some (record { target = made.target; by = m.by }) = sym e ∙ made.number in
       let same : m ≡ record { target = made.target; by = m.by } = same_Some m (record { target = made.target; by = m.by }) both in
       let target : made.target ≡ m.target = sym (ap (λ x. x.target) same) in
-      (made.mover, subst (λ id. txn_of w id ≡ Some made.mover) made.id from.1, made.body ∙ ap (Move key) target, all_get (IsValid cluster.regions) (txns_of w order) (txns_valid cluster.regions w i.valid order) made.mover made.there)
+      (made.mover, subst (λ id. txn_of w id ≡ Some made.mover) made.id from.1, made.body ∙ ap (Move key) target, all_get (IsValid cluster.procs cluster.regions) (txns_of w order) (txns_valid cluster cluster.regions w i.valid order) made.mover made.there)
 
   module _ (rooted : Rooted cluster w order) where
     -- an entry of a transaction of the order is rooted
@@ -169,8 +169,8 @@ module _ (cluster : Cluster) (workload : Workload) (w : World) (order : List Txn
 
             clashing : (p q : Part) → Has (log_at (logs_of w) a.home) p → Has (log_at (logs_of w) a.home) q → (p.id ≡ r.0.by) × (q.id ≡ x.id) → AreClashing r.0.by x.id p q
             clashing p q hp hq e =
-                let m : (y : Txn) × (txn_of w r.0.by ≡ Some y) × (y.body ≡ Move a.key r.0.target) × IsValid cluster.regions y = maker_found a.key c r.0 r.1 in
-                let left : p.keys ≡ (a.key, Write) ∷ [] = part_keys a.home p m.0 hp (ap (txn_of w) e.0 ∙ m.1) ∙ listed_of_move cluster.regions m.0 a.key r.0.target a.home m.3 m.2 in
+                let m : (y : Txn) × (txn_of w r.0.by ≡ Some y) × (y.body ≡ Move a.key r.0.target) × IsValid cluster.procs cluster.regions y = maker_found a.key c r.0 r.1 in
+                let left : p.keys ≡ (a.key, Write) ∷ [] = part_keys a.home p m.0 hp (ap (txn_of w) e.0 ∙ m.1) ∙ listed_of_move cluster cluster.regions m.0 a.key r.0.target a.home m.3 m.2 in
                 let right : q.keys ≡ (part_of x a.home).keys = part_keys a.home q x hq (ap (txn_of w) e.1 ∙ (in_order x hx).1) in
                 (e.0, e.1, subst₂ (λ k l. clash k l ≡ true) (sym left) (sym right) (clash_of_uses ((a.key, Write) ∷ []) (part_of x a.home).keys (inl (any_put (λ b. uses_clash (a.key, Write) b ≡ true) (part_of x a.home).keys (used_of a) (listed x.body a.home x.access a ha refl) (writes_clash a.key a.key a.mode refl)))))
 
@@ -195,11 +195,11 @@ module _ (cluster : Cluster) (workload : Workload) (w : World) (order : List Txn
         subst₂ (λ u t. Ordered (Precedes (logs_of w)) u t) p.2 q.2 (comparable_in_log (logs_of w) a.home p.0 q.0 p.1 q.1 apart (subst₂ (λ k l. clash k l ≡ true) (sym left) (sym right) clashes))
 
     -- the order is a history
-    pub history : IsHistory (Precedes (logs_of w)) (opening_table cluster) (txns_of w order)
+    pub history : IsHistory cluster.procs (Precedes (logs_of w)) (opening_table cluster) (txns_of w order)
     history = record {
       transitive = precedes_transitive (logs_of w);
       unmoved = unmoved_at_first cluster;
-      keys = all_put KeepsToKeys (txns_of w order) (λ x h. valid_keeps cluster.regions x (all_get (IsValid cluster.regions) (txns_of w order) (txns_valid cluster.regions w i.valid order) x h));
+      keys = all_put (KeepsToKeys cluster.procs) (txns_of w order) (λ x h. valid_keeps cluster.procs cluster.regions x (all_get (IsValid cluster.procs cluster.regions) (txns_of w order) (txns_valid cluster cluster.regions w i.valid order) x h));
       down = subst (IsDown (Precedes (logs_of w))) (sym order_ids) i.ordered.down;
       anchored = all_put _ (txns_of w order) (λ x hx. all_put (λ a. FollowsMove (Precedes (logs_of w)) (history_of cluster w order a.key) a.counter x.id) x.access (λ a ha. anchored_at x a hx ha));
       shared = shared;

@@ -30,25 +30,25 @@ ordered order event = with_executed order (executed_id event)
 
 -- worlds
 
-pub world_from_append : (workload : Workload) (w : World) (xs ys : List Event) → world_from workload w (xs ++ ys) ≡ world_from workload (world_from workload w xs) ys
-world_from_append workload w [] ys = refl
-world_from_append workload w (x ∷ xs) ys = world_from_append workload (next workload w x) xs ys
+pub world_from_append : (cluster : Cluster) (workload : Workload) (w : World) (xs ys : List Event) → world_from cluster workload w (xs ++ ys) ≡ world_from cluster workload (world_from cluster workload w xs) ys
+world_from_append cluster workload w [] ys = refl
+world_from_append cluster workload w (x ∷ xs) ys = world_from_append cluster workload (next cluster workload w x) xs ys
 
-pub world_after_more : (cluster : Cluster) (workload : Workload) (events : List Event) (event : Event) → world_after cluster workload (events ++ event ∷ []) ≡ next workload (world_after cluster workload events) event
-world_after_more cluster workload events event = world_from_append workload (opening_world cluster workload) events (event ∷ [])
+pub world_after_more : (cluster : Cluster) (workload : Workload) (events : List Event) (event : Event) → world_after cluster workload (events ++ event ∷ []) ≡ next cluster workload (world_after cluster workload events) event
+world_after_more cluster workload events event = world_from_append cluster workload (opening_world cluster workload) events (event ∷ [])
 
 -- what is legal
 
-pub legal_append : (cluster : Cluster) (workload : Workload) (w : World) (xs ys : List Event) → AreLegalFrom cluster workload w (xs ++ ys) → AreLegalFrom cluster workload w xs × AreLegalFrom cluster workload (world_from workload w xs) ys
+pub legal_append : (cluster : Cluster) (workload : Workload) (w : World) (xs ys : List Event) → AreLegalFrom cluster workload w (xs ++ ys) → AreLegalFrom cluster workload w xs × AreLegalFrom cluster workload (world_from cluster workload w xs) ys
 legal_append cluster workload w [] ys l = (tt, l)
-legal_append cluster workload w (x ∷ xs) ys l = let r : AreLegalFrom cluster workload (next workload w x) xs × AreLegalFrom cluster workload (world_from workload (next workload w x) xs) ys = legal_append cluster workload (next workload w x) xs ys l.1 in ((l.0, r.0), r.1)
+legal_append cluster workload w (x ∷ xs) ys l = let r : AreLegalFrom cluster workload (next cluster workload w x) xs × AreLegalFrom cluster workload (world_from cluster workload (next cluster workload w x) xs) ys = legal_append cluster workload (next cluster workload w x) xs ys l.1 in ((l.0, r.0), r.1)
 
 pub legal_more : (cluster : Cluster) (workload : Workload) (events : List Event) (event : Event) → AreLegal cluster workload (events ++ event ∷ []) → AreLegal cluster workload events × IsLegal cluster workload (world_after cluster workload events) event
 legal_more cluster workload events event l = let r : AreLegal cluster workload events × AreLegalFrom cluster workload (world_after cluster workload events) (event ∷ []) = legal_append cluster workload (opening_world cluster workload) events (event ∷ []) l in (r.0, r.1.0)
 
-pub append_legal : (cluster : Cluster) (workload : Workload) (w : World) (xs ys : List Event) → AreLegalFrom cluster workload w xs → AreLegalFrom cluster workload (world_from workload w xs) ys → AreLegalFrom cluster workload w (xs ++ ys)
+pub append_legal : (cluster : Cluster) (workload : Workload) (w : World) (xs ys : List Event) → AreLegalFrom cluster workload w xs → AreLegalFrom cluster workload (world_from cluster workload w xs) ys → AreLegalFrom cluster workload w (xs ++ ys)
 append_legal cluster workload w [] ys a b = b
-append_legal cluster workload w (x ∷ xs) ys a b = (a.0, append_legal cluster workload (next workload w x) xs ys a.1 b)
+append_legal cluster workload w (x ∷ xs) ys a b = (a.0, append_legal cluster workload (next cluster workload w x) xs ys a.1 b)
 
 pub more_legal : (cluster : Cluster) (workload : Workload) (events : List Event) (event : Event) → AreLegal cluster workload events → IsLegal cluster workload (world_after cluster workload events) event → AreLegal cluster workload (events ++ event ∷ [])
 more_legal cluster workload events event a l = append_legal cluster workload (opening_world cluster workload) events (event ∷ []) a (l, tt)

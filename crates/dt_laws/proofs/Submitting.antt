@@ -80,7 +80,7 @@ module _ (cluster : Cluster) (ok : IsValidCluster cluster) (workload : Workload)
     (found : session_at workload.sessions w.places region session.name ≡ Some (session, place))
     (wants : slice_get session.calls place.answered ≡ Some call) (on : MayGoOn cluster w session place) (i : Inv cluster workload w order) where
   s : Submission
-  s = submission_for w region session place call
+  s = submission_for cluster w region session place call
 
   n' : Node
   unfolding s
@@ -160,16 +160,16 @@ module _ (cluster : Cluster) (ok : IsValidCluster cluster) (workload : Workload)
   txns : (id : TxnId) (txn : Txn) → txn_of w id ≡ Some txn → txn_of v id ≡ Some txn
   txns = txn_stays w v stays one
 
-  valid_one : IsValid cluster.regions s.txn
+  valid_one : IsValid cluster.procs cluster.regions s.txn
   unfolding s
-  valid_one = annotated_valid cluster.regions (next_id w region) (body_of call) (node_at w region).here.table
-      (body_fits cluster.regions call (all_get (WantedFits cluster.regions) session.calls (all_get (IsValidSession cluster.regions) workload.sessions fits.sessions session member).calls call (has_place session.calls place.answered call wants)))
-      (λ key. subst (λ t. home_of t key < cluster.regions) (sym (i.tables region lr).table) (home_below cluster ok (txns_of w (done_ids (node_at w region).here)) (txns_valid cluster.regions w i.valid (done_ids (node_at w region).here)) key))
+  valid_one = annotated_valid cluster cluster.regions (next_id w region) (body_of call) (node_at w region).here.table
+      (body_fits cluster cluster.regions call (all_get (WantedFits cluster.regions) session.calls (all_get (IsValidSession cluster.regions) workload.sessions fits.sessions session member).calls call (has_place session.calls place.answered call wants)))
+      (λ key. subst (λ t. home_of t key < cluster.regions) (sym (i.tables region lr).table) (home_below cluster ok (txns_of w (done_ids (node_at w region).here)) (txns_valid cluster cluster.regions w i.valid (done_ids (node_at w region).here)) key))
 
-  valid : Valid cluster.regions v
-  valid = all_put (λ x. IsValid cluster.regions x.txn) (submissions v) (λ x h. elim (was x h) [
-    | inl k ↦ all_get (λ y. IsValid cluster.regions y.txn) (submissions w) i.valid x k
-    | inr e ↦ subst (λ y. IsValid cluster.regions y.txn) e valid_one
+  valid : Valid cluster cluster.regions v
+  valid = all_put (λ x. IsValid cluster.procs cluster.regions x.txn) (submissions v) (λ x h. elim (was x h) [
+    | inl k ↦ all_get (λ y. IsValid cluster.procs cluster.regions y.txn) (submissions w) i.valid x k
+    | inr e ↦ subst (λ y. IsValid cluster.procs cluster.regions y.txn) e valid_one
   ])
 
   -- requests
@@ -201,7 +201,7 @@ module _ (cluster : Cluster) (ok : IsValidCluster cluster) (workload : Workload)
   logs : Logs cluster.regions v
   unfolding n'
   logs home lh = record {
-    parts = subst (AllIn _) (sym (keeps (λ n. n.log) refl home)) (parts_kept w v home txns (log_of w home) (i.logs home lh).parts);
+    parts = subst (AllIn _) (sym (keeps (λ n. n.log) refl home)) (parts_kept cluster w v home txns (log_of w home) (i.logs home lh).parts);
     taken = λ source ls. taken source ls;
     given = λ source ls. ap (λ l. given_by source (ids_of l)) (keeps (λ n. n.log) refl home) ∙ (i.logs home lh).given source ls ∙ sym (given source ls);
   }
@@ -296,27 +296,27 @@ module _ (cluster : Cluster) (ok : IsValidCluster cluster) (workload : Workload)
 
   -- what a submission changes of logs, submissions and transactions
 
-  pub submitted_logs : logs_of (world_submitted workload w region session place (submission_for w region session place call)) ≡ logs_of w
+  pub submitted_logs : logs_of (world_submitted workload w region session place (submission_for cluster w region session place call)) ≡ logs_of w
   unfolding v s
   submitted_logs = logs_same
 
-  pub submitted_was : (x : Submission) → Has (submissions (world_submitted workload w region session place (submission_for w region session place call))) x → Has (submissions w) x ⊎ (submission_for w region session place call ≡ x)
+  pub submitted_was : (x : Submission) → Has (submissions (world_submitted workload w region session place (submission_for cluster w region session place call))) x → Has (submissions w) x ⊎ (submission_for cluster w region session place call ≡ x)
   unfolding v s
   submitted_was = was
 
-  pub submitted_stays : (x : Submission) → Has (submissions w) x → Has (submissions (world_submitted workload w region session place (submission_for w region session place call))) x
+  pub submitted_stays : (x : Submission) → Has (submissions w) x → Has (submissions (world_submitted workload w region session place (submission_for cluster w region session place call))) x
   unfolding v s
   submitted_stays = stays
 
-  pub submitted_this : Has (submissions (world_submitted workload w region session place (submission_for w region session place call))) (submission_for w region session place call)
+  pub submitted_this : Has (submissions (world_submitted workload w region session place (submission_for cluster w region session place call))) (submission_for cluster w region session place call)
   unfolding v s
   submitted_this = this
 
-  pub submitted_txns : (id : TxnId) (txn : Txn) → txn_of w id ≡ Some txn → txn_of (world_submitted workload w region session place (submission_for w region session place call)) id ≡ Some txn
+  pub submitted_txns : (id : TxnId) (txn : Txn) → txn_of w id ≡ Some txn → txn_of (world_submitted workload w region session place (submission_for cluster w region session place call)) id ≡ Some txn
   unfolding v s
   submitted_txns = txns
 
-  pub submitted_keeps : Inv cluster workload (world_submitted workload w region session place (submission_for w region session place call)) order
+  pub submitted_keeps : Inv cluster workload (world_submitted workload w region session place (submission_for cluster w region session place call)) order
   unfolding v n' s
   submitted_keeps = record {
     nodes = nodes_now;
@@ -325,10 +325,10 @@ module _ (cluster : Cluster) (ok : IsValidCluster cluster) (workload : Workload)
     valid = valid;
     asked = asked;
     logs = logs;
-    lengths = lengths_kept w v cluster.regions (keeps (λ n. n.here.inserted) refl) (keeps (λ n. n.received) refl) (keeps (λ n. n.log) refl) i.lengths;
-    sound = sound_kept w v cluster.regions (λ q lq. view_kept w v logs_same (keeps (λ n. n.here.inserted) refl) (keeps (λ n. n.received) refl) (keeps (λ n. n.log) refl) q) (keeps (λ n. n.here.resolved) refl) (keeps (λ n. n.here.done) refl) i.sound;
+    lengths = lengths_kept cluster w v cluster.regions (keeps (λ n. n.here.inserted) refl) (keeps (λ n. n.received) refl) (keeps (λ n. n.log) refl) i.lengths;
+    sound = sound_kept cluster w v cluster.regions (λ q lq. view_kept cluster w v logs_same (keeps (λ n. n.here.inserted) refl) (keeps (λ n. n.received) refl) (keeps (λ n. n.log) refl) q) (keeps (λ n. n.here.resolved) refl) (keeps (λ n. n.here.done) refl) i.sound;
     tables = tables_kept w v cluster (λ q lq. txns_stay w v txns (done_ids (node_at w q).here) (done_known cluster workload w order i q lq)) (keeps (λ n. n.here.done) refl) (keeps (λ n. n.here.table) refl) i.tables;
-    ordered = ordered_kept w v cluster.regions order logs_same (keeps (λ n. n.here.done) refl) i.ordered;
+    ordered = ordered_kept cluster w v cluster.regions order logs_same (keeps (λ n. n.here.done) refl) i.ordered;
     sessions = sessions;
   }
 
@@ -343,7 +343,7 @@ pub record Submits (cluster : Cluster) (workload : Workload) (w : World) (region
   pub found : session_at workload.sessions w.places region name ≡ Some (session, place)
   pub wants : slice_get session.calls place.answered ≡ Some call
   pub on : MayGoOn cluster w session place
-  pub next : submitted workload w region (session_at workload.sessions w.places region name) ≡ world_submitted workload w region session place (submission_for w region session place call)
+  pub next : submitted cluster workload w region (session_at workload.sessions w.places region name) ≡ world_submitted workload w region session place (submission_for cluster w region session place call)
 
 module _ (cluster : Cluster) (ok : IsValidCluster cluster) (workload : Workload) (w : World) (order : List TxnId) (region : ℕ) (name : Bytes) (may : MaySubmit cluster w region (session_at workload.sessions w.places region name)) (i : Inv cluster workload w order) where
   pub submits : Submits cluster workload w region name
@@ -365,10 +365,10 @@ module _ (cluster : Cluster) (ok : IsValidCluster cluster) (workload : Workload)
             found = e;
             wants = c.1;
             on = on;
-            next = ap (submitted workload w region) e ∙ ap (called workload w region session place) c.1;
+            next = ap (submitted cluster workload w region) e ∙ ap (called cluster workload w region session place) c.1;
           }
 
-pub submit_keeps : (cluster : Cluster) → IsValidCluster cluster → (workload : Workload) → IsValidWorkload cluster workload → (w : World) (order : List TxnId) (region : ℕ) (name : Bytes) → region < cluster.regions → MaySubmit cluster w region (session_at workload.sessions w.places region name) → Inv cluster workload w order → Inv cluster workload (submitted workload w region (session_at workload.sessions w.places region name)) order
+pub submit_keeps : (cluster : Cluster) → IsValidCluster cluster → (workload : Workload) → IsValidWorkload cluster workload → (w : World) (order : List TxnId) (region : ℕ) (name : Bytes) → region < cluster.regions → MaySubmit cluster w region (session_at workload.sessions w.places region name) → Inv cluster workload w order → Inv cluster workload (submitted cluster workload w region (session_at workload.sessions w.places region name)) order
 submit_keeps cluster ok workload fits w order region name lr may i =
     let r : Submits cluster workload w region name = submits cluster ok workload w order region name may i in
     subst (λ x. Inv cluster workload x order) (sym r.next)

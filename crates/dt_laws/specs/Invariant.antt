@@ -60,9 +60,9 @@ pub record AreInOrder (w : World) (region home : ℕ) : Type 0 where
   pub received : received_of w region home ≤ length (log_of w home)
 
 -- the outcomes and the table are those of running these transactions one by one on the opening table
-pub record IsRunOf (start : Table) (txns : List Txn) (here : Replica) : Type 0 where
-  pub outcomes : here.done ≡ outcomes txns start
-  pub table : here.table ≡ table_after txns start
+pub record IsRunOf (cluster : Cluster) (start : Table) (txns : List Txn) (here : Replica) : Type 0 where
+  pub outcomes : here.done ≡ outcomes cluster.procs txns start
+  pub table : here.table ≡ table_after cluster.procs txns start
 
 -- a region executed the id
 abbrev pub IsExecutedAt : World → ℕ → TxnId → Type 0
@@ -124,7 +124,7 @@ pub record Inv (cluster : Cluster) (workload : Workload) (w : World) (order : Li
   -- ids: each region counts its submissions
   pub ids : (region : ℕ) → region < cluster.regions → AreNumbered region (node_at w region).submitted
   -- shape: each submitted transaction is valid
-  pub valid : AllIn (λ s. IsValid cluster.regions s.txn) (submissions w)
+  pub valid : AllIn (λ s. IsValid cluster.procs cluster.regions s.txn) (submissions w)
   -- asked: each home was asked for the parts of just those transactions that have one there, in order
   pub asked : (region home : ℕ) → region < cluster.regions → home < cluster.regions → asked_of w region home ≡ requests home (node_at w region).submitted
   -- logs: each has the first of each region's requests
@@ -135,7 +135,7 @@ pub record Inv (cluster : Cluster) (workload : Workload) (w : World) (order : Li
   -- classes that nothing can join
   pub sound : (region : ℕ) → region < cluster.regions → IsSound (view_at w region) (node_at w region).here.resolved (done_ids (node_at w region).here)
   -- tables: outcomes and rows are those of running what the region executed, in its order
-  pub tables : (region : ℕ) → region < cluster.regions → IsRunOf (opening_table cluster) (txns_of w (done_ids (node_at w region).here)) (node_at w region).here
+  pub tables : (region : ℕ) → region < cluster.regions → IsRunOf cluster (opening_table cluster) (txns_of w (done_ids (node_at w region).here)) (node_at w region).here
   -- order: all that was executed, each after all that precedes it
   pub ordered : IsOrder cluster.regions w order
   -- sessions: each waits for an attempt of its next call or for nothing, and has made no attempt too many
@@ -143,7 +143,7 @@ pub record Inv (cluster : Cluster) (workload : Workload) (w : World) (order : Li
 
 -- the moves of a key in the one history: the run of the order on the opening table
 abbrev pub history_of : Cluster → World → List TxnId → Bytes → List Moved
-history_of cluster w order key = moves_of (table_after (txns_of w order) (opening_table cluster)) key
+history_of cluster w order key = moves_of (table_after cluster.procs (txns_of w order) (opening_table cluster)) key
 
 -- what the last of the first so many moves of a key is to t, whose entry names this home: its mover is closed and is not
 -- reached from t, and where t has a part in the home's log, the mover has one there before it

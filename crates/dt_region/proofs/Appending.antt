@@ -17,7 +17,7 @@ use Rattle.dt_region.specs.State.{State, held, sched_of}
 use Rattle.dt_region.specs.Rules.{taken_from, hold, after_append}
 use Rattle.dt_region.specs.Conditions.{CanAppend}
 use Rattle.dt_region.specs.Sound.{IsSoundRegion, IsHeldPart, AreWell}
-use Rattle.dt_region.proofs.Holds.{hold_keeps, hold_holds, hold_foreign, hold_valid}
+use Rattle.dt_region.proofs.Holds.{hold_keeps, hold_holds, hold_foreign, hold_formed}
 use Rattle.dt_region.proofs.Logs.{length_more, fronts_grown}
 
 ids_more : (log : List Part) (part : Part) → ids_of (log ++ part ∷ []) ≡ ids_of log ++ part.id ∷ []
@@ -91,8 +91,8 @@ module _ (s : State) (sound : IsSoundRegion s) (source number : ℕ) (txn : Txn)
     inserted = sound.inserted;
     counted = sound.counted;
     foreign = hold_foreign s txn sound.foreign can.agrees;
-    submitted_valid = sound.submitted_valid;
-    foreign_valid = hold_valid s txn sound.foreign_valid can.valid;
+    submitted_formed = sound.submitted_formed;
+    foreign_formed = hold_formed s txn sound.foreign_formed can.formed;
     once = once;
     parts = parts;
     few = can.few turn;

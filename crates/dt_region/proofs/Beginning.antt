@@ -21,8 +21,8 @@ opening_sound number regions table below few fits = record {
   inserted = length-replicate regions 0;
   counted = tt;
   foreign = tt;
-  submitted_valid = tt;
-  foreign_valid = tt;
+  submitted_formed = tt;
+  foreign_formed = tt;
   once = λ home. subst (λ log. Distinct (ids_of log)) (sym (log_none regions home)) tt;
   parts = λ home. subst (AllIn (IsHeldPart (opening_state number regions table) home)) (sym (log_none regions home)) tt;
   few = let none = parts_none regions in omega (arith, none);

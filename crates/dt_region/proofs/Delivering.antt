@@ -11,12 +11,12 @@ use Rattle.dt_sched.specs.Sched.{Sched}
 use Rattle.dt_sched.proofs.Growing.{put_log}
 use Rattle.dt_txn.specs.declared.txn.Txn.{Txn}
 use Rattle.dt_txn.specs.declared.txn.Entry.{Entry}
-use Rattle.dt_txn.specs.Transaction.{part_of, IsValid}
+use Rattle.dt_txn.specs.Transaction.{part_of, IsTransaction}
 use Rattle.dt_region.specs.State.{State, held, sched_of}
 use Rattle.dt_region.specs.Rules.{hold_all, past_end, with_entries, after_deliver}
 use Rattle.dt_region.specs.Conditions.{CanDeliver, Agrees, IsPartAt}
 use Rattle.dt_region.specs.Sound.{IsSoundRegion, IsHeldPart, AreWell}
-use Rattle.dt_region.proofs.Holds.{hold_all_keeps, hold_all_holds, hold_all_foreign, hold_all_valid}
+use Rattle.dt_region.proofs.Holds.{hold_all_keeps, hold_all_holds, hold_all_foreign, hold_all_formed}
 use Rattle.dt_region.proofs.Logs.{fronts_grown}
 
 pub all_drop : {A : Type 0} (P : A → Type 0) (n : ℕ) (xs : List A) → AllIn P xs → AllIn P (drop n xs)
@@ -48,8 +48,8 @@ module _ (s : State) (sound : IsSoundRegion s) (home first : ℕ) (entries : Lis
   new_agree : AllIn (Agrees s) txns
   new_agree = all_image _ (λ (e : Entry). e.txn) news (all_drop _ (length log - first) entries can.agree)
 
-  new_valid : AllIn (IsValid s.regions) txns
-  new_valid = all_image _ (λ (e : Entry). e.txn) news (all_drop _ (length log - first) entries can.valid)
+  new_formed : AllIn (IsTransaction s.regions) txns
+  new_formed = all_image _ (λ (e : Entry). e.txn) news (all_drop _ (length log - first) entries can.formed)
 
   new_once : Distinct (map (λ x. x.id) txns)
   new_once =
@@ -106,8 +106,8 @@ module _ (s : State) (sound : IsSoundRegion s) (home first : ℕ) (entries : Lis
     inserted = sound.inserted;
     counted = sound.counted;
     foreign = hold_all_foreign s txns new_once new_agree sound.foreign;
-    submitted_valid = sound.submitted_valid;
-    foreign_valid = hold_all_valid s txns new_valid sound.foreign_valid;
+    submitted_formed = sound.submitted_formed;
+    foreign_formed = hold_all_formed s txns new_formed sound.foreign_formed;
     once = once;
     parts = parts;
     few = can.few reach;

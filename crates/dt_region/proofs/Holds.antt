@@ -8,7 +8,7 @@ use Rattle.dt_lists.proofs.Places.{all_more, has_longer}
 use Rattle.dt_access.specs.Ids.{same_id}
 use Rattle.dt_access.specs.declared.TxnId.{TxnId}
 use Rattle.dt_txn.specs.declared.txn.Txn.{Txn}
-use Rattle.dt_txn.specs.Transaction.{homes_of, IsValid}
+use Rattle.dt_txn.specs.Transaction.{homes_of, IsTransaction}
 use Rattle.dt_region.specs.State.{State, find_txn, held}
 use Rattle.dt_region.specs.Rules.{hold, hold_all}
 use Rattle.dt_region.specs.Conditions.{Agrees}
@@ -89,17 +89,17 @@ agrees_after s txn other n agrees = record {
 own_held : (s : State) (txn : Txn) → Has s.submitted txn → is_some (held s txn.id) ≡ true
 own_held s txn h = find_some (s.submitted ++ s.foreign) txn (has_longer s.submitted s.foreign txn h)
 
--- where what a region has of others is of other regions and valid, it stays so
+-- where what a region has of others is transactions of other regions, it stays so
 pub hold_foreign : (s : State) (txn : Txn) → AllIn (λ x. x.id.region ≢ s.number) s.foreign → Agrees s txn → AllIn (λ x. x.id.region ≢ s.number) (kept s txn)
 hold_foreign s txn others agrees = elim (found_or_none (s.submitted ++ s.foreign) txn.id) [
   | inl h ↦ subst (AllIn (λ (x : Txn). x.id.region ≢ s.number)) (sym (hold_there s txn h.0 h.1)) others
   | inr h ↦ subst (AllIn (λ (x : Txn). x.id.region ≢ s.number)) (sym (hold_new s txn h)) (all_more _ s.foreign txn others (λ own. absurd (false≢true (sym (ap is_some h) ∙ own_held s txn (agrees.own own)))))
 ]
 
-pub hold_valid : (s : State) (txn : Txn) → AllIn (IsValid s.regions) s.foreign → IsValid s.regions txn → AllIn (IsValid s.regions) (kept s txn)
-hold_valid s txn all valid = elim (found_or_none (s.submitted ++ s.foreign) txn.id) [
-  | inl h ↦ subst (AllIn (IsValid s.regions)) (sym (hold_there s txn h.0 h.1)) all
-  | inr h ↦ subst (AllIn (IsValid s.regions)) (sym (hold_new s txn h)) (all_more _ s.foreign txn all valid)
+pub hold_formed : (s : State) (txn : Txn) → AllIn (IsTransaction s.regions) s.foreign → IsTransaction s.regions txn → AllIn (IsTransaction s.regions) (kept s txn)
+hold_formed s txn all valid = elim (found_or_none (s.submitted ++ s.foreign) txn.id) [
+  | inl h ↦ subst (AllIn (IsTransaction s.regions)) (sym (hold_there s txn h.0 h.1)) all
+  | inr h ↦ subst (AllIn (IsTransaction s.regions)) (sym (hold_new s txn h)) (all_more _ s.foreign txn all valid)
 ]
 
 -- several that came, one after another
@@ -122,6 +122,6 @@ hold_all_foreign s [] distinct agree others = others
 hold_all_foreign s (txn ∷ txns) distinct agree others =
     hold_all_foreign (hold s txn) txns distinct.1 (all_agree_after s txn txns distinct.0 agree.1) (hold_foreign s txn others agree.0)
 
-pub hold_all_valid : (s : State) (txns : List Txn) → AllIn (IsValid s.regions) txns → AllIn (IsValid s.regions) s.foreign → AllIn (IsValid s.regions) (hold_all s txns).foreign
-hold_all_valid s [] valid all = all
-hold_all_valid s (txn ∷ txns) valid all = hold_all_valid (hold s txn) txns valid.1 (hold_valid s txn all valid.0)
+pub hold_all_formed : (s : State) (txns : List Txn) → AllIn (IsTransaction s.regions) txns → AllIn (IsTransaction s.regions) s.foreign → AllIn (IsTransaction s.regions) (hold_all s txns).foreign
+hold_all_formed s [] valid all = all
+hold_all_formed s (txn ∷ txns) valid all = hold_all_formed (hold s txn) txns valid.1 (hold_formed s txn all valid.0)

@@ -10,9 +10,6 @@ use Rattle.dt_access.specs.Orders.{HasAscendingKeys}
 use Rattle.dt_access.specs.declared.Mode.{Mode}
 use Rattle.dt_access.specs.declared.Part.{Part}
 use Rattle.dt_access.specs.declared.TxnId.{TxnId}
-use Rattle.dt_text.specs.declared.Value.{Value}
-use Rattle.dt_text.specs.declared.Value.TheVariants.{Int, Text}
-use Rattle.dt_eval.specs.Meaning.{keys_of}
 use Rattle.dt_log.specs.Logs.{Takes}
 use Rattle.dt_log.specs.declared.Taken.{Taken}
 use Rattle.dt_log.specs.declared.Taken.TheVariants.{New, Old, Gap}
@@ -26,7 +23,7 @@ use Rattle.dt_txn.specs.declared.txn.Body.TheVariants.{Call, Move}
 use Rattle.dt_txn.specs.declared.txn.Entry.{Entry}
 use Rattle.dt_txn.specs.declared.txn.Txn.{Txn}
 use Rattle.dt_txn.specs.declared.outcome.Outcome.{Outcome}
-use Rattle.dt_txn.specs.Transaction.{annotate, used_of, uses_of, homes_of, part_of, BodyFits, CanRun, IsValid}
+use Rattle.dt_txn.specs.Transaction.{annotate, homes_of, part_of, BodyFits, IsValid}
 use Rattle.dt_txn.specs.Asking.{ask as ask_of}
 use Rattle.dt_txn.specs.Execution.{one}
 use Rattle.dt_txn.specs.Replica.{view_of, executed}
@@ -34,7 +31,7 @@ use Rattle.dt_region.specs.Fields.{state_of}
 use Rattle.dt_region.specs.Holding.{keep_other, keep_others}
 use Rattle.dt_region.specs.State.{State, Kept, held, sched_of}
 use Rattle.dt_region.specs.Rules.{opening_state, next_id, submission_for, keep, keep_all, taken_from, past_end, with_entries, after_submit, after_append, after_deliver, after_step, MayMake, Delivers}
-use Rattle.dt_region.specs.Conditions.{IsTableFor, CanAppend, CanDeliver}
+use Rattle.dt_region.specs.Conditions.{IsTableFor, CanAppend, CanDeliver, HoldsValid}
 use Rattle.dt_region.specs.Sound.{IsSoundRegion, AreWell}
 use Rattle.dt_region.proofs.Appending.{append_well}
 use Rattle.dt_region.proofs.Beginning.{opening_well}
@@ -44,25 +41,6 @@ use Rattle.dt_region.proofs.Logs.{log_few, parts_with}
 use Rattle.dt_region.proofs.Stepping.{held_id, held_valid, executable_held, can_insert, insert_well, resolve_well, execute_well}
 use Rattle.dt_region.proofs.Submitting.{submit_sound}
 use Rattle.dt_region.proofs.Tables.{annotate_valid}
-
--- a body that fits can be run, and uses its keys in ascending order
-
-pub can_run : (regions : ℕ) (body : Body) → BodyFits regions body → CanRun body
-can_run regions (Call proc args) fits = fits
-can_run regions (Move key target) fits = tt
-
-keys_ascend : (proc : ℕ) (args : List Value) → HasAscendingKeys (keys_of proc args)
-keys_ascend zero [] = tt
-keys_ascend zero (Int n ∷ args) = tt
-keys_ascend zero (Text key ∷ args) = (tt, tt)
-keys_ascend (suc proc) args = tt
-
-uses_ascend : (body : Body) → HasAscendingKeys (uses_of body)
-uses_ascend (Call proc args) = keys_ascend proc args
-uses_ascend (Move key target) = (tt, tt)
-
-pub access_ascends : (regions : ℕ) (txn : Txn) → IsValid regions txn → HasAscendingKeys (map used_of txn.access)
-access_ascends regions txn valid = subst (λ (us : List (Bytes × Mode)). HasAscendingKeys us) (sym valid.uses) (uses_ascend txn.body)
 
 -- A region is seen as `k`, and has the state s. From here on each law says of a call what its fields then are.
 
@@ -273,15 +251,15 @@ execute_held k s view seen well id can =
     let r : (txn : Txn) × (held s id ≡ Some txn) = executable_held s well.0 id (subst (λ x. CanExecute x id) well.1 can) in
     (r.0, subst (λ x. held x.state id ≡ Some r.0) view r.1)
 
-pub execute_valid : (k : Kept) (s : State) → record { state = s } ≡ k → IsSoundRegion s → (id : TxnId) (txn : Txn) → held k.state id ≡ Some txn → IsValid s.regions txn
-execute_valid k s view sound id txn e = held_valid s sound id txn (subst (λ x. held x.state id ≡ Some txn) (sym view) e)
+pub execute_valid : (procs : List ProcTree) (k : Kept) → HoldsValid procs k.state → (id : TxnId) (txn : Txn) → held k.state id ≡ Some txn → IsValid procs k.state.regions txn
+execute_valid procs k holds id txn e = held_valid procs k.state holds id txn e
 
-pub execute_made : (k : Kept) (s : State) → record { state = s } ≡ k → (seen : Sched) → AreWell s seen → (id : TxnId) → CanExecute seen id → (txn : Txn) → held k.state id ≡ Some txn →
+pub execute_made : (k : Kept) (s : State) → record { state = s } ≡ k → (seen : Sched) → AreWell s seen → HoldsValid procs k.state → (id : TxnId) → CanExecute seen id → (txn : Txn) → held k.state id ≡ Some txn →
     (now : Sched) (done : List (TxnId × Outcome)) (table : Table) (outcome : Outcome) (effect : Effect) → (outcome, effect) ≡ one txn s.here.table → now ≡ after_finish seen id → done ≡ s.here.done ++ (id, outcome) ∷ [] → table ≡ apply effect s.here.table →
     AreWell (state_of s.number s.regions s.submitted s.foreign s.asked s.taken s.logs s.here.inserted now.resolved done table) now
     × MayMake k.state (Execute k.state.number id)
     × (state_of s.number s.regions s.submitted s.foreign s.asked s.taken s.logs s.here.inserted now.resolved done table ≡ after_step k.state (Execute k.state.number id))
-execute_made k s view seen well id can txn e now done table outcome effect run made noted applied =
+execute_made k s view seen well holds id can txn e now done table outcome effect run made noted applied =
     let here : held s id ≡ Some txn = subst (λ x. held x.state id ≡ Some txn) (sym view) e in
     let made_here : now ≡ after_finish (sched_of s.logs s.here) id = made ∙ ap (λ x. after_finish x id) well.1 in
     let is : state_of s.number s.regions s.submitted s.foreign s.asked s.taken s.logs s.here.inserted now.resolved done table ≡ record s { here = executed s.here (Some txn) } =
@@ -289,4 +267,4 @@ execute_made k s view seen well id can txn e now done table outcome effect run m
     ((noted ∙ (λ i. s.here.done ++ (sym (held_id s id txn here) i, (run i).0) ∷ [])) j) ((applied ∙ ap (λ r. apply r.1 s.here.table) run) j) in
     let step : record s { here = executed s.here (Some txn) } ≡ after_step s (Execute s.number id) = ap (λ o. record s { here = executed s.here o }) (sym here) in
     let may : MayMake s (Execute s.number id) = subst (λ x. CanExecute x id) well.1 can in
-    (subst (λ x. AreWell x now) (sym is) (execute_well s well.0 id txn now here made_here), subst (λ x. MayMake x.state (Execute x.state.number id)) view may, is ∙ step ∙ ap (λ x. after_step x.state (Execute x.state.number id)) view)
+    (subst (λ x. AreWell x now) (sym is) (execute_well s well.0 (subst (λ x. HoldsValid procs x.state) (sym view) holds) id txn now here made_here), subst (λ x. MayMake x.state (Execute x.state.number id)) view may, is ∙ step ∙ ap (λ x. after_step x.state (Execute x.state.number id)) view)

@@ -16,22 +16,29 @@ use Rattle.dt_sched.specs.Sched.{Sched, CanInsert, parts_in, with_part, after_in
 use Rattle.dt_sched.proofs.Closed.{complete_of_closed, part_of_complete}
 use Rattle.dt_txn.specs.declared.txn.Txn.{Txn}
 use Rattle.dt_txn.specs.declared.outcome.Outcome.{Outcome}
-use Rattle.dt_txn.specs.Transaction.{homes_of, part_of, IsValid}
+use Rattle.dt_proc.specs.Tree.{ProcTree}
+use Rattle.dt_txn.specs.Transaction.{homes_of, part_of, IsTransaction, IsValid}
 use Rattle.dt_txn.specs.Execution.{one}
 use Rattle.dt_txn.specs.Replica.{fronts, view_of, done_ids, executed}
 use Rattle.dt_region.specs.State.{State, find_txn, held, sched_of}
+use Rattle.dt_region.specs.Conditions.{HoldsValid}
 use Rattle.dt_region.specs.Sound.{IsSoundRegion, IsHeldPart, AreWell}
 use Rattle.dt_region.proofs.Find.{found}
 use Rattle.dt_region.proofs.Logs.{fronts_length, fronts_at, fronts_insert, fronts_few, parts_with, next_fresh, all_logs}
 use Rattle.dt_region.proofs.Tables.{after_table}
 
--- what is held has its id, and is valid
+-- what is held has its id, and is a transaction of the cluster
 pub held_id : (s : State) (id : TxnId) (txn : Txn) → held s id ≡ Some txn → txn.id ≡ id
 held_id s id txn e = (found (s.submitted ++ s.foreign) id txn e).1
 
-pub held_valid : (s : State) → IsSoundRegion s → (id : TxnId) (txn : Txn) → held s id ≡ Some txn → IsValid s.regions txn
-held_valid s sound id txn e =
-    all_get (IsValid s.regions) (s.submitted ++ s.foreign) (all_append _ s.submitted s.foreign sound.submitted_valid sound.foreign_valid) txn (found (s.submitted ++ s.foreign) id txn e).0
+pub held_formed : (s : State) → IsSoundRegion s → (id : TxnId) (txn : Txn) → held s id ≡ Some txn → IsTransaction s.regions txn
+held_formed s sound id txn e =
+    all_get (IsTransaction s.regions) (s.submitted ++ s.foreign) (all_append _ s.submitted s.foreign sound.submitted_formed sound.foreign_formed) txn (found (s.submitted ++ s.foreign) id txn e).0
+
+-- where all that is held is valid, what is found is
+pub held_valid : (procs : List ProcTree) (s : State) → HoldsValid procs s → (id : TxnId) (txn : Txn) → held s id ≡ Some txn → IsValid procs s.regions txn
+held_valid procs s holds id txn e =
+    all_get (IsValid procs s.regions) (s.submitted ++ s.foreign) (all_append _ s.submitted s.foreign holds.submitted holds.foreign) txn (found (s.submitted ++ s.foreign) id txn e).0
 
 -- a part of a region's view is a held part
 view_parts : (s : State) → IsSoundRegion s → (home : ℕ) (p : Part) → Has (log_at (view_of s.logs s.here) home) p → IsHeldPart s home p
@@ -87,7 +94,7 @@ module _ (s : State) (sound : IsSoundRegion s) (home : ℕ) (part : Part) (known
   pub can_insert : CanInsert view part
   can_insert = record {
     homed = subst (λ hs. Has hs part.home) (sym part_homes) (subst (λ h. Has (homes_of held_part.0) h) (sym part_home) held_part.2.0);
-    within = subst (λ hs. AllIn (λ h. h < length view) hs) (sym part_homes) (subst (λ n. AllIn (λ h. h < n) (homes_of held_part.0)) (sym length_view) (held_valid s sound part.id held_part.0 held_part.1).homes);
+    within = subst (λ hs. AllIn (λ h. h < length view) hs) (sym part_homes) (subst (λ n. AllIn (λ h. h < n) (homes_of held_part.0)) (sym length_view) (held_formed s sound part.id held_part.0 held_part.1).homes);
     fresh = subst (λ h. ¬ (HasPart (log_at view h) part.id)) (sym part_home) (subst (λ l. ¬ (HasPart l part.id)) (sym (fronts_at s.here.inserted s.logs home)) (next_fresh (log_at s.logs home) (slice_index s.here.inserted home) part next (sound.once home)));
     few = room;
     alike = all_logs (AllIn (λ p. p.id ≡ part.id → p.homes ≡ part.homes)) view (λ other. all_put _ (log_at view other) (λ p h. alike_at other p (view_parts s sound other p h)));
@@ -114,8 +121,8 @@ module _ (s : State) (sound : IsSoundRegion s) (home : ℕ) (part : Part) (known
       inserted = length-set s.here.inserted home (slice_index s.here.inserted home + 1) ∙ sound.inserted;
       counted = sound.counted;
       foreign = sound.foreign;
-      submitted_valid = sound.submitted_valid;
-      foreign_valid = sound.foreign_valid;
+      submitted_formed = sound.submitted_formed;
+      foreign_formed = sound.foreign_formed;
       once = sound.once;
       parts = sound.parts;
       few = sound.few;
@@ -139,8 +146,8 @@ resolve_well s sound ids seen e = (
     inserted = sound.inserted;
     counted = sound.counted;
     foreign = sound.foreign;
-    submitted_valid = sound.submitted_valid;
-    foreign_valid = sound.foreign_valid;
+    submitted_formed = sound.submitted_formed;
+    foreign_formed = sound.foreign_formed;
     once = sound.once;
     parts = sound.parts;
     few = sound.few;
@@ -157,8 +164,8 @@ ids_done : (done : List (TxnId × Outcome)) (d : TxnId × Outcome) → map (λ x
 ids_done [] d = refl
 ids_done (x ∷ done) d = ap (λ l. x.0 ∷ l) (ids_done done d)
 
-pub execute_well : (s : State) → IsSoundRegion s → (id : TxnId) (txn : Txn) (seen : Sched) → held s id ≡ Some txn → seen ≡ after_finish (sched_of s.logs s.here) id → AreWell (record s { here = executed s.here (Some txn) }) seen
-execute_well s sound id txn seen e f = (
+pub execute_well : (procs : List ProcTree) (s : State) → IsSoundRegion s → HoldsValid procs s → (id : TxnId) (txn : Txn) (seen : Sched) → held s id ≡ Some txn → seen ≡ after_finish (sched_of s.logs s.here) id → AreWell (record s { here = executed procs s.here (Some txn) }) seen
+execute_well procs s sound holds id txn seen e f = (
   record {
     number = sound.number;
     regions = sound.regions;
@@ -168,14 +175,14 @@ execute_well s sound id txn seen e f = (
     inserted = sound.inserted;
     counted = sound.counted;
     foreign = sound.foreign;
-    submitted_valid = sound.submitted_valid;
-    foreign_valid = sound.foreign_valid;
+    submitted_formed = sound.submitted_formed;
+    foreign_formed = sound.foreign_formed;
     once = sound.once;
     parts = sound.parts;
     few = sound.few;
     taken_few = sound.taken_few;
     inserted_few = sound.inserted_few;
-    table = after_table s.regions txn s.here.table sound.table (held_valid s sound id txn e);
+    table = after_table procs s.regions txn s.here.table sound.table (held_valid procs s holds id txn e);
   },
-  f ∙ ap (λ ids. record (sched_of s.logs s.here) { done = ids }) (sym (ids_done s.here.done (txn.id, (one txn s.here.table).0) ∙ ap (λ i. done_ids s.here ++ i ∷ []) (held_id s id txn e))),
+  f ∙ ap (λ ids. record (sched_of s.logs s.here) { done = ids }) (sym (ids_done s.here.done (txn.id, (one procs txn s.here.table).0) ∙ ap (λ i. done_ids s.here ++ i ∷ []) (held_id s id txn e))),
 )

@@ -9,9 +9,11 @@ use Rattle.dt_sched.specs.Views.{log_at}
 use Rattle.dt_sched.specs.Sched.{Sched}
 use Rattle.dt_txn.specs.declared.txn.Body.{Body}
 use Rattle.dt_txn.specs.declared.txn.Txn.{Txn}
-use Rattle.dt_txn.specs.Transaction.{homes_of, BodyFits, IsValid}
+use Rattle.dt_proc.specs.Tree.{ProcTree}
+use Rattle.dt_txn.specs.Transaction.{homes_of, BodyFits}
 use Rattle.dt_region.specs.State.{State, find_txn, held}
 use Rattle.dt_region.specs.Rules.{next_id, submission_for, with_submission, after_submit}
+use Rattle.dt_txn.proofs.Formed.{formed}
 use Rattle.dt_region.specs.Conditions.{IsPartAt}
 use Rattle.dt_region.specs.Sound.{AreCounted, IsSoundRegion, IsHeldPart, AreWell}
 use Rattle.dt_region.proofs.Asked.{ask_length}
@@ -30,9 +32,9 @@ found_still xs ys txn id other none e = elim (found_or_none xs id) [
   | inr h ↦ find_right (xs ++ txn ∷ []) ys id (find_right xs (txn ∷ []) id h ∙ none) ∙ sym (find_right xs ys id h) ∙ e
 ]
 
-module _ (s : State) (sound : IsSoundRegion s) (body : Body) (fits : BodyFits s.regions body) where
+module _ (procs : List ProcTree) (s : State) (sound : IsSoundRegion s) (body : Body) (fits : BodyFits procs s.regions body) where
   abbrev new : Txn
-  new = submission_for s body
+  new = submission_for procs s body
 
   -- its id is of this region, and above all that it submitted
   own_new : held s (next_id s) ≡ None
@@ -43,10 +45,10 @@ module _ (s : State) (sound : IsSoundRegion s) (body : Body) (fits : BodyFits s.
   none_some : (other : Txn) → ◌≡◌ {A = Option Txn} None (Some other) → ⊥
   none_some other e = cc
 
-  keeps : (id : TxnId) (other : Txn) → held s id ≡ Some other → held (after_submit s body) id ≡ Some other
+  keeps : (id : TxnId) (other : Txn) → held s id ≡ Some other → held (after_submit procs s body) id ≡ Some other
   keeps id other e = found_still s.submitted s.foreign new id other (ap (λ b. cond b (Some new) None) (test_of_other (next_id s) id (λ same. none_some other (sym own_new ∙ ap (held s) same ∙ e)))) e
 
-  pub submit_sound : IsSoundRegion (after_submit s body)
+  pub submit_sound : IsSoundRegion (after_submit procs s body)
   submit_sound = record {
     number = sound.number;
     regions = sound.regions;
@@ -56,8 +58,8 @@ module _ (s : State) (sound : IsSoundRegion s) (body : Body) (fits : BodyFits s.
     inserted = sound.inserted;
     counted = counted_more s.number 1 s.submitted new sound.counted (ap (λ n. record { seq = n; region = s.number }) (omega arith));
     foreign = sound.foreign;
-    submitted_valid = all_more _ s.submitted new sound.submitted_valid (annotate_valid s.regions (next_id s) body s.here.table (omega (arith, sound.number)) sound.table fits);
-    foreign_valid = sound.foreign_valid;
+    submitted_formed = all_more _ s.submitted new sound.submitted_formed (formed procs s.regions new (annotate_valid procs s.regions (next_id s) body s.here.table (omega (arith, sound.number)) sound.table fits));
+    foreign_formed = sound.foreign_formed;
     once = sound.once;
     parts = λ home. all_map _ _ (log_at s.logs home) (λ p (h : IsHeldPart s home p). (h.0, keeps p.id h.0 h.1, h.2)) (sound.parts home);
     few = sound.few;

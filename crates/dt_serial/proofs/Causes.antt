@@ -6,6 +6,7 @@ use Rattle.dt_lists.proofs.Words.{any_map, any_append_left, all_put}
 use Rattle.dt_lists.proofs.Before.{Spot, spot_has, get_front}
 use Rattle.dt_access.specs.Clash.{Bytes}
 use Rattle.dt_access.specs.declared.TxnId.{TxnId}
+use Rattle.dt_proc.specs.Tree.{ProcTree}
 use Rattle.dt_table.specs.Table.{Table, Moved, moves_of}
 use Rattle.dt_text.specs.declared.Value.{Value}
 use Rattle.dt_eval.specs.Meaning.{meaning}
@@ -24,29 +25,29 @@ use Rattle.dt_serial.proofs.One.{mover_at, IsStaleAt, live_or_stale, one_live}
 use Rattle.dt_serial.proofs.Runs.{table_after_append, outcomes_append, outcome_at, IsOutcomeAt, outcome_get, moves_grow, IsMoveAt, move_at}
 
 -- the move of each number was made by one of the run
-pub move_made : (xs : List Txn) (start : Table) (key : Bytes) (i : ℕ) (m : Moved) → moves_of start key ≡ [] → slice_get (moves_of (table_after xs start) key) i ≡ Some m → MadeMove xs start key i m.by
-move_made xs start key i m none e =
-    let r : IsMoveAt xs start key i m = move_at xs start key i m (omega (arith, ap length none)) e in
+pub move_made : (procs : List ProcTree) (xs : List Txn) (start : Table) (key : Bytes) (i : ℕ) (m : Moved) → moves_of start key ≡ [] → slice_get (moves_of (table_after procs xs start) key) i ≡ Some m → MadeMove procs xs start key i m.by
+move_made procs xs start key i m none e =
+    let r : IsMoveAt procs xs start key i m = move_at procs xs start key i m (omega (arith, ap length none)) e in
     record {
       mover = r.mover;
       target = m.target;
       there = spot_has xs r.mover r.at;
       id = r.makes.by;
       body = r.makes.body;
-      gave = subst (Has (outcomes xs start)) (λ j. (r.makes.by j, r.makes.gave j)) (outcome_at xs start r.mover r.at);
+      gave = subst (Has (outcomes procs xs start)) (λ j. (r.makes.by j, r.makes.gave j)) (outcome_at procs xs start r.mover r.at);
       number = e;
     }
 
 -- and stays made
-pub made_stays : (xs ys : List Txn) (start : Table) (key : Bytes) (had : ℕ) (by : TxnId) → MadeMove xs start key had by → MadeMove (xs ++ ys) start key had by
-made_stays xs ys start key had by m = record {
+pub made_stays : (procs : List ProcTree) (xs ys : List Txn) (start : Table) (key : Bytes) (had : ℕ) (by : TxnId) → MadeMove procs xs start key had by → MadeMove procs (xs ++ ys) start key had by
+made_stays procs xs ys start key had by m = record {
   mover = m.mover;
   target = m.target;
   there = any_append_left _ xs ys m.there;
   id = m.id;
   body = m.body;
-  gave = subst (λ l. Has l (by, Gave [])) (sym (outcomes_append xs ys start)) (any_append_left _ (outcomes xs start) _ m.gave);
-  number = subst (λ t. slice_get (moves_of t key) had ≡ Some (record { target = m.target; by = by })) (sym (table_after_append xs ys start)) (get_front _ _ had _ (moves_grow ys (table_after xs start) key) m.number);
+  gave = subst (λ l. Has l (by, Gave [])) (sym (outcomes_append procs xs ys start)) (any_append_left _ (outcomes procs xs start) _ m.gave);
+  number = subst (λ t. slice_get (moves_of t key) had ≡ Some (record { target = m.target; by = by })) (sym (table_after_append procs xs ys start)) (get_front _ _ had _ (moves_grow procs ys (table_after procs xs start) key) m.number);
 }
 
 finish_fresh : (f : Finish) → ¬ (IsStale (of_finish f).0)
@@ -54,37 +55,37 @@ finish_fresh (finish.Gave values writes) k = k
 finish_fresh (finish.Aborted cause) k = k
 
 -- what a body gives is never stale
-own_fresh : (id : TxnId) (body : Body) (reads : List (Bytes × Option Value)) → ¬ (IsStale (result_of id body reads).0)
-own_fresh id (Call proc args) reads k = finish_fresh (meaning proc args reads) k
-own_fresh id (Move key target) reads k = k
+own_fresh : (procs : List ProcTree) (id : TxnId) (body : Body) (reads : List (Bytes × Option Value)) → ¬ (IsStale (result_of procs id body reads).0)
+own_fresh procs id (Call proc args) reads k = finish_fresh (meaning proc args reads) k
+own_fresh procs id (Move key target) reads k = k
 
-module _ (start : Table) (unmoved : (key : Bytes) → moves_of start key ≡ []) (txns : List Txn) where
-  stale_reason : (x : Txn) (s : Spot txns x) (o : Outcome) → IsStaleAt x.access (table_after s.front start) o → IsGrounded s.front txns start x o
+module _ (procs : List ProcTree) (start : Table) (unmoved : (key : Bytes) → moves_of start key ≡ []) (txns : List Txn) where
+  stale_reason : (x : Txn) (s : Spot txns x) (o : Outcome) → IsStaleAt x.access (table_after procs s.front start) o → IsGrounded procs s.front txns start x o
   stale_reason x s o w =
-      let m : (m : Moved) × (slice_get (moves_of (table_after s.front start) w.entry.key) w.entry.counter ≡ Some m) × (m.by ≡ w.by) = mover_at (moves_of (table_after s.front start) w.entry.key) w.entry.counter w.by w.next in
-      let made : MadeMove s.front start w.entry.key w.entry.counter w.by = subst (MadeMove s.front start w.entry.key w.entry.counter) m.2 (move_made s.front start w.entry.key w.entry.counter m.0 (unmoved w.entry.key) m.1) in
-      let stays : MadeMove txns start w.entry.key w.entry.counter w.by = subst (λ l. MadeMove l start w.entry.key w.entry.counter w.by) (sym s.is) (made_stays s.front (x ∷ s.rest) start w.entry.key w.entry.counter w.by made) in
-      subst (IsGrounded s.front txns start x) (sym w.is) (any_map _ _ x.access (λ a e. (ap (λ b. b.key) e, ap (λ b. b.counter) e)) w.there, made, stays)
+      let m : (m : Moved) × (slice_get (moves_of (table_after procs s.front start) w.entry.key) w.entry.counter ≡ Some m) × (m.by ≡ w.by) = mover_at (moves_of (table_after procs s.front start) w.entry.key) w.entry.counter w.by w.next in
+      let made : MadeMove procs s.front start w.entry.key w.entry.counter w.by = subst (MadeMove procs s.front start w.entry.key w.entry.counter) m.2 (move_made procs s.front start w.entry.key w.entry.counter m.0 (unmoved w.entry.key) m.1) in
+      let stays : MadeMove procs txns start w.entry.key w.entry.counter w.by = subst (λ l. MadeMove procs l start w.entry.key w.entry.counter w.by) (sym s.is) (made_stays procs s.front (x ∷ s.rest) start w.entry.key w.entry.counter w.by made) in
+      subst (IsGrounded procs s.front txns start x) (sym w.is) (any_map _ _ x.access (λ a e. (ap (λ b. b.key) e, ap (λ b. b.counter) e)) w.there, made, stays)
 
-  live_reason : (x : Txn) (s : Spot txns x) (o : Outcome) → own_outcome x (table_after s.front start) ≡ o → IsLive x (table_after s.front start) → ¬ (IsStale o) → IsGrounded s.front txns start x o
+  live_reason : (x : Txn) (s : Spot txns x) (o : Outcome) → own_outcome procs x (table_after procs s.front start) ≡ o → IsLive x (table_after procs s.front start) → ¬ (IsStale o) → IsGrounded procs s.front txns start x o
   live_reason x s (Gave values) e live fresh = tt
   live_reason x s (Aborted cause) e live fresh = (live, e)
   live_reason x s (Stale key had by) e live fresh = absurd (fresh tt)
 
-  reason_at : (x : Txn) (s : Spot txns x) → IsLive x (table_after s.front start) ⊎ IsStaleAt x.access (table_after s.front start) (one x (table_after s.front start)).0 → IsGrounded s.front txns start x (one x (table_after s.front start)).0
-  reason_at x s (inr w) = stale_reason x s (one x (table_after s.front start)).0 w
+  reason_at : (x : Txn) (s : Spot txns x) → IsLive x (table_after procs s.front start) ⊎ IsStaleAt x.access (table_after procs s.front start) (one procs x (table_after procs s.front start)).0 → IsGrounded procs s.front txns start x (one procs x (table_after procs s.front start)).0
+  reason_at x s (inr w) = stale_reason x s (one procs x (table_after procs s.front start)).0 w
   reason_at x s (inl live) =
-      let own : (one x (table_after s.front start)).0 ≡ own_outcome x (table_after s.front start) = ap (λ r. r.0) (one_live x (table_after s.front start) live) in
-      live_reason x s (one x (table_after s.front start)).0 (sym own) live (λ k. own_fresh x.id x.body (reads_of x.access (see x (table_after s.front start))) (subst IsStale own k))
+      let own : (one procs x (table_after procs s.front start)).0 ≡ own_outcome procs x (table_after procs s.front start) = ap (λ r. r.0) (one_live procs x (table_after procs s.front start) live) in
+      live_reason x s (one procs x (table_after procs s.front start)).0 (sym own) live (λ k. own_fresh procs x.id x.body (reads_of x.access (see x (table_after procs s.front start))) (subst IsStale own k))
 
-  pub reasons : AllIn (λ r. HasReason txns start r) (outcomes txns start)
-  reasons = all_put _ (outcomes txns start) (λ r k.
-      let o : IsOutcomeAt txns start r = outcome_get txns start r k in
+  pub reasons : AllIn (λ r. HasReason procs txns start r) (outcomes procs txns start)
+  reasons = all_put _ (outcomes procs txns start) (λ r k.
+      let o : IsOutcomeAt procs txns start r = outcome_get procs txns start r k in
       record {
         txn = o.txn;
         front = o.at.front;
         rest = o.at.rest;
         is = o.at.is;
         id = ap (λ p. p.0) o.is;
-        reason = subst (IsGrounded o.at.front txns start o.txn) (ap (λ p. p.1) o.is) (reason_at o.txn o.at (live_or_stale o.txn (table_after o.at.front start)));
+        reason = subst (IsGrounded procs o.at.front txns start o.txn) (ap (λ p. p.1) o.is) (reason_at o.txn o.at (live_or_stale procs o.txn (table_after procs o.at.front start)));
       })

@@ -9,6 +9,7 @@ use Rattle.dt_access.specs.Clash.{Bytes, same_key}
 use Rattle.dt_access.specs.declared.TxnId.{TxnId}
 use Rattle.dt_access.specs.declared.Access.{Access}
 use Rattle.dt_text.specs.declared.Value.{Value}
+use Rattle.dt_proc.specs.Tree.{ProcTree}
 use Rattle.dt_eval.specs.Meaning.{meaning}
 use Rattle.dt_eval.specs.declared.Finish.{Finish}
 use Rattle.dt_eval.specs.declared.finish.Finish.TheVariants as finish
@@ -80,15 +81,15 @@ stale_some (a ∷ access) t o e = go (next_mover t a.key a.counter) refl (stale_
     go (Some by) n rest e = record { entry = a; there = inl refl; by = by; next = n; is = cc }
 
 -- a transaction is live or stale
-pub live_or_stale : (x : Txn) (t : Table) → IsLive x t ⊎ IsStaleAt x.access t (one x t).0
-live_or_stale x t = go (stale_of x.access (see x t)) refl
+pub live_or_stale : (procs : List ProcTree) (x : Txn) (t : Table) → IsLive x t ⊎ IsStaleAt x.access t (one procs x t).0
+live_or_stale procs x t = go (stale_of x.access (see x t)) refl
   where
-    go : (s : Option Outcome) → stale_of x.access (see x t) ≡ s → IsLive x t ⊎ IsStaleAt x.access t (one x t).0
+    go : (s : Option Outcome) → stale_of x.access (see x t) ≡ s → IsLive x t ⊎ IsStaleAt x.access t (one procs x t).0
     go None e = inl e
-    go (Some o) e = inr (subst (IsStaleAt x.access t) (sym (ap (λ s. (unless_stale s (result_of x.id x.body (reads_of x.access (see x t)))).0) e)) (stale_some x.access t o e))
+    go (Some o) e = inr (subst (IsStaleAt x.access t) (sym (ap (λ s. (unless_stale s (result_of procs x.id x.body (reads_of x.access (see x t)))).0) e)) (stale_some x.access t o e))
 
-pub live_of_outcome : (x : Txn) (t : Table) → ¬ (IsStale (one x t).0) → IsLive x t
-live_of_outcome x t n = elim (live_or_stale x t) [ inl l ↦ l | inr s ↦ absurd (n (subst IsStale (sym s.is) tt)) ]
+pub live_of_outcome : (procs : List ProcTree) (x : Txn) (t : Table) → ¬ (IsStale (one procs x t).0) → IsLive x t
+live_of_outcome procs x t n = elim (live_or_stale procs x t) [ inl l ↦ l | inr s ↦ absurd (n (subst IsStale (sym s.is) tt)) ]
 
 -- results
 
@@ -96,19 +97,19 @@ pub reads_alike : (access : List Access) (t u : Table) → AllIn (λ a. value_of
 reads_alike [] t u all = refl
 reads_alike (a ∷ access) t u all = let head : ◌≡◌ {A = Bytes × Option Value} (a.key, value_of t a.key) (a.key, value_of u a.key) = ap (λ v. (a.key, v)) all.0 in ap₂ ◌∷◌ head (reads_alike access t u all.1)
 
-pub one_live : (x : Txn) (t : Table) → IsLive x t → one x t ≡ result_of x.id x.body (reads_of x.access (see x t))
-one_live x t e = ap (λ s. unless_stale s (result_of x.id x.body (reads_of x.access (see x t)))) e
+pub one_live : (procs : List ProcTree) (x : Txn) (t : Table) → IsLive x t → one procs x t ≡ result_of procs x.id x.body (reads_of x.access (see x t))
+one_live procs x t e = ap (λ s. unless_stale s (result_of procs x.id x.body (reads_of x.access (see x t)))) e
 
 -- a transaction does alike on two tables where its keys have the same next movers and, if it is live, the same values
-pub one_alike : (x : Txn) (t u : Table) → AllIn (λ a. next_mover t a.key a.counter ≡ next_mover u a.key a.counter) x.access → (IsLive x u → AllIn (λ a. value_of t a.key ≡ value_of u a.key) x.access) → one x t ≡ one x u
-one_alike x t u movers values = go (stale_of x.access (see x u)) refl
+pub one_alike : (procs : List ProcTree) (x : Txn) (t u : Table) → AllIn (λ a. next_mover t a.key a.counter ≡ next_mover u a.key a.counter) x.access → (IsLive x u → AllIn (λ a. value_of t a.key ≡ value_of u a.key) x.access) → one procs x t ≡ one procs x u
+one_alike procs x t u movers values = go (stale_of x.access (see x u)) refl
   where
     same : stale_of x.access (see x t) ≡ stale_of x.access (see x u)
     same = stale_alike x.access t u movers
 
-    go : (s : Option Outcome) → stale_of x.access (see x u) ≡ s → one x t ≡ one x u
-    go None e = one_live x t (same ∙ e) ∙ ap (result_of x.id x.body) (reads_alike x.access t u (values e)) ∙ sym (one_live x u e)
-    go (Some o) e = ap (λ s. unless_stale s (result_of x.id x.body (reads_of x.access (see x t)))) (same ∙ e) ∙ sym (ap (λ s. unless_stale s (result_of x.id x.body (reads_of x.access (see x u)))) e)
+    go : (s : Option Outcome) → stale_of x.access (see x u) ≡ s → one procs x t ≡ one procs x u
+    go None e = one_live procs x t (same ∙ e) ∙ ap (result_of procs x.id x.body) (reads_alike x.access t u (values e)) ∙ sym (one_live procs x u e)
+    go (Some o) e = ap (λ s. unless_stale s (result_of procs x.id x.body (reads_of x.access (see x t)))) (same ∙ e) ∙ sym (ap (λ s. unless_stale s (result_of procs x.id x.body (reads_of x.access (see x u)))) e)
 
 -- effects
 
@@ -118,40 +119,40 @@ change_of_result (Some o) result key (inl e) = absurd e
 change_of_result (Some o) result key (inr e) = absurd e
 
 -- only a live transaction changes a row, and it may write that row
-pub change_of_one : (x : Txn) (t : Table) (key : Bytes) → KeepsToKeys x → Changes (one x t).1 key → IsLive x t × MayWrite x key
-change_of_one x t key keeps c = let r : (stale_of x.access (see x t) ≡ None) × Changes (result_of x.id x.body (reads_of x.access (see x t))).1 key = change_of_result _ _ key c in (r.0, keeps _ key r.1)
+pub change_of_one : (procs : List ProcTree) (x : Txn) (t : Table) (key : Bytes) → KeepsToKeys procs x → Changes (one procs x t).1 key → IsLive x t × MayWrite x key
+change_of_one procs x t key keeps c = let r : (stale_of x.access (see x t) ≡ None) × Changes (result_of procs x.id x.body (reads_of x.access (see x t))).1 key = change_of_result _ _ key c in (r.0, keeps _ key r.1)
 
 -- moves
 
 -- the transaction is a move of this key, and it moves the key on this table
-pub record IsMoveOf (x : Txn) (t : Table) (key : Bytes) (m : Moved) : Type 0 where
+pub record IsMoveOf (procs : List ProcTree) (x : Txn) (t : Table) (key : Bytes) (m : Moved) : Type 0 where
   pub live : IsLive x t
   pub body : x.body ≡ Move key m.target
   pub by : x.id ≡ m.by
-  pub gave : (one x t).0 ≡ Gave []
-  pub changes : Changes (one x t).1 key
+  pub gave : (one procs x t).0 ≡ Gave []
+  pub changes : Changes (one procs x t).1 key
 
 of_finish_moved : (f : Finish) → (of_finish f).1.moved ≡ None
 of_finish_moved (finish.Gave values writes) = refl
 of_finish_moved (finish.Aborted cause) = refl
 
 -- what `IsMoveOf` says, of the parts of a transaction
-record IsMoveIn (id : TxnId) (body : Body) (s : Option Outcome) (reads : List (Bytes × Option Value)) (key : Bytes) (m : Moved) : Type 0 where
+record IsMoveIn (procs : List ProcTree) (id : TxnId) (body : Body) (s : Option Outcome) (reads : List (Bytes × Option Value)) (key : Bytes) (m : Moved) : Type 0 where
   live : s ≡ None
   is : body ≡ Move key m.target
   by : id ≡ m.by
-  gave : (unless_stale s (result_of id body reads)).0 ≡ Gave []
-  changes : Changes (unless_stale s (result_of id body reads)).1 key
+  gave : (unless_stale s (result_of procs id body reads)).0 ≡ Gave []
+  changes : Changes (unless_stale s (result_of procs id body reads)).1 key
 
-move_in : (id : TxnId) (body : Body) (s : Option Outcome) (reads : List (Bytes × Option Value)) (key : Bytes) (m : Moved) → moved_on (unless_stale s (result_of id body reads)).1.moved key ≡ m ∷ [] → IsMoveIn id body s reads key m
-move_in id body (Some o) reads key m e = cc
-move_in id (Call proc args) None reads key m e = let n : moved_on (of_finish (meaning proc args reads)).1.moved key ≡ [] = ap (λ o. moved_on o key) (of_finish_moved (meaning proc args reads)) in cc
-move_in id (Move k target) None reads key m e = go (cases_Bool (same_key key k))
+move_in : (procs : List ProcTree) (id : TxnId) (body : Body) (s : Option Outcome) (reads : List (Bytes × Option Value)) (key : Bytes) (m : Moved) → moved_on (unless_stale s (result_of procs id body reads)).1.moved key ≡ m ∷ [] → IsMoveIn procs id body s reads key m
+move_in procs id body (Some o) reads key m e = cc
+move_in procs id (Call proc args) None reads key m e = let n : moved_on (of_finish (meaning proc args reads)).1.moved key ≡ [] = ap (λ o. moved_on o key) (of_finish_moved (meaning proc args reads)) in cc
+move_in procs id (Move k target) None reads key m e = go (cases_Bool (same_key key k))
   where
     made : Moved
     made = record { target = target; by = id }
 
-    go : (same_key key k ≡ true) ⊎ (same_key key k ≡ false) → IsMoveIn id (Move k target) None reads key m
+    go : (same_key key k ≡ true) ⊎ (same_key key k ≡ false) → IsMoveIn procs id (Move k target) None reads key m
     go (inl y) =
         let is : key ≡ k = (bytes_decides key k).0 y in
         let list : made ∷ [] ≡ m ∷ [] = ap (λ b. cond b (made ∷ []) []) (sym y) ∙ e in
@@ -159,9 +160,9 @@ move_in id (Move k target) None reads key m e = go (cases_Bool (same_key key k))
         record { live = refl; is = ap₂ Move (sym is) (ap (λ x. x.target) head); by = ap (λ x. x.by) head; gave = refl; changes = inr (sym is) }
     go (inr n) = let list : [] ≡ m ∷ [] = ap (λ b. cond b (made ∷ []) []) (sym n) ∙ e in cc
 
-pub move_of_one : (x : Txn) (t : Table) (key : Bytes) (m : Moved) → moved_on (one x t).1.moved key ≡ m ∷ [] → IsMoveOf x t key m
-move_of_one x t key m e =
-    let r : IsMoveIn x.id x.body (stale_of x.access (see x t)) (reads_of x.access (see x t)) key m = move_in x.id x.body _ _ key m e in
+pub move_of_one : (procs : List ProcTree) (x : Txn) (t : Table) (key : Bytes) (m : Moved) → moved_on (one procs x t).1.moved key ≡ m ∷ [] → IsMoveOf procs x t key m
+move_of_one procs x t key m e =
+    let r : IsMoveIn procs x.id x.body (stale_of x.access (see x t)) (reads_of x.access (see x t)) key m = move_in procs x.id x.body _ _ key m e in
     record { live = r.live; body = r.is; by = r.by; gave = r.gave; changes = r.changes }
 
 pub moved_on_cases : (o : Option (Bytes × ℕ × TxnId)) (key : Bytes) → (moved_on o key ≡ []) ⊎ ((m : Moved) × (moved_on o key ≡ m ∷ []))

@@ -8,6 +8,7 @@ use Rattle.dt_access.specs.declared.TxnId.{TxnId}
 use Rattle.dt_access.specs.declared.Mode.TheVariants.{Write}
 use Rattle.dt_text.specs.declared.Value.{Value}
 use Rattle.dt_text.specs.declared.Value.TheVariants.{Int, Text}
+use Rattle.dt_proc.specs.Tree.{ProcTree}
 use Rattle.dt_eval.specs.Meaning.{Fits, keys_of, meaning}
 use Rattle.dt_txn.specs.declared.txn.Body.{Body}
 use Rattle.dt_txn.specs.declared.txn.Body.TheVariants.{Call, Move}
@@ -23,10 +24,10 @@ call_keeps zero (Text k ∷ Int n ∷ []) reads key fits (inl (inr e)) = absurd 
 call_keeps zero (Text k ∷ Int n ∷ []) reads key fits (inr e) = absurd e
 call_keeps proc args reads key fits changes = absurd fits
 
-body_keeps : (regions : ℕ) (id : TxnId) (body : Body) (reads : List (Bytes × Option Value)) (key : Bytes) → BodyFits regions body → Changes (result_of id body reads).1 key → AnyIn (λ u. (u.0 ≡ key) × (u.1 ≡ Write)) (uses_of body)
-body_keeps regions id (Call proc args) reads key fits changes = call_keeps proc args reads key fits.0 changes
-body_keeps regions id (Move k target) reads key fits (inl e) = absurd e
-body_keeps regions id (Move k target) reads key fits (inr e) = inl (e, refl)
+body_keeps : (procs : List ProcTree) (regions : ℕ) (id : TxnId) (body : Body) (reads : List (Bytes × Option Value)) (key : Bytes) → BodyFits procs regions body → Changes (result_of procs id body reads).1 key → AnyIn (λ u. (u.0 ≡ key) × (u.1 ≡ Write)) (uses_of procs body)
+body_keeps procs regions id (Call proc args) reads key fits changes = call_keeps proc args reads key fits.0 changes
+body_keeps procs regions id (Move k target) reads key fits (inl e) = absurd e
+body_keeps procs regions id (Move k target) reads key fits (inr e) = inl (e, refl)
 
-pub valid_keeps : (regions : ℕ) (x : Txn) → IsValid regions x → KeepsToKeys x
-valid_keeps regions x valid reads key changes = any_of_image (λ u. (u.0 ≡ key) × (u.1 ≡ Write)) (λ a. (a.key, a.mode)) x.access (subst (AnyIn (λ u. (u.0 ≡ key) × (u.1 ≡ Write))) (sym valid.uses) (body_keeps regions x.id x.body reads key valid.body changes))
+pub valid_keeps : (procs : List ProcTree) (regions : ℕ) (x : Txn) → IsValid procs regions x → KeepsToKeys procs x
+valid_keeps procs regions x valid reads key changes = any_of_image (λ u. (u.0 ≡ key) × (u.1 ≡ Write)) (λ a. (a.key, a.mode)) x.access (subst (AnyIn (λ u. (u.0 ≡ key) × (u.1 ≡ Write))) (sym valid.uses) (body_keeps procs regions x.id x.body reads key valid.body changes))

@@ -10,6 +10,7 @@ use Rattle.dt_access.specs.Clash.{Bytes, same_key, uses_clash}
 use Rattle.dt_access.specs.declared.TxnId.{TxnId}
 use Rattle.dt_access.specs.declared.Access.{Access}
 use Rattle.dt_access.specs.declared.Mode.TheVariants.{Write}
+use Rattle.dt_proc.specs.Tree.{ProcTree}
 use Rattle.dt_table.specs.Table.{Table, Moved, moves_of}
 use Rattle.dt_txn.specs.declared.txn.Body.TheVariants.{Move}
 use Rattle.dt_txn.specs.declared.txn.Txn.{Txn}
@@ -40,9 +41,9 @@ no_later : (t : TxnId) → t ≡ record { seq = 1; region = 0 } → ¬ ((t ≡ r
 no_later t e (inl f) = let s : ◌≡◌ {A = ℕ} 1 2 = ap (λ i. i.seq) (sym e ∙ f) in omega arith
 no_later t e (inr f) = let s : ◌≡◌ {A = ℕ} 0 1 = ap (λ i. i.region) (sym e ∙ f) in omega arith
 
-move_keeps : (key : Bytes) (id : TxnId) (target counter : ℕ) → KeepsToKeys (record { id = id; body = Move key target; access = use_of key counter ∷ [] })
-move_keeps key id target counter reads q (inl e) = absurd e
-move_keeps key id target counter reads q (inr e) = inl (e, refl)
+move_keeps : (procs : List ProcTree) (key : Bytes) (id : TxnId) (target counter : ℕ) → KeepsToKeys procs (record { id = id; body = Move key target; access = use_of key counter ∷ [] })
+move_keeps procs key id target counter reads q (inl e) = absurd e
+move_keeps procs key id target counter reads q (inr e) = inl (e, refl)
 
 mover_not_later : ◌≢◌ {A = TxnId} (record { seq = 1; region = 0 }) (record { seq = 2; region = 0 })
 mover_not_later e = let s : ◌≡◌ {A = ℕ} 1 2 = ap (λ i. i.seq) e in omega arith
@@ -85,40 +86,40 @@ pairs key = (
   ),
 )
 
-module _ (start : Table) (unmoved : (key : Bytes) → moves_of start key ≡ []) (key : Bytes) where
+module _ (procs : List ProcTree) (start : Table) (unmoved : (key : Bytes) → moves_of start key ≡ []) (key : Bytes) where
   made : Moved
   made = record { target = 1; by = record { seq = 1; region = 0 } }
 
   live : IsLive (mover key) start
   live = ap (λ l. stale_at (use_of key 0) (option_map (λ m. m.by) (slice_get l 0)) None) (unmoved key)
 
-  moved_once : moves_of (after (mover key) start) key ≡ made ∷ []
+  moved_once : moves_of (after procs (mover key) start) key ≡ made ∷ []
   unfolding made
   moved_once =
-      after_moves (mover key) start key
-      ∙ ap (λ e. moves_of start key ++ moved_on e.1.moved key) (one_live (mover key) start live)
+      after_moves procs (mover key) start key
+      ∙ ap (λ e. moves_of start key ++ moved_on e.1.moved key) (one_live procs (mover key) start live)
       ∙ ap (λ l. l ++ cond (same_key key key) (made ∷ []) []) (unmoved key)
       ∙ ap (λ b. cond b (made ∷ []) []) ((bytes_decides key key).1 refl)
 
-  first_move : (txns : List Txn) → FollowsMove First (moves_of (table_after txns (after (mover key) start)) key) 1 (later key).id
+  first_move : (txns : List Txn) → FollowsMove First (moves_of (table_after procs txns (after procs (mover key) start)) key) 1 (later key).id
   unfolding made
-  first_move txns = (made, get_front _ _ 0 made (moves_grow txns (after (mover key) start) key) (ap (λ l. slice_get l 0) moved_once), (refl, inl refl))
+  first_move txns = (made, get_front _ _ 0 made (moves_grow procs txns (after procs (mover key) start) key) (ap (λ l. slice_get l 0) moved_once), (refl, inl refl))
 
-  anchored_later : (txns : List Txn) → AllIn (λ a. FollowsMove First (moves_of (table_after txns (after (mover key) start)) a.key) a.counter (later key).id) (later key).access
+  anchored_later : (txns : List Txn) → AllIn (λ a. FollowsMove First (moves_of (table_after procs txns (after procs (mover key) start)) a.key) a.counter (later key).id) (later key).access
   anchored_later txns = (first_move txns, tt)
 
-  pub history : IsHistory First start (mover key ∷ later key ∷ stale key ∷ [])
+  pub history : IsHistory procs First start (mover key ∷ later key ∷ stale key ∷ [])
   history = record {
     transitive = λ u v t r s. absurd (no_later v s.0 r.1);
     unmoved = unmoved;
-    keys = (move_keeps key (mover key).id 1 0, (move_keeps key (later key).id 0 1, (move_keeps key (stale key).id 2 0, tt)));
+    keys = (move_keeps procs key (mover key).id 1 0, (move_keeps procs key (later key).id 0 1, (move_keeps procs key (stale key).id 2 0, tt)));
     down = later_first;
     anchored = ((tt, tt), (anchored_later (later key ∷ stale key ∷ []), ((tt, tt), tt)));
     shared = λ x y hx hy. all_get (CanBeShared x) (mover key ∷ later key ∷ stale key ∷ []) (all_get (λ z. AllIn (CanBeShared z) (mover key ∷ later key ∷ stale key ∷ [])) (mover key ∷ later key ∷ stale key ∷ []) (pairs key) x hx) y hy;
   }
 
   -- both orders of the last two are parts of it
-  pub either_way : IsPart First start (mover key ∷ later key ∷ stale key ∷ []) (mover key ∷ later key ∷ stale key ∷ []) × IsPart First start (mover key ∷ later key ∷ stale key ∷ []) (mover key ∷ stale key ∷ later key ∷ [])
+  pub either_way : IsPart procs First start (mover key ∷ later key ∷ stale key ∷ []) (mover key ∷ later key ∷ stale key ∷ []) × IsPart procs First start (mover key ∷ later key ∷ stale key ∷ []) (mover key ∷ stale key ∷ later key ∷ [])
   either_way = (
     record { fits = history; members = (inl refl, (inr (inl refl), (inr (inr (inl refl)), tt))); down = later_first },
     record { fits = history; members = (inl refl, (inr (inr (inl refl)), (inr (inl refl), tt))); down = stale_first },

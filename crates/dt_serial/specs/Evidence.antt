@@ -3,6 +3,7 @@ use Rattle.std.specs.Prelude.{◌≡◌, ℕ, List, [], ◌∷◌, ◌++◌, sli
 use Rattle.dt_lists.specs.Lists.{AnyIn, Has}
 use Rattle.dt_access.specs.Clash.{Bytes}
 use Rattle.dt_access.specs.declared.TxnId.{TxnId}
+use Rattle.dt_proc.specs.Tree.{ProcTree}
 use Rattle.dt_table.specs.Table.{Table, moves_of}
 use Rattle.dt_txn.specs.declared.txn.Body.TheVariants.{Move}
 use Rattle.dt_txn.specs.declared.txn.Txn.{Txn}
@@ -14,31 +15,31 @@ use Rattle.dt_serial.specs.Order.{IsLive}
 
 -- one of the transactions, `by`, is a move of the key and gave; in their last table it is the key's move that follows the
 -- first `had` ones
-pub record MadeMove (txns : List Txn) (start : Table) (key : Bytes) (had : ℕ) (by : TxnId) : Type 0 where
+pub record MadeMove (procs : List ProcTree) (txns : List Txn) (start : Table) (key : Bytes) (had : ℕ) (by : TxnId) : Type 0 where
   pub mover : Txn
   pub target : ℕ
   pub there : Has txns mover
   pub id : mover.id ≡ by
   pub body : mover.body ≡ Move key target
-  pub gave : Has (outcomes txns start) (by, Gave [])
-  pub number : slice_get (moves_of (table_after txns start) key) had ≡ Some (record { target = target; by = by })
+  pub gave : Has (outcomes procs txns start) (by, Gave [])
+  pub number : slice_get (moves_of (table_after procs txns start) key) had ≡ Some (record { target = target; by = by })
 
 -- what a transaction's procedure or move gives on a table
-abbrev pub own_outcome : Txn → Table → Outcome
-own_outcome x t = (result_of x.id x.body (reads_of x.access (see x t))).0
+abbrev pub own_outcome : List ProcTree → Txn → Table → Outcome
+own_outcome procs x t = (result_of procs x.id x.body (reads_of x.access (see x t))).0
 
 -- why a transaction that ran after those in front has its outcome, where it is not given values: its procedure aborts on
 -- the table that it saw, or one that ran before made the move that follows those that it was annotated with
-abbrev pub IsGrounded : (front whole : List Txn) → Table → Txn → Outcome → Type 0
-IsGrounded front whole start x (Gave values) = Unit {0}
-IsGrounded front whole start x (Aborted cause) = IsLive x (table_after front start) × (own_outcome x (table_after front start) ≡ Aborted cause)
-IsGrounded front whole start x (Stale key had by) = AnyIn (λ a. (a.key ≡ key) × (a.counter ≡ had)) x.access × MadeMove front start key had by × MadeMove whole start key had by
+abbrev pub IsGrounded : (procs : List ProcTree) (front whole : List Txn) → Table → Txn → Outcome → Type 0
+IsGrounded procs front whole start x (Gave values) = Unit {0}
+IsGrounded procs front whole start x (Aborted cause) = IsLive x (table_after procs front start) × (own_outcome procs x (table_after procs front start) ≡ Aborted cause)
+IsGrounded procs front whole start x (Stale key had by) = AnyIn (λ a. (a.key ≡ key) × (a.counter ≡ had)) x.access × MadeMove procs front start key had by × MadeMove procs whole start key had by
 
 -- the outcome is that of one of the transactions, and there is a reason for it
-pub record HasReason (txns : List Txn) (start : Table) (r : TxnId × Outcome) : Type 0 where
+pub record HasReason (procs : List ProcTree) (txns : List Txn) (start : Table) (r : TxnId × Outcome) : Type 0 where
   pub txn : Txn
   pub front : List Txn
   pub rest : List Txn
   pub is : txns ≡ front ++ txn ∷ rest
   pub id : txn.id ≡ r.0
-  pub reason : IsGrounded front txns start txn r.1
+  pub reason : IsGrounded procs front txns start txn r.1

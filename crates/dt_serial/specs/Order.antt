@@ -7,6 +7,7 @@ use Rattle.dt_access.specs.declared.Access.{Access}
 use Rattle.dt_access.specs.declared.Mode.{Mode}
 use Rattle.dt_access.specs.declared.Mode.TheVariants.{Write}
 use Rattle.dt_text.specs.declared.Value.{Value}
+use Rattle.dt_proc.specs.Tree.{ProcTree}
 use Rattle.dt_table.specs.declared.Effect.{Effect}
 use Rattle.dt_table.specs.Table.{Table, Moved, moves_of}
 use Rattle.dt_txn.specs.declared.txn.Txn.{Txn}
@@ -67,21 +68,21 @@ abbrev pub MayWrite : Txn → Bytes → Type 0
 MayWrite x key = AnyIn (λ a. (a.key ≡ key) × (a.mode ≡ Write)) x.access
 
 -- whatever it reads, the transaction changes only keys that it may write
-abbrev pub KeepsToKeys : Txn → Type 0
-KeepsToKeys x = (reads : List (Bytes × Option Value)) (key : Bytes) → Changes (result_of x.id x.body reads).1 key → MayWrite x key
+abbrev pub KeepsToKeys : List ProcTree → Txn → Type 0
+KeepsToKeys procs x = (reads : List (Bytes × Option Value)) (key : Bytes) → Changes (result_of procs x.id x.body reads).1 key → MayWrite x key
 
 -- the transactions ran one after another from a table without moves, and the order fits that run
-pub record IsHistory (order : TxnId → TxnId → Type 0) (start : Table) (txns : List Txn) : Type 0 where
+pub record IsHistory (procs : List ProcTree) (order : TxnId → TxnId → Type 0) (start : Table) (txns : List Txn) : Type 0 where
   pub transitive : (u v t : TxnId) → order u v → order v t → order u t
   pub unmoved : (key : Bytes) → moves_of start key ≡ []
-  pub keys : AllIn KeepsToKeys txns
+  pub keys : AllIn (KeepsToKeys procs) txns
   pub down : IsDown order (txn_ids txns)
-  pub anchored : IsAnchored order (table_after txns start) txns
+  pub anchored : IsAnchored order (table_after procs txns start) txns
   pub shared : IsShared order txns
 
 -- the transactions are some of those of a history, each after all that precedes it
-pub record IsPart (order : TxnId → TxnId → Type 0) (start : Table) (history txns : List Txn) : Type 0 where
-  pub fits : IsHistory order start history
+pub record IsPart (procs : List ProcTree) (order : TxnId → TxnId → Type 0) (start : Table) (history txns : List Txn) : Type 0 where
+  pub fits : IsHistory procs order start history
   pub members : AllIn (λ x. Has history x) txns
   pub down : IsDown order (txn_ids txns)
 

@@ -2,6 +2,7 @@ use Rattle.std.specs.Prelude.{Bool, List, [], ◌∷◌, if◌then◌else◌}
 use Rattle.std.specs.List.{list_any}
 use Rattle.dt_access.specs.Ids.{same_id}
 use Rattle.dt_access.specs.declared.TxnId.{TxnId}
+use Rattle.dt_proc.specs.Tree.{ProcTree}
 use Rattle.dt_table.specs.Table.{Table, apply}
 use Rattle.dt_txn.specs.declared.txn.Txn.{Txn}
 use Rattle.dt_txn.specs.Execution.{one}
@@ -12,6 +13,6 @@ abbrev pub is_among : List TxnId → TxnId → Bool
 is_among ids id = list_any (same_id id) ids
 
 -- the second table after the effects that the chosen ones of these transactions have when all run from the first table
-abbrev pub replay : (TxnId → Bool) → List Txn → Table → Table → Table
-replay chosen [] t replayed = replayed
-replay chosen (x ∷ txns) t replayed = replay chosen txns (after x t) (if chosen x.id then apply (one x t).1 replayed else replayed)
+abbrev pub replay : List ProcTree → (TxnId → Bool) → List Txn → Table → Table → Table
+replay procs chosen [] t replayed = replayed
+replay procs chosen (x ∷ txns) t replayed = replay procs chosen txns (after procs x t) (if chosen x.id then apply (one procs x t).1 replayed else replayed)

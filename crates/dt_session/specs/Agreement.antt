@@ -38,7 +38,7 @@ abbrev pub HasCause : Cluster → Workload → List Event → TxnId → Outcome 
 HasCause cluster workload events id (Gave values) = Unit {0}
 HasCause cluster workload events id (Aborted cause) =
     (txn : Txn) × (txn_of (world_after cluster workload events) id ≡ Some txn)
-    × ((result_of id txn.body (reads_of txn.access (see txn (table_before cluster workload events id)))).0 ≡ Aborted cause)
+    × ((result_of cluster.procs id txn.body (reads_of txn.access (see txn (table_before cluster workload events id)))).0 ≡ Aborted cause)
 HasCause cluster workload events id (Stale key had by) =
     (mover : Txn) × (target : ℕ) × (txn_of (world_after cluster workload events) by ≡ Some mover)
     × (mover.body ≡ Move key target)

@@ -27,8 +27,8 @@ sessions_at region [] = []
 sessions_at region (s ∷ sessions) = if s.region == region then with_session s (sessions_at region sessions) else sessions_at region sessions
 
 -- whether a session's first call has a key, or its target, at the session's region, before anything was moved
-abbrev pub is_home : ℕ → Table → Wanted → Bool
-is_home region t call = list_any (λ home. home == region) (homes_of (annotate (record { seq = 1; region = region }) (body_of call) t))
+abbrev pub is_home : Cluster → ℕ → Table → Wanted → Bool
+is_home cluster region t call = list_any (λ home. home == region) (homes_of (annotate cluster.procs (record { seq = 1; region = region }) (body_of call) t))
 
 -- a session with its first call, if it has one
 abbrev pub with_first_call : Session → List Wanted → List (Session × Wanted)
@@ -41,23 +41,23 @@ first_calls sessions = flat_map (λ s. with_first_call s s.calls) sessions
 
 -- one submission of each of these sessions, each followed at once by the region's own append where the region is a home;
 -- `placed` is the number of the next append
-abbrev pub first_events : ℕ → Table → List (Session × Wanted) → ℕ → List Event
-first_events region t [] placed = []
-first_events region t ((s, call) ∷ sessions) placed =
-    if is_home region t call
-    then Submit region s.name ∷ Append region region placed ∷ first_events region t sessions (placed + 1)
-    else Submit region s.name ∷ first_events region t sessions placed
+abbrev pub first_events : Cluster → ℕ → Table → List (Session × Wanted) → ℕ → List Event
+first_events cluster region t [] placed = []
+first_events cluster region t ((s, call) ∷ sessions) placed =
+    if is_home cluster region t call
+    then Submit region s.name ∷ Append region region placed ∷ first_events cluster region t sessions (placed + 1)
+    else Submit region s.name ∷ first_events cluster region t sessions placed
 
 -- each event changes the world
-abbrev pub AllChange : Workload → World → List Event → Type 0
-AllChange workload w [] = Unit {0}
-AllChange workload w (event ∷ events) = (next workload w event ≢ w) × AllChange workload (next workload w event) events
+abbrev pub AllChange : Cluster → Workload → World → List Event → Type 0
+AllChange cluster workload w [] = Unit {0}
+AllChange cluster workload w (event ∷ events) = (next cluster workload w event ≢ w) × AllChange cluster workload (next cluster workload w event) events
 
 -- nothing is done in vain, and every region begins by submitting the first call of each of its sessions
 pub record IsEager (cluster : Cluster) (workload : Workload) (events : List Event) : Type 0 where
-  pub changing : AllChange workload (opening_world cluster workload) events
+  pub changing : AllChange cluster workload (opening_world cluster workload) events
   pub begins : (region : ℕ) → region < cluster.regions →
-      IsFront (first_events region (opening_table cluster) (first_calls (sessions_at region workload.sessions)) 0) (filter (λ event. region_of event == region) events)
+      IsFront (first_events cluster region (opening_table cluster) (first_calls (sessions_at region workload.sessions)) 0) (filter (λ event. region_of event == region) events)
 
 -- every call of every session is answered
 abbrev pub AreAnswered : List Session → List Place → Type 0

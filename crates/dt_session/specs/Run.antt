@@ -15,18 +15,18 @@ use Rattle.dt_session.specs.World.{World, opening_world, opening_table, node_at,
 use Rattle.dt_session.specs.Step.{IsLegal, next}
 
 -- the world after events, from a world
-abbrev pub world_from : Workload → World → List Event → World
-world_from workload w [] = w
-world_from workload w (event ∷ events) = world_from workload (next workload w event) events
+abbrev pub world_from : Cluster → Workload → World → List Event → World
+world_from cluster workload w [] = w
+world_from cluster workload w (event ∷ events) = world_from cluster workload (next cluster workload w event) events
 
 -- the world after events, from the opening one
 abbrev pub world_after : Cluster → Workload → List Event → World
-world_after cluster workload events = world_from workload (opening_world cluster workload) events
+world_after cluster workload events = world_from cluster workload (opening_world cluster workload) events
 
 -- each event is legal in the world of those before it, from a world
 abbrev pub AreLegalFrom : Cluster → Workload → World → List Event → Type 0
 AreLegalFrom cluster workload w [] = Unit {0}
-AreLegalFrom cluster workload w (event ∷ events) = IsLegal cluster workload w event × AreLegalFrom cluster workload (next workload w event) events
+AreLegalFrom cluster workload w (event ∷ events) = IsLegal cluster workload w event × AreLegalFrom cluster workload (next cluster workload w event) events
 
 -- each event is legal in the world of those before it
 abbrev pub AreLegal : Cluster → Workload → List Event → Type 0
@@ -61,7 +61,7 @@ txns_of w ids = filter_map (txn_of w) ids
 -- the outcomes of running the serial order one by one on the opening table, each with its id
 abbrev pub serial_outcomes : Cluster → Workload → List Event → List (TxnId × Outcome)
 serial_outcomes cluster workload events =
-    outcomes (txns_of (world_after cluster workload events) (order_of events)) (opening_table cluster)
+    outcomes cluster.procs (txns_of (world_after cluster workload events) (order_of events)) (opening_table cluster)
 
 -- the outcome of an id in the serial order, if it was executed
 abbrev pub serial_outcome : Cluster → Workload → List Event → TxnId → Option Outcome
@@ -75,10 +75,10 @@ ids_before id (other ∷ ids) = if same_id id other then [] else other ∷ ids_b
 -- the table at the point of the serial order where an id runs
 abbrev pub table_before : Cluster → Workload → List Event → TxnId → Table
 table_before cluster workload events id =
-    table_after (txns_of (world_after cluster workload events) (ids_before id (order_of events))) (opening_table cluster)
+    table_after cluster.procs (txns_of (world_after cluster workload events) (ids_before id (order_of events))) (opening_table cluster)
 
 -- the table of a region: that of running what it executed, in the serial order, on the opening table
 abbrev pub region_table : Cluster → Workload → List Event → ℕ → Table
 region_table cluster workload events region =
     let w = world_after cluster workload events in
-    table_after (txns_of w (filter (is_among (done_ids (node_at w region).here)) (order_of events))) (opening_table cluster)
+    table_after cluster.procs (txns_of w (filter (is_among (done_ids (node_at w region).here)) (order_of events))) (opening_table cluster)

@@ -107,9 +107,9 @@ abbrev pub next_id : World → ℕ → TxnId
 next_id w region = record { seq = length (node_at w region).submitted + 1; region = region }
 
 -- what a session submits: its next call, annotated by its region's table
-abbrev pub submission_for : World → ℕ → Session → Place → Wanted → Submission
-submission_for w region session place call = record {
-  txn = annotate (next_id w region) (body_of call) (node_at w region).here.table;
+abbrev pub submission_for : Cluster → World → ℕ → Session → Place → Wanted → Submission
+submission_for cluster w region session place call = record {
+  txn = annotate cluster.procs (next_id w region) (body_of call) (node_at w region).here.table;
   session = session.name;
   call = place.answered + 1;
   attempt = next_attempt w place.waits;
@@ -130,13 +130,13 @@ world_submitted workload w region session place s = record {
 }
 
 -- the world after a session submits its next call, if there are a session and a call
-abbrev pub called : Workload → World → ℕ → Session → Place → Option Wanted → World
-called workload w region session place None = w
-called workload w region session place (Some call) = world_submitted workload w region session place (submission_for w region session place call)
+abbrev pub called : Cluster → Workload → World → ℕ → Session → Place → Option Wanted → World
+called cluster workload w region session place None = w
+called cluster workload w region session place (Some call) = world_submitted workload w region session place (submission_for cluster w region session place call)
 
-abbrev pub submitted : Workload → World → ℕ → Option (Session × Place) → World
-submitted workload w region None = w
-submitted workload w region (Some (session, place)) = called workload w region session place (slice_get session.calls place.answered)
+abbrev pub submitted : Cluster → Workload → World → ℕ → Option (Session × Place) → World
+submitted cluster workload w region None = w
+submitted cluster workload w region (Some (session, place)) = called cluster workload w region session place (slice_get session.calls place.answered)
 
 -- the world after a home placed a transaction's part at the end of its log, as the source's next request
 abbrev pub placed : World → ℕ → ℕ → Option Txn → World
@@ -151,8 +151,8 @@ abbrev pub received : World → ℕ → ℕ → ℕ → World
 received w region home last = with_node w region (record (node_at w region) { received = set (node_at w region).received home last })
 
 -- the world after a step that a region makes by itself
-abbrev pub moved_on : World → ℕ → Event → World
-moved_on w region event = with_node w region (record (node_at w region) { here = stepped (txn_of w) (node_at w region).here event })
+abbrev pub moved_on : Cluster → World → ℕ → Event → World
+moved_on cluster w region event = with_node w region (record (node_at w region) { here = stepped cluster.procs (txn_of w) (node_at w region).here event })
 
 -- the world after a session is answered: it waits for nothing, before its next call
 abbrev pub answered : Workload → World → ℕ → Option (Session × Place) → World
@@ -162,19 +162,19 @@ answered workload w region (Some (session, place)) = record w {
 }
 
 -- the world after an event
-abbrev pub next : Workload → World → Event → World
-next workload w (Submit region session) = submitted workload w region (session_at workload.sessions w.places region session)
+abbrev pub next : Cluster → Workload → World → Event → World
+next cluster workload w (Submit region session) = submitted cluster workload w region (session_at workload.sessions w.places region session)
 -- a request is placed once, in its turn
-next workload w (Append home source number) =
+next cluster workload w (Append home source number) =
     if number == taken_from w home source
     then placed w home source (option_and_then (txn_of w) (slice_get (asked_of w source home) number))
     else w
 -- only a delivery that joins what was received and goes past it changes anything
-next workload w (Deliver region home first last) =
+next cluster workload w (Deliver region home first last) =
     if nat_le first (received_of w region home) && nat_lt (received_of w region home) last
     then received w region home last
     else w
-next workload w (Insert region home) = moved_on w region (Insert region home)
-next workload w (Resolve region ids) = moved_on w region (Resolve region ids)
-next workload w (Execute region id) = moved_on w region (Execute region id)
-next workload w (Answer region session) = answered workload w region (session_at workload.sessions w.places region session)
+next cluster workload w (Insert region home) = moved_on cluster w region (Insert region home)
+next cluster workload w (Resolve region ids) = moved_on cluster w region (Resolve region ids)
+next cluster workload w (Execute region id) = moved_on cluster w region (Execute region id)
+next cluster workload w (Answer region session) = answered workload w region (session_at workload.sessions w.places region session)

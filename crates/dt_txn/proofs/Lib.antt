@@ -1,3 +1,4 @@
+pub mod Formed
 pub mod HomeSets
 pub mod PartKeys
 pub mod Sight

@@ -4,6 +4,7 @@ use Rattle.std.specs.Prelude.{slice_get, option_map, Option}
 use Rattle.dt_access.specs.declared.Access.{Access}
 use Rattle.dt_access.specs.declared.Mode.{Mode}
 use Rattle.dt_text.specs.declared.Value.{Value}
+use Rattle.dt_proc.specs.Tree.{ProcTree}
 use Rattle.dt_txn.specs.declared.txn.Body.{Body}
 use Rattle.dt_txn.specs.declared.outcome.Seen.{Seen}
 use Rattle.dt_txn.specs.Transaction.{used_of, uses_of}
@@ -26,6 +27,6 @@ reads_keys (a ∷ access) [] e = absurd (omega arith)
 reads_keys (a ∷ access) (s ∷ seen) e = ap (λ (keys : List Bytes). a.key ∷ keys) (reads_keys access seen (omega arith))
 
 -- what a transaction reads are the rows that its body uses
-pub reads_are_uses : (body : Body) (access entries : List Access) (seen items : List Seen) (reads : List (Bytes × Option Value)) → reads ≡ reads_of entries items → entries ≡ access → items ≡ seen → length seen ≡ length access → map used_of access ≡ uses_of body → map (λ r. r.0) reads ≡ map (λ u. u.0) (uses_of body)
-reads_are_uses body access entries seen items reads r e s long uses =
+pub reads_are_uses : (procs : List ProcTree) (body : Body) (access entries : List Access) (seen items : List Seen) (reads : List (Bytes × Option Value)) → reads ≡ reads_of entries items → entries ≡ access → items ≡ seen → length seen ≡ length access → map used_of access ≡ uses_of procs body → map (λ r. r.0) reads ≡ map (λ u. u.0) (uses_of procs body)
+reads_are_uses procs body access entries seen items reads r e s long uses =
     rw (r, e, s) (reads_keys access seen long ∙ ap (λ (us : List (Bytes × Mode)). map (λ u. u.0) us) uses)
