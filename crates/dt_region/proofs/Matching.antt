@@ -16,6 +16,7 @@ use Rattle.dt_log.specs.declared.Taken.TheVariants.{New, Old, Gap}
 use Rattle.dt_events.specs.declared.Event.TheVariants.{Insert, Resolve, Execute}
 use Rattle.dt_sched.specs.Views.{View, log_at}
 use Rattle.dt_sched.specs.Sched.{Sched, CanInsert, CanExecute, CanResolve, with_part, nothing_yet, after_insert, after_resolve, after_finish}
+use Rattle.dt_proc.specs.Tree.{ProcTree}
 use Rattle.dt_table.specs.Table.{Table, apply}
 use Rattle.dt_table.specs.declared.Effect.{Effect}
 use Rattle.dt_txn.specs.declared.txn.Body.{Body}
@@ -53,26 +54,26 @@ opening_made number regions table seen submitted foreign asked taken logs insert
     (subst (λ x. AreWell x seen) (sym same) (opening_well number regions table seen below few fits e), same)
 
 -- submissions
-pub submit_made : (k : Kept) (s : State) → record { state = s } ≡ k → (seen : Sched) → AreWell s seen → (body : Body) → BodyFits k.state.regions body →
-    (submitted : List Txn) (asked : List (List TxnId)) (txn : Txn) (id : TxnId) (homes : List ℕ) → id ≡ next_id s → txn ≡ annotate id body s.here.table → homes ≡ homes_of txn → submitted ≡ s.submitted ++ txn ∷ [] → asked ≡ ask_of homes id s.asked →
+pub submit_made : (procs : List ProcTree) (k : Kept) (s : State) → record { state = s } ≡ k → (seen : Sched) → AreWell s seen → (body : Body) → BodyFits procs k.state.regions body →
+    (submitted : List Txn) (asked : List (List TxnId)) (txn : Txn) (id : TxnId) (homes : List ℕ) → id ≡ next_id s → txn ≡ annotate procs id body s.here.table → homes ≡ homes_of txn → submitted ≡ s.submitted ++ txn ∷ [] → asked ≡ ask_of homes id s.asked →
     AreWell (state_of s.number s.regions submitted s.foreign asked s.taken s.logs s.here.inserted s.here.resolved s.here.done s.here.table) seen
-    × (state_of s.number s.regions submitted s.foreign asked s.taken s.logs s.here.inserted s.here.resolved s.here.done s.here.table ≡ after_submit k.state body)
+    × (state_of s.number s.regions submitted s.foreign asked s.taken s.logs s.here.inserted s.here.resolved s.here.done s.here.table ≡ after_submit procs k.state body)
     × (id ≡ next_id k.state)
-submit_made k s view seen well body fits submitted asked txn id homes i t h sub ask =
-    let fits_here : BodyFits s.regions body = subst (λ x. BodyFits x.state.regions body) (sym view) fits in
-    let new : txn ≡ submission_for s body = t ∙ ap (λ j. annotate j body s.here.table) i in
-    let same : state_of s.number s.regions submitted s.foreign asked s.taken s.logs s.here.inserted s.here.resolved s.here.done s.here.table ≡ after_submit s body =
+submit_made procs k s view seen well body fits submitted asked txn id homes i t h sub ask =
+    let fits_here : BodyFits procs s.regions body = subst (λ x. BodyFits procs x.state.regions body) (sym view) fits in
+    let new : txn ≡ submission_for procs s body = t ∙ ap (λ j. annotate procs j body s.here.table) i in
+    let same : state_of s.number s.regions submitted s.foreign asked s.taken s.logs s.here.inserted s.here.resolved s.here.done s.here.table ≡ after_submit procs s body =
     ap₂ (λ b a. state_of s.number s.regions b s.foreign a s.taken s.logs s.here.inserted s.here.resolved s.here.done s.here.table)
     (sub ∙ ap (λ x. s.submitted ++ x ∷ []) new) (ask ∙ (λ j. ask_of (h j) (i j) s.asked) ∙ ap (λ x. ask_of (homes_of x) (next_id s) s.asked) new) in
-    (subst (λ x. AreWell x seen) (sym same) (submit_sound s well.0 body fits_here, well.1), same ∙ ap (λ x. after_submit x.state body) view, i ∙ ap (λ x. next_id x.state) view)
+    (subst (λ x. AreWell x seen) (sym same) (submit_sound procs s well.0 body fits_here, well.1), same ∙ ap (λ x. after_submit procs x.state body) view, i ∙ ap (λ x. next_id x.state) view)
 
 -- the homes that are asked have lists
-pub submit_homes : (k : Kept) (s : State) → record { state = s } ≡ k → IsSoundRegion s → (body : Body) → BodyFits k.state.regions body →
-    (id : TxnId) (txn : Txn) (homes : List ℕ) (n : ℕ) → txn ≡ annotate id body s.here.table → homes ≡ homes_of txn → n ≡ length s.asked → AllIn (λ home. home < n) homes
-submit_homes k s view sound body fits id txn homes n t h l =
-    let fits_here : BodyFits s.regions body = subst (λ x. BodyFits x.state.regions body) (sym view) fits in
+pub submit_homes : (procs : List ProcTree) (k : Kept) (s : State) → record { state = s } ≡ k → IsSoundRegion s → (body : Body) → BodyFits procs k.state.regions body →
+    (id : TxnId) (txn : Txn) (homes : List ℕ) (n : ℕ) → txn ≡ annotate procs id body s.here.table → homes ≡ homes_of txn → n ≡ length s.asked → AllIn (λ home. home < n) homes
+submit_homes procs k s view sound body fits id txn homes n t h l =
+    let fits_here : BodyFits procs s.regions body = subst (λ x. BodyFits procs x.state.regions body) (sym view) fits in
     let below = sound.number in
-    let valid : IsValid s.regions (annotate id body s.here.table) = annotate_valid s.regions id body s.here.table (omega (arith, below)) sound.table fits_here in
+    let valid : IsValid procs s.regions (annotate procs id body s.here.table) = annotate_valid procs s.regions id body s.here.table (omega (arith, below)) sound.table fits_here in
     subst (λ m. AllIn (λ home. home < m) homes) (sym (l ∙ sound.asked)) (subst (AllIn (λ home. home < s.regions)) (sym (h ∙ ap homes_of t)) valid.homes)
 
 -- appends
@@ -215,34 +216,34 @@ insert_count k s view sound home part next =
     omega (arith, a, b, c) in
     subst (λ x. slice_index x.state.here.inserted home + 1 < 2 ^ 32) view here
 
-pub insert_made : (k : Kept) (s : State) → record { state = s } ≡ k → (seen : Sched) → AreWell s seen → (home : ℕ) → home < k.state.regions →
+pub insert_made : (procs : List ProcTree) (k : Kept) (s : State) → record { state = s } ≡ k → (seen : Sched) → AreWell s seen → (home : ℕ) → home < k.state.regions →
     (part copy : Part) → slice_get (log_at k.state.logs home) (slice_index k.state.here.inserted home) ≡ Some part → copy ≡ part →
     (place : ℕ) (now : Sched) → place ≡ slice_index k.state.here.inserted home → now ≡ after_insert seen copy →
     AreWell (state_of s.number s.regions s.submitted s.foreign s.asked s.taken s.logs (set s.here.inserted home (place + 1)) now.resolved s.here.done s.here.table) now
     × MayMake k.state (Insert k.state.number home)
-    × (state_of s.number s.regions s.submitted s.foreign s.asked s.taken s.logs (set s.here.inserted home (place + 1)) now.resolved s.here.done s.here.table ≡ after_step k.state (Insert k.state.number home))
-insert_made k s view seen well home known part copy next same place now at made =
+    × (state_of s.number s.regions s.submitted s.foreign s.asked s.taken s.logs (set s.here.inserted home (place + 1)) now.resolved s.here.done s.here.table ≡ after_step procs k.state (Insert k.state.number home))
+insert_made procs k s view seen well home known part copy next same place now at made =
     let known_here : home < s.regions = subst (λ x. home < x.state.regions) (sym view) known in
     let next_here : slice_get (log_at s.logs home) (slice_index s.here.inserted home) ≡ Some part = subst (λ x. slice_get (log_at x.state.logs home) (slice_index x.state.here.inserted home) ≡ Some part) (sym view) next in
     let at_here : place ≡ slice_index s.here.inserted home = subst (λ x. place ≡ slice_index x.state.here.inserted home) (sym view) at in
     let made_here : now ≡ after_insert (sched_of s.logs s.here) part = made ∙ ap₂ after_insert well.1 same in
-    let is : state_of s.number s.regions s.submitted s.foreign s.asked s.taken s.logs (set s.here.inserted home (place + 1)) now.resolved s.here.done s.here.table ≡ after_step s (Insert s.number home) =
+    let is : state_of s.number s.regions s.submitted s.foreign s.asked s.taken s.logs (set s.here.inserted home (place + 1)) now.resolved s.here.done s.here.table ≡ after_step procs s (Insert s.number home) =
     λ j. state_of s.number s.regions s.submitted s.foreign s.asked s.taken s.logs (set s.here.inserted home (at_here j + 1)) (made_here j).resolved s.here.done s.here.table in
     let may : MayMake s (Insert s.number home) = slice_get_within (log_at s.logs home) (slice_index s.here.inserted home) part next_here in
-    (subst (λ x. AreWell x now) (sym is) (insert_well s well.0 home part known_here next_here now made_here), subst (λ x. MayMake x.state (Insert x.state.number home)) view may, is ∙ ap (λ x. after_step x.state (Insert x.state.number home)) view)
+    (subst (λ x. AreWell x now) (sym is) (insert_well s well.0 home part known_here next_here now made_here), subst (λ x. MayMake x.state (Insert x.state.number home)) view may, is ∙ ap (λ x. after_step procs x.state (Insert x.state.number home)) view)
 
 -- resolutions
 
-pub resolve_made : (k : Kept) (s : State) → record { state = s } ≡ k → (seen : Sched) → AreWell s seen → (ids : List TxnId) → CanResolve seen ids → (now : Sched) → now ≡ after_resolve seen ids →
+pub resolve_made : (procs : List ProcTree) (k : Kept) (s : State) → record { state = s } ≡ k → (seen : Sched) → AreWell s seen → (ids : List TxnId) → CanResolve seen ids → (now : Sched) → now ≡ after_resolve seen ids →
     AreWell (state_of s.number s.regions s.submitted s.foreign s.asked s.taken s.logs s.here.inserted now.resolved s.here.done s.here.table) now
     × MayMake k.state (Resolve k.state.number ids)
-    × (state_of s.number s.regions s.submitted s.foreign s.asked s.taken s.logs s.here.inserted now.resolved s.here.done s.here.table ≡ after_step k.state (Resolve k.state.number ids))
-resolve_made k s view seen well ids can now made =
+    × (state_of s.number s.regions s.submitted s.foreign s.asked s.taken s.logs s.here.inserted now.resolved s.here.done s.here.table ≡ after_step procs k.state (Resolve k.state.number ids))
+resolve_made procs k s view seen well ids can now made =
     let made_here : now ≡ after_resolve (sched_of s.logs s.here) ids = made ∙ ap (λ x. after_resolve x ids) well.1 in
-    let is : state_of s.number s.regions s.submitted s.foreign s.asked s.taken s.logs s.here.inserted now.resolved s.here.done s.here.table ≡ after_step s (Resolve s.number ids) =
+    let is : state_of s.number s.regions s.submitted s.foreign s.asked s.taken s.logs s.here.inserted now.resolved s.here.done s.here.table ≡ after_step procs s (Resolve s.number ids) =
     λ j. state_of s.number s.regions s.submitted s.foreign s.asked s.taken s.logs s.here.inserted (made_here j).resolved s.here.done s.here.table in
     let may : MayMake s (Resolve s.number ids) = subst (λ x. CanResolve x ids) well.1 can in
-    (subst (λ x. AreWell x now) (sym is) (resolve_well s well.0 ids now made_here), subst (λ x. MayMake x.state (Resolve x.state.number ids)) view may, is ∙ ap (λ x. after_step x.state (Resolve x.state.number ids)) view)
+    (subst (λ x. AreWell x now) (sym is) (resolve_well s well.0 ids now made_here), subst (λ x. MayMake x.state (Resolve x.state.number ids)) view may, is ∙ ap (λ x. after_step procs x.state (Resolve x.state.number ids)) view)
 
 -- executions
 
@@ -254,17 +255,17 @@ execute_held k s view seen well id can =
 pub execute_valid : (procs : List ProcTree) (k : Kept) → HoldsValid procs k.state → (id : TxnId) (txn : Txn) → held k.state id ≡ Some txn → IsValid procs k.state.regions txn
 execute_valid procs k holds id txn e = held_valid procs k.state holds id txn e
 
-pub execute_made : (k : Kept) (s : State) → record { state = s } ≡ k → (seen : Sched) → AreWell s seen → HoldsValid procs k.state → (id : TxnId) → CanExecute seen id → (txn : Txn) → held k.state id ≡ Some txn →
-    (now : Sched) (done : List (TxnId × Outcome)) (table : Table) (outcome : Outcome) (effect : Effect) → (outcome, effect) ≡ one txn s.here.table → now ≡ after_finish seen id → done ≡ s.here.done ++ (id, outcome) ∷ [] → table ≡ apply effect s.here.table →
+pub execute_made : (procs : List ProcTree) (k : Kept) (s : State) → record { state = s } ≡ k → (seen : Sched) → AreWell s seen → HoldsValid procs k.state → (id : TxnId) → CanExecute seen id → (txn : Txn) → held k.state id ≡ Some txn →
+    (now : Sched) (done : List (TxnId × Outcome)) (table : Table) (outcome : Outcome) (effect : Effect) → (outcome, effect) ≡ one procs txn s.here.table → now ≡ after_finish seen id → done ≡ s.here.done ++ (id, outcome) ∷ [] → table ≡ apply effect s.here.table →
     AreWell (state_of s.number s.regions s.submitted s.foreign s.asked s.taken s.logs s.here.inserted now.resolved done table) now
     × MayMake k.state (Execute k.state.number id)
-    × (state_of s.number s.regions s.submitted s.foreign s.asked s.taken s.logs s.here.inserted now.resolved done table ≡ after_step k.state (Execute k.state.number id))
-execute_made k s view seen well holds id can txn e now done table outcome effect run made noted applied =
+    × (state_of s.number s.regions s.submitted s.foreign s.asked s.taken s.logs s.here.inserted now.resolved done table ≡ after_step procs k.state (Execute k.state.number id))
+execute_made procs k s view seen well holds id can txn e now done table outcome effect run made noted applied =
     let here : held s id ≡ Some txn = subst (λ x. held x.state id ≡ Some txn) (sym view) e in
     let made_here : now ≡ after_finish (sched_of s.logs s.here) id = made ∙ ap (λ x. after_finish x id) well.1 in
-    let is : state_of s.number s.regions s.submitted s.foreign s.asked s.taken s.logs s.here.inserted now.resolved done table ≡ record s { here = executed s.here (Some txn) } =
+    let is : state_of s.number s.regions s.submitted s.foreign s.asked s.taken s.logs s.here.inserted now.resolved done table ≡ record s { here = executed procs s.here (Some txn) } =
     λ j. state_of s.number s.regions s.submitted s.foreign s.asked s.taken s.logs s.here.inserted (made_here j).resolved
     ((noted ∙ (λ i. s.here.done ++ (sym (held_id s id txn here) i, (run i).0) ∷ [])) j) ((applied ∙ ap (λ r. apply r.1 s.here.table) run) j) in
-    let step : record s { here = executed s.here (Some txn) } ≡ after_step s (Execute s.number id) = ap (λ o. record s { here = executed s.here o }) (sym here) in
+    let step : record s { here = executed procs s.here (Some txn) } ≡ after_step procs s (Execute s.number id) = ap (λ o. record s { here = executed procs s.here o }) (sym here) in
     let may : MayMake s (Execute s.number id) = subst (λ x. CanExecute x id) well.1 can in
-    (subst (λ x. AreWell x now) (sym is) (execute_well s well.0 (subst (λ x. HoldsValid procs x.state) (sym view) holds) id txn now here made_here), subst (λ x. MayMake x.state (Execute x.state.number id)) view may, is ∙ step ∙ ap (λ x. after_step x.state (Execute x.state.number id)) view)
+    (subst (λ x. AreWell x now) (sym is) (execute_well procs s well.0 (subst (λ x. HoldsValid procs x.state) (sym view) holds) id txn now here made_here), subst (λ x. MayMake x.state (Execute x.state.number id)) view may, is ∙ step ∙ ap (λ x. after_step procs x.state (Execute x.state.number id)) view)

@@ -7,6 +7,7 @@ use Rattle.dt_access.specs.declared.Access.{Access}
 use Rattle.dt_access.specs.declared.Mode.{Mode}
 use Rattle.dt_access.specs.declared.TxnId.{TxnId}
 use Rattle.dt_text.specs.declared.Value.{Value}
+use Rattle.dt_proc.specs.Tree.{ProcTree}
 use Rattle.dt_eval.specs.Meaning.{meaning}
 use Rattle.dt_eval.specs.declared.Finish.{Finish}
 use Rattle.dt_eval.specs.declared.finish.Finish.TheVariants as finish
@@ -33,19 +34,19 @@ finish_moves : (regions : ℕ) (f : Finish) → MovesWithin regions (of_finish f
 finish_moves regions (finish.Gave values writes) = tt
 finish_moves regions (finish.Aborted cause) = tt
 
-result_moves : (regions : ℕ) (id : TxnId) (body : Body) (reads : List (Bytes × Option Value)) → BodyFits regions body → MovesWithin regions (result_of id body reads).1.moved
-result_moves regions id (Call proc args) reads fits = finish_moves regions (meaning proc args reads)
-result_moves regions id (Move key target) reads fits = fits
+result_moves : (procs : List ProcTree) (regions : ℕ) (id : TxnId) (body : Body) (reads : List (Bytes × Option Value)) → BodyFits procs regions body → MovesWithin regions (result_of procs id body reads).1.moved
+result_moves procs regions id (Call proc args) reads fits = finish_moves regions (meaning proc args reads)
+result_moves procs regions id (Move key target) reads fits = fits
 
 unless_moves : (regions : ℕ) (stale : Option Outcome) (r : Outcome × Effect) → MovesWithin regions r.1.moved → MovesWithin regions (unless_stale stale r).1.moved
 unless_moves regions None r within = within
 unless_moves regions (Some o) r within = tt
 
 -- a valid transaction moves to a region, if it moves at all
-one_moves : (regions : ℕ) (txn : Txn) (t : Table) → IsValid regions txn → MovesWithin regions (one txn t).1.moved
-one_moves regions txn t valid =
-    unless_moves regions (stale_of txn.access (see txn t)) (result_of txn.id txn.body (reads_of txn.access (see txn t)))
-    (result_moves regions txn.id txn.body (reads_of txn.access (see txn t)) valid.body)
+one_moves : (procs : List ProcTree) (regions : ℕ) (txn : Txn) (t : Table) → IsValid procs regions txn → MovesWithin regions (one procs txn t).1.moved
+one_moves procs regions txn t valid =
+    unless_moves regions (stale_of txn.access (see txn t)) (result_of procs txn.id txn.body (reads_of txn.access (see txn t)))
+    (result_moves procs regions txn.id txn.body (reads_of txn.access (see txn t)) valid.body)
 
 move_within : (regions : ℕ) (q : Bytes) (move : Option (Bytes × ℕ × TxnId)) → MovesWithin regions move → AllIn (λ m. m.target < regions) (move_at q move)
 move_within regions q None within = tt
@@ -58,8 +59,8 @@ apply_table regions e t fits within = record {
   moves = λ key. subst (AllIn (λ (m : Moved). m.target < regions)) (sym (moves_of-apply e t key)) (all_append _ (moves_of t key) (move_at key e.moved) (fits.moves key) (move_within regions key e.moved within));
 }
 
-pub after_table : (regions : ℕ) (txn : Txn) (t : Table) → IsTableFor regions t → IsValid regions txn → IsTableFor regions (after txn t)
-after_table regions txn t fits valid = apply_table regions (one txn t).1 t fits (one_moves regions txn t valid)
+pub after_table : (procs : List ProcTree) (regions : ℕ) (txn : Txn) (t : Table) → IsTableFor regions t → IsValid procs regions txn → IsTableFor regions (after procs txn t)
+after_table procs regions txn t fits valid = apply_table regions (one procs txn t).1 t fits (one_moves procs regions txn t valid)
 
 -- the homes of all keys are regions
 pub home_within : (regions : ℕ) (t : Table) → 0 < regions → IsTableFor regions t → (key : Bytes) → home_of t key < regions
@@ -74,18 +75,18 @@ access_within : (regions : ℕ) (t : Table) (uses : List (Bytes × Mode)) → ((
 access_within regions t [] below = tt
 access_within regions t (u ∷ uses) below = (below u.0, access_within regions t uses below)
 
-targets_within : (regions : ℕ) (body : Body) → BodyFits regions body → AllIn (λ home. home < regions) (targets_of body)
-targets_within regions (Call proc args) fits = tt
-targets_within regions (Move key target) fits = (fits, tt)
+targets_within : (procs : List ProcTree) (regions : ℕ) (body : Body) → BodyFits procs regions body → AllIn (λ home. home < regions) (targets_of body)
+targets_within procs regions (Call proc args) fits = tt
+targets_within procs regions (Move key target) fits = (fits, tt)
 
 set_within : (regions : ℕ) (ns : List ℕ) → AllIn (λ n. n < regions) ns → AllIn (λ n. n < regions) (set_of ns)
 set_within regions [] all = tt
 set_within regions (n ∷ ns) all = with_number_all (λ m. m < regions) n (set_of ns) all.0 (set_within regions ns all.1)
 
-pub annotate_valid : (regions : ℕ) (id : TxnId) (body : Body) (t : Table) → 0 < regions → IsTableFor regions t → BodyFits regions body → IsValid regions (annotate id body t)
-annotate_valid regions id body t some fits can = record {
+pub annotate_valid : (procs : List ProcTree) (regions : ℕ) (id : TxnId) (body : Body) (t : Table) → 0 < regions → IsTableFor regions t → BodyFits procs regions body → IsValid procs regions (annotate procs id body t)
+annotate_valid procs regions id body t some fits can = record {
   body = can;
-  uses = annotated_uses t (uses_of body);
-  homes = set_within regions (map (λ (a : Access). a.home) (map (annotated t) (uses_of body)) ++ targets_of body)
-      (all_append _ (map (λ (a : Access). a.home) (map (annotated t) (uses_of body))) (targets_of body) (access_within regions t (uses_of body) (home_within regions t some fits)) (targets_within regions body can));
+  uses = annotated_uses t (uses_of procs body);
+  homes = set_within regions (map (λ (a : Access). a.home) (map (annotated t) (uses_of procs body)) ++ targets_of body)
+      (all_append _ (map (λ (a : Access). a.home) (map (annotated t) (uses_of procs body))) (targets_of body) (access_within regions t (uses_of procs body) (home_within regions t some fits)) (targets_within procs regions body can));
 }
