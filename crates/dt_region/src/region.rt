@@ -8,7 +8,7 @@ ghost use Rattle.dt_txn.specs.Execution.{one};
 ghost use Rattle.dt_txn.specs.Transaction.{BodyFits};
 ghost use Rattle.dt_region.specs.State.{held, outcome_of, sched_of};
 ghost use Rattle.dt_region.specs.Rules.{opening_state, next_id, after_submit, Appends, Delivers, Steps};
-ghost use Rattle.dt_region.specs.Conditions.{IsTableFor, CanAppend, CanDeliver};
+ghost use Rattle.dt_region.specs.Conditions.{IsTableFor, CanAppend, CanDeliver, HoldsValid};
 ghost use Rattle.dt_region.specs.Sound.{IsSoundRegion};
 
 use crate::ascent::are_ascending;
@@ -19,6 +19,7 @@ use crate::foreign::Foreign;
 use crate::opening::{no_counts, no_ids, no_parts};
 use dt_access::{Ids, TxnId};
 use dt_log::{Log, Taken};
+use dt_proc::Procs;
 use dt_sched::Scheduler;
 use dt_table::{Effect, Table};
 use dt_text::NoMemory;
@@ -162,10 +163,15 @@ impl<S: Scheduler> Region<S> {
 
     /// Submits a body: it becomes the transaction of the region's next id, annotated by the region's table, and each of
     /// its homes is asked for its part. Gives the id. After `NoMemory` the region is as before.
-    pub fn submit(&mut self, alloc: Global, body: Body) -> Result<TxnId, NoMemory>
-        requires fits { BodyFits self.old.state.regions body }
+    pub fn submit(
+        &mut self,
+        alloc: Global,
+        body: Body,
+        procs: &Procs,
+    ) -> Result<TxnId, NoMemory>
+        requires fits { BodyFits procs.now self.old.state.regions body }
         requires place { length self.old.state.submitted < 4294967295 }
-        ensures state { OnOk result (self.new.state ≡ after_submit self.old.state body) }
+        ensures state { OnOk result (self.new.state ≡ after_submit procs.now self.old.state body) }
         ensures id { IfOk result (λ id. id ≡ next_id self.old.state) }
         ensures err { OnErr result (self.new.state ≡ self.old.state) }
         ensures sound { IsSoundRegion self.new.state }
@@ -174,7 +180,7 @@ impl<S: Scheduler> Region<S> {
             seq: self.submitted.len() as u32 + 1,
             region: self.number,
         };
-        let txn = annotate(alloc, id, body, &self.table)?;
+        let txn = annotate(alloc, id, body, procs, &self.table)?;
         let homes = homes(alloc, &txn)?;
         self.submitted.reserve(1)?;
         ask(alloc, &mut self.asked, homes.as_slice(), id)?;
@@ -238,7 +244,7 @@ impl<S: Scheduler> Region<S> {
     /// inserted; then nothing changes, and neither does after `NoMemory`.
     pub fn insert(&mut self, alloc: Global, home: u8) -> Result<bool, NoMemory>
         requires { home < self.old.state.regions }
-        ensures steps { Steps self.old.state (Insert self.old.state.number home) result self.new.state }
+        ensures steps { Steps [] self.old.state (Insert self.old.state.number home) result self.new.state }
         ensures sound { IsSoundRegion self.new.state }
     {
         let place = self.inserted(home);
@@ -254,7 +260,7 @@ impl<S: Scheduler> Region<S> {
     /// Resolves a class of deadlocked transactions. False exactly where the ids aren't a class that is resolvable here,
     /// in ascending order; then nothing changes, and neither does after `NoMemory`.
     pub fn resolve(&mut self, alloc: Global, ids: &[TxnId]) -> Result<bool, NoMemory>
-        ensures steps { Steps self.old.state (Resolve self.old.state.number ids.now) result self.new.state }
+        ensures steps { Steps [] self.old.state (Resolve self.old.state.number ids.now) result self.new.state }
         ensures sound { IsSoundRegion self.new.state }
     {
         if !are_ascending(ids) || !self.scheduler.resolvable(alloc, ids)? {
@@ -264,13 +270,19 @@ impl<S: Scheduler> Region<S> {
         Ok(true)
     }
 
-    // What a transaction that the region holds comes to on its table.
-    fn run(&self, alloc: Global, id: TxnId) -> Result<(Outcome, Effect), NoMemory>
-        requires { (txn : Txn) × (held self.now.state id ≡ Some txn) }
-        ensures { (txn : Txn) → held self.now.state id ≡ Some txn → IfOk result (λ run. run ≡ one txn self.now.state.here.table) }
+    // What a transaction that the region holds comes to on its table, by these procedures.
+    fn run(
+        &self,
+        alloc: Global,
+        id: TxnId,
+        procs: &Procs,
+    ) -> Result<(Outcome, Effect), NoMemory>
+        requires holds { HoldsValid procs.now self.now.state }
+        requires held { (txn : Txn) × (held self.now.state id ≡ Some txn) }
+        ensures { (txn : Txn) → held self.now.state id ≡ Some txn → IfOk result (λ run. run ≡ one procs.now txn self.now.state.here.table) }
     {
         match self.txn(id) {
-            Some(txn) => execute(alloc, txn, &self.table),
+            Some(txn) => execute(alloc, txn, procs, &self.table),
             None => unreachable!(),
         }
     }
@@ -282,16 +294,22 @@ impl<S: Scheduler> Region<S> {
         self.scheduler.next_class(alloc)
     }
 
-    /// Executes a transaction on the region's table. False exactly where it isn't executable here; then nothing changes,
+    /// Executes a transaction on the region's table, by these procedures. False exactly where it isn't executable here; then nothing changes,
     /// and neither does after `NoMemory`.
-    pub fn execute(&mut self, alloc: Global, id: TxnId) -> Result<bool, NoMemory>
-        ensures steps { Steps self.old.state (Execute self.old.state.number id) result self.new.state }
+    pub fn execute(
+        &mut self,
+        alloc: Global,
+        id: TxnId,
+        procs: &Procs,
+    ) -> Result<bool, NoMemory>
+        requires { HoldsValid procs.now self.old.state }
+        ensures steps { Steps procs.now self.old.state (Execute self.old.state.number id) result self.new.state }
         ensures sound { IsSoundRegion self.new.state }
     {
         if !self.scheduler.executable(alloc, id)? {
             return Ok(false);
         }
-        let (outcome, effect) = self.run(alloc, id)?;
+        let (outcome, effect) = self.run(alloc, id, procs)?;
         self.table.reserve(places_for(&effect)?)?;
         self.done.reserve(1)?;
         self.scheduler.reserve(alloc, 1)?;

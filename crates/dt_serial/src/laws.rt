@@ -5,6 +5,7 @@ ghost use Rattle.dt_lists.specs.Lists.{AllIn, AnyIn, EachThen, Has, IsFront};
 ghost use Rattle.dt_access.specs.Clash.{Bytes, clash};
 ghost use Rattle.dt_access.specs.declared.TxnId.{TxnId};
 ghost use Rattle.dt_table.specs.Table.{Moved, Table, counter_of, moves_of, next_mover};
+ghost use Rattle.dt_proc.specs.Tree.{ProcTree};
 ghost use Rattle.dt_txn.specs.Execution.{one};
 ghost use Rattle.dt_txn.specs.Serial.{outcomes, table_after};
 ghost use Rattle.dt_txn.specs.declared.Outcome.{Outcome};
@@ -16,21 +17,21 @@ ghost use Rattle.dt_serial.specs.Replay.{is_among};
 
 /// Each transaction of a part of a history has the outcome that it has in the history, and there it has one only.
 pub fn one_outcome()
-    ensures part { (precedes : TxnId → TxnId → Bool) (start : Table) (history txns : List Txn) →
-        IsPart (ByTest precedes) start history txns → AllIn (λ r. Has (outcomes history start) r) (outcomes txns start) }
-    ensures single { (precedes : TxnId → TxnId → Bool) (start : Table) (history : List Txn) →
-        IsHistory (ByTest precedes) start history → (i : TxnId) (o p : Outcome) →
-        Has (outcomes history start) (i, o) → Has (outcomes history start) (i, p) → o ≡ p }
+    ensures part { (procs : List ProcTree) (precedes : TxnId → TxnId → Bool) (start : Table) (history txns : List Txn) →
+        IsPart procs (ByTest precedes) start history txns → AllIn (λ r. Has (outcomes procs history start) r) (outcomes procs txns start) }
+    ensures single { (procs : List ProcTree) (precedes : TxnId → TxnId → Bool) (start : Table) (history : List Txn) →
+        IsHistory procs (ByTest precedes) start history → (i : TxnId) (o p : Outcome) →
+        Has (outcomes procs history start) (i, o) → Has (outcomes procs history start) (i, p) → o ≡ p }
 {}
 
 /// The table after a part of a history hangs on its members alone: it is that of the history, restricted to them.
 pub fn one_table()
-    ensures members { (precedes : TxnId → TxnId → Bool) (start : Table) (history left right : List Txn) →
-        IsPart (ByTest precedes) start history left → IsPart (ByTest precedes) start history right →
-        ((i : TxnId) → Has (txn_ids left) i ↔ Has (txn_ids right) i) → table_after left start ≡ table_after right start }
-    ensures restricted { (precedes : TxnId → TxnId → Bool) (start : Table) (history txns : List Txn) →
-        IsPart (ByTest precedes) start history txns →
-        table_after txns start ≡ table_after (filter (λ x. is_among (txn_ids txns) x.id) history) start }
+    ensures members { (procs : List ProcTree) (precedes : TxnId → TxnId → Bool) (start : Table) (history left right : List Txn) →
+        IsPart procs (ByTest precedes) start history left → IsPart procs (ByTest precedes) start history right →
+        ((i : TxnId) → Has (txn_ids left) i ↔ Has (txn_ids right) i) → table_after procs left start ≡ table_after procs right start }
+    ensures restricted { (procs : List ProcTree) (precedes : TxnId → TxnId → Bool) (start : Table) (history txns : List Txn) →
+        IsPart procs (ByTest precedes) start history txns →
+        table_after procs txns start ≡ table_after procs (filter (λ x. is_among (txn_ids txns) x.id) history) start }
 {}
 
 /// The movers of a key precede one another in the order of their moves, and each of them is a move that was annotated
@@ -39,53 +40,53 @@ pub fn one_table()
 /// annotated moves in the whole history, if that one precedes it, and else none: so whether it is stale, and by whom,
 /// hangs on the history and the order alone.
 pub fn moves_of_a_key()
-    ensures in_order { (precedes : TxnId → TxnId → Bool) (start : Table) (history : List Txn) →
-        IsHistory (ByTest precedes) start history → (key : Bytes) →
-        EachThen (λ m n. ByTest precedes m.by n.by) (moves_of (table_after history start) key) }
-    ensures numbered { (precedes : TxnId → TxnId → Bool) (start : Table) (history : List Txn) →
-        IsHistory (ByTest precedes) start history → (key : Bytes) (i : ℕ) (m : Moved) →
-        slice_get (moves_of (table_after history start) key) i ≡ Some m →
+    ensures in_order { (procs : List ProcTree) (precedes : TxnId → TxnId → Bool) (start : Table) (history : List Txn) →
+        IsHistory procs (ByTest precedes) start history → (key : Bytes) →
+        EachThen (λ m n. ByTest precedes m.by n.by) (moves_of (table_after procs history start) key) }
+    ensures numbered { (procs : List ProcTree) (precedes : TxnId → TxnId → Bool) (start : Table) (history : List Txn) →
+        IsHistory procs (ByTest precedes) start history → (key : Bytes) (i : ℕ) (m : Moved) →
+        slice_get (moves_of (table_after procs history start) key) i ≡ Some m →
         AnyIn (λ x. (x.id ≡ m.by) × (x.body ≡ Move key m.target) × AllIn (λ a. a.key ≡ key → a.counter ≡ i) x.access) history }
-    ensures first { (precedes : TxnId → TxnId → Bool) (start : Table) (history txns : List Txn) →
-        IsPart (ByTest precedes) start history txns → (key : Bytes) →
-        IsFront (moves_of (table_after txns start) key) (moves_of (table_after history start) key) }
-    ensures own { (precedes : TxnId → TxnId → Bool) (start : Table) (history txns : List Txn) →
-        IsPart (ByTest precedes) start history txns → (key : Bytes) →
-        AllIn (λ m. Has (txn_ids txns) m.by) (moves_of (table_after txns start) key) }
-    ensures next { (precedes : TxnId → TxnId → Bool) (start : Table) (history front : List Txn) (x : Txn) (rest : List Txn) →
-        IsPart (ByTest precedes) start history (front ++ x ∷ rest) → AllIn (λ a. (by : TxnId) →
-        (next_mover (table_after front start) a.key a.counter ≡ Some by) ↔
-        ((next_mover (table_after history start) a.key a.counter ≡ Some by) × ByTest precedes by x.id)) x.access }
+    ensures first { (procs : List ProcTree) (precedes : TxnId → TxnId → Bool) (start : Table) (history txns : List Txn) →
+        IsPart procs (ByTest precedes) start history txns → (key : Bytes) →
+        IsFront (moves_of (table_after procs txns start) key) (moves_of (table_after procs history start) key) }
+    ensures own { (procs : List ProcTree) (precedes : TxnId → TxnId → Bool) (start : Table) (history txns : List Txn) →
+        IsPart procs (ByTest precedes) start history txns → (key : Bytes) →
+        AllIn (λ m. Has (txn_ids txns) m.by) (moves_of (table_after procs txns start) key) }
+    ensures next { (procs : List ProcTree) (precedes : TxnId → TxnId → Bool) (start : Table) (history front : List Txn) (x : Txn) (rest : List Txn) →
+        IsPart procs (ByTest precedes) start history (front ++ x ∷ rest) → AllIn (λ a. (by : TxnId) →
+        (next_mover (table_after procs front start) a.key a.counter ≡ Some by) ↔
+        ((next_mover (table_after procs history start) a.key a.counter ≡ Some by) × ByTest precedes by x.id)) x.access }
 {}
 
 /// When a transaction of a part of a history runs, no key that it uses has been moved less often than it was annotated
 /// with. If it is not stale, they have been moved just as often.
 pub fn reached_counters()
-    ensures reached { (precedes : TxnId → TxnId → Bool) (start : Table) (history front : List Txn) (x : Txn) (rest : List Txn) →
-        IsPart (ByTest precedes) start history (front ++ x ∷ rest) →
-        AllIn (λ a. a.counter ≤ counter_of (table_after front start) a.key) x.access }
-    ensures exact { (precedes : TxnId → TxnId → Bool) (start : Table) (history front : List Txn) (x : Txn) (rest : List Txn) →
-        IsPart (ByTest precedes) start history (front ++ x ∷ rest) → ¬ (IsStale (one x (table_after front start)).0) →
-        AllIn (λ a. counter_of (table_after front start) a.key ≡ a.counter) x.access }
+    ensures reached { (procs : List ProcTree) (precedes : TxnId → TxnId → Bool) (start : Table) (history front : List Txn) (x : Txn) (rest : List Txn) →
+        IsPart procs (ByTest precedes) start history (front ++ x ∷ rest) →
+        AllIn (λ a. a.counter ≤ counter_of (table_after procs front start) a.key) x.access }
+    ensures exact { (procs : List ProcTree) (precedes : TxnId → TxnId → Bool) (start : Table) (history front : List Txn) (x : Txn) (rest : List Txn) →
+        IsPart procs (ByTest precedes) start history (front ++ x ∷ rest) → ¬ (IsStale (one procs x (table_after procs front start)).0) →
+        AllIn (λ a. counter_of (table_after procs front start) a.key ≡ a.counter) x.access }
 {}
 
 /// Of two transactions of a history that are not stale, and whose uses clash, one precedes the other, whatever was
 /// moved between them. The mover that follows the annotated moves of one that is not stale is itself, or it precedes
 /// that mover.
 pub fn across_moves()
-    ensures ordered { (precedes : TxnId → TxnId → Bool) (start : Table) (history : List Txn) → IsHistory (ByTest precedes) start history →
+    ensures ordered { (procs : List ProcTree) (precedes : TxnId → TxnId → Bool) (start : Table) (history : List Txn) → IsHistory procs (ByTest precedes) start history →
         (x y : Txn) (o p : Outcome) → Has history x → Has history y → x.id ≢ y.id →
-        Has (outcomes history start) (x.id, o) → Has (outcomes history start) (y.id, p) → ¬ (IsStale o) → ¬ (IsStale p) →
+        Has (outcomes procs history start) (x.id, o) → Has (outcomes procs history start) (y.id, p) → ¬ (IsStale o) → ¬ (IsStale p) →
         clash (uses_in x) (uses_in y) ≡ true → Ordered (ByTest precedes) x.id y.id }
-    ensures before_next { (precedes : TxnId → TxnId → Bool) (start : Table) (history : List Txn) → IsHistory (ByTest precedes) start history →
-        (x : Txn) (o : Outcome) → Has history x → Has (outcomes history start) (x.id, o) → ¬ (IsStale o) →
-        AllIn (λ a. (by : TxnId) → next_mover (table_after history start) a.key a.counter ≡ Some by →
+    ensures before_next { (procs : List ProcTree) (precedes : TxnId → TxnId → Bool) (start : Table) (history : List Txn) → IsHistory procs (ByTest precedes) start history →
+        (x : Txn) (o : Outcome) → Has history x → Has (outcomes procs history start) (x.id, o) → ¬ (IsStale o) →
+        AllIn (λ a. (by : TxnId) → next_mover (table_after procs history start) a.key a.counter ≡ Some by →
         (x.id ≡ by) ⊎ ByTest precedes x.id by) x.access }
 {}
 
 /// In a serial run from a table without moves, an outcome other than given values has its reason: the procedure aborts
 /// on the table that it saw, or a transaction before it made the move that follows those that it was annotated with.
 pub fn reasons()
-    ensures { (start : Table) (txns : List Txn) → ((key : Bytes) → moves_of start key ≡ []) →
-        AllIn (λ r. HasReason txns start r) (outcomes txns start) }
+    ensures { (procs : List ProcTree) (start : Table) (txns : List Txn) → ((key : Bytes) → moves_of start key ≡ []) →
+        AllIn (λ r. HasReason procs txns start r) (outcomes procs txns start) }
 {}

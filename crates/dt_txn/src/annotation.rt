@@ -4,28 +4,40 @@ ghost use Rattle.dt_txn.specs.Transaction.{CanRun, annotate, annotated, used_of,
 use crate::txn::{Body, Txn};
 use dt_access::{Access, Accesses, Keys, Mode, TxnId};
 use dt_eval::{KeysError, keys_of};
+use dt_proc::Procs;
 use dt_table::Table;
 use dt_text::NoMemory;
 use std::alloc::Global;
 
-/// The transaction of this id for a body, as a region with this table submits it: each of its keys has the home and the
+/// The transaction of this id for a body, as a region with these procedures and this table submits it: each of its keys has the home and the
 /// number of moves that the table gives it.
 #[tactic(auto, using(crate::proofs::PartKeys::annotated_uses))]
-pub fn annotate(alloc: Global, id: TxnId, body: Body, table: &Table) -> Result<Txn, NoMemory>
-    requires { CanRun body }
-    ensures annotated { IfOk result (λ txn. txn ≡ annotate id body table.now.state) }
-    ensures uses { IfOk result (λ txn. map used_of txn.access ≡ uses_of body) }
+pub fn annotate(
+    alloc: Global,
+    id: TxnId,
+    body: Body,
+    procs: &Procs,
+    table: &Table,
+) -> Result<Txn, NoMemory>
+    requires { CanRun procs.now body }
+    ensures annotated { IfOk result (λ txn. txn ≡ annotate procs.now id body table.now.state) }
+    ensures uses { IfOk result (λ txn. map used_of txn.access ≡ uses_of procs.now body) }
 {
-    let access = annotated(alloc, &body, table)?;
+    let access = annotated(alloc, &body, procs, table)?;
     Ok(Txn { id, body, access })
 }
 
 /// The access list of a body by this table.
-fn annotated(alloc: Global, body: &Body, table: &Table) -> Result<Accesses, NoMemory>
-    requires { CanRun body.now }
-    ensures { IfOk result (λ access. access ≡ map (annotated table.now.state) (uses_of body.now)) }
+fn annotated(
+    alloc: Global,
+    body: &Body,
+    procs: &Procs,
+    table: &Table,
+) -> Result<Accesses, NoMemory>
+    requires { CanRun procs.now body.now }
+    ensures { IfOk result (λ access. access ≡ map (annotated table.now.state) (uses_of procs.now body.now)) }
 {
-    let uses = uses(alloc, body)?;
+    let uses = uses(alloc, body, procs)?;
     let mut access = Accesses::new(alloc);
     for (key, mode) in uses.as_slice() {
         let mastership = table.mastership(key);
@@ -40,16 +52,21 @@ fn annotated(alloc: Global, body: &Body, table: &Table) -> Result<Accesses, NoMe
 }
 
 /// The keys that a body uses, in ascending order, each with its mode.
-fn uses(alloc: Global, body: &Body) -> Result<Keys, NoMemory>
-    requires { CanRun body.now }
-    ensures { IfOk result (λ keys. keys ≡ uses_of body.now) }
+fn uses(alloc: Global, body: &Body, procs: &Procs) -> Result<Keys, NoMemory>
+    requires { CanRun procs.now body.now }
+    ensures { IfOk result (λ keys. keys ≡ uses_of procs.now body.now) }
 {
     match body {
-        Body::Call(proc, args) => match keys_of(alloc, *proc, args.as_slice()) {
-            Ok(keys) => Ok(keys),
-            Err(KeysError::NoMemory) => Err(NoMemory),
-            Err(KeysError::BadKey(_)) => unreachable!(),
-        },
+        Body::Call(number, args) => {
+            let Some(proc) = procs.get(*number) else {
+                unreachable!();
+            };
+            match keys_of(alloc, proc, args.as_slice()) {
+                Ok(keys) => Ok(keys),
+                Err(KeysError::NoMemory) => Err(NoMemory),
+                Err(KeysError::BadKey(_)) => unreachable!(),
+            }
+        }
         Body::Move(key, _) => {
             let mut keys = Keys::new(alloc);
             keys.push((key.copy(alloc)?, Mode::Write))?;

@@ -8,6 +8,7 @@ use crate::outcome::{Outcome, Seen, Seens};
 use crate::txn::{Body, Txn};
 use dt_access::{Access, TryCopy, TxnId, Writes};
 use dt_eval::{Finish, Reads, Values, run};
+use dt_proc::Procs;
 use dt_table::{Effect, Table};
 use dt_text::{Key, NoMemory, Value};
 use std::alloc::Global;
@@ -48,28 +49,38 @@ fn next_mover(table: &Table, key: &Key, had: u32) -> Option<TxnId>
     table.mover(key, had + 1)
 }
 
-/// What a transaction comes to on every table in which it sees this: its outcome, and the changes that it makes.
-pub fn execute_seen(alloc: Global, txn: &Txn, seen: &Seens) -> Result<(Outcome, Effect), NoMemory>
-    requires body { CanRun txn.now.body }
-    requires uses { map used_of txn.now.access ≡ uses_of txn.now.body }
+/// What a transaction comes to, by these procedures, on every table in which it sees this: its outcome, and the changes that it makes.
+pub fn execute_seen(
+    alloc: Global,
+    txn: &Txn,
+    procs: &Procs,
+    seen: &Seens,
+) -> Result<(Outcome, Effect), NoMemory>
+    requires body { CanRun procs.now txn.now.body }
+    requires uses { map used_of txn.now.access ≡ uses_of procs.now txn.now.body }
     requires seen { length seen.now ≡ length txn.now.access }
-    ensures { IfOk result (λ r. r ≡ execution txn.now seen.now) }
+    ensures { IfOk result (λ r. r ≡ execution procs.now txn.now seen.now) }
 {
     if let Some(outcome) = stale(alloc, txn.access.as_slice(), seen.as_slice())? {
         return Ok((outcome, no_effect(alloc)));
     }
     let reads = reads(alloc, txn.access.as_slice(), seen.as_slice())?;
-    result_of(alloc, txn, &reads)
+    result_of(alloc, txn, procs, &reads)
 }
 
-/// What a transaction comes to on a table: its outcome, and the changes that it makes.
-pub fn execute(alloc: Global, txn: &Txn, table: &Table) -> Result<(Outcome, Effect), NoMemory>
-    requires body { CanRun txn.now.body }
-    requires uses { map used_of txn.now.access ≡ uses_of txn.now.body }
-    ensures { IfOk result (λ r. r ≡ one txn.now table.now.state) }
+/// What a transaction comes to on a table, by these procedures: its outcome, and the changes that it makes.
+pub fn execute(
+    alloc: Global,
+    txn: &Txn,
+    procs: &Procs,
+    table: &Table,
+) -> Result<(Outcome, Effect), NoMemory>
+    requires body { CanRun procs.now txn.now.body }
+    requires uses { map used_of txn.now.access ≡ uses_of procs.now txn.now.body }
+    ensures { IfOk result (λ r. r ≡ one procs.now txn.now table.now.state) }
 {
     let seen = see(alloc, txn, table)?;
-    execute_seen(alloc, txn, &seen)
+    execute_seen(alloc, txn, procs, &seen)
 }
 
 /// No changes.
@@ -112,13 +123,23 @@ fn reads(alloc: Global, access: &[Access], seen: &[Seen]) -> Result<Reads, NoMem
 }
 
 /// What the body of a transaction gives where nothing is stale.
-fn result_of(alloc: Global, txn: &Txn, reads: &Reads) -> Result<(Outcome, Effect), NoMemory>
-    requires body { CanRun txn.now.body }
-    requires reads { map (λ read. read.0) reads.now ≡ map (λ used. used.0) (uses_of txn.now.body) }
-    ensures { IfOk result (λ r. r ≡ result_of txn.now.id txn.now.body reads.now) }
+fn result_of(
+    alloc: Global,
+    txn: &Txn,
+    procs: &Procs,
+    reads: &Reads,
+) -> Result<(Outcome, Effect), NoMemory>
+    requires body { CanRun procs.now txn.now.body }
+    requires reads { map (λ read. read.0) reads.now ≡ map (λ used. used.0) (uses_of procs.now txn.now.body) }
+    ensures { IfOk result (λ r. r ≡ result_of procs.now txn.now.id txn.now.body reads.now) }
 {
     match &txn.body {
-        Body::Call(proc, args) => Ok(finished(alloc, run(alloc, *proc, args.as_slice(), reads)?)),
+        Body::Call(number, args) => {
+            let Some(proc) = procs.get(*number) else {
+                unreachable!();
+            };
+            Ok(finished(alloc, run(alloc, proc, args.as_slice(), reads)?))
+        }
         Body::Move(key, target) => Ok((
             Outcome::Gave(Values::new(alloc)),
             Effect {

@@ -1,10 +1,9 @@
-use Rattle.dt_cluster.specs.declared.Cluster.{Cluster}
 use Rattle.dt_laws.proofs.Keeping.{legal_keeps}
 use Rattle.dt_laws.proofs.RootedEvents.{legal_roots}
 use Rattle.dt_laws.proofs.laws.invariant_of_legal_worlds.Goals as goal
 
-pub returns-clause-kept : (cluster : Cluster) → goal.returns-clause-kept
-returns-clause-kept cluster c cluster workload events ok fits legal = legal_keeps cluster ok workload fits events legal
+pub returns-clause-kept : goal.returns-clause-kept
+returns-clause-kept c cluster workload events ok fits legal = legal_keeps cluster ok workload fits events legal
 
-pub returns-clause-rooted : (cluster : Cluster) → goal.returns-clause-rooted
-returns-clause-rooted cluster c cluster workload events ok fits legal = legal_roots cluster ok workload fits events legal
+pub returns-clause-rooted : goal.returns-clause-rooted
+returns-clause-rooted c cluster workload events ok fits legal = legal_roots cluster ok workload fits events legal
