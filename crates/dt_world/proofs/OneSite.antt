@@ -8,6 +8,7 @@ use Rattle.dt_events.specs.declared.Event.{Event}
 use Rattle.dt_log.specs.declared.Taken.{Taken}
 use Rattle.dt_log.specs.declared.Taken.TheVariants.{New, Old, Gap}
 use Rattle.dt_sched.specs.Views.{log_at}
+use Rattle.dt_proc.specs.Tree.{ProcTree}
 use Rattle.dt_txn.specs.declared.Body.{Body}
 use Rattle.dt_txn.specs.declared.Entry.{Entry}
 use Rattle.dt_txn.specs.declared.Txn.{Txn}
@@ -32,12 +33,12 @@ module _ (posts : List Posted) (region : ℕ) (p q : Posted) (at : p ≡ post_at
   unchanged : q.state ≡ p.state → set posts region q ≡ posts
   unchanged e = ap (set posts region) (ap₂ (λ (a : State) b. record { state = a; origins = b }) e same ∙ at) ∙ set-get_or posts region no_post
 
-  pub steps_at : (event : Event) (result : Result Bool NoMemory) → Steps p.state event result q.state → IsSoundRegion q.state → StepsAt posts region event result (set posts region q)
-  steps_at event (Ok true) s sound =
-      let is : q.state ≡ after_step (post_at posts region).state event = s.1 ∙ ap (λ x. after_step x.state event) at in
-      (subst (λ x. MayMake x.state event) at s.0, (subst IsSoundRegion is sound, changed (after_step (post_at posts region).state event) is))
-  steps_at event (Ok false) s sound = (λ m. s.0 (subst (λ x. MayMake x.state event) (sym at) m), unchanged s.1)
-  steps_at event (Err e) s sound = unchanged s
+  pub steps_at : (procs : List ProcTree) (event : Event) (result : Result Bool NoMemory) → Steps procs p.state event result q.state → IsSoundRegion q.state → StepsAt procs posts region event result (set posts region q)
+  steps_at procs event (Ok true) s sound =
+      let is : q.state ≡ after_step procs (post_at posts region).state event = s.1 ∙ ap (λ x. after_step procs x.state event) at in
+      (subst (λ x. MayMake x.state event) at s.0, (subst IsSoundRegion is sound, changed (after_step procs (post_at posts region).state event) is))
+  steps_at procs event (Ok false) s sound = (λ m. s.0 (subst (λ x. MayMake x.state event) (sym at) m), unchanged s.1)
+  steps_at procs event (Err e) s sound = unchanged s
 
   pub appends_at : (source number : ℕ) (txn : Txn) (result : Result Bool NoMemory) → Appends p.state source number txn result q.state → IsSoundRegion q.state → AppendsAt posts region source number txn result (set posts region q)
   appends_at source number txn (Ok true) s sound =
@@ -55,11 +56,11 @@ module _ (posts : List Posted) (region : ℕ) (p q : Posted) (at : p ≡ post_at
   delivers_at home first entries (Err e) s sound = unchanged s
 
 module _ (posts : List Posted) (region : ℕ) (p q : Posted) (at : p ≡ post_at posts region) where
-  pub submits_at : (body : Body) (origin : Origin) (result : Result TxnId NoMemory) → OnOk result (q ≡ posted p body origin) → IfOk result (λ id. id ≡ next_id p.state) → OnErr result (q ≡ p) → OnOk result (IsSoundRegion q.state) → SubmitsAt posts region body origin result (set posts region q)
-  submits_at body origin (Ok id) is named same sound =
-      let now : q ≡ posted (post_at posts region) body origin = is ∙ ap (λ x. posted x body origin) at in
+  pub submits_at : (procs : List ProcTree) (body : Body) (origin : Origin) (result : Result TxnId NoMemory) → OnOk result (q ≡ posted procs p body origin) → IfOk result (λ id. id ≡ next_id p.state) → OnErr result (q ≡ p) → OnOk result (IsSoundRegion q.state) → SubmitsAt procs posts region body origin result (set posts region q)
+  submits_at procs body origin (Ok id) is named same sound =
+      let now : q ≡ posted procs (post_at posts region) body origin = is ∙ ap (λ x. posted procs x body origin) at in
       (named ∙ ap (λ x. next_id x.state) at, subst (λ x. IsSoundRegion x.state) now sound, ap (set posts region) now)
-  submits_at body origin (Err e) is named same sound = ap (set posts region) (same ∙ at) ∙ set-get_or posts region no_post
+  submits_at procs body origin (Err e) is named same sound = ap (set posts region) (same ∙ at) ∙ set-get_or posts region no_post
 
 -- the same, as the list of regions was before
 
@@ -67,14 +68,14 @@ module _ (items now : List Posted) (region : ℕ) (p q : Posted) (view : items �
   at : p ≡ post_at items region
   at = read_at items region p (subst (λ l. region < length l) (sym view) lt) is
 
-  pub steps_return : q.origins ≡ p.origins → (event : Event) (result : Result Bool NoMemory) → Steps p.state event result q.state → IsSoundRegion q.state → StepsAt now region event result (set items region q)
-  steps_return same event result s sound = subst (λ v. StepsAt v region event result (set items region q)) view (steps_at items region p q at same event result s sound)
+  pub steps_return : (procs : List ProcTree) → q.origins ≡ p.origins → (event : Event) (result : Result Bool NoMemory) → Steps procs p.state event result q.state → IsSoundRegion q.state → StepsAt procs now region event result (set items region q)
+  steps_return procs same event result s sound = subst (λ v. StepsAt procs v region event result (set items region q)) view (steps_at items region p q at same procs event result s sound)
 
   pub appends_return : q.origins ≡ p.origins → (source number : ℕ) (txn : Txn) (result : Result Bool NoMemory) → Appends p.state source number txn result q.state → IsSoundRegion q.state → AppendsAt now region source number txn result (set items region q)
   appends_return same source number txn result s sound = subst (λ v. AppendsAt v region source number txn result (set items region q)) view (appends_at items region p q at same source number txn result s sound)
 
-  pub submits_return : (body : Body) (origin : Origin) (result : Result TxnId NoMemory) → OnOk result (q ≡ posted p body origin) → IfOk result (λ id. id ≡ next_id p.state) → OnErr result (q ≡ p) → OnOk result (IsSoundRegion q.state) → SubmitsAt now region body origin result (set items region q)
-  submits_return body origin result a b d e = subst (λ v. SubmitsAt v region body origin result (set items region q)) view (submits_at items region p q at body origin result a b d e)
+  pub submits_return : (procs : List ProcTree) (body : Body) (origin : Origin) (result : Result TxnId NoMemory) → OnOk result (q ≡ posted procs p body origin) → IfOk result (λ id. id ≡ next_id p.state) → OnErr result (q ≡ p) → OnOk result (IsSoundRegion q.state) → SubmitsAt procs now region body origin result (set items region q)
+  submits_return procs body origin result a b d e = subst (λ v. SubmitsAt procs v region body origin result (set items region q)) view (submits_at items region p q at procs body origin result a b d e)
 
   pub delivers_return : q.origins ≡ p.origins → (home first : ℕ) (entries : List Entry) (result : Result Taken NoMemory) → Delivers p.state home first entries result q.state → IsSoundRegion q.state → DeliversAt now region home first entries result (set items region q)
   delivers_return same home first entries result s sound = subst (λ v. DeliversAt v region home first entries result (set items region q)) view (delivers_at items region p q at same home first entries result s sound)

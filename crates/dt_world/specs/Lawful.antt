@@ -75,7 +75,7 @@ MayMake kept event = IsLegal kept.cluster kept.workload kept.state event
 
 -- the world after an event
 abbrev pub made : Kept → Event → Kept
-made kept event = record kept { state = next kept.workload kept.state event; steps = kept.steps + 1 }
+made kept event = record kept { state = next kept.cluster kept.workload kept.state event; steps = kept.steps + 1 }
 
 -- how an event is answered, and what the world is after it: it is made exactly where it is legal, and refused by its
 -- rule; after each refusal nothing has changed

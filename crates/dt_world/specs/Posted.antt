@@ -1,6 +1,7 @@
 use Rattle.std.specs.Prelude.{List, [], ◌∷◌, ◌++◌, length, map, set}
 use Rattle.std.specs.List.{range_with_len}
 use Rattle.dt_sched.specs.Views.{log_at}
+use Rattle.dt_proc.specs.Tree.{ProcTree}
 use Rattle.dt_table.specs.Table.{opening}
 use Rattle.dt_txn.specs.declared.Body.{Body}
 use Rattle.dt_txn.specs.declared.Txn.{Txn}
@@ -49,8 +50,8 @@ abbrev pub no_post : Posted
 no_post = opening_post (opening_state 0 0 (opening 0 [] []))
 
 -- a region after it submitted a body for a session
-abbrev pub posted : Posted → Body → Origin → Posted
-posted p body origin = record { state = after_submit p.state body; origins = p.origins ++ origin ∷ [] }
+abbrev pub posted : List ProcTree → Posted → Body → Origin → Posted
+posted procs p body origin = record { state = after_submit procs p.state body; origins = p.origins ++ origin ∷ [] }
 
 -- a region in another state
 abbrev pub in_state : Posted → State → Posted

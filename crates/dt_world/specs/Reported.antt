@@ -38,7 +38,7 @@ reply_for cluster workload all (Some (session, place)) =
 abbrev pub replies_from : Cluster → Workload → List Event → World → List Event → List Reply
 replies_from cluster workload all w [] = []
 replies_from cluster workload all w (event ∷ events) =
-    option_to_list (reply_for cluster workload all (answered_session workload w event)) ++ replies_from cluster workload all (next workload w event) events
+    option_to_list (reply_for cluster workload all (answered_session workload w event)) ++ replies_from cluster workload all (next cluster workload w event) events
 
 -- for each answer in order, the session, the number of its call, and the outcome of what it waited for
 abbrev pub replies_of : Cluster → Workload → List Event → List Reply

@@ -6,6 +6,7 @@ use Rattle.dt_log.specs.declared.Taken.{Taken}
 use Rattle.dt_log.specs.declared.Taken.TheVariants.{New, Old, Gap}
 use Rattle.dt_events.specs.declared.Event.{Event}
 use Rattle.dt_sched.specs.Views.{log_at}
+use Rattle.dt_proc.specs.Tree.{ProcTree}
 use Rattle.dt_txn.specs.declared.Body.{Body}
 use Rattle.dt_txn.specs.declared.Entry.{Entry}
 use Rattle.dt_txn.specs.declared.Txn.{Txn}
@@ -28,17 +29,17 @@ abbrev pub Becomes : List Posted → ℕ → State → List Posted → Type 0
 Becomes posts region state after = IsSoundRegion state × (after ≡ with_state posts region state)
 
 -- a region makes a step of its own, exactly where it may
-abbrev pub StepsAt : List Posted → ℕ → Event → Result Bool NoMemory → List Posted → Type 0
-StepsAt posts region event (Ok true) after = MayMake (post_at posts region).state event × Becomes posts region (after_step (post_at posts region).state event) after
-StepsAt posts region event (Ok false) after = (¬ (MayMake (post_at posts region).state event)) × (after ≡ posts)
-StepsAt posts region event (Err e) after = after ≡ posts
+abbrev pub StepsAt : List ProcTree → List Posted → ℕ → Event → Result Bool NoMemory → List Posted → Type 0
+StepsAt procs posts region event (Ok true) after = MayMake (post_at posts region).state event × Becomes posts region (after_step procs (post_at posts region).state event) after
+StepsAt procs posts region event (Ok false) after = (¬ (MayMake (post_at posts region).state event)) × (after ≡ posts)
+StepsAt procs posts region event (Err e) after = after ≡ posts
 
 -- a region submits a body for a session
-abbrev pub SubmitsAt : List Posted → ℕ → Body → Origin → Result TxnId NoMemory → List Posted → Type 0
-SubmitsAt posts region body origin (Ok id) after =
-    (id ≡ next_id (post_at posts region).state) × IsSoundRegion (after_submit (post_at posts region).state body)
-    × (after ≡ set posts region (posted (post_at posts region) body origin))
-SubmitsAt posts region body origin (Err e) after = after ≡ posts
+abbrev pub SubmitsAt : List ProcTree → List Posted → ℕ → Body → Origin → Result TxnId NoMemory → List Posted → Type 0
+SubmitsAt procs posts region body origin (Ok id) after =
+    (id ≡ next_id (post_at posts region).state) × IsSoundRegion (after_submit procs (post_at posts region).state body)
+    × (after ≡ set posts region (posted procs (post_at posts region) body origin))
+SubmitsAt procs posts region body origin (Err e) after = after ≡ posts
 
 -- a region places a transaction's part as a request of another, exactly where it is the next one
 abbrev pub AppendsAt : List Posted → ℕ → ℕ → ℕ → Txn → Result Bool NoMemory → List Posted → Type 0

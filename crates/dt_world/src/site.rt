@@ -1,13 +1,14 @@
 ghost use Rattle.std.specs.Prelude.{◌≡◌, ◌<◌, ◌≤◌, ◌+◌, ◌-◌, [], length, get_or, slice_get, option_copied, IfOk, OnOk, OnErr};
 ghost use Rattle.dt_events.specs.declared.Event.TheVariants.{Insert, Resolve, Execute};
 ghost use Rattle.dt_txn.specs.Transaction.{BodyFits};
-ghost use Rattle.dt_region.specs.Conditions.{IsTableFor, CanAppend, CanDeliver};
+ghost use Rattle.dt_region.specs.Conditions.{IsTableFor, CanAppend, CanDeliver, HoldsValid};
 ghost use Rattle.dt_region.specs.Rules.{Appends, Delivers, Steps, next_id, opening_state};
 ghost use Rattle.dt_region.specs.Sound.{IsSoundRegion};
 ghost use Rattle.dt_world.specs.Posted.{opening_post, posted};
 
 use dt_access::TxnId;
 use dt_log::Taken;
+use dt_proc::Procs;
 use dt_region::Region;
 use dt_sched::Scheduler;
 use dt_table::Table;
@@ -76,16 +77,22 @@ impl<S: Scheduler> Site<S> {
     }
 
     /// Submits a body for a session. After `NoMemory` nothing has changed.
-    pub fn submit(&mut self, alloc: Global, body: Body, origin: Origin) -> Result<TxnId, NoMemory>
-        requires fits { BodyFits self.old.state.regions body }
+    pub fn submit(
+        &mut self,
+        alloc: Global,
+        body: Body,
+        procs: &Procs,
+        origin: Origin,
+    ) -> Result<TxnId, NoMemory>
+        requires fits { BodyFits procs.now self.old.state.regions body }
         requires place { length self.old.state.submitted < 4294967295 }
-        ensures posted { OnOk result (self.new ≡ posted self.old body origin) }
+        ensures posted { OnOk result (self.new ≡ posted procs.now self.old body origin) }
         ensures id { IfOk result (λ id. id ≡ next_id self.old.state) }
         ensures same { OnErr result (self.new ≡ self.old) }
         ensures sound { OnOk result (IsSoundRegion self.new.state) }
     {
         self.origins.reserve(1)?;
-        let id = self.region.submit(alloc, body)?;
+        let id = self.region.submit(alloc, body, procs)?;
         match self.origins.push(origin) {
             Ok(()) => Ok(id),
             Err(_) => unreachable!(),
@@ -129,7 +136,7 @@ impl<S: Scheduler> Site<S> {
     /// As the region's.
     pub fn insert(&mut self, alloc: Global, home: u8) -> Result<bool, NoMemory>
         requires { home < self.old.state.regions }
-        ensures steps { Steps self.old.state (Insert self.old.state.number home) result self.new.state }
+        ensures steps { Steps [] self.old.state (Insert self.old.state.number home) result self.new.state }
         ensures origins { self.new.origins ≡ self.old.origins }
         ensures sound { IsSoundRegion self.new.state }
     {
@@ -138,7 +145,7 @@ impl<S: Scheduler> Site<S> {
 
     /// As the region's.
     pub fn resolve(&mut self, alloc: Global, ids: &[TxnId]) -> Result<bool, NoMemory>
-        ensures steps { Steps self.old.state (Resolve self.old.state.number ids.now) result self.new.state }
+        ensures steps { Steps [] self.old.state (Resolve self.old.state.number ids.now) result self.new.state }
         ensures origins { self.new.origins ≡ self.old.origins }
         ensures sound { IsSoundRegion self.new.state }
     {
@@ -146,11 +153,17 @@ impl<S: Scheduler> Site<S> {
     }
 
     /// As the region's.
-    pub fn execute(&mut self, alloc: Global, id: TxnId) -> Result<bool, NoMemory>
-        ensures steps { Steps self.old.state (Execute self.old.state.number id) result self.new.state }
+    pub fn execute(
+        &mut self,
+        alloc: Global,
+        id: TxnId,
+        procs: &Procs,
+    ) -> Result<bool, NoMemory>
+        requires { HoldsValid procs.now self.old.state }
+        ensures steps { Steps procs.now self.old.state (Execute self.old.state.number id) result self.new.state }
         ensures origins { self.new.origins ≡ self.old.origins }
         ensures sound { IsSoundRegion self.new.state }
     {
-        self.region.execute(alloc, id)
+        self.region.execute(alloc, id, procs)
     }
 }

@@ -1,10 +1,10 @@
-ghost use Rattle.std.specs.Prelude.{◌≡◌, ◌<◌, ◌≤◌, get_or, length, IfOk};
+ghost use Rattle.std.specs.Prelude.{◌≡◌, ◌<◌, ◌≤◌, [], get_or, length, IfOk};
 ghost use Rattle.dt_events.specs.declared.Event.TheVariants.{Insert, Resolve, Execute};
 ghost use Rattle.dt_lists.specs.Lists.{AllIn};
 ghost use Rattle.dt_cluster.specs.Valid.{IsValidCluster};
 ghost use Rattle.dt_region.specs.Sound.{IsSoundRegion};
 ghost use Rattle.dt_txn.specs.Transaction.{BodyFits};
-ghost use Rattle.dt_region.specs.Conditions.{CanAppend, CanDeliver, IsTableFor};
+ghost use Rattle.dt_region.specs.Conditions.{CanAppend, CanDeliver, HoldsValid, IsTableFor};
 ghost use Rattle.dt_session.specs.World.{opening_table};
 ghost use Rattle.dt_world.specs.Posted.{opening_posts};
 ghost use Rattle.dt_world.specs.Sited.{AppendsAt, DeliversAt, StepsAt, SubmitsAt, post_at};
@@ -13,6 +13,7 @@ use crate::site::{Origin, Site};
 use dt_access::TxnId;
 use dt_cluster::Cluster;
 use dt_log::Taken;
+use dt_proc::Procs;
 use dt_sched::Scheduler;
 use dt_table::Table;
 use dt_text::NoMemory;
@@ -77,15 +78,16 @@ impl<S: Scheduler> Sites<S> {
         alloc: Global,
         region: u8,
         body: Body,
+        procs: &Procs,
         origin: Origin,
     ) -> Result<TxnId, NoMemory>
         requires region { region < length self.old }
-        requires fits { BodyFits (post_at self.old region).state.regions body }
+        requires fits { BodyFits procs.now (post_at self.old region).state.regions body }
         requires place { length (post_at self.old region).state.submitted < 4294967295 }
-        ensures { SubmitsAt self.old region body origin result self.new }
+        ensures { SubmitsAt procs.now self.old region body origin result self.new }
     {
         let site = &mut self.sites[region as usize];
-        site.submit(alloc, body, origin)
+        site.submit(alloc, body, procs, origin)
     }
 
     /// One region takes a request of another.
@@ -128,7 +130,7 @@ impl<S: Scheduler> Sites<S> {
     pub fn insert(&mut self, alloc: Global, region: u8, home: u8) -> Result<bool, NoMemory>
         requires region { region < length self.old }
         requires home { home < (post_at self.old region).state.regions }
-        ensures { StepsAt self.old region (Insert region home) result self.new }
+        ensures { StepsAt [] self.old region (Insert region home) result self.new }
     {
         let site = &mut self.sites[region as usize];
         site.insert(alloc, home)
@@ -137,19 +139,26 @@ impl<S: Scheduler> Sites<S> {
     /// One region resolves a class of deadlocked transactions.
     pub fn resolve(&mut self, alloc: Global, region: u8, ids: &[TxnId]) -> Result<bool, NoMemory>
         requires { region < length self.old }
-        ensures { StepsAt self.old region (Resolve region ids.now) result self.new }
+        ensures { StepsAt [] self.old region (Resolve region ids.now) result self.new }
     {
         let site = &mut self.sites[region as usize];
         site.resolve(alloc, ids)
     }
 
     /// One region executes a transaction.
-    pub fn execute(&mut self, alloc: Global, region: u8, id: TxnId) -> Result<bool, NoMemory>
-        requires { region < length self.old }
-        ensures { StepsAt self.old region (Execute region id) result self.new }
+    pub fn execute(
+        &mut self,
+        alloc: Global,
+        region: u8,
+        id: TxnId,
+        procs: &Procs,
+    ) -> Result<bool, NoMemory>
+        requires region { region < length self.old }
+        requires holds { HoldsValid procs.now (post_at self.old region).state }
+        ensures { StepsAt procs.now self.old region (Execute region id) result self.new }
     {
         let site = &mut self.sites[region as usize];
-        site.execute(alloc, id)
+        site.execute(alloc, id, procs)
     }
 }
 
