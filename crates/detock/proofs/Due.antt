@@ -88,7 +88,7 @@ tails_of same = cc
 
 -- of events, the first that is not legal is one
 module _ (cluster : Cluster) (workload : Workload) where
-  one_illegal : (w : World) (a b after later : List (ℕ × Event)) (x y : ℕ × Event) → a ++ x ∷ after ≡ b ++ y ∷ later → AreLegalFrom cluster workload w (unnumbered a) → AreLegalFrom cluster workload w (unnumbered b) → ¬ IsLegal cluster workload (world_from workload w (unnumbered a)) x.1 → ¬ IsLegal cluster workload (world_from workload w (unnumbered b)) y.1 → x ≡ y
+  one_illegal : (w : World) (a b after later : List (ℕ × Event)) (x y : ℕ × Event) → a ++ x ∷ after ≡ b ++ y ∷ later → AreLegalFrom cluster workload w (unnumbered a) → AreLegalFrom cluster workload w (unnumbered b) → ¬ IsLegal cluster workload (world_from cluster workload w (unnumbered a)) x.1 → ¬ IsLegal cluster workload (world_from cluster workload w (unnumbered b)) y.1 → x ≡ y
   one_illegal w [] [] after later x y same before also never none = heads_of same
   one_illegal w [] (z ∷ b) after later x y same before (legal, also) never none =
       let P : ℕ × Event → Type 0 = λ event. IsLegal cluster workload w event.1 in absurd (never (subst P (sym (heads_of same)) legal))
@@ -96,9 +96,9 @@ module _ (cluster : Cluster) (workload : Workload) where
       let P : ℕ × Event → Type 0 = λ event. IsLegal cluster workload w event.1 in absurd (none (subst P (heads_of same) legal))
   one_illegal w (u ∷ a) (v ∷ b) after later x y same (legal, before) (too, also) never none =
       let head : v ≡ u = sym (heads_of same) in
-      let P : ℕ × Event → Type 0 = λ event. AreLegalFrom cluster workload (next workload w event.1) (unnumbered b) in
-      let Q : ℕ × Event → Type 0 = λ event. ¬ IsLegal cluster workload (world_from workload (next workload w event.1) (unnumbered b)) y.1 in
-      one_illegal (next workload w u.1) a b after later x y (tails_of same) before (subst P head also) never (subst Q head none)
+      let P : ℕ × Event → Type 0 = λ event. AreLegalFrom cluster workload (next cluster workload w event.1) (unnumbered b) in
+      let Q : ℕ × Event → Type 0 = λ event. ¬ IsLegal cluster workload (world_from cluster workload (next cluster workload w event.1) (unnumbered b)) y.1 in
+      one_illegal (next cluster workload w u.1) a b after later x y (tails_of same) before (subst P head also) never (subst Q head none)
 
   -- it has one line and one rule
   same_illegal : (events : List (ℕ × Event)) (l m n k : ℕ) → IsFirstIllegal cluster workload events l n → IsFirstIllegal cluster workload events m k → (l ≡ m) × (n ≡ k)

@@ -76,24 +76,24 @@ none_long : {A : Type 0} (xs : List A) → xs ≡ [] → length xs ≤ 0
 none_long xs e = subst (λ l. length l ≤ 0) (sym e) (omega arith)
 
 module _ (cluster : Cluster) (ok : IsValidCluster cluster) (workload : Workload) (fits : IsValidWorkload cluster workload) where
-  next_short : (w : World) (order : List TxnId) (n : ℕ) (event : Event) → IsLegal cluster workload w event → Inv cluster workload w order → IsShort w n → IsShort (next workload w event) (n + 1)
+  next_short : (w : World) (order : List TxnId) (n : ℕ) (event : Event) → IsLegal cluster workload w event → Inv cluster workload w order → IsShort w n → IsShort (next cluster workload w event) (n + 1)
   next_short w order n (Submit region name) l i s =
       let r : Submits cluster workload w region name = submits cluster ok workload w order region name l.allowed i in
       subst (λ v. IsShort v (n + 1)) (sym r.next) (record {
         submitted = λ q. subm r q (either_nat q region);
-        parts = let few : parts_in (logs_of w) ≤ n = s.parts in subst (λ v. parts_in v ≤ n + 1) (sym (map_of_set (λ y. y.log) w.nodes region (node_submitted (node_at w region) (submission_for w region r.session r.place r.call)) no_node refl)) (omega arith);
+        parts = let few : parts_in (logs_of w) ≤ n = s.parts in subst (λ v. parts_in v ≤ n + 1) (sym (map_of_set (λ y. y.log) w.nodes region (node_submitted (node_at w region) (submission_for cluster w region r.session r.place r.call)) no_node refl)) (omega arith);
         answered = place_put _ workload.sessions w.places region r.session.name _ (places_short w n s) (place_found (λ p. p.answered ≤ n + 1) workload.sessions w.places region name r.session r.place (places_short w n s) r.found);
       })
     where
-      subm : (r : Submits cluster workload w region name) (q : ℕ) → Either (q ≡ region) → length (get_or (set w.nodes region (node_submitted (node_at w region) (submission_for w region r.session r.place r.call))) q no_node).submitted ≤ n + 1
+      subm : (r : Submits cluster workload w region name) (q : ℕ) → Either (q ≡ region) → length (get_or (set w.nodes region (node_submitted (node_at w region) (submission_for cluster w region r.session r.place r.call))) q no_node).submitted ≤ n + 1
       subm r q (inl e) =
           let few : length (node_at w region).submitted ≤ n = s.submitted region in
-          subst (λ x. length (get_or (set w.nodes region (node_submitted (node_at w region) (submission_for w region r.session r.place r.call))) x no_node).submitted ≤ n + 1) (sym e)
-          (subst (λ x. length x.submitted ≤ n + 1) (sym (get_or-set_same w.nodes region (node_submitted (node_at w region) (submission_for w region r.session r.place r.call)) no_node (subst (λ m. region < m) (sym i.nodes) l.regions)))
-          (let more : length ((node_at w region).submitted ++ submission_for w region r.session r.place r.call ∷ []) ≡ length (node_at w region).submitted + 1 = length_push (node_at w region).submitted (submission_for w region r.session r.place r.call) in omega arith))
+          subst (λ x. length (get_or (set w.nodes region (node_submitted (node_at w region) (submission_for cluster w region r.session r.place r.call))) x no_node).submitted ≤ n + 1) (sym e)
+          (subst (λ x. length x.submitted ≤ n + 1) (sym (get_or-set_same w.nodes region (node_submitted (node_at w region) (submission_for cluster w region r.session r.place r.call)) no_node (subst (λ m. region < m) (sym i.nodes) l.regions)))
+          (let more : length ((node_at w region).submitted ++ submission_for cluster w region r.session r.place r.call ∷ []) ≡ length (node_at w region).submitted + 1 = length_push (node_at w region).submitted (submission_for cluster w region r.session r.place r.call) in omega arith))
       subm r q (inr m) =
           let few : length (node_at w q).submitted ≤ n = s.submitted q in
-          subst (λ x. length x.submitted ≤ n + 1) (sym (get_or-set_other w.nodes region q (node_submitted (node_at w region) (submission_for w region r.session r.place r.call)) no_node m)) (omega arith)
+          subst (λ x. length x.submitted ≤ n + 1) (sym (get_or-set_other w.nodes region q (node_submitted (node_at w region) (submission_for cluster w region r.session r.place r.call)) no_node m)) (omega arith)
   next_short w order n (Append home source number) l i s = elim (append_cases cluster workload w order home source number l.regions.0 l.regions.1 l.allowed i) [
     | inl same ↦ subst (λ v. IsShort v (n + 1)) (sym same) (still_short w n s)
     | inr r ↦ subst (λ v. IsShort v (n + 1)) (sym r.2) (record {
@@ -108,9 +108,9 @@ module _ (cluster : Cluster) (ok : IsValidCluster cluster) (workload : Workload)
       go : (b : Bool) → IsShort (cond b (received w region home last) w) (n + 1)
       go true = node_short w n region (record (node_at w region) { received = set (node_at w region).received home last }) w.places refl refl (places_short w n s) s
       go false = still_short w n s
-  next_short w order n (Insert region home) l i s = node_short w n region (record (node_at w region) { here = stepped (txn_of w) (node_at w region).here (Insert region home) }) w.places refl refl (places_short w n s) s
-  next_short w order n (Resolve region ids) l i s = node_short w n region (record (node_at w region) { here = stepped (txn_of w) (node_at w region).here (Resolve region ids) }) w.places refl refl (places_short w n s) s
-  next_short w order n (Execute region id) l i s = node_short w n region (record (node_at w region) { here = stepped (txn_of w) (node_at w region).here (Execute region id) }) w.places refl refl (places_short w n s) s
+  next_short w order n (Insert region home) l i s = node_short w n region (record (node_at w region) { here = stepped cluster.procs (txn_of w) (node_at w region).here (Insert region home) }) w.places refl refl (places_short w n s) s
+  next_short w order n (Resolve region ids) l i s = node_short w n region (record (node_at w region) { here = stepped cluster.procs (txn_of w) (node_at w region).here (Resolve region ids) }) w.places refl refl (places_short w n s) s
+  next_short w order n (Execute region id) l i s = node_short w n region (record (node_at w region) { here = stepped cluster.procs (txn_of w) (node_at w region).here (Execute region id) }) w.places refl refl (places_short w n s) s
   next_short w order n (Answer region name) l i s = go (session_at workload.sessions w.places region name) refl l.allowed
     where
       go : (o : Option (Session × Place)) → session_at workload.sessions w.places region name ≡ o → MayAnswer cluster w region o → IsShort (answered workload w region o) (n + 1)
@@ -140,7 +140,7 @@ module _ (cluster : Cluster) (ok : IsValidCluster cluster) (workload : Workload)
       (λ es e keeps l.
       let r : AreLegal cluster workload es × IsLegal cluster workload (world_after cluster workload es) e = legal_more cluster workload es e l in
       subst (λ v. IsShort v (length (es ++ e ∷ []))) (sym (world_after_more cluster workload es e))
-      (subst (λ n. IsShort (next workload (world_after cluster workload es) e) n) (sym (length_push es e))
+      (subst (λ n. IsShort (next cluster workload (world_after cluster workload es) e) n) (sym (length_push es e))
       (next_short (world_after cluster workload es) (order_of es) (length es) e r.1 (legal_keeps cluster ok workload fits es r.0) (keeps r.0))))
       events legal
     where

@@ -55,13 +55,13 @@ outcome_there (d ∷ done) id h = go (cases_Bool (same_id id d.0)) h (λ r. outc
     go (inr n) (inr r) f = let g : (o : Outcome) × (outcome_in done id ≡ Some o) = f r in (g.0, rw n g.1)
 
 -- an execution is there afterwards
-pub executed_next : (cluster : Cluster) (workload : Workload) (w : World) (order : List TxnId) (region : ℕ) (id : TxnId) → IsLegal cluster workload w (Execute region id) → Inv cluster workload w order → IsExecutedAt (next workload w (Execute region id)) region id
+pub executed_next : (cluster : Cluster) (workload : Workload) (w : World) (order : List TxnId) (region : ℕ) (id : TxnId) → IsLegal cluster workload w (Execute region id) → Inv cluster workload w order → IsExecutedAt (next cluster workload w (Execute region id)) region id
 executed_next cluster workload w order region id l i =
     let k : IsKnown w id = executable_known cluster workload w order region id l.regions l.allowed i in
-    let node : node_at (next workload w (Execute region id)) region ≡ record (node_at w region) { here = executed (node_at w region).here (txn_of w id) } = get_or-set_same w.nodes region _ no_node (subst (λ n. region < n) (sym i.nodes) l.regions) in
-    let here : node_at (next workload w (Execute region id)) region ≡ record (node_at w region) { here = executed (node_at w region).here (Some k.0) } = node ∙ ap (λ o. record (node_at w region) { here = executed (node_at w region).here o }) k.1 in
+    let node : node_at (next cluster workload w (Execute region id)) region ≡ record (node_at w region) { here = executed cluster.procs (node_at w region).here (txn_of w id) } = get_or-set_same w.nodes region _ no_node (subst (λ n. region < n) (sym i.nodes) l.regions) in
+    let here : node_at (next cluster workload w (Execute region id)) region ≡ record (node_at w region) { here = executed cluster.procs (node_at w region).here (Some k.0) } = node ∙ ap (λ o. record (node_at w region) { here = executed cluster.procs (node_at w region).here o }) k.1 in
     subst (λ n. Has (done_ids n.here) id) (sym here)
-    (subst (λ l. Has l id) (sym (map_push (λ d. d.0) (node_at w region).here.done (k.0.id, (one k.0 (node_at w region).here.table).0)))
+    (subst (λ l. Has l id) (sym (map_push (λ d. d.0) (node_at w region).here.done (k.0.id, (one cluster.procs k.0 (node_at w region).here.table).0)))
     (subst (λ x. Has (done_ids (node_at w region).here ++ x ∷ []) id) (sym (txn_id w id k.0 k.1)) (has_last (done_ids (node_at w region).here) id)))
 
 module _ (cluster : Cluster) (ok : IsValidCluster cluster) (workload : Workload) (fits : IsValidWorkload cluster workload) (events : List Event) (legal : AreLegal cluster workload events) where
@@ -76,7 +76,7 @@ module _ (cluster : Cluster) (ok : IsValidCluster cluster) (workload : Workload)
   pub executed_at : (i region : ℕ) (id : TxnId) → slice_get events i ≡ Some (Execute region id) → (region < cluster.regions) × IsExecutedAt (world_after cluster workload events) region id
   executed_at i region id e =
       let l : AreLegal cluster workload (take i events) × IsLegal cluster workload (world_after cluster workload (take i events)) (Execute region id) = legal_at cluster workload events legal i (Execute region id) e in
-      let h : IsExecutedAt (next workload (world_after cluster workload (take i events)) (Execute region id)) region id = executed_next cluster workload (world_after cluster workload (take i events)) (order_of (take i events)) region id l.1 (legal_keeps cluster ok workload fits (take i events) l.0) in
+      let h : IsExecutedAt (next cluster workload (world_after cluster workload (take i events)) (Execute region id)) region id = executed_next cluster workload (world_after cluster workload (take i events)) (order_of (take i events)) region id l.1 (legal_keeps cluster ok workload fits (take i events) l.0) in
       (l.1.regions, still_executed (i + 1) region id (subst (λ x. IsExecutedAt (world_after cluster workload x) region id) (sym (split_at events i (Execute region id) e).1) (subst (λ w. IsExecutedAt w region id) (sym (world_after_more cluster workload (take i events) (Execute region id))) h)))
 
   -- the outcome that a region keeps is the serial one

@@ -46,11 +46,11 @@ front_length xs ys f = subst (λ l. length xs ≤ length l) f.1 (omega (arith, l
 -- replies, with one more event
 
 pub replies_more : (cluster : Cluster) (workload : Workload) (all : List Event) (w : World) (xs : List Event) (event : Event)
-    → replies_from cluster workload all w (xs ++ event ∷ []) ≡ replies_from cluster workload all w xs ++ option_to_list (reply_for cluster workload all (answered_session workload (world_from workload w xs) event))
+    → replies_from cluster workload all w (xs ++ event ∷ []) ≡ replies_from cluster workload all w xs ++ option_to_list (reply_for cluster workload all (answered_session workload (world_from cluster workload w xs) event))
 replies_more cluster workload all w [] event = append-nil (option_to_list (reply_for cluster workload all (answered_session workload w event)))
 replies_more cluster workload all w (x ∷ xs) event =
-    ap (λ l. option_to_list (reply_for cluster workload all (answered_session workload w x)) ++ l) (replies_more cluster workload all (next workload w x) xs event)
-    ∙ sym (append_assoc (option_to_list (reply_for cluster workload all (answered_session workload w x))) (replies_from cluster workload all (next workload w x) xs) _)
+    ap (λ l. option_to_list (reply_for cluster workload all (answered_session workload w x)) ++ l) (replies_more cluster workload all (next cluster workload w x) xs event)
+    ∙ sym (append_assoc (option_to_list (reply_for cluster workload all (answered_session workload w x))) (replies_from cluster workload all (next cluster workload w x) xs) _)
 
 -- how much a region has submitted, and what a session waits for
 
@@ -63,29 +63,29 @@ wait_is w place = get_of_map (λ p. p.waits) w.places place idle_place
 same_counts : (w : World) (region : ℕ) (x : Node) (places : List Place) → length x.submitted ≡ length (node_at w region).submitted → course_of (record { nodes = set w.nodes region x; places = places }) ≡ course_of (record { nodes = w.nodes; places = places })
 same_counts w region x places e = ap (λ l. record { waits = map (λ p. p.waits) places; submitted = l }) (map_of_set (λ n. length n.submitted) w.nodes region x no_node e)
 
-pub append_same : (workload : Workload) (w : World) (home source number : ℕ) → course_of (next workload w (Append home source number)) ≡ course_of w
-append_same workload w home source number = go (eqb number (taken_from w home source)) (option_and_then (txn_of w) (slice_get (asked_of w source home) number))
+pub append_same : (cluster : Cluster) (workload : Workload) (w : World) (home source number : ℕ) → course_of (next cluster workload w (Append home source number)) ≡ course_of w
+append_same cluster workload w home source number = go (eqb number (taken_from w home source)) (option_and_then (txn_of w) (slice_get (asked_of w source home) number))
   where
     go : (b : Bool) (o : Option Txn) → course_of (cond b (placed w home source o) w) ≡ course_of w
     go false o = refl
     go true None = refl
     go true (Some txn) = same_counts w home _ w.places refl
 
-pub deliver_same : (workload : Workload) (w : World) (region home first last : ℕ) → course_of (next workload w (Deliver region home first last)) ≡ course_of w
-deliver_same workload w region home first last = go (leb first (received_of w region home) && ltb (received_of w region home) last)
+pub deliver_same : (cluster : Cluster) (workload : Workload) (w : World) (region home first last : ℕ) → course_of (next cluster workload w (Deliver region home first last)) ≡ course_of w
+deliver_same cluster workload w region home first last = go (leb first (received_of w region home) && ltb (received_of w region home) last)
   where
     go : (b : Bool) → course_of (cond b (received w region home last) w) ≡ course_of w
     go false = refl
     go true = same_counts w region _ w.places refl
 
-pub insert_same : (workload : Workload) (w : World) (region home : ℕ) → course_of (next workload w (Insert region home)) ≡ course_of w
-insert_same workload w region home = same_counts w region _ w.places refl
+pub insert_same : (cluster : Cluster) (workload : Workload) (w : World) (region home : ℕ) → course_of (next cluster workload w (Insert region home)) ≡ course_of w
+insert_same cluster workload w region home = same_counts w region _ w.places refl
 
-pub resolve_same : (workload : Workload) (w : World) (region : ℕ) (ids : List TxnId) → course_of (next workload w (Resolve region ids)) ≡ course_of w
-resolve_same workload w region ids = same_counts w region _ w.places refl
+pub resolve_same : (cluster : Cluster) (workload : Workload) (w : World) (region : ℕ) (ids : List TxnId) → course_of (next cluster workload w (Resolve region ids)) ≡ course_of w
+resolve_same cluster workload w region ids = same_counts w region _ w.places refl
 
-pub execute_same : (workload : Workload) (w : World) (region : ℕ) (id : TxnId) → course_of (next workload w (Execute region id)) ≡ course_of w
-execute_same workload w region id = same_counts w region _ w.places refl
+pub execute_same : (cluster : Cluster) (workload : Workload) (w : World) (region : ℕ) (id : TxnId) → course_of (next cluster workload w (Execute region id)) ≡ course_of w
+execute_same cluster workload w region id = same_counts w region _ w.places refl
 
 module _ (cluster : Cluster) (ok : IsValidCluster cluster) (workload : Workload) (fits : IsValidWorkload cluster workload) (xs ys : List Event) (event : Event) (legal : AreLegal cluster workload (xs ++ event ∷ ys)) where
   before : AreLegal cluster workload xs × AreLegalFrom cluster workload (world_after cluster workload xs) (event ∷ ys)
@@ -137,8 +137,8 @@ module _ (cluster : Cluster) (ok : IsValidCluster cluster) (workload : Workload)
         (ap (map (λ p. p.waits)) (place_set region r.session.name workload.sessions (world_after cluster workload xs).places (record r.place { waits = Some (next_id (world_after cluster workload xs) region) }) (now_places cluster ok workload fits xs ys (Submit region name) legal) place found_own)
         ∙ map-set (λ p. p.waits) (world_after cluster workload xs).places place (record r.place { waits = Some (next_id (world_after cluster workload xs) region) })
         ∙ ap (λ n. set (map (λ p. p.waits) (world_after cluster workload xs).places) place (Some (record { seq = n + 1; region = region }))) (sym (count_is (world_after cluster workload xs) region)))
-        (map-set (λ n. length n.submitted) (world_after cluster workload xs).nodes region (node_submitted (node_at (world_after cluster workload xs) region) (submission_for (world_after cluster workload xs) region r.session r.place r.call))
-        ∙ ap (set (map (λ n. length n.submitted) (world_after cluster workload xs).nodes) region) (length_push (node_at (world_after cluster workload xs) region).submitted (submission_for (world_after cluster workload xs) region r.session r.place r.call) ∙ ap (λ n. n + 1) (sym (count_is (world_after cluster workload xs) region))))
+        (map-set (λ n. length n.submitted) (world_after cluster workload xs).nodes region (node_submitted (node_at (world_after cluster workload xs) region) (submission_for cluster (world_after cluster workload xs) region r.session r.place r.call))
+        ∙ ap (set (map (λ n. length n.submitted) (world_after cluster workload xs).nodes) region) (length_push (node_at (world_after cluster workload xs) region).submitted (submission_for cluster (world_after cluster workload xs) region r.session r.place r.call) ∙ ap (λ n. n + 1) (sym (count_is (world_after cluster workload xs) region))))
 
     -- the region has so many submissions at the end
     pub submit_few : count_at (course_of (world_after cluster workload xs)) region + 1 ≤ length (node_at (world_after cluster workload (xs ++ Submit region name ∷ ys)) region).submitted

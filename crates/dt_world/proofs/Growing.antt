@@ -37,15 +37,15 @@ grows_set nodes region x g r = by (either_nat r region) (either_le (suc region) 
     by (inl e) (inl lt) = subst (λ q. NodeGrows (get_or nodes q no_node) (get_or (set nodes region x) q no_node)) (sym e) (subst (NodeGrows (get_or nodes region no_node)) (sym (get_or-set_same nodes region x no_node lt)) g)
     by (inl e) (inr m) = subst (λ l. NodeGrows (get_or nodes r no_node) (get_or l r no_node)) (sym (set_past nodes region x (omega arith))) (same_node (get_or nodes r no_node))
 
-module _ (workload : Workload) (w : World) where
-  pub grows : (event : Event) (r : ℕ) → NodeGrows (node_at w r) (node_at (next workload w event) r)
+module _ (cluster : Cluster) (workload : Workload) (w : World) where
+  pub grows : (event : Event) (r : ℕ) → NodeGrows (node_at w r) (node_at (next cluster workload w event) r)
   grows (Submit region name) r = go (session_at workload.sessions w.places region name)
     where
-      once : (session : Session) (place : Place) (o : Option Wanted) → NodeGrows (node_at w r) (node_at (called workload w region session place o) r)
+      once : (session : Session) (place : Place) (o : Option Wanted) → NodeGrows (node_at w r) (node_at (called cluster workload w region session place o) r)
       once session place None = same_node (node_at w r)
-      once session place (Some call) = grows_set w.nodes region (node_submitted (node_at w region) (submission_for w region session place call)) (record { submitted = front_append (node_at w region).submitted (submission_for w region session place call ∷ []); done = front_refl (node_at w region).here.done }) r
+      once session place (Some call) = grows_set w.nodes region (node_submitted (node_at w region) (submission_for cluster w region session place call)) (record { submitted = front_append (node_at w region).submitted (submission_for cluster w region session place call ∷ []); done = front_refl (node_at w region).here.done }) r
 
-      go : (o : Option (Session × Place)) → NodeGrows (node_at w r) (node_at (submitted workload w region o) r)
+      go : (o : Option (Session × Place)) → NodeGrows (node_at w r) (node_at (submitted cluster workload w region o) r)
       go None = same_node (node_at w r)
       go (Some (session, place)) = once session place (slice_get session.calls place.answered)
   grows (Append home source number) r = go (eqb number (taken_from w home source)) (option_and_then (txn_of w) (slice_get (asked_of w source home) number))
@@ -63,21 +63,21 @@ module _ (workload : Workload) (w : World) where
   grows (Resolve region ids) r = grows_set w.nodes region _ (kept_node (node_at w region) _ refl refl) r
   grows (Execute region id) r = go (txn_of w id)
     where
-      go : (o : Option Txn) → NodeGrows (node_at w r) (node_at (with_node w region (record (node_at w region) { here = executed (node_at w region).here o })) r)
+      go : (o : Option Txn) → NodeGrows (node_at w r) (node_at (with_node w region (record (node_at w region) { here = executed cluster.procs (node_at w region).here o })) r)
       go None = grows_set w.nodes region (record (node_at w region) { here = (node_at w region).here }) (same_node (node_at w region)) r
-      go (Some txn) = grows_set w.nodes region (record (node_at w region) { here = executed (node_at w region).here (Some txn) }) (record { submitted = front_refl (node_at w region).submitted; done = front_append (node_at w region).here.done _ }) r
+      go (Some txn) = grows_set w.nodes region (record (node_at w region) { here = executed cluster.procs (node_at w region).here (Some txn) }) (record { submitted = front_refl (node_at w region).submitted; done = front_append (node_at w region).here.done _ }) r
   grows (Answer region name) r = go (session_at workload.sessions w.places region name)
     where
       go : (o : Option (Session × Place)) → NodeGrows (node_at w r) (node_at (answered workload w region o) r)
       go None = same_node (node_at w r)
       go (Some (session, place)) = same_node (node_at w r)
 
-pub grows_on : (workload : Workload) (w : World) (events : List Event) (r : ℕ) → NodeGrows (node_at w r) (node_at (world_from workload w events) r)
-grows_on workload w [] r = same_node (node_at w r)
-grows_on workload w (event ∷ events) r =
-    let a : NodeGrows (node_at w r) (node_at (next workload w event) r) = grows workload w event r in
-    let b : NodeGrows (node_at (next workload w event) r) (node_at (world_from workload (next workload w event) events) r) = grows_on workload (next workload w event) events r in
-    record { submitted = front_trans (node_at w r).submitted (node_at (next workload w event) r).submitted (node_at (world_from workload (next workload w event) events) r).submitted a.submitted b.submitted; done = front_trans (node_at w r).here.done (node_at (next workload w event) r).here.done (node_at (world_from workload (next workload w event) events) r).here.done a.done b.done }
+pub grows_on : (cluster : Cluster) (workload : Workload) (w : World) (events : List Event) (r : ℕ) → NodeGrows (node_at w r) (node_at (world_from cluster workload w events) r)
+grows_on cluster workload w [] r = same_node (node_at w r)
+grows_on cluster workload w (event ∷ events) r =
+    let a : NodeGrows (node_at w r) (node_at (next cluster workload w event) r) = grows cluster workload w event r in
+    let b : NodeGrows (node_at (next cluster workload w event) r) (node_at (world_from cluster workload (next cluster workload w event) events) r) = grows_on cluster workload (next cluster workload w event) events r in
+    record { submitted = front_trans (node_at w r).submitted (node_at (next cluster workload w event) r).submitted (node_at (world_from cluster workload (next cluster workload w event) events) r).submitted a.submitted b.submitted; done = front_trans (node_at w r).here.done (node_at (next cluster workload w event) r).here.done (node_at (world_from cluster workload (next cluster workload w event) events) r).here.done a.done b.done }
 
 -- events up to one of them, that one, and those after it
 
@@ -101,14 +101,14 @@ module _ (cluster : Cluster) (workload : Workload) (events : List Event) where
   -- the world after the first so many events grows to the last one
   pub grows_to : (i r : ℕ) → NodeGrows (node_at (world_after cluster workload (take i events)) r) (node_at (world_after cluster workload events) r)
   grows_to i r = subst (λ l. NodeGrows (node_at (world_after cluster workload (take i events)) r) (node_at (world_after cluster workload l) r)) (sym (take_drop events i))
-      (subst (λ v. NodeGrows (node_at (world_after cluster workload (take i events)) r) (node_at v r)) (sym (world_from_append workload (opening_world cluster workload) (take i events) (drop i events))) (grows_on workload (world_after cluster workload (take i events)) (drop i events) r))
+      (subst (λ v. NodeGrows (node_at (world_after cluster workload (take i events)) r) (node_at v r)) (sym (world_from_append workload (opening_world cluster workload) (take i events) (drop i events))) (grows_on cluster workload (world_after cluster workload (take i events)) (drop i events) r))
 
   -- each event is legal after those before it
   pub legal_at : AreLegal cluster workload events → (i : ℕ) (event : Event) → slice_get events i ≡ Some event → AreLegal cluster workload (take i events) × IsLegal cluster workload (world_after cluster workload (take i events)) event
   legal_at legal i event e =
-      let r : AreLegal cluster workload (take i events) × AreLegalFrom cluster workload (world_from workload (opening_world cluster workload) (take i events)) (event ∷ drop (i + 1) events) = legal_append cluster workload (opening_world cluster workload) (take i events) (event ∷ drop (i + 1) events) (subst (AreLegal cluster workload) (split_at events i event e).0 legal) in
+      let r : AreLegal cluster workload (take i events) × AreLegalFrom cluster workload (world_from cluster workload (opening_world cluster workload) (take i events)) (event ∷ drop (i + 1) events) = legal_append cluster workload (opening_world cluster workload) (take i events) (event ∷ drop (i + 1) events) (subst (AreLegal cluster workload) (split_at events i event e).0 legal) in
       (r.0, r.1.0)
 
 -- a world grows as more events follow
 pub grows_past : (cluster : Cluster) (workload : Workload) (xs ys : List Event) (r : ℕ) → NodeGrows (node_at (world_after cluster workload xs) r) (node_at (world_after cluster workload (xs ++ ys)) r)
-grows_past cluster workload xs ys r = subst (λ v. NodeGrows (node_at (world_after cluster workload xs) r) (node_at v r)) (sym (world_from_append workload (opening_world cluster workload) xs ys)) (grows_on workload (world_after cluster workload xs) ys r)
+grows_past cluster workload xs ys r = subst (λ v. NodeGrows (node_at (world_after cluster workload xs) r) (node_at v r)) (sym (world_from_append workload (opening_world cluster workload) xs ys)) (grows_on cluster workload (world_after cluster workload xs) ys r)

@@ -80,7 +80,7 @@ module _ (cluster : Cluster) (seated : Seated) (posts : List Posted) (steps : �
       home_in : Has (homes_of txn) home
       home_in = subst (λ t. Has (homes_of t) home) same_txn request.home_in
 
-      valid_txn : IsValid cluster.regions txn
+      valid_txn : IsValid cluster.procs cluster.regions txn
       valid_txn = (transaction_valid cluster seated.workload (world_of posts seated.places) (order cluster seated posts steps k) (inv cluster seated posts steps k) id txn found).0
 
       -- where it is the next request
@@ -95,7 +95,7 @@ module _ (cluster : Cluster) (seated : Seated) (posts : List Posted) (steps : �
         found_here : txn_of (world_of posts seated.places) txn.id ≡ Some txn
         found_here = subst (λ x. txn_of (world_of posts seated.places) x ≡ Some txn) (sym its_id) found
 
-        placed_is : next seated.workload (world_of posts seated.places) (Append home source number) ≡ placed (world_of posts seated.places) home source (Some txn)
+        placed_is : next cluster seated.workload (world_of posts seated.places) (Append home source number) ≡ placed (world_of posts seated.places) home source (Some txn)
         placed_is =
             let yes : eqb number (taken_from (world_of posts seated.places) home source) ≡ true = test_of_equal number (taken_from (world_of posts seated.places) home source) (turn ∙ sym taken_is) in
             let one : option_and_then (txn_of (world_of posts seated.places)) (slice_get (asked_of (world_of posts seated.places) source home) number) ≡ Some txn = ap (option_and_then (txn_of (world_of posts seated.places))) wants ∙ found in
@@ -171,11 +171,11 @@ module _ (cluster : Cluster) (seated : Seated) (posts : List Posted) (steps : �
             ap₂ (λ (a : List Part) (b : List ℕ). record (node_of (post_at posts home)) { log = a; taken = set (post_at posts home).state.taken source (taken_here (post_at posts home).state source + 1); received = b }) log_is_now received_is
             ∙ ap (λ (n : Node). record n { log = n.log ++ part_of txn home ∷ []; taken = set n.taken source (slice_index n.taken source + 1) }) (sym (node_is cluster seated posts steps k home))
 
-        made : world_of (set posts home p') seated.places ≡ next seated.workload (world_of posts seated.places) (Append home source number)
+        made : world_of (set posts home p') seated.places ≡ next cluster seated.workload (world_of posts seated.places) (Append home source number)
         unfolding p'
         made = ap (λ l. record { nodes = l; places = seated.places }) (map-set node_of posts home p' ∙ ap (set (map node_of posts) home) node_made) ∙ sym placed_is
 
-        others : (q : ℕ) → q ≢ home → q < cluster.regions → received_logs (next seated.workload (world_of posts seated.places) (Append home source number)) q ≡ received_logs (world_of posts seated.places) q
+        others : (q : ℕ) → q ≢ home → q < cluster.regions → received_logs (next cluster seated.workload (world_of posts seated.places) (Append home source number)) q ≡ received_logs (world_of posts seated.places) q
         others q n lq =
             let node_q : node_at (placed (world_of posts seated.places) home source (Some txn)) q ≡ node_at (world_of posts seated.places) q = get_or-set_other (map node_of posts) home q _ no_node n in
             let within : received_of (world_of posts seated.places) q home ≤ length (log_of (world_of posts seated.places) home) = received_within cluster seated.workload (world_of posts seated.places) (order cluster seated posts steps k) (inv cluster seated posts steps k) q home lq lh in
@@ -191,7 +191,7 @@ module _ (cluster : Cluster) (seated : Seated) (posts : List Posted) (steps : �
           | inr e ↦ subst (λ y. txn_of (world_of posts seated.places) y ≡ Some u) e.1 (subst (λ t. txn_of (world_of posts seated.places) txn.id ≡ Some t) e.0 found_here)
         ]
 
-        stands_now : IsSoundRegion (after_append (post_at posts home).state source txn) → StandsIn cluster.regions (next seated.workload (world_of posts seated.places) (Append home source number)) home p'
+        stands_now : IsSoundRegion (after_append (post_at posts home).state source txn) → StandsIn cluster.regions (next cluster seated.workload (world_of posts seated.places) (Append home source number)) home p'
         unfolding p'
         stands_now sound = record {
           number = (k.stands home lh).number;
@@ -219,7 +219,7 @@ module _ (cluster : Cluster) (seated : Seated) (posts : List Posted) (steps : �
           same = λ other h. let both : Some other ≡ Some txn = sym ((k.stands home lh).known txn.id other h) ∙ subst (λ x. txn_of (world_of posts seated.places) x ≡ Some txn) (sym its_id) found in cc;
           own = λ e. own_of (sym (request.region ∙ sym refl) ∙ sym (ap (λ x. x.region) its_id) ∙ e ∙ (k.stands home lh).number);
         };
-        valid = subst (λ n. IsValid n txn) (sym (k.stands home lh).many) valid_txn;
+        valid = subst (λ n. IsValid cluster.procs n txn) (sym (k.stands home lh).many) valid_txn;
         fresh = λ turn. fresh turn;
         few = λ turn. let a : parts_in (with_part (post_at posts home).state.logs (part_of txn (post_at posts home).state.number)) ≤ steps + 1 = few turn in omega arith;
       }

@@ -71,7 +71,7 @@ module _ (cluster : Cluster) (seated : Seated) (posts : List Posted) (steps : �
       answer_legal : IsLegal cluster seated.workload (world_of posts seated.places) (Answer region name)
       answer_legal = record { regions = lr; allowed = subst (MayAnswer cluster (world_of posts seated.places) region) (sym at_session) may }
 
-      answer_next : world_of posts (after_answer seated i).places ≡ next seated.workload (world_of posts seated.places) (Answer region name)
+      answer_next : world_of posts (after_answer seated i).places ≡ next cluster seated.workload (world_of posts seated.places) (Answer region name)
       answer_next =
           ap (λ p. world_of posts p) (sym (place_set region (session_of seated i).name seated.workload.sessions seated.places (record { answered = (stand_of seated i).answered + 1; waits = None }) many_places i found_by_own))
           ∙ sym (ap (answered seated.workload (world_of posts seated.places) region) at_session)
@@ -93,7 +93,7 @@ module _ (cluster : Cluster) (seated : Seated) (posts : List Posted) (steps : �
 
     module _ (may : MayTryAt (kept_of cluster seated posts steps) region i) (number : ℕ) (numbered : number ≡ next_attempt (world_of posts seated.places) (stand_of seated i).waits)
         (body : Body) (wanted : option_map body_of (slice_get (session_of seated i).calls (stand_of seated i).answered) ≡ Some body)
-        (id : TxnId) (id_is : id ≡ next_here (post_at posts region).state) (sound : IsSoundRegion (after_submit (post_at posts region).state body)) where
+        (id : TxnId) (id_is : id ≡ next_here (post_at posts region).state) (sound : IsSoundRegion (after_submit cluster.procs (post_at posts region).state body)) where
       abbrev pub call : Wanted
       call = (some_of_map body_of (slice_get (session_of seated i).calls (stand_of seated i).answered) body wanted).0
 
@@ -107,7 +107,7 @@ module _ (cluster : Cluster) (seated : Seated) (posts : List Posted) (steps : �
       submit_legal = record { regions = lr; allowed = subst (MaySubmit cluster (world_of posts seated.places) region) (sym at_session) may }
 
       abbrev pub s : Submission
-      s = submission_for (world_of posts seated.places) region (session_of seated i) (stand_of seated i) call
+      s = submission_for cluster (world_of posts seated.places) region (session_of seated i) (stand_of seated i) call
 
       abbrev pub origin : Origin
       origin = record { session = name; call = (stand_of seated i).answered + 1; attempt = number }
@@ -118,61 +118,61 @@ module _ (cluster : Cluster) (seated : Seated) (posts : List Posted) (steps : �
       ids : next_here (post_at posts region).state ≡ next_id (world_of posts seated.places) region
       ids = ap₂ (λ a b. record { seq = a + 1; region = b }) (sym many_here) (k.stands region lr).number
 
-      txn_is : submission_here (post_at posts region).state body ≡ s.txn
-      txn_is = λ j. annotate (ids j) (calls_for j) ((sym (ap (λ n. n.here.table) (node_is cluster seated posts steps k region))) j)
+      txn_is : submission_here cluster.procs (post_at posts region).state body ≡ s.txn
+      txn_is = λ j. annotate cluster.procs (ids j) (calls_for j) ((sym (ap (λ n. n.here.table) (node_is cluster seated posts steps k region))) j)
 
-      attempt_is : attempt (submission_here (post_at posts region).state body) origin ≡ s
+      attempt_is : attempt (submission_here cluster.procs (post_at posts region).state body) origin ≡ s
       attempt_is = λ j. record { txn = txn_is j; session = (sym named) j; call = (stand_of seated i).answered + 1; attempt = numbered j }
 
-      node_made : node_of (posted (post_at posts region) body origin) ≡ node_submitted (node_at (world_of posts seated.places) region) s
+      node_made : node_of (posted cluster.procs (post_at posts region) body origin) ≡ node_submitted (node_at (world_of posts seated.places) region) s
       node_made =
-          ap (λ l. record (node_submitted (node_of (post_at posts region)) (attempt (submission_here (post_at posts region).state body) origin)) { submitted = l })
-          (attempts_more (post_at posts region).state.submitted (post_at posts region).origins (submission_here (post_at posts region).state body) origin (k.stands region lr).origins)
+          ap (λ l. record (node_submitted (node_of (post_at posts region)) (attempt (submission_here cluster.procs (post_at posts region).state body) origin)) { submitted = l })
+          (attempts_more (post_at posts region).state.submitted (post_at posts region).origins (submission_here cluster.procs (post_at posts region).state body) origin (k.stands region lr).origins)
           ∙ ap₂ node_submitted (sym (node_is cluster seated posts steps k region)) attempt_is
 
-      next_is : next seated.workload (world_of posts seated.places) (Submit region name) ≡ world_submitted seated.workload (world_of posts seated.places) region (session_of seated i) (stand_of seated i) s
+      next_is : next cluster seated.workload (world_of posts seated.places) (Submit region name) ≡ world_submitted seated.workload (world_of posts seated.places) region (session_of seated i) (stand_of seated i) s
       next_is =
-          ap (submitted seated.workload (world_of posts seated.places) region) at_session
-          ∙ ap (called seated.workload (world_of posts seated.places) region (session_of seated i) (stand_of seated i)) wants
+          ap (submitted cluster seated.workload (world_of posts seated.places) region) at_session
+          ∙ ap (called cluster seated.workload (world_of posts seated.places) region (session_of seated i) (stand_of seated i)) wants
 
-      submit_next : world_of (set posts region (posted (post_at posts region) body origin)) (after_wait seated i id).places ≡ next seated.workload (world_of posts seated.places) (Submit region name)
+      submit_next : world_of (set posts region (posted cluster.procs (post_at posts region) body origin)) (after_wait seated i id).places ≡ next cluster seated.workload (world_of posts seated.places) (Submit region name)
       submit_next =
           ap₂ (λ a b. record { nodes = a; places = b })
-          (map-set node_of posts region (posted (post_at posts region) body origin) ∙ ap (set (map node_of posts) region) node_made)
+          (map-set node_of posts region (posted cluster.procs (post_at posts region) body origin) ∙ ap (set (map node_of posts) region) node_made)
           (ap (λ x. set seated.places i (record (stand_of seated i) { waits = Some x })) (id_is ∙ ids)
           ∙ sym (place_set region (session_of seated i).name seated.workload.sessions seated.places (record (stand_of seated i) { waits = Some (next_id (world_of posts seated.places) region) }) many_places i found_by_own))
           ∙ sym next_is
 
-      still : (q : ℕ) → received_logs (next seated.workload (world_of posts seated.places) (Submit region name)) q ≡ received_logs (world_of posts seated.places) q
+      still : (q : ℕ) → received_logs (next cluster seated.workload (world_of posts seated.places) (Submit region name)) q ≡ received_logs (world_of posts seated.places) q
       still q = ap (λ w. received_logs w q) next_is ∙ received_stay (world_of posts seated.places) region (node_submitted (node_at (world_of posts seated.places) region) s) (with_place seated.workload.sessions seated.places region (session_of seated i).name (record (stand_of seated i) { waits = Some s.txn.id })) refl refl q
 
-      new_found : txn_of (next seated.workload (world_of posts seated.places) (Submit region name)) s.txn.id ≡ Some s.txn
-      new_found = transaction_found cluster seated.workload (next seated.workload (world_of posts seated.places) (Submit region name)) (ordered (order cluster seated posts steps k) (Submit region name))
+      new_found : txn_of (next cluster seated.workload (world_of posts seated.places) (Submit region name)) s.txn.id ≡ Some s.txn
+      new_found = transaction_found cluster seated.workload (next cluster seated.workload (world_of posts seated.places) (Submit region name)) (ordered (order cluster seated posts steps k) (Submit region name))
           (next_keeps cluster k.valid seated.workload k.fits (world_of posts seated.places) (order cluster seated posts steps k) (Submit region name) submit_legal (inv cluster seated posts steps k)) region s
           (subst (λ w. Has (node_at w region).submitted s) (sym next_is)
           (subst (λ n. Has n.submitted s) (sym (get_or-set_same (map node_of posts) region (node_submitted (node_at (world_of posts seated.places) region) s) no_node (subst (λ n. region < n) (sym (inv cluster seated posts steps k).nodes) lr)))
           (has_last (node_at (world_of posts seated.places) region).submitted s)))
 
-      stands_now : StandsIn cluster.regions (next seated.workload (world_of posts seated.places) (Submit region name)) region (posted (post_at posts region) body origin)
+      stands_now : StandsIn cluster.regions (next cluster seated.workload (world_of posts seated.places) (Submit region name)) region (posted cluster.procs (post_at posts region) body origin)
       stands_now = record {
         number = (k.stands region lr).number;
         many = (k.stands region lr).many;
         sound = sound;
         logs = (k.stands region lr).logs ∙ sym (still region);
-        origins = length_push (post_at posts region).origins origin ∙ ap (λ n. n + 1) (k.stands region lr).origins ∙ sym (length_push (post_at posts region).state.submitted (submission_here (post_at posts region).state body));
-        known = λ x u h. elim (find_more (post_at posts region).state.submitted (post_at posts region).state.foreign (submission_here (post_at posts region).state body) x u
-            (subst (λ l. find_txn l x ≡ Some u) (append_assoc (post_at posts region).state.submitted (submission_here (post_at posts region).state body ∷ []) (post_at posts region).state.foreign) h)) [
+        origins = length_push (post_at posts region).origins origin ∙ ap (λ n. n + 1) (k.stands region lr).origins ∙ sym (length_push (post_at posts region).state.submitted (submission_here cluster.procs (post_at posts region).state body));
+        known = λ x u h. elim (find_more (post_at posts region).state.submitted (post_at posts region).state.foreign (submission_here cluster.procs (post_at posts region).state body) x u
+            (subst (λ l. find_txn l x ≡ Some u) (append_assoc (post_at posts region).state.submitted (submission_here cluster.procs (post_at posts region).state body ∷ []) (post_at posts region).state.foreign) h)) [
               | inl o ↦ txns_stay_known cluster seated posts steps k (Submit region name) submit_legal x u ((k.stands region lr).known x u o)
-              | inr e ↦ subst (λ y. txn_of (next seated.workload (world_of posts seated.places) (Submit region name)) y ≡ Some u) e.1
-                  (subst (λ y. txn_of (next seated.workload (world_of posts seated.places) (Submit region name)) y.id ≡ Some u) (sym txn_is)
+              | inr e ↦ subst (λ y. txn_of (next cluster seated.workload (world_of posts seated.places) (Submit region name)) y ≡ Some u) e.1
+                  (subst (λ y. txn_of (next cluster seated.workload (world_of posts seated.places) (Submit region name)) y.id ≡ Some u) (sym txn_is)
                   (new_found ∙ ap Some (sym txn_is ∙ e.0)))
             ];
       }
 
-      pub submit_made : IsMade cluster seated posts steps (Submit region name) (after_wait seated i id) (set posts region (posted (post_at posts region) body origin))
+      pub submit_made : IsMade cluster seated posts steps (Submit region name) (after_wait seated i id) (set posts region (posted cluster.procs (post_at posts region) body origin))
       submit_made = record {
         legal = submit_legal;
-        lawful = one_changes cluster seated posts steps k (Submit region name) submit_legal region lr (posted (post_at posts region) body origin) (after_wait seated i id).places submit_next stands_now (λ q n lq. still q);
+        lawful = one_changes cluster seated posts steps k (Submit region name) submit_legal region lr (posted cluster.procs (post_at posts region) body origin) (after_wait seated i id).places submit_next stands_now (λ q n lq. still q);
         is = ap (λ w. record { cluster = cluster; workload = seated.workload; state = w; steps = steps + 1 }) submit_next;
       }
 

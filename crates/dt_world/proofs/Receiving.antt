@@ -103,7 +103,7 @@ module _ (cluster : Cluster) (seated : Seated) (posts : List Posted) (steps : �
         let b : last ≤ length (log_of (world_of posts seated.places) region) = subst (λ h. last ≤ length (log_of (world_of posts seated.places) h)) e within_log in
         omega arith
 
-    received_is : next seated.workload (world_of posts seated.places) (Deliver region home first last) ≡ received (world_of posts seated.places) region home last
+    received_is : next cluster seated.workload (world_of posts seated.places) (Deliver region home first last) ≡ received (world_of posts seated.places) region home last
     received_is = ap (λ b. cond b (received (world_of posts seated.places) region home last) (world_of posts seated.places)) (subst (λ n. joins n first last ≡ true) has_received yes)
 
     logs_same : logs_of (received (world_of posts seated.places) region home last) ≡ logs_of (world_of posts seated.places)
@@ -151,7 +151,7 @@ module _ (cluster : Cluster) (seated : Seated) (posts : List Posted) (steps : �
           let same : hp.0 ≡ e.txn = cc in
           subst (λ t. IsPartAt t home e.part) same hp.2)
 
-      valid_here : AllIn (λ e. IsValid cluster.regions e.txn) entries
+      valid_here : AllIn (λ e. IsValid cluster.procs cluster.regions e.txn) entries
       valid_here = all_map _ _ entries (λ e f. (transaction_valid cluster seated.workload (world_of posts seated.places) (order cluster seated posts steps k) (inv cluster seated posts steps k) e.part.id e.txn f).0) found
 
       own_id : AllIn (λ e. txn_of (world_of posts seated.places) e.txn.id ≡ Some e.txn) entries
@@ -186,7 +186,7 @@ module _ (cluster : Cluster) (seated : Seated) (posts : List Posted) (steps : �
           same = λ o g. let both : Some o ≡ Some e.txn = sym ((k.stands region lr).known e.txn.id o g) ∙ all_get _ entries own_id e h in cc;
           own = own_of e.txn (all_get _ entries own_id e h);
         });
-        valid = subst (λ n. AllIn (λ e. IsValid n e.txn) entries) (sym (k.stands region lr).many) valid_here;
+        valid = subst (λ n. AllIn (λ e. IsValid cluster.procs n e.txn) entries) (sym (k.stands region lr).many) valid_here;
         distinct = λ le. subst (λ l. Distinct (ids_of l)) (sym log_then)
             (each_front _ (ids_of (take last (log_of (world_of posts seated.places) home))) (ids_of (log_of (world_of posts seated.places) home)) (front_map (λ p. p.id) (take last (log_of (world_of posts seated.places) home)) (log_of (world_of posts seated.places) home) (front_take last (log_of (world_of posts seated.places) home)))
             (log_distinct cluster seated.workload (world_of posts seated.places) (order cluster seated posts steps k) (inv cluster seated posts steps k) home lh));
@@ -210,11 +210,11 @@ module _ (cluster : Cluster) (seated : Seated) (posts : List Posted) (steps : �
           ap₂ (λ (a : List Part) (b : List ℕ). record (node_of (post_at posts region)) { log = a; received = b }) new_log new_received
           ∙ ap (λ (n : Node). record n { received = set n.received home last }) (sym (node_is cluster seated posts steps k region))
 
-      made : world_of (set posts region p') seated.places ≡ next seated.workload (world_of posts seated.places) (Deliver region home first last)
+      made : world_of (set posts region p') seated.places ≡ next cluster seated.workload (world_of posts seated.places) (Deliver region home first last)
       unfolding p'
       made = ap (λ l. record { nodes = l; places = seated.places }) (map-set node_of posts region p' ∙ ap (set (map node_of posts) region) node_made) ∙ sym received_is
 
-      others : (q : ℕ) → q ≢ region → q < cluster.regions → received_logs (next seated.workload (world_of posts seated.places) (Deliver region home first last)) q ≡ received_logs (world_of posts seated.places) q
+      others : (q : ℕ) → q ≢ region → q < cluster.regions → received_logs (next cluster seated.workload (world_of posts seated.places) (Deliver region home first last)) q ≡ received_logs (world_of posts seated.places) q
       others q n lq =
           let node_q : node_at (received (world_of posts seated.places) region home last) q ≡ node_at (world_of posts seated.places) q = get_or-set_other (map node_of posts) region q _ no_node n in
           ap (λ w. received_logs w q) received_is
@@ -228,7 +228,7 @@ module _ (cluster : Cluster) (seated : Seated) (posts : List Posted) (steps : �
             (subst (λ l. Has (map (λ e. e.txn) l) u) (drop_none (length (log_at (post_at posts region).state.logs home)) entries) e.0))
       ]
 
-      stands_now : IsSoundRegion (after_deliver (post_at posts region).state home (length (log_at (post_at posts region).state.logs home)) entries) → StandsIn cluster.regions (next seated.workload (world_of posts seated.places) (Deliver region home first last)) region p'
+      stands_now : IsSoundRegion (after_deliver (post_at posts region).state home (length (log_at (post_at posts region).state.logs home)) entries) → StandsIn cluster.regions (next cluster seated.workload (world_of posts seated.places) (Deliver region home first last)) region p'
       unfolding p'
       stands_now sound = record {
         number = (k.stands region lr).number;

@@ -69,22 +69,22 @@ module _ (cluster : Cluster) (seated : Seated) (posts : List Posted) (steps : �
   pub node_is : (q : ℕ) → node_at (world_of posts seated.places) q ≡ node_of (post_at posts q)
   node_is q = get_of_map node_of posts q no_post
 
-  pub reached_more : (event : Event) → IsLegal cluster seated.workload (world_of posts seated.places) event → IsReached cluster seated.workload (next seated.workload (world_of posts seated.places) event) (steps + 1)
+  pub reached_more : (event : Event) → IsLegal cluster seated.workload (world_of posts seated.places) event → IsReached cluster seated.workload (next cluster seated.workload (world_of posts seated.places) event) (steps + 1)
   reached_more event l = record {
     events = k.reached.events ++ event ∷ [];
     many = length_push k.reached.events event ∙ ap (λ n. n + 1) k.reached.many;
     legal = more_legal cluster seated.workload k.reached.events event k.reached.legal (subst (λ w. IsLegal cluster seated.workload w event) k.reached.after l);
-    after = ap (λ w. next seated.workload w event) k.reached.after ∙ sym (world_after_more cluster seated.workload k.reached.events event);
+    after = ap (λ w. next cluster seated.workload w event) k.reached.after ∙ sym (world_after_more cluster seated.workload k.reached.events event);
   }
 
-  pub txns_stay_known : (event : Event) → IsLegal cluster seated.workload (world_of posts seated.places) event → (id : TxnId) (txn : Txn) → txn_of (world_of posts seated.places) id ≡ Some txn → txn_of (next seated.workload (world_of posts seated.places) event) id ≡ Some txn
+  pub txns_stay_known : (event : Event) → IsLegal cluster seated.workload (world_of posts seated.places) event → (id : TxnId) (txn : Txn) → txn_of (world_of posts seated.places) id ≡ Some txn → txn_of (next cluster seated.workload (world_of posts seated.places) event) id ≡ Some txn
   txns_stay_known event l id txn e = next_txns cluster k.valid seated.workload k.fits (world_of posts seated.places) order event l inv id txn e
 
   -- one region changes, by a legal event
   module _ (event : Event) (l : IsLegal cluster seated.workload (world_of posts seated.places) event) (region : ℕ) (lr : region < cluster.regions) (p : Posted) (places : List Place)
-      (made : world_of (set posts region p) places ≡ next seated.workload (world_of posts seated.places) event)
-      (stands : StandsIn cluster.regions (next seated.workload (world_of posts seated.places) event) region p)
-      (others : (q : ℕ) → q ≢ region → q < cluster.regions → received_logs (next seated.workload (world_of posts seated.places) event) q ≡ received_logs (world_of posts seated.places) q) where
+      (made : world_of (set posts region p) places ≡ next cluster seated.workload (world_of posts seated.places) event)
+      (stands : StandsIn cluster.regions (next cluster seated.workload (world_of posts seated.places) event) region p)
+      (others : (q : ℕ) → q ≢ region → q < cluster.regions → received_logs (next cluster seated.workload (world_of posts seated.places) event) q ≡ received_logs (world_of posts seated.places) q) where
     pub one_changes : AreLawful cluster (record seated { places = places }) (set posts region p) (steps + 1)
     one_changes = record {
       valid = k.valid;
@@ -93,32 +93,32 @@ module _ (cluster : Cluster) (seated : Seated) (posts : List Posted) (steps : �
       stands = λ q lq. subst (λ w. StandsIn cluster.regions w q (post_at (set posts region p) q)) (sym made) (at q lq (either_nat q region));
     }
       where
-        at : (q : ℕ) → q < cluster.regions → Either (q ≡ region) → StandsIn cluster.regions (next seated.workload (world_of posts seated.places) event) q (post_at (set posts region p) q)
-        at q lq (inl e) = subst (λ x. StandsIn cluster.regions (next seated.workload (world_of posts seated.places) event) x (post_at (set posts region p) x)) (sym e)
-            (subst (λ x. StandsIn cluster.regions (next seated.workload (world_of posts seated.places) event) region x) (sym (get_or-set_same posts region p no_post (subst (λ n. region < n) (sym many_posts) lr))) stands)
-        at q lq (inr n) = subst (λ x. StandsIn cluster.regions (next seated.workload (world_of posts seated.places) event) q x) (sym (get_or-set_other posts region q p no_post n))
-            (stands_still cluster.regions (world_of posts seated.places) (next seated.workload (world_of posts seated.places) event) q (post_at posts q) (txns_stay_known event l) (others q n lq) (k.stands q lq))
+        at : (q : ℕ) → q < cluster.regions → Either (q ≡ region) → StandsIn cluster.regions (next cluster seated.workload (world_of posts seated.places) event) q (post_at (set posts region p) q)
+        at q lq (inl e) = subst (λ x. StandsIn cluster.regions (next cluster seated.workload (world_of posts seated.places) event) x (post_at (set posts region p) x)) (sym e)
+            (subst (λ x. StandsIn cluster.regions (next cluster seated.workload (world_of posts seated.places) event) region x) (sym (get_or-set_same posts region p no_post (subst (λ n. region < n) (sym many_posts) lr))) stands)
+        at q lq (inr n) = subst (λ x. StandsIn cluster.regions (next cluster seated.workload (world_of posts seated.places) event) q x) (sym (get_or-set_other posts region q p no_post n))
+            (stands_still cluster.regions (world_of posts seated.places) (next cluster seated.workload (world_of posts seated.places) event) q (post_at posts q) (txns_stay_known event l) (others q n lq) (k.stands q lq))
 
   -- a region makes a step of its own
   module _ (event : Event) (region : ℕ) (lr : region < cluster.regions) (l : IsLegal cluster seated.workload (world_of posts seated.places) event)
-      (moves : next seated.workload (world_of posts seated.places) event ≡ moved_on (world_of posts seated.places) region event)
-      (finds : stepped (held (post_at posts region).state) (post_at posts region).state.here event ≡ stepped (txn_of (world_of posts seated.places)) (post_at posts region).state.here event)
-      (sound : IsSoundRegion (after_step (post_at posts region).state event)) where
+      (moves : next cluster seated.workload (world_of posts seated.places) event ≡ moved_on cluster (world_of posts seated.places) region event)
+      (finds : stepped cluster.procs (held (post_at posts region).state) (post_at posts region).state.here event ≡ stepped cluster.procs (txn_of (world_of posts seated.places)) (post_at posts region).state.here event)
+      (sound : IsSoundRegion (after_step cluster.procs (post_at posts region).state event)) where
     p' : Posted
-    p' = in_state (post_at posts region) (after_step (post_at posts region).state event)
+    p' = in_state (post_at posts region) (after_step cluster.procs (post_at posts region).state event)
 
-    node_made : node_of p' ≡ record (node_at (world_of posts seated.places) region) { here = stepped (txn_of (world_of posts seated.places)) (node_at (world_of posts seated.places) region).here event }
+    node_made : node_of p' ≡ record (node_at (world_of posts seated.places) region) { here = stepped cluster.procs (txn_of (world_of posts seated.places)) (node_at (world_of posts seated.places) region).here event }
     unfolding p'
-    node_made = ap (λ (h : Replica). record (node_of (post_at posts region)) { here = h }) finds ∙ ap (λ (n : Node). record n { here = stepped (txn_of (world_of posts seated.places)) n.here event }) (sym (node_is region))
+    node_made = ap (λ (h : Replica). record (node_of (post_at posts region)) { here = h }) finds ∙ ap (λ (n : Node). record n { here = stepped cluster.procs (txn_of (world_of posts seated.places)) n.here event }) (sym (node_is region))
 
-    pub step_made : world_of (with_state posts region (after_step (post_at posts region).state event)) seated.places ≡ next seated.workload (world_of posts seated.places) event
+    pub step_made : world_of (with_state posts region (after_step cluster.procs (post_at posts region).state event)) seated.places ≡ next cluster seated.workload (world_of posts seated.places) event
     unfolding p'
     step_made = ap (λ l. record { nodes = l; places = seated.places }) (map-set node_of posts region p' ∙ ap (set (map node_of posts) region) node_made) ∙ sym moves
 
-    received_still : (q : ℕ) → received_logs (next seated.workload (world_of posts seated.places) event) q ≡ received_logs (world_of posts seated.places) q
-    received_still q = ap (λ w. received_logs w q) moves ∙ received_stay (world_of posts seated.places) region (record (node_at (world_of posts seated.places) region) { here = stepped (txn_of (world_of posts seated.places)) (node_at (world_of posts seated.places) region).here event }) seated.places refl refl q
+    received_still : (q : ℕ) → received_logs (next cluster seated.workload (world_of posts seated.places) event) q ≡ received_logs (world_of posts seated.places) q
+    received_still q = ap (λ w. received_logs w q) moves ∙ received_stay (world_of posts seated.places) region (record (node_at (world_of posts seated.places) region) { here = stepped cluster.procs (txn_of (world_of posts seated.places)) (node_at (world_of posts seated.places) region).here event }) seated.places refl refl q
 
-    stands_now : StandsIn cluster.regions (next seated.workload (world_of posts seated.places) event) region p'
+    stands_now : StandsIn cluster.regions (next cluster seated.workload (world_of posts seated.places) event) region p'
     unfolding p'
     stands_now = let s : StandsIn cluster.regions (world_of posts seated.places) region (post_at posts region) = k.stands region lr in record {
       number = s.number;
@@ -129,6 +129,6 @@ module _ (cluster : Cluster) (seated : Seated) (posts : List Posted) (steps : �
       known = λ id txn h. txns_stay_known event l id txn (s.known id txn h);
     }
 
-    pub step_lawful : AreLawful cluster seated (with_state posts region (after_step (post_at posts region).state event)) (steps + 1)
+    pub step_lawful : AreLawful cluster seated (with_state posts region (after_step cluster.procs (post_at posts region).state event)) (steps + 1)
     unfolding p'
     step_lawful = one_changes event l region lr p' seated.places step_made stands_now (λ q n lq. received_still q)

@@ -33,7 +33,7 @@ made_before cluster seated posts steps event later after now view m = subst (λ 
 
 module _ (cluster : Cluster) (seated : Seated) (posts : List Posted) (steps : ℕ) (k : AreLawful cluster seated posts steps) where
   -- a legal event that changes nothing
-  pub still_made : (event : Event) → IsLegal cluster seated.workload (world_of posts seated.places) event → next seated.workload (world_of posts seated.places) event ≡ world_of posts seated.places → IsMade cluster seated posts steps event seated posts
+  pub still_made : (event : Event) → IsLegal cluster seated.workload (world_of posts seated.places) event → next cluster seated.workload (world_of posts seated.places) event ≡ world_of posts seated.places → IsMade cluster seated posts steps event seated posts
   still_made event l same = record {
     legal = l;
     lawful = record { valid = k.valid; fits = k.fits; reached = subst (λ w. IsReached cluster seated.workload w (steps + 1)) same (reached_more cluster seated posts steps k event l); stands = k.stands };
@@ -53,9 +53,9 @@ module _ (cluster : Cluster) (seated : Seated) (posts : List Posted) (steps : �
     down : MayStep (received_logs (world_of posts seated.places) region) (node_at (world_of posts seated.places) region).here event → MayStep (post_at posts region).state.logs (post_at posts region).state.here event
     down m = subst₂ (λ l h. MayStep l h event) (sym (k.stands region lr).logs) (ap (λ n. n.here) (node_is cluster seated posts steps k region)) m
 
-    step_done : (after : List Posted) → IsLegal cluster seated.workload (world_of posts seated.places) event → next seated.workload (world_of posts seated.places) event ≡ moved_on (world_of posts seated.places) region event
-        → stepped (held (post_at posts region).state) (post_at posts region).state.here event ≡ stepped (txn_of (world_of posts seated.places)) (post_at posts region).state.here event
-        → StepsAt posts region event (Ok true) after → IsMade cluster seated posts steps event seated after
+    step_done : (after : List Posted) → IsLegal cluster seated.workload (world_of posts seated.places) event → next cluster seated.workload (world_of posts seated.places) event ≡ moved_on cluster (world_of posts seated.places) region event
+        → stepped cluster.procs (held (post_at posts region).state) (post_at posts region).state.here event ≡ stepped cluster.procs (txn_of (world_of posts seated.places)) (post_at posts region).state.here event
+        → StepsAt cluster.procs posts region event (Ok true) after → IsMade cluster seated posts steps event seated after
     step_done after l moves finds s = record {
       legal = l;
       lawful = subst (λ a. AreLawful cluster seated a (steps + 1)) (sym s.1.1) (step_lawful cluster seated posts steps k event region lr l moves finds s.1.0);
@@ -63,28 +63,28 @@ module _ (cluster : Cluster) (seated : Seated) (posts : List Posted) (steps : �
     }
 
   module _ (region : ℕ) (lr : region < cluster.regions) where
-    pub insert_made : (home : ℕ) → home < cluster.regions → (after : List Posted) (b : Bool) → b ≡ true → StepsAt posts region (Insert region home) (Ok b) after → IsMade cluster seated posts steps (Insert region home) seated after
+    pub insert_made : (home : ℕ) → home < cluster.regions → (after : List Posted) (b : Bool) → b ≡ true → StepsAt cluster.procs posts region (Insert region home) (Ok b) after → IsMade cluster seated posts steps (Insert region home) seated after
     insert_made home lh after b e s =
-        let m : StepsAt posts region (Insert region home) (Ok true) after = subst (λ x. StepsAt posts region (Insert region home) (Ok x) after) e s in
+        let m : StepsAt cluster.procs posts region (Insert region home) (Ok true) after = subst (λ x. StepsAt cluster.procs posts region (Insert region home) (Ok x) after) e s in
         step_done region lr (Insert region home) after (record { regions = (lr, lh); allowed = up region lr (Insert region home) m.0 }) refl refl m
 
-    pub resolve_made : (ids : List TxnId) (after : List Posted) (b : Bool) → b ≡ true → StepsAt posts region (Resolve region ids) (Ok b) after → IsMade cluster seated posts steps (Resolve region ids) seated after
+    pub resolve_made : (ids : List TxnId) (after : List Posted) (b : Bool) → b ≡ true → StepsAt cluster.procs posts region (Resolve region ids) (Ok b) after → IsMade cluster seated posts steps (Resolve region ids) seated after
     resolve_made ids after b e s =
-        let m : StepsAt posts region (Resolve region ids) (Ok true) after = subst (λ x. StepsAt posts region (Resolve region ids) (Ok x) after) e s in
+        let m : StepsAt cluster.procs posts region (Resolve region ids) (Ok true) after = subst (λ x. StepsAt cluster.procs posts region (Resolve region ids) (Ok x) after) e s in
         step_done region lr (Resolve region ids) after (record { regions = lr; allowed = up region lr (Resolve region ids) m.0 }) refl refl m
 
-    pub execute_made : (id : TxnId) (after : List Posted) (b : Bool) → b ≡ true → StepsAt posts region (Execute region id) (Ok b) after → IsMade cluster seated posts steps (Execute region id) seated after
+    pub execute_made : (id : TxnId) (after : List Posted) (b : Bool) → b ≡ true → StepsAt cluster.procs posts region (Execute region id) (Ok b) after → IsMade cluster seated posts steps (Execute region id) seated after
     execute_made id after b e s =
-        let m : StepsAt posts region (Execute region id) (Ok true) after = subst (λ x. StepsAt posts region (Execute region id) (Ok x) after) e s in
+        let m : StepsAt cluster.procs posts region (Execute region id) (Ok true) after = subst (λ x. StepsAt cluster.procs posts region (Execute region id) (Ok x) after) e s in
         let h : (txn : Txn) × (held (post_at posts region).state id ≡ Some txn) = held_closed (post_at posts region).state (k.stands region lr).sound id m.0.closed in
         step_done region lr (Execute region id) after (record { regions = lr; allowed = up region lr (Execute region id) m.0 }) refl
-        (ap (executed (post_at posts region).state.here) (h.1 ∙ sym ((k.stands region lr).known id h.0 h.1))) m
+        (ap (executed cluster.procs (post_at posts region).state.here) (h.1 ∙ sym ((k.stands region lr).known id h.0 h.1))) m
 
-    pub insert_refused : (home : ℕ) (after : List Posted) (b : Bool) → b ≡ false → StepsAt posts region (Insert region home) (Ok b) after → ¬ (MayMake (kept_of cluster seated posts steps) (Insert region home))
-    insert_refused home after b e s l = let m : StepsAt posts region (Insert region home) (Ok false) after = subst (λ x. StepsAt posts region (Insert region home) (Ok x) after) e s in m.0 (down region lr (Insert region home) l.allowed)
+    pub insert_refused : (home : ℕ) (after : List Posted) (b : Bool) → b ≡ false → StepsAt cluster.procs posts region (Insert region home) (Ok b) after → ¬ (MayMake (kept_of cluster seated posts steps) (Insert region home))
+    insert_refused home after b e s l = let m : StepsAt cluster.procs posts region (Insert region home) (Ok false) after = subst (λ x. StepsAt cluster.procs posts region (Insert region home) (Ok x) after) e s in m.0 (down region lr (Insert region home) l.allowed)
 
-    pub resolve_refused : (ids : List TxnId) (after : List Posted) (b : Bool) → b ≡ false → StepsAt posts region (Resolve region ids) (Ok b) after → ¬ (MayMake (kept_of cluster seated posts steps) (Resolve region ids))
-    resolve_refused ids after b e s l = let m : StepsAt posts region (Resolve region ids) (Ok false) after = subst (λ x. StepsAt posts region (Resolve region ids) (Ok x) after) e s in m.0 (down region lr (Resolve region ids) l.allowed)
+    pub resolve_refused : (ids : List TxnId) (after : List Posted) (b : Bool) → b ≡ false → StepsAt cluster.procs posts region (Resolve region ids) (Ok b) after → ¬ (MayMake (kept_of cluster seated posts steps) (Resolve region ids))
+    resolve_refused ids after b e s l = let m : StepsAt cluster.procs posts region (Resolve region ids) (Ok false) after = subst (λ x. StepsAt cluster.procs posts region (Resolve region ids) (Ok x) after) e s in m.0 (down region lr (Resolve region ids) l.allowed)
 
-    pub execute_refused : (id : TxnId) (after : List Posted) (b : Bool) → b ≡ false → StepsAt posts region (Execute region id) (Ok b) after → ¬ (MayMake (kept_of cluster seated posts steps) (Execute region id))
-    execute_refused id after b e s l = let m : StepsAt posts region (Execute region id) (Ok false) after = subst (λ x. StepsAt posts region (Execute region id) (Ok x) after) e s in m.0 (down region lr (Execute region id) l.allowed)
+    pub execute_refused : (id : TxnId) (after : List Posted) (b : Bool) → b ≡ false → StepsAt cluster.procs posts region (Execute region id) (Ok b) after → ¬ (MayMake (kept_of cluster seated posts steps) (Execute region id))
+    execute_refused id after b e s l = let m : StepsAt cluster.procs posts region (Execute region id) (Ok false) after = subst (λ x. StepsAt cluster.procs posts region (Execute region id) (Ok x) after) e s in m.0 (down region lr (Execute region id) l.allowed)
