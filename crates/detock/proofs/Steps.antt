@@ -29,7 +29,7 @@ legal_next cluster workload events i d inside before legal =
 -- the world after it
 pub world_next : (cluster : Cluster) (workload : Workload) (events : List (ℕ × Event)) (i : ℕ) (d : ℕ × Event) → i < length events → next cluster workload (world_after cluster workload (unnumbered (take i events))) (get_or events i d).1 ≡ world_after cluster workload (unnumbered (take (i + 1) events))
 world_next cluster workload events i d inside =
-    sym (ap (world_after cluster workload) (one_more events i d inside) ∙ world_from_append workload (opening_world cluster workload) (unnumbered (take i events)) ((get_or events i d).1 ∷ []))
+    sym (ap (world_after cluster workload) (one_more events i d inside) ∙ world_from_append cluster workload (opening_world cluster workload) (unnumbered (take i events)) ((get_or events i d).1 ∷ []))
 
 -- an event that is not legal after legal ones is the first that is not
 pub first_illegal : (cluster : Cluster) (workload : Workload) (events : List (ℕ × Event)) (i rule : ℕ) (d : ℕ × Event) → i < length events → AreLegal cluster workload (unnumbered (take i events)) → ¬ IsLegal cluster workload (world_after cluster workload (unnumbered (take i events))) (get_or events i d).1 → rule ≡ rule_of (get_or events i d).1 → IsFirstIllegal cluster workload events (get_or events i d).0 rule

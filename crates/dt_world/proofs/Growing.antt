@@ -101,7 +101,7 @@ module _ (cluster : Cluster) (workload : Workload) (events : List Event) where
   -- the world after the first so many events grows to the last one
   pub grows_to : (i r : ℕ) → NodeGrows (node_at (world_after cluster workload (take i events)) r) (node_at (world_after cluster workload events) r)
   grows_to i r = subst (λ l. NodeGrows (node_at (world_after cluster workload (take i events)) r) (node_at (world_after cluster workload l) r)) (sym (take_drop events i))
-      (subst (λ v. NodeGrows (node_at (world_after cluster workload (take i events)) r) (node_at v r)) (sym (world_from_append workload (opening_world cluster workload) (take i events) (drop i events))) (grows_on cluster workload (world_after cluster workload (take i events)) (drop i events) r))
+      (subst (λ v. NodeGrows (node_at (world_after cluster workload (take i events)) r) (node_at v r)) (sym (world_from_append cluster workload (opening_world cluster workload) (take i events) (drop i events))) (grows_on cluster workload (world_after cluster workload (take i events)) (drop i events) r))
 
   -- each event is legal after those before it
   pub legal_at : AreLegal cluster workload events → (i : ℕ) (event : Event) → slice_get events i ≡ Some event → AreLegal cluster workload (take i events) × IsLegal cluster workload (world_after cluster workload (take i events)) event
@@ -111,4 +111,4 @@ module _ (cluster : Cluster) (workload : Workload) (events : List Event) where
 
 -- a world grows as more events follow
 pub grows_past : (cluster : Cluster) (workload : Workload) (xs ys : List Event) (r : ℕ) → NodeGrows (node_at (world_after cluster workload xs) r) (node_at (world_after cluster workload (xs ++ ys)) r)
-grows_past cluster workload xs ys r = subst (λ v. NodeGrows (node_at (world_after cluster workload xs) r) (node_at v r)) (sym (world_from_append workload (opening_world cluster workload) xs ys)) (grows_on cluster workload (world_after cluster workload xs) ys r)
+grows_past cluster workload xs ys r = subst (λ v. NodeGrows (node_at (world_after cluster workload xs) r) (node_at v r)) (sym (world_from_append cluster workload (opening_world cluster workload) xs ys)) (grows_on cluster workload (world_after cluster workload xs) ys r)

@@ -39,7 +39,9 @@ impl<S: Scheduler + Drop> World<S> {
             call: self.seats.seat(place).answered + 1,
             attempt,
         };
-        let id = self.sites.submit(alloc, region, body, origin)?;
+        let id = self
+            .sites
+            .submit(alloc, region, body, &self.cluster.procs, origin)?;
         self.seats.wait(place, id);
         self.steps += 1;
         Ok(())
@@ -146,7 +148,10 @@ impl<S: Scheduler + Drop> World<S> {
         if region >= self.cluster.regions {
             return Err(StepError::Illegal(6));
         }
-        if !self.sites.execute(alloc, region, id)? {
+        if !self
+            .sites
+            .execute(alloc, region, id, &self.cluster.procs)?
+        {
             return Err(StepError::Illegal(6));
         }
         self.steps += 1;

@@ -87,7 +87,7 @@ impl<S: Scheduler + Drop> World<S> {
         requires { self.old.steps < 4294967295 }
         ensures legal { IsOk result → IsLegal self.old.cluster self.old.workload self.old.state event.now }
         ensures next { OnOk result (self.new ≡ record self.old {
-          state = next self.old.workload self.old.state event.now;
+          state = next self.old.cluster self.old.workload self.old.state event.now;
           steps = self.old.steps + 1;
         }) }
         ensures same { OnErr result (self.new ≡ self.old) }
