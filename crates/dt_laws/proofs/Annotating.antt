@@ -110,7 +110,7 @@ pub annotated_uses : (t : Table) (us : List (Bytes × Mode)) → map (λ a. (a.k
 annotated_uses t [] = refl
 annotated_uses t (u ∷ us) = ap (λ l. u ∷ l) (annotated_uses t us)
 
-pub body_fits : (cluster : Cluster) (regions : ℕ) (call : Wanted) → WantedFits regions call → BodyFits cluster.procs regions (body_of call)
+pub body_fits : (cluster : Cluster) (regions : ℕ) (call : Wanted) → WantedFits cluster.procs regions call → BodyFits cluster.procs regions (body_of call)
 body_fits cluster regions (wanted.Call proc args) f = f
 body_fits cluster regions (wanted.Move key target) f = f
 

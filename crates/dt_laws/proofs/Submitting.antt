@@ -163,7 +163,7 @@ module _ (cluster : Cluster) (ok : IsValidCluster cluster) (workload : Workload)
   valid_one : IsValid cluster.procs cluster.regions s.txn
   unfolding s
   valid_one = annotated_valid cluster cluster.regions (next_id w region) (body_of call) (node_at w region).here.table
-      (body_fits cluster cluster.regions call (all_get (WantedFits cluster.regions) session.calls (all_get (IsValidSession cluster.regions) workload.sessions fits.sessions session member).calls call (has_place session.calls place.answered call wants)))
+      (body_fits cluster cluster.regions call (all_get (WantedFits cluster.procs cluster.regions) session.calls (all_get (IsValidSession cluster.procs cluster.regions) workload.sessions fits.sessions session member).calls call (has_place session.calls place.answered call wants)))
       (λ key. subst (λ t. home_of t key < cluster.regions) (sym (i.tables region lr).table) (home_below cluster ok (txns_of w (done_ids (node_at w region).here)) (txns_valid cluster cluster.regions w i.valid (done_ids (node_at w region).here)) key))
 
   valid : Valid cluster cluster.regions v

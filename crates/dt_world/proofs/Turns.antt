@@ -67,4 +67,4 @@ module _ (cluster : Cluster) (seated : Seated) (posts : List Posted) (steps : �
         let w : (c : Wanted) × (slice_get (session_of seated i).calls (stand_of seated i).answered ≡ Some c) × (body_of c ≡ body) = some_of_map body_of (slice_get (session_of seated i).calls (stand_of seated i).answered) body e in
         let valid : IsValidSession cluster.procs cluster.regions (session_of seated i) = all_get (IsValidSession cluster.procs cluster.regions) seated.workload.sessions k.fits.sessions (session_of seated i) (has_place seated.workload.sessions i (session_of seated i) (slice_get-get_or seated.workload.sessions i no_session seat.there)) in
         subst (λ n. BodyFits cluster.procs n body) (sym (k.stands region seat.some).many)
-        (subst (BodyFits cluster.procs cluster.regions) w.2 (body_fits cluster.regions w.0 (all_get (WantedFits cluster.procs cluster.regions) (session_of seated i).calls valid.calls w.0 (has_place (session_of seated i).calls (stand_of seated i).answered w.0 w.1))))
+        (subst (BodyFits cluster.procs cluster.regions) w.2 (body_fits cluster cluster.regions w.0 (all_get (WantedFits cluster.procs cluster.regions) (session_of seated i).calls valid.calls w.0 (has_place (session_of seated i).calls (stand_of seated i).answered w.0 w.1))))
