@@ -254,9 +254,9 @@ module _ (cluster : Cluster) (workload : Workload) (w : World) (order : List Txn
       logs = logs;
       lengths = lengths;
       sound = sound_kept cluster w v cluster.regions view_same (keeps (λ n. n.here.resolved) refl) (keeps (λ n. n.here.done) refl) i.sound;
-      tables = tables_kept w v cluster (λ q lq. txns_same w v subs_same (done_ids (node_at w q).here)) (keeps (λ n. n.here.done) refl) (keeps (λ n. n.here.table) refl) i.tables;
+      tables = tables_kept cluster w v (λ q lq. txns_same w v subs_same (done_ids (node_at w q).here)) (keeps (λ n. n.here.done) refl) (keeps (λ n. n.here.table) refl) i.tables;
       ordered = ordered;
-      sessions = sessions_kept w v cluster workload (keeps (λ n. n.submitted) refl) refl i.sessions;
+      sessions = sessions_kept cluster w v workload (keeps (λ n. n.submitted) refl) refl i.sessions;
     }
 
 -- the next request of a source is placed, with the transaction that it asks for

@@ -168,7 +168,7 @@ module _ (cluster : Cluster) (workload : Workload) (w : World) (order : List Txn
     sound = sound;
     tables = tables;
     ordered = o;
-    sessions = sessions_kept w v cluster workload (keeps (λ n. n.submitted) refl) refl i.sessions;
+    sessions = sessions_kept cluster w v workload (keeps (λ n. n.submitted) refl) refl i.sessions;
   }
 
   world_is : v ≡ moved_on cluster w region (Execute region id)

@@ -143,7 +143,7 @@ module _ (cluster : Cluster) (workload : Workload) (w : World) (order : List Txn
     logs = logs_kept cluster w v cluster.regions (keeps (λ n. n.log) refl) (keeps (λ n. n.taken) refl) (keeps (λ n. n.asked) refl) subs_same i.logs;
     lengths = lengths;
     sound = sound;
-    tables = tables_kept w v cluster (λ q lq. txns_same w v subs_same (done_ids (node_at w q).here)) (keeps (λ n. n.here.done) refl) (keeps (λ n. n.here.table) refl) i.tables;
+    tables = tables_kept cluster w v (λ q lq. txns_same w v subs_same (done_ids (node_at w q).here)) (keeps (λ n. n.here.done) refl) (keeps (λ n. n.here.table) refl) i.tables;
     ordered = ordered_kept cluster w v cluster.regions order logs_same (keeps (λ n. n.here.done) refl) i.ordered;
-    sessions = sessions_kept w v cluster workload (keeps (λ n. n.submitted) refl) refl i.sessions;
+    sessions = sessions_kept cluster w v workload (keeps (λ n. n.submitted) refl) refl i.sessions;
   }

@@ -95,8 +95,8 @@ module _ (cluster : Cluster) (w v : World) where
       (subst (λ l. IsSound (view_at w region) l (done_ids (node_at v region).here)) (sym (kr region))
       (subst (λ l. IsSound (view_at w region) (node_at w region).here.resolved (map (λ d. d.0) l)) (sym (kd region)) (s region lt)))
 
-  pub tables_kept : (cluster : Cluster) → ((region : ℕ) → region < cluster.regions → txns_of v (done_ids (node_at w region).here) ≡ txns_of w (done_ids (node_at w region).here)) → Keeps (λ n. n.here.done) w v → Keeps (λ n. n.here.table) w v → Tables cluster w → Tables cluster v
-  tables_kept cluster e kd kt t region lt =
+  pub tables_kept : ((region : ℕ) → region < cluster.regions → txns_of v (done_ids (node_at w region).here) ≡ txns_of w (done_ids (node_at w region).here)) → Keeps (λ n. n.here.done) w v → Keeps (λ n. n.here.table) w v → Tables cluster w → Tables cluster v
+  tables_kept e kd kt t region lt =
       let same : txns_of v (done_ids (node_at v region).here) ≡ txns_of w (done_ids (node_at w region).here) = ap (λ l. txns_of v (map (λ d. d.0) l)) (kd region) ∙ e region lt in
       let before : IsRunOf cluster (opening_table cluster) (txns_of w (done_ids (node_at w region).here)) (node_at w region).here = t region lt in
       record {
@@ -125,13 +125,13 @@ module _ (cluster : Cluster) (w v : World) where
   places_kept tries k (s ∷ ss) [] p = p
   places_kept tries k (s ∷ ss) (y ∷ ys) p = (place_kept tries k s y p.0, places_kept tries k ss ys p.1)
 
-  pub known_kept : (cluster : Cluster) (workload : Workload) → Keeps (λ n. n.submitted) w v
+  pub known_kept : (workload : Workload) → Keeps (λ n. n.submitted) w v
       → ((region : ℕ) → region < cluster.regions → AllIn (λ s. AnyIn (IsSubmissionOf cluster.tries region s) workload.sessions) (node_at w region).submitted)
       → (region : ℕ) → region < cluster.regions → AllIn (λ s. AnyIn (IsSubmissionOf cluster.tries region s) workload.sessions) (node_at v region).submitted
-  known_kept cluster workload k a region lt = subst (AllIn (λ s. AnyIn (IsSubmissionOf cluster.tries region s) workload.sessions)) (sym (k region)) (a region lt)
+  known_kept workload k a region lt = subst (AllIn (λ s. AnyIn (IsSubmissionOf cluster.tries region s) workload.sessions)) (sym (k region)) (a region lt)
 
-  pub sessions_kept : (cluster : Cluster) (workload : Workload) → Keeps (λ n. n.submitted) w v → v.places ≡ w.places → AreSessions cluster workload w → AreSessions cluster workload v
-  sessions_kept cluster workload k e s = record {
+  pub sessions_kept : (workload : Workload) → Keeps (λ n. n.submitted) w v → v.places ≡ w.places → AreSessions cluster workload w → AreSessions cluster workload v
+  sessions_kept workload k e s = record {
     places = subst (Pairwise (IsPlaceOf cluster.tries v) workload.sessions) (sym e) (places_kept cluster.tries k workload.sessions w.places s.places);
-    known = known_kept cluster workload k s.known;
+    known = known_kept workload k s.known;
   }

@@ -327,7 +327,7 @@ module _ (cluster : Cluster) (ok : IsValidCluster cluster) (workload : Workload)
     logs = logs;
     lengths = lengths_kept cluster w v cluster.regions (keeps (λ n. n.here.inserted) refl) (keeps (λ n. n.received) refl) (keeps (λ n. n.log) refl) i.lengths;
     sound = sound_kept cluster w v cluster.regions (λ q lq. view_kept cluster w v logs_same (keeps (λ n. n.here.inserted) refl) (keeps (λ n. n.received) refl) (keeps (λ n. n.log) refl) q) (keeps (λ n. n.here.resolved) refl) (keeps (λ n. n.here.done) refl) i.sound;
-    tables = tables_kept w v cluster (λ q lq. txns_stay w v txns (done_ids (node_at w q).here) (done_known cluster workload w order i q lq)) (keeps (λ n. n.here.done) refl) (keeps (λ n. n.here.table) refl) i.tables;
+    tables = tables_kept cluster w v (λ q lq. txns_stay w v txns (done_ids (node_at w q).here) (done_known cluster workload w order i q lq)) (keeps (λ n. n.here.done) refl) (keeps (λ n. n.here.table) refl) i.tables;
     ordered = ordered_kept cluster w v cluster.regions order logs_same (keeps (λ n. n.here.done) refl) i.ordered;
     sessions = sessions;
   }

@@ -9,7 +9,7 @@ use Rattle.dt_access.specs.declared.TxnId.{TxnId}
 use Rattle.dt_proc.specs.Tree.{ProcTree}
 use Rattle.dt_table.specs.Table.{Table, Moved, moves_of}
 use Rattle.dt_text.specs.declared.Value.{Value}
-use Rattle.dt_eval.specs.Meaning.{meaning}
+use Rattle.dt_eval.specs.Calls.{call_meaning}
 use Rattle.dt_eval.specs.declared.Finish.{Finish}
 use Rattle.dt_eval.specs.declared.finish.Finish.TheVariants as finish
 use Rattle.dt_txn.specs.declared.txn.Body.{Body}
@@ -56,7 +56,7 @@ finish_fresh (finish.Aborted cause) k = k
 
 -- what a body gives is never stale
 own_fresh : (procs : List ProcTree) (id : TxnId) (body : Body) (reads : List (Bytes × Option Value)) → ¬ (IsStale (result_of procs id body reads).0)
-own_fresh procs id (Call proc args) reads k = finish_fresh (meaning proc args reads) k
+own_fresh procs id (Call proc args) reads k = finish_fresh (call_meaning procs proc args reads) k
 own_fresh procs id (Move key target) reads k = k
 
 module _ (procs : List ProcTree) (start : Table) (unmoved : (key : Bytes) → moves_of start key ≡ []) (txns : List Txn) where

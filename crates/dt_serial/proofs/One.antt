@@ -10,7 +10,7 @@ use Rattle.dt_access.specs.declared.TxnId.{TxnId}
 use Rattle.dt_access.specs.declared.Access.{Access}
 use Rattle.dt_text.specs.declared.Value.{Value}
 use Rattle.dt_proc.specs.Tree.{ProcTree}
-use Rattle.dt_eval.specs.Meaning.{meaning}
+use Rattle.dt_eval.specs.Calls.{call_meaning}
 use Rattle.dt_eval.specs.declared.Finish.{Finish}
 use Rattle.dt_eval.specs.declared.finish.Finish.TheVariants as finish
 use Rattle.dt_table.specs.declared.Effect.{Effect}
@@ -146,7 +146,7 @@ record IsMoveIn (procs : List ProcTree) (id : TxnId) (body : Body) (s : Option O
 
 move_in : (procs : List ProcTree) (id : TxnId) (body : Body) (s : Option Outcome) (reads : List (Bytes × Option Value)) (key : Bytes) (m : Moved) → moved_on (unless_stale s (result_of procs id body reads)).1.moved key ≡ m ∷ [] → IsMoveIn procs id body s reads key m
 move_in procs id body (Some o) reads key m e = cc
-move_in procs id (Call proc args) None reads key m e = let n : moved_on (of_finish (meaning proc args reads)).1.moved key ≡ [] = ap (λ o. moved_on o key) (of_finish_moved (meaning proc args reads)) in cc
+move_in procs id (Call proc args) None reads key m e = let n : moved_on (of_finish (call_meaning procs proc args reads)).1.moved key ≡ [] = ap (λ o. moved_on o key) (of_finish_moved (call_meaning procs proc args reads)) in cc
 move_in procs id (Move k target) None reads key m e = go (cases_Bool (same_key key k))
   where
     made : Moved

@@ -9,7 +9,7 @@ use Rattle.dt_access.specs.declared.Mode.TheVariants.{Write}
 use Rattle.dt_text.specs.declared.Value.{Value}
 use Rattle.dt_text.specs.declared.Value.TheVariants.{Int, Text}
 use Rattle.dt_proc.specs.Tree.{ProcTree}
-use Rattle.dt_eval.specs.Meaning.{Fits, keys_of, meaning}
+use Rattle.dt_eval.specs.Calls.{CallFits, call_keys, call_meaning}
 use Rattle.dt_txn.specs.declared.txn.Body.{Body}
 use Rattle.dt_txn.specs.declared.txn.Body.TheVariants.{Call, Move}
 use Rattle.dt_txn.specs.declared.txn.Txn.{Txn}
@@ -17,15 +17,12 @@ use Rattle.dt_txn.specs.Transaction.{uses_of, BodyFits, IsValid}
 use Rattle.dt_txn.specs.Execution.{of_finish, result_of}
 use Rattle.dt_serial.specs.Order.{Changes, KeepsToKeys}
 
--- a call whose arguments fit changes only keys that it uses in the mode for writing, whatever it reads
-pub call_keeps : (proc : ℕ) (args : List Value) (reads : List (Bytes × Option Value)) (key : Bytes) → Fits proc args → Changes (of_finish (meaning proc args reads)).1 key → AnyIn (λ u. (u.0 ≡ key) × (u.1 ≡ Write)) (keys_of proc args)
-call_keeps zero (Text k ∷ Int n ∷ []) reads key fits (inl (inl e)) = inl (e, refl)
-call_keeps zero (Text k ∷ Int n ∷ []) reads key fits (inl (inr e)) = absurd e
-call_keeps zero (Text k ∷ Int n ∷ []) reads key fits (inr e) = absurd e
-call_keeps proc args reads key fits changes = absurd fits
+-- a call changes only keys that it uses in the mode for writing, whatever it reads
+pub call_keeps : (procs : List ProcTree) (number : ℕ) (args : List Value) (reads : List (Bytes × Option Value)) (key : Bytes) → CallFits procs number args → Changes (of_finish (call_meaning procs number args reads)).1 key → AnyIn (λ u. (u.0 ≡ key) × (u.1 ≡ Write)) (call_keys procs number args)
+call_keeps procs number args reads key fits changes = ?
 
 body_keeps : (procs : List ProcTree) (regions : ℕ) (id : TxnId) (body : Body) (reads : List (Bytes × Option Value)) (key : Bytes) → BodyFits procs regions body → Changes (result_of procs id body reads).1 key → AnyIn (λ u. (u.0 ≡ key) × (u.1 ≡ Write)) (uses_of procs body)
-body_keeps procs regions id (Call proc args) reads key fits changes = call_keeps proc args reads key fits.0 changes
+body_keeps procs regions id (Call proc args) reads key fits changes = call_keeps procs proc args reads key fits changes
 body_keeps procs regions id (Move k target) reads key fits (inl e) = absurd e
 body_keeps procs regions id (Move k target) reads key fits (inr e) = inl (e, refl)
 
