@@ -8,7 +8,7 @@ use Rattle.dt_access.specs.declared.Mode.{Mode}
 use Rattle.dt_access.specs.declared.TxnId.{TxnId}
 use Rattle.dt_text.specs.declared.Value.{Value}
 use Rattle.dt_proc.specs.Tree.{ProcTree}
-use Rattle.dt_eval.specs.Meaning.{meaning}
+use Rattle.dt_eval.specs.Calls.{call_meaning}
 use Rattle.dt_eval.specs.declared.Finish.{Finish}
 use Rattle.dt_eval.specs.declared.finish.Finish.TheVariants as finish
 use Rattle.dt_table.specs.Table.{Table, Moved, home_of, moves_of, apply}
@@ -35,7 +35,7 @@ finish_moves regions (finish.Gave values writes) = tt
 finish_moves regions (finish.Aborted cause) = tt
 
 result_moves : (procs : List ProcTree) (regions : ℕ) (id : TxnId) (body : Body) (reads : List (Bytes × Option Value)) → BodyFits procs regions body → MovesWithin regions (result_of procs id body reads).1.moved
-result_moves procs regions id (Call proc args) reads fits = finish_moves regions (meaning proc args reads)
+result_moves procs regions id (Call proc args) reads fits = finish_moves regions (call_meaning procs proc args reads)
 result_moves procs regions id (Move key target) reads fits = fits
 
 unless_moves : (regions : ℕ) (stale : Option Outcome) (r : Outcome × Effect) → MovesWithin regions r.1.moved → MovesWithin regions (unless_stale stale r).1.moved

@@ -1,12 +1,14 @@
 ghost use Rattle.std.specs.Prelude.{◌≡◌, IfOk, map};
+ghost use Rattle.dt_eval.specs.Calls.{CallFits, call_keys};
 ghost use Rattle.dt_txn.specs.Transaction.{CanRun, annotate, annotated, used_of, uses_of};
 
+use crate::called::called;
 use crate::txn::{Body, Txn};
 use dt_access::{Access, Accesses, Keys, Mode, TxnId};
 use dt_eval::{KeysError, keys_of};
 use dt_proc::Procs;
 use dt_table::Table;
-use dt_text::NoMemory;
+use dt_text::{NoMemory, Value};
 use std::alloc::Global;
 
 /// The transaction of this id for a body, as a region with these procedures and this table submits it: each of its keys has the home and the
@@ -57,20 +59,23 @@ fn uses(alloc: Global, body: &Body, procs: &Procs) -> Result<Keys, NoMemory>
     ensures { IfOk result (λ keys. keys ≡ uses_of procs.now body.now) }
 {
     match body {
-        Body::Call(number, args) => {
-            let Some(proc) = procs.get(*number) else {
-                unreachable!();
-            };
-            match keys_of(alloc, proc, args.as_slice()) {
-                Ok(keys) => Ok(keys),
-                Err(KeysError::NoMemory) => Err(NoMemory),
-                Err(KeysError::BadKey(_)) => unreachable!(),
-            }
-        }
+        Body::Call(number, args) => call_keys(alloc, procs, *number, args.as_slice()),
         Body::Move(key, _) => {
             let mut keys = Keys::new(alloc);
             keys.push((key.copy(alloc)?, Mode::Write))?;
             Ok(keys)
         }
+    }
+}
+
+/// The keys that a call uses, in ascending order, each with its mode.
+fn call_keys(alloc: Global, procs: &Procs, number: u32, args: &[Value]) -> Result<Keys, NoMemory>
+    requires { CallFits procs.now number args.now }
+    ensures { IfOk result (λ keys. keys ≡ call_keys procs.now number args.now) }
+{
+    match keys_of(alloc, called(procs, number, args), args) {
+        Ok(keys) => Ok(keys),
+        Err(KeysError::NoMemory) => Err(NoMemory),
+        Err(KeysError::BadKey(_)) => unreachable!(),
     }
 }

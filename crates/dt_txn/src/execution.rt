@@ -1,9 +1,11 @@
 ghost use Rattle.std.specs.Prelude.{◌≡◌, IfOk, length, map};
 ghost use Rattle.std.specs.Option.{option_copied};
 ghost use Rattle.dt_table.specs.Table.{next_mover};
+ghost use Rattle.dt_eval.specs.Calls.{CallFits, call_keys, call_meaning};
 ghost use Rattle.dt_txn.specs.Transaction.{CanRun, used_of, uses_of};
 ghost use Rattle.dt_txn.specs.Execution.{execution, see, one, reads_of, result_of, stale_of, of_finish, no_effect};
 
+use crate::called::called;
 use crate::outcome::{Outcome, Seen, Seens};
 use crate::txn::{Body, Txn};
 use dt_access::{Access, TryCopy, TxnId, Writes};
@@ -134,12 +136,7 @@ fn result_of(
     ensures { IfOk result (λ r. r ≡ result_of procs.now txn.now.id txn.now.body reads.now) }
 {
     match &txn.body {
-        Body::Call(number, args) => {
-            let Some(proc) = procs.get(*number) else {
-                unreachable!();
-            };
-            Ok(finished(alloc, run(alloc, proc, args.as_slice(), reads)?))
-        }
+        Body::Call(number, args) => call(alloc, procs, *number, args.as_slice(), reads),
         Body::Move(key, target) => Ok((
             Outcome::Gave(Values::new(alloc)),
             Effect {
@@ -148,6 +145,22 @@ fn result_of(
             },
         )),
     }
+}
+
+/// What a call gives where nothing is stale.
+fn call(
+    alloc: Global,
+    procs: &Procs,
+    number: u32,
+    args: &[Value],
+    reads: &Reads,
+) -> Result<(Outcome, Effect), NoMemory>
+    requires fits { CallFits procs.now number args.now }
+    requires reads { map (λ read. read.0) reads.now ≡ map (λ used. used.0) (call_keys procs.now number args.now) }
+    ensures { IfOk result (λ r. r ≡ of_finish (call_meaning procs.now number args.now reads.now)) }
+{
+    let finish = run(alloc, called(procs, number, args), args, reads)?;
+    Ok(finished(alloc, finish))
 }
 
 /// How a call's run ends, as an outcome and an effect.

@@ -2,6 +2,7 @@
 #![tactic(auto)]
 
 mod annotation;
+mod called;
 mod execution;
 mod outcome;
 mod placement;
