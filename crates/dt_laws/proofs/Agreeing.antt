@@ -52,9 +52,9 @@ use Rattle.dt_laws.proofs.RootedEvents.{legal_roots}
 
 -- outcomes by ids
 
-pub lookup_has : (cluster : Cluster) (es : List (TxnId × Outcome)) (id : TxnId) (o : Outcome) → outcome_in es id ≡ Some o → Has es (id, o)
-lookup_has cluster [] id o e = cc
-lookup_has cluster (x ∷ es) id o e = go (cases_Bool (same_id id x.0)) (lookup_has cluster es id o)
+pub lookup_has : (es : List (TxnId × Outcome)) (id : TxnId) (o : Outcome) → outcome_in es id ≡ Some o → Has es (id, o)
+lookup_has [] id o e = cc
+lookup_has (x ∷ es) id o e = go (cases_Bool (same_id id x.0)) (lookup_has es id o)
   where
     go : (same_id id x.0 ≡ true) ⊎ (same_id id x.0 ≡ false) → (outcome_in es id ≡ Some o → Has es (id, o)) → Has (x ∷ es) (id, o)
     go (inl p) f = inl (λ i. (sym (id_of_test id x.0 p) i, same_Some x.1 o (rw p at e) i))
@@ -235,7 +235,7 @@ answered_done cluster w region (Some (session, place)) a m f = go (outcome_at w 
   where
     go : (o : Option Outcome) → outcome_at w region a ≡ o → IsLast cluster.tries (attempt_of w a) o → IsExecutedAt w region a
     go None e l = absurd l
-    go (Some outcome) e l = has_map (λ d. d.0) (node_at w region).here.done (a, outcome) (lookup_has cluster (node_at w region).here.done a outcome e)
+    go (Some outcome) e l = has_map (λ d. d.0) (node_at w region).here.done (a, outcome) (lookup_has (node_at w region).here.done a outcome e)
 
 module _ (cluster : Cluster) (ok : IsValidCluster cluster) (workload : Workload) (fits : IsValidWorkload cluster workload) where
   real_time_at : (first : List Event) (region : ℕ) (session : Bytes) (middle : List Event) (other : ℕ) (name : Bytes) (last : List Event) (a : TxnId)

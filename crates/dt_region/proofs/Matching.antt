@@ -39,7 +39,7 @@ use Rattle.dt_region.proofs.Beginning.{opening_well}
 use Rattle.dt_region.proofs.Delivering.{all_drop, deliver_well}
 use Rattle.dt_region.proofs.Kept.{keep_other_is, keep_others_is}
 use Rattle.dt_region.proofs.Logs.{log_few, parts_with}
-use Rattle.dt_region.proofs.Stepping.{held_id, held_valid, executable_held, can_insert, insert_well, resolve_well, execute_well}
+use Rattle.dt_region.proofs.Stepping.{held_id, executable_held, can_insert, insert_well, resolve_well, execute_well}
 use Rattle.dt_region.proofs.Submitting.{submit_sound}
 use Rattle.dt_region.proofs.Tables.{annotate_valid}
 
@@ -251,9 +251,6 @@ pub execute_held : (k : Kept) (s : State) → record { state = s } ≡ k → (se
 execute_held k s view seen well id can =
     let r : (txn : Txn) × (held s id ≡ Some txn) = executable_held s well.0 id (subst (λ x. CanExecute x id) well.1 can) in
     (r.0, subst (λ x. held x.state id ≡ Some r.0) view r.1)
-
-pub execute_valid : (procs : List ProcTree) (k : Kept) → HoldsValid procs k.state → (id : TxnId) (txn : Txn) → held k.state id ≡ Some txn → IsValid procs k.state.regions txn
-execute_valid procs k holds id txn e = held_valid procs k.state holds id txn e
 
 pub execute_made : (procs : List ProcTree) (k : Kept) (s : State) → record { state = s } ≡ k → (seen : Sched) → AreWell s seen → HoldsValid procs k.state → (id : TxnId) → CanExecute seen id → (txn : Txn) → held k.state id ≡ Some txn →
     (now : Sched) (done : List (TxnId × Outcome)) (table : Table) (outcome : Outcome) (effect : Effect) → (outcome, effect) ≡ one procs txn s.here.table → now ≡ after_finish seen id → done ≡ s.here.done ++ (id, outcome) ∷ [] → table ≡ apply effect s.here.table →

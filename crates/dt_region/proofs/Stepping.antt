@@ -17,7 +17,7 @@ use Rattle.dt_sched.proofs.Closed.{complete_of_closed, part_of_complete}
 use Rattle.dt_txn.specs.declared.txn.Txn.{Txn}
 use Rattle.dt_txn.specs.declared.outcome.Outcome.{Outcome}
 use Rattle.dt_proc.specs.Tree.{ProcTree}
-use Rattle.dt_txn.specs.Transaction.{homes_of, part_of, IsTransaction, IsValid}
+use Rattle.dt_txn.specs.Transaction.{homes_of, part_of, IsTransaction}
 use Rattle.dt_txn.specs.Execution.{one}
 use Rattle.dt_txn.specs.Replica.{fronts, view_of, done_ids, executed}
 use Rattle.dt_region.specs.State.{State, find_txn, held, sched_of}
@@ -34,11 +34,6 @@ held_id s id txn e = (found (s.submitted ++ s.foreign) id txn e).1
 pub held_formed : (s : State) → IsSoundRegion s → (id : TxnId) (txn : Txn) → held s id ≡ Some txn → IsTransaction s.regions txn
 held_formed s sound id txn e =
     all_get (IsTransaction s.regions) (s.submitted ++ s.foreign) (all_append _ s.submitted s.foreign sound.submitted_formed sound.foreign_formed) txn (found (s.submitted ++ s.foreign) id txn e).0
-
--- where all that is held is valid, what is found is
-pub held_valid : (procs : List ProcTree) (s : State) → HoldsValid procs s → (id : TxnId) (txn : Txn) → held s id ≡ Some txn → IsValid procs s.regions txn
-held_valid procs s holds id txn e =
-    all_get (IsValid procs s.regions) (s.submitted ++ s.foreign) (all_append _ s.submitted s.foreign holds.submitted holds.foreign) txn (found (s.submitted ++ s.foreign) id txn e).0
 
 -- a part of a region's view is a held part
 view_parts : (s : State) → IsSoundRegion s → (home : ℕ) (p : Part) → Has (log_at (view_of s.logs s.here) home) p → IsHeldPart s home p
@@ -182,7 +177,7 @@ execute_well procs s sound holds id txn seen e f = (
     few = sound.few;
     taken_few = sound.taken_few;
     inserted_few = sound.inserted_few;
-    table = after_table procs s.regions txn s.here.table sound.table (held_valid procs s holds id txn e);
+    table = after_table procs s.regions txn s.here.table sound.table (holds id txn e);
   },
   f ∙ ap (λ ids. record (sched_of s.logs s.here) { done = ids }) (sym (ids_done s.here.done (txn.id, (one procs txn s.here.table).0) ∙ ap (λ i. done_ids s.here ++ i ∷ []) (held_id s id txn e))),
 )

@@ -2,6 +2,7 @@ use Rattle.std.specs.Prelude.{◌≡◌, ◌≢◌, ◌<◌, ◌≤◌, ◌^◌,
 use Rattle.dt_lists.specs.Lists.{AllIn, Has, Distinct}
 use Rattle.dt_access.specs.Clash.{Bytes}
 use Rattle.dt_access.specs.declared.Part.{Part}
+use Rattle.dt_access.specs.declared.TxnId.{TxnId}
 use Rattle.dt_log.specs.Logs.{AgreeOnOverlap}
 use Rattle.dt_sched.specs.Views.{View, HasPart, ids_of, log_at}
 use Rattle.dt_sched.specs.Sched.{parts_in, with_part}
@@ -57,7 +58,6 @@ pub record CanDeliver (s : State) (home first : ℕ) (entries : List Entry) : Ty
   pub distinct : first ≤ length (log_at s.logs home) → Distinct (ids_of (with_entries (log_at s.logs home) first entries))
   pub few : first ≤ length (log_at s.logs home) → AreFew (set s.logs home (with_entries (log_at s.logs home) first entries))
 
--- all that a region holds is valid for these procedures
-pub record HoldsValid (procs : List ProcTree) (s : State) : Type 0 where
-  pub submitted : AllIn (IsValid procs s.regions) s.submitted
-  pub foreign : AllIn (IsValid procs s.regions) s.foreign
+-- each transaction that a region holds is valid for these procedures
+abbrev pub HoldsValid : List ProcTree → State → Type 0
+HoldsValid procs s = (id : TxnId) (txn : Txn) → held s id ≡ Some txn → IsValid procs s.regions txn

@@ -13,7 +13,8 @@ use Rattle.dt_sched.specs.Views.{HasPart, IsWellFormed, ids_of, log_at}
 use Rattle.dt_sched.specs.Sched.{parts_in, with_part}
 use Rattle.dt_events.specs.declared.Event.TheVariants.{Append}
 use Rattle.dt_txn.specs.declared.Txn.{Txn}
-use Rattle.dt_txn.specs.Transaction.{homes_of, part_of, IsValid}
+use Rattle.dt_txn.specs.Transaction.{homes_of, part_of, IsTransaction, IsValid}
+use Rattle.dt_txn.proofs.Formed.{formed}
 use Rattle.dt_txn.specs.Replica.{fronts}
 use Rattle.dt_region.specs.State.{held}
 use Rattle.dt_region.specs.Rules.{after_append, taken_from as taken_here}
@@ -219,7 +220,7 @@ module _ (cluster : Cluster) (seated : Seated) (posts : List Posted) (steps : �
           same = λ other h. let both : Some other ≡ Some txn = sym ((k.stands home lh).known txn.id other h) ∙ subst (λ x. txn_of (world_of posts seated.places) x ≡ Some txn) (sym its_id) found in cc;
           own = λ e. own_of (sym (request.region ∙ sym refl) ∙ sym (ap (λ x. x.region) its_id) ∙ e ∙ (k.stands home lh).number);
         };
-        valid = subst (λ n. IsValid cluster.procs n txn) (sym (k.stands home lh).many) valid_txn;
+        formed = subst (λ n. IsTransaction n txn) (sym (k.stands home lh).many) (formed cluster.procs cluster.regions txn valid_txn);
         fresh = λ turn. fresh turn;
         few = λ turn. let a : parts_in (with_part (post_at posts home).state.logs (part_of txn (post_at posts home).state.number)) ≤ steps + 1 = few turn in omega arith;
       }

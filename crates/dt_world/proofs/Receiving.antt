@@ -16,7 +16,8 @@ use Rattle.dt_sched.specs.Sched.{parts_in}
 use Rattle.dt_events.specs.declared.Event.TheVariants.{Deliver}
 use Rattle.dt_txn.specs.declared.Entry.{Entry}
 use Rattle.dt_txn.specs.declared.Txn.{Txn}
-use Rattle.dt_txn.specs.Transaction.{homes_of, IsValid}
+use Rattle.dt_txn.specs.Transaction.{homes_of, IsTransaction, IsValid}
+use Rattle.dt_txn.proofs.Formed.{formed}
 use Rattle.dt_txn.specs.Replica.{fronts}
 use Rattle.dt_region.specs.State.{held}
 use Rattle.dt_region.specs.Rules.{after_deliver, past_end, with_entries}
@@ -186,7 +187,7 @@ module _ (cluster : Cluster) (seated : Seated) (posts : List Posted) (steps : �
           same = λ o g. let both : Some o ≡ Some e.txn = sym ((k.stands region lr).known e.txn.id o g) ∙ all_get _ entries own_id e h in cc;
           own = own_of e.txn (all_get _ entries own_id e h);
         });
-        valid = subst (λ n. AllIn (λ e. IsValid cluster.procs n e.txn) entries) (sym (k.stands region lr).many) valid_here;
+        formed = subst (λ n. AllIn (λ e. IsTransaction n e.txn) entries) (sym (k.stands region lr).many) (all_map (λ e. IsValid cluster.procs cluster.regions e.txn) (λ e. IsTransaction cluster.regions e.txn) entries (λ e v. formed cluster.procs cluster.regions e.txn v) valid_here);
         distinct = λ le. subst (λ l. Distinct (ids_of l)) (sym log_then)
             (each_front _ (ids_of (take last (log_of (world_of posts seated.places) home))) (ids_of (log_of (world_of posts seated.places) home)) (front_map (λ p. p.id) (take last (log_of (world_of posts seated.places) home)) (log_of (world_of posts seated.places) home) (front_take last (log_of (world_of posts seated.places) home)))
             (log_distinct cluster seated.workload (world_of posts seated.places) (order cluster seated posts steps k) (inv cluster seated posts steps k) home lh));

@@ -55,7 +55,7 @@ by_number f g (x ∷ xs) a d e =
 pub item_at : {A : Type 0} (xs : List A) (at : ℕ) (r e : A) → at < length xs → r ≡ get_or xs at r → r ≡ e → slice_get xs at ≡ Some e
 item_at xs at r e lt is same = slice_get-get_or xs at r lt ∙ ap Some (sym is ∙ same)
 
-module _ (cluster : Cluster) (kept : Kept) (events : List Event) (led : LedTo kept events) where
+module _ (kept : Kept) (events : List Event) (led : LedTo kept events) where
   -- the tables that regions keep are those of the report
   pub tables_are : map (λ (n : Node). shown n.here.table) kept.state.nodes ≡ tables_of kept.cluster kept.workload events
   tables_are = subst (λ (w : World). map (λ (n : Node). shown n.here.table) w.nodes ≡ tables_of kept.cluster kept.workload events) (sym led.reached)
@@ -109,17 +109,17 @@ module _ (cluster : Cluster) (kept : Kept) (events : List Event) (led : LedTo ke
       ∙ ap (λ o. replies_from kept.cluster kept.workload events (opening_world kept.cluster kept.workload) (take at events) ++ option_to_list (reply_for kept.cluster kept.workload events o)) none
       ∙ append-nil (replies_at kept events at))
 
-  plain_course : (at : ℕ) (event : Event) → slice_get events at ≡ Some event → ((w : World) → course_of (next cluster kept.workload w event) ≡ course_of w) → course_at kept events at ≡ course_at kept events (at + 1)
+  plain_course : (at : ℕ) (event : Event) → slice_get events at ≡ Some event → ((w : World) → course_of (next kept.cluster kept.workload w event) ≡ course_of w) → course_at kept events at ≡ course_at kept events (at + 1)
   plain_course at event item same = sym (ap (λ l. course_of (world_after kept.cluster kept.workload l)) (split_at events at event item).1 ∙ ap course_of (world_after_more kept.cluster kept.workload (take at events) event) ∙ same (world_after kept.cluster kept.workload (take at events)))
 
   pub plain_event : (at : ℕ) (event : Event) → slice_get events at ≡ Some event → ((region : ℕ) (name : Bytes) → event ≢ Submit region name) → ((region : ℕ) (name : Bytes) → event ≢ Answer region name)
       → (course_at kept events at ≡ course_at kept events (at + 1)) × (replies_at kept events at ≡ replies_at kept events (at + 1))
   plain_event at (Submit region name) item a b = absurd (a region name refl)
-  plain_event at (Append home source number) item a b = (plain_course at (Append home source number) item (λ w. append_same cluster kept.workload w home source number), plain_replies at (Append home source number) item refl)
-  plain_event at (Deliver region home first last) item a b = (plain_course at (Deliver region home first last) item (λ w. deliver_same cluster kept.workload w region home first last), plain_replies at (Deliver region home first last) item refl)
-  plain_event at (Insert region home) item a b = (plain_course at (Insert region home) item (λ w. insert_same cluster kept.workload w region home), plain_replies at (Insert region home) item refl)
-  plain_event at (Resolve region ids) item a b = (plain_course at (Resolve region ids) item (λ w. resolve_same cluster kept.workload w region ids), plain_replies at (Resolve region ids) item refl)
-  plain_event at (Execute region id) item a b = (plain_course at (Execute region id) item (λ w. execute_same cluster kept.workload w region id), plain_replies at (Execute region id) item refl)
+  plain_event at (Append home source number) item a b = (plain_course at (Append home source number) item (λ w. append_same kept.cluster kept.workload w home source number), plain_replies at (Append home source number) item refl)
+  plain_event at (Deliver region home first last) item a b = (plain_course at (Deliver region home first last) item (λ w. deliver_same kept.cluster kept.workload w region home first last), plain_replies at (Deliver region home first last) item refl)
+  plain_event at (Insert region home) item a b = (plain_course at (Insert region home) item (λ w. insert_same kept.cluster kept.workload w region home), plain_replies at (Insert region home) item refl)
+  plain_event at (Resolve region ids) item a b = (plain_course at (Resolve region ids) item (λ w. resolve_same kept.cluster kept.workload w region ids), plain_replies at (Resolve region ids) item refl)
+  plain_event at (Execute region id) item a b = (plain_course at (Execute region id) item (λ w. execute_same kept.cluster kept.workload w region id), plain_replies at (Execute region id) item refl)
   plain_event at (Answer region name) item a b = absurd (b region name refl)
 
   -- a submission

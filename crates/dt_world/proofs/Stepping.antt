@@ -5,16 +5,19 @@ use Rattle.dt_events.specs.declared.Event.{Event}
 use Rattle.dt_events.specs.declared.Event.TheVariants.{Insert, Resolve, Execute}
 use Rattle.dt_txn.specs.declared.Txn.{Txn}
 use Rattle.dt_txn.specs.Replica.{MayStep, stepped, executed}
+use Rattle.dt_txn.specs.Transaction.{IsValid}
 use Rattle.dt_region.specs.State.{held}
+use Rattle.dt_region.specs.Conditions.{HoldsValid}
 use Rattle.dt_cluster.specs.declared.Cluster.{Cluster}
 use Rattle.dt_session.specs.World.{node_at, received_logs, txn_of}
 use Rattle.dt_session.specs.Step.{IsLegal, next, moved_on}
+use Rattle.dt_laws.proofs.Facts.{transaction_valid}
 use Rattle.dt_world.specs.Kept.{Kept}
 use Rattle.dt_world.specs.Seated.{Seated}
 use Rattle.dt_world.specs.Posted.{Posted, world_of}
 use Rattle.dt_world.specs.Sited.{post_at, StepsAt}
 use Rattle.dt_world.specs.Lawful.{IsReached, AreLawful, MayMake, made}
-use Rattle.dt_world.proofs.Standing.{many_posts, node_is, held_closed, reached_more, step_made, step_lawful}
+use Rattle.dt_world.proofs.Standing.{inv, many_posts, node_is, order, held_closed, reached_more, step_made, step_lawful}
 
 -- a world of these sessions and regions, as contracts see it
 abbrev pub kept_of : Cluster → Seated → List Posted → ℕ → Kept
@@ -42,6 +45,12 @@ module _ (cluster : Cluster) (seated : Seated) (posts : List Posted) (steps : �
 
   pub a_post : (region : ℕ) → region < cluster.regions → region < length posts
   a_post region lr = subst (λ n. region < n) (sym (many_posts cluster seated posts steps k)) lr
+
+  -- what a region holds is valid for the procedures of the cluster
+  pub holds_valid : (region : ℕ) → region < cluster.regions → HoldsValid cluster.procs (post_at posts region).state
+  holds_valid region lr id txn e =
+      subst (λ n. IsValid cluster.procs n txn) (sym (k.stands region lr).many)
+      (transaction_valid cluster seated.workload (world_of posts seated.places) (order cluster seated posts steps k) (inv cluster seated posts steps k) id txn ((k.stands region lr).known id txn e)).0
 
   pub a_region : (region home : ℕ) → region < cluster.regions → home < cluster.regions → home < (post_at posts region).state.regions
   a_region region home lr lh = subst (λ n. home < n) (sym (k.stands region lr).many) lh

@@ -1,10 +1,9 @@
 use Rattle.std.proofs.Common.{sym}
 use Rattle.dt_txn.proofs.Formed.{can_run}
-use Rattle.dt_region.proofs.Matching.{execute_valid}
 use Rattle.dt_region.proofs.region.Region.run.Goals as goal
 
 pub execute-requires-clause-body : goal.execute-requires-clause-body
-execute-requires-clause-body g c = can_run c.args.procs.now _ _ (execute_valid c.args.procs.now _ c.requires.holds c.args.id c.in-Some.txn.now (sym c.in-Some.ensures)).body
+execute-requires-clause-body g c = can_run c.args.procs.now _ _ (c.requires.holds c.args.id c.in-Some.txn.now (sym c.in-Some.ensures)).body
 
 pub execute-requires-clause-uses : goal.execute-requires-clause-uses
-execute-requires-clause-uses g c = (execute_valid c.args.procs.now _ c.requires.holds c.args.id c.in-Some.txn.now (sym c.in-Some.ensures)).uses
+execute-requires-clause-uses g c = (c.requires.holds c.args.id c.in-Some.txn.now (sym c.in-Some.ensures)).uses

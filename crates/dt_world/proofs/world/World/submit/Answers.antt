@@ -42,13 +42,13 @@ submit-requires-clause-place g c = omega (arith, submitted_few c.self.inside.clu
 
 pub invariant_of-self-2 : goal.invariant_of-self-2
 invariant_of-self-2 g c =
-    let sites : c.submit.new.self ≡ set c.self.inside.sites c.args.region (posted (post_at c.self.inside.sites c.args.region) c.in_ok-body.body (record { session = c.args.name.now; call = (stand_of c.self.inside.seats c.in-Some.place).answered + 1; attempt = c.in-Some-next_attempt.attempt })) = c.in_ok-id.ensures.2 ∙ ap (λ o. set c.self.inside.sites c.args.region (posted (post_at c.self.inside.sites c.args.region) c.in_ok-body.body o)) (let o : ◌≡◌ {A = Origin} (record { session = c.in_ok-copy.field-0; call = c.seat.result.answered + 1; attempt = c.in-Some-next_attempt.attempt }) (record { session = c.args.name.now; call = (stand_of c.self.inside.seats c.in-Some.place).answered + 1; attempt = c.in-Some-next_attempt.attempt }) = ap₂ (λ a b. record { session = a; call = b + 1; attempt = c.in-Some-next_attempt.attempt }) c.in_ok-copy.ensures.same (ap (λ (p : Place). p.answered) c.seat.ensures) in o) in
+    let sites : c.submit.new.self ≡ set c.self.inside.sites c.args.region (posted c.self.inside.cluster.procs (post_at c.self.inside.sites c.args.region) c.in_ok-body.body (record { session = c.args.name.now; call = (stand_of c.self.inside.seats c.in-Some.place).answered + 1; attempt = c.in-Some-next_attempt.attempt })) = c.in_ok-id.ensures.2 ∙ ap (λ o. set c.self.inside.sites c.args.region (posted c.self.inside.cluster.procs (post_at c.self.inside.sites c.args.region) c.in_ok-body.body o)) (let o : ◌≡◌ {A = Origin} (record { session = c.in_ok-copy.field-0; call = c.seat.result.answered + 1; attempt = c.in-Some-next_attempt.attempt }) (record { session = c.args.name.now; call = (stand_of c.self.inside.seats c.in-Some.place).answered + 1; attempt = c.in-Some-next_attempt.attempt }) = ap₂ (λ a b. record { session = a; call = b + 1; attempt = c.in-Some-next_attempt.attempt }) c.in_ok-copy.ensures.same (ap (λ (p : Place). p.answered) c.seat.ensures) in o) in
     subst (λ s. AreLawful c.self.inside.cluster s c.submit.new.self (c.self.inside.steps + 1)) (sym c.wait.ensures)
     (subst (λ p. AreLawful c.self.inside.cluster (after_wait c.self.inside.seats c.in-Some.place c.in_ok-id.id) p (c.self.inside.steps + 1)) (sym sites) (submit_made c.self.inside.cluster c.self.inside.seats c.self.inside.sites c.self.inside.steps c.self.invariant c.args.region c.if-region-self.false c.args.name.now c.in-Some.place (sym c.find.ensures.place ∙ c.in-Some.is) (subst (λ v. MayTryAt v c.args.region c.in-Some.place) (sym c.self.view_is) c.in-Some-next_attempt.ensures.0) c.in-Some-next_attempt.attempt (subst (λ (v : Kept). c.in-Some-next_attempt.attempt ≡ next_attempt v.state (stand_of (seated_in v) c.in-Some.place).waits) (sym c.self.view_is) c.in-Some-next_attempt.ensures.1) c.in_ok-body.body c.in_ok-body.ensures c.in_ok-id.id c.in_ok-id.ensures.0 c.in_ok-id.ensures.1).lawful)
 
 pub returns : goal.returns
 returns g c =
-    let sites : c.submit.new.self ≡ set c.self.inside.sites c.args.region (posted (post_at c.self.inside.sites c.args.region) c.in_ok-body.body (record { session = c.args.name.now; call = (stand_of c.self.inside.seats c.in-Some.place).answered + 1; attempt = c.in-Some-next_attempt.attempt })) = c.in_ok-id.ensures.2 ∙ ap (λ o. set c.self.inside.sites c.args.region (posted (post_at c.self.inside.sites c.args.region) c.in_ok-body.body o)) (let o : ◌≡◌ {A = Origin} (record { session = c.in_ok-copy.field-0; call = c.seat.result.answered + 1; attempt = c.in-Some-next_attempt.attempt }) (record { session = c.args.name.now; call = (stand_of c.self.inside.seats c.in-Some.place).answered + 1; attempt = c.in-Some-next_attempt.attempt }) = ap₂ (λ a b. record { session = a; call = b + 1; attempt = c.in-Some-next_attempt.attempt }) c.in_ok-copy.ensures.same (ap (λ (p : Place). p.answered) c.seat.ensures) in o) in
+    let sites : c.submit.new.self ≡ set c.self.inside.sites c.args.region (posted c.self.inside.cluster.procs (post_at c.self.inside.sites c.args.region) c.in_ok-body.body (record { session = c.args.name.now; call = (stand_of c.self.inside.seats c.in-Some.place).answered + 1; attempt = c.in-Some-next_attempt.attempt })) = c.in_ok-id.ensures.2 ∙ ap (λ o. set c.self.inside.sites c.args.region (posted c.self.inside.cluster.procs (post_at c.self.inside.sites c.args.region) c.in_ok-body.body o)) (let o : ◌≡◌ {A = Origin} (record { session = c.in_ok-copy.field-0; call = c.seat.result.answered + 1; attempt = c.in-Some-next_attempt.attempt }) (record { session = c.args.name.now; call = (stand_of c.self.inside.seats c.in-Some.place).answered + 1; attempt = c.in-Some-next_attempt.attempt }) = ap₂ (λ a b. record { session = a; call = b + 1; attempt = c.in-Some-next_attempt.attempt }) c.in_ok-copy.ensures.same (ap (λ (p : Place). p.answered) c.seat.ensures) in o) in
     subst (λ s. MayMake c.args.self.now (Submit c.args.region c.args.name.now) × (kept_of c.self.inside.cluster s c.submit.new.self (c.self.inside.steps + 1) ≡ made c.args.self.now (Submit c.args.region c.args.name.now))) (sym c.wait.ensures)
     (subst (λ p. MayMake c.args.self.now (Submit c.args.region c.args.name.now) × (kept_of c.self.inside.cluster (after_wait c.self.inside.seats c.in-Some.place c.in_ok-id.id) p (c.self.inside.steps + 1) ≡ made c.args.self.now (Submit c.args.region c.args.name.now))) (sym sites)
     (made_before c.self.inside.cluster c.self.inside.seats c.self.inside.sites c.self.inside.steps (Submit c.args.region c.args.name.now) (after_wait c.self.inside.seats c.in-Some.place c.in_ok-id.id) _ c.args.self.now c.self.view_is (submit_made c.self.inside.cluster c.self.inside.seats c.self.inside.sites c.self.inside.steps c.self.invariant c.args.region c.if-region-self.false c.args.name.now c.in-Some.place (sym c.find.ensures.place ∙ c.in-Some.is) (subst (λ v. MayTryAt v c.args.region c.in-Some.place) (sym c.self.view_is) c.in-Some-next_attempt.ensures.0) c.in-Some-next_attempt.attempt (subst (λ (v : Kept). c.in-Some-next_attempt.attempt ≡ next_attempt v.state (stand_of (seated_in v) c.in-Some.place).waits) (sym c.self.view_is) c.in-Some-next_attempt.ensures.1) c.in_ok-body.body c.in_ok-body.ensures c.in_ok-id.id c.in_ok-id.ensures.0 c.in_ok-id.ensures.1)))
