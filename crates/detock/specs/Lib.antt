@@ -4,3 +4,4 @@ pub mod Statuses
 pub mod Headline
 pub mod Causes
 pub mod Refusals
+pub mod Pieces

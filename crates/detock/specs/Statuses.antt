@@ -1,9 +1,16 @@
 -- What the program ends with: its exit numbers and fault lines.
-use Rattle.std.specs.Prelude.{ℕ, List, [], ◌∷◌, ◌++◌, codes}
+use Rattle.std.specs.Prelude.{ℕ, List, [], ◌∷◌, ◌++◌, codes, map, ◌&&◌, nat_le, if◌then◌else◌}
 use Rattle.std.specs.Fmt.{decimal}
 use Rattle.dt_access.specs.Clash.{Bytes}
+use Rattle.dt_cluster.specs.declared.ClusterFault.{ClusterFault}
+use Rattle.dt_cluster.specs.declared.ClusterPlace.{ClusterPlace}
+use Rattle.dt_cluster.specs.declared.error.ClusterPlace.TheVariants as place
+use Rattle.dt_cluster.specs.declared.ClusterCause.{ClusterCause}
+use Rattle.dt_cluster.specs.declared.error.ClusterCause.TheVariants as cluster
+use Rattle.dt_workload.specs.declared.WorkloadCause.{WorkloadCause}
+use Rattle.dt_workload.specs.declared.error.WorkloadCause.TheVariants as workload
 use Rattle.detock.specs.declared.status.Status.{Status}
-use Rattle.detock.specs.declared.status.Status.TheVariants.{Done, NoMemory, CannotRead, BadEvents, CannotWrite, NotBuilt}
+use Rattle.detock.specs.declared.status.Status.TheVariants.{Done, NoMemory, BadWords, CannotRead, BadCluster, BadWorkload, BadEvents, CannotWrite, NotBuilt}
 use Rattle.detock.specs.declared.status.EventsCause.{EventsCause}
 use Rattle.detock.specs.declared.status.EventsCause.TheVariants.{TooLong, Form, Rule}
 
@@ -11,10 +18,53 @@ use Rattle.detock.specs.declared.status.EventsCause.TheVariants.{TooLong, Form, 
 abbrev pub exit_number : Status → ℕ
 exit_number Done = 0
 exit_number NoMemory = 1
+exit_number BadWords = 2
 exit_number (CannotRead word) = 3
+exit_number (BadCluster fault) = 4
+exit_number (BadWorkload line cause) = 5
 exit_number (BadEvents line cause) = 6
 exit_number CannotWrite = 7
 exit_number NotBuilt = 9
+
+-- a byte of a name as it is printed: `?` for one that is no visible character of ASCII
+abbrev pub printed : ℕ → ℕ
+printed byte = if nat_le 33 byte && nat_le byte 126 then byte else 63
+
+-- where a cluster file is at fault, in words
+abbrev pub place_text : ClusterPlace → Bytes
+place_text place.Whole = []
+place_text (place.Entry name) = codes " " ++ map printed name
+place_text (place.Home name) = codes " homes." ++ map printed name
+place_text (place.Row name) = codes " rows." ++ map printed name
+place_text (place.Procs at) = codes " procs byte " ++ decimal at
+
+-- what is wrong with a cluster file, in words
+abbrev pub cluster_text : ClusterCause → Bytes
+cluster_text cluster.TooLong = codes "too long"
+cluster_text cluster.NotToml = codes "no toml"
+cluster_text cluster.Unknown = codes "unknown entry"
+cluster_text cluster.Missing = codes "missing"
+cluster_text cluster.Kind = codes "wrong kind"
+cluster_text cluster.Range = codes "out of range"
+cluster_text cluster.BadKey = codes "no key"
+cluster_text cluster.BadText = codes "no text"
+cluster_text cluster.Syntax = codes "syntax"
+cluster_text cluster.UnknownName = codes "unknown name"
+cluster_text cluster.Twice = codes "name used twice"
+cluster_text cluster.TooMany = codes "too many"
+
+-- what is wrong with a workload file, in words
+abbrev pub workload_text : WorkloadCause → Bytes
+workload_text workload.TooLong = codes "too long"
+workload_text workload.Form = codes "no line of a workload"
+workload_text workload.Name = codes "no name"
+workload_text workload.Twice = codes "name used twice"
+workload_text workload.Region = codes "no region"
+workload_text workload.TooMany = codes "too many"
+workload_text workload.NoSession = codes "no session"
+workload_text workload.Proc = codes "unknown procedure"
+workload_text workload.Args = codes "wrong arguments"
+workload_text workload.Key = codes "no key"
 
 -- what is wrong with a file of events, in words
 abbrev pub cause_text : EventsCause → Bytes
@@ -30,7 +80,10 @@ told_line text = codes "detock: " ++ text ++ 10 ∷ []
 abbrev pub fault_line : Status → Bytes
 fault_line Done = []
 fault_line NoMemory = told_line (codes "no memory")
+fault_line BadWords = told_line (codes "usage: replay CLUSTER WORKLOAD EVENTS, run CLUSTER WORKLOAD, big N")
 fault_line (CannotRead word) = told_line (codes "cannot read word " ++ decimal word)
+fault_line (BadCluster fault) = told_line (codes "cluster" ++ place_text fault.place ++ codes ": " ++ cluster_text fault.cause)
+fault_line (BadWorkload line cause) = told_line (codes "workload line " ++ decimal line ++ codes ": " ++ workload_text cause)
 fault_line (BadEvents line cause) = told_line (codes "events line " ++ decimal line ++ codes ": " ++ cause_text cause)
 fault_line CannotWrite = told_line (codes "cannot write")
 fault_line NotBuilt = told_line (codes "not built")

@@ -19,22 +19,24 @@ builtin_word regions = codes ":" ++ decimal regions
 abbrev pub IsBuiltin : ℕ → Type 0
 IsBuiltin regions = (1 ≤ regions) × (regions ≤ 8)
 
--- a word that names a cluster: that of a built-in one, or a file's name that does not begin with `:`
-abbrev pub NamesCluster : Bytes → Type 0
-NamesCluster word =
-    ((regions : ℕ) × IsBuiltin regions × (word ≡ builtin_word regions))
-    ⊎ (IsFileName word × (slice_get word 0 ≢ Some 58))
+-- a word that is the name of a cluster's file: it does not begin with `:`
+abbrev pub IsClusterFile : Bytes → Type 0
+IsClusterFile word = IsFileName word × (slice_get word 0 ≢ Some 58)
 
--- what `replay` is asked to do: how many regions the built-in cluster has, and the names of the two files
+-- a word that names a cluster: that of a built-in one, or the name of a file
+abbrev pub NamesCluster : Bytes → Type 0
+NamesCluster word = ((regions : ℕ) × IsBuiltin regions × (word ≡ builtin_word regions)) ⊎ IsClusterFile word
+
+-- what `replay` is asked to do: the word of the cluster, and the names of the two files
 pub record Replay : Type 0 where
-  pub regions : ℕ
+  pub cluster : Bytes
   pub workload : Bytes
   pub events : Bytes
 
--- the words are `replay`, the word of a built-in cluster, and the names of a workload's and an events' file
+-- the words are `replay`, the word of a cluster, and the names of a workload's and an events' file
 pub record IsReplay (words : List Bytes) (replay : Replay) : Type 0 where
-  pub form : words ≡ codes "replay" ∷ builtin_word replay.regions ∷ replay.workload ∷ replay.events ∷ []
-  pub cluster : IsBuiltin replay.regions
+  pub form : words ≡ codes "replay" ∷ replay.cluster ∷ replay.workload ∷ replay.events ∷ []
+  pub cluster : NamesCluster replay.cluster
   pub workload : IsFileName replay.workload
   pub events : IsFileName replay.events
 
@@ -54,3 +56,7 @@ IsBig words = (size : Bytes) × (words ≡ codes "big" ∷ size ∷ []) × IsSiz
 -- the words of a form whose work is done by threads
 abbrev pub NeedsThreads : List Bytes → Type 0
 NeedsThreads words = IsRun words ⊎ IsBig words
+
+-- the words are of one of the forms
+abbrev pub AreAForm : List Bytes → Type 0
+AreAForm words = ((replay : Replay) × IsReplay words replay) ⊎ NeedsThreads words

@@ -1,19 +1,26 @@
 ghost use Rattle.std.specs.Prelude.{◌≡◌, ◌<◌, ◌≤◌, ◌⊎◌, length, IfOk, IfSome, OnErr, Some};
 ghost use Rattle.dt_outside.specs.Faults.{Rose};
-ghost use Rattle.dt_cluster.specs.Builtin.{builtin_cluster};
+ghost use Rattle.dt_cluster.specs.Valid.{IsValidCluster};
 ghost use Rattle.dt_workload.specs.Valid.{IsValidWorkload};
-ghost use Rattle.detock.specs.Words.{IsBuiltin};
-ghost use Rattle.detock.specs.Headline.{AreNumbered, AreWorkload, Told, file_limit};
-ghost use Rattle.detock.specs.Refusals.{IsEventsRefusal, IsWorkloadRefusal};
+ghost use Rattle.detock.specs.Asked.{IsRight, word_of};
+ghost use Rattle.detock.specs.Headline.{AreCluster, AreNumbered, AreWorkload, HasCluster, Told, file_limit};
+ghost use Rattle.detock.specs.Refusals.{IsClusterRefusal, IsEventsRefusal, IsFileRefusal, IsWorkloadRefusal};
 
 use crate::status::{EventsCause, Status};
+use crate::words::ClusterWord;
+use dt_cluster::{
+    Cluster, ClusterCause, ClusterError, ClusterFault, ClusterPlace, builtin, read_cluster,
+};
 use dt_events::{Event, EventsError, read_events};
 use dt_outside::{Folder, LoadError};
-use dt_workload::{Workload, read_first};
+use dt_workload::{Workload, WorkloadCause, WorkloadError, read_workload};
 use std::alloc::Global;
 
 /// No file may be longer than this: 16 MiB.
 const FILE_LIMIT: u64 = 16_777_216;
+
+/// The number of the word that names the cluster.
+const CLUSTER_WORD: u32 = 2;
 
 /// The number of the word that names the workload's file.
 const WORKLOAD_WORD: u32 = 3;
@@ -21,25 +28,68 @@ const WORKLOAD_WORD: u32 = 3;
 /// The number of the word that names the events' file.
 const EVENTS_WORD: u32 = 4;
 
-/// Loads and reads a workload for the built-in cluster of so many regions.
+/// The cluster that a word names: a built-in one, or that of its file, which is loaded and read.
+pub fn load_cluster<F: Folder>(
+    alloc: Global,
+    files: &mut F,
+    word: ClusterWord<'_>,
+) -> Result<Cluster, Status>
+    requires { IsRight word }
+    ensures cluster { IfOk result (λ cluster. HasCluster (F.told files.old) (word_of word) cluster) }
+    ensures valid { IfOk result IsValidCluster }
+    ensures refused { (status : _) → result ≡ Err status →
+        IsClusterRefusal (F.told files.old) (word_of word) (F.faults files.old) (F.faults files.new) status }
+    ensures same_told { F.told files.new ≡ F.told files.old }
+    ensures later { F.faults files.old ≤ F.faults files.new }
+{
+    match word {
+        ClusterWord::Builtin(regions) => Ok(builtin(alloc, regions)?),
+        ClusterWord::File(name) => cluster_file(alloc, files, name),
+    }
+}
+
+/// Loads and reads a cluster's file.
+fn cluster_file<F: Folder>(alloc: Global, files: &mut F, name: &str) -> Result<Cluster, Status>
+    ensures cluster { IfOk result (λ cluster. Told (F.told files.old) name.now (AreCluster cluster)) }
+    ensures valid { IfOk result IsValidCluster }
+    ensures refused { (status : _) → result ≡ Err status →
+        IsFileRefusal (F.told files.old) name.now (F.faults files.old) (F.faults files.new) status }
+    ensures same_told { F.told files.new ≡ F.told files.old }
+    ensures later { F.faults files.old ≤ F.faults files.new }
+{
+    let too_long = Status::BadCluster(ClusterFault {
+        place: ClusterPlace::Whole,
+        cause: ClusterCause::TooLong,
+    });
+    let bytes = load(alloc, files, name, CLUSTER_WORD, too_long)?;
+    match read_cluster(alloc, bytes.as_slice()) {
+        Ok(cluster) => Ok(cluster),
+        Err(ClusterError::Fault(fault)) => Err(Status::BadCluster(fault)),
+        Err(ClusterError::NoMemory) => Err(Status::NoMemory),
+    }
+}
+
+/// Loads and reads a workload for a cluster.
 pub fn load_workload<F: Folder>(
     alloc: Global,
     files: &mut F,
     name: &str,
-    regions: u8,
+    cluster: &Cluster,
 ) -> Result<Workload, Status>
-    requires { IsBuiltin regions }
-    ensures workload { IfOk result (λ workload. Told (F.told files.old) name.now (AreWorkload regions workload)) }
-    ensures valid { IfOk result (λ workload. IsValidWorkload (builtin_cluster regions) workload) }
+    requires { IsValidCluster cluster.now }
+    ensures workload { IfOk result (λ workload. Told (F.told files.old) name.now (AreWorkload cluster.now workload)) }
+    ensures valid { IfOk result (λ workload. IsValidWorkload cluster.now workload) }
     ensures refused { (status : _) → result ≡ Err status →
-        IsWorkloadRefusal (F.told files.old) regions name.now (F.faults files.old) (F.faults files.new) status }
+        IsWorkloadRefusal (F.told files.old) cluster.now name.now (F.faults files.old) (F.faults files.new) status }
     ensures same_told { F.told files.new ≡ F.told files.old }
     ensures later { F.faults files.old ≤ F.faults files.new }
 {
-    let bytes = load(alloc, files, name, WORKLOAD_WORD, Status::NotBuilt)?;
-    match read_first(alloc, bytes.as_slice(), regions)? {
-        Some(workload) => Ok(workload),
-        None => Err(Status::NotBuilt),
+    let too_long = Status::BadWorkload(0, WorkloadCause::TooLong);
+    let bytes = load(alloc, files, name, WORKLOAD_WORD, too_long)?;
+    match read_workload(alloc, bytes.as_slice(), cluster) {
+        Ok(workload) => Ok(workload),
+        Err(WorkloadError::Fault(line, cause)) => Err(Status::BadWorkload(line, cause)),
+        Err(WorkloadError::NoMemory) => Err(Status::NoMemory),
     }
 }
 

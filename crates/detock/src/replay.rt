@@ -1,28 +1,30 @@
-ghost use Rattle.std.specs.Prelude.{◌≡◌, ◌≤◌, length, map, IfOk};
+ghost use Rattle.std.specs.Prelude.{◌≡◌, ◌≤◌, length, map, IfOk, MatchBool};
+ghost use Rattle.dt_lists.specs.Lists.{AnyIn};
 ghost use Rattle.dt_cluster.specs.Valid.{IsValidCluster};
 ghost use Rattle.dt_workload.specs.Valid.{IsValidWorkload};
 ghost use Rattle.dt_session.specs.Run.{AreLegal, world_after};
 ghost use Rattle.dt_report.specs.Report.{report_text};
 ghost use Rattle.dt_world.specs.Reported.{report_of};
-ghost use Rattle.detock.specs.Words.{spelled};
-ghost use Rattle.detock.specs.Headline.{Headline, file_limit, unnumbered};
+ghost use Rattle.detock.specs.Words.{NeedsThreads, spelled};
+ghost use Rattle.detock.specs.Headline.{HasMove, Headline, IsMove, file_limit, unnumbered};
 ghost use Rattle.detock.specs.Refusals.{IsRefusal, IsStepRefusal, refusal_of};
 
-use crate::loading::{load_events, load_workload};
+use crate::loading::{load_cluster, load_events, load_workload};
 use crate::status::{EventsCause, Status};
 use crate::words::replay_words;
-use dt_cluster::{Cluster, builtin};
+use dt_cluster::Cluster;
 use dt_events::Event;
 use dt_outside::Folder;
 use dt_plain::PlainSched;
 use dt_report::print;
 use dt_text::NoMemory;
-use dt_workload::Workload;
+use dt_workload::{Wanted, Workload};
 use dt_world::{StepError, World};
 use std::alloc::Global;
 
 /// The text of the report that the words ask for, or why there is none.
 pub fn report<F: Folder>(alloc: Global, words: &[String], files: &mut F) -> Result<Vec<u8>, Status>
+    requires { ¬ NeedsThreads (spelled words.now) }
     ensures done { IfOk result (λ text. Headline (F.told files.old) (spelled words.now) (λ report. text.items ≡ report)) }
     ensures refused { (status : _) → result ≡ Err status →
         IsRefusal (F.told files.old) (spelled words.now) (F.faults files.old) (F.faults files.new) status }
@@ -30,12 +32,39 @@ pub fn report<F: Folder>(alloc: Global, words: &[String], files: &mut F) -> Resu
     ensures later { F.faults files.old ≤ F.faults files.new }
 {
     let Some(replay) = replay_words(words) else {
-        return Err(Status::NotBuilt);
+        return Err(Status::BadWords);
     };
-    let cluster = builtin(alloc, replay.regions)?;
-    let workload = load_workload(alloc, files, replay.workload, replay.regions)?;
+    let cluster = load_cluster(alloc, files, replay.cluster)?;
+    let workload = load_workload(alloc, files, replay.workload, &cluster)?;
+    if has_move(&workload) {
+        return Err(Status::NotBuilt);
+    }
     let events = load_events(alloc, files, replay.events)?;
     report_of(alloc, &cluster, &workload, events)
+}
+
+/// Whether a session of the workload wants a move, which is not built yet.
+fn has_move(workload: &Workload) -> bool
+    ensures { MatchBool result (HasMove workload.now) (¬ HasMove workload.now) }
+{
+    for session in workload.sessions.as_slice() {
+        if wants_move(session.calls.as_slice()) {
+            return true;
+        }
+    }
+    false
+}
+
+/// Whether one of these is a move.
+fn wants_move(calls: &[Wanted]) -> bool
+    ensures { MatchBool result (AnyIn IsMove calls.now) (¬ AnyIn IsMove calls.now) }
+{
+    for call in calls {
+        if let Wanted::Move(_, _) = call {
+            return true;
+        }
+    }
+    false
 }
 
 /// The text of the report of these events, if each is legal after those before it.

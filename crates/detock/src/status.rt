@@ -1,17 +1,25 @@
 ghost use Rattle.std.specs.Prelude.{◌≡◌};
 ghost use Rattle.detock.specs.Statuses.{exit_number};
 
+use dt_cluster::ClusterFault;
 use dt_text::NoMemory;
+use dt_workload::WorkloadCause;
 
 /// How the program ends.
-#[derive(Clone, Copy, Debug, PartialEq, Eq)]
+#[derive(Debug, Drop)]
 pub enum Status {
     /// The whole report was written.
     Done,
     /// Memory ran out. Nothing was written.
     NoMemory,
+    /// The words are of none of the forms.
+    BadWords,
     /// The file that the word of this number names, counted from 1, could not be read.
     CannotRead(u32),
+    /// The cluster's file is no cluster; this is its first fault.
+    BadCluster(ClusterFault),
+    /// The workload's file is no workload for the cluster, first by this line; line 0 stands for the whole file.
+    BadWorkload(u32, WorkloadCause),
     /// The file of events has a fault on this line; line 0 stands for the whole file.
     BadEvents(u32, EventsCause),
     /// The sink failed. It took some first bytes of the report, and no others.
@@ -39,7 +47,10 @@ impl Status {
         match self {
             Status::Done => 0,
             Status::NoMemory => 1,
+            Status::BadWords => 2,
             Status::CannotRead(_) => 3,
+            Status::BadCluster(_) => 4,
+            Status::BadWorkload(_, _) => 5,
             Status::BadEvents(_, _) => 6,
             Status::CannotWrite => 7,
             Status::NotBuilt => 9,

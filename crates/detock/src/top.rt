@@ -1,10 +1,10 @@
 ghost use Rattle.std.specs.Prelude.{◌≡◌, ◌≢◌, ℕ, ◌≤◌, ◌⊎◌, IsSome};
 ghost use Rattle.dt_outside.specs.Faults.{Rose};
 ghost use Rattle.dt_outside.specs.Held.{Adds, AddsPrefix};
-ghost use Rattle.detock.specs.Words.{NeedsThreads, spelled};
+ghost use Rattle.detock.specs.Words.{AreAForm, NeedsThreads, spelled};
 ghost use Rattle.detock.specs.Statuses.{fault_line};
 ghost use Rattle.detock.specs.Headline.{Headline};
-ghost use Rattle.detock.specs.Causes.{CouldNotRead, HasBadEvents, IsDue, IsNotBuilt};
+ghost use Rattle.detock.specs.Causes.{CouldNotRead, HasBadCluster, HasBadEvents, HasBadWorkload, IsDue, IsNotBuilt};
 ghost use Rattle.detock.specs.Refusals.{IsRefusal};
 
 use crate::faults::tell;
@@ -16,10 +16,10 @@ use std::alloc::Global;
 use std::sync::Wait;
 use std::thread::Threads;
 
-/// Does what the words of the command line ask for: so far `replay` on a built-in cluster.
+/// Does what the words of the command line ask for: so far `replay`, of workloads without moves.
 ///
-/// The workload's file is loaded and read, then the events' file, then each event is tried in order; the report is made
-/// whole in memory, and then written to `out`. Each status but `Done` is told to `err` by its line. The call takes
+/// The cluster's file is loaded and read, then the workload's, then that of the events, all of whose lines are read before any
+/// event is tried; then each event is tried in order; the report is made whole in memory, and then written to `out`. Each status but `Done` is told to `err` by its line. The call takes
 /// threads and locks where the words ask for a run; then its promises hold if it returns.
 pub fn detock<R: Threads + Wait + Sync, F: Folder, O: Sink, E: Sink>(
     _rt: &R,
@@ -34,7 +34,12 @@ pub fn detock<R: Threads + Wait + Sync, F: Folder, O: Sink, E: Sink>(
         Headline (F.told files.old) (spelled words.now) (Adds (O.held out.old) (O.held out.new)) }
 
     // Each refusal comes only by its cause, tried in this order.
+    ensures bad_words { result ≡ Status.BadWords → ¬ AreAForm (spelled words.now) }
     ensures not_built { result ≡ Status.NotBuilt → IsNotBuilt (F.told files.old) (spelled words.now) }
+    ensures bad_cluster { (fault : _) → result ≡ Status.BadCluster fault →
+        HasBadCluster (F.told files.old) (spelled words.now) fault }
+    ensures bad_workload { (line : ℕ) (cause : _) → result ≡ Status.BadWorkload line cause →
+        HasBadWorkload (F.told files.old) (spelled words.now) line cause }
     ensures cannot_read { (word : ℕ) → result ≡ Status.CannotRead word →
         CouldNotRead (F.told files.old) (spelled words.now) (F.faults files.old) (F.faults files.new) word }
     ensures bad_events { (line : ℕ) (cause : _) → result ≡ Status.BadEvents line cause →
@@ -57,7 +62,7 @@ pub fn detock<R: Threads + Wait + Sync, F: Folder, O: Sink, E: Sink>(
     ensures quiet { result ≡ Status.Done → err.new ≡ err.old }
 {
     if needs_threads(words) {
-        tell(Status::NotBuilt, err);
+        tell(&Status::NotBuilt, err);
         return Status::NotBuilt;
     }
     detock_alone(alloc, words, files, out, err)
@@ -77,7 +82,12 @@ pub fn detock_alone<F: Folder, O: Sink, E: Sink>(
         Headline (F.told files.old) (spelled words.now) (Adds (O.held out.old) (O.held out.new)) }
 
     // Each refusal comes only by its cause, tried in this order.
+    ensures bad_words { result ≡ Status.BadWords → ¬ AreAForm (spelled words.now) }
     ensures not_built { result ≡ Status.NotBuilt → IsNotBuilt (F.told files.old) (spelled words.now) }
+    ensures bad_cluster { (fault : _) → result ≡ Status.BadCluster fault →
+        HasBadCluster (F.told files.old) (spelled words.now) fault }
+    ensures bad_workload { (line : ℕ) (cause : _) → result ≡ Status.BadWorkload line cause →
+        HasBadWorkload (F.told files.old) (spelled words.now) line cause }
     ensures cannot_read { (word : ℕ) → result ≡ Status.CannotRead word →
         CouldNotRead (F.told files.old) (spelled words.now) (F.faults files.old) (F.faults files.new) word }
     ensures bad_events { (line : ℕ) (cause : _) → result ≡ Status.BadEvents line cause →
@@ -100,7 +110,7 @@ pub fn detock_alone<F: Folder, O: Sink, E: Sink>(
     ensures quiet { result ≡ Status.Done → err.new ≡ err.old }
 {
     let status = status_of(alloc, words, files, out);
-    tell(status, err);
+    tell(&status, err);
     status
 }
 
@@ -111,6 +121,7 @@ fn status_of<F: Folder, O: Sink>(
     files: &mut F,
     out: &mut O,
 ) -> Status
+    requires { ¬ NeedsThreads (spelled words.now) }
     ensures done { result ≡ Status.Done →
         Headline (F.told files.old) (spelled words.now) (Adds (O.held out.old) (O.held out.new)) }
     ensures refused { result ≢ Status.Done → result ≢ Status.CannotWrite →

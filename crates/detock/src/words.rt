@@ -1,17 +1,26 @@
 ghost use Rattle.std.specs.Prelude.{◌≡◌, ◌≢◌, ◌∷◌, [], ℕ, List, MatchBool, MatchOption};
 ghost use Rattle.detock.specs.Words.{IsBig, IsBuiltin, IsFileName, IsReplay, IsRun, IsSize, NamesCluster, NeedsThreads, builtin_word, spelled};
-ghost use Rattle.detock.specs.Asked.{asked_for};
+ghost use Rattle.detock.specs.Asked.{IsRight, asked_for, word_of};
 
 use dt_text::read_u32;
 use std::alloc::Global;
 use std::env::{Env, args};
 use std::io;
 
+/// Which cluster a word names.
+#[derive(Clone, Copy, Debug)]
+pub enum ClusterWord<'a> {
+    /// The built-in one of so many regions.
+    Builtin(u8),
+    /// The one in the file of this name.
+    File(&'a str),
+}
+
 /// What `replay` is asked to do.
 #[derive(Clone, Copy, Debug)]
 pub struct ReplayWords<'a> {
-    /// The number of regions of the built-in cluster.
-    pub regions: u8,
+    /// The cluster.
+    pub cluster: ClusterWord<'a>,
     /// The name of the workload's file.
     pub workload: &'a str,
     /// The name of the events' file.
@@ -23,18 +32,18 @@ pub fn command_line<R: Env + Alloc<A = Global>>(rt: &R) -> io::Result<Vec<String
     Ok(args(rt)?.skip(1).collect(rt.alloc())?)
 }
 
-/// Reads the words of a replay on a built-in cluster. `None` exactly where the words are none. Takes no memory.
+/// Reads the words of a replay. `None` exactly where the words are none. Takes no memory.
 pub fn replay_words(words: &[String]) -> Option<ReplayWords<'_>>
     ensures { MatchOption result ((replay : _) → ¬ IsReplay (spelled words.now) replay)
-        (λ replay. IsReplay (spelled words.now) (asked_for replay)) }
+        (λ replay. IsReplay (spelled words.now) (asked_for replay) × IsRight replay.cluster) }
 {
     let (verb, cluster, workload, events) = four_words(words)?;
     if verb != "replay" || workload.is_empty() || events.is_empty() {
         return None;
     }
-    let regions = builtin_regions(cluster.as_bytes())?;
+    let cluster = cluster_word(cluster)?;
     Some(ReplayWords {
-        regions,
+        cluster,
         workload,
         events,
     })
@@ -56,7 +65,7 @@ fn is_run(words: &[String]) -> bool
     if verb != "run" || workload.is_empty() {
         return false;
     }
-    names_cluster(cluster.as_bytes())
+    cluster_word(cluster).is_some()
 }
 
 fn is_big(words: &[String]) -> bool
@@ -125,14 +134,19 @@ fn is_size(word: &[u8]) -> bool
     true
 }
 
-/// Whether the word names a cluster.
-fn names_cluster(word: &[u8]) -> bool
-    ensures { MatchBool result (NamesCluster word.now) (¬ NamesCluster word.now) }
+/// Which cluster the word names. `None` exactly where it names none.
+fn cluster_word(word: &str) -> Option<ClusterWord<'_>>
+    ensures { MatchOption result (¬ NamesCluster word.now)
+        (λ cluster. IsRight cluster × (word_of cluster ≡ word.now) × NamesCluster word.now) }
 {
-    if word.is_empty() {
-        return false;
+    let bytes = word.as_bytes();
+    if bytes.is_empty() {
+        return None;
     }
-    word[0] != b':' || builtin_regions(word).is_some()
+    if bytes[0] != b':' {
+        return Some(ClusterWord::File(word));
+    }
+    Some(ClusterWord::Builtin(builtin_regions(bytes)?))
 }
 
 /// How many regions the built-in cluster of this word has. `None` exactly where the word names none.

@@ -1,13 +1,36 @@
-use Rattle.std.specs.Prelude.{◌<◌, ◌≤◌, map}
+use Rattle.std.specs.Prelude.{◌≡◌, ◌<◌, ◌≤◌, ◌⊎◌, ℕ, map, FitsSigned}
+use Rattle.std.specs.Int.{w64}
 use Rattle.dt_lists.specs.Lists.{AllIn, Distinct}
+use Rattle.dt_text.specs.Texts.{IsKey, IsStr}
+use Rattle.dt_text.specs.declared.value.Value.{Value}
+use Rattle.dt_text.specs.declared.value.Value.TheVariants.{Int, Text}
+use Rattle.dt_proc.specs.Sound.{AreProcs}
 use Rattle.dt_cluster.specs.declared.cluster.Cluster.{Cluster}
 
--- a cluster that can be: it has 1 to 8 regions and at least one try, no key is listed twice for a home or for a value,
--- and the listed homes are regions
+-- a value that a row can have: a number of 64 bits with a sign, or a text
+abbrev pub IsRowValue : Value → Type 0
+IsRowValue (Int z) = FitsSigned w64 z
+IsRowValue (Text t) = IsStr t
+
+-- every so manieth packet is lost, but not each: none, or one of 2 to 1000
+abbrev pub IsDrop : ℕ → Type 0
+IsDrop d = (d ≡ 0) ⊎ (2 ≤ d) × (d ≤ 1000)
+
+-- a cluster that can be: its numbers are in their ranges, its procedures are sound, no key is listed twice for a home or for a
+-- value, the listed homes are regions, and the listed values can stand in rows
 pub record IsValidCluster (cluster : Cluster) : Type 0 where
   pub some : 1 ≤ cluster.regions
   pub few : cluster.regions ≤ 8
+  pub some_worker : 1 ≤ cluster.workers
+  pub few_workers : cluster.workers ≤ 16
   pub tries : 1 ≤ cluster.tries
+  pub few_tries : cluster.tries ≤ 8
+  pub drop : IsDrop cluster.drop
+  pub repeat : cluster.repeat ≤ 1000
+  pub procs : AreProcs cluster.procs
+  pub home_keys : AllIn (λ h. IsKey h.0) cluster.homes
   pub homes_once : Distinct (map (λ h. h.0) cluster.homes)
   pub homes : AllIn (λ h. h.1 < cluster.regions) cluster.homes
+  pub row_keys : AllIn (λ r. IsKey r.0) cluster.rows
   pub rows_once : Distinct (map (λ r. r.0) cluster.rows)
+  pub rows : AllIn (λ r. IsRowValue r.1) cluster.rows

@@ -3,6 +3,7 @@ ghost use Rattle.dt_cluster.specs.Builtin.{builtin_cluster};
 ghost use Rattle.dt_cluster.specs.Valid.{IsValidCluster};
 
 use crate::copies::{copy_homes, copy_rows};
+use dt_proc::{Procs, builtin_procs};
 use dt_text::{Key, Listed, NoMemory, Value};
 use std::alloc::Global;
 
@@ -25,6 +26,8 @@ pub struct Cluster {
     pub drop: u32,
     /// Every packet whose number this divides comes twice, unless it is lost; 0 for none.
     pub repeat: u32,
+    /// The procedures that calls name.
+    pub procs: Procs,
     /// The homes of keys that have another than their first byte gives.
     pub homes: HomeList,
     /// The rows that have a value at first.
@@ -42,6 +45,7 @@ impl Cluster {
             tries: self.tries,
             drop: self.drop,
             repeat: self.repeat,
+            procs: self.procs.copy(alloc)?,
             homes: copy_homes(alloc, self.homes.as_slice())?,
             rows: copy_rows(alloc, self.rows.as_slice())?,
         })
@@ -49,7 +53,7 @@ impl Cluster {
 }
 
 /// The built-in cluster of so many regions: four workers, three tries, nothing lost or repeated,
-/// and neither homes nor rows listed.
+/// the built-in procedures, and neither homes nor rows listed.
 pub fn builtin(alloc: Global, regions: u8) -> Result<Cluster, NoMemory>
     requires some { 1 ≤ regions }
     requires few { regions ≤ 8 }
@@ -62,6 +66,7 @@ pub fn builtin(alloc: Global, regions: u8) -> Result<Cluster, NoMemory>
         tries: 3,
         drop: 0,
         repeat: 0,
+        procs: builtin_procs(alloc)?,
         homes: Listed::new(alloc),
         rows: Listed::new(alloc),
     })

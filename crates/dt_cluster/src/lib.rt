@@ -1,10 +1,20 @@
-//! What a cluster is: its regions, the homes and values of its rows, and its limits.
+//! What a cluster is: its regions, its procedures, the homes and values of its rows, and its limits; and the reader of its file.
 #![tactic(auto)]
 
 mod cluster;
 mod copies;
+mod entries;
+mod error;
+mod homes;
+mod numbers;
+mod reader;
+mod rows;
 
 pub use cluster::{Cluster, HomeList, RowList, builtin};
+pub use error::{ClusterCause, ClusterError, ClusterFault, ClusterPlace, Label};
+pub use reader::read_cluster;
 
+#[cfg(test)]
+mod file_tests;
 #[cfg(test)]
 mod tests;

@@ -10,6 +10,9 @@ fn the_built_in_cluster_has_its_limits(rt: HostRuntime) -> Result<(), Fail> {
     assert_eq!(rt; cluster.tries, 3);
     assert_eq!(rt; cluster.drop, 0);
     assert_eq!(rt; cluster.repeat, 0);
+    assert_eq!(rt; cluster.procs.len(), 8);
+    assert_eq!(rt; cluster.procs.find(b"put"), Some(0));
+    assert_eq!(rt; cluster.procs.find(b"xfer"), Some(7));
     assert!(rt; cluster.homes.is_empty());
     assert!(rt; cluster.rows.is_empty());
     Ok(())
@@ -36,6 +39,7 @@ fn a_copy_lists_the_same_homes_and_rows(rt: HostRuntime) -> Result<(), Fail> {
     assert_eq!(rt; copied.tries, 3);
     assert_eq!(rt; copied.drop, 5);
     assert_eq!(rt; copied.repeat, 7);
+    assert_eq!(rt; copied.procs.len(), 8);
     assert!(rt; copied.homes == cluster.homes);
     assert!(rt; copied.rows == cluster.rows);
     Ok(())

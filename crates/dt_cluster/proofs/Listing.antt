@@ -1,0 +1,81 @@
+-- The entries of a map as those of the table that it stands for, and what the accessors of values find.
+use Rattle.std.proofs.lemmas.Bool.{false≢true}
+use Rattle.std.proofs.Common.{◌≡◌, ◌↔◌, ◌⊎◌, inl, inr, ℕ, ℤ, ◌<◌, ◌≤◌, Bool, true, false, cond, not, ◌&&◌, List, [], ◌∷◌, ◌++◌, length, map, position, Option, Some, None, option_map, String, Global, BTreeMap, Ordering, Less, Equal, Greater, string_bytes, nat_cmp, is_eq, refl, sym, ap, ◌∙◌, IsTrue, Result, Ok, Err, IfErr}
+use Rattle.std.specs.Result.{IsErrAnd}
+use Rattle.std.specs.Cmp.Lexicographic.{slice_cmp}
+use Rattle.std.specs.List.{AllByRecursion, list_all}
+use Rattle.std.specs.List.Sorted.{IsStrictlySortedBy}
+use Rattle.std.specs.Map.{keys_of, lookup}
+use Rattle.std.specs.String.{string_cmp}
+use Rattle.std.specs.Ordering.{match_ordering}
+use Rattle.dt_text.specs.Texts.{first_outside}
+use Rattle.dt_text.proofs.Allowed.{outside_where}
+use Rattle.toml.specs.Data.{Data, string, integer, float, boolean, datetime, array, table, as_str, as_integer, as_table, get_member, same_key, Members}
+use Rattle.toml.specs.View.{view, members_view}
+use Rattle.toml.specs.declared.value.Value.{Value}
+use Rattle.dt_cluster.specs.Document.{Bytes, Entry, AreEntries}
+use Rattle.dt_cluster.specs.Finding.{Tells}
+use Rattle.dt_cluster.specs.declared.error.ClusterFault.{ClusterFault}
+use Rattle.dt_cluster.specs.declared.error.ClusterError.{ClusterError}
+use Rattle.dt_cluster.specs.declared.error.ClusterError.TheVariants.{Fault, NoMemory}
+
+abbrev pub Kept : Type 0
+Kept = String Global × Value
+
+-- the entries of a map, as contracts speak of them
+abbrev pub listed : List Kept → List Entry
+listed es = map (λ e. (string_bytes e.0, view e.1)) es
+
+found : {A : Type 0} (o : Ordering) (a b : A) → cond (is_eq o) a b ≡ match_ordering o b a b
+found Less a b = refl
+found Equal a b = refl
+found Greater a b = refl
+
+listed_same : (name : Bytes) (es : List Kept) → lookup (same_key name) (listed es) ≡ get_member name (members_view es)
+listed_same name [] = refl
+listed_same name (e ∷ es) = found (slice_cmp nat_cmp name (string_bytes e.0)) (Some (view e.1)) (lookup (same_key name) (listed es)) ∙ ap (λ o. match_ordering (slice_cmp nat_cmp name (string_bytes e.0)) o (Some (view e.1)) o) (listed_same name es)
+
+listed_below : (name : String Global) (es : List Kept) → AllByRecursion (λ y. string_cmp name y ≡ Less) (keys_of es) → AllByRecursion (λ y. slice_cmp nat_cmp (string_bytes name) y ≡ Less) (map (λ e. e.0) (listed es))
+listed_below name [] h = h
+listed_below name (e ∷ es) h = (h.0, listed_below name es h.1)
+
+listed_ascend : (es : List Kept) → IsStrictlySortedBy string_cmp (keys_of es) → IsStrictlySortedBy (slice_cmp nat_cmp) (map (λ e. e.0) (listed es))
+unfolding IsStrictlySortedBy
+listed_ascend [] h = h
+listed_ascend (e ∷ es) h = (listed_below e.0 es h.0, listed_ascend es h.1)
+
+-- the entries of a map are those of its table
+pub listed_are : (es : List Kept) → IsStrictlySortedBy string_cmp (keys_of es) → AreEntries (members_view es) (listed es)
+listed_are es ordered = record { ascending = listed_ascend es ordered; same = λ name. listed_same name es }
+
+refused : (some all : Bool) (n place : ℕ) → some ≡ not all → cond some (Some n) None ≡ Some place → all ≡ true → ⊥
+refused true true n place e found h = absurd cc
+refused true false n place e found h = absurd cc
+refused false all n place e found h = absurd cc
+
+-- a byte that is outside refuses a list of bytes
+pub byte_outside : (allowed : ℕ → Bool) (bs : List ℕ) (place : ℕ) → first_outside allowed bs ≡ Some place → list_all allowed bs ≡ true → ⊥
+byte_outside allowed bs place found all = refused _ _ _ place (outside_where allowed bs) found all
+
+-- what is told is told of more
+pub tells_more : (P Q : ClusterFault → Type 0) → ((f : ClusterFault) → P f → Q f) → (e : ClusterError) → Tells P e → Tells Q e
+tells_more P Q more (Fault f) h = more f h
+tells_more P Q more NoMemory h = tt
+
+pub refused_by : (b : Bool) (P : Type 0) → (IsTrue b ↔ P) → b ≡ false → P → ⊥
+refused_by true P same e h = absurd cc
+refused_by false P same e h = absurd (false≢true (same.1 h))
+
+-- an error that is passed on
+pub err_passed : {A : Type 0} (P : ClusterError → Type 0) (r : Result A ClusterError) (e : ClusterError) → IsErrAnd r (λ y. y ≡ e) → P e → IfErr r P
+err_passed P (Ok x) e h p = tt
+err_passed P (Err y) e h p = rw h p
+
+-- one more item before the rest
+pub one_more : {A : Type 0} (xs : List A) (x : A) (rest : List A) → (xs ++ x ∷ []) ++ rest ≡ xs ++ x ∷ rest
+one_more [] x rest = refl
+one_more (y ∷ xs) x rest = ap (λ ys. y ∷ ys) (one_more xs x rest)
+
+pub nothing_more : {A : Type 0} (xs : List A) → xs ++ [] ≡ xs
+nothing_more [] = refl
+nothing_more (y ∷ xs) = ap (λ ys. y ∷ ys) (nothing_more xs)

@@ -1,0 +1,16 @@
+-- The entries so far are the homes so far: what is left decides.
+use Rattle.std.proofs.Common.{ℕ, List, ◌++◌}
+use Rattle.dt_lists.specs.Lists.{Pairwise}
+use Rattle.dt_cluster.specs.Document.{Bytes, IsFirstBad}
+use Rattle.dt_cluster.specs.Rows.{IsHome, IsBadHome}
+use Rattle.dt_cluster.specs.declared.error.ClusterCause.{ClusterCause}
+use Rattle.dt_cluster.proofs.Listing.{listed}
+use Rattle.dt_cluster.proofs.homes.homes_of.Given as goal
+
+abbrev pub invariant-loop-name : goal.invariant-loop-name
+invariant-loop-name l =
+    (goal.iterator-loop-name).can_next l.name-iterator × (goal.iterator-loop-name).is_finite l.name-iterator
+    × ((rest : List (Bytes × ℕ)) → Pairwise (IsHome l.regions) (listed l.name-iterator) rest
+    → Pairwise (IsHome l.regions) (listed l.table.entries) (l.homes.items ++ rest))
+    × ((name : Bytes) (why : ClusterCause) → IsFirstBad (λ e. e.0) (λ e. (h : Bytes × ℕ) × IsHome l.regions e h) (IsBadHome l.regions) (listed l.name-iterator) name why
+    → IsFirstBad (λ e. e.0) (λ e. (h : Bytes × ℕ) × IsHome l.regions e h) (IsBadHome l.regions) (listed l.table.entries) name why)

@@ -1,0 +1,17 @@
+-- The entries so far are the rows so far: what is left decides.
+use Rattle.std.proofs.Common.{ℕ, List, ◌++◌}
+use Rattle.dt_lists.specs.Lists.{Pairwise}
+use Rattle.dt_text.specs.declared.value.Value.{Value}
+use Rattle.dt_cluster.specs.Document.{Bytes, IsFirstBad}
+use Rattle.dt_cluster.specs.Rows.{IsRow, IsBadRow}
+use Rattle.dt_cluster.specs.declared.error.ClusterCause.{ClusterCause}
+use Rattle.dt_cluster.proofs.Listing.{listed}
+use Rattle.dt_cluster.proofs.rows.rows_of.Given as goal
+
+abbrev pub invariant-loop-name : goal.invariant-loop-name
+invariant-loop-name l =
+    (goal.iterator-loop-name).can_next l.name-iterator × (goal.iterator-loop-name).is_finite l.name-iterator
+    × ((rest : List (Bytes × Value)) → Pairwise IsRow (listed l.name-iterator) rest
+    → Pairwise IsRow (listed l.table.entries) (l.rows.items ++ rest))
+    × ((name : Bytes) (why : ClusterCause) → IsFirstBad (λ e. e.0) (λ e. (r : Bytes × Value) × IsRow e r) IsBadRow (listed l.name-iterator) name why
+    → IsFirstBad (λ e. e.0) (λ e. (r : Bytes × Value) × IsRow e r) IsBadRow (listed l.table.entries) name why)

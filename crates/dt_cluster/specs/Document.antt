@@ -1,0 +1,42 @@
+-- A cluster file as a document of TOML, and a table of it as the list of its entries.
+use Rattle.std.specs.Prelude.{◌≡◌, ◌⊎◌, ℕ, List, [], ◌∷◌, map, Option, Some, None, IsUtf8}
+use Rattle.std.specs.Map.{lookup}
+use Rattle.std.specs.Ordering.{nat_cmp}
+use Rattle.std.specs.Cmp.Lexicographic.{slice_cmp}
+use Rattle.std.specs.List.Sorted.{IsStrictlySortedBy}
+use Rattle.toml.specs.Data.{Data, Members, table, get_member, same_key}
+use Rattle.toml.specs.Parse.{parse_document}
+
+abbrev pub Bytes : Type 0
+Bytes = List ℕ
+
+-- an entry of a table: its name and its value
+abbrev pub Entry : Type 0
+Entry = Bytes × Data
+
+-- the bytes are a document, and this is its table
+abbrev pub IsDocument : Bytes → Members → Type 0
+IsDocument bytes top = IsUtf8 bytes × (parse_document bytes ≡ Some top)
+
+-- all entries of a table, by ascending names in byte order
+pub record AreEntries (members : Members) (entries : List Entry) : Type 0 where
+  pub ascending : IsStrictlySortedBy (slice_cmp nat_cmp) (map (λ e. e.0) entries)
+  pub same : (name : Bytes) → lookup (same_key name) entries ≡ get_member name members
+
+-- the entries of the table at a name: there are none where nothing stands there
+abbrev pub AreEntriesAt : Option Data → List Entry → Type 0
+AreEntriesAt None entries = entries ≡ []
+AreEntriesAt (Some (table members)) entries = AreEntries members entries
+AreEntriesAt (Some other) entries = ⊥
+
+-- what stands at a name is no table
+abbrev pub IsNoTable : Option Data → Type 0
+IsNoTable None = ⊥
+IsNoTable (Some (table _)) = ⊥
+IsNoTable (Some other) = Unit {0}
+
+-- the first item of a list that is at fault has this name and this cause, and each before it is fine
+abbrev pub IsFirstBad : {A C : Type 0} → (A → Bytes) → (A → Type 0) → (A → C → Type 0) → List A → Bytes → C → Type 0
+IsFirstBad name_of Fine Bad [] name cause = ⊥
+IsFirstBad name_of Fine Bad (x ∷ xs) name cause =
+    ((name ≡ name_of x) × Bad x cause) ⊎ (Fine x × IsFirstBad name_of Fine Bad xs name cause)

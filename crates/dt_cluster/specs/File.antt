@@ -1,0 +1,135 @@
+-- What a cluster file is, and what fault is told of a file that is none.
+use Rattle.std.specs.Prelude.{◌≡◌, ◌⊎◌, ℕ, List, [], ◌∷◌, Option, Some, None, Ok, Err, codes}
+use Rattle.dt_lists.specs.Lists.{AllIn, Has, Pairwise}
+use Rattle.dt_text.specs.declared.value.Value.{Value}
+use Rattle.dt_proc.specs.Tree.{ProcTree}
+use Rattle.dt_proc.specs.Builtin.{builtin_procs}
+use Rattle.dt_proc.specs.Outcome.{Outcome}
+use Rattle.dt_proc.specs.declared.error.ProcError.{ProcError}
+use Rattle.dt_proc.specs.declared.error.ProcError.TheVariants as refused
+use Rattle.toml.specs.Data.{Data, string, Members, get_member}
+use Rattle.dt_cluster.specs.Document.{Bytes, Entry, IsDocument, AreEntries, AreEntriesAt, IsNoTable, IsFirstBad}
+use Rattle.dt_cluster.specs.Numbers.{NumberEntry, regions_entry, workers_entry, tries_entry, drop_entry, repeat_entry, HasNumber, HasBadNumber}
+use Rattle.dt_cluster.specs.Rows.{IsHome, IsBadHome, IsRow, IsBadRow}
+use Rattle.dt_cluster.specs.declared.cluster.Cluster.{Cluster}
+use Rattle.dt_cluster.specs.declared.error.ClusterCause.{ClusterCause}
+use Rattle.dt_cluster.specs.declared.error.ClusterCause.TheVariants as cause
+use Rattle.dt_cluster.specs.declared.error.ClusterPlace.{ClusterPlace}
+use Rattle.dt_cluster.specs.declared.error.ClusterPlace.TheVariants as place
+use Rattle.dt_cluster.specs.declared.error.ClusterFault.{ClusterFault}
+
+-- the names that may stand at the top of a cluster file
+abbrev pub known_names : List Bytes
+known_names =
+    codes "regions" ∷ codes "workers" ∷ codes "tries" ∷ codes "drop" ∷ codes "repeat" ∷ codes "procs" ∷ codes "homes" ∷ codes "rows" ∷ []
+
+abbrev pub IsKnown : Entry → Type 0
+IsKnown entry = Has known_names entry.0
+
+-- each name at the top is known
+abbrev pub AreKnown : Members → Type 0
+AreKnown top = (entries : List Entry) × AreEntries top entries × AllIn IsKnown entries
+
+-- the fault of a name that is unknown: the least such name is told
+abbrev pub IsUnknownFault : Members → ClusterFault → Type 0
+IsUnknownFault top fault =
+    (name : Bytes) × (fault ≡ record { place = place.Entry name; cause = cause.Unknown })
+    × ((entries : List Entry) × AreEntries top entries
+    × IsFirstBad (λ e. e.0) IsKnown (λ e c. (c ≡ cause.Unknown) × ¬ (IsKnown e)) entries name cause.Unknown)
+
+-- the numbers that a document gives
+abbrev pub HasNumbers : Members → ℕ → ℕ → ℕ → ℕ → ℕ → Type 0
+HasNumbers top regions workers tries drop repeat =
+    HasNumber top regions_entry regions × HasNumber top workers_entry workers × HasNumber top tries_entry tries
+    × HasNumber top drop_entry drop × HasNumber top repeat_entry repeat
+
+abbrev pub number_entries : List NumberEntry
+number_entries = regions_entry ∷ workers_entry ∷ tries_entry ∷ drop_entry ∷ repeat_entry ∷ []
+
+-- the fault of a number: that of the first number which has one
+abbrev pub IsNumberFault : Members → ClusterFault → Type 0
+IsNumberFault top fault =
+    (name : Bytes) × (why : ClusterCause) × (fault ≡ record { place = place.Entry name; cause = why })
+    × IsFirstBad (λ e. e.name) (λ e. (n : ℕ) × HasNumber top e n) (HasBadNumber top) number_entries name why
+
+-- the procedures that a document gives: those of the text at `procs`, and the built-in ones where there is none
+abbrev pub GivesProcs : Option Data → List ProcTree → Type 0
+GivesProcs None procs = procs ≡ builtin_procs
+GivesProcs (Some (string text)) procs = Outcome text (Ok procs)
+GivesProcs (Some other) procs = ⊥
+
+-- a fault in the text of procedures as one of the file
+abbrev pub told : ProcError → ClusterFault → Type 0
+told (refused.Syntax at) fault = fault ≡ record { place = place.Procs at; cause = cause.Syntax }
+told (refused.Unknown at) fault = fault ≡ record { place = place.Procs at; cause = cause.UnknownName }
+told (refused.Kind at) fault = fault ≡ record { place = place.Procs at; cause = cause.Kind }
+told (refused.Twice at) fault = fault ≡ record { place = place.Procs at; cause = cause.Twice }
+told (refused.TooMany at) fault = fault ≡ record { place = place.Procs at; cause = cause.TooMany }
+told refused.NoMemory fault = ⊥
+
+-- the fault of `procs`: it is no string, or its text has a fault
+abbrev pub IsProcsFaultAt : Option Data → ClusterFault → Type 0
+IsProcsFaultAt None fault = ⊥
+IsProcsFaultAt (Some (string text)) fault = (e : ProcError) × Outcome text (Err e) × told e fault
+IsProcsFaultAt (Some other) fault = fault ≡ record { place = place.Entry (codes "procs"); cause = cause.Kind }
+
+abbrev pub HasProcs : Members → List ProcTree → Type 0
+HasProcs top procs = GivesProcs (get_member (codes "procs") top) procs
+
+abbrev pub IsProcsFault : Members → ClusterFault → Type 0
+IsProcsFault top fault = IsProcsFaultAt (get_member (codes "procs") top) fault
+
+-- the homes that a document lists, by ascending keys
+abbrev pub HasHomes : Members → ℕ → List (Bytes × ℕ) → Type 0
+HasHomes top regions homes =
+    (entries : List Entry) × AreEntriesAt (get_member (codes "homes") top) entries × Pairwise (IsHome regions) entries homes
+
+-- the fault of `homes`: it is no table, or the first of its names that is at fault
+abbrev pub IsHomesFault : Members → ℕ → ClusterFault → Type 0
+IsHomesFault top regions fault =
+    (IsNoTable (get_member (codes "homes") top) × (fault ≡ record { place = place.Entry (codes "homes"); cause = cause.Kind }))
+    ⊎ ((name : Bytes) × (why : ClusterCause) × (fault ≡ record { place = place.Home name; cause = why })
+    × ((entries : List Entry) × AreEntriesAt (get_member (codes "homes") top) entries
+    × IsFirstBad (λ e. e.0) (λ e. (h : Bytes × ℕ) × IsHome regions e h) (IsBadHome regions) entries name why))
+
+-- the rows that a document lists, by ascending keys
+abbrev pub HasRows : Members → List (Bytes × Value) → Type 0
+HasRows top rows =
+    (entries : List Entry) × AreEntriesAt (get_member (codes "rows") top) entries × Pairwise IsRow entries rows
+
+-- the fault of `rows`: it is no table, or the first of its names that is at fault
+abbrev pub IsRowsFault : Members → ClusterFault → Type 0
+IsRowsFault top fault =
+    (IsNoTable (get_member (codes "rows") top) × (fault ≡ record { place = place.Entry (codes "rows"); cause = cause.Kind }))
+    ⊎ ((name : Bytes) × (why : ClusterCause) × (fault ≡ record { place = place.Row name; cause = why })
+    × ((entries : List Entry) × AreEntriesAt (get_member (codes "rows") top) entries
+    × IsFirstBad (λ e. e.0) (λ e. (r : Bytes × Value) × IsRow e r) IsBadRow entries name why))
+
+-- a document is this cluster
+pub record IsClusterOf (top : Members) (cluster : Cluster) : Type 0 where
+  pub known : AreKnown top
+  pub numbers : HasNumbers top cluster.regions cluster.workers cluster.tries cluster.drop cluster.repeat
+  pub procs : HasProcs top cluster.procs
+  pub homes : HasHomes top cluster.regions cluster.homes
+  pub rows : HasRows top cluster.rows
+
+-- the first fault of a document: an unknown name; else that of a number; else that of `procs`; else that of `homes`; else that
+-- of `rows`
+abbrev pub IsFaultOf : Members → ClusterFault → Type 0
+IsFaultOf top fault =
+    IsUnknownFault top fault
+    ⊎ (AreKnown top × (IsNumberFault top fault
+    ⊎ ((regions workers tries drop repeat : ℕ) × HasNumbers top regions workers tries drop repeat × (IsProcsFault top fault
+    ⊎ (((procs : List ProcTree) × HasProcs top procs) × (IsHomesFault top regions fault
+    ⊎ (((homes : List (Bytes × ℕ)) × HasHomes top regions homes) × IsRowsFault top fault)))))))
+
+-- the bytes are this cluster
+abbrev pub IsCluster : Bytes → Cluster → Type 0
+IsCluster bytes cluster = (top : Members) × IsDocument bytes top × IsClusterOf top cluster
+
+-- the first fault of the bytes: they are no document, or the document has this fault. That a file is too long is told by who
+-- loads it
+abbrev pub IsClusterFault : Bytes → ClusterFault → Type 0
+IsClusterFault bytes fault =
+    (((top : Members) → ¬ (IsDocument bytes top)) × (fault ≡ record { place = place.Whole; cause = cause.NotToml }))
+    ⊎ ((top : Members) × IsDocument bytes top × IsFaultOf top fault)

@@ -1,0 +1,49 @@
+-- What the parts of the reader of cluster files find.
+use Rattle.std.specs.Prelude.{◌≡◌, ℕ, List}
+use Rattle.dt_lists.specs.Lists.{Pairwise}
+use Rattle.dt_text.specs.declared.value.Value.{Value}
+use Rattle.toml.specs.Data.{Members}
+use Rattle.dt_cluster.specs.Document.{Bytes, Entry, AreEntries, IsFirstBad}
+use Rattle.dt_cluster.specs.Numbers.{NumberEntry, HasBadNumber}
+use Rattle.dt_cluster.specs.Rows.{IsHome, IsBadHome, IsRow, IsBadRow}
+use Rattle.dt_cluster.specs.declared.error.ClusterCause.{ClusterCause}
+use Rattle.dt_cluster.specs.declared.error.ClusterPlace.{ClusterPlace}
+use Rattle.dt_cluster.specs.declared.error.ClusterPlace.TheVariants as place
+use Rattle.dt_cluster.specs.declared.error.ClusterFault.{ClusterFault}
+use Rattle.dt_cluster.specs.declared.error.ClusterError.{ClusterError}
+use Rattle.dt_cluster.specs.declared.error.ClusterError.TheVariants.{Fault, NoMemory}
+
+-- an error tells a fault that is one, or that memory ran out
+abbrev pub Tells : (ClusterFault → Type 0) → ClusterError → Type 0
+Tells IsFault (Fault fault) = IsFault fault
+Tells IsFault NoMemory = Unit {0}
+
+-- the fault stands at this place, and its cause is one that is there
+abbrev pub IsFaultAt : ClusterPlace → (ClusterCause → Type 0) → ClusterFault → Type 0
+IsFaultAt place IsCause fault = (why : ClusterCause) × (fault ≡ record { place = place; cause = why }) × IsCause why
+
+-- the fault is that of an entry which holds a number
+abbrev pub IsEntryFault : Members → NumberEntry → ClusterFault → Type 0
+IsEntryFault top entry fault = IsFaultAt (place.Entry entry.name) (HasBadNumber top entry) fault
+
+-- the homes that a table lists, by ascending keys
+abbrev pub AreHomesOf : Members → ℕ → List (Bytes × ℕ) → Type 0
+AreHomesOf members regions homes = (entries : List Entry) × AreEntries members entries × Pairwise (IsHome regions) entries homes
+
+-- the fault is that of the first bad home which a table lists
+abbrev pub IsBadHomeOf : Members → ℕ → ClusterFault → Type 0
+IsBadHomeOf members regions fault =
+    (name : Bytes) × (why : ClusterCause) × (fault ≡ record { place = place.Home name; cause = why })
+    × ((entries : List Entry) × AreEntries members entries
+    × IsFirstBad (λ e. e.0) (λ e. (h : Bytes × ℕ) × IsHome regions e h) (IsBadHome regions) entries name why)
+
+-- the rows that a table lists, by ascending keys
+abbrev pub AreRowsOf : Members → List (Bytes × Value) → Type 0
+AreRowsOf members rows = (entries : List Entry) × AreEntries members entries × Pairwise IsRow entries rows
+
+-- the fault is that of the first bad row which a table lists
+abbrev pub IsBadRowOf : Members → ClusterFault → Type 0
+IsBadRowOf members fault =
+    (name : Bytes) × (why : ClusterCause) × (fault ≡ record { place = place.Row name; cause = why })
+    × ((entries : List Entry) × AreEntries members entries
+    × IsFirstBad (λ e. e.0) (λ e. (r : Bytes × Value) × IsRow e r) IsBadRow entries name why)

@@ -1,0 +1,53 @@
+-- The entries of a cluster file that hold numbers.
+use Rattle.std.specs.Prelude.{◌≡◌, ℕ, Bool, true, false, ◌&&◌, ◌||◌, ◌==◌, nat_le, ℤ, pos, Option, Some, None, codes}
+use Rattle.toml.specs.Data.{Data, integer, Members, get_member}
+use Rattle.dt_cluster.specs.Document.{Bytes}
+use Rattle.dt_cluster.specs.declared.error.ClusterCause.{ClusterCause}
+use Rattle.dt_cluster.specs.declared.error.ClusterCause.TheVariants.{Missing, Kind, Range}
+
+-- an entry that holds a number: its name, the numbers that it may have, and what stands for it where it is absent
+pub record NumberEntry : Type 0 where
+  pub name : Bytes
+  pub allows : ℕ → Bool
+  pub absent : Option ℕ
+
+abbrev pub within : ℕ → ℕ → ℕ → Bool
+within least greatest n = nat_le least n && nat_le n greatest
+
+-- 1 to 8, and there has to be one
+abbrev pub regions_entry : NumberEntry
+regions_entry = record { name = codes "regions"; allows = within 1 8; absent = None }
+
+-- 1 to 16, or else 4
+abbrev pub workers_entry : NumberEntry
+workers_entry = record { name = codes "workers"; allows = within 1 16; absent = Some 4 }
+
+-- 1 to 8, or else 3
+abbrev pub tries_entry : NumberEntry
+tries_entry = record { name = codes "tries"; allows = within 1 8; absent = Some 3 }
+
+-- 0, or 2 to 1000, or else 0
+abbrev pub drop_entry : NumberEntry
+drop_entry = record { name = codes "drop"; allows = λ n. n == 0 || within 2 1000 n; absent = Some 0 }
+
+-- 0 to 1000, or else 0
+abbrev pub repeat_entry : NumberEntry
+repeat_entry = record { name = codes "repeat"; allows = within 0 1000; absent = Some 0 }
+
+-- the entry, which has this value or none, gives the number
+abbrev pub Gives : NumberEntry → Option Data → ℕ → Type 0
+Gives entry None n = entry.absent ≡ Some n
+Gives entry (Some (integer z)) n = (z ≡ pos n) × (entry.allows n ≡ true)
+Gives entry (Some other) n = ⊥
+
+-- the entry, which has this value or none, is at fault: it is missing, or no integer, or out of range
+abbrev pub IsAtFault : NumberEntry → Option Data → ClusterCause → Type 0
+IsAtFault entry None cause = (cause ≡ Missing) × (entry.absent ≡ None)
+IsAtFault entry (Some (integer z)) cause = (cause ≡ Range) × ((n : ℕ) → z ≡ pos n → entry.allows n ≡ false)
+IsAtFault entry (Some other) cause = cause ≡ Kind
+
+abbrev pub HasNumber : Members → NumberEntry → ℕ → Type 0
+HasNumber top entry n = Gives entry (get_member entry.name top) n
+
+abbrev pub HasBadNumber : Members → NumberEntry → ClusterCause → Type 0
+HasBadNumber top entry cause = IsAtFault entry (get_member entry.name top) cause

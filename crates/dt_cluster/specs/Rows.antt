@@ -1,0 +1,45 @@
+-- The entries of the tables `homes` and `rows`.
+use Rattle.std.specs.Prelude.{◌≡◌, ◌⊎◌, ◌<◌, ℕ, pos, FitsSigned}
+use Rattle.std.specs.Int.{w64}
+use Rattle.dt_text.specs.Texts.{IsKey, IsStr}
+use Rattle.dt_text.specs.declared.value.Value.{Value}
+use Rattle.dt_text.specs.declared.value.Value.TheVariants.{Int, Text}
+use Rattle.toml.specs.Data.{Data, integer, string}
+use Rattle.dt_cluster.specs.Document.{Bytes, Entry}
+use Rattle.dt_cluster.specs.declared.error.ClusterCause.{ClusterCause}
+use Rattle.dt_cluster.specs.declared.error.ClusterCause.TheVariants.{BadKey, BadText, Kind, Range}
+
+-- an entry of `homes`, in a cluster of so many regions: a key, and an integer that is the number of a region
+abbrev pub IsHome : ℕ → Entry → Bytes × ℕ → Type 0
+IsHome regions entry home =
+    (home.0 ≡ entry.0) × IsKey home.0 × (entry.1 ≡ integer (pos home.1)) × (home.1 < regions)
+
+-- a value that is no home is no integer, or no region's number
+abbrev pub IsNoHome : ℕ → Data → ClusterCause → Type 0
+IsNoHome regions (integer z) cause = (cause ≡ Range) × ((n : ℕ) → z ≡ pos n → ¬ (n < regions))
+IsNoHome regions other cause = cause ≡ Kind
+
+-- why an entry of `homes` is none: its name is no key; else its value is no home
+abbrev pub IsBadHome : ℕ → Entry → ClusterCause → Type 0
+IsBadHome regions entry cause =
+    ((cause ≡ BadKey) × ¬ (IsKey entry.0)) ⊎ (IsKey entry.0 × IsNoHome regions entry.1 cause)
+
+-- the value is this one: an integer is the number, which has 64 bits, and a string the text
+abbrev pub IsValue : Data → Value → Type 0
+IsValue (integer z) (Int y) = (y ≡ z) × FitsSigned w64 z
+IsValue (string s) (Text t) = (t ≡ s) × IsStr t
+IsValue other value = ⊥
+
+-- an entry of `rows`: a key, and an integer or a string that is a text
+abbrev pub IsRow : Entry → Bytes × Value → Type 0
+IsRow entry row = (row.0 ≡ entry.0) × IsKey row.0 × IsValue entry.1 row.1
+
+-- a value that is none is neither integer nor string, or a string that is no text
+abbrev pub IsNoValue : Data → ClusterCause → Type 0
+IsNoValue (integer z) cause = ⊥
+IsNoValue (string s) cause = (cause ≡ BadText) × ¬ (IsStr s)
+IsNoValue other cause = cause ≡ Kind
+
+-- why an entry of `rows` is none: its name is no key; else its value is none
+abbrev pub IsBadRow : Entry → ClusterCause → Type 0
+IsBadRow entry cause = ((cause ≡ BadKey) × ¬ (IsKey entry.0)) ⊎ (IsKey entry.0 × IsNoValue entry.1 cause)
