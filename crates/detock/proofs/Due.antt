@@ -1,5 +1,5 @@
 -- The words and the files call for one status.
-use Rattle.std.proofs.Common.{◌≡◌, ◌≢◌, ℕ, ◌+◌, ◌<◌, ◌≤◌, ◌⊎◌, inl, inr, List, [], ◌∷◌, ◌++◌, length, map, Option, Some, None, IsSome, refl, ap, sym, ◌∙◌, subst, arith, get_or}
+use Rattle.std.proofs.Common.{◌≡◌, ◌≢◌, ℕ, ◌+◌, ◌<◌, ◌≤◌, ◌⊎◌, inl, inr, List, [], ◌∷◌, ◌++◌, length, map, Option, Some, None, IsSome, slice_get, refl, ap, sym, ◌∙◌, subst, arith, get_or}
 use Rattle.std.proofs.lemmas.List.{map-append}
 use Rattle.dt_access.specs.Clash.{Bytes}
 use Rattle.dt_text.specs.Lines.{FileLine, lines_of}
@@ -10,21 +10,25 @@ use Rattle.dt_events.specs.declared.Event.{Event}
 use Rattle.dt_events.specs.Events.{AreEvents, FirstWithoutForm, HasEventForm, IsEventLine, IsNumberedEvent}
 use Rattle.dt_events.proofs.ReadBack.{one_event}
 use Rattle.dt_cluster.specs.declared.Cluster.{Cluster}
+use Rattle.dt_cluster.specs.declared.ClusterFault.{ClusterFault}
 use Rattle.dt_cluster.specs.Builtin.{builtin_cluster}
+use Rattle.dt_cluster.specs.File.{IsCluster, IsClusterFault}
+use Rattle.dt_cluster.proofs.OneFile.{one_cluster, no_cluster_fault, one_cluster_fault}
 use Rattle.dt_workload.specs.declared.Workload.{Workload}
-use Rattle.dt_workload.specs.FirstForm.{IsFirstForm}
-use Rattle.dt_workload.proofs.FirstLaws.{one_workload}
+use Rattle.dt_workload.specs.declared.WorkloadCause.{WorkloadCause}
+use Rattle.dt_workload.specs.File.{IsWorkload, IsWorkloadFault}
+use Rattle.dt_workload.proofs.OneFile.{one_workload, no_workload_fault, one_workload_fault}
 use Rattle.dt_session.specs.World.{World, opening_world}
 use Rattle.dt_session.specs.Step.{IsLegal, next, rule_of}
 use Rattle.dt_session.specs.Run.{AreLegal, AreLegalFrom, world_after, world_from}
 use Rattle.dt_laws.proofs.Runs.{legal_append}
 use Rattle.detock.specs.declared.status.Status.{Status}
-use Rattle.detock.specs.declared.status.Status.TheVariants.{Done, NoMemory, CannotRead, BadEvents, CannotWrite, NotBuilt}
+use Rattle.detock.specs.declared.status.Status.TheVariants.{Done, NoMemory, BadWords, CannotRead, BadCluster, BadWorkload, BadEvents, CannotWrite, NotBuilt}
 use Rattle.detock.specs.declared.status.EventsCause.{EventsCause}
 use Rattle.detock.specs.declared.status.EventsCause.TheVariants.{TooLong, Form, Rule}
-use Rattle.detock.specs.Words.{Replay, IsReplay, IsBuiltin, builtin_word}
-use Rattle.detock.specs.Headline.{Told, AreWorkload, AreNumbered, Headline, IsReplayable, file_limit, unnumbered}
-use Rattle.detock.specs.Causes.{AreNoWorkload, IsNotBuilt, HasWorkload, IsFirstIllegal, AreBadEvents, HasBadEvents, CouldNotRead, IsDue}
+use Rattle.detock.specs.Words.{Replay, IsReplay, IsBuiltin, IsClusterFile, IsRun, IsBig, NeedsThreads, AreAForm, builtin_word}
+use Rattle.detock.specs.Headline.{Told, HasCluster, AreCluster, AreWorkload, AreNumbered, HasMove, IsReplayable, file_limit, unnumbered}
+use Rattle.detock.specs.Causes.{AsksOn, HasWorkload, IsNotBuilt, AreBadCluster, HasBadCluster, AreBadWorkload, HasBadWorkload, IsFirstIllegal, AreBadEvents, HasBadEvents, CouldNotRead, IsDue}
 use Rattle.detock.specs.Refusals.{IsRefusal}
 use Rattle.detock.proofs.WordForms.{two_bytes}
 
@@ -39,19 +43,21 @@ one_builtin : (m n : ℕ) → IsBuiltin m → IsBuiltin n → builtin_word m ≡
 one_builtin m n few many same =
     let digits = ap (λ (word : Bytes). get_or word 1 0) (sym (two_bytes m few) ∙ same ∙ two_bytes n many) in omega (arith, digits)
 
-second : Bytes → List Bytes → Bytes
-second d (a ∷ b ∷ words) = b
-second d words = d
-
 -- words are one replay
 pub one_replay : (words : List Bytes) (r s : Replay) → IsReplay words r → IsReplay words s → r ≡ s
 one_replay words r s a b =
     let same = sym a.form ∙ b.form in
-    let clusters : builtin_word r.regions ≡ builtin_word s.regions = cc in
+    let clusters : r.cluster ≡ s.cluster = cc in
     let workloads : r.workload ≡ s.workload = cc in
     let events : r.events ≡ s.events = cc in
-    let regions = one_builtin r.regions s.regions a.cluster b.cluster clusters in
-    λ i. record { regions = regions i; workload = workloads i; events = events i }
+    λ i. record { cluster = clusters i; workload = workloads i; events = events i }
+
+-- what is done by threads is no replay
+no_threads : (words : List Bytes) (r : Replay) → IsReplay words r → NeedsThreads words → ⊥
+no_threads words r is (inl (cluster, workload, run, _, _)) =
+    let long : 4 ≡ 3 = ap length (sym is.form ∙ run) in omega (arith, long)
+no_threads words r is (inr (size, big, _)) =
+    let long : 4 ≡ 2 = ap length (sym is.form ∙ big) in omega (arith, long)
 
 -- a file is one list of events
 pub one_list : (lines : List FileLine) (a b : List (ℕ × Event)) → Pairwise IsNumberedEvent lines a → Pairwise IsNumberedEvent lines b → a ≡ b
@@ -136,95 +142,196 @@ module _ (cluster : Cluster) (workload : Workload) where
       let P : List (ℕ × Event) → Type 0 = λ list. IsFirstIllegal cluster workload list l n in
       all_legal events l n legal (subst P (one_list (lines_of bytes) others events too.form are.form) illegal)
 
+-- a word that begins with `:` is no name of a cluster's file
+no_file : (word : Bytes) (n : ℕ) → IsBuiltin n → word ≡ builtin_word n → IsClusterFile word → ⊥
+no_file word n is spelled file =
+    let colon : slice_get word 0 ≡ Some 58 = ap (λ (w : Bytes). slice_get w 0) (spelled ∙ two_bytes n is) in file.1 colon
+
 module _ (files : Files) (words : List Bytes) where
-  -- a replay has one workload
-  same_workload : (r s : Replay) (v w : Workload) → HasWorkload (Some files) words r v → HasWorkload (Some files) words s w → (r ≡ s) × (v ≡ w)
-  same_workload r s v w a b =
+  -- a word names one cluster
+  same_cluster : (word : Bytes) (c d : Cluster) → HasCluster (Some files) word c → HasCluster (Some files) word d → c ≡ d
+  same_cluster word c d (inl (m, few, is, made)) (inl (n, many, too, also)) =
+      made ∙ ap builtin_cluster (one_builtin m n few many (sym is ∙ too)) ∙ sym also
+  same_cluster word c d (inl (m, few, is, made)) (inr (file, _)) = absurd (no_file word m few is file)
+  same_cluster word c d (inr (file, _)) (inl (n, many, too, also)) = absurd (no_file word n many too file)
+  same_cluster word c d (inr (_, one)) (inr (_, other)) =
+      let (bytes, a, b) = both_told files word (AreCluster c) (AreCluster d) one other in one_cluster bytes c d a.form b.form
+
+  -- a replay has one cluster
+  same_asked : (r s : Replay) (c d : Cluster) → AsksOn (Some files) words r c → AsksOn (Some files) words s d → (r ≡ s) × (c ≡ d)
+  same_asked r s c d a b =
       let same = one_replay words r s a.asked b.asked in
-      let P : Replay → Type 0 = λ q. Told (Some files) q.workload (AreWorkload q.regions w) in
-      let (bytes, one, other) = both_told files r.workload (AreWorkload r.regions v) (AreWorkload r.regions w) a.workload_file (subst P (sym same) b.workload_file) in
-      (same, one_workload r.regions (omega (arith, a.asked.cluster.1)) bytes v w one.form other.form)
+      let P : Replay → Type 0 = λ q. HasCluster (Some files) q.cluster d in
+      (same, same_cluster r.cluster c d a.cluster_word (subst P (sym same) b.cluster_word))
 
-  -- what has a workload is built
-  built : (r : Replay) (v : Workload) → HasWorkload (Some files) words r v → IsNotBuilt (Some files) words → ⊥
-  built r v a (inl none) = none r a.asked
-  built r v a (inr (s, asked, never)) =
-      let P : Replay → Type 0 = λ q. Told (Some files) q.workload (AreNoWorkload q.regions) in
-      let (bytes, is, isnt) = both_told files r.workload (AreWorkload r.regions v) (AreNoWorkload r.regions) a.workload_file (subst P (sym (one_replay words r s a.asked asked)) never) in
-      contradiction bytes is isnt
+  -- and one workload
+  same_workload : (r s : Replay) (c d : Cluster) (v w : Workload) → HasWorkload (Some files) words r c v → HasWorkload (Some files) words s d w → (r ≡ s) × (c ≡ d) × (v ≡ w)
+  same_workload r s c d v w a b =
+      let same = same_asked r s c d a.asks b.asks in
+      let P : Replay × Cluster → Type 0 = λ q. Told (Some files) q.0.workload (AreWorkload q.1 w) in
+      let pair : (s, d) ≡ (r, c) = λ i. (sym same.0 i, sym same.1 i) in
+      let (bytes, one, other) = both_told files r.workload (AreWorkload c v) (AreWorkload c w) a.workload_file (subst P pair b.workload_file) in
+      (same.0, same.1, one_workload c bytes v w one.form other.form)
+
+  -- what is built has a workload that stays where it is
+  built : (r : Replay) (c : Cluster) (v : Workload) → HasWorkload (Some files) words r c v → ¬ HasMove v → IsNotBuilt (Some files) words → ⊥
+  built r c v a still (inl threads) = no_threads words r a.asks.asked threads
+  built r c v a still (inr (s, d, w, b, moves)) = still (subst HasMove (sym (same_workload r s c d v w a b).2) moves)
+
+  -- a cluster has no fault
+  sound_cluster : (r : Replay) (c : Cluster) (f : ClusterFault) → AsksOn (Some files) words r c → HasBadCluster (Some files) words f → ⊥
+  sound_cluster r c f a (s, asked, file, bad) = go a.cluster_word
     where
-      contradiction : (bytes : Bytes) → AreWorkload r.regions v bytes → AreNoWorkload r.regions bytes → ⊥
-      contradiction bytes is (inl long) = omega (arith, long, is.short)
-      contradiction bytes is (inr none) = none v is.form
+      P : Replay → Type 0
+      P q = IsClusterFile q.cluster × Told (Some files) q.cluster (AreBadCluster f)
 
-  workload_of : (is : IsReplayable (Some files) words) → HasWorkload (Some files) words is.replay is.workload
-  workload_of is = record { asked = is.asked; workload_file = is.workload_file }
+      here : P r
+      here = subst P (sym (one_replay words r s a.asked asked)) (file, bad)
 
-  -- what can be done has no fault
+      fault : (bytes : Bytes) → AreCluster c bytes → AreBadCluster f bytes → ⊥
+      fault bytes is (inl (whole, long)) = omega (arith, long, is.short)
+      fault bytes is (inr (short, has)) = no_cluster_fault bytes c f is.form has
+
+      go : HasCluster (Some files) r.cluster c → ⊥
+      go (inl (m, few, is, made)) = no_file r.cluster m few is here.0
+      go (inr (_, one)) = let (bytes, is, has) = both_told files r.cluster (AreCluster c) (AreBadCluster f) one here.1 in fault bytes is has
+
+  -- a cluster's file has one fault
+  same_cluster_fault : (f g : ClusterFault) → HasBadCluster (Some files) words f → HasBadCluster (Some files) words g → f ≡ g
+  same_cluster_fault f g (r, asked, file, bad) (s, also, too, worse) =
+      let P : Replay → Type 0 = λ q. Told (Some files) q.cluster (AreBadCluster g) in
+      let (bytes, a, b) = both_told files r.cluster (AreBadCluster f) (AreBadCluster g) bad (subst P (sym (one_replay words r s asked also)) worse) in
+      go bytes a b
+    where
+      go : (bytes : Bytes) → AreBadCluster f bytes → AreBadCluster g bytes → f ≡ g
+      go bytes (inl (is, long)) (inl (too, also)) = is ∙ sym too
+      go bytes (inl (is, long)) (inr (short, has)) = absurd (omega (arith, long, short))
+      go bytes (inr (short, has)) (inl (too, long)) = absurd (omega (arith, long, short))
+      go bytes (inr (_, one)) (inr (_, other)) = one_cluster_fault bytes f g one other
+
+  -- a workload has no fault
+  sound_workload : (r : Replay) (c : Cluster) (v : Workload) (l : ℕ) (why : WorkloadCause) → HasWorkload (Some files) words r c v → HasBadWorkload (Some files) words l why → ⊥
+  sound_workload r c v l why a (s, d, asks, bad) =
+      let same = same_asked r s c d a.asks asks in
+      let P : Replay × Cluster → Type 0 = λ q. Told (Some files) q.0.workload (AreBadWorkload q.1 l why) in
+      let pair : (s, d) ≡ (r, c) = λ i. (sym same.0 i, sym same.1 i) in
+      let (bytes, is, has) = both_told files r.workload (AreWorkload c v) (AreBadWorkload c l why) a.workload_file (subst P pair bad) in
+      go bytes is has
+    where
+      go : (bytes : Bytes) → AreWorkload c v bytes → AreBadWorkload c l why bytes → ⊥
+      go bytes is (inl (zero_l, whole, long)) = omega (arith, long, is.short)
+      go bytes is (inr (short, has)) = no_workload_fault c bytes v l why is.form has
+
+  -- a workload's file has one fault
+  same_workload_fault : (l m : ℕ) (why how : WorkloadCause) → HasBadWorkload (Some files) words l why → HasBadWorkload (Some files) words m how → BadWorkload l why ≡ BadWorkload m how
+  same_workload_fault l m why how (r, c, asks, bad) (s, d, also, worse) =
+      let same = same_asked r s c d asks also in
+      let P : Replay × Cluster → Type 0 = λ q. Told (Some files) q.0.workload (AreBadWorkload q.1 m how) in
+      let pair : (s, d) ≡ (r, c) = λ i. (sym same.0 i, sym same.1 i) in
+      let (bytes, a, b) = both_told files r.workload (AreBadWorkload c l why) (AreBadWorkload c m how) bad (subst P pair worse) in
+      go bytes a b
+    where
+      go : (bytes : Bytes) → AreBadWorkload c l why bytes → AreBadWorkload c m how bytes → BadWorkload l why ≡ BadWorkload m how
+      go bytes (inl (zero_l, is, long)) (inl (zero_m, too, also)) = λ i. BadWorkload ((zero_l ∙ sym zero_m) i) ((is ∙ sym too) i)
+      go bytes (inl (zero_l, is, long)) (inr (short, has)) = absurd (omega (arith, long, short))
+      go bytes (inr (short, has)) (inl (zero_m, too, long)) = absurd (omega (arith, long, short))
+      go bytes (inr (_, one)) (inr (_, other)) =
+          let both = one_workload_fault c bytes l m why how one other in λ i. BadWorkload (both.0 i) (both.1 i)
+
+  workload_of : (is : IsReplayable (Some files) words) → HasWorkload (Some files) words is.replay is.cluster is.workload
+  workload_of is = record { asks = record { asked = is.asked; cluster_word = is.cluster_word }; workload_file = is.workload_file }
+
+  -- what can be done has no fault in its events
   doable : (is : IsReplayable (Some files) words) (l : ℕ) (c : EventsCause) → HasBadEvents (Some files) words l c → ⊥
-  doable is l c (s, w, has, bad) =
-      let same = same_workload is.replay s is.workload w (workload_of is) has in
-      let P : Replay × Workload → Type 0 = λ q. Told (Some files) q.0.events (AreBadEvents (builtin_cluster q.0.regions) q.1 l c) in
-      let pair : (s, w) ≡ (is.replay, is.workload) = λ i. (sym same.0 i, sym same.1 i) in
-      let (bytes, are, fault) = both_told files is.replay.events (AreNumbered is.events) (AreBadEvents (builtin_cluster is.replay.regions) is.workload l c) is.events_file (subst P pair bad) in
-      no_fault (builtin_cluster is.replay.regions) is.workload bytes is.events l c are is.legal fault
+  doable is l c (s, d, w, has, still, bad) =
+      let same = same_workload is.replay s is.cluster d is.workload w (workload_of is) has in
+      let P : Replay × (Cluster × Workload) → Type 0 = λ q. Told (Some files) q.0.events (AreBadEvents q.1.0 q.1.1 l c) in
+      let all : (s, (d, w)) ≡ (is.replay, (is.cluster, is.workload)) = λ i. (sym same.0 i, (sym same.1 i, sym same.2 i)) in
+      let (bytes, are, fault) = both_told files is.replay.events (AreNumbered is.events) (AreBadEvents is.cluster is.workload l c) is.events_file (subst P all bad) in
+      no_fault is.cluster is.workload bytes is.events l c are is.legal fault
 
   -- two faults of the events are one
   same_fault : (l m : ℕ) (c d : EventsCause) → HasBadEvents (Some files) words l c → HasBadEvents (Some files) words m d → BadEvents l c ≡ BadEvents m d
-  same_fault l m c d (r, v, has, bad) (s, w, also, too) =
-      let same = same_workload r s v w has also in
-      let P : Replay × Workload → Type 0 = λ q. Told (Some files) q.0.events (AreBadEvents (builtin_cluster q.0.regions) q.1 m d) in
-      let pair : (s, w) ≡ (r, v) = λ i. (sym same.0 i, sym same.1 i) in
-      let (bytes, one, other) = both_told files r.events (AreBadEvents (builtin_cluster r.regions) v l c) (AreBadEvents (builtin_cluster r.regions) v m d) bad (subst P pair too) in
-      one_fault (builtin_cluster r.regions) v bytes l m c d one other
+  same_fault l m c d (r, a, v, has, still, bad) (s, b, w, also, quiet, too) =
+      let same = same_workload r s a b v w has also in
+      let P : Replay × (Cluster × Workload) → Type 0 = λ q. Told (Some files) q.0.events (AreBadEvents q.1.0 q.1.1 m d) in
+      let all : (s, (b, w)) ≡ (r, (a, v)) = λ i. (sym same.0 i, (sym same.1 i, sym same.2 i)) in
+      let (bytes, one, other) = both_told files r.events (AreBadEvents a v l c) (AreBadEvents a v m d) bad (subst P all too) in
+      one_fault a v bytes l m c d one other
 
-  -- the words and the files call for one status
+  -- how far a replay got before it was refused: to its words, its cluster, its workload
+  formed : (r : Replay) → IsReplay words r → (¬ AreAForm words) → ⊥
+  formed r asked none = none (inl (r, asked))
+
+  -- the words and the files call for one status; of two, the first is tried first
+  before : (s t : Status) → IsDue (Some files) words s → IsDue (Some files) words t → s ≡ t
+  before Done Done is also = refl
+  before Done BadWords is none = absurd (formed is.replay is.asked none)
+  before Done NotBuilt is not = absurd (built is.replay is.cluster is.workload (workload_of is) is.still not)
+  before Done (BadCluster f) is bad = absurd (sound_cluster is.replay is.cluster f (workload_of is).asks bad)
+  before Done (BadWorkload l why) is bad = absurd (sound_workload is.replay is.cluster is.workload l why (workload_of is) bad)
+  before Done (BadEvents l c) is bad = absurd (doable is l c bad)
+  before BadWords BadWords none also = refl
+  before BadWords NotBuilt none (inl threads) = absurd (none (inr threads))
+  before BadWords NotBuilt none (inr (r, c, v, has, moves)) = absurd (formed r has.asks.asked none)
+  before BadWords (BadCluster f) none (r, asked, bad) = absurd (formed r asked none)
+  before BadWords (BadWorkload l why) none (r, c, asks, bad) = absurd (formed r asks.asked none)
+  before BadWords (BadEvents l c) none (r, d, v, has, bad) = absurd (formed r has.asks.asked none)
+  before NotBuilt NotBuilt not also = refl
+  before NotBuilt (BadCluster f) (inl threads) (r, asked, bad) = absurd (no_threads words r asked threads)
+  before NotBuilt (BadCluster f) (inr (r, c, v, has, moves)) bad = absurd (sound_cluster r c f has.asks bad)
+  before NotBuilt (BadWorkload l why) (inl threads) (r, c, asks, bad) = absurd (no_threads words r asks.asked threads)
+  before NotBuilt (BadWorkload l why) (inr (r, c, v, has, moves)) bad = absurd (sound_workload r c v l why has bad)
+  before NotBuilt (BadEvents l c) not (r, d, v, has, still, bad) = absurd (built r d v has still not)
+  before (BadCluster f) (BadCluster g) bad also = ap BadCluster (same_cluster_fault f g bad also)
+  before (BadCluster f) (BadWorkload l why) bad (r, c, asks, worse) = absurd (sound_cluster r c f asks bad)
+  before (BadCluster f) (BadEvents l c) bad (r, d, v, has, worse) = absurd (sound_cluster r d f has.asks bad)
+  before (BadWorkload l why) (BadWorkload m how) bad also = same_workload_fault l m why how bad also
+  before (BadWorkload l why) (BadEvents m c) bad (r, d, v, has, worse) = absurd (sound_workload r d v l why has bad)
+  before (BadEvents l c) (BadEvents m d) bad also = same_fault l m c d bad also
+  before BadWords Done none is = absurd (formed is.replay is.asked none)
+  before NotBuilt Done not is = absurd (built is.replay is.cluster is.workload (workload_of is) is.still not)
+  before NotBuilt BadWords (inl threads) none = absurd (none (inr threads))
+  before NotBuilt BadWords (inr (r, c, v, has, moves)) none = absurd (formed r has.asks.asked none)
+  before (BadCluster f) Done bad is = absurd (sound_cluster is.replay is.cluster f (workload_of is).asks bad)
+  before (BadCluster f) BadWords (r, asked, bad) none = absurd (formed r asked none)
+  before (BadCluster f) NotBuilt (r, asked, bad) (inl threads) = absurd (no_threads words r asked threads)
+  before (BadCluster f) NotBuilt bad (inr (r, c, v, has, moves)) = absurd (sound_cluster r c f has.asks bad)
+  before (BadWorkload l why) Done bad is = absurd (sound_workload is.replay is.cluster is.workload l why (workload_of is) bad)
+  before (BadWorkload l why) BadWords (r, c, asks, bad) none = absurd (formed r asks.asked none)
+  before (BadWorkload l why) NotBuilt (r, c, asks, bad) (inl threads) = absurd (no_threads words r asks.asked threads)
+  before (BadWorkload l why) NotBuilt bad (inr (r, c, v, has, moves)) = absurd (sound_workload r c v l why has bad)
+  before (BadWorkload l why) (BadCluster f) (r, c, asks, worse) bad = absurd (sound_cluster r c f asks bad)
+  before (BadEvents l c) Done bad is = absurd (doable is l c bad)
+  before (BadEvents l c) BadWords (r, d, v, has, bad) none = absurd (formed r has.asks.asked none)
+  before (BadEvents l c) NotBuilt (r, d, v, has, still, bad) not = absurd (built r d v has still not)
+  before (BadEvents l c) (BadCluster f) (r, d, v, has, worse) bad = absurd (sound_cluster r d f has.asks bad)
+  before (BadEvents m c) (BadWorkload l why) (r, d, v, has, worse) bad = absurd (sound_workload r d v l why has bad)
+  before NoMemory t none is = absurd none
+  before (CannotRead word) t none is = absurd none
+  before CannotWrite t none is = absurd none
+  before s NoMemory is none = absurd none
+  before s (CannotRead word) is none = absurd none
+  before s CannotWrite is none = absurd none
+
   pub one_due : (s t : Status) → IsDue (Some files) words s → IsDue (Some files) words t → s ≡ t
-  one_due Done Done is also = refl
-  one_due Done NotBuilt is not = absurd (built is.replay is.workload (workload_of is) not)
-  one_due Done (BadEvents l c) is bad = absurd (doable is l c bad)
-  one_due NotBuilt Done not is = absurd (built is.replay is.workload (workload_of is) not)
-  one_due NotBuilt NotBuilt not also = refl
-  one_due NotBuilt (BadEvents l c) not (r, v, has, bad) = absurd (built r v has not)
-  one_due (BadEvents l c) Done bad is = absurd (doable is l c bad)
-  one_due (BadEvents l c) NotBuilt (r, v, has, bad) not = absurd (built r v has not)
-  one_due (BadEvents l c) (BadEvents m d) bad also = same_fault l m c d bad also
-  one_due NoMemory t none is = absurd none
-  one_due (CannotRead word) t none is = absurd none
-  one_due CannotWrite t none is = absurd none
-  one_due Done NoMemory is none = absurd none
-  one_due Done (CannotRead word) is none = absurd none
-  one_due Done CannotWrite is none = absurd none
-  one_due NotBuilt NoMemory is none = absurd none
-  one_due NotBuilt (CannotRead word) is none = absurd none
-  one_due NotBuilt CannotWrite is none = absurd none
-  one_due (BadEvents l c) NoMemory is none = absurd none
-  one_due (BadEvents l c) (CannotRead word) is none = absurd none
-  one_due (BadEvents l c) CannotWrite is none = absurd none
-
--- the headline's replay can be done
-pub replayable : (told : Option Files) (words : List Bytes) (Written : Bytes → Type 0) → Headline told words Written → IsReplayable told words
-replayable told words Written h = record {
-  replay = h.replay;
-  asked = h.asked;
-  workload = h.workload;
-  workload_file = h.workload_file;
-  events = h.events;
-  events_file = h.events_file;
-  legal = h.legal;
-}
+  one_due = before
 
 -- a file that could not be read is told by the folder's count
 could_not : (told : Option Files) (words : List Bytes) (before now word : ℕ) → CouldNotRead told words before now word → Rose before now
-could_not told words before now word (inl (is, replay, asked, rose)) = rose
-could_not told words before now word (inr (is, replay, workload, has, rose)) = rose
+could_not told words before now word (inl (is, replay, asked, file, rose)) = rose
+could_not told words before now word (inr (inl (is, replay, cluster, asks, rose))) = rose
+could_not told words before now word (inr (inr (is, replay, cluster, workload, has, still, rose))) = rose
 
 -- a status that is no fault of a device is the one that is due
 pub comes_due : (told : Option Files) (words : List Bytes) (before now : ℕ) (status due : Status) → IsSome told → IsDue told words due → ¬ Rose before now → (status ≡ Done → IsReplayable told words) → (status ≢ Done → status ≢ CannotWrite → IsRefusal told words before now status) → status ≢ CannotWrite → (status ≡ due) ⊎ (status ≡ NoMemory)
 comes_due None words before now status due some is still done refused written = cc
 comes_due (Some files) words before now Done due some is still done refused written = inl (one_due files words Done due (done refl) is)
 comes_due (Some files) words before now NoMemory due some is still done refused written = inr refl
+comes_due (Some files) words before now BadWords due some is still done refused written = inl (one_due files words BadWords due (refused (λ e. cc) (λ e. cc)) is)
 comes_due (Some files) words before now (CannotRead word) due some is still done refused written = absurd (still (could_not (Some files) words before now word (refused (λ e. cc) (λ e. cc))))
+comes_due (Some files) words before now (BadCluster f) due some is still done refused written = inl (one_due files words (BadCluster f) due (refused (λ e. cc) (λ e. cc)) is)
+comes_due (Some files) words before now (BadWorkload l why) due some is still done refused written = inl (one_due files words (BadWorkload l why) due (refused (λ e. cc) (λ e. cc)) is)
 comes_due (Some files) words before now (BadEvents l c) due some is still done refused written = inl (one_due files words (BadEvents l c) due (refused (λ e. cc) (λ e. cc)) is)
 comes_due (Some files) words before now CannotWrite due some is still done refused written = absurd (written refl)
 comes_due (Some files) words before now NotBuilt due some is still done refused written = inl (one_due files words NotBuilt due (refused (λ e. cc) (λ e. cc)) is)

@@ -6,7 +6,7 @@ ghost use Rattle.dt_session.specs.Run.{AreLegal, world_after};
 ghost use Rattle.dt_report.specs.Report.{report_text};
 ghost use Rattle.dt_world.specs.Reported.{report_of};
 ghost use Rattle.detock.specs.Words.{NeedsThreads, spelled};
-ghost use Rattle.detock.specs.Headline.{HasMove, Headline, IsMove, file_limit, unnumbered};
+ghost use Rattle.detock.specs.Headline.{HasMove, Headline, IsMove, IsReplayable, file_limit, unnumbered};
 ghost use Rattle.detock.specs.Refusals.{IsRefusal, IsStepRefusal, refusal_of};
 
 use crate::loading::{load_cluster, load_events, load_workload};
@@ -26,6 +26,7 @@ use std::alloc::Global;
 pub fn report<F: Folder>(alloc: Global, words: &[String], files: &mut F) -> Result<Vec<u8>, Status>
     requires { ¬ NeedsThreads (spelled words.now) }
     ensures done { IfOk result (λ text. Headline (F.told files.old) (spelled words.now) (λ report. text.items ≡ report)) }
+    ensures possible { IfOk result (λ _. IsReplayable (F.told files.old) (spelled words.now)) }
     ensures refused { (status : _) → result ≡ Err status →
         IsRefusal (F.told files.old) (spelled words.now) (F.faults files.old) (F.faults files.new) status }
     ensures same_told { F.told files.new ≡ F.told files.old }

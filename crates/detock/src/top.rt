@@ -3,7 +3,7 @@ ghost use Rattle.dt_outside.specs.Faults.{Rose};
 ghost use Rattle.dt_outside.specs.Held.{Adds, AddsPrefix};
 ghost use Rattle.detock.specs.Words.{AreAForm, NeedsThreads, spelled};
 ghost use Rattle.detock.specs.Statuses.{fault_line};
-ghost use Rattle.detock.specs.Headline.{Headline};
+ghost use Rattle.detock.specs.Headline.{Headline, IsReplayable};
 ghost use Rattle.detock.specs.Causes.{CouldNotRead, HasBadCluster, HasBadEvents, HasBadWorkload, IsDue, IsNotBuilt};
 ghost use Rattle.detock.specs.Refusals.{IsRefusal};
 
@@ -124,6 +124,7 @@ fn status_of<F: Folder, O: Sink>(
     requires { ¬ NeedsThreads (spelled words.now) }
     ensures done { result ≡ Status.Done →
         Headline (F.told files.old) (spelled words.now) (Adds (O.held out.old) (O.held out.new)) }
+    ensures possible { result ≡ Status.Done → IsReplayable (F.told files.old) (spelled words.now) }
     ensures refused { result ≢ Status.Done → result ≢ Status.CannotWrite →
         IsRefusal (F.told files.old) (spelled words.now) (F.faults files.old) (F.faults files.new) result }
     ensures cannot_write { result ≡ Status.CannotWrite → Rose (O.faults out.old) (O.faults out.new)
