@@ -116,7 +116,7 @@ mutual
   sound (chain head links) n st us h stop =
       ap (run (expect.Level n ∷ st)) (append_assoc (syntax_tokens head) (links_tokens links) us)
       ∙ run_opens n st (syntax_tokens head ++ (links_tokens links ++ us)) h.0
-        (omega (arith, length-append (syntax_tokens head) (links_tokens links ++ us), length-append (links_tokens links) us, some_front n us stop))
+      (omega (arith, length-append (syntax_tokens head) (links_tokens links ++ us), length-append (links_tokens links) us, some_front n us stop))
       ∙ sound head (suc n) (expect.Tail n ∷ st) (links_tokens links ++ us) h.1 (links_front links n us h.2 stop)
       ∙ sound_links links n st us h.0 h.2 stop
   sound (minus p x) n st us h stop =
@@ -314,10 +314,10 @@ mutual
       ap (run (expect.Level 0 ∷ expect.Begin ∷ expect.Statements ∷ expect.AfterIf ∷ st))
       (append_assoc (syntax_tokens x) (at b tok.Begin ∷ (statements_tokens ss ++ at e tok.End ∷ at w tok.Else ∷ at c tok.Begin ∷ (statements_tokens rs ++ at f tok.End ∷ []))) us
       ∙ ap (λ v. syntax_tokens x ++ at b tok.Begin ∷ v)
-        (append_assoc (statements_tokens ss) (at e tok.End ∷ at w tok.Else ∷ at c tok.Begin ∷ (statements_tokens rs ++ at f tok.End ∷ [])) us
-        ∙ ap (λ v. statements_tokens ss ++ at e tok.End ∷ at w tok.Else ∷ at c tok.Begin ∷ v) (inner (statements_tokens rs) (at f tok.End) us)))
+      (append_assoc (statements_tokens ss) (at e tok.End ∷ at w tok.Else ∷ at c tok.Begin ∷ (statements_tokens rs ++ at f tok.End ∷ [])) us
+      ∙ ap (λ v. statements_tokens ss ++ at e tok.End ∷ at w tok.Else ∷ at c tok.Begin ∷ v) (inner (statements_tokens rs) (at f tok.End) us)))
       ∙ sound x 0 (expect.Begin ∷ expect.Statements ∷ expect.AfterIf ∷ st)
-        (at b tok.Begin ∷ (statements_tokens ss ++ at e tok.End ∷ at w tok.Else ∷ at c tok.Begin ∷ (statements_tokens rs ++ at f tok.End ∷ us))) h.0 tt
+      (at b tok.Begin ∷ (statements_tokens ss ++ at e tok.End ∷ at w tok.Else ∷ at c tok.Begin ∷ (statements_tokens rs ++ at f tok.End ∷ us))) h.0 tt
       ∙ statements_read ss e (expect.AfterIf ∷ st) (at w tok.Else ∷ at c tok.Begin ∷ (statements_tokens rs ++ at f tok.End ∷ us)) h.1
       ∙ statements_read rs f (expect.Statements ∷ st) us h.2
   statement_read (abort p q t e) st us h = refl
@@ -342,14 +342,14 @@ proc_read : (p : ProcSyntax) (st : List Sym) (us : List Placed) → IsProc p →
 proc_read p st us h =
     ap (run (expect.Params ∷ expect.Keys ∷ expect.Procs ∷ st))
     (append_assoc (params_tokens p.params) (at p.close_at tok.Close ∷ (key_tokens p.key ++ (flat_map key_tokens p.more_keys
-      ++ at p.begin_at tok.Begin ∷ (statements_tokens p.body ++ at p.end_at tok.End ∷ [])))) us
+    ++ at p.begin_at tok.Begin ∷ (statements_tokens p.body ++ at p.end_at tok.End ∷ [])))) us
     ∙ ap (λ v. params_tokens p.params ++ at p.close_at tok.Close ∷ v)
-      (append_assoc (key_tokens p.key) (flat_map key_tokens p.more_keys ++ at p.begin_at tok.Begin ∷ (statements_tokens p.body ++ at p.end_at tok.End ∷ [])) us
-      ∙ ap (λ v. key_tokens p.key ++ v)
-        (append_assoc (flat_map key_tokens p.more_keys) (at p.begin_at tok.Begin ∷ (statements_tokens p.body ++ at p.end_at tok.End ∷ [])) us
-        ∙ ap (λ v. flat_map key_tokens p.more_keys ++ at p.begin_at tok.Begin ∷ v) (inner (statements_tokens p.body) (at p.end_at tok.End) us))))
+    (append_assoc (key_tokens p.key) (flat_map key_tokens p.more_keys ++ at p.begin_at tok.Begin ∷ (statements_tokens p.body ++ at p.end_at tok.End ∷ [])) us
+    ∙ ap (λ v. key_tokens p.key ++ v)
+    (append_assoc (flat_map key_tokens p.more_keys) (at p.begin_at tok.Begin ∷ (statements_tokens p.body ++ at p.end_at tok.End ∷ [])) us
+    ∙ ap (λ v. flat_map key_tokens p.more_keys ++ at p.begin_at tok.Begin ∷ v) (inner (statements_tokens p.body) (at p.end_at tok.End) us))))
     ∙ params_read p.params p.close_at (expect.Keys ∷ expect.Procs ∷ st)
-      (key_tokens p.key ++ (flat_map key_tokens p.more_keys ++ at p.begin_at tok.Begin ∷ (statements_tokens p.body ++ at p.end_at tok.End ∷ us)))
+    (key_tokens p.key ++ (flat_map key_tokens p.more_keys ++ at p.begin_at tok.Begin ∷ (statements_tokens p.body ++ at p.end_at tok.End ∷ us)))
     ∙ key_read p.key (expect.Procs ∷ st) (flat_map key_tokens p.more_keys ++ at p.begin_at tok.Begin ∷ (statements_tokens p.body ++ at p.end_at tok.End ∷ us))
     ∙ more_keys_read p.more_keys p.begin_at (expect.Procs ∷ st) (statements_tokens p.body ++ at p.end_at tok.End ∷ us)
     ∙ statements_read p.body p.end_at (expect.Procs ∷ st) us h

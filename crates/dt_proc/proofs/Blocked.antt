@@ -60,7 +60,7 @@ pub record IsStep (scope : Scope) (told : Told Block) (block : Block) (left : Li
   pub cut : statement_tokens step ++ (statements_tokens more ++ at e tok.End ∷ rest) ≡ left
   pub told_as : told ≡ after_ok (after_ok (check_statement scope step) (λ r. after_ok (check_block r.0 more) (λ b. Ok (then r.1 b)))) (λ b. Ok (joined block b))
 
-no_else : (ss : Statements) (e : ℕ) (rest : List Placed) → NoElse (statements_tokens ss ++ at e tok.End ∷ rest)
+pub no_else : (ss : Statements) (e : ℕ) (rest : List Placed) → NoElse (statements_tokens ss ++ at e tok.End ∷ rest)
 no_else nothing e rest = λ h. cc
 no_else (first (let_new p q n i x f) ss) e rest = λ h. cc
 no_else (first (set_key p q n i x f) ss) e rest = λ h. cc
@@ -75,12 +75,16 @@ pub step_next : (outer scope : Scope) (told : Told Block) (block : Block) (t : P
 step_next outer scope told block t ts e rest other (nothing, good, cut, is, grown) =
     absurd (other (sym (ap (λ v. v.token) (head_is (at e tok.End) t rest ts cut))))
 step_next outer scope told block t ts e rest other (first s ss, good, cut, is, grown) = record {
-  step = s; more = ss; good = good.0; others = good.1; follows = no_else ss e rest;
+  step = s;
+  more = ss;
+  good = good.0;
+  others = good.1;
+  follows = no_else ss e rest;
   cut = sym (append_assoc (statement_tokens s) (statements_tokens ss) (at e tok.End ∷ rest)) ∙ cut;
   told_as = is;
 }
 
-begins_other : (s : Statement) (us : List Placed) (t : Placed) (ts : List Placed) → statement_tokens s ++ us ≡ t ∷ ts → ¬ (t.token ≡ tok.End)
+pub begins_other : (s : Statement) (us : List Placed) (t : Placed) (ts : List Placed) → statement_tokens s ++ us ≡ t ∷ ts → ¬ (t.token ≡ tok.End)
 begins_other (let_new p q n i x f) us t ts e = λ h. let a = ap (λ v. v.token) (head_is _ _ _ _ e) in cc
 begins_other (set_key p q n i x f) us t ts e = λ h. let a = ap (λ v. v.token) (head_is _ _ _ _ e) in cc
 begins_other (clear_key p q n f) us t ts e = λ h. let a = ap (λ v. v.token) (head_is _ _ _ _ e) in cc
@@ -95,7 +99,7 @@ pub steps_end : (outer scope : Scope) (told : Told Block) (block : Block) (t : P
 steps_end outer scope told block t ts e rest ends (nothing, good, cut, is, grown) = (is ∙ ap Ok (joined_done block), cut, grown)
 steps_end outer scope told block t ts e rest ends (first s ss, good, cut, is, grown) =
     absurd (begins_other s (statements_tokens ss ++ at e tok.End ∷ rest) t ts
-      (sym (append_assoc (statement_tokens s) (statements_tokens ss) (at e tok.End ∷ rest)) ∙ cut) ends)
+    (sym (append_assoc (statement_tokens s) (statements_tokens ss) (at e tok.End ∷ rest)) ∙ cut) ends)
 
 one_more : (t : Told Block) (s : Step) (block : Block) →
     after_ok (after_ok t (λ b. Ok (then s b))) (λ b. Ok (joined block b)) ≡ after_ok t (λ b. Ok (joined (joined block (then s done)) b))
@@ -126,19 +130,19 @@ keeps_stored scope false p s = keeps_ok scope scope s (grown_start scope)
 lets : (scope : Scope) (s : Statement) → Keeps scope (check_statement scope s)
 lets scope (let_new p q n i x e) =
     keeps_after {A = Unit {0}} scope (as_new q (meaning scope n)) _ (λ u. keeps_after {A = Typed} scope (check scope x) _
-      (λ a. keeps_ok scope (with_variable scope n a.1) (tree.let_new a.0) (record { keys = refl; variables = ((n, a.1) ∷ [], refl) })))
+    (λ a. keeps_ok scope (with_variable scope n a.1) (tree.let_new a.0) (record { keys = refl; variables = ((n, a.1) ∷ [], refl) })))
 lets scope (set_key p q n i x e) =
     keeps_after {A = ℕ} scope (as_written q (meaning scope n)) _ (λ k. keeps_after {A = Typed} scope (check scope x) _
-      (λ a. keeps_stored scope (same_sort a.1 sort.Bool) p (tree.set_row k a.0)))
+    (λ a. keeps_stored scope (same_sort a.1 sort.Bool) p (tree.set_row k a.0)))
 lets scope (clear_key p q n e) =
     keeps_after {A = ℕ} scope (as_written q (meaning scope n)) _ (λ k. keeps_ok scope scope (tree.clear_row k) (grown_start scope))
 lets scope (when p x b ss e) =
     keeps_after {A = Typed} scope (check scope x) _ (λ a. keeps_after {A = Formula} scope (needs p sort.Bool a a.0) _
-      (λ f. keeps_after {A = Block} scope (check_block scope ss) _ (λ c. keeps_ok scope scope (tree.choose f c done) (grown_start scope))))
+    (λ f. keeps_after {A = Block} scope (check_block scope ss) _ (λ c. keeps_ok scope scope (tree.choose f c done) (grown_start scope))))
 lets scope (choose p x b ss e w o rs g) =
     keeps_after {A = Typed} scope (check scope x) _ (λ a. keeps_after {A = Formula} scope (needs p sort.Bool a a.0) _
-      (λ f. keeps_after {A = Block} scope (check_block scope ss) _ (λ c. keeps_after {A = Block} scope (check_block scope rs) _
-      (λ d. keeps_ok scope scope (tree.choose f c d) (grown_start scope)))))
+    (λ f. keeps_after {A = Block} scope (check_block scope ss) _ (λ c. keeps_after {A = Block} scope (check_block scope rs) _
+    (λ d. keeps_ok scope scope (tree.choose f c d) (grown_start scope)))))
 lets scope (abort p q t e) = keeps_ok scope scope (tree.abort_with t) (grown_start scope)
 lets scope (give p i more e) =
     keeps_after {A = List Gift} scope (check_all_items scope i more) _ (λ gs. keeps_ok scope scope (tree.give_all gs) (grown_start scope))
@@ -146,11 +150,14 @@ lets scope (give p i more e) =
 pub step_told : (outer scope new : Scope) (told : Told Block) (block after : Block) (left : List Placed) (e : ℕ) (rest : List Placed) (s : Step) (us : List Placed) →
     Grown outer scope → (n : IsStep scope told block left e rest) → check_statement scope n.step ≡ Ok (new, s) → after ≡ joined block (then s done) →
     us ≡ statements_tokens n.more ++ at e tok.End ∷ rest → StepsLeft outer new told after us e rest
-step_told outer scope new told block after left e rest s us grown n is pushed cut =
-    (n.more, n.others, sym cut,
-      n.told_as ∙ ap (λ t. after_ok (after_ok t (λ r. after_ok (check_block r.0 n.more) (λ b. Ok (then r.1 b)))) (λ b. Ok (joined block b))) is
+step_told outer scope new told block after left e rest s us grown n is pushed cut = (
+  n.more,
+  n.others,
+  sym cut,
+  n.told_as ∙ ap (λ t. after_ok (after_ok t (λ r. after_ok (check_block r.0 n.more) (λ b. Ok (then r.1 b)))) (λ b. Ok (joined block b))) is
       ∙ one_more (check_block new n.more) s block ∙ ap (λ v. after_ok (check_block new n.more) (λ b. Ok (joined v b))) (sym pushed),
-      grows outer scope new grown (lets scope n.step new s is))
+  grows outer scope new grown (lets scope n.step new s is),
+)
   where
     grows : (a b c : Scope) → Grown a b → Grown b c → Grown a c
     grows a b c f g = record {
@@ -168,7 +175,7 @@ step_fault scope told block left e rest before f n (inr s) =
 pub left_as_before : (outer scope : Scope) → Grown outer scope → record scope { variables = take (length outer.variables) scope.variables } ≡ outer
 left_as_before outer scope g =
     let cut : take (length outer.variables) scope.variables ≡ outer.variables =
-      ap (take (length outer.variables)) g.variables.1 ∙ take-append-le (length outer.variables) outer.variables g.variables.0 (omega arith) ∙ take-length outer.variables in
+    ap (take (length outer.variables)) g.variables.1 ∙ take-append-le (length outer.variables) outer.variables g.variables.0 (omega arith) ∙ take-length outer.variables in
     λ i. record { variables = cut i; keys = g.keys i }
 
 -- what the first token of a statement says of it
@@ -183,10 +190,10 @@ StepShape tok.Clear p ts s rest =
     (q : ℕ) × (n : List ℕ) × (e : ℕ) × (s ≡ clear_key p q n e) × (at q (tok.Name n) ∷ at e tok.Semicolon ∷ rest ≡ ts)
 StepShape tok.If p ts s rest =
     ((x : Syntax) × (b : ℕ) × (ss : Statements) × (e : ℕ) × (s ≡ when p x b ss e) × IsLevel 0 x × AreStatements ss
-      × (syntax_tokens x ++ at b tok.Begin ∷ (statements_tokens ss ++ at e tok.End ∷ rest) ≡ ts))
+    × (syntax_tokens x ++ at b tok.Begin ∷ (statements_tokens ss ++ at e tok.End ∷ rest) ≡ ts))
     ⊎ ((x : Syntax) × (b : ℕ) × (ss : Statements) × (e : ℕ) × (w : ℕ) × (o : ℕ) × (rs : Statements) × (f : ℕ) × (s ≡ choose p x b ss e w o rs f)
-      × IsLevel 0 x × AreStatements ss × AreStatements rs
-      × (syntax_tokens x ++ at b tok.Begin ∷ (statements_tokens ss ++ at e tok.End ∷ at w tok.Else ∷ at o tok.Begin ∷ (statements_tokens rs ++ at f tok.End ∷ rest)) ≡ ts))
+    × IsLevel 0 x × AreStatements ss × AreStatements rs
+    × (syntax_tokens x ++ at b tok.Begin ∷ (statements_tokens ss ++ at e tok.End ∷ at w tok.Else ∷ at o tok.Begin ∷ (statements_tokens rs ++ at f tok.End ∷ rest)) ≡ ts))
 StepShape tok.Abort p ts s rest =
     (q : ℕ) × (t : List ℕ) × (e : ℕ) × (s ≡ abort p q t e) × (at q (tok.Text t) ∷ at e tok.Semicolon ∷ rest ≡ ts)
 StepShape tok.Give p ts s rest =
@@ -203,7 +210,7 @@ shape_at t u ts us s rest e h =
 inner : (xs : List Placed) (y : Placed) (us : List Placed) → xs ++ y ∷ us ≡ (xs ++ y ∷ []) ++ us
 inner xs y us = sym (append_assoc xs (y ∷ []) us)
 
-step_shape : (s : Statement) (rest : List Placed) (t : Placed) (ts : List Placed) → IsStatement s → statement_tokens s ++ rest ≡ t ∷ ts →
+pub step_shape : (s : Statement) (rest : List Placed) (t : Placed) (ts : List Placed) → IsStatement s → statement_tokens s ++ rest ≡ t ∷ ts →
     StepShape t.token t.place ts s rest
 step_shape (let_new p q n i x e) rest t ts h is =
     shape_at (at p tok.Let) t _ ts (let_new p q n i x e) rest is
@@ -214,14 +221,36 @@ step_shape (set_key p q n i x e) rest t ts h is =
 step_shape (clear_key p q n e) rest t ts h is = shape_at (at p tok.Clear) t _ ts (clear_key p q n e) rest is (q, n, e, refl, refl)
 step_shape (when p x b ss e) rest t ts h is =
     shape_at (at p tok.If) t _ ts (when p x b ss e) rest is
-    (inl (x, b, ss, e, refl, h.0, h.1, ap (λ v. syntax_tokens x ++ at b tok.Begin ∷ v) (inner (statements_tokens ss) (at e tok.End) rest)
-      ∙ sym (append_assoc (syntax_tokens x) (at b tok.Begin ∷ (statements_tokens ss ++ at e tok.End ∷ [])) rest)))
+    (inl (
+      x,
+      b,
+      ss,
+      e,
+      refl,
+      h.0,
+      h.1,
+      ap (λ v. syntax_tokens x ++ at b tok.Begin ∷ v) (inner (statements_tokens ss) (at e tok.End) rest)
+          ∙ sym (append_assoc (syntax_tokens x) (at b tok.Begin ∷ (statements_tokens ss ++ at e tok.End ∷ [])) rest),
+    ))
 step_shape (choose p x b ss e w o rs f) rest t ts h is =
     shape_at (at p tok.If) t _ ts (choose p x b ss e w o rs f) rest is
-    (inr (x, b, ss, e, w, o, rs, f, refl, h.0, h.1, h.2,
+    (inr (
+      x,
+      b,
+      ss,
+      e,
+      w,
+      o,
+      rs,
+      f,
+      refl,
+      h.0,
+      h.1,
+      h.2,
       ap (λ v. syntax_tokens x ++ at b tok.Begin ∷ (statements_tokens ss ++ at e tok.End ∷ at w tok.Else ∷ at o tok.Begin ∷ v)) (inner (statements_tokens rs) (at f tok.End) rest)
-      ∙ ap (λ v. syntax_tokens x ++ at b tok.Begin ∷ v) (sym (append_assoc (statements_tokens ss) (at e tok.End ∷ at w tok.Else ∷ at o tok.Begin ∷ (statements_tokens rs ++ at f tok.End ∷ [])) rest))
-      ∙ sym (append_assoc (syntax_tokens x) (at b tok.Begin ∷ (statements_tokens ss ++ at e tok.End ∷ at w tok.Else ∷ at o tok.Begin ∷ (statements_tokens rs ++ at f tok.End ∷ []))) rest)))
+          ∙ ap (λ v. syntax_tokens x ++ at b tok.Begin ∷ v) (sym (append_assoc (statements_tokens ss) (at e tok.End ∷ at w tok.Else ∷ at o tok.Begin ∷ (statements_tokens rs ++ at f tok.End ∷ [])) rest))
+          ∙ sym (append_assoc (syntax_tokens x) (at b tok.Begin ∷ (statements_tokens ss ++ at e tok.End ∷ at w tok.Else ∷ at o tok.Begin ∷ (statements_tokens rs ++ at f tok.End ∷ []))) rest),
+    ))
 step_shape (abort p q x e) rest t ts h is = shape_at (at p tok.Abort) t _ ts (abort p q x e) rest is (q, x, e, refl, refl)
 step_shape (give p i more e) rest t ts h is =
     shape_at (at p tok.Give) t _ ts (give p i more e) rest is (i, more, e, refl, h.0, h.1, inner (items_tokens i more) (at e tok.Semicolon) rest)

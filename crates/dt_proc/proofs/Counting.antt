@@ -99,17 +99,25 @@ mutual
   statement_quiet (let_new p q n i x e) = ((refl, refl), ((refl, refl), ((refl, refl), last_quiet (syntax_tokens x) (at e tok.Semicolon) (syntax_quiet x) (refl, refl))))
   statement_quiet (set_key p q n i x e) = ((refl, refl), ((refl, refl), ((refl, refl), last_quiet (syntax_tokens x) (at e tok.Semicolon) (syntax_quiet x) (refl, refl))))
   statement_quiet (clear_key p q n e) = ((refl, refl), ((refl, refl), ((refl, refl), tt)))
-  statement_quiet (when p x b ss e) =
-      ((refl, refl), join Quiet (syntax_tokens x) (at b tok.Begin ∷ (statements_tokens ss ++ at e tok.End ∷ [])) (syntax_quiet x)
-        ((refl, refl), last_quiet (statements_tokens ss) (at e tok.End) (statements_quiet ss) (refl, refl)))
-  statement_quiet (choose p x b ss e w c rs f) =
-      ((refl, refl), join Quiet (syntax_tokens x) (at b tok.Begin ∷ (statements_tokens ss ++ at e tok.End ∷ at w tok.Else ∷ at c tok.Begin ∷ (statements_tokens rs ++ at f tok.End ∷ []))) (syntax_quiet x)
-        ((refl, refl), join Quiet (statements_tokens ss) (at e tok.End ∷ at w tok.Else ∷ at c tok.Begin ∷ (statements_tokens rs ++ at f tok.End ∷ [])) (statements_quiet ss)
-          ((refl, refl), ((refl, refl), ((refl, refl), last_quiet (statements_tokens rs) (at f tok.End) (statements_quiet rs) (refl, refl))))))
+  statement_quiet (when p x b ss e) = (
+    (refl, refl),
+    join Quiet (syntax_tokens x) (at b tok.Begin ∷ (statements_tokens ss ++ at e tok.End ∷ [])) (syntax_quiet x)
+        ((refl, refl), last_quiet (statements_tokens ss) (at e tok.End) (statements_quiet ss) (refl, refl)),
+  )
+  statement_quiet (choose p x b ss e w c rs f) = (
+    (refl, refl),
+    join Quiet (syntax_tokens x) (at b tok.Begin ∷ (statements_tokens ss ++ at e tok.End ∷ at w tok.Else ∷ at c tok.Begin ∷ (statements_tokens rs ++ at f tok.End ∷ []))) (syntax_quiet x) (
+      (refl, refl),
+      join Quiet (statements_tokens ss) (at e tok.End ∷ at w tok.Else ∷ at c tok.Begin ∷ (statements_tokens rs ++ at f tok.End ∷ [])) (statements_quiet ss)
+          ((refl, refl), ((refl, refl), ((refl, refl), last_quiet (statements_tokens rs) (at f tok.End) (statements_quiet rs) (refl, refl)))),
+    ),
+  )
   statement_quiet (abort p q t e) = ((refl, refl), ((refl, refl), ((refl, refl), tt)))
-  statement_quiet (give p i more e) =
-      ((refl, refl), last_quiet (items_tokens i more) (at e tok.Semicolon)
-        (join Quiet (item_tokens i) (flat_map (λ m. at m.0 tok.Comma ∷ item_tokens m.1) more) (item_quiet i) (more_items_quiet more)) (refl, refl))
+  statement_quiet (give p i more e) = (
+    (refl, refl),
+    last_quiet (items_tokens i more) (at e tok.Semicolon)
+        (join Quiet (item_tokens i) (flat_map (λ m. at m.0 tok.Comma ∷ item_tokens m.1) more) (item_quiet i) (more_items_quiet more)) (refl, refl),
+  )
 
   statements_quiet : (ss : Statements) → AllIn Quiet (statements_tokens ss)
   statements_quiet nothing = tt
@@ -135,9 +143,11 @@ abbrev key_rest : KeySyntax → List Placed
 key_rest k = at k.is_at tok.Is ∷ (part_tokens k.first ++ (flat_map joined_part k.more ++ at k.end_at tok.Semicolon ∷ []))
 
 key_rest_quiet : (k : KeySyntax) → AllIn Quiet (key_rest k)
-key_rest_quiet k =
-    ((refl, refl), join Quiet (part_tokens k.first) (flat_map joined_part k.more ++ at k.end_at tok.Semicolon ∷ []) (part_quiet k.first)
-      (last_quiet (flat_map joined_part k.more) (at k.end_at tok.Semicolon) (parts_quiet k.more) (refl, refl)))
+key_rest_quiet k = (
+  (refl, refl),
+  join Quiet (part_tokens k.first) (flat_map joined_part k.more ++ at k.end_at tok.Semicolon ∷ []) (part_quiet k.first)
+      (last_quiet (flat_map joined_part k.more) (at k.end_at tok.Semicolon) (parts_quiet k.more) (refl, refl)),
+)
 
 mode_no_proc : (w : Bool) → is_proc (mode_token w) ≡ false
 mode_no_proc true = refl
@@ -186,7 +196,7 @@ keys_few e j (k ∷ ks) is low h =
     let few : in_proc is_mode e + 1 ≤ 16 = key_few e k.word_at k.write k.name one.1.0 in
     let start = at k.name_at (tok.Name k.name) ∷ at k.word_at (mode_token k.write) ∷ e in
     let now : in_proc is_mode (backwards (key_tokens k) e) ≡ suc j =
-      modes_same (key_rest k) start (key_rest_quiet k) ∙ key_modes e k.word_at k.name_at k.write k.name ∙ omega arith in
+    modes_same (key_rest k) start (key_rest_quiet k) ∙ key_modes e k.word_at k.name_at k.write k.name ∙ omega arith in
     let rest : suc j + length ks ≤ 16 = keys_few (backwards (key_tokens k) e) (suc j) ks now (omega arith) more in
     omega arith
 
@@ -217,15 +227,15 @@ more_params_few e j (m ∷ more) is low h =
     let comma = is.1 in
     let now : InParams after (suc j) = (is.0, omega arith) in
     let rest : suc j + length more ≤ 15 =
-      more_params_few (backwards (param_tokens m.1) after) (suc j) more (param_counts after (suc j) m.1 now) few
-        (few_right after (param_tokens m.1) (flat_map comma_param more) h.1) in
+    more_params_few (backwards (param_tokens m.1) after) (suc j) more (param_counts after (suc j) m.1 now) few
+    (few_right after (param_tokens m.1) (flat_map comma_param more) h.1) in
     omega arith
 
 params_few : (e : List Placed) (ps : Params) → InParams e 0 → AreFew e (params_tokens ps) → length (param_kinds ps) ≤ 16
 params_few e no_param is h = omega arith
 params_few e (params p more) is h =
     let few : 0 + length more ≤ 15 =
-      more_params_few (backwards (param_tokens p) e) 0 more (param_counts e 0 p is) (omega arith) (few_right e (param_tokens p) (flat_map comma_param more) h) in
+    more_params_few (backwards (param_tokens p) e) 0 more (param_counts e 0 p is) (omega arith) (few_right e (param_tokens p) (flat_map comma_param more) h) in
     let same : length (map (λ (m : ℕ × Param). m.1.kind) more) ≡ length more = length-map more (λ (m : ℕ × Param). m.1.kind) in
     omega arith
 
@@ -237,10 +247,12 @@ proc_rest p =
 
 proc_rest_plain : (p : ProcSyntax) → AllIn NoProc (proc_rest p)
 proc_rest_plain p =
-    join NoProc (params_tokens p.params) _ (no_procs (params_tokens p.params) (params_quiet p.params))
-      (refl, join NoProc (key_tokens p.key) _ (key_no_proc p.key)
-        (join NoProc (flat_map key_tokens p.more_keys) _ (keys_no_proc p.more_keys)
-          (refl, join NoProc (statements_tokens p.body) (at p.end_at tok.End ∷ []) (no_procs (statements_tokens p.body) (statements_quiet p.body)) (refl, tt))))
+    join NoProc (params_tokens p.params) _ (no_procs (params_tokens p.params) (params_quiet p.params)) (
+      refl,
+      join NoProc (key_tokens p.key) _ (key_no_proc p.key)
+          (join NoProc (flat_map key_tokens p.more_keys) _ (keys_no_proc p.more_keys)
+          (refl, join NoProc (statements_tokens p.body) (at p.end_at tok.End ∷ []) (no_procs (statements_tokens p.body) (statements_quiet p.body)) (refl, tt))),
+    )
 
 proc_small : (e : List Placed) (p : ProcSyntax) → AreFew e (proc_tokens p) → IsSmall p
 proc_small e p h =
@@ -251,9 +263,10 @@ proc_small e p h =
     let heads = few_right start (params_tokens p.params) (at p.close_at tok.Close ∷ (key_tokens p.key ++ (flat_map key_tokens p.more_keys ++ body))) inside in
     let closed = at p.close_at tok.Close ∷ backwards (params_tokens p.params) start in
     let joined : AreFew closed (keys ++ body) = subst (AreFew closed) (sym (append_assoc (key_tokens p.key) (flat_map key_tokens p.more_keys) body)) heads.1 in
-    let modes : in_proc is_mode closed ≡ 0 = modes_same (params_tokens p.params) start (params_quiet p.params) in
-    (params_few start p.params (refl, refl) (few_left start (params_tokens p.params) _ inside),
-     (let few : 0 + length (p.key ∷ p.more_keys) ≤ 16 = keys_few closed 0 (p.key ∷ p.more_keys) modes (omega arith) (few_left closed keys body joined) in omega arith))
+    let modes : in_proc is_mode closed ≡ 0 = modes_same (params_tokens p.params) start (params_quiet p.params) in (
+      params_few start p.params (refl, refl) (few_left start (params_tokens p.params) _ inside),
+      (let few : 0 + length (p.key ∷ p.more_keys) ≤ 16 = keys_few closed 0 (p.key ∷ p.more_keys) modes (omega arith) (few_left closed keys body joined) in omega arith),
+    )
 
 name_few : (e : List Placed) (p : ℕ) (n : List ℕ) → is_too_many (at p tok.Proc ∷ e) (tok.Name n) ≡ false → procs_begun e + 1 ≤ 64
 name_few e p n h = let f : nat_lt 64 (procs_begun e + 1) ≡ false = (few_of (at p tok.Proc ∷ e) (tok.Name n) h).0 in grind (arith, nat_tests)

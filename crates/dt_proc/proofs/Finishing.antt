@@ -130,12 +130,18 @@ abbrev Climbed : (n : ℕ) → Syntax → (st : List Sym) → Trees (tails n ++ 
 Climbed n x st tree = (y : Syntax) × IsLevel n y × (rest : Trees st) × (syntax_tokens y ++ all_spelled st rest ≡ syntax_tokens x ++ all_spelled (tails n ++ st) tree)
 
 climb : (n : ℕ) (x : Syntax) → IsLevel 5 x → (5 ≤ n → IsLevel n x) → (st : List Sym) (tree : Trees (tails n ++ st)) → Climbed n x st tree
-climb zero x h all st (l4, (l3, (l2, (l1, (l0, rest))))) =
-    (chain (chain (chain (chain (chain x l4.0) l3.0) l2.0) l1.0) l0.0,
-      (omega arith, (omega arith, (omega arith, (omega arith, (omega arith, h, l4.1), l3.1), l2.1), l1.1), l0.1), rest, simp append_assoc)
-climb (suc zero) x h all st (l4, (l3, (l2, (l1, rest)))) =
-    (chain (chain (chain (chain x l4.0) l3.0) l2.0) l1.0,
-      (omega arith, (omega arith, (omega arith, (omega arith, h, l4.1), l3.1), l2.1), l1.1), rest, simp append_assoc)
+climb zero x h all st (l4, (l3, (l2, (l1, (l0, rest))))) = (
+  chain (chain (chain (chain (chain x l4.0) l3.0) l2.0) l1.0) l0.0,
+  (omega arith, (omega arith, (omega arith, (omega arith, (omega arith, h, l4.1), l3.1), l2.1), l1.1), l0.1),
+  rest,
+  simp append_assoc,
+)
+climb (suc zero) x h all st (l4, (l3, (l2, (l1, rest)))) = (
+  chain (chain (chain (chain x l4.0) l3.0) l2.0) l1.0,
+  (omega arith, (omega arith, (omega arith, (omega arith, h, l4.1), l3.1), l2.1), l1.1),
+  rest,
+  simp append_assoc,
+)
 climb (suc (suc zero)) x h all st (l4, (l3, (l2, rest))) =
     (chain (chain (chain x l4.0) l3.0) l2.0, (omega arith, (omega arith, (omega arith, h, l4.1), l3.1), l2.1), rest, simp append_assoc)
 climb (suc (suc (suc zero))) x h all st (l4, (l3, rest)) =
@@ -180,16 +186,20 @@ operand_back n t p = tt
 one_more : (p : ℕ) (o : Op) (n : ℕ) → level_of o ≡ n → ¬ (n ≡ 2) → (st : List Sym) (tree : Trees (expect.Level (suc n) ∷ expect.Tail n ∷ st)) →
     (whole : Tree (expect.Tail n)) × (rest : Trees st)
     × (links_tokens whole.0 ++ all_spelled st rest ≡ at p (tok.Op o) ∷ all_spelled (expect.Level (suc n) ∷ expect.Tail n ∷ st) tree)
-one_more p o n e other st (x, (more, rest)) =
-    ((link p o x.0 more.0, (e, x.1, (λ two. absurd (other two)), more.1)), rest,
-      ap (λ v. at p (tok.Op o) ∷ v) (append_assoc (syntax_tokens x.0) (links_tokens more.0) (all_spelled st rest)))
+one_more p o n e other st (x, (more, rest)) = (
+  (link p o x.0 more.0, (e, x.1, (λ two. absurd (other two)), more.1)),
+  rest,
+  ap (λ v. at p (tok.Op o) ∷ v) (append_assoc (syntax_tokens x.0) (links_tokens more.0) (all_spelled st rest)),
+)
 
 comparison : (p : ℕ) (o : Op) → level_of o ≡ 2 → (st : List Sym) (tree : Trees (expect.Level 3 ∷ st)) →
     (whole : Tree (expect.Tail 2)) × (rest : Trees st)
     × (links_tokens whole.0 ++ all_spelled st rest ≡ at p (tok.Op o) ∷ all_spelled (expect.Level 3 ∷ st) tree)
-comparison p o e st (x, rest) =
-    ((link p o x.0 no_link, (e, x.1, (λ two. refl), tt)), rest,
-      ap (λ v. at p (tok.Op o) ∷ v) (append_assoc (syntax_tokens x.0) [] (all_spelled st rest)))
+comparison p o e st (x, rest) = (
+  (link p o x.0 no_link, (e, x.1, (λ two. refl), tt)),
+  rest,
+  ap (λ v. at p (tok.Op o) ∷ v) (append_assoc (syntax_tokens x.0) [] (all_spelled st rest)),
+)
 
 operator_taken : (o : Op) (p : ℕ) → Back (expect.Tail (level_of o)) (at p (tok.Op o)) (takes (after_operator o))
 operator_taken op.Or p = one_more p op.Or 0 refl (λ e. absurd (omega arith))
@@ -254,11 +264,26 @@ as_item passes t back = ((value_item back.0.0, back.0.1), back.1)
 as_item refuses t back = tt
 
 back : (s : Sym) (t : Token) (p : ℕ) → Back s (at p t) (turn s t)
-back expect.Procs tok.Proc p = λ st (m, (o, (ps, (k, (procs, rest))))).
-    ((record {
-      word_at = p; name_at = m.0; name = m.1; open_at = o; params = ps.0; close_at = ps.1; key = k.0;
-      more_keys = k.1.more_keys; begin_at = k.1.begin_at; body = k.1.body; end_at = k.1.end_at;
-    } ∷ procs.0, (k.1.good, procs.1)), rest, simp append_assoc)
+back expect.Procs tok.Proc p = λ st (m, (o, (ps, (k, (procs, rest))))). (
+  (
+    record {
+      word_at = p;
+      name_at = m.0;
+      name = m.1;
+      open_at = o;
+      params = ps.0;
+      close_at = ps.1;
+      key = k.0;
+      more_keys = k.1.more_keys;
+      begin_at = k.1.begin_at;
+      body = k.1.body;
+      end_at = k.1.end_at;
+    } ∷ procs.0,
+    (k.1.good, procs.1),
+  ),
+  rest,
+  simp append_assoc,
+)
 back expect.Procs t p = tt
 back expect.Name (tok.Name n) p = λ st rest. ((p, n), rest, refl)
 back expect.Name t p = tt
@@ -323,10 +348,14 @@ some_key : KeySyntax
 some_key = record { word_at = 0; write = true; name_at = 0; name = []; is_at = 0; first = text_part 0 []; more = []; end_at = 0 }
 
 some_level : (n : ℕ) → (x : Syntax) × IsLevel n x
-some_level zero = (chain (chain (chain (chain (chain (int 0 (pos 0)) no_link) no_link) no_link) no_link) no_link,
-  (omega arith, (omega arith, (omega arith, (omega arith, (omega arith, omega arith, tt), tt), tt), tt), tt))
-some_level (suc zero) = (chain (chain (chain (chain (int 0 (pos 0)) no_link) no_link) no_link) no_link,
-  (omega arith, (omega arith, (omega arith, (omega arith, omega arith, tt), tt), tt), tt))
+some_level zero = (
+  chain (chain (chain (chain (chain (int 0 (pos 0)) no_link) no_link) no_link) no_link) no_link,
+  (omega arith, (omega arith, (omega arith, (omega arith, (omega arith, omega arith, tt), tt), tt), tt), tt),
+)
+some_level (suc zero) = (
+  chain (chain (chain (chain (int 0 (pos 0)) no_link) no_link) no_link) no_link,
+  (omega arith, (omega arith, (omega arith, (omega arith, omega arith, tt), tt), tt), tt),
+)
 some_level (suc (suc zero)) = (chain (chain (chain (int 0 (pos 0)) no_link) no_link) no_link, (omega arith, (omega arith, (omega arith, omega arith, tt), tt), tt))
 some_level (suc (suc (suc zero))) = (chain (chain (int 0 (pos 0)) no_link) no_link, (omega arith, (omega arith, omega arith, tt), tt))
 some_level (suc (suc (suc (suc zero)))) = (chain (int 0 (pos 0)) no_link, (omega arith, omega arith, tt))

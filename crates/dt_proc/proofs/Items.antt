@@ -102,7 +102,10 @@ after_comma_next scope told gifts left e rest p after comma ([], good, cut, is) 
 after_comma_next scope told gifts left e rest p after comma (m ∷ more, good, cut, is) =
     let joined = cut ∙ sym comma in
     record {
-      item = m.1; more = more; good = good.0; others = good.1;
+      item = m.1;
+      more = more;
+      good = good.0;
+      others = good.1;
       cut = sym (append_assoc (item_tokens m.1) (flat_map next_item more) (at e tok.Semicolon ∷ rest)) ∙ tail_is _ _ _ _ joined;
       told_as = is;
     }

@@ -29,7 +29,6 @@ use Rattle.dt_proc.specs.Tree as tree
 use Rattle.dt_proc.specs.Tree.{Formula, Gift, Step, Block, done, then}
 use Rattle.dt_proc.specs.Checked.{Told, Typed, after_ok, same_sort, needs, needs_stored, fits_both, combined, as_variable, as_key, as_written, as_new, as_param, key_of, read_by, made_by, check, check_links, front_place, check_item, check_items, check_all_items, with_variable, with_key, one_block, two_blocks, check_block, check_statement, check_part, check_parts, check_key, check_keys, check_param, check_more_params, check_params, param_kinds}
 use Rattle.dt_proc.specs.Syntax.{at, Syntax, chain, minus, denial, int, text, truth, name, parens, of_key, made, Links, no_link, link, syntax_tokens, links_tokens, Reader, reads_int, reads_text, reads_presence, Maker, makes_length, makes_text, Bracketed, bracketed_tokens, Param, param_tokens, Params, no_param, params, params_tokens, KeyPart, text_part, name_part, show_part, part_tokens, KeySyntax, key_tokens, Item, row_item, value_item, item_tokens, items_tokens, Statement, let_new, set_key, clear_key, when, choose, abort, give, Statements, nothing, first, statement_tokens, statements_tokens}
-
 use Rattle.dt_proc.proofs.Sorted.{sound_left, sound_right, Holds, holds_ok, holds_after, holds_cond, sorts, writes, Means, means, same_is}
 use Rattle.dt_proc.specs.Walked.{IsSoundToken, AllSound, joined_part, keys_told, params_told}
 
@@ -58,7 +57,7 @@ param_fits : (kinds : List Kind) (scope : Scope) (p : ℕ) (s : Sort) (k : Kind)
 param_fits kinds scope p s k (Variable n t) own only h =
     holds_cond (λ n. slice_get kinds n ≡ Some k) (same_sort t s) (Ok n) (Err (fault.Kind p))
     (λ e. holds_ok (λ n. slice_get kinds n ≡ Some k) n
-      (param_at kinds n s k only (subst (λ ss. slice_get ss n ≡ Some s) own (h ∙ ap Some (same_is t s e)))))
+    (param_at kinds n s k only (subst (λ ss. slice_get ss n ≡ Some s) own (h ∙ ap Some (same_is t s e)))))
     (λ e a is. absurd cc)
 param_fits kinds scope p s k (Key n w) own only h = λ a e. absurd cc
 param_fits kinds scope p s k Unknown own only h = λ a e. absurd cc
@@ -80,8 +79,10 @@ parts_fit kinds scope [] own h = holds_ok (FitItems kinds) [] tt
 parts_fit kinds scope (m ∷ more) own h =
     holds_after (FitItems kinds) (check_part scope m.1) (λ i. after_ok (check_parts scope more) (λ is. Ok (i ∷ is)))
     (λ i e. holds_after (FitItems kinds) (check_parts scope more) (λ is. Ok (i ∷ is))
-      (λ is f. holds_ok (FitItems kinds) (i ∷ is) (part_fits kinds scope m.1 own (sound_left (part_tokens m.1) (flat_map joined_part more) h.1) i e,
-        parts_fit kinds scope more own (sound_right (part_tokens m.1) (flat_map joined_part more) h.1) is f)))
+    (λ is f. holds_ok (FitItems kinds) (i ∷ is) (
+      part_fits kinds scope m.1 own (sound_left (part_tokens m.1) (flat_map joined_part more) h.1) i e,
+      parts_fit kinds scope more own (sound_right (part_tokens m.1) (flat_map joined_part more) h.1) is f,
+    )))
 
 abbrev FitsKey : List Kind → KeyDecl → Type 0
 FitsKey kinds d = FitItems kinds d.items
@@ -95,12 +96,16 @@ key_makes kinds scope k own h =
     let parts = h.1.1.1 in
     let more = sound_right (part_tokens k.first) (flat_map joined_part k.more ++ at k.end_at tok.Semicolon ∷ []) parts in
     holds_after {A = Unit {0}} (KeyMade kinds k) (as_new k.name_at (meaning scope k.name)) (λ _. after_ok (check_part scope k.first) (λ i.
-      after_ok (check_parts scope k.more) (λ is. Ok (record { write = k.write; items = i ∷ is }))))
+    after_ok (check_parts scope k.more) (λ is. Ok (record { write = k.write; items = i ∷ is }))))
     (λ u g. holds_after (KeyMade kinds k) (check_part scope k.first) (λ i. after_ok (check_parts scope k.more) (λ is. Ok (record { write = k.write; items = i ∷ is })))
-      (λ i e. holds_after (KeyMade kinds k) (check_parts scope k.more) (λ is. Ok (record { write = k.write; items = i ∷ is }))
-        (λ is f. holds_ok (KeyMade kinds k) (record { write = k.write; items = i ∷ is })
-          ((part_fits kinds scope k.first own (sound_left (part_tokens k.first) (flat_map joined_part k.more ++ at k.end_at tok.Semicolon ∷ []) parts) i e,
-            parts_fit kinds scope k.more own (sound_left (flat_map joined_part k.more) (at k.end_at tok.Semicolon ∷ []) more) is f), refl))))
+    (λ i e. holds_after (KeyMade kinds k) (check_parts scope k.more) (λ is. Ok (record { write = k.write; items = i ∷ is }))
+    (λ is f. holds_ok (KeyMade kinds k) (record { write = k.write; items = i ∷ is }) (
+      (
+        part_fits kinds scope k.first own (sound_left (part_tokens k.first) (flat_map joined_part k.more ++ at k.end_at tok.Semicolon ∷ []) parts) i e,
+        parts_fit kinds scope k.more own (sound_left (flat_map joined_part k.more) (at k.end_at tok.Semicolon ∷ []) more) is f,
+      ),
+      refl,
+    ))))
 
 -- declarations fit, and what is visible after them has their modes
 abbrev pub KeysMade : List Kind → Scope → ℕ → List KeyDecl × Scope → Type 0
@@ -120,11 +125,11 @@ keys_make kinds scope [] own h = holds_ok (KeysMade kinds scope 0) ([], scope) (
 keys_make kinds scope (k ∷ ks) own h =
     holds_after (KeysMade kinds scope (length (k ∷ ks))) (check_key scope k) (λ d. after_ok (check_keys (with_key scope k.name k.write) ks) (λ r. Ok (d ∷ r.0, r.1)))
     (λ d e. holds_after (KeysMade kinds scope (length (k ∷ ks))) (check_keys (with_key scope k.name k.write) ks) (λ r. Ok (d ∷ r.0, r.1))
-      (λ r f.
-        let one = key_makes kinds scope k own (sound_left (key_tokens k) (flat_map key_tokens ks) h) d e in
-        let others = keys_make kinds (with_key scope k.name k.write) ks own (sound_right (key_tokens k) (flat_map key_tokens ks) h) r f in
-        holds_ok (KeysMade kinds scope (length (k ∷ ks))) (d ∷ r.0, r.1)
-          ((one.0, others.0), key_more scope k d (map (λ d. d.write) r.0) (writes r.1) one.1 others.1, others.2, ap suc others.3)))
+    (λ r f.
+    let one = key_makes kinds scope k own (sound_left (key_tokens k) (flat_map key_tokens ks) h) d e in
+    let others = keys_make kinds (with_key scope k.name k.write) ks own (sound_right (key_tokens k) (flat_map key_tokens ks) h) r f in
+    holds_ok (KeysMade kinds scope (length (k ∷ ks))) (d ∷ r.0, r.1)
+    ((one.0, others.0), key_more scope k d (map (λ d. d.write) r.0) (writes r.1) one.1 others.1, others.2, ap suc others.3)))
 
 -- parameters are visible with their kinds, and no key is
 abbrev pub ParamsMade : List Kind → Scope → Scope → Type 0
@@ -134,7 +139,7 @@ param_makes : (scope : Scope) (p : Param) → Holds (ParamsMade (p.kind ∷ []) 
 param_makes scope p =
     holds_after {A = Unit {0}} (ParamsMade (p.kind ∷ []) scope) (as_new p.name_at (meaning scope p.name)) (λ _. Ok (with_variable scope p.name (sort_of p.kind)))
     (λ u e. holds_ok (ParamsMade (p.kind ∷ []) scope) (with_variable scope p.name (sort_of p.kind))
-      (map-append (λ (v : List ℕ × Sort). v.1) scope.variables ((p.name, sort_of p.kind) ∷ []), refl))
+    (map-append (λ (v : List ℕ × Sort). v.1) scope.variables ((p.name, sort_of p.kind) ∷ []), refl))
 
 params_join : (scope one last : Scope) (k : Kind) (kinds : List Kind) → ParamsMade (k ∷ []) scope one → ParamsMade kinds one last → ParamsMade (k ∷ kinds) scope last
 params_join scope one last k kinds f g =

@@ -54,8 +54,8 @@ at_front b bs at begins = rw (begins.0, begins.1) refl
 pub take_while_front : (p : ℕ → Bool) (bs : List ℕ) → take (length (take_while p bs)) bs ≡ take_while p bs
 take_while_front p [] = refl
 take_while_front p (b ∷ bs) = rw (take_while-cons p b bs) (
-  elim (p b) as (λ v. take (length (cond v (b ∷ take_while p bs) [])) (b ∷ bs) ≡ cond v (b ∷ take_while p bs) [])
-  [ true ↦ ap (λ v. b ∷ v) (take_while_front p bs) | false ↦ refl ])
+    elim (p b) as (λ v. take (length (cond v (b ∷ take_while p bs) [])) (b ∷ bs) ≡ cond v (b ∷ take_while p bs) [])
+    [ true ↦ ap (λ v. b ∷ v) (take_while_front p bs) | false ↦ refl ])
 
 all_of : (p : ℕ → Bool) (b : ℕ) (bs : List ℕ) (v : Bool) → p b ≡ v → list_all p bs ≡ true → list_all p (cond v (b ∷ bs) []) ≡ true
 all_of p b bs true e h = rw e h

@@ -37,9 +37,12 @@ pub more_next : {A : Type 0} (joint : Token) (spelled : A → List Placed) (all 
 more_next joint spelled [] q end rest p after left differ e f =
     absurd (differ (ap (λ v. v.token) (head_is (at p joint) (at q end) after rest (f ∙ sym e))))
 more_next joint spelled (m ∷ more) q end rest p after left differ e f = record {
-  one = m.1; joined_at = m.0; more = more; is = refl;
+  one = m.1;
+  joined_at = m.0;
+  more = more;
+  is = refl;
   cut = sym (append_assoc (spelled m.1) (flat_map (λ m. at m.0 joint ∷ spelled m.1) more) (at q end ∷ rest))
-    ∙ tail_is (at m.0 joint) (at p joint) ((spelled m.1 ++ flat_map (λ m. at m.0 joint ∷ spelled m.1) more) ++ at q end ∷ rest) after (e ∙ sym f);
+      ∙ tail_is (at m.0 joint) (at p joint) ((spelled m.1 ++ flat_map (λ m. at m.0 joint ∷ spelled m.1) more) ++ at q end ∷ rest) after (e ∙ sym f);
 }
 
 pub more_end : {A : Type 0} (joint : Token) (spelled : A → List Placed) (all : List (ℕ × A)) (q : ℕ) (end : Token) (rest left : List Placed) →
@@ -65,9 +68,10 @@ pub more_params_told : (scope one last : Scope) (before between after : List Kin
     all ≡ (n, p) ∷ more → check_param scope p ≡ Ok one → between ≡ before ++ p.kind ∷ [] →
     Answers (check_more_params one more) rest (left_with last r) × OnOk r (after ≡ between ++ kinds_of more) →
     Answers (check_more_params scope all) rest (left_with last r) × OnOk r (after ≡ before ++ kinds_of all)
-more_params_told scope one last before between after all rest (Ok b) n p more is told pushed (h, k) =
-    ((ap (check_more_params scope) is ∙ ap (λ t. after_ok t (λ s. check_more_params s more)) told ∙ h.0, h.1),
-      k ∙ ap (λ v. v ++ kinds_of more) pushed ∙ append_assoc before (p.kind ∷ []) (kinds_of more) ∙ ap (λ v. before ++ kinds_of v) (sym is))
+more_params_told scope one last before between after all rest (Ok b) n p more is told pushed (h, k) = (
+  (ap (check_more_params scope) is ∙ ap (λ t. after_ok t (λ s. check_more_params s more)) told ∙ h.0, h.1),
+  k ∙ ap (λ v. v ++ kinds_of more) pushed ∙ append_assoc before (p.kind ∷ []) (kinds_of more) ∙ ap (λ v. before ++ kinds_of v) (sym is),
+)
 more_params_told scope one last before between after all rest (Err e) n p more is told pushed (inl h, k) = (inl h, tt)
 more_params_told scope one last before between after all rest (Err e) n p more is told pushed (inr h, k) =
     (inr (ap (check_more_params scope) is ∙ ap (λ t. after_ok t (λ s. check_more_params s more)) told ∙ h), tt)
@@ -98,7 +102,7 @@ pub parts_fault : (scope : Scope) (all : List (ℕ × KeyPart)) (items : List Ke
 parts_fault scope all items before rest e n p more is (inl h) = inl h
 parts_fault scope all items before rest e n p more is (inr h) =
     inr (ap (λ a. PartsTold scope a items) is
-      ∙ ap (λ t. after_ok (after_ok t (λ i. after_ok (check_parts scope more) (λ is. Ok (i ∷ is)))) (λ is. Ok (items ++ is))) h)
+    ∙ ap (λ t. after_ok (after_ok t (λ i. after_ok (check_parts scope more) (λ is. Ok (i ∷ is)))) (λ is. Ok (items ++ is))) h)
 
 pub params_none : (scope : Scope) (kinds : List Kind) (all : List (ℕ × Param)) (rest : List Placed) (r : Left) → all ≡ [] →
     MatchResult r (λ b. b.now ≡ rest) (λ e. ⊥) → Answers (check_more_params scope all) rest (left_with scope r) × OnOk r (kinds ≡ kinds ++ kinds_of all)
@@ -117,23 +121,23 @@ pub record IsKey (all : List KeySyntax) (w : Bool) (p : ℕ) (last after : List 
   pub is : all ≡ key ∷ more
   pub mode : key.write ≡ w
   pub cut : at key.name_at (tok.Name key.name) ∷ at key.is_at tok.Is ∷ (part_tokens key.first ++ (flat_map joined_part key.more ++ at key.end_at tok.Semicolon ∷
-    (flat_map key_tokens more ++ last))) ≡ after
+      (flat_map key_tokens more ++ last))) ≡ after
 
-key_cut : (k : KeySyntax) (us : List Placed) →
+pub key_cut : (k : KeySyntax) (us : List Placed) →
     key_tokens k ++ us ≡ at k.word_at (mode_token k.write) ∷ at k.name_at (tok.Name k.name) ∷ at k.is_at tok.Is
-      ∷ (part_tokens k.first ++ (flat_map joined_part k.more ++ at k.end_at tok.Semicolon ∷ us))
+    ∷ (part_tokens k.first ++ (flat_map joined_part k.more ++ at k.end_at tok.Semicolon ∷ us))
 key_cut k us =
     ap (λ v. at k.word_at (mode_token k.write) ∷ at k.name_at (tok.Name k.name) ∷ at k.is_at tok.Is ∷ v)
     (append_assoc (part_tokens k.first) (flat_map joined_part k.more ++ at k.end_at tok.Semicolon ∷ []) us
     ∙ ap (λ v. part_tokens k.first ++ v) (append_assoc (flat_map joined_part k.more) (at k.end_at tok.Semicolon ∷ []) us))
 
-mode_is : (v w : Bool) → mode_token v ≡ mode_token w → v ≡ w
+pub mode_is : (v w : Bool) → mode_token v ≡ mode_token w → v ≡ w
 mode_is true true e = refl
 mode_is false false e = refl
 mode_is true false e = absurd cc
 mode_is false true e = absurd cc
 
-mode_begin : (w : Bool) → ¬ (tok.Begin ≡ mode_token w)
+pub mode_begin : (w : Bool) → ¬ (tok.Begin ≡ mode_token w)
 mode_begin true e = cc
 mode_begin false e = cc
 
@@ -142,9 +146,11 @@ pub key_first : (all : List KeySyntax) (b : ℕ) (rest : List Placed) (t : Place
 key_first [] b rest t ts w is e = absurd (mode_begin w (ap (λ v. v.token) (head_is _ _ _ _ e) ∙ is))
 key_first (k ∷ ks) b rest t ts w is e =
     let whole = sym (key_cut k (flat_map key_tokens ks ++ at b tok.Begin ∷ rest))
-      ∙ sym (append_assoc (key_tokens k) (flat_map key_tokens ks) (at b tok.Begin ∷ rest)) ∙ e in
+    ∙ sym (append_assoc (key_tokens k) (flat_map key_tokens ks) (at b tok.Begin ∷ rest)) ∙ e in
     record {
-      key = k; more = ks; is = refl;
+      key = k;
+      more = ks;
+      is = refl;
       mode = mode_is k.write w (ap (λ v. v.token) (head_is _ _ _ _ whole) ∙ is);
       cut = tail_is _ _ _ _ whole;
     }
@@ -155,7 +161,7 @@ key_none [] b rest t ts r w e = (refl, sym (tail_is _ _ _ _ e))
 key_none (k ∷ ks) b rest t ts r w e = absurd (neither k.write (ap (λ v. v.token) (head_is _ _ _ _ whole)))
   where
     whole : at k.word_at (mode_token k.write) ∷ at k.name_at (tok.Name k.name) ∷ at k.is_at tok.Is
-      ∷ (part_tokens k.first ++ (flat_map joined_part k.more ++ at k.end_at tok.Semicolon ∷ (flat_map key_tokens ks ++ at b tok.Begin ∷ rest))) ≡ t ∷ ts
+        ∷ (part_tokens k.first ++ (flat_map joined_part k.more ++ at k.end_at tok.Semicolon ∷ (flat_map key_tokens ks ++ at b tok.Begin ∷ rest))) ≡ t ∷ ts
     whole = sym (key_cut k (flat_map key_tokens ks ++ at b tok.Begin ∷ rest)) ∙ sym (append_assoc (key_tokens k) (flat_map key_tokens ks) (at b tok.Begin ∷ rest)) ∙ e
 
     neither : (v : Bool) → mode_token v ≡ t.token → ⊥
@@ -243,4 +249,4 @@ pub params_more_fault : (ps : Params) (one : Scope) (m : Param) (more : List (�
 params_more_fault ps one m more before rest e is told (inl h) = inl h
 params_more_fault ps one m more before rest e is told (inr h) =
     inr (ap params_told is ∙ ap (λ t. after_ok {A = Scope} {B = Scope × List Kind} (after_ok {A = Scope} {B = Scope} t (λ s. check_more_params s more)) (λ s. Ok (s, m.kind ∷ kinds_of more))) told
-      ∙ ap (λ t. after_ok {A = Scope} {B = Scope × List Kind} t (λ s. Ok (s, m.kind ∷ kinds_of more))) h)
+    ∙ ap (λ t. after_ok {A = Scope} {B = Scope × List Kind} t (λ s. Ok (s, m.kind ∷ kinds_of more))) h)

@@ -99,8 +99,8 @@ pub number_is : (word : List ℕ) (r : Option ℤ) → is_digit (get_or word 0 0
     option_map (λ z. Int z) r ≡ option_map (λ n. Int (pos n)) (whole_number word)
 number_is word None digit none =
     let no = none_is (whole_number word) (λ n is.
-      let spelled = number_spelled word n (some_byte word digit) is in
-      none (pos n) (fits n spelled.0) spelled.1) in
+    let spelled = number_spelled word n (some_byte word digit) is in
+    none (pos n) (fits n spelled.0) spelled.1) in
     rw no refl
 number_is word (Some (pos n)) digit h = rw (number_known word n (omega (arith, ints, h.0)) h.1) refl
 number_is word (Some (negsuc n)) digit h =

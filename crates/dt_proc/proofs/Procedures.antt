@@ -33,12 +33,12 @@ proc_cut p rest ts e =
     let body = statements_tokens p.body in
     let end : (body ++ at p.end_at tok.End ∷ []) ++ rest ≡ body ++ at p.end_at tok.End ∷ rest = append_assoc body (at p.end_at tok.End ∷ []) rest in
     let one : (key ++ (keys ++ at p.begin_at tok.Begin ∷ (body ++ at p.end_at tok.End ∷ []))) ++ rest
-        ≡ (key ++ keys) ++ at p.begin_at tok.Begin ∷ (body ++ at p.end_at tok.End ∷ rest) =
-      append_assoc key (keys ++ at p.begin_at tok.Begin ∷ (body ++ at p.end_at tok.End ∷ [])) rest
-      ∙ ap (λ v. key ++ v) (append_assoc keys (at p.begin_at tok.Begin ∷ (body ++ at p.end_at tok.End ∷ [])) rest ∙ ap (λ v. keys ++ at p.begin_at tok.Begin ∷ v) end)
-      ∙ sym (append_assoc key keys (at p.begin_at tok.Begin ∷ (body ++ at p.end_at tok.End ∷ rest))) in
+    ≡ (key ++ keys) ++ at p.begin_at tok.Begin ∷ (body ++ at p.end_at tok.End ∷ rest) =
+    append_assoc key (keys ++ at p.begin_at tok.Begin ∷ (body ++ at p.end_at tok.End ∷ [])) rest
+    ∙ ap (λ v. key ++ v) (append_assoc keys (at p.begin_at tok.Begin ∷ (body ++ at p.end_at tok.End ∷ [])) rest ∙ ap (λ v. keys ++ at p.begin_at tok.Begin ∷ v) end)
+    ∙ sym (append_assoc key keys (at p.begin_at tok.Begin ∷ (body ++ at p.end_at tok.End ∷ rest))) in
     ap start (sym (append_assoc spelled (at p.close_at tok.Close ∷ (key ++ (keys ++ at p.begin_at tok.Begin ∷ (body ++ at p.end_at tok.End ∷ [])))) rest
-      ∙ ap (λ v. spelled ++ at p.close_at tok.Close ∷ v) one)) ∙ e
+    ∙ ap (λ v. spelled ++ at p.close_at tok.Close ∷ v) one)) ∙ e
 
 pub proc_longer : (p : ProcSyntax) (rest ts : List Placed) → proc_tokens p ++ rest ≡ ts → length rest < length ts
 proc_longer p rest ts e = omega (arith, ap length e, length-append (proc_tokens p) rest)
@@ -67,20 +67,20 @@ after_same (Err e) f g h = refl
 pub proc_is : (before : List ProcTree) (p : ProcSyntax) → list_any (λ (q : ProcTree). pointwise nat_eq q.name p.name) before ≡ false → check_proc before p ≡ walked_proc p
 proc_is before p free =
     let made : Scope → Scope × List KeyDecl → Told ProcTree =
-      λ s r. after_ok {A = Block} (check_block r.0 p.body) (λ b. Ok (record { name = p.name; params = param_kinds p.params; keys = r.1; body = b })) in
+    λ s r. after_ok {A = Block} (check_block r.0 p.body) (λ b. Ok (record { name = p.name; params = param_kinds p.params; keys = r.1; body = b })) in
     let keys = p.key ∷ p.more_keys in
     ap (λ t. cond t (Err (fault.Twice p.name_at)) (after_ok {A = Scope} (check_params p.params) (λ s. after_ok {A = List KeyDecl × Scope} (check_keys s keys) (λ r. made s (r.1, r.0))))) free
     ∙ after_same (check_params p.params) (λ s. after_ok {A = List KeyDecl × Scope} (check_keys s keys) (λ r. made s (r.1, r.0)))
-      (λ s. after_ok {A = Scope × List KeyDecl} (keys_told s [] keys) (made s)) (λ s. keys_with (check_keys s keys) (made s))
+    (λ s. after_ok {A = Scope × List KeyDecl} (keys_told s [] keys) (made s)) (λ s. keys_with (check_keys s keys) (made s))
     ∙ kinds_with (check_params p.params) (param_kinds p.params)
-      (λ s. after_ok {A = Scope × List KeyDecl} (keys_told s.0 [] keys) (λ r. after_ok {A = Block} (check_block r.0 p.body) (λ b. Ok (record { name = p.name; params = s.1; keys = r.1; body = b }))))
+    (λ s. after_ok {A = Scope × List KeyDecl} (keys_told s.0 [] keys) (λ r. after_ok {A = Block} (check_block r.0 p.body) (λ b. Ok (record { name = p.name; params = s.1; keys = r.1; body = b }))))
 
 pub proc_twice : (before : List ProcTree) (p : ProcSyntax) (name : List ℕ) (place : ℕ) → list_any (λ (q : ProcTree). pointwise nat_eq q.name name) before ≡ true →
     name ≡ p.name → place ≡ p.name_at → check_proc before p ≡ Err (fault.Twice place)
 proc_twice before p name place taken is at_place =
     ap (λ t. cond t (Err (fault.Twice p.name_at)) (after_ok {A = Scope} (check_params p.params) (λ s. after_ok {A = List KeyDecl × Scope} (check_keys s (p.key ∷ p.more_keys))
-      (λ r. after_ok {A = Block} (check_block r.1 p.body) (λ b. Ok (record { name = p.name; params = param_kinds p.params; keys = r.0; body = b }))))))
-      (ap (λ n. list_any (λ (q : ProcTree). pointwise nat_eq q.name n) before) (sym is) ∙ taken)
+    (λ r. after_ok {A = Block} (check_block r.1 p.body) (λ b. Ok (record { name = p.name; params = param_kinds p.params; keys = r.0; body = b }))))))
+    (ap (λ n. list_any (λ (q : ProcTree). pointwise nat_eq q.name n) before) (sym is) ∙ taken)
     ∙ ap (λ n. Err (fault.Twice n)) (sym at_place)
 
 -- the parameters that are told
@@ -126,3 +126,52 @@ proc_sound p name scope last kinds keys body h small named ps ks b =
       items = made.0;
       body = subst (λ v. AreSound v (map (λ (k : KeyDecl). k.write) keys) body) made.2 (subst (λ v. AreSound (sorts last) v body) modes fits);
     }
+
+-- what follows the parameters, and what follows the keys
+after_params : ProcSyntax → Scope × List Kind → Told ProcTree
+after_params p s =
+    after_ok {A = Scope × List KeyDecl} (keys_told s.0 [] (p.key ∷ p.more_keys))
+    (λ r. after_ok {A = Block} (check_block r.0 p.body) (λ b. Ok (record { name = p.name; params = s.1; keys = r.1; body = b })))
+
+after_keys : ProcSyntax → List Kind → Scope × List KeyDecl → Told ProcTree
+after_keys p kinds r = after_ok {A = Block} (check_block r.0 p.body) (λ b. Ok (record { name = p.name; params = kinds; keys = r.1; body = b }))
+
+abbrev pub Free : List ProcTree → ProcSyntax → Type 0
+Free before p = list_any (λ (q : ProcTree). pointwise nat_eq q.name p.name) before ≡ false
+
+told_after_params : (before : List ProcTree) (p : ProcSyntax) (s : Scope × List Kind) → Free before p → params_told p.params ≡ Ok s → check_proc before p ≡ after_params p s
+unfolding after_params
+told_after_params before p s free ps = proc_is before p free ∙ ap (λ t. after_ok {A = Scope × List Kind} t (after_params p)) ps
+
+told_after_keys : (before : List ProcTree) (p : ProcSyntax) (s : Scope × List Kind) (r : Scope × List KeyDecl) → Free before p → params_told p.params ≡ Ok s →
+    keys_told s.0 [] (p.key ∷ p.more_keys) ≡ Ok r → check_proc before p ≡ after_keys p s.1 r
+unfolding after_params after_keys
+told_after_keys before p s r free ps ks = told_after_params before p s free ps ∙ ap (λ t. after_ok {A = Scope × List KeyDecl} t (after_keys p s.1)) ks
+
+-- the first fault is told, wherever it is
+pub params_first_fault : (before : List ProcTree) (p : ProcSyntax) (left rest : List Placed) (e : ProcError) → Free before p →
+    Answers (params_told p.params) left (Err e) → Answers (check_proc before p) rest (Err e)
+unfolding after_params
+params_first_fault before p left rest e free (inl m) = inl m
+params_first_fault before p left rest e free (inr s) = inr (proc_is before p free ∙ ap (λ t. after_ok {A = Scope × List Kind} t (after_params p)) s)
+
+pub keys_first_fault : (before : List ProcTree) (p : ProcSyntax) (s : Scope × List Kind) (left rest : List Placed) (e : ProcError) → Free before p →
+    params_told p.params ≡ Ok s → Answers (keys_told s.0 [] (p.key ∷ p.more_keys)) left (Err e) → Answers (check_proc before p) rest (Err e)
+unfolding after_params after_keys
+keys_first_fault before p s left rest e free ps (inl m) = inl m
+keys_first_fault before p s left rest e free ps (inr k) =
+    inr (told_after_params before p s free ps ∙ ap (λ t. after_ok {A = Scope × List KeyDecl} t (after_keys p s.1)) k)
+
+pub body_first_fault : (before : List ProcTree) (p : ProcSyntax) (s : Scope × List Kind) (r : Scope × List KeyDecl) (left rest : List Placed) (e : ProcError) → Free before p →
+    params_told p.params ≡ Ok s → keys_told s.0 [] (p.key ∷ p.more_keys) ≡ Ok r → Answers (check_block r.0 p.body) left (Err e) → Answers (check_proc before p) rest (Err e)
+unfolding after_keys
+body_first_fault before p s r left rest e free ps ks (inl m) = inl m
+body_first_fault before p s r left rest e free ps ks (inr b) =
+    inr (told_after_keys before p s r free ps ks ∙ ap (λ t. after_ok {A = Block} t (λ b. Ok (record { name = p.name; params = s.1; keys = r.1; body = b }))) b)
+
+pub proc_told : (before : List ProcTree) (p : ProcSyntax) (s : Scope × List Kind) (r : Scope × List KeyDecl) (b : Block) → Free before p →
+    params_told p.params ≡ Ok s → keys_told s.0 [] (p.key ∷ p.more_keys) ≡ Ok r → check_block r.0 p.body ≡ Ok b →
+    check_proc before p ≡ Ok (record { name = p.name; params = s.1; keys = r.1; body = b })
+unfolding after_keys
+proc_told before p s r b free ps ks is =
+    told_after_keys before p s r free ps ks ∙ ap (λ t. after_ok {A = Block} t (λ c. Ok (record { name = p.name; params = s.1; keys = r.1; body = c }))) is

@@ -88,7 +88,13 @@ pub record Reading (text : List ℕ) (tokens : List Placed) (stack : List Sym) (
 pub first_tokens : (text : List ℕ) (place : ℕ) (counts : Counts) (stack : List Sym) → place ≤ length text → BeginsToken (drop place text) →
     tokens_from 0 0 (drop 0 text) ≡ tokens_from 0 place (drop place text) → counts ≡ counts_of [] → stack ≡ expect.Procs ∷ [] → Reading text [] stack counts place
 first_tokens text place counts stack within starts same counted is = record {
-  within = within; starts = starts; lexed = same; read = ap Some (sym is); few = tt; counted = counted; short = omega arith;
+  within = within;
+  starts = starts;
+  lexed = same;
+  read = ap Some (sym is);
+  few = tt;
+  counted = counted;
+  short = omega arith;
 }
 
 -- at the end of the text there are no more tokens
@@ -156,9 +162,10 @@ pub reads_on : (text : List ℕ) (tokens : List Placed) (stack after : List Sym)
     tokens_from 0 (place + n) (drop (place + n) text) ≡ tokens_from 0 next (drop next text) → BeginsToken (drop next text) →
     Reading text (tokens ++ at place t ∷ []) after counted next
 reads_on text tokens stack after counts counted place next n t r lt front goes few count over within same starts = record {
-  within = within; starts = starts;
+  within = within;
+  starts = starts;
   lexed = r.lexed ∙ ap (before tokens) (next_front text place t n lt r.starts front ∙ ap (before (at place t ∷ [])) same)
-    ∙ before_joined tokens (at place t ∷ []) (tokens_from 0 next (drop next text));
+      ∙ before_joined tokens (at place t ∷ []) (tokens_from 0 next (drop next text));
   read = run_more tokens (at place t) stack r.read ∙ ap (λ o. onward o (λ s. Some s)) goes;
   few = few_more [] tokens (at place t) r.few few;
   counted = count ∙ ap counts_of (sym (backwards_more [] tokens (at place t)));
@@ -168,7 +175,9 @@ reads_on text tokens stack after counts counted place next n t r lt front goes f
 well : (text : List ℕ) (tokens : List Placed) (stack : List Sym) (counts : Counts) (place : ℕ) (after : List Placed) → Reading text tokens stack counts place →
     (tokens_from 0 place (drop place text)).tokens ≡ after → StartsWell text tokens after
 well text tokens stack counts place after r is = record {
-  tokens = ap (λ l. l.tokens) r.lexed ∙ ap (λ ts. tokens ++ ts) is; begins = read_begins tokens stack r.read; few = r.few;
+  tokens = ap (λ l. l.tokens) r.lexed ∙ ap (λ ts. tokens ++ ts) is;
+  begins = read_begins tokens stack r.read;
+  few = r.few;
 }
 
 pub bad_token : (text : List ℕ) (tokens : List Placed) (stack : List Sym) (counts : Counts) (place : ℕ) → Reading text tokens stack counts place → place < length text →
@@ -182,12 +191,16 @@ pub refused : (text : List ℕ) (tokens : List Placed) (stack : List Sym) (count
 refused text tokens stack counts place n t r lt front none =
     let here = next_front text place t n lt r.starts front in
     record {
-      before = tokens; after = at place t ∷ (tokens_from 0 (place + n) (drop (place + n) text)).tokens;
+      before = tokens;
+      after = at place t ∷ (tokens_from 0 (place + n) (drop (place + n) text)).tokens;
       well = well text tokens stack counts place _ r (ap (λ l. l.tokens) here);
-      told = (refl, λ begins.
-        let goes = beginning_read (tokens ++ at place t ∷ []) begins in
-        let stops = run_more tokens (at place t) stack r.read ∙ ap (λ o. onward o (λ s. Some s)) none in
-        never goes.0 (sym stops ∙ goes.1));
+      told = (
+        refl,
+        λ begins.
+            let goes = beginning_read (tokens ++ at place t ∷ []) begins in
+            let stops = run_more tokens (at place t) stack r.read ∙ ap (λ o. onward o (λ s. Some s)) none in
+            never goes.0 (sym stops ∙ goes.1),
+      );
     }
   where
     never : (s : List Sym) → ◌≡◌ {A = Option (List Sym)} None (Some s) → ⊥
@@ -198,10 +211,13 @@ pub one_too_many : (text : List ℕ) (tokens : List Placed) (stack after : List 
 one_too_many text tokens stack after counts place n t r lt front goes many =
     let here = next_front text place t n lt r.starts front in
     record {
-      before = tokens; token = at place t; after = (tokens_from 0 (place + n) (drop (place + n) text)).tokens;
+      before = tokens;
+      token = at place t;
+      after = (tokens_from 0 (place + n) (drop (place + n) text)).tokens;
       well = well text tokens stack counts place _ r (ap (λ l. l.tokens) here);
       goes_on = read_begins (tokens ++ at place t ∷ []) after (run_more tokens (at place t) stack r.read ∙ ap (λ o. onward o (λ s. Some s)) goes);
-      too_many = many; stands = refl;
+      too_many = many;
+      stands = refl;
     }
 
 ended : (text : List ℕ) (tokens : List Placed) (stack : List Sym) (counts : Counts) (place : ℕ) → Reading text tokens stack counts place → length text ≤ place →
@@ -212,7 +228,9 @@ ended text tokens stack counts place r le =
 pub passes : (text : List ℕ) (tokens : List Placed) (stack : List Sym) (counts : Counts) (place : ℕ) → Reading text tokens stack counts place → length text ≤ place →
     stack ≡ expect.Procs ∷ [] → PassesFirst text tokens
 passes text tokens stack counts place r le is = record {
-  whole = ended text tokens stack counts place r le; grammar = read_whole tokens (r.read ∙ ap Some is); few = r.few;
+  whole = ended text tokens stack counts place r le;
+  grammar = read_whole tokens (r.read ∙ ap Some is);
+  few = r.few;
 }
 
 pub too_early : (text : List ℕ) (tokens : List Placed) (stack : List Sym) (counts : Counts) (place : ℕ) → Reading text tokens stack counts place → length text ≤ place →
@@ -220,7 +238,8 @@ pub too_early : (text : List ℕ) (tokens : List Placed) (stack : List Sym) (cou
 too_early text tokens stack counts place r le other =
     let whole = ended text tokens stack counts place r le in
     record {
-      before = tokens; after = [];
+      before = tokens;
+      after = [];
       well = record { tokens = ap (λ l. l.tokens) whole ∙ sym (append-nil tokens); begins = read_begins tokens stack r.read; few = r.few };
       told = inr (ap (λ l. l.bad) whole, refl, λ g. other (same (sym r.read ∙ grammar_read tokens g)));
     }
@@ -250,10 +269,14 @@ open_most false false false a n h = omega arith
 counts_most : (earlier : List Placed) → AreAtMost (length earlier) (counts_of earlier)
 counts_most [] = (omega arith, omega arith, omega arith, omega arith, omega arith, omega arith)
 counts_most (t ∷ earlier) =
-    let h = counts_most earlier in
-    (step_most (is_proc t.token) _ _ h.0, proc_most (is_proc t.token) (is_close t.token) _ _ h.1, proc_most (is_proc t.token) (is_comma t.token) _ _ h.2,
-      proc_most (is_proc t.token) (is_mode t.token) _ _ h.3, row_most (is_of_expression t.token) _ _ h.4,
-      open_most (is_proc t.token) (is_opening t.token) (is_closing t.token) _ _ h.5)
+    let h = counts_most earlier in (
+      step_most (is_proc t.token) _ _ h.0,
+      proc_most (is_proc t.token) (is_close t.token) _ _ h.1,
+      proc_most (is_proc t.token) (is_comma t.token) _ _ h.2,
+      proc_most (is_proc t.token) (is_mode t.token) _ _ h.3,
+      row_most (is_of_expression t.token) _ _ h.4,
+      open_most (is_proc t.token) (is_opening t.token) (is_closing t.token) _ _ h.5,
+    )
 
 length-backwards : (ts earlier : List Placed) → length (backwards ts earlier) ≡ length ts + length earlier
 length-backwards [] earlier = omega arith
@@ -264,6 +287,11 @@ pub counts_small : (text : List ℕ) (tokens : List Placed) (stack : List Sym) (
 counts_small text tokens stack counts place small r =
     let h = counts_most (backwards tokens []) in
     let long = length-backwards tokens [] in
-    subst (AreAtMost (2 ^ 32)) (sym r.counted)
-    (omega (arith, h.0, long, r.short, r.within), omega (arith, h.1, long, r.short, r.within), omega (arith, h.2, long, r.short, r.within),
-      omega (arith, h.3, long, r.short, r.within), omega (arith, h.4, long, r.short, r.within), omega (arith, h.5, long, r.short, r.within))
+    subst (AreAtMost (2 ^ 32)) (sym r.counted) (
+      omega (arith, h.0, long, r.short, r.within),
+      omega (arith, h.1, long, r.short, r.within),
+      omega (arith, h.2, long, r.short, r.within),
+      omega (arith, h.3, long, r.short, r.within),
+      omega (arith, h.4, long, r.short, r.within),
+      omega (arith, h.5, long, r.short, r.within),
+    )

@@ -147,7 +147,6 @@ fits_sort o sort.Text sort.Bool e = absurd cc
 fits_sort o sort.Bool sort.Int e = absurd cc
 fits_sort o sort.Bool sort.Text e = absurd cc
 
-
 key_means : (scope : Scope) (o : Option (ℕ × Bool)) → ((r : ℕ × Bool) → o ≡ Some r → Stands (writes scope) r) → Means scope (as_key_entry o)
 key_means scope None h = tt
 key_means scope (Some r) h = h r refl
@@ -218,7 +217,7 @@ combined_fits : (scope : Scope) (p : ℕ) (o : Op) (a b : Typed) → Fits scope 
 combined_fits scope p o a b h k =
     holds_cond (Fits scope) (fits_both o a.1 b.1) (Ok (tree.binary o a.0 b.0, given_by o)) (Err (fault.Kind p))
     (λ e. let f = fits_sort o a.1 b.1 e in holds_ok (Fits scope) (tree.binary o a.0 b.0, given_by o)
-      (a.1, f.0, h, subst (λ s. HasSort (sorts scope) (length (writes scope)) b.0 s) f.1 k, refl))
+    (a.1, f.0, h, subst (λ s. HasSort (sorts scope) (length (writes scope)) b.0 s) f.1 k, refl))
     (λ e c is. absurd cc)
 
 mutual
@@ -229,11 +228,11 @@ mutual
   check_fits scope (minus p x) h =
       holds_after (Fits scope) (check scope x) (λ a. needs p sort.Int a (tree.negative a.0, sort.Int))
       (λ a e. needs_fits (Fits scope) p sort.Int a (tree.negative a.0, sort.Int)
-        (λ s. (refl, subst (λ t. HasSort (sorts scope) (length (writes scope)) a.0 t) s (check_fits scope x h.1 a e))))
+      (λ s. (refl, subst (λ t. HasSort (sorts scope) (length (writes scope)) a.0 t) s (check_fits scope x h.1 a e))))
   check_fits scope (denial p x) h =
       holds_after (Fits scope) (check scope x) (λ a. needs p sort.Bool a (tree.opposite a.0, sort.Bool))
       (λ a e. needs_fits (Fits scope) p sort.Bool a (tree.opposite a.0, sort.Bool)
-        (λ s. (refl, subst (λ t. HasSort (sorts scope) (length (writes scope)) a.0 t) s (check_fits scope x h.1 a e))))
+      (λ s. (refl, subst (λ t. HasSort (sorts scope) (length (writes scope)) a.0 t) s (check_fits scope x h.1 a e))))
   check_fits scope (int p z) h = holds_ok (Fits scope) (tree.number z, sort.Int) (refl, h.0)
   check_fits scope (text p t) h = holds_ok (Fits scope) (tree.text t, sort.Text) (refl, h.0)
   check_fits scope (truth p b) h = holds_ok (Fits scope) (tree.truth b, sort.Bool) refl
@@ -251,6 +250,6 @@ mutual
   links_fit scope a (link p o x more) h s =
       holds_after (Fits scope) (check scope x) (λ b. after_ok (combined p o a b) (λ c. check_links scope c more))
       (λ b e. holds_after (Fits scope) (combined p o a b) (λ c. check_links scope c more)
-        (λ c f. links_fit scope c more
-          (combined_fits scope p o a b h (check_fits scope x (sound_left (syntax_tokens x) (links_tokens more) s.1) b e) c f)
-          (sound_right (syntax_tokens x) (links_tokens more) s.1)))
+      (λ c f. links_fit scope c more
+      (combined_fits scope p o a b h (check_fits scope x (sound_left (syntax_tokens x) (links_tokens more) s.1) b e) c f)
+      (sound_right (syntax_tokens x) (links_tokens more) s.1)))

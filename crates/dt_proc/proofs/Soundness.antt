@@ -56,18 +56,18 @@ plain_sound : (w : List ℕ) → list_all is_name_byte w ≡ true → Sound (pla
 plain_sound w all =
     cond_sound (is_digit (get_or w 0 0)) _ _ (λ e. number_sound w (whole_number w) refl)
     (cond_sound (is_letter (get_or w 0 0) && nat_le (length w) 32) (Some (tok.Name w)) None
-      (λ e. let short : nat_le (length w) 32 ≡ true = right_of _ _ e in
-        let few : length w ≤ 32 = grind (arith, nat_tests) in
-        (name_first w (left_of _ _ e), few, all))
-      tt)
+    (λ e. let short : nat_le (length w) 32 ≡ true = right_of _ _ e in
+    let few : length w ≤ 32 = grind (arith, nat_tests) in
+    (name_first w (left_of _ _ e), few, all))
+    tt)
 
 word_sound : (w : List ℕ) → list_all is_name_byte w ≡ true → Sound (word_token w)
 word_sound w all =
     first_sound (word_in statement_words w) (first_of (word_in expression_words w) (plain_word w))
     (table_sound statement_words w (tt, (tt, (tt, (tt, (tt, (tt, (tt, (tt, (tt, (tt, (tt, tt))))))))))))
     (first_sound (word_in expression_words w) (plain_word w)
-      (table_sound expression_words w (tt, (tt, (tt, (tt, (tt, (tt, (tt, (tt, (tt, (tt, tt)))))))))))
-      (plain_sound w all))
+    (table_sound expression_words w (tt, (tt, (tt, (tt, (tt, (tt, (tt, (tt, (tt, (tt, tt)))))))))))
+    (plain_sound w all))
 
 -- the items of a text are bytes of texts
 abbrev Items : Option (List ℕ × List ℕ) → Type 0
@@ -94,7 +94,7 @@ mutual
   items_sound (b ∷ bs) =
       cond_items (b == 34) (Some ([], bs)) _ (λ e. refl)
       (cond_items (b == 92) (escaped bs) _ (λ e. escaped_sound bs)
-        (cond_items (is_text_byte b) (with_item b (items_of bs)) None (λ e. item_with b (items_of bs) e (items_sound bs)) tt))
+      (cond_items (is_text_byte b) (with_item b (items_of bs)) None (λ e. item_with b (items_of bs) e (items_sound bs)) tt))
 
   escaped_sound : (bs : List ℕ) → Items (escaped bs)
   escaped_sound [] = tt
@@ -152,7 +152,7 @@ from_sound (suc told) place (b ∷ bs) = from_sound told (place + 1) bs
 from_sound zero place (b ∷ bs) =
     cond_lexed (is_blank b) (tokens_from 0 (place + 1) bs) _ (from_sound 0 (place + 1) bs)
     (cond_lexed (b == 35) (tokens_from (length (take_while is_no_line_end bs)) (place + 1) bs) _ (from_sound (length (take_while is_no_line_end bs)) (place + 1) bs)
-      (with_sound place (front_token (b ∷ bs)) (λ more. tokens_from more (place + 1) bs) (front_sound (b ∷ bs)) (λ n. from_sound n (place + 1) bs)))
+    (with_sound place (front_token (b ∷ bs)) (λ more. tokens_from more (place + 1) bs) (front_sound (b ∷ bs)) (λ n. from_sound n (place + 1) bs)))
 
 -- the tokens of a text are sound
 pub text_sound : (text : List ℕ) → AllSound (tokens_of text).tokens

@@ -26,7 +26,7 @@ pub err_then : {A B : Type 0} (told : Told A) (next : A → Told B) (before rest
 err_then told next before rest e (inl m) = inl m
 err_then told next before rest e (inr s) = inr (ap (λ t. after_ok t next) s)
 
-up : (n : ℕ) (x : Syntax) → IsLevel (suc n) x → IsLevel (n + 1) x
+pub up : (n : ℕ) (x : Syntax) → IsLevel (suc n) x → IsLevel (n + 1) x
 up n x h = subst (λ m. IsLevel m x) (sym (add-one n)) h
 
 -- an expression of a level below 5 is a first operand, and what follows it
@@ -227,9 +227,11 @@ link_first n p o after (link q u x more) rest ts h stop is e f =
     let same = placed_is q p (tok.Op u) (tok.Op o) (head_is _ _ _ _ joined) in
     let operator = operator_is u o same.1 in
     record {
-      x = x; more = more;
+      x = x;
+      more = more;
       is = ap (λ v. link v u x more) same.0 ∙ ap (λ v. link p v x more) operator;
-      level = up n x h.1; good = h.3;
+      level = up n x h.1;
+      good = h.3;
       cut = sym (append_assoc (syntax_tokens x) (links_tokens more) rest) ∙ tail_is _ _ _ _ joined;
     }
 

@@ -44,8 +44,8 @@ add = record {
   params = Text ∷ Int ∷ [];
   keys = written_key 0 ∷ [];
   body =
-    then (choose (has_value 0) (one_step (set_row 0 (binary Add (number_of 0) (variable 1)))) (one_step (set_row 0 (variable 1))))
-    (one_step (give_all (value (number_of 0) ∷ [])));
+      then (choose (has_value 0) (one_step (set_row 0 (binary Add (number_of 0) (variable 1)))) (one_step (set_row 0 (variable 1))))
+      (one_step (give_all (value (number_of 0) ∷ [])));
 }
 
 -- proc div(k: text, n: int) read a = k; { give int(a) / n; }

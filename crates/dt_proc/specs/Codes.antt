@@ -54,7 +54,7 @@ formula_inj (negative f) (negative g) e = ap negative (formula_inj f g (ap rest 
 formula_inj (opposite f) (opposite g) e = ap opposite (formula_inj f g (ap rest e))
 formula_inj (binary o f g) (binary p h k) e =
     λ i. binary (op.the_row.coded.inj o p (ap (λ v. front (rest v)) e) i)
-         (formula_inj f h (ap (λ v. front (rest (rest v))) e) i) (formula_inj g k (ap (λ v. rest (rest (rest v))) e) i)
+    (formula_inj f h (ap (λ v. front (rest (rest v))) e) i) (formula_inj g k (ap (λ v. rest (rest (rest v))) e) i)
 formula_inj x y e = absurd (omega (arith, ap tag e))
 
 abbrev pub coded_formula : Coded Formula
@@ -93,7 +93,7 @@ mutual
   step_inj (clear_row n) (clear_row m) e = ap clear_row (coded_ℕ.inj n m (ap rest e))
   step_inj (choose f a b) (choose g c d) e =
       λ i. choose (formula_inj f g (ap (λ v. front (rest v)) e) i)
-           (block_inj a c (ap (λ v. front (rest (rest v))) e) i) (block_inj b d (ap (λ v. rest (rest (rest v))) e) i)
+      (block_inj a c (ap (λ v. front (rest (rest v))) e) i) (block_inj b d (ap (λ v. rest (rest (rest v))) e) i)
   step_inj (abort_with t) (abort_with u) e = ap abort_with (coded_bytes.inj t u (ap rest e))
   step_inj (give_all gs) (give_all hs) e = ap give_all (coded_gifts.inj gs hs (ap rest e))
   step_inj x y e = absurd (omega (arith, ap tag e))

@@ -5,6 +5,8 @@ pub mod Counted
 pub mod Falls
 pub mod Machine
 pub mod Names
+pub mod Numbered
+pub mod Outcome
 pub mod Passes
 pub mod Shown
 pub mod Sound

@@ -93,10 +93,10 @@ text_after bs = text_found bs (items_of bs)
 abbrev pub double_sign : ℕ → ℕ → Option Token
 double_sign b c =
     if c == 61 then
-        (if b == 61 then Some (Op op.Equal)
-        else (if b == 33 then Some (Op op.Differ)
-        else (if b == 60 then Some (Op op.AtMost)
-        else (if b == 62 then Some (Op op.AtLeast) else None))))
+    (if b == 61 then Some (Op op.Equal)
+    else (if b == 33 then Some (Op op.Differ)
+    else (if b == 60 then Some (Op op.AtMost)
+    else (if b == 62 then Some (Op op.AtLeast) else None))))
     else (if (b == 43) && (c == 43) then Some (Op op.Join) else None)
 
 -- the symbols of one byte

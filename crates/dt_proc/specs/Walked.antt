@@ -160,3 +160,17 @@ pub record StartsProc (ts : List Placed) : Type 0 where
   pub small : IsSmall one
   pub sound : AllSound (proc_tokens one)
   pub cut : proc_tokens one ++ rest ≡ ts
+
+-- at most 64 procedures of the grammar, each of few parameters and keys
+pub record AreFewProcs (ts : List Placed) : Type 0 where
+  pub all : List ProcSyntax
+  pub good : AreProcs all
+  pub small : AllIn IsSmall all
+  pub few : length all ≤ 64
+  pub sound : AllSound ts
+  pub cut : procs_tokens all ≡ ts
+
+-- the answer is what is told; or memory ran out
+abbrev pub Gives : {A : Type 0} → Told A → Told A → Type 0
+Gives told (Ok a) = told ≡ Ok a
+Gives told (Err e) = (e ≡ fault.NoMemory) ⊎ (told ≡ Err e)

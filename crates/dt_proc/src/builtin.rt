@@ -32,7 +32,12 @@ fn put(alloc: Global) -> Result<Proc, NoMemory>
 {
     let body = one(alloc, Stmt::Set(0, Expr::Var(1)))?;
     let keys = one_key(alloc, true)?;
-    Ok(Proc::new(named(alloc, b"put")?, kinds(alloc, &[Kind::Text, Kind::Int])?, keys, body))
+    Ok(Proc::new(
+        named(alloc, b"put")?,
+        kinds(alloc, &[Kind::Text, Kind::Int])?,
+        keys,
+        body,
+    ))
 }
 
 /// `proc note(k: text, v: text) write a = k; { set a = v; }`
@@ -41,7 +46,12 @@ fn note(alloc: Global) -> Result<Proc, NoMemory>
 {
     let body = one(alloc, Stmt::Set(0, Expr::Var(1)))?;
     let keys = one_key(alloc, true)?;
-    Ok(Proc::new(named(alloc, b"note")?, kinds(alloc, &[Kind::Text, Kind::Text])?, keys, body))
+    Ok(Proc::new(
+        named(alloc, b"note")?,
+        kinds(alloc, &[Kind::Text, Kind::Text])?,
+        keys,
+        body,
+    ))
 }
 
 /// `proc get(k: text) read a = k; { give row(a); }`
@@ -50,7 +60,12 @@ fn get(alloc: Global) -> Result<Proc, NoMemory>
 {
     let body = one(alloc, Stmt::Give(gift(alloc, Give::Row(0))?))?;
     let keys = one_key(alloc, false)?;
-    Ok(Proc::new(named(alloc, b"get")?, kinds(alloc, &[Kind::Text])?, keys, body))
+    Ok(Proc::new(
+        named(alloc, b"get")?,
+        kinds(alloc, &[Kind::Text])?,
+        keys,
+        body,
+    ))
 }
 
 /// `proc del(k: text) write a = k; { clear a; }`
@@ -59,7 +74,12 @@ fn del(alloc: Global) -> Result<Proc, NoMemory>
 {
     let body = one(alloc, Stmt::Clear(0))?;
     let keys = one_key(alloc, true)?;
-    Ok(Proc::new(named(alloc, b"del")?, kinds(alloc, &[Kind::Text])?, keys, body))
+    Ok(Proc::new(
+        named(alloc, b"del")?,
+        kinds(alloc, &[Kind::Text])?,
+        keys,
+        body,
+    ))
 }
 
 /// `proc add(k: text, n: int) write a = k; { if has(a) { set a = int(a) + n; } else { set a = n; } give int(a); }`
@@ -72,7 +92,12 @@ fn add(alloc: Global) -> Result<Proc, NoMemory>
     let mut body = one(alloc, Stmt::If(Expr::Has(0), there, absent))?;
     body.push(Stmt::Give(gift(alloc, Give::Value(Expr::IntOf(0)))?))?;
     let keys = one_key(alloc, true)?;
-    Ok(Proc::new(named(alloc, b"add")?, kinds(alloc, &[Kind::Text, Kind::Int])?, keys, body))
+    Ok(Proc::new(
+        named(alloc, b"add")?,
+        kinds(alloc, &[Kind::Text, Kind::Int])?,
+        keys,
+        body,
+    ))
 }
 
 /// `proc div(k: text, n: int) read a = k; { give int(a) / n; }`
@@ -82,7 +107,12 @@ fn div(alloc: Global) -> Result<Proc, NoMemory>
     let quotient = binary(alloc, Op::Div, Expr::IntOf(0), Expr::Var(1))?;
     let body = one(alloc, Stmt::Give(gift(alloc, Give::Value(quotient))?))?;
     let keys = one_key(alloc, false)?;
-    Ok(Proc::new(named(alloc, b"div")?, kinds(alloc, &[Kind::Text, Kind::Int])?, keys, body))
+    Ok(Proc::new(
+        named(alloc, b"div")?,
+        kinds(alloc, &[Kind::Text, Kind::Int])?,
+        keys,
+        body,
+    ))
 }
 
 /// `proc sum(x: text, y: text) read a = x; read b = y; { give int(a) + int(b); }`
@@ -92,7 +122,12 @@ fn sum(alloc: Global) -> Result<Proc, NoMemory>
     let total = binary(alloc, Op::Add, Expr::IntOf(0), Expr::IntOf(1))?;
     let body = one(alloc, Stmt::Give(gift(alloc, Give::Value(total))?))?;
     let keys = two_keys(alloc, false)?;
-    Ok(Proc::new(named(alloc, b"sum")?, kinds(alloc, &[Kind::Text, Kind::Text])?, keys, body))
+    Ok(Proc::new(
+        named(alloc, b"sum")?,
+        kinds(alloc, &[Kind::Text, Kind::Text])?,
+        keys,
+        body,
+    ))
 }
 
 /// `proc xfer(from: text, to: text, n: int) write a = from; write b = to; { if int(a) < n { abort "funds"; }

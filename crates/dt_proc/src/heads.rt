@@ -118,10 +118,7 @@ fn int_param(scope: &Scope, place: u32, name: &Name) -> Result<u32, ProcError>
 }
 
 /// A shown parameter in brackets, as a part of a key expression.
-fn shown_part<'a>(
-    scope: &Scope,
-    tokens: &'a [Placed],
-) -> Result<(KeyItem, &'a [Placed]), ProcError>
+fn shown_part<'a>(scope: &Scope, tokens: &'a [Placed]) -> Result<(KeyItem, &'a [Placed]), ProcError>
     ensures shorter { IfOk result (λ r. length r.1.now < length tokens.now) }
     ensures right { (p : ℕ) (b : Bracketed) (rest : List Placed) → bracketed_tokens b ++ rest ≡ tokens.now
         → walked.Answers (checked.check_part scope.now (syn.show_part p b)) rest (walked.part_shown result) }
@@ -164,13 +161,7 @@ fn after_join(tokens: &[Placed]) -> Option<&[Placed]>
 {
     match tokens {
         [first, rest @ ..] => match &first.token {
-            Token::Op(op) => {
-                if op.is_join() {
-                    Some(rest)
-                } else {
-                    None
-                }
-            }
+            Token::Op(op) => { if op.is_join() { Some(rest) } else { None } }
             _ => None,
         },
         [] => None,

@@ -57,10 +57,7 @@ fn is_blank(byte: u8) -> bool
 
 /// The token that some bytes begin with, the longest one, and how many bytes it takes; `None` where
 /// none begins there.
-pub(crate) fn front_token(
-    alloc: Global,
-    bytes: &[u8],
-) -> Result<Option<(Token, usize)>, NoMemory>
+pub(crate) fn front_token(alloc: Global, bytes: &[u8]) -> Result<Option<(Token, usize)>, NoMemory>
     requires { length bytes.now < 2 ^ 32 }
     ensures { IfOk result (λ found. found ≡ tokens.front_token bytes.now) }
 {

@@ -7,9 +7,11 @@ mod counts;
 mod error;
 mod first_pass;
 mod heads;
+mod laws;
 mod lexer;
 mod machine;
 mod procs;
+mod reader;
 mod scope;
 mod steps;
 mod token;
@@ -18,5 +20,12 @@ mod walk;
 
 pub use builtin::builtin_procs;
 pub use error::ProcError;
+pub use laws::texts_have_one_outcome;
 pub use procs::{Proc, Procs};
+pub use reader::read_procs;
 pub use tree::{Expr, Give, Gives, KeyDecl, KeyItem, KeyItems, Kind, Op, Sort, Stmt, Stmts};
+
+#[cfg(test)]
+mod printed;
+#[cfg(test)]
+mod tests;

@@ -72,7 +72,13 @@ fn tails(level: u8) -> &'static [Sym]
     ensures { result.now ≡ machine.tails level }
 {
     match level {
-        0 => &[Sym::Tail(4), Sym::Tail(3), Sym::Tail(2), Sym::Tail(1), Sym::Tail(0)],
+        0 => &[
+            Sym::Tail(4),
+            Sym::Tail(3),
+            Sym::Tail(2),
+            Sym::Tail(1),
+            Sym::Tail(0),
+        ],
         1 => &[Sym::Tail(4), Sym::Tail(3), Sym::Tail(2), Sym::Tail(1)],
         2 => &[Sym::Tail(4), Sym::Tail(3), Sym::Tail(2)],
         3 => &[Sym::Tail(4), Sym::Tail(3)],
@@ -168,7 +174,10 @@ fn statement(token: &Token) -> Step<'static>
         Token::Let => Step::Takes(ASSIGNMENT, NO_TAIL),
         Token::Set => Step::Takes(ASSIGNMENT, NO_TAIL),
         Token::Clear => Step::Takes(&[Sym::Name, Sym::Semicolon, Sym::Statements], NO_TAIL),
-        Token::If => Step::Takes(&[Sym::Level(0), Sym::Begin, Sym::Statements, Sym::AfterIf], NO_TAIL),
+        Token::If => Step::Takes(
+            &[Sym::Level(0), Sym::Begin, Sym::Statements, Sym::AfterIf],
+            NO_TAIL,
+        ),
         Token::Abort => Step::Takes(&[Sym::Text, Sym::Semicolon, Sym::Statements], NO_TAIL),
         Token::Give => Step::Takes(&[Sym::Item, Sym::MoreItems, Sym::Statements], NO_TAIL),
         Token::End => TAKEN,
@@ -177,7 +186,13 @@ fn statement(token: &Token) -> Step<'static>
 }
 
 /// What follows `let` and `set`.
-const ASSIGNMENT: &[Sym] = &[Sym::Name, Sym::Is, Sym::Level(0), Sym::Semicolon, Sym::Statements];
+const ASSIGNMENT: &[Sym] = &[
+    Sym::Name,
+    Sym::Is,
+    Sym::Level(0),
+    Sym::Semicolon,
+    Sym::Statements,
+];
 
 /// What follows the word of a key.
 const KEY: &[Sym] = &[Sym::Name, Sym::Is, Sym::Part, Sym::MoreParts, Sym::MoreKeys];
@@ -189,7 +204,10 @@ fn head(sym: Sym, token: &Token) -> Step<'static>
 {
     match sym {
         Sym::Procs => match token {
-            Token::Proc => Step::Takes(&[Sym::Name, Sym::Open, Sym::Params, Sym::Keys, Sym::Procs], NO_TAIL),
+            Token::Proc => Step::Takes(
+                &[Sym::Name, Sym::Open, Sym::Params, Sym::Keys, Sym::Procs],
+                NO_TAIL,
+            ),
             _ => Step::Refuses,
         },
         Sym::Params => match token {
@@ -198,7 +216,10 @@ fn head(sym: Sym, token: &Token) -> Step<'static>
             _ => Step::Refuses,
         },
         Sym::MoreParams => match token {
-            Token::Comma => Step::Takes(&[Sym::Name, Sym::Colon, Sym::Kind, Sym::MoreParams], NO_TAIL),
+            Token::Comma => Step::Takes(
+                &[Sym::Name, Sym::Colon, Sym::Kind, Sym::MoreParams],
+                NO_TAIL,
+            ),
             Token::Close => TAKEN,
             _ => Step::Refuses,
         },

@@ -2,7 +2,6 @@ ghost use Rattle.std.specs.Prelude.{◌≡◌, ◌↔◌, ◌<◌, ◌≤◌, �
 ghost use Rattle.dt_proc.specs.Shown.{block_of};
 ghost use Rattle.dt_proc.specs.Sound.{IsSound, AreProcs};
 ghost use Rattle.dt_proc.specs.Tree.{joined, ProcTree};
-
 ghost use Rattle.std.specs.Cmp.Lexicographic.{pointwise};
 ghost use Rattle.dt_proc.specs.Names.{place_of_name};
 
@@ -36,14 +35,10 @@ impl Model for Proc {
 
 impl Proc {
     /// A procedure of these parts. Takes no memory.
-    pub(crate) fn new(
-        name: Name,
-        params: Listed<Kind>,
-        keys: Listed<KeyDecl>,
-        body: Stmts,
-    ) -> Self
+    pub(crate) fn new(name: Name, params: Listed<Kind>, keys: Listed<KeyDecl>, body: Stmts) -> Self
         requires { IsSound (record { name = name; params = params; keys = keys; body = body }) }
-        ensures { result ≡ record { name = name; params = params; keys = keys; body = body } }
+        ensures same { result ≡ record { name = name; params = params; keys = keys; body = body } }
+        ensures sound { IsSound result }
     {
         Proc {
             name,
@@ -119,7 +114,8 @@ impl Procs {
     /// These procedures. Takes no memory.
     pub(crate) fn from_vec(items: Vec<Proc>) -> Self
         requires { AreProcs items.items }
-        ensures { result ≡ items.items }
+        ensures same { result ≡ items.items }
+        ensures sound { AreProcs result }
     {
         Procs { items }
     }

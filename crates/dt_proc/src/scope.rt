@@ -1,10 +1,15 @@
-ghost use Rattle.std.specs.Prelude.{◌≡◌, ◌<◌, ◌≤◌, ◌^◌, [], ◌∷◌, ◌++◌, length, take, nat_eq, OnOk, OnErr, IfOk};
-ghost use Rattle.std.specs.Cmp.Lexicographic.{pointwise};
+ghost use Rattle.std.specs.Prelude.{◌≡◌, ◌-◌, ℕ, List, ◌<◌, ◌≤◌, ◌^◌, [], ◌∷◌, ◌++◌, length, take, nat_eq, OnOk, OnErr, IfOk};
+ghost use Rattle.std.specs.Ordering.{nat_cmp};
+ghost use Rattle.std.specs.Cmp.Lexicographic.{pointwise, slice_cmp};
+ghost use Rattle.std.specs.BTreeMap.{get};
 ghost use Rattle.dt_proc.specs.Names.{entry_of, meaning};
+ghost use Rattle.dt_proc.specs.Numbered.{AreNumbers, is_number};
+ghost use Rattle.dt_proc.specs.declared.tree.Sort.{Sort};
 
 use crate::tree::Sort;
 use dt_text::{Name, NoMemory};
 use std::alloc::Global;
+use std::collections::BTreeMap;
 use std::marker::Model;
 
 /// What a name means where it stands.
@@ -19,21 +24,27 @@ pub(crate) enum Meaning {
 }
 
 /// What is visible: variables with what they give, and keys with whether they may be written.
+///
+/// There may be very many variables, so they are found by a map; the keys of a procedure are few.
 #[derive(Drop)]
 pub(crate) struct Scope {
     variables: Vec<(Name, Sort)>,
+    /// For each name of a variable the first one that has it.
+    numbers: BTreeMap<Name, (u32, Sort)>,
     keys: Vec<(Name, bool)>,
 }
 
 impl Model for Scope {
     ghost use Rattle.dt_proc.specs.Names as names;
     ghost use Rattle.std.specs.Prelude.{◌<◌, ◌^◌, length};
+    ghost use Rattle.dt_proc.specs.Numbered.{AreNumbers};
 
     ghost Value = { names.Scope };
 
     ghost view = { λ s. record { variables = s.variables.items; keys = s.keys.items } };
 
-    ghost invariant = { λ s. (length s.variables.items < 2 ^ 32) × (length s.keys.items < 2 ^ 32) };
+    ghost invariant = { λ s. (length s.variables.items < 2 ^ 32) × (length s.keys.items < 2 ^ 32)
+        × AreNumbers s.numbers s.variables.items };
 }
 
 impl Scope {
@@ -43,6 +54,7 @@ impl Scope {
     {
         Scope {
             variables: Vec::new(alloc),
+            numbers: BTreeMap::new(alloc),
             keys: Vec::new(alloc),
         }
     }
@@ -51,8 +63,8 @@ impl Scope {
     pub(crate) fn meaning(&self, name: &Name) -> Meaning
         ensures { result ≡ meaning self.now name.now }
     {
-        if let Some((number, sort)) = variable_in(self.variables.as_slice(), name.bytes()) {
-            return Meaning::Variable(number, sort);
+        if let Some((number, sort)) = self.numbers.get(name) {
+            return Meaning::Variable(*number, *sort);
         }
         match key_in(self.keys.as_slice(), name.bytes()) {
             Some((number, write)) => Meaning::Key(number, write),
@@ -79,8 +91,14 @@ impl Scope {
         if self.variables.len() >= u32::MAX as usize {
             return Err(NoMemory);
         }
-        self.variables.push((name.copy(alloc)?, sort))?;
-        Ok(())
+        let number = self.variables.len() as u32;
+        let entry = (name.copy(alloc)?, sort);
+        self.variables.reserve(1)?;
+        note_number(alloc, &mut self.numbers, name, number, sort)?;
+        match self.variables.push(entry) {
+            Ok(()) => Ok(()),
+            Err(_) => unreachable!(),
+        }
     }
 
     /// Adds a key.
@@ -103,21 +121,50 @@ impl Scope {
     pub(crate) fn leave(&mut self, variables: usize)
         ensures { self.new ≡ record self.old { variables = take variables self.old.variables } }
     {
-        self.variables.truncate(variables);
+        while self.variables.len() > variables {
+            self.leave_last();
+        }
+    }
+
+    /// Removes the last variable, if there is one.
+    fn leave_last(&mut self)
+        ensures { self.new ≡ record self.old { variables = take (length self.old.variables - 1) self.old.variables } }
+    {
+        let Some((name, _)) = self.variables.pop() else {
+            return;
+        };
+        if has_number(&self.numbers, &name, self.variables.len()) {
+            self.numbers.remove(&name);
+        }
     }
 }
 
-/// The variable of a name, with its number.
-fn variable_in(entries: &[(Name, Sort)], name: &[u8]) -> Option<(u32, Sort)>
-    requires { length entries.now < 2 ^ 32 }
-    ensures { result ≡ entry_of entries.now name.now }
+/// Notes the number of a variable, where none before it has its name.
+fn note_number(
+    alloc: Global,
+    numbers: &mut BTreeMap<Name, (u32, Sort)>,
+    name: &Name,
+    number: u32,
+    sort: Sort,
+) -> Result<(), NoMemory>
+    ensures added { (before : List (List ℕ × Sort)) → length before ≡ number → AreNumbers numbers.old before
+        → OnOk result (AreNumbers numbers.new (before ++ (name.now, sort) ∷ [])) }
+    ensures same { (before : List (List ℕ × Sort)) → AreNumbers numbers.old before → OnErr result (AreNumbers numbers.new before) }
 {
-    for (i, entry) in entries.iter().enumerate() {
-        if entry.0.bytes() == name {
-            return Some((i as u32, entry.1));
-        }
+    if !numbers.contains_key(name) {
+        numbers.insert(name.copy(alloc)?, (number, sort))?;
     }
-    None
+    Ok(())
+}
+
+/// Whether the first variable of a name has this number.
+fn has_number(numbers: &BTreeMap<Name, (u32, Sort)>, name: &Name, number: usize) -> bool
+    ensures { result ≡ is_number number (get (slice_cmp nat_cmp) numbers.now name.now) }
+{
+    match numbers.get(name) {
+        Some((first, _)) => *first as usize == number,
+        None => false,
+    }
 }
 
 /// The key of a name, with its number.

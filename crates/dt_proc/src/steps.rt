@@ -214,10 +214,7 @@ fn clear_step<'a>(scope: &Scope, tokens: &'a [Placed]) -> Result<(Stmt, &'a [Pla
 }
 
 /// An `abort`, after its word.
-fn abort_step<'a>(
-    alloc: Global,
-    tokens: &'a [Placed],
-) -> Result<(Stmt, &'a [Placed]), ProcError>
+fn abort_step<'a>(alloc: Global, tokens: &'a [Placed]) -> Result<(Stmt, &'a [Placed]), ProcError>
     ensures shorter { IfOk result (λ r. length r.1.now < length tokens.now) }
     ensures right { (s : names.Scope) (p q : ℕ) (t : List ℕ) (e : ℕ) (rest : List Placed) → at q (tok.Text t) ∷ at e tok.Semicolon ∷ rest ≡ tokens.now
         → walked.Answers (checked.check_statement s (syn.abort p q t e)) rest (walked.step_shown s result) }
@@ -325,7 +322,7 @@ fn if_step<'a>(
     ensures two { (x : Syntax) (b : ℕ) (ss : syn.Statements) (e w o : ℕ) (rs : syn.Statements) (f : ℕ) (rest : List Placed) → IsLevel 0 x
         → syn.AreStatements ss → syn.AreStatements rs
         → syntax_tokens x ++ at b tok.Begin ∷ (syn.statements_tokens ss ++ at e tok.End ∷ at w tok.Else ∷ at o tok.Begin
-            ∷ (syn.statements_tokens rs ++ at f tok.End ∷ rest)) ≡ tokens.now
+        ∷ (syn.statements_tokens rs ++ at f tok.End ∷ rest)) ≡ tokens.now
         → walked.Answers (checked.check_statement scope.old (syn.choose word x b ss e w o rs f)) rest (walked.step_shown scope.new result) }
 {
     let (test, sort, rest) = expression(alloc, scope, tokens, 0)?;

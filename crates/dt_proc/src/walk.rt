@@ -118,7 +118,14 @@ fn links<'a>(
     if !op.fits(sort, other) {
         return Err(ProcError::Kind(place));
     }
-    links(alloc, scope, binary(alloc, op, left, right)?, op.gives(), rest, level)
+    links(
+        alloc,
+        scope,
+        binary(alloc, op, left, right)?,
+        op.gives(),
+        rest,
+        level,
+    )
 }
 
 /// The operator of the level that comes first, with its place, and what follows it.
@@ -193,10 +200,7 @@ fn variable<'a>(
 }
 
 /// The number in the row of the key in brackets.
-fn int_of<'a>(
-    scope: &Scope,
-    tokens: &'a [Placed],
-) -> Result<(Expr, Sort, &'a [Placed]), ProcError>
+fn int_of<'a>(scope: &Scope, tokens: &'a [Placed]) -> Result<(Expr, Sort, &'a [Placed]), ProcError>
     ensures shorter { IfOk result (λ r. length r.2.now < length tokens.now) }
     ensures right { (b : Bracketed) (rest : List Placed) → bracketed_tokens b ++ rest ≡ tokens.now
         → walked.Answers (after_ok (checked.key_of scope.now b) (λ k. Ok (tree.number_of k, Sort.Int))) rest (walked.shown result) }
@@ -208,10 +212,7 @@ fn int_of<'a>(
 }
 
 /// The text in the row of the key in brackets.
-fn text_of<'a>(
-    scope: &Scope,
-    tokens: &'a [Placed],
-) -> Result<(Expr, Sort, &'a [Placed]), ProcError>
+fn text_of<'a>(scope: &Scope, tokens: &'a [Placed]) -> Result<(Expr, Sort, &'a [Placed]), ProcError>
     ensures shorter { IfOk result (λ r. length r.2.now < length tokens.now) }
     ensures right { (b : Bracketed) (rest : List Placed) → bracketed_tokens b ++ rest ≡ tokens.now
         → walked.Answers (after_ok (checked.key_of scope.now b) (λ k. Ok (tree.text_of k, Sort.Text))) rest (walked.shown result) }

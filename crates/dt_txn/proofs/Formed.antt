@@ -1,10 +1,13 @@
 -- A valid transaction has its keys in ascending order, each once.
-use Rattle.std.proofs.Common.{◌≡◌, ℕ, List, map, sym, subst}
+use Rattle.std.proofs.Common.{◌≡◌, ℕ, zero, suc, List, [], ◌∷◌, map, sym, subst}
+use Rattle.dt_lists.specs.Lists.{AllIn}
+use Rattle.dt_text.specs.Texts.{IsKey}
 use Rattle.dt_access.specs.Clash.{Bytes}
 use Rattle.dt_access.specs.Orders.{HasAscendingKeys}
 use Rattle.dt_access.specs.declared.Mode.{Mode}
 use Rattle.dt_proc.specs.Tree.{ProcTree}
-use Rattle.dt_eval.proofs.CallKeys.{call_keys_ascend}
+use Rattle.dt_eval.specs.Meaning.{IsFirstBad}
+use Rattle.dt_eval.proofs.CallLaws.{call_keys_ascend}
 use Rattle.dt_txn.specs.declared.txn.Body.{Body}
 use Rattle.dt_txn.specs.declared.txn.Body.TheVariants.{Call, Move}
 use Rattle.dt_txn.specs.declared.txn.Txn.{Txn}
@@ -25,3 +28,9 @@ formed procs regions txn valid = record {
   ascending = subst (λ (us : List (Bytes × Mode)). HasAscendingKeys us) (sym valid.uses) (uses_ascend procs txn.body);
   homes = valid.homes;
 }
+
+-- where all are keys, none is the first that is no key
+pub no_bad : (names : List Bytes) (i : ℕ) → AllIn IsKey names → IsFirstBad names i → ⊥
+no_bad [] i all bad = bad
+no_bad (name ∷ names) zero all bad = bad all.0
+no_bad (name ∷ names) (suc i) all bad = no_bad names i all.1 bad.1

@@ -1,3 +1,3 @@
-pub mod Cuts
-pub mod FirstLaws
-pub mod Loops
+mod Cuts
+mod Forms
+mod Steps

@@ -59,12 +59,12 @@ calls_in sessions = sum_by (λ s. length s.calls) sessions
 
 -- some lines are these sessions: they are the sessions' lines in order; sessions can be, their names differ, there are at most
 -- 64 at each region, and at most 20,000 calls and moves
-pub record AreSessions (cluster : Cluster) (file_lines : List FileLine) (sessions : List Session) : Type 0 where
-  pub lines : Pairwise (λ (l : FileLine) form. HasForm l.bytes form) file_lines (all_lines cluster.procs sessions)
-  pub sessions : AllIn (CanBeSession cluster) sessions
-  pub names_once : Distinct (names_in sessions)
-  pub few_sessions : (region : ℕ) → sessions_at region sessions ≤ 64
-  pub few_calls : calls_in sessions ≤ 20000
+pub record AreSessions (cluster : Cluster) (file_lines : List FileLine) (read : List Session) : Type 0 where
+  pub lines : Pairwise (λ (l : FileLine) form. HasForm l.bytes form) file_lines (all_lines cluster.procs read)
+  pub sessions : AllIn (CanBeSession cluster) read
+  pub names_once : Distinct (names_in read)
+  pub few_sessions : (region : ℕ) → sessions_at region read ≤ 64
+  pub few_calls : calls_in read ≤ 20000
 
 -- the bytes are this workload, in this cluster
 abbrev pub IsWorkload : Cluster → Bytes → Workload → Type 0

@@ -1,4 +1,4 @@
+pub mod File
+pub mod Lines
+pub mod Reading
 pub mod Valid
-pub mod FirstForm
-pub mod Fields
-pub mod Laws

@@ -1,17 +1,32 @@
 -- What the parts of the reader of workload files find.
-use Rattle.std.specs.Prelude.{◌≡◌, ◌≢◌, ℕ, ◌+◌, ◌<◌, ◌^◌, List, [], ◌∷◌, ◌++◌, Option, Some, None, MatchOption}
-use Rattle.std.specs.Option.{option_to_list}
+use Rattle.std.specs.Prelude.{◌≡◌, ◌≢◌, ℕ, ◌<◌, ◌≤◌, ◌^◌, List, [], ◌∷◌, ◌++◌, slice_get, Option, MatchOption, IsSome}
 use Rattle.std.specs.Fmt.{decimal}
 use Rattle.dt_workload.specs.Lines as lines
-use Rattle.dt_workload.specs.Lines.{Bytes, Said, bare, form_words, IsForm}
+use Rattle.dt_workload.specs.Lines.{Bytes, Said, bare, form_words, IsForm, HasForm}
+use Rattle.dt_workload.specs.File.{name_of, names_in, sessions_at, calls_in, Needs, NothingMore, FitsIf, GivesKeys}
+use Rattle.dt_proc.specs.Tree.{ProcTree}
+use Rattle.dt_text.specs.declared.Value.{Value}
+use Rattle.dt_lists.specs.Lists.{Has}
+use Rattle.dt_text.specs.Texts.{IsKey, IsName}
+use Rattle.dt_eval.specs.Calls.{CallFits}
+use Rattle.dt_eval.specs.Meaning.{HasKeys}
+use Rattle.dt_cluster.specs.declared.Cluster.{Cluster}
 use Rattle.dt_workload.specs.declared.form.Form.{Form}
-use Rattle.dt_workload.specs.declared.form.Form.TheVariants.{Session, Call, Move}
+use Rattle.dt_workload.specs.declared.form.Form.TheVariants as said_form
+use Rattle.dt_workload.specs.declared.draft.Draft.{Draft}
+use Rattle.dt_workload.specs.declared.error.WorkloadCause.{WorkloadCause}
+use Rattle.dt_workload.specs.declared.error.WorkloadCause.TheVariants as cause
+use Rattle.dt_workload.specs.declared.error.Refusal.{Refusal}
+use Rattle.dt_workload.specs.declared.error.Refusal.TheVariants.{Cause, NoMemory}
+use Rattle.dt_workload.specs.declared.workload.Wanted.{Wanted}
+use Rattle.dt_workload.specs.declared.workload.Wanted.TheVariants.{Call, Move}
+use Rattle.dt_workload.specs.declared.workload.Session.{Session}
 
 -- the form that is read
 abbrev pub form_of : Form → lines.Form
-form_of (Session name region) = lines.session_line name.now region
-form_of (Call name args) = lines.call_line name.now args
-form_of (Move key region) = lines.move_line key.now region
+form_of (said_form.Session name region) = lines.session_line name.now region
+form_of (said_form.Call name args) = lines.call_line name.now args
+form_of (said_form.Move key region) = lines.move_line key.now region
 
 -- the answer is the form that these words say, and none where they say none
 abbrev pub ReadsForm : List Said → Option Form → Type 0
@@ -23,3 +38,45 @@ abbrev pub ReadsRegion : Bytes → List Said → Option ℕ → Type 0
 ReadsRegion fixed words answer =
     MatchOption answer ((n : ℕ) → n < 2 ^ 32 → words ≢ bare fixed ∷ bare (decimal n) ∷ [])
     (λ n. (n < 2 ^ 32) × (words ≡ bare fixed ∷ bare (decimal n) ∷ []))
+
+-- a refusal is of a cause that is there, or memory ran out
+abbrev pub Refuses : (WorkloadCause → Type 0) → Refusal → Type 0
+Refuses IsCause (Cause why) = IsCause why
+Refuses IsCause NoMemory = Unit {0}
+
+-- the session with one more call or move
+abbrev pub wanting : Session → Wanted → Session
+wanting session wanted = record { name = session.name; region = session.region; calls = session.calls ++ wanted ∷ [] }
+
+-- the sessions after are those before, the last of which wants one thing more
+abbrev pub IsWithWanted : List Session → Wanted → List Session → Type 0
+IsWithWanted before wanted after =
+    (others : List Session) × (last : Session) × (before ≡ others ++ last ∷ []) × (after ≡ others ++ wanting last wanted ∷ [])
+
+-- a form goes on some sessions: a session is one more, and a call or a move is wanted by the last one
+abbrev pub FormGoesOn : Cluster → List Session → lines.Form → List Session → Type 0
+FormGoesOn cluster before (lines.session_line name region) after =
+    IsName name × ¬ (Has (names_in before) name) × (region < cluster.regions) × (sessions_at region before < 64)
+    × (after ≡ before ++ record { name = name; region = region; calls = [] } ∷ [])
+FormGoesOn cluster before (lines.call_line name args) after =
+    (number : ℕ) × (name_of (slice_get cluster.procs number) ≡ name) × CallFits cluster.procs number args
+    × (calls_in before < 20000) × IsWithWanted before (Call number args) after
+FormGoesOn cluster before (lines.move_line key target) after =
+    IsKey key × (target < cluster.regions) × (calls_in before < 20000) × IsWithWanted before (Move key target) after
+
+-- a line goes on some sessions: by its form
+abbrev pub LineGoesOn : Cluster → List Session → Bytes → List Session → Type 0
+LineGoesOn cluster before line after = (form : lines.Form) × HasForm line form × FormGoesOn cluster before form after
+
+-- no call of this procedure, if there is one: it needs one, arguments that fit it, and keys
+abbrev pub IsNoCall : Option ProcTree → List Value → WorkloadCause → Type 0
+IsNoCall proc args told =
+    Needs (IsSome proc) cause.Proc (Needs (FitsIf proc args) cause.Args (Needs (GivesKeys proc args) cause.Key NothingMore)) told
+
+-- the arguments give no key
+abbrev pub IsNoKey : ProcTree → List Value → WorkloadCause → Type 0
+IsNoKey proc args told = (told ≡ cause.Key) × ¬ (HasKeys proc args)
+
+-- the calls and moves are counted, and not too many
+abbrev pub IsCounted : Draft → Type 0
+IsCounted draft = (draft.made ≡ calls_in draft.sessions.items) × (calls_in draft.sessions.items ≤ 20000)

@@ -56,10 +56,10 @@ loop-at-preserved c =
     let gap = c.gap_end-at-in-loop-at.ensures in
     subst (λ ts. Reading c.args.text.now ts (reverse c.advance.new.stack.items) c.add.new.self c.gap_end-at-in-loop-at.result) (sym c.in_ok-push-2.ensures.items)
     (reads_on c.args.text.now c.loop-at.tokens.items (reverse c.loop-at.stack.items) (reverse c.advance.new.stack.items) c.loop-at.counts c.add.new.self c.loop-at.at
-      c.gap_end-at-in-loop-at.result c.in-Some.size c.in-Some.token c.loop-at.invariant c.loop-at-test.true front goes
-      (sym (c.is_too_many.ensures (backwards c.loop-at.tokens.items []) c.loop-at.invariant.counted) ∙ c.if-is_too_many.false)
-      (c.add.ensures (backwards c.loop-at.tokens.items []) (at c.loop-at.at c.in-Some.token) c.loop-at.invariant.counted refl)
-      gap.after gap.within gap.same gap.starts)
+    c.gap_end-at-in-loop-at.result c.in-Some.size c.in-Some.token c.loop-at.invariant c.loop-at-test.true front goes
+    (sym (c.is_too_many.ensures (backwards c.loop-at.tokens.items []) c.loop-at.invariant.counted) ∙ c.if-is_too_many.false)
+    (c.add.ensures (backwards c.loop-at.tokens.items []) (at c.loop-at.at c.in-Some.token) c.loop-at.invariant.counted refl)
+    gap.after gap.within gap.same gap.starts)
 
 pub returns-then-is_whole-clause-ok : goal.returns-then-is_whole-clause-ok
 returns-then-is_whole-clause-ok c =

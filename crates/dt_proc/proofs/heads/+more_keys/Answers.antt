@@ -19,7 +19,7 @@ returns-in_ok-rest-in-Read t c = λ ks b rest e.
     let k = key_first ks b rest c.first-item.result _ false c.in-Read.is (e ∙ cut_first c.args.tokens.now c.first-item.result c.in-len1-up.len_at_least c.first-item.is) in
     let told = c.in_ok-rest-in-Read.ensures.right k.key (flat_map key_tokens k.more ++ at b tok.Begin ∷ rest) k.mode k.cut in
     told_right _ _ rest _ (keys_next c.args.scope.now c.key.new.scope c.args.keys.now c.key.new.keys ks k.key k.more k.is told.0)
-      (c.more_keys.ensures k.more b rest (sym told.1))
+    (c.more_keys.ensures k.more b rest (sym told.1))
 
 pub returns-in_err-rest-in-Write : goal.returns-in_err-rest-in-Write
 returns-in_err-rest-in-Write t c = λ ks b rest e.
@@ -33,10 +33,10 @@ returns-in_ok-rest-in-Write t c = λ ks b rest e.
     let k = key_first ks b rest c.first-item.result _ true c.in-Write.is (e ∙ cut_first c.args.tokens.now c.first-item.result c.in-len1-up.len_at_least c.first-item.is) in
     let told = c.in_ok-rest-in-Write.ensures.right k.key (flat_map key_tokens k.more ++ at b tok.Begin ∷ rest) k.mode k.cut in
     told_right _ _ rest _ (keys_next c.args.scope.now c.key-in-Write.new.scope c.args.keys.now c.key-in-Write.new.keys ks k.key k.more k.is told.0)
-      (c.more_keys-in-Write.ensures k.more b rest (sym told.1))
+    (c.more_keys-in-Write.ensures k.more b rest (sym told.1))
 
 pub returns-in_default-token : goal.returns-in_default-token
 returns-in_default-token t c = λ ks b rest e.
     let n = key_none ks b rest c.first-item.result _ c.in_default-token.not-Read c.in_default-token.not-Write
-      (e ∙ cut_first c.args.tokens.now c.first-item.result c.in-len1-up.len_at_least c.first-item.is) in
+    (e ∙ cut_first c.args.tokens.now c.first-item.result c.in-len1-up.len_at_least c.first-item.is) in
     (keys_end c.args.scope.now c.args.keys.now ks n.0, n.1)

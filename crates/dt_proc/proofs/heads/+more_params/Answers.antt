@@ -21,7 +21,7 @@ returns-in_ok-rest-in-Some-clause-right t c = λ more q rest e.
     let k = more_next tok.Comma param_tokens more q tok.Close rest comma.0 c.in-Some.rest.now c.args.tokens.now no_comma_close e comma.1 in
     let told = c.in_ok-rest-in-Some.ensures.right k.one (flat_map comma_param k.more ++ at q tok.Close ∷ rest) k.cut in
     more_params_told c.args.scope.now c.param.new.scope c.more_params.new.scope c.args.kinds.now c.param.new.kinds c.more_params.new.kinds more rest c.more_params.result
-      k.joined_at k.one k.more k.is told.0.0 told.1 (c.more_params.ensures.right k.more q rest (sym told.0.1))
+    k.joined_at k.one k.more k.is told.0.0 told.1 (c.more_params.ensures.right k.more q rest (sym told.0.1))
 
 pub returns-in-None-clause-right : goal.returns-in-None-clause-right
 returns-in-None-clause-right t c = λ more q rest e.

@@ -23,7 +23,7 @@ returns-in_ok-push-in-Some-clause-right t c = λ more q rest e.
     let k = more_next (tok.Op op.Join) part_tokens more q tok.Semicolon rest join.0 c.in-Some.rest.now c.args.tokens.now no_join_semicolon e join.1 in
     let told = c.in_ok-item-in-Some.ensures.right k.one (flat_map joined_part k.more ++ at q tok.Semicolon ∷ rest) k.cut in
     told_right _ _ rest _ (parts_told c.args.scope.now more c.args.items.now c.push.new.self k.joined_at k.one k.more c.in_ok-item-in-Some.item k.is told.0 c.in_ok-push-in-Some.ensures.added)
-      (c.more_parts.ensures.right k.more q rest (sym told.1))
+    (c.more_parts.ensures.right k.more q rest (sym told.1))
 
 pub returns-in-None-clause-right : goal.returns-in-None-clause-right
 returns-in-None-clause-right t c = λ more q rest e.

@@ -14,7 +14,7 @@ returns-in_err-rest c = λ ps q rest e.
     let k = params_first ps q rest c.args.tokens.now e c.in_default.ensures.right in
     let told = c.in_err-rest.ensures.right k.one (flat_map comma_param k.more ++ at q tok.Close ∷ rest) k.cut in
     rw (p.1, p.2) (params_first_fault ps k.one k.more (flat_map comma_param k.more ++ at q tok.Close ∷ rest) rest _ k.is
-      (subst (λ s. Answers (check_param s k.one) (flat_map comma_param k.more ++ at q tok.Close ∷ rest) (Err c.in_err-rest.field-0.0)) c.new-scope.ensures told.0))
+    (subst (λ s. Answers (check_param s k.one) (flat_map comma_param k.more ++ at q tok.Close ∷ rest) (Err c.in_err-rest.field-0.0)) c.new-scope.ensures told.0))
 
 pub returns-in_err-rest-2 : goal.returns-in_err-rest-2
 returns-in_err-rest-2 c = λ ps q rest e.
@@ -28,7 +28,8 @@ pub returns : goal.returns
 returns c = λ ps q rest e.
     let k = params_first ps q rest c.args.tokens.now e c.in_default.ensures.right in
     let told = c.in_ok-rest.ensures.right k.one (flat_map comma_param k.more ++ at q tok.Close ∷ rest) k.cut in
-    let others = c.in_ok-rest-2.ensures.right k.more q rest (sym told.0.1) in
-    (params_told_is ps c.param.new.scope c.more_params.new.scope k.one k.more c.param.new.kinds c.more_params.new.kinds k.is
-      (ap (λ s. check_param s k.one) (sym c.new-scope.ensures) ∙ told.0.0) others.0.0 (told.1 ∙ ap (λ v. v ++ k.one.kind ∷ []) c.new-kinds.ensures) others.1,
-      others.0.1)
+    let others = c.in_ok-rest-2.ensures.right k.more q rest (sym told.0.1) in (
+      params_told_is ps c.param.new.scope c.more_params.new.scope k.one k.more c.param.new.kinds c.more_params.new.kinds k.is
+          (ap (λ s. check_param s k.one) (sym c.new-scope.ensures) ∙ told.0.0) others.0.0 (told.1 ∙ ap (λ v. v ++ k.one.kind ∷ []) c.new-kinds.ensures) others.1,
+      others.0.1,
+    )

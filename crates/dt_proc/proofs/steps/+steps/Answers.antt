@@ -40,8 +40,8 @@ pub step-returns-in_default-token : goal.step-returns-in_default-token
 step-returns-in_default-token t c = record {
   shorter = tt;
   right = λ s rest h no e.
-    let k = step_when s rest c.args.tokens.now c.first-item.result c.first-item.result.token h c.in-len1-up.len_at_least c.first-item.is e refl in
-    absurd (no_statement c.first-item.result.token c.first-item.result.place _ s rest c.in_default-token.not-Let c.in_default-token.not-Set
+      let k = step_when s rest c.args.tokens.now c.first-item.result c.first-item.result.token h c.in-len1-up.len_at_least c.first-item.is e refl in
+      absurd (no_statement c.first-item.result.token c.first-item.result.place _ s rest c.in_default-token.not-Let c.in_default-token.not-Set
       c.in_default-token.not-Clear c.in_default-token.not-If c.in_default-token.not-Abort c.in_default-token.not-Give k);
 }
 
@@ -58,10 +58,10 @@ block-steps-preserved t c = record {
   shorter = omega (arith, c.in_ok-stmt.ensures.shorter, c.steps.invariant.shorter);
   outer = c.steps.invariant.outer;
   right = λ ss e rest h is.
-    let before = c.steps.invariant.right ss e rest h is in
-    let n = not_ended c.args.scope.now c.steps.scope (check_block c.args.scope.now ss) c.steps.stmts c.steps.rest.now e rest c.steps-test.ensures before in
-    let told = c.in_ok-stmt.ensures.right n.step (statements_tokens n.more ++ at e tok.End ∷ rest) n.good n.follows n.cut in
-    step_told c.args.scope.now c.steps.scope c.step.new.scope (check_block c.args.scope.now ss) c.steps.stmts c.push.new.self c.steps.rest.now e rest
+      let before = c.steps.invariant.right ss e rest h is in
+      let n = not_ended c.args.scope.now c.steps.scope (check_block c.args.scope.now ss) c.steps.stmts c.steps.rest.now e rest c.steps-test.ensures before in
+      let told = c.in_ok-stmt.ensures.right n.step (statements_tokens n.more ++ at e tok.End ∷ rest) n.good n.follows n.cut in
+      step_told c.args.scope.now c.steps.scope c.step.new.scope (check_block c.args.scope.now ss) c.steps.stmts c.push.new.self c.steps.rest.now e rest
       (step_of c.in_ok-stmt.stmt) c.in_ok-stmt.after.now before.4 n told.0 c.in_ok-push.ensures.added told.1;
 }
 
@@ -70,12 +70,16 @@ block-returns-in_err-stmt-clause-right t c = λ ss e rest h is.
     let p = err_from_is_err_and c.from_residual.result c.from_residual.ensures.1 in
     let before = c.steps.invariant.right ss e rest h is in
     let n = not_ended c.args.scope.now c.steps.scope (check_block c.args.scope.now ss) c.steps.stmts c.steps.rest.now e rest c.steps-test.ensures before in
-    rw (p.1, p.2) (step_fault c.steps.scope (check_block c.args.scope.now ss) c.steps.stmts c.steps.rest.now e rest (statements_tokens n.more ++ at e tok.End ∷ rest) _ n
-      (c.in_err-stmt.ensures.right n.step (statements_tokens n.more ++ at e tok.End ∷ rest) n.good n.follows n.cut), tt)
+    rw (p.1, p.2) (
+      step_fault c.steps.scope (check_block c.args.scope.now ss) c.steps.stmts c.steps.rest.now e rest (statements_tokens n.more ++ at e tok.End ∷ rest) _ n
+          (c.in_err-stmt.ensures.right n.step (statements_tokens n.more ++ at e tok.End ∷ rest) n.good n.follows n.cut),
+      tt,
+    )
 
 pub block-returns-clause-right : goal.block-returns-clause-right
 block-returns-clause-right t c = λ ss e rest h is.
-    let end = ended c.args.scope.now c.steps.scope (check_block c.args.scope.now ss) c.steps.stmts c.steps.rest.now e rest c.steps-test.ensures (c.steps.invariant.right ss e rest h is) in
-    ((end.0 ∙ ap Ok (sym c.stmts-2.view_is), c.in_ok-after_one.ensures.right (at e tok.End) rest end.1),
+    let end = ended c.args.scope.now c.steps.scope (check_block c.args.scope.now ss) c.steps.stmts c.steps.rest.now e rest c.steps-test.ensures (c.steps.invariant.right ss e rest h is) in (
+      (end.0 ∙ ap Ok (sym c.stmts-2.view_is), c.in_ok-after_one.ensures.right (at e tok.End) rest end.1),
       c.leave.ensures ∙ ap (λ n. record c.steps.scope { variables = take n c.steps.scope.variables }) c.variables-outer.ensures
-      ∙ left_as_before c.args.scope.now c.steps.scope end.2)
+          ∙ left_as_before c.args.scope.now c.steps.scope end.2,
+    )

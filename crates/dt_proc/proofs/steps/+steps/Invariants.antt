@@ -23,7 +23,7 @@ invariant-block-steps l = record {
   shorter : length l.rest ≤ length l.tokens;
   outer : l.outer ≡ length l.initial.scope.variables;
   right : (ss : Statements) (e : ℕ) (rest : List Placed) → AreStatements ss → statements_tokens ss ++ at e tok.End ∷ rest ≡ l.tokens →
-    StepsLeft l.initial.scope l.scope (check_block l.initial.scope ss) l.stmts l.rest e rest;
+      StepsLeft l.initial.scope l.scope (check_block l.initial.scope ss) l.stmts l.rest e rest;
 }
 
 abbrev pub decreases-block-steps : goal.decreases-block-steps

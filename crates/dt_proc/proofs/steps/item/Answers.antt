@@ -12,7 +12,7 @@ pub returns-in_default-token : goal.returns-in_default-token
 returns-in_default-token c = record {
   shorter = c.value_of.ensures.shorter;
   right = λ i rest h stop e.
-    let cut = cut_first c.args.tokens.now c.first-item.result c.in-len1-up.len_at_least c.first-item.is in
-    let s = item_value c.args.scope.now i rest c.first-item.result _ (e ∙ cut) h c.in_default-token.not-Row in
-    told_right _ _ _ _ s.2 (c.value_of.ensures.right s.0 rest s.1 stop (s.3 ∙ sym cut));
+      let cut = cut_first c.args.tokens.now c.first-item.result c.in-len1-up.len_at_least c.first-item.is in
+      let s = item_value c.args.scope.now i rest c.first-item.result _ (e ∙ cut) h c.in_default-token.not-Row in
+      told_right _ _ _ _ s.2 (c.value_of.ensures.right s.0 rest s.1 stop (s.3 ∙ sym cut));
 }

@@ -11,8 +11,8 @@ abbrev pub invariant-loop-after : goal.invariant-loop-after
 invariant-loop-after l = record {
   shorter : length l.rest < length l.tokens;
   right : (i : Item) (more : List (ℕ × Item)) (e : ℕ) (rest : List Placed) → IsItem i → AreItems more →
-    items_tokens i more ++ at e tok.Semicolon ∷ rest ≡ l.tokens →
-    ItemsLeft l.scope (check_all_items l.scope i more) (map gift_of l.gives) l.rest e rest;
+      items_tokens i more ++ at e tok.Semicolon ∷ rest ≡ l.tokens →
+      ItemsLeft l.scope (check_all_items l.scope i more) (map gift_of l.gives) l.rest e rest;
 }
 
 abbrev pub decreases-loop-after : goal.decreases-loop-after

@@ -15,16 +15,16 @@ expression-returns-in_err-first-clause-right t c = λ x rest h stop e.
     let p = err_from_is_err_and c.from_residual.result c.from_residual.ensures.1 in
     let k = chain_shape x c.args.level (omega arith) h in
     rw (p.1, p.2, k.is) (err_then (check c.args.scope.now k.head) (λ a. check_links c.args.scope.now a k.links) (links_tokens k.links ++ rest) rest _
-      (c.in_err-first.ensures.right k.head (links_tokens k.links ++ rest) k.level (links_stop k.links c.args.level rest k.good stop)
-      (chain_cut k.head k.links rest c.args.tokens.now (ap (λ v. syntax_tokens v ++ rest) (sym k.is) ∙ e))))
+    (c.in_err-first.ensures.right k.head (links_tokens k.links ++ rest) k.level (links_stop k.links c.args.level rest k.good stop)
+    (chain_cut k.head k.links rest c.args.tokens.now (ap (λ v. syntax_tokens v ++ rest) (sym k.is) ∙ e))))
 
 pub expression-returns-clause-right : goal.expression-returns-clause-right
 expression-returns-clause-right t c = λ x rest h stop e.
     let k = chain_shape x c.args.level (omega arith) h in
     let head = c.in_ok-first.ensures.right k.head (links_tokens k.links ++ rest) k.level (links_stop k.links c.args.level rest k.good stop)
-      (chain_cut k.head k.links rest c.args.tokens.now (ap (λ v. syntax_tokens v ++ rest) (sym k.is) ∙ e)) in
+    (chain_cut k.head k.links rest c.args.tokens.now (ap (λ v. syntax_tokens v ++ rest) (sym k.is) ∙ e)) in
     rw k.is (ok_then (check c.args.scope.now k.head) _ (λ a. check_links c.args.scope.now a k.links) rest _ head.0
-      (c.links.ensures.right k.links rest k.good stop (sym head.1)))
+    (c.links.ensures.right k.links rest k.good stop (sym head.1)))
 
 pub links-returns-in_default-clause-right : goal.links-returns-in_default-clause-right
 links-returns-in_default-clause-right t c = λ ls rest h stop e.
@@ -53,8 +53,8 @@ pub operand-returns-in_default-token : goal.operand-returns-in_default-token
 operand-returns-in_default-token t c = record {
   shorter = tt;
   right = λ x rest h stop e.
-    let s = operand_when c.args.level c.args.scope.now x rest c.args.tokens.now c.first-item.result c.first-item.result.token c.requires.low h c.in-len1-up.len_at_least c.first-item.is e refl in
-    absurd (no_operand c.args.level c.args.scope.now c.first-item.result.token c.first-item.result.place _ x rest
+      let s = operand_when c.args.level c.args.scope.now x rest c.args.tokens.now c.first-item.result c.first-item.result.token c.requires.low h c.in-len1-up.len_at_least c.first-item.is e refl in
+      absurd (no_operand c.args.level c.args.scope.now c.first-item.result.token c.first-item.result.place _ x rest
       c.in_default-token.not-Name c.in_default-token.not-Int c.in_default-token.not-Text c.in_default-token.not-Op c.in_default-token.not-IntWord
       c.in_default-token.not-TextWord c.in_default-token.not-Has c.in_default-token.not-Len c.in_default-token.not-Show c.in_default-token.not-Not
       c.in_default-token.not-Truth c.in_default-token.not-Open s);
@@ -111,7 +111,7 @@ links-returns-in_err-right-clause-right t c = λ ls rest h stop e.
     let found = c.in-Some.ensures.right in
     let k = link_first c.args.level c.in-Some.place c.in-Some.op c.in-Some.after.now ls rest c.args.tokens.now h stop found.1 found.0 e in
     rw (p.1, p.2, k.is) (err_then (check c.args.scope.now k.x) _ (links_tokens k.more ++ rest) rest _
-      (c.in_err-right.ensures.right k.x (links_tokens k.more ++ rest) k.level (links_stop k.more c.args.level rest k.good stop) k.cut))
+    (c.in_err-right.ensures.right k.x (links_tokens k.more ++ rest) k.level (links_stop k.more c.args.level rest k.good stop) k.cut))
 
 pub links-returns-then-not-fits-clause-right : goal.links-returns-then-not-fits-clause-right
 links-returns-then-not-fits-clause-right t c = λ ls rest h stop e.
@@ -127,5 +127,5 @@ links-returns-clause-right t c = λ ls rest h stop e.
     let right = c.in_ok-right.ensures.right k.x (links_tokens k.more ++ rest) k.level (links_stop k.more c.args.level rest k.good stop) k.cut in
     told_right _ _ rest _
     (link_fits c.args.scope.now (formula_of c.args.left, c.args.sort) (formula_of c.in_ok-right.right, c.in_ok-right.other) (formula_of c.in_ok-binary.field-0, c.gives.result)
-      c.in-Some.place c.in-Some.op k.x k.more ls k.is right.0 (sym c.if-not-fits.ensures) (λ i. (c.in_ok-binary.ensures i, c.gives.ensures i)))
+    c.in-Some.place c.in-Some.op k.x k.more ls k.is right.0 (sym c.if-not-fits.ensures) (λ i. (c.in_ok-binary.ensures i, c.gives.ensures i)))
     (c.links.ensures.right k.more rest k.good stop (sym right.1))

@@ -1,0 +1,12 @@
+use Rattle.std.proofs.Common.{sym, subst}
+use Rattle.dt_proc.specs.Walked.{AreFewProcs}
+use Rattle.dt_proc.proofs.Together.{GivesAll, passed_few, outcome_second}
+use Rattle.dt_proc.proofs.reader.read_procs.Goals as goal
+
+pub procs-requires : goal.procs-requires
+procs-requires c = subst AreFewProcs (sym c.as_slice.ensures.value) (passed_few c.args.text.now c.in_ok-tokens.tokens.items c.in_ok-tokens.ensures.ok)
+
+pub returns-clause-outcome : goal.returns-clause-outcome
+returns-clause-outcome c =
+    outcome_second c.args.text.now c.in_ok-tokens.tokens.items c.procs.result c.in_ok-tokens.ensures.ok
+    (subst (λ v. GivesAll v c.procs.result) c.as_slice.ensures.value c.procs.ensures.gives)

@@ -1,0 +1,33 @@
+-- What a text of procedures gives: the procedures that it means, or the first fault in it.
+use Rattle.std.specs.Prelude.{◌≡◌, ℕ, List, [], Ok, Err}
+use Rattle.dt_proc.specs.declared.token.Placed.{Placed}
+use Rattle.dt_proc.specs.declared.error.ProcError.TheVariants as fault
+use Rattle.dt_proc.specs.Syntax.{ProcSyntax, AreProcs, procs_tokens}
+use Rattle.dt_proc.specs.Tree.{ProcTree}
+use Rattle.dt_proc.specs.Checked.{Told, check_procs}
+use Rattle.dt_proc.specs.Passes.{PassesFirst, IsSyntaxFault, IsTooMany}
+
+-- the text is without fault in the first pass, it spells these procedures of the grammar, and this is what the second pass
+-- tells of them
+pub record SecondTells (text : List ℕ) (told : Told (List ProcTree)) : Type 0 where
+  pub tokens : List Placed
+  pub passes : PassesFirst text tokens
+  pub spelled : List ProcSyntax
+  pub grammar : AreProcs spelled
+  pub spells : procs_tokens spelled ≡ tokens
+  pub tells : check_procs [] spelled ≡ told
+
+-- the outcome of a text: Syntax and TooMany where the first pass finds a fault, and else what the second pass tells, which
+-- is the procedures, or Twice, Unknown or Kind. Want of memory is the outcome of no text
+abbrev pub Outcome : List ℕ → Told (List ProcTree) → Type 0
+Outcome text (Err (fault.Syntax place)) = IsSyntaxFault text place
+Outcome text (Err (fault.TooMany place)) = IsTooMany text place
+Outcome text (Err fault.NoMemory) = ⊥
+Outcome text (Err (fault.Twice place)) = SecondTells text (Err (fault.Twice place))
+Outcome text (Err (fault.Unknown place)) = SecondTells text (Err (fault.Unknown place))
+Outcome text (Err (fault.Kind place)) = SecondTells text (Err (fault.Kind place))
+Outcome text (Ok procs) = SecondTells text (Ok procs)
+
+-- no text has two outcomes
+abbrev pub TextsHaveOneOutcome : Type 0
+TextsHaveOneOutcome = (text : List ℕ) (one other : Told (List ProcTree)) → Outcome text one → Outcome text other → one ≡ other

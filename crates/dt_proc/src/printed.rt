@@ -1,0 +1,181 @@
+//! Trees as texts, for tests: each operation stands in brackets, and what is named is shown by its number.
+
+use crate::procs::{Proc, Procs};
+use crate::tree::{Expr, Give, KeyDecl, KeyItem, Kind, Op, Stmt};
+use dt_text::{NoMemory, put_i64, put_text, put_u64};
+use std::alloc::Global;
+
+/// Procedures, with a space between them.
+pub(crate) fn put_procs(alloc: Global, out: &mut Vec<u8>, procs: &Procs) -> Result<(), NoMemory> {
+    for (i, proc) in procs.as_slice().iter().enumerate() {
+        if i > 0 {
+            put(out, b" ")?;
+        }
+        put_proc(alloc, out, proc)?;
+    }
+    Ok(())
+}
+
+fn put_proc(alloc: Global, out: &mut Vec<u8>, proc: &Proc) -> Result<(), NoMemory> {
+    put(out, b"proc ")?;
+    put(out, proc.name().bytes())?;
+    put(out, b"(")?;
+    for (i, kind) in proc.params().iter().enumerate() {
+        if i > 0 {
+            put(out, b", ")?;
+        }
+        put(out, kind_word(*kind))?;
+    }
+    put(out, b") ")?;
+    for key in proc.keys() {
+        put_key(alloc, out, key)?;
+    }
+    put_block(alloc, out, proc.body())
+}
+
+fn kind_word(kind: Kind) -> &'static [u8] {
+    match kind {
+        Kind::Int => b"int",
+        Kind::Text => b"text",
+    }
+}
+
+fn put_key(alloc: Global, out: &mut Vec<u8>, key: &KeyDecl) -> Result<(), NoMemory> {
+    let word = if key.write {
+        b"write ".as_slice()
+    } else {
+        b"read ".as_slice()
+    };
+    put(out, word)?;
+    for (i, item) in key.items.as_slice().iter().enumerate() {
+        if i > 0 {
+            put(out, b" ++ ")?;
+        }
+        match item {
+            KeyItem::Text(text) => put_text(alloc, out, text)?,
+            KeyItem::Param(param) => put_number(alloc, out, b"p", *param)?,
+            KeyItem::Show(param) => put_number(alloc, out, b"s", *param)?,
+        }
+    }
+    put(out, b"; ")
+}
+
+#[cycle(printed)]
+fn put_block(alloc: Global, out: &mut Vec<u8>, stmts: &[Stmt]) -> Result<(), NoMemory> {
+    put(out, b"{")?;
+    for (i, stmt) in stmts.iter().enumerate() {
+        if i > 0 {
+            put(out, b" ")?;
+        }
+        put_stmt(alloc, out, stmt)?;
+    }
+    put(out, b"}")
+}
+
+#[cycle(printed)]
+fn put_stmt(alloc: Global, out: &mut Vec<u8>, stmt: &Stmt) -> Result<(), NoMemory> {
+    match stmt {
+        Stmt::Let(value) => {
+            put(out, b"let ")?;
+            put_expr(alloc, out, value)?;
+            put(out, b";")
+        }
+        Stmt::Set(key, value) => {
+            put_number(alloc, out, b"set ", *key)?;
+            put(out, b" ")?;
+            put_expr(alloc, out, value)?;
+            put(out, b";")
+        }
+        Stmt::Clear(key) => {
+            put_number(alloc, out, b"clear ", *key)?;
+            put(out, b";")
+        }
+        Stmt::If(test, then, otherwise) => {
+            put(out, b"if ")?;
+            put_expr(alloc, out, test)?;
+            put(out, b" ")?;
+            put_block(alloc, out, then.as_slice())?;
+            put(out, b" ")?;
+            put_block(alloc, out, otherwise.as_slice())
+        }
+        Stmt::Abort(text) => {
+            put(out, b"abort ")?;
+            put_text(alloc, out, text)?;
+            put(out, b";")
+        }
+        Stmt::Give(gives) => put_gives(alloc, out, gives.as_slice()),
+    }
+}
+
+fn put_gives(alloc: Global, out: &mut Vec<u8>, gives: &[Give]) -> Result<(), NoMemory> {
+    put(out, b"give ")?;
+    for (i, give) in gives.iter().enumerate() {
+        if i > 0 {
+            put(out, b", ")?;
+        }
+        match give {
+            Give::Row(key) => put_number(alloc, out, b"row", *key)?,
+            Give::Value(value) => put_expr(alloc, out, value)?,
+        }
+    }
+    put(out, b";")
+}
+
+fn put_expr(alloc: Global, out: &mut Vec<u8>, expr: &Expr) -> Result<(), NoMemory> {
+    match expr {
+        Expr::Int(number) => put_i64(alloc, out, *number),
+        Expr::Text(text) => put_text(alloc, out, text),
+        Expr::Bool(true) => put(out, b"true"),
+        Expr::Bool(false) => put(out, b"false"),
+        Expr::Var(variable) => put_number(alloc, out, b"v", *variable),
+        Expr::IntOf(key) => put_number(alloc, out, b"i", *key),
+        Expr::TextOf(key) => put_number(alloc, out, b"t", *key),
+        Expr::Has(key) => put_number(alloc, out, b"h", *key),
+        Expr::Len(text) => put_call(alloc, out, b"len(", text),
+        Expr::Show(number) => put_call(alloc, out, b"show(", number),
+        Expr::Neg(number) => put_call(alloc, out, b"-(", number),
+        Expr::Not(truth) => put_call(alloc, out, b"not(", truth),
+        Expr::Binary(op, left, right) => {
+            put(out, b"(")?;
+            put_expr(alloc, out, left)?;
+            put(out, op_word(*op))?;
+            put_expr(alloc, out, right)?;
+            put(out, b")")
+        }
+    }
+}
+
+fn put_call(alloc: Global, out: &mut Vec<u8>, front: &[u8], inner: &Expr) -> Result<(), NoMemory> {
+    put(out, front)?;
+    put_expr(alloc, out, inner)?;
+    put(out, b")")
+}
+
+fn op_word(op: Op) -> &'static [u8] {
+    match op {
+        Op::Or => b" or ",
+        Op::And => b" and ",
+        Op::Equal => b" == ",
+        Op::Differ => b" != ",
+        Op::Less => b" < ",
+        Op::AtMost => b" <= ",
+        Op::More => b" > ",
+        Op::AtLeast => b" >= ",
+        Op::Add => b" + ",
+        Op::Sub => b" - ",
+        Op::Join => b" ++ ",
+        Op::Mul => b" * ",
+        Op::Div => b" / ",
+        Op::Rem => b" % ",
+    }
+}
+
+fn put_number(alloc: Global, out: &mut Vec<u8>, front: &[u8], number: u32) -> Result<(), NoMemory> {
+    put(out, front)?;
+    put_u64(alloc, out, number as u64)
+}
+
+fn put(out: &mut Vec<u8>, bytes: &[u8]) -> Result<(), NoMemory> {
+    out.extend_from_slice(bytes)?;
+    Ok(())
+}

@@ -1,0 +1,168 @@
+-- What one line more makes of sessions.
+use Rattle.std.proofs.Common.{◌≡◌, ◌⊎◌, inl, inr, ℕ, zero, suc, ◌+◌, ◌<◌, ◌≤◌, ◌==◌, Bool, true, false, cond, nat_eq, List, [], ◌∷◌, ◌++◌, map, flat_map, length, get_or, slice_get, Option, Some, None, refl, ap, sym, ◌∙◌, subst, arith, position, count_by, append_assoc, append-nil}
+use Rattle.std.specs.List.{sum_by}
+use Rattle.std.specs.Option.{option_and_then}
+use Rattle.std.specs.Cmp.Lexicographic.{pointwise, bytes_decides}
+use Rattle.std.proofs.lemmas.List.Sums.{sum_by-append}
+use Rattle.std.proofs.lemmas.List.Quantifiers.{position-Some}
+use Rattle.std.proofs.lemmas.Option.{get_or_from_slice_get}
+use Rattle.std.proofs.lemmas.Bool.Decides.{nat_tests}
+use Rattle.dt_lists.specs.Lists.{AllIn, Distinct, EachThen, Has, Pairwise}
+use Rattle.dt_lists.proofs.Words.{all_append, all_append_left, all_append_right, all_get}
+use Rattle.dt_lists.proofs.Distinct.{distinct_push}
+use Rattle.dt_lists.proofs.Places.{has_place}
+use Rattle.dt_text.specs.Texts.{IsKey}
+use Rattle.dt_text.specs.Lines.{FileLine}
+use Rattle.dt_proc.specs.Tree.{ProcTree}
+use Rattle.dt_proc.specs.Names.{place_of_name}
+use Rattle.dt_eval.specs.Keys.{IsFirstBad}
+use Rattle.dt_cluster.specs.declared.Cluster.{Cluster}
+use Rattle.dt_workload.specs.Lines.{Bytes, Form, session_line, call_line, move_line, HasForm}
+use Rattle.dt_workload.specs.File.{name_of, wanted_line, session_lines, all_lines, CanBeWanted, CanBeSession, names_in, sessions_at, calls_in, AreSessions, proc_named}
+use Rattle.dt_workload.specs.Reading.{wanting, IsWithWanted, FormGoesOn, LineGoesOn}
+use Rattle.dt_workload.specs.Valid.{WantedFits, IsValidSession, IsValidWorkload}
+use Rattle.dt_workload.specs.declared.workload.Wanted.{Wanted}
+use Rattle.dt_workload.specs.declared.workload.Wanted.TheVariants.{Call, Move}
+use Rattle.dt_workload.specs.declared.workload.Session.{Session}
+use Rattle.dt_workload.specs.declared.workload.Workload.{Workload}
+
+-- texts of which one is no key are no keys
+pub bad_first : (names : List Bytes) (i : ℕ) → IsFirstBad names i → AllIn IsKey names → ⊥
+bad_first [] i bad keys = bad
+bad_first (name ∷ names) zero bad keys = bad keys.0
+bad_first (name ∷ names) (suc i) bad keys = bad_first names i bad.1 keys.1
+
+pub all_at : {A : Type 0} (P : A → Type 0) (xs : List A) (i : ℕ) (x : A) → AllIn P xs → slice_get xs i ≡ Some x → P x
+all_at P xs i x all is = all_get P xs all x (has_place xs i x is)
+
+-- the procedure at the place of a name has the name
+pub named_word : (procs : List ProcTree) (word : Bytes) (number : ℕ) (p : ProcTree) → place_of_name word procs ≡ Some number → slice_get procs number ≡ Some p → p.name ≡ word
+named_word procs word number p place is =
+    let found = position-Some (λ q. pointwise nat_eq q.name word) procs number p place in
+    (bytes_decides p.name word).0 (ap (λ q. pointwise nat_eq q.name word) (sym (get_or_from_slice_get procs number p p is)) ∙ found.1)
+
+pub found_proc : (cluster : Cluster) (word : Bytes) (number : ℕ) → place_of_name word cluster.procs ≡ Some number → proc_named cluster word ≡ slice_get cluster.procs number
+found_proc cluster word number place = ap (λ o. option_and_then (slice_get cluster.procs) o) place
+
+pairwise_more : {A B : Type 0} (R : A → B → Type 0) (xs : List A) (ys : List B) (x : A) (y : B) → Pairwise R xs ys → R x y → Pairwise R (xs ++ x ∷ []) (ys ++ y ∷ [])
+pairwise_more R [] [] x y h r = (r, tt)
+pairwise_more R [] (b ∷ ys) x y h r = absurd h
+pairwise_more R (a ∷ xs) [] x y h r = absurd h
+pairwise_more R (a ∷ xs) (b ∷ ys) x y h r = (h.0, pairwise_more R xs ys x y h.1 r)
+
+map_more : {A B : Type 0} (f : A → B) (xs ys : List A) → map f (xs ++ ys) ≡ map f xs ++ map f ys
+map_more f [] ys = refl
+map_more f (x ∷ xs) ys = ap (λ zs. f x ∷ zs) (map_more f xs ys)
+
+lines_more : (procs : List ProcTree) (others : List Session) (last : Session) → all_lines procs (others ++ last ∷ []) ≡ all_lines procs others ++ session_lines procs last
+lines_more procs [] last = append-nil (session_lines procs last)
+lines_more procs (s ∷ others) last = ap (λ ls. session_lines procs s ++ ls) (lines_more procs others last) ∙ sym (append_assoc (session_lines procs s) (all_lines procs others) (session_lines procs last))
+
+lines_wanting : (procs : List ProcTree) (others : List Session) (last : Session) (w : Wanted)
+    → all_lines procs (others ++ wanting last w ∷ []) ≡ all_lines procs (others ++ last ∷ []) ++ wanted_line procs w ∷ []
+lines_wanting procs others last w =
+    lines_more procs others (wanting last w)
+    ∙ ap (λ ls. all_lines procs others ++ session_line last.name last.region ∷ ls) (map_more (wanted_line procs) last.calls (w ∷ []))
+    ∙ sym (append_assoc (all_lines procs others) (session_lines procs last) (wanted_line procs w ∷ []))
+    ∙ ap (λ ls. ls ++ wanted_line procs w ∷ []) (sym (lines_more procs others last))
+
+names_wanting : (others : List Session) (last : Session) (w : Wanted) → names_in (others ++ wanting last w ∷ []) ≡ names_in (others ++ last ∷ [])
+names_wanting [] last w = refl
+names_wanting (s ∷ others) last w = ap (λ ns. s.name ∷ ns) (names_wanting others last w)
+
+at_wanting : (region : ℕ) (others : List Session) (last : Session) (w : Wanted) → sessions_at region (others ++ wanting last w ∷ []) ≡ sessions_at region (others ++ last ∷ [])
+at_wanting region others last w =
+    sum_by-append (λ (s : Session). cond (s.region == region) 1 0) others (wanting last w ∷ [])
+    ∙ sym (sum_by-append (λ (s : Session). cond (s.region == region) 1 0) others (last ∷ []))
+
+calls_wanting : (others : List Session) (last : Session) (w : Wanted) → calls_in (others ++ wanting last w ∷ []) ≡ calls_in (others ++ last ∷ []) + 1
+calls_wanting others last w =
+    let a = sum_by-append (λ (s : Session). length s.calls) others (wanting last w ∷ []) in
+    let b = sum_by-append (λ (s : Session). length s.calls) others (last ∷ []) in
+    let n = one_longer last.calls w in
+    omega (arith, a, b, n)
+  where
+    one_longer : (ws : List Wanted) (w : Wanted) → length (ws ++ w ∷ []) ≡ length ws + 1
+    one_longer [] w = refl
+    one_longer (v ∷ ws) w = omega (arith, one_longer ws w)
+
+none_at : (region : ℕ) → sessions_at region [] ≤ 64
+none_at region = omega arith
+
+-- no lines are no sessions
+pub none_read : (cluster : Cluster) → AreSessions cluster [] []
+none_read cluster = record { lines = tt; sessions = tt; names_once = tt; few_sessions = none_at; few_calls = omega arith }
+
+one_more_at : (b : Bool) (n : ℕ) → (b ≡ true → n < 64) → n ≤ 64 → n + (0 + cond b 1 0) ≤ 64
+one_more_at true n room few = let r = room refl in omega arith
+one_more_at false n room few = omega arith
+
+same_number : (a b : ℕ) → (a == b) ≡ true → a ≡ b
+same_number a b h = grind (arith, nat_tests)
+
+room_at : (region : ℕ) (before : List Session) (x : Session) → sessions_at x.region before < 64 → sessions_at region before ≤ 64 → sessions_at region (before ++ x ∷ []) ≤ 64
+room_at region before x room few =
+    rw (sum_by-append (λ (s : Session). cond (s.region == region) 1 0) before (x ∷ []))
+      (one_more_at (x.region == region) (sessions_at region before) (λ e. subst (λ r. sessions_at r before < 64) (same_number x.region region e) room) few)
+
+session_read : (cluster : Cluster) (ls : List FileLine) (line : FileLine) (before : List Session) (x : Session) → AreSessions cluster ls before → CanBeSession cluster x → x.calls ≡ []
+    → HasForm line.bytes (session_line x.name x.region) → ¬ (Has (names_in before) x.name) → sessions_at x.region before < 64 → AreSessions cluster (ls ++ line ∷ []) (before ++ x ∷ [])
+session_read cluster ls line before x are can none has new room =
+    record {
+      lines = rw (lines_more cluster.procs before x) (subst (λ ws. Pairwise (λ (l : FileLine) form. HasForm l.bytes form) (ls ++ line ∷ []) (all_lines cluster.procs before ++ session_line x.name x.region ∷ map (wanted_line cluster.procs) ws))
+        (sym none) (pairwise_more (λ (l : FileLine) form. HasForm l.bytes form) ls (all_lines cluster.procs before) line (session_line x.name x.region) are.lines has));
+      sessions = all_append (CanBeSession cluster) before (x ∷ []) are.sessions (can, tt);
+      names_once = rw (map_more (λ (s : Session). s.name) before (x ∷ [])) (distinct_push (names_in before) x.name are.names_once new);
+      few_sessions = λ region. room_at region before x room (are.few_sessions region);
+      few_calls = rw (sum_by-append (λ (s : Session). length s.calls) before (x ∷ []), none) (omega (arith, are.few_calls));
+    }
+
+can_be_wanting : (cluster : Cluster) (last : Session) (w : Wanted) → CanBeSession cluster last → CanBeWanted cluster w → CanBeSession cluster (wanting last w)
+can_be_wanting cluster last w can wanted = (can.0, can.1, all_append (CanBeWanted cluster) last.calls (w ∷ []) can.2 (wanted, tt))
+
+wanted_read : (cluster : Cluster) (ls : List FileLine) (line : FileLine) (others : List Session) (last : Session) (w : Wanted) → AreSessions cluster ls (others ++ last ∷ []) → CanBeWanted cluster w
+    → HasForm line.bytes (wanted_line cluster.procs w) → calls_in (others ++ last ∷ []) < 20000 → AreSessions cluster (ls ++ line ∷ []) (others ++ wanting last w ∷ [])
+wanted_read cluster ls line others last w are can has room =
+    record {
+      lines = rw (lines_wanting cluster.procs others last w) (pairwise_more (λ (l : FileLine) form. HasForm l.bytes form) ls (all_lines cluster.procs (others ++ last ∷ [])) line (wanted_line cluster.procs w) are.lines has);
+      sessions = all_append (CanBeSession cluster) others (wanting last w ∷ []) (all_append_left (CanBeSession cluster) others (last ∷ []) are.sessions)
+        (can_be_wanting cluster last w (all_append_right (CanBeSession cluster) others (last ∷ []) are.sessions).0 can, tt);
+      names_once = rw (names_wanting others last w) are.names_once;
+      few_sessions = λ region. rw (at_wanting region others last w) (are.few_sessions region);
+      few_calls = rw (calls_wanting others last w) (omega (arith, room));
+    }
+
+wanted_goes_on : (cluster : Cluster) (ls : List FileLine) (line : FileLine) (before after : List Session) (w : Wanted) → AreSessions cluster ls before → CanBeWanted cluster w
+    → HasForm line.bytes (wanted_line cluster.procs w) → calls_in before < 20000 → IsWithWanted before w after → AreSessions cluster (ls ++ line ∷ []) after
+wanted_goes_on cluster ls line before after w are can has room with =
+    rw with.3 (wanted_read cluster ls line with.0 with.1 w (subst (AreSessions cluster ls) with.2 are) can has (subst (λ s. calls_in s < 20000) with.2 room))
+
+form_read : (cluster : Cluster) (ls : List FileLine) (line : FileLine) (before after : List Session) (form : Form) → AreSessions cluster ls before → HasForm line.bytes form
+    → FormGoesOn cluster before form after → AreSessions cluster (ls ++ line ∷ []) after
+form_read cluster ls line before after (session_line name region) are has on =
+    rw on.4 (session_read cluster ls line before (record { name = name; region = region; calls = [] }) are (on.0, on.2, tt) refl has on.1 on.3)
+form_read cluster ls line before after (call_line name args) are has on =
+    wanted_goes_on cluster ls line before after (Call on.0 args) are on.2 (subst (λ n. HasForm line.bytes (call_line n args)) (sym on.1) has) on.3 on.4
+form_read cluster ls line before after (move_line key target) are has on =
+    wanted_goes_on cluster ls line before after (Move key target) are (on.0, on.1) has on.2 on.3
+
+-- one line more, by which sessions go on
+pub line_read : (cluster : Cluster) (ls : List FileLine) (line : FileLine) (before after : List Session) → AreSessions cluster ls before → LineGoesOn cluster before line.bytes after
+    → AreSessions cluster (ls ++ line ∷ []) after
+line_read cluster ls line before after are on = form_read cluster ls line before after on.0 are on.1 on.2
+
+wanted_fits : (cluster : Cluster) (w : Wanted) → CanBeWanted cluster w → WantedFits cluster.procs cluster.regions w
+wanted_fits cluster (Call number args) can = can
+wanted_fits cluster (Move key target) can = can.1
+
+all_fit : (cluster : Cluster) (ws : List Wanted) → AllIn (CanBeWanted cluster) ws → AllIn (WantedFits cluster.procs cluster.regions) ws
+all_fit cluster [] can = tt
+all_fit cluster (w ∷ ws) can = (wanted_fits cluster w can.0, all_fit cluster ws can.1)
+
+all_valid : (cluster : Cluster) (sessions : List Session) → AllIn (CanBeSession cluster) sessions → AllIn (IsValidSession cluster.procs cluster.regions) sessions
+all_valid cluster [] can = tt
+all_valid cluster (s ∷ sessions) can = (record { region = can.0.1; calls = all_fit cluster s.calls can.0.2 }, all_valid cluster sessions can.1)
+
+-- the workload of a file is one that the cluster can be given
+pub read_valid : (cluster : Cluster) (ls : List FileLine) (workload : Workload) → AreSessions cluster ls workload.sessions → IsValidWorkload cluster workload
+read_valid cluster ls workload are = record { names_once = are.names_once; sessions = all_valid cluster workload.sessions are.sessions }

@@ -1,5 +1,0 @@
-use Rattle.dt_workload.proofs.FirstLaws.{one_workload}
-use Rattle.dt_workload.proofs.laws.files_are_one_workload.Goals as goal
-
-pub returns : goal.returns
-returns c = one_workload

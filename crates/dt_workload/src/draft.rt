@@ -1,0 +1,256 @@
+ghost use Rattle.std.specs.Prelude.{◌≡◌, ◌↔◌, ◌<◌, ◌^◌, [], length, slice_get, IfOk, IfErr, IsTrue, OnOk};
+ghost use Rattle.dt_lists.specs.Lists.{Has};
+ghost use Rattle.dt_text.specs.Texts.{IsName};
+ghost use Rattle.dt_eval.specs.Calls.{CallFits};
+ghost use Rattle.dt_eval.specs.Meaning.{Fits, HasKeys};
+ghost use Rattle.dt_cluster.specs.Valid.{IsValidCluster};
+ghost use Rattle.dt_workload.specs.File.{IsCallFault, IsLineFault, IsMoveFault, IsSessionFault, calls_in, name_of, names_in, proc_named, sessions_at};
+ghost use Rattle.dt_workload.specs.Lines as lines;
+ghost use Rattle.dt_workload.specs.Reading.{FormGoesOn, IsCounted, IsNoCall, IsNoKey, IsWithWanted, LineGoesOn, Refuses};
+ghost use Rattle.dt_workload.specs.declared.error.WorkloadCause.TheVariants as cause;
+
+use crate::error::{Refusal, WorkloadCause};
+use crate::form::{Form, read_form};
+use crate::workload::{Bodies, Session, SessionList, Wanted, Workload};
+use dt_cluster::Cluster;
+use dt_eval::{Args, KeysError, fits, keys_of};
+use dt_proc::Proc;
+use dt_text::{Key, KeyError, Name, Value};
+use std::alloc::Global;
+
+/// The most sessions at one region.
+const MOST_SESSIONS: usize = 64;
+
+/// The most calls and moves of a file.
+const MOST_CALLS: u32 = 20000;
+
+/// A workload as far as its file is read.
+#[derive(Drop)]
+pub(crate) struct Draft {
+    pub(crate) sessions: Vec<Session>,
+    /// How many calls and moves there are in all sessions.
+    pub(crate) made: u32,
+}
+
+impl Draft {
+    /// No sessions.
+    pub(crate) fn new(alloc: Global) -> Self
+        ensures empty { result.sessions.items ≡ [] }
+        ensures counted { IsCounted result }
+    {
+        Draft {
+            sessions: Vec::new(alloc),
+            made: 0,
+        }
+    }
+
+    /// Goes on with a line.
+    pub(crate) fn add_line(
+        &mut self,
+        alloc: Global,
+        cluster: &Cluster,
+        line: &[u8],
+    ) -> Result<(), Refusal>
+        requires short { length line.now < 2 ^ 32 }
+        requires valid { IsValidCluster cluster.now }
+        requires counted { IsCounted self.old }
+        ensures ok { OnOk result (LineGoesOn cluster.now self.old.sessions.items line.now self.new.sessions.items) }
+        ensures counted { OnOk result (IsCounted self.new) }
+        ensures fault { IfErr result (Refuses (IsLineFault cluster.now self.old.sessions.items line.now)) }
+    {
+        match read_form(alloc, line)? {
+            Some(Form::Session(word, region)) => self.begin(alloc, cluster, word, region),
+            Some(Form::Call(word, args)) => self.call(alloc, cluster, word, args),
+            Some(Form::Move(word, region)) => self.move_key(alloc, cluster, word, region),
+            None => Err(Refusal::Cause(WorkloadCause::Form)),
+        }
+    }
+
+    /// Begins a session.
+    fn begin(
+        &mut self,
+        alloc: Global,
+        cluster: &Cluster,
+        word: &[u8],
+        region: u32,
+    ) -> Result<(), Refusal>
+        requires counted { IsCounted self.old }
+        ensures ok { OnOk result (FormGoesOn cluster.now self.old.sessions.items (lines.session_line word.now region) self.new.sessions.items) }
+        ensures counted { OnOk result (IsCounted self.new) }
+        ensures fault { IfErr result (Refuses (IsSessionFault cluster.now self.old.sessions.items word.now region)) }
+    {
+        let name = session_name(alloc, word)?;
+        if has_name(self.sessions.as_slice(), &name) {
+            return Err(Refusal::Cause(WorkloadCause::Twice));
+        }
+        if region >= u32::from(cluster.regions) {
+            return Err(Refusal::Cause(WorkloadCause::Region));
+        }
+        if count_at(self.sessions.as_slice(), region) >= MOST_SESSIONS {
+            return Err(Refusal::Cause(WorkloadCause::TooMany));
+        }
+        self.sessions.push(Session {
+            name,
+            region: region as u8,
+            calls: Bodies::new(alloc),
+        })?;
+        Ok(())
+    }
+
+    /// Adds a call to the last session.
+    fn call(
+        &mut self,
+        alloc: Global,
+        cluster: &Cluster,
+        word: &[u8],
+        args: Args,
+    ) -> Result<(), Refusal>
+        requires valid { IsValidCluster cluster.now }
+        requires counted { IsCounted self.old }
+        ensures ok { OnOk result (FormGoesOn cluster.now self.old.sessions.items (lines.call_line word.now args) self.new.sessions.items) }
+        ensures counted { OnOk result (IsCounted self.new) }
+        ensures fault { IfErr result (Refuses (IsCallFault cluster.now self.old.sessions.items word.now args)) }
+    {
+        if self.sessions.is_empty() {
+            return Err(Refusal::Cause(WorkloadCause::NoSession));
+        }
+        let number = call_number(alloc, cluster, word, &args)?;
+        self.want(Wanted::Call(number, args))
+    }
+
+    /// Adds a move to the last session.
+    fn move_key(
+        &mut self,
+        alloc: Global,
+        cluster: &Cluster,
+        word: &[u8],
+        region: u32,
+    ) -> Result<(), Refusal>
+        requires counted { IsCounted self.old }
+        ensures ok { OnOk result (FormGoesOn cluster.now self.old.sessions.items (lines.move_line word.now region) self.new.sessions.items) }
+        ensures counted { OnOk result (IsCounted self.new) }
+        ensures fault { IfErr result (Refuses (IsMoveFault cluster.now self.old.sessions.items word.now region)) }
+    {
+        if self.sessions.is_empty() {
+            return Err(Refusal::Cause(WorkloadCause::NoSession));
+        }
+        if !Key::is_key(word) {
+            return Err(Refusal::Cause(WorkloadCause::Key));
+        }
+        if region >= u32::from(cluster.regions) {
+            return Err(Refusal::Cause(WorkloadCause::Region));
+        }
+        let key = Key::new(alloc, word)?;
+        self.want(Wanted::Move(key, region as u8))
+    }
+
+    /// The last session wants one thing more.
+    fn want(&mut self, wanted: Wanted) -> Result<(), Refusal>
+        requires some { ¬ (self.old.sessions.items ≡ []) }
+        requires counted { IsCounted self.old }
+        ensures ok { OnOk result (IsWithWanted self.old.sessions.items wanted self.new.sessions.items × (calls_in self.old.sessions.items < 20000)) }
+        ensures counted { OnOk result (IsCounted self.new) }
+        ensures fault { IfErr result (Refuses (λ why. (why ≡ cause.TooMany) × ¬ (calls_in self.old.sessions.items < 20000))) }
+    {
+        if self.made >= MOST_CALLS {
+            return Err(Refusal::Cause(WorkloadCause::TooMany));
+        }
+        let Some(mut session) = self.sessions.pop() else {
+            unreachable!();
+        };
+        session.calls.push(wanted)?;
+        self.sessions.push(session)?;
+        self.made += 1;
+        Ok(())
+    }
+
+    /// The workload of all lines.
+    pub(crate) fn into_workload(self) -> Workload
+        ensures { result.sessions ≡ self.sessions.items }
+    {
+        let Draft { sessions, .. } = self;
+        Workload {
+            sessions: SessionList::from_vec(sessions),
+        }
+    }
+}
+
+/// The name of a session.
+fn session_name(alloc: Global, word: &[u8]) -> Result<Name, Refusal>
+    ensures ok { IfOk result (λ name. (name ≡ word.now) × IsName name) }
+    ensures fault { IfErr result (Refuses (λ why. (why ≡ cause.Name) × ¬ (IsName word.now))) }
+{
+    if word.len() > Name::LONGEST {
+        return Err(Refusal::Cause(WorkloadCause::Name));
+    }
+    match Name::read(alloc, word) {
+        Ok(name) => Ok(name),
+        Err(KeyError::NoMemory) => Err(Refusal::NoMemory),
+        Err(KeyError::Empty) => Err(Refusal::Cause(WorkloadCause::Name)),
+        Err(KeyError::Long) => Err(Refusal::Cause(WorkloadCause::Name)),
+        Err(KeyError::BadByte(_)) => Err(Refusal::Cause(WorkloadCause::Name)),
+    }
+}
+
+/// Whether some session has the name.
+fn has_name(sessions: &[Session], name: &Name) -> bool
+    ensures { IsTrue result ↔ Has (names_in sessions.now) name.now }
+{
+    let mut rest = sessions;
+    while let Some((first, others)) = rest.split_first() {
+        if first.name == *name {
+            return true;
+        }
+        rest = others;
+    }
+    false
+}
+
+/// How many of the sessions are at a region.
+fn count_at(sessions: &[Session], region: u32) -> usize
+    ensures { result ≡ sessions_at region sessions.now }
+{
+    sessions
+        .iter()
+        .filter(|session| u32::from(session.region) == region)
+        .count()
+}
+
+/// The number of the procedure of this name, which the arguments fit and by which they give keys.
+fn call_number(
+    alloc: Global,
+    cluster: &Cluster,
+    word: &[u8],
+    args: &Args,
+) -> Result<u32, Refusal>
+    requires { IsValidCluster cluster.now }
+    ensures ok { IfOk result (λ number. (name_of (slice_get cluster.now.procs number) ≡ word.now) × CallFits cluster.now.procs number args.now
+        × (proc_named cluster.now word.now ≡ slice_get cluster.now.procs number)) }
+    ensures fault { IfErr result (Refuses (IsNoCall (proc_named cluster.now word.now) args.now)) }
+{
+    let Some(number) = cluster.procs.find(word) else {
+        return Err(Refusal::Cause(WorkloadCause::Proc));
+    };
+    let Some(body) = cluster.procs.get(number) else {
+        unreachable!();
+    };
+    if !fits(body, args.as_slice()) {
+        return Err(Refusal::Cause(WorkloadCause::Args));
+    }
+    gives_keys(alloc, body, args.as_slice())?;
+    Ok(number)
+}
+
+/// Refuses arguments that give no keys.
+fn gives_keys(alloc: Global, body: &Proc, args: &[Value]) -> Result<(), Refusal>
+    requires { Fits body.now args.now }
+    ensures ok { OnOk result (HasKeys body.now args.now) }
+    ensures fault { IfErr result (Refuses (IsNoKey body.now args.now)) }
+{
+    match keys_of(alloc, body, args) {
+        Ok(_keys) => {}
+        Err(KeysError::BadKey(_)) => return Err(Refusal::Cause(WorkloadCause::Key)),
+        Err(KeysError::NoMemory) => return Err(Refusal::NoMemory),
+    }
+    Ok(())
+}

@@ -1,0 +1,141 @@
+ghost use Rattle.std.specs.Prelude.{◌≡◌, ◌≢◌, ◌<◌, ◌≤◌, ◌^◌, ◌∷◌, [], List, length, map, codes, IfOk, MatchOption, All};
+ghost use Rattle.std.specs.Fmt.{decimal};
+ghost use Rattle.dt_lists.specs.Lists.{AllIn};
+ghost use Rattle.dt_text.specs.Reading.{IsWordIn};
+ghost use Rattle.dt_workload.specs.Lines.{HasForm, IsArgument, argument_word, bare, said};
+ghost use Rattle.dt_workload.specs.Lines as lines;
+ghost use Rattle.dt_workload.specs.Reading.{form_of, ReadsForm, ReadsRegion};
+ghost use Rattle.dt_text.specs.declared.Value.{Value as AnyValue};
+
+use dt_eval::Args;
+use dt_text::{NoMemory, Value, Word, read_i64, read_u32, words};
+use std::alloc::Global;
+
+/// What a line of a workload file says.
+#[derive(Drop)]
+pub(crate) enum Form<'a> {
+    /// A session of this name, at a region.
+    Session(&'a [u8], u32),
+    /// A call of the procedure of this name, with its arguments.
+    Call(&'a [u8], Args),
+    /// A move of a key to a region.
+    Move(&'a [u8], u32),
+}
+
+/// Reads what a line says; `None` exactly where it has none of the forms.
+pub(crate) fn read_form<'a>(alloc: Global, line: &'a [u8]) -> Result<Option<Form<'a>>, NoMemory>
+    requires { length line.now < 2 ^ 32 }
+    ensures { IfOk result (λ form. MatchOption form
+        ((f : lines.Form) → ¬ (HasForm line.now f)) (λ f. HasForm line.now (form_of f))) }
+{
+    match words(alloc, line)? {
+        Some(words) => form_of_words(alloc, line, words.as_slice()),
+        None => Ok(None),
+    }
+}
+
+/// The form that words of a line have.
+fn form_of_words<'a>(
+    alloc: Global,
+    line: &'a [u8],
+    words: &[Word],
+) -> Result<Option<Form<'a>>, NoMemory>
+    requires short { length line.now < 2 ^ 32 }
+    requires inside { All (IsWordIn line.now) words.now }
+    ensures { IfOk result (ReadsForm (map (said line.now) words.now)) }
+{
+    let [first, second, rest @ ..] = words else {
+        return Ok(None);
+    };
+    let Some(kind) = bare_word(line, first) else {
+        return Ok(None);
+    };
+    let Some(subject) = bare_word(line, second) else {
+        return Ok(None);
+    };
+    form_of_kind(alloc, line, kind, subject, rest)
+}
+
+/// The form of a line that begins with these two bare words.
+fn form_of_kind<'a>(
+    alloc: Global,
+    line: &'a [u8],
+    kind: &[u8],
+    subject: &'a [u8],
+    rest: &[Word],
+) -> Result<Option<Form<'a>>, NoMemory>
+    requires short { length line.now < 2 ^ 32 }
+    requires inside { All (IsWordIn line.now) rest.now }
+    ensures { IfOk result (ReadsForm (bare kind.now ∷ bare subject.now ∷ map (said line.now) rest.now)) }
+{
+    if kind == b"session".as_slice() {
+        Ok(region_after(line, b"at", rest).map(|region| Form::Session(subject, region)))
+    } else if kind == b"call".as_slice() {
+        Ok(arguments(alloc, line, rest)?.map(|args| Form::Call(subject, args)))
+    } else if kind == b"move".as_slice() {
+        Ok(region_after(line, b"to", rest).map(|region| Form::Move(subject, region)))
+    } else {
+        Ok(None)
+    }
+}
+
+/// The bytes of a word, if it is bare.
+fn bare_word<'a>(line: &'a [u8], word: &Word) -> Option<&'a [u8]>
+    requires inside { IsWordIn line.now word.now }
+    ensures exact { MatchOption result ((bytes : lines.Bytes) → said line.now word.now ≢ bare bytes) (λ bytes. said line.now word.now ≡ bare bytes.now) }
+    ensures short { MatchOption result (Unit {0}) (λ bytes. length bytes.now ≤ length line.now) }
+{
+    match word {
+        Word::Bare(from, to) => Some(&line[*from as usize..*to as usize]),
+        Word::Text(_) => None,
+    }
+}
+
+/// The number of a region, where the words are this fixed one and the number.
+fn region_after(line: &[u8], fixed: &[u8], rest: &[Word]) -> Option<u32>
+    requires short { length line.now < 2 ^ 32 }
+    requires inside { All (IsWordIn line.now) rest.now }
+    ensures { ReadsRegion fixed.now (map (said line.now) rest.now) result }
+{
+    let [word, number] = rest else {
+        return None;
+    };
+    if bare_word(line, word)? != fixed {
+        return None;
+    }
+    read_u32(bare_word(line, number)?)
+}
+
+/// The arguments that words say.
+fn arguments(alloc: Global, line: &[u8], rest: &[Word]) -> Result<Option<Args>, NoMemory>
+    requires short { length line.now < 2 ^ 32 }
+    requires inside { All (IsWordIn line.now) rest.now }
+    ensures { IfOk result (λ found. MatchOption found
+        ((args : List AnyValue) → AllIn IsArgument args → map (said line.now) rest.now ≢ map argument_word args)
+        (λ args. AllIn IsArgument args × (map (said line.now) rest.now ≡ map argument_word args))) }
+{
+    let mut args = Args::new(alloc);
+    for word in rest {
+        match argument(alloc, line, word)? {
+            Some(value) => args.push(value)?,
+            None => return Ok(None),
+        }
+    }
+    Ok(Some(args))
+}
+
+/// The argument that a word says.
+fn argument(alloc: Global, line: &[u8], word: &Word) -> Result<Option<Value>, NoMemory>
+    requires short { length line.now < 2 ^ 32 }
+    requires inside { IsWordIn line.now word.now }
+    ensures { IfOk result (λ found. MatchOption found
+        ((arg : AnyValue) → IsArgument arg → said line.now word.now ≢ argument_word arg)
+        (λ arg. IsArgument arg × (said line.now word.now ≡ argument_word arg))) }
+{
+    match word {
+        Word::Bare(from, to) => {
+            Ok(read_i64(&line[*from as usize..*to as usize]).map(Value::Int))
+        }
+        Word::Text(text) => Ok(Some(Value::Text(text.copy(alloc)?))),
+    }
+}
