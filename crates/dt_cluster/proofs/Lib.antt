@@ -1,2 +1,3 @@
 mod Listing
 mod Valid
+pub mod OneFile

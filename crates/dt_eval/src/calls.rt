@@ -1,85 +1,173 @@
-ghost use Rattle.std.specs.Prelude.{◌≡◌, ◌↔◌, ℕ, IsTrue, IfOk, map};
-ghost use Rattle.dt_eval.specs.Meaning.{Fits, HasKeys, keys_of, meaning};
+ghost use Rattle.std.specs.Prelude.{◌≡◌, ◌<◌, ◌↔◌, IsTrue, IfOk, length, map, slice_index_or, []};
+ghost use Rattle.dt_lists.specs.Lists.{AllIn, AnyIn, EachThen, Pairwise};
+ghost use Rattle.std.specs.List.{position};
+ghost use Rattle.dt_access.specs.Clash.{same_key};
+ghost use Rattle.dt_proc.specs.Sound.{IsSound};
+ghost use Rattle.dt_eval.specs.Data.{datum_of};
+ghost use Rattle.dt_eval.specs.Framed.{ArePlaces, IsItemWithin};
+ghost use Rattle.dt_eval.specs.Keys.{HasKeys, keys_of, names_in, names_of};
+ghost use Rattle.dt_eval.specs.Meaning.{Fits, IsOfKind, meaning, unchanged};
 
 use crate::finish::{Finish, Reads, Values};
-use dt_access::{Keys, Mode, Writes};
+use crate::frame::Frame;
+use crate::keys::key_text;
+use crate::rows::Rows;
+use crate::state::{Datum, Row};
+use crate::stop::Stop;
+use dt_access::TryCopy;
+use dt_proc::{KeyDecl, Kind, Proc};
 use dt_text::{Key, NoMemory, Value};
 use std::alloc::Global;
-use std::fmt;
 
-/// The number of the procedure `put`.
-pub const PUT: u32 = 0;
-
-/// Why the keys of a call are not told.
-#[derive(Debug, Drop)]
-pub enum KeysError {
-    /// The declaration of this number, from 0, is the first that gives no key.
-    BadKey(u32),
-    /// Memory ran out.
-    NoMemory,
+/// Whether number and kinds of the arguments are those of the procedure's parameters. Takes no memory.
+pub fn fits(body: &Proc, args: &[Value]) -> bool
+    ensures { IsTrue result ↔ Fits body.now args.now }
+{
+    are_of_kinds(body.params(), args)
 }
 
-impl fmt::Display for KeysError {
-    fn fmt<W: fmt::Write>(&self, f: &mut fmt::Formatter<W>) -> fmt::Result {
-        match self {
-            KeysError::BadKey(number) => write!(f, "declaration {number} gives no key"),
-            KeysError::NoMemory => write!(f, "no memory"),
+/// Whether the values have these kinds, and are as many.
+fn are_of_kinds(kinds: &[Kind], values: &[Value]) -> bool
+    ensures { IsTrue result ↔ Pairwise IsOfKind kinds.now values.now }
+{
+    if kinds.len() != values.len() {
+        return false;
+    }
+    for (place, kind) in kinds.iter().enumerate() {
+        if !is_of_kind(*kind, &values[place]) {
+            return false;
         }
     }
+    true
 }
 
-impl std::error::Error for KeysError {}
-
-impl From<NoMemory> for KeysError {
-    ghost use Rattle.dt_eval.specs.declared.calls.KeysError.TheVariants as variants;
-
-    ghost from_gives = { λ _ e. e ≡ variants.NoMemory };
-
-    fn from(_error: NoMemory) -> Self {
-        KeysError::NoMemory
-    }
-}
-
-/// Whether number and kinds of the arguments are those of the procedure's parameters.
-pub fn fits(proc: u32, args: &[Value]) -> bool
-    ensures { IsTrue result ↔ Fits proc args.now }
+/// Whether a value has this kind.
+fn is_of_kind(kind: Kind, value: &Value) -> bool
+    ensures { IsTrue result ↔ IsOfKind kind value.now }
 {
-    match args {
-        [Value::Text(_), Value::Int(_)] => proc == PUT,
+    match (kind, value) {
+        (Kind::Int, Value::Int(_)) => true,
+        (Kind::Text, Value::Text(_)) => true,
         _ => false,
     }
 }
 
-/// The keys that a call uses, in ascending order, each with its mode.
-pub fn keys_of(alloc: Global, proc: u32, args: &[Value]) -> Result<Keys, KeysError>
-    requires { Fits proc args.now }
-    ensures keys { IfOk result (λ keys. keys ≡ keys_of proc args.now) }
-    ensures ok { IfOk result (λ keys. HasKeys proc args.now) }
-    ensures bad { (i : ℕ) → (result ≡ Err (KeysError.BadKey i)) ↔ ((i ≡ 0) × ¬ (HasKeys proc args.now)) }
+/// Runs a call on the values of the rows that it uses.
+///
+/// The arguments fit, and the reads are of just the keys of `keys_of`, in their order.
+pub fn run(
+    alloc: Global,
+    body: &Proc,
+    args: &[Value],
+    reads: &Reads,
+) -> Result<Finish, NoMemory>
+    requires fits { Fits body.now args.now }
+    requires keys { HasKeys body.now args.now }
+    requires reads { map (λ read. read.0) reads.now ≡ map (λ used. used.0) (keys_of body.now args.now) }
+    ensures { IfOk result (λ finish. finish ≡ meaning body.now args.now reads.now) }
 {
-    let [Value::Text(text), _] = args else {
-        unreachable!();
+    let mut frame = Frame {
+        variables: variables(alloc, args)?,
+        rows: rows(alloc, body, args, reads.as_slice())?,
+        given: Values::new(alloc),
     };
-    if !Key::is_key(text.bytes()) {
-        return Err(KeysError::BadKey(0));
+    match frame.block(alloc, body.body()) {
+        Ok(()) => {
+            let Frame { rows, given, .. } = frame;
+            Ok(Finish::Gave(given, rows.into_writes(alloc)?))
+        }
+        Err(Stop::Aborted(cause)) => Ok(Finish::Aborted(cause)),
+        Err(Stop::NoMemory) => Err(NoMemory),
     }
-    let key = Key::new(alloc, text.bytes())?;
-    let mut keys = Keys::new(alloc);
-    keys.push((key, Mode::Write))?;
-    Ok(keys)
 }
 
-/// Runs a call on the values of the rows that it uses.
-pub fn run(alloc: Global, proc: u32, args: &[Value], reads: &Reads) -> Result<Finish, NoMemory>
-    requires fits { Fits proc args.now }
-    requires keys { HasKeys proc args.now }
-    requires reads { map (λ read. read.0) reads.now ≡ map (λ used. used.0) (keys_of proc args.now) }
-    ensures { IfOk result (λ finish. finish ≡ meaning proc args.now reads.now) }
+/// The variables of the parameters.
+fn variables(alloc: Global, args: &[Value]) -> Result<Vec<Datum>, NoMemory>
+    ensures { IfOk result (λ variables. variables.items ≡ map datum_of args.now) }
 {
-    let [Value::Text(text), Value::Int(number)] = args else {
+    let mut variables = Vec::new(alloc);
+    for value in args {
+        variables.push(datum_of(alloc, value)?)?;
+    }
+    Ok(variables)
+}
+
+/// A value, as an expression gives it.
+fn datum_of(alloc: Global, value: &Value) -> Result<Datum, NoMemory>
+    ensures { IfOk result (λ datum. datum ≡ datum_of value.now) }
+{
+    match value {
+        Value::Int(number) => Ok(Datum::Int(*number)),
+        Value::Text(text) => Ok(Datum::Text(text.copy(alloc)?)),
+    }
+}
+
+/// The rows of a run before its first statement.
+fn rows(
+    alloc: Global,
+    body: &Proc,
+    args: &[Value],
+    reads: &[(Key, Option<Value>)],
+) -> Result<Rows, NoMemory>
+    requires fits { Fits body.now args.now }
+    requires reads { map (λ read. read.0) reads.now ≡ map (λ used. used.0) (keys_of body.now args.now) }
+    ensures { IfOk result (λ rows. rows ≡ (names_of body.now args.now, map unchanged reads.now)) }
+{
+    let declarations = body.keys();
+    let places = places(alloc, declarations, args, reads)?;
+    let items = unchanged_rows(alloc, reads)?;
+    Ok(Rows::new(items, places))
+}
+
+/// The rows as they are read.
+fn unchanged_rows(alloc: Global, reads: &[(Key, Option<Value>)]) -> Result<Vec<Row>, NoMemory>
+    ensures { IfOk result (λ rows. rows.items ≡ map unchanged reads.now) }
+{
+    let mut rows = Vec::new(alloc);
+    for (key, value) in reads {
+        rows.push(Row {
+            key: key.copy(alloc)?,
+            value: value.copy(alloc)?,
+            changed: false,
+        })?;
+    }
+    Ok(rows)
+}
+
+/// For each declaration the place of its key among the reads.
+fn places(
+    alloc: Global,
+    declarations: &[KeyDecl],
+    args: &[Value],
+    reads: &[(Key, Option<Value>)],
+) -> Result<Vec<usize>, NoMemory>
+    requires within { AllIn (λ d. AllIn (IsItemWithin (length args.now)) d.items) declarations.now }
+    requires read { AllIn (λ name. AnyIn (λ r. r.0 ≡ name) reads.now) (names_in args.now declarations.now) }
+    ensures { IfOk result (λ places. ArePlaces (names_in args.now declarations.now) (map (λ r. r.0) reads.now) places.items) }
+{
+    let mut places = Vec::new(alloc);
+    for declared in declarations {
+        let text = key_text(alloc, declared.items.as_slice(), args)?;
+        places.push(place_of(reads, text.as_slice()))?;
+    }
+    Ok(places)
+}
+
+/// The place of the read of this key, which is there.
+fn place_of(reads: &[(Key, Option<Value>)], name: &[u8]) -> usize
+    requires { AnyIn (λ r. r.0 ≡ name.now) reads.now }
+    ensures below { result < length reads.now }
+    ensures there { slice_index_or (map (λ r. r.0) reads.now) result [] ≡ name.now }
+{
+    let Some(place) = place_in(reads, name) else {
         unreachable!();
     };
-    let mut writes = Writes::new(alloc);
-    writes.push((Key::new(alloc, text.bytes())?, Some(Value::Int(*number))))?;
-    Ok(Finish::Gave(Values::new(alloc), writes))
+    place
+}
+
+/// The place of the first read of this key, if there is one.
+fn place_in(reads: &[(Key, Option<Value>)], name: &[u8]) -> Option<usize>
+    ensures { result ≡ position (λ r. same_key r.0 name.now) reads.now }
+{
+    reads.iter().position(|read| read.0.bytes() == name)
 }

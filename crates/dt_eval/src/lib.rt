@@ -1,12 +1,17 @@
 //! What a call of a procedure means: which rows it uses, and what it gives from their values.
-//!
-//! So far there is one procedure, number 0: `put(k: text, v: int)` gives the row of key `k` the value `v`.
 #![tactic(auto)]
 
 mod calls;
 mod finish;
+mod frame;
+mod keys;
+mod operators;
+mod rows;
+mod state;
+mod stop;
 #[cfg(test)]
 mod tests;
 
-pub use calls::{KeysError, PUT, fits, keys_of, run};
+pub use calls::{fits, run};
 pub use finish::{Args, Cause, Finish, Reads, Values};
+pub use keys::{KeysError, keys_of};

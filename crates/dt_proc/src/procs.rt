@@ -114,8 +114,7 @@ impl Procs {
     /// These procedures. Takes no memory.
     pub(crate) fn from_vec(items: Vec<Proc>) -> Self
         requires { AreProcs items.items }
-        ensures same { result ≡ items.items }
-        ensures sound { AreProcs result }
+        ensures { result ≡ items.items }
     {
         Procs { items }
     }

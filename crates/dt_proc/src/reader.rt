@@ -53,7 +53,7 @@ fn proc<'a>(
 /// The procedures that all tokens spell.
 fn procs(alloc: Global, tokens: &[Placed]) -> Result<Procs, ProcError>
     requires { walked.AreFewProcs tokens.now }
-    ensures gives { (ps : List syn.ProcSyntax) → syn.AreProcs ps → syn.procs_tokens ps ≡ tokens.now
+    ensures right { (ps : List syn.ProcSyntax) → syn.AreProcs ps → syn.procs_tokens ps ≡ tokens.now
         → walked.Gives (checked.check_procs [] ps) result }
     ensures sound { IfOk result sound.AreProcs }
 {

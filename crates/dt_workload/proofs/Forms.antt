@@ -59,6 +59,7 @@ not_same b x y is h e = absurd (true_false (pointwise nat_eq x y) (bytes_same x 
     true_false : (p : Bool) → p ≡ true → not p ≡ true → ⊥
     true_false true a b = cc
     true_false false a b = cc
+
     bytes_same : (x y : Bytes) → x ≡ y → pointwise nat_eq x y ≡ true
     bytes_same x y e = (bytes_decides x y).1 e
 

@@ -103,14 +103,14 @@ same_number a b h = grind (arith, nat_tests)
 room_at : (region : ℕ) (before : List Session) (x : Session) → sessions_at x.region before < 64 → sessions_at region before ≤ 64 → sessions_at region (before ++ x ∷ []) ≤ 64
 room_at region before x room few =
     rw (sum_by-append (λ (s : Session). cond (s.region == region) 1 0) before (x ∷ []))
-      (one_more_at (x.region == region) (sessions_at region before) (λ e. subst (λ r. sessions_at r before < 64) (same_number x.region region e) room) few)
+    (one_more_at (x.region == region) (sessions_at region before) (λ e. subst (λ r. sessions_at r before < 64) (same_number x.region region e) room) few)
 
 session_read : (cluster : Cluster) (ls : List FileLine) (line : FileLine) (before : List Session) (x : Session) → AreSessions cluster ls before → CanBeSession cluster x → x.calls ≡ []
     → HasForm line.bytes (session_line x.name x.region) → ¬ (Has (names_in before) x.name) → sessions_at x.region before < 64 → AreSessions cluster (ls ++ line ∷ []) (before ++ x ∷ [])
 session_read cluster ls line before x are can none has new room =
     record {
       lines = rw (lines_more cluster.procs before x) (subst (λ ws. Pairwise (λ (l : FileLine) form. HasForm l.bytes form) (ls ++ line ∷ []) (all_lines cluster.procs before ++ session_line x.name x.region ∷ map (wanted_line cluster.procs) ws))
-        (sym none) (pairwise_more (λ (l : FileLine) form. HasForm l.bytes form) ls (all_lines cluster.procs before) line (session_line x.name x.region) are.lines has));
+          (sym none) (pairwise_more (λ (l : FileLine) form. HasForm l.bytes form) ls (all_lines cluster.procs before) line (session_line x.name x.region) are.lines has));
       sessions = all_append (CanBeSession cluster) before (x ∷ []) are.sessions (can, tt);
       names_once = rw (map_more (λ (s : Session). s.name) before (x ∷ [])) (distinct_push (names_in before) x.name are.names_once new);
       few_sessions = λ region. room_at region before x room (are.few_sessions region);
@@ -126,7 +126,7 @@ wanted_read cluster ls line others last w are can has room =
     record {
       lines = rw (lines_wanting cluster.procs others last w) (pairwise_more (λ (l : FileLine) form. HasForm l.bytes form) ls (all_lines cluster.procs (others ++ last ∷ [])) line (wanted_line cluster.procs w) are.lines has);
       sessions = all_append (CanBeSession cluster) others (wanting last w ∷ []) (all_append_left (CanBeSession cluster) others (last ∷ []) are.sessions)
-        (can_be_wanting cluster last w (all_append_right (CanBeSession cluster) others (last ∷ []) are.sessions).0 can, tt);
+          (can_be_wanting cluster last w (all_append_right (CanBeSession cluster) others (last ∷ []) are.sessions).0 can, tt);
       names_once = rw (names_wanting others last w) are.names_once;
       few_sessions = λ region. rw (at_wanting region others last w) (are.few_sessions region);
       few_calls = rw (calls_wanting others last w) (omega (arith, room));

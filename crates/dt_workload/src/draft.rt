@@ -217,12 +217,7 @@ fn count_at(sessions: &[Session], region: u32) -> usize
 }
 
 /// The number of the procedure of this name, which the arguments fit and by which they give keys.
-fn call_number(
-    alloc: Global,
-    cluster: &Cluster,
-    word: &[u8],
-    args: &Args,
-) -> Result<u32, Refusal>
+fn call_number(alloc: Global, cluster: &Cluster, word: &[u8], args: &Args) -> Result<u32, Refusal>
     requires { IsValidCluster cluster.now }
     ensures ok { IfOk result (λ number. (name_of (slice_get cluster.now.procs number) ≡ word.now) × CallFits cluster.now.procs number args.now
         × (proc_named cluster.now word.now ≡ slice_get cluster.now.procs number)) }

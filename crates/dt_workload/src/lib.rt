@@ -11,3 +11,6 @@ mod workload;
 pub use error::{WorkloadCause, WorkloadError};
 pub use reader::read_workload;
 pub use workload::{Bodies, Session, SessionList, Wanted, Workload};
+
+#[cfg(test)]
+mod tests;

@@ -6,8 +6,8 @@ use Rattle.dt_proc.proofs.reader.procs.Goals as goal
 pub proc-requires : goal.proc-requires
 proc-requires c = starts (length c.loop-rest.procs.items) c.loop-rest.rest.now (some_left c.loop-rest.rest.now c.loop-rest-test.ensures) c.loop-rest.invariant.left
 
-pub returns-in_err-item-clause-gives : goal.returns-in_err-item-clause-gives
-returns-in_err-item-clause-gives c = λ ps good cut.
+pub returns-in_err-item-clause-right : goal.returns-in_err-item-clause-right
+returns-in_err-item-clause-right c = λ ps good cut.
     let r = err_from_is_err_and c.from_residual.result c.from_residual.ensures.1 in
     let right = subst (λ v. Right v c.loop-rest.rest.now (Err c.in_err-item.field-0.0)) c.as_slice.ensures.value c.in_err-item.ensures.right in
     rw (r.1, r.2) (going_fault c.args.tokens.now c.loop-rest.procs.items c.loop-rest.rest.now c.in_err-item.field-0.0
@@ -20,7 +20,7 @@ loop-rest-preserved c =
     (going_next c.args.tokens.now c.loop-rest.procs.items c.in_ok-item.item c.loop-rest.rest.now c.in_ok-item.after.now
     (some_left c.loop-rest.rest.now c.loop-rest-test.ensures) c.loop-rest.invariant c.in_ok-item.ensures.fits right)
 
-pub returns-clause-gives : goal.returns-clause-gives
-returns-clause-gives c = λ ps good cut.
+pub returns-clause-right : goal.returns-clause-right
+returns-clause-right c = λ ps good cut.
     going_end c.args.tokens.now c.loop-rest.procs.items c.loop-rest.rest.now (none_left c.loop-rest.rest.now c.loop-rest-test.ensures) c.loop-rest.invariant.told ps good cut
-    ∙ ap Ok (sym c.from_vec.ensures.same)
+    ∙ ap Ok (sym c.from_vec.ensures)

@@ -9,4 +9,4 @@ procs-requires c = subst AreFewProcs (sym c.as_slice.ensures.value) (passed_few 
 pub returns-clause-outcome : goal.returns-clause-outcome
 returns-clause-outcome c =
     outcome_second c.args.text.now c.in_ok-tokens.tokens.items c.procs.result c.in_ok-tokens.ensures.ok
-    (subst (λ v. GivesAll v c.procs.result) c.as_slice.ensures.value c.procs.ensures.gives)
+    (subst (λ v. GivesAll v c.procs.result) c.as_slice.ensures.value c.procs.ensures.right)

@@ -9,8 +9,8 @@ pub returns-clause-ok : goal.returns-clause-ok
 returns-clause-ok c =
     let body = c.in-Some-get.body.now in
     let place = sym c.find.ensures ∙ c.in-Some.is in
-    let there : slice_get c.args.cluster.now.procs c.in-Some.number ≡ Some body = sym c.get.ensures ∙ ap option_copied c.in-Some-get.is in
-    (ap name_of there ∙ named_word c.args.cluster.now.procs c.args.word.now c.in-Some.number body place there,
+    let there : slice_get c.args.cluster.now.procs c.in-Some.number ≡ Some body = sym c.get.ensures ∙ ap option_copied c.in-Some-get.is in (
+      ap name_of there ∙ named_word c.args.cluster.now.procs c.args.word.now c.in-Some.number body place there,
       record {
         body = body;
         named = there;
@@ -18,4 +18,5 @@ returns-clause-ok c =
         fits = subst (Fits body) c.as_slice.ensures (c.fits.ensures.0 c.if-not-fits.false);
         keys = subst (HasKeys body) c.as_slice-2.ensures c.in_ok-gives_keys.ensures.ok;
       },
-      found_proc c.args.cluster.now c.args.word.now c.in-Some.number place)
+      found_proc c.args.cluster.now c.args.word.now c.in-Some.number place,
+    )

@@ -1,0 +1,105 @@
+-- What other crates use of calls: of their keys, and of what they write.
+use Rattle.std.proofs.Common.{◌≡◌, ℕ, true, List, [], ◌∷◌, map, slice_get, Some, Ok, Err, refl, sym, ap, ap₂, subst, ◌∙◌}
+use Rattle.std.specs.Prelude.{Option, None, Result}
+use Rattle.dt_lists.specs.Lists.{AnyIn, AllIn, EachThen}
+use Rattle.dt_lists.proofs.Words.{all_map, all_any, each_image}
+use Rattle.dt_text.specs.Texts.{IsKey}
+use Rattle.dt_text.specs.declared.Value.{Value}
+use Rattle.dt_access.specs.Clash.{Bytes}
+use Rattle.dt_access.specs.Orders.{KeyBefore, HasAscendingKeys}
+use Rattle.dt_access.specs.declared.Mode.{Mode}
+use Rattle.dt_access.specs.declared.Mode.TheVariants.{Write}
+use Rattle.dt_proc.specs.declared.tree.KeyDecl.{KeyDecl}
+use Rattle.dt_proc.specs.Tree.{ProcTree}
+use Rattle.dt_proc.specs.Sound.{IsSound, sort_of}
+use Rattle.dt_eval.specs.declared.finish.Cause.{Cause}
+use Rattle.dt_eval.specs.declared.state.Row.{Row}
+use Rattle.dt_eval.specs.Data.{State, with_value, name_of}
+use Rattle.dt_eval.specs.Running.{after_block}
+use Rattle.dt_eval.specs.Meaning.{HasKeys, keys_of, names_of, meaning, finish_of, opening, unchanged, writes_in, writes_of}
+use Rattle.dt_eval.specs.Calls.{CallFits, keys_if, meaning_if, call_keys, call_meaning}
+use Rattle.dt_eval.proofs.KeyLaws.{keys_ascend, keys_all, keys_write, written_use}
+use Rattle.dt_eval.proofs.RowLaws.{SetsOnly, Keeps, IsWrittenIn, sets_any, sets_sound, block_keeps, with_value_keys, with_value_written, opening_written, opening_keys, writes_written, writes_ascend}
+
+-- of one procedure
+
+-- a sound procedure writes only keys that it has in mode Write
+pub writes_declared : (proc : ProcTree) (args : List Value) (reads : List (Bytes × Option Value)) → IsSound proc →
+    AllIn (λ w. AnyIn (λ u. (u.0 ≡ w.0) × (u.1 ≡ Write)) (keys_of proc args)) (writes_in (meaning proc args reads))
+writes_declared proc args reads sound = ended (after_block (names_of proc args) proc.body (opening args reads)) kept
+  where
+    kept : Keeps (AllIn (IsWrittenIn (λ key. AnyIn (λ u. (u.0 ≡ key) × (u.1 ≡ Write)) (keys_of proc args)))) (after_block (names_of proc args) proc.body (opening args reads))
+    kept = block_keeps (names_of proc args) _ (λ k. slice_get (map (λ (d : KeyDecl). d.write) proc.keys) k ≡ Some true)
+        (λ k v rows yes all. with_value_written _ (name_of (names_of proc args) k) v rows (keys_write (name_of (names_of proc args) k) proc args (written_use args proc.keys k yes)) all)
+        proc.body (sets_sound (map sort_of proc.params) (map (λ (d : KeyDecl). d.write) proc.keys) proc.body sound.body) (opening args reads) (opening_written _ reads)
+
+    ended : (r : Result State Cause) → Keeps (AllIn (IsWrittenIn (λ key. AnyIn (λ u. (u.0 ≡ key) × (u.1 ≡ Write)) (keys_of proc args)))) r → AllIn (λ w. AnyIn (λ u. (u.0 ≡ w.0) × (u.1 ≡ Write)) (keys_of proc args)) (writes_in (finish_of r))
+    ended (Ok s) all = writes_written (λ key. AnyIn (λ u. (u.0 ≡ key) × (u.1 ≡ Write)) (keys_of proc args)) s.rows all
+    ended (Err c) all = tt
+
+-- the keys of the rows of a run stay
+pub keys_stay : (proc : ProcTree) (args : List Value) (reads : List (Bytes × Option Value)) → Keeps (λ rows. map (λ (r : Row). r.key) rows ≡ map (λ r. r.0) reads) (after_block (names_of proc args) proc.body (opening args reads))
+keys_stay proc args reads =
+    block_keeps (names_of proc args) (λ rows. map (λ (r : Row). r.key) rows ≡ map (λ r. r.0) reads) (λ k. Unit {0})
+    (λ k v rows yes same. with_value_keys (name_of (names_of proc args) k) v rows ∙ same) proc.body (sets_any (λ k. Unit {0}) (λ k. tt) proc.body) (opening args reads) (opening_keys reads)
+
+-- from reads in ascending order of keys come writes in ascending order of keys
+pub writes_in_order : (proc : ProcTree) (args : List Value) (reads : List (Bytes × Option Value)) → EachThen KeyBefore (map (λ r. r.0) reads) → HasAscendingKeys (writes_in (meaning proc args reads))
+writes_in_order proc args reads each = ended (after_block (names_of proc args) proc.body (opening args reads)) (keys_stay proc args reads)
+  where
+    ended : (r : Result State Cause) → Keeps (λ rows. map (λ (r : Row). r.key) rows ≡ map (λ r. r.0) reads) r → HasAscendingKeys (writes_in (finish_of r))
+    ended (Ok s) same = writes_ascend s.rows (subst (EachThen KeyBefore) (sym same) each)
+    ended (Err c) same = tt
+
+-- of calls
+
+-- the keys of a call stand in ascending order, so none stands twice
+pub call_keys_ascend : (procs : List ProcTree) (number : ℕ) (args : List Value) → HasAscendingKeys (call_keys procs number args)
+call_keys_ascend procs number args = go (slice_get procs number)
+  where
+    go : (p : Option ProcTree) → HasAscendingKeys (keys_if p args)
+    go (Some body) = keys_ascend body args
+    go None = tt
+
+-- each key of a call that fits is a key
+pub call_keys_are_keys : (procs : List ProcTree) (number : ℕ) (args : List Value) → CallFits procs number args → AllIn (λ u. IsKey u.0) (call_keys procs number args)
+call_keys_are_keys procs number args fits = subst (λ p. AllIn (λ u. IsKey u.0) (keys_if p args)) (sym fits.named) (keys_all IsKey fits.body args fits.keys)
+
+-- a call that fits writes only keys that it has in mode Write, whatever it reads
+pub call_writes_declared : (procs : List ProcTree) (number : ℕ) (args : List Value) (reads : List (Bytes × Option Value)) → CallFits procs number args →
+    AllIn (λ w. AnyIn (λ u. (u.0 ≡ w.0) × (u.1 ≡ Write)) (call_keys procs number args)) (writes_in (call_meaning procs number args reads))
+call_writes_declared procs number args reads fits =
+    subst (λ p. AllIn (λ w. AnyIn (λ u. (u.0 ≡ w.0) × (u.1 ≡ Write)) (keys_if p args)) (writes_in (meaning_if p args reads))) (sym fits.named)
+    (writes_declared fits.body args reads fits.sound)
+
+-- the keys that a call writes are keys
+pub call_writes_are_keys : (procs : List ProcTree) (number : ℕ) (args : List Value) (reads : List (Bytes × Option Value)) → CallFits procs number args →
+    AllIn (λ w. IsKey w.0) (writes_in (call_meaning procs number args reads))
+call_writes_are_keys procs number args reads fits =
+    all_map _ (λ w. IsKey w.0) (writes_in (call_meaning procs number args reads)) one (call_writes_declared procs number args reads fits)
+  where
+    one : (w : Bytes × Option Value) → AnyIn (λ u. (u.0 ≡ w.0) × (u.1 ≡ Write)) (call_keys procs number args) → IsKey w.0
+    one w any =
+        let r : (u : Bytes × Mode) × _ × IsKey u.0 × ((u.0 ≡ w.0) × (u.1 ≡ Write)) = all_any (λ u. IsKey u.0) (λ u. (u.0 ≡ w.0) × (u.1 ≡ Write)) (call_keys procs number args) (call_keys_are_keys procs number args fits) any in
+        subst IsKey r.3.0 r.2
+
+-- from reads of just its keys a call writes keys in ascending order, so none twice
+pub call_writes_ascend : (procs : List ProcTree) (number : ℕ) (args : List Value) (reads : List (Bytes × Option Value)) →
+    map (λ r. r.0) reads ≡ map (λ u. u.0) (call_keys procs number args) → HasAscendingKeys (writes_in (call_meaning procs number args reads))
+call_writes_ascend procs number args reads same = go (slice_get procs number)
+  where
+    ascend : EachThen KeyBefore (map (λ r. r.0) reads)
+    ascend = subst (EachThen KeyBefore) (sym same) (each_image KeyBefore (λ (u : Bytes × Mode). u.0) (call_keys procs number args) (call_keys_ascend procs number args))
+
+    go : (p : Option ProcTree) → HasAscendingKeys (writes_in (meaning_if p args reads))
+    go (Some body) = writes_in_order body args reads ascend
+    go None = tt
+
+-- what a call means depends on the values of its keys alone
+pub call_meaning_alike : (procs : List ProcTree) (number : ℕ) (args : List Value) (values others : Bytes → Option Value) → AllIn (λ u. values u.0 ≡ others u.0) (call_keys procs number args) →
+    call_meaning procs number args (map (λ u. (u.0, values u.0)) (call_keys procs number args)) ≡ call_meaning procs number args (map (λ u. (u.0, others u.0)) (call_keys procs number args))
+call_meaning_alike procs number args values others same = ap (call_meaning procs number args) (alike (call_keys procs number args) same)
+  where
+    alike : (us : List (Bytes × Mode)) → AllIn (λ u. values u.0 ≡ others u.0) us → ◌≡◌ {A = List (Bytes × Option Value)} (map (λ u. (u.0, values u.0)) us) (map (λ u. (u.0, others u.0)) us)
+    alike [] all = refl
+    alike (u ∷ us) all = let head : ◌≡◌ {A = Bytes × Option Value} (u.0, values u.0) (u.0, others u.0) = ap (λ v. (u.0, v)) all.0 in ap₂ ◌∷◌ head (alike us all.1)

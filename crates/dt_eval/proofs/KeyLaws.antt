@@ -1,0 +1,242 @@
+-- The list of the keys of a call: it ascends, and holds each key that a declaration gives, with Write if any declaration of
+-- it is.
+use Rattle.std.proofs.Common.{◌≡◌, ◌<◌, ◌≤◌, ◌+◌, ◌⊎◌, ℕ, length, take, drop, set, ◌++◌, ap₂, add-one, append_assoc, arith, zero, suc, Bool, true, List, [], ◌∷◌, map, get_or, slice_get, Some, refl, sym, ap, subst, ◌∙◌, inl, inr}
+use Rattle.std.specs.List.{fold}
+use Rattle.std.proofs.Math.Seq.{drop-cons}
+use Rattle.std.proofs.lemmas.List.{take_all, drop_all}
+use Rattle.std.specs.Ordering.{nat_cmp, ordering_reverse, is_eq}
+use Rattle.std.specs.declared.cmp.Ordering.{Ordering}
+use Rattle.std.specs.declared.cmp.Ordering.TheVariants.{Less, Equal, Greater}
+use Rattle.std.specs.Cmp.Lexicographic.{slice_cmp, bytes_decides, texts_ties, nat_list_cmp_total}
+use Rattle.dt_lists.specs.Lists.{AnyIn, AllIn, Pairwise}
+use Rattle.dt_lists.proofs.Places.{place_within}
+use Rattle.dt_lists.proofs.Words.{all_map}
+use Rattle.dt_text.specs.declared.Value.{Value}
+use Rattle.dt_access.specs.Clash.{Bytes}
+use Rattle.dt_access.specs.Orders.{KeyBefore, HasAscendingKeys}
+use Rattle.dt_access.specs.declared.Mode.{Mode}
+use Rattle.dt_access.specs.declared.Mode.TheVariants.{Read, Write}
+use Rattle.dt_proc.specs.declared.tree.KeyDecl.{KeyDecl}
+use Rattle.dt_proc.specs.declared.tree.KeyItem.{KeyItem}
+use Rattle.dt_proc.specs.declared.tree.KeyItem.TheVariants as item
+use Rattle.dt_proc.specs.declared.tree.Kind.{Kind}
+use Rattle.dt_proc.specs.declared.tree.Kind.TheVariants as kind
+use Rattle.dt_proc.specs.Sound.{IsSound, IsSoundItem}
+use Rattle.dt_proc.specs.Tree.{ProcTree}
+use Rattle.dt_eval.specs.Framed.{IsItemWithin}
+use Rattle.dt_eval.specs.Meaning.{Fits, IsOfKind}
+use Rattle.dt_text.specs.Texts.{IsKey}
+use Rattle.dt_eval.specs.Keys.{HasKeys, IsFirstBad, key_text, mode_of, merged, names_in, names_of, use_of, placed, with_use, keys_of}
+
+-- keys that compare as equal are the same
+pub same_by_cmp : (a b : Bytes) → slice_cmp nat_cmp a b ≡ Equal → a ≡ b
+same_by_cmp a b e = (bytes_decides a b).0 (texts_ties a b ∙ ap is_eq e)
+
+-- what compares as greater stands after
+pub before_of_greater : (a b : Bytes) → slice_cmp nat_cmp a b ≡ Greater → KeyBefore b a
+before_of_greater a b e = nat_list_cmp_total.antisymm b a ∙ ap ordering_reverse e
+
+-- what holds of the keys of a list and of a new key holds of all after it was added
+with_use_all : (P : Bytes → Type 0) (vs : List (Bytes × Mode)) (u : Bytes × Mode) → AllIn (λ v. P v.0) vs → P u.0 → AllIn (λ v. P v.0) (with_use vs u)
+with_use_all P [] u all p = (p, tt)
+with_use_all P (v ∷ vs) u all p = go (slice_cmp nat_cmp u.0 v.0) (with_use_all P vs u all.1 p)
+  where
+    go : (o : Ordering) → AllIn (λ x. P x.0) (with_use vs u) → AllIn (λ x. P x.0) (placed o u v vs (with_use vs u))
+    go Less later = (p, all)
+    go Equal later = all
+    go Greater later = (all.0, later)
+
+with_use_ascends : (vs : List (Bytes × Mode)) (u : Bytes × Mode) → HasAscendingKeys vs → HasAscendingKeys (with_use vs u)
+with_use_ascends [] u a = (tt, tt)
+with_use_ascends (v ∷ vs) u a = go (slice_cmp nat_cmp u.0 v.0) refl (with_use_ascends vs u a.1)
+  where
+    go : (o : Ordering) → slice_cmp nat_cmp u.0 v.0 ≡ o → HasAscendingKeys (with_use vs u) → HasAscendingKeys (placed o u v vs (with_use vs u))
+    go Less e later = ((e, all_map _ _ vs (λ x h. nat_list_cmp_total.trans u.0 v.0 x.0 e h) a.0), a)
+    go Equal e later = a
+    go Greater e later = (with_use_all (KeyBefore v.0) vs u a.0 (before_of_greater u.0 v.0 e), later)
+
+fold_ascends : (us vs : List (Bytes × Mode)) → HasAscendingKeys vs → HasAscendingKeys (fold with_use vs us)
+fold_ascends [] vs a = a
+fold_ascends (u ∷ us) vs a = fold_ascends us (with_use vs u) (with_use_ascends vs u a)
+
+fold_all : (P : Bytes → Type 0) (us vs : List (Bytes × Mode)) → AllIn (λ v. P v.0) vs → AllIn (λ u. P u.0) us → AllIn (λ v. P v.0) (fold with_use vs us)
+fold_all P [] vs all more = all
+fold_all P (u ∷ us) vs all more = fold_all P us (with_use vs u) (with_use_all P vs u all more.0) more.1
+
+-- the keys of a call stand in ascending order
+pub keys_ascend : (proc : ProcTree) (args : List Value) → HasAscendingKeys (keys_of proc args)
+keys_ascend proc args = fold_ascends (map (use_of args) proc.keys) [] tt
+
+uses_all : (P : Bytes → Type 0) (args : List Value) (ds : List KeyDecl) → AllIn P (map (λ (d : KeyDecl). key_text args d.items) ds) → AllIn (λ (u : Bytes × Mode). P u.0) (map (use_of args) ds)
+uses_all P args [] all = tt
+uses_all P args (d ∷ ds) all = (all.0, uses_all P args ds all.1)
+
+-- what holds of what each declaration gives holds of each key
+pub keys_all : (P : Bytes → Type 0) (proc : ProcTree) (args : List Value) → AllIn P (map (λ (d : KeyDecl). key_text args d.items) proc.keys) → AllIn (λ u. P u.0) (keys_of proc args)
+keys_all P proc args all = fold_all P (map (use_of args) proc.keys) [] tt (uses_all P args proc.keys all)
+
+-- a use that has Q is kept where Q outlasts a merge
+module _ (Q : Bytes × Mode → Type 0) (left : (key : Bytes) (m n : Mode) → Q (key, m) → Q (key, merged m n)) (right : (key : Bytes) (m n : Mode) → Q (key, n) → Q (key, merged m n)) where
+  with_use_keeps : (vs : List (Bytes × Mode)) (u : Bytes × Mode) → AnyIn Q vs → AnyIn Q (with_use vs u)
+  with_use_keeps [] u h = absurd h
+  with_use_keeps (v ∷ vs) u h = go (slice_cmp nat_cmp u.0 v.0) h (with_use_keeps vs u)
+    where
+      go : (o : Ordering) → AnyIn Q (v ∷ vs) → (AnyIn Q vs → AnyIn Q (with_use vs u)) → AnyIn Q (placed o u v vs (with_use vs u))
+      go Less h later = inr h
+      go Equal (inl q) later = inl (left v.0 v.1 u.1 q)
+      go Equal (inr k) later = inr k
+      go Greater (inl q) later = inl q
+      go Greater (inr k) later = inr (later k)
+
+  with_use_adds : (vs : List (Bytes × Mode)) (u : Bytes × Mode) → Q u → AnyIn Q (with_use vs u)
+  with_use_adds [] u q = inl q
+  with_use_adds (v ∷ vs) u q = go (slice_cmp nat_cmp u.0 v.0) refl (with_use_adds vs u q)
+    where
+      go : (o : Ordering) → slice_cmp nat_cmp u.0 v.0 ≡ o → AnyIn Q (with_use vs u) → AnyIn Q (placed o u v vs (with_use vs u))
+      go Less e later = inl q
+      go Equal e later = inl (right v.0 v.1 u.1 (subst (λ k. Q (k, u.1)) (same_by_cmp u.0 v.0 e) q))
+      go Greater e later = inr later
+
+  fold_keeps : (us vs : List (Bytes × Mode)) → AnyIn Q vs → AnyIn Q (fold with_use vs us)
+  fold_keeps [] vs h = h
+  fold_keeps (u ∷ us) vs h = fold_keeps us (with_use vs u) (with_use_keeps vs u h)
+
+  fold_adds : (us vs : List (Bytes × Mode)) → AnyIn Q us → AnyIn Q (fold with_use vs us)
+  fold_adds [] vs h = absurd h
+  fold_adds (u ∷ us) vs (inl q) = fold_keeps us (with_use vs u) (with_use_adds vs u q)
+  fold_adds (u ∷ us) vs (inr h) = fold_adds us (with_use vs u) h
+
+  -- what some declaration gives, some key has
+  pub keys_any : (proc : ProcTree) (args : List Value) → AnyIn Q (map (use_of args) proc.keys) → AnyIn Q (keys_of proc args)
+  keys_any proc args h = fold_adds (map (use_of args) proc.keys) [] h
+
+-- the first or the second mode is Write, and so is the merged one
+merged_left : (m n : Mode) → m ≡ Write → merged m n ≡ Write
+merged_left m n e = ap (λ x. merged x n) e
+
+merged_right : (m n : Mode) → n ≡ Write → merged m n ≡ Write
+merged_right Read n e = e
+merged_right Write n e = refl
+
+-- a key that some declaration gives with `write` has mode Write
+pub keys_write : (key : Bytes) (proc : ProcTree) (args : List Value) → AnyIn (λ u. (u.0 ≡ key) × (u.1 ≡ Write)) (map (use_of args) proc.keys) → AnyIn (λ u. (u.0 ≡ key) × (u.1 ≡ Write)) (keys_of proc args)
+keys_write key proc args = keys_any (λ u. (u.0 ≡ key) × (u.1 ≡ Write)) (λ k m n q. (q.0, merged_left m n q.1)) (λ k m n q. (q.0, merged_right m n q.1)) proc args
+
+-- a key that some declaration gives is there
+pub keys_there : (key : Bytes) (proc : ProcTree) (args : List Value) → AnyIn (λ u. u.0 ≡ key) (map (use_of args) proc.keys) → AnyIn (λ u. u.0 ≡ key) (keys_of proc args)
+keys_there key proc args = keys_any (λ u. u.0 ≡ key) (λ k m n q. q) (λ k m n q. q) proc args
+
+-- the declaration of a number, where it is one with `write`
+pub written_use : (args : List Value) (ds : List KeyDecl) (k : ℕ) → slice_get (map (λ (d : KeyDecl). d.write) ds) k ≡ Some true → AnyIn (λ u. (u.0 ≡ get_or (map (λ (d : KeyDecl). key_text args d.items) ds) k []) × (u.1 ≡ Write)) (map (use_of args) ds)
+written_use args [] k e = cc
+written_use args (d ∷ ds) zero e = let yes : d.write ≡ true = cc in inl (refl, ap mode_of yes)
+written_use args (d ∷ ds) (suc k) e = inr (written_use args ds k e)
+
+-- the arguments that parts of key expressions name are there
+
+one_within : (params : List Kind) (n : ℕ) → length params ≡ n → (i : KeyItem) → IsSoundItem params i → IsItemWithin n i
+one_within params n e (item.Text t) s = tt
+one_within params n e (item.Param p) s = subst (λ m. p < m) e (place_within params p kind.Text s)
+one_within params n e (item.Show p) s = subst (λ m. p < m) e (place_within params p kind.Int s)
+
+pub fits_length : (params : List Kind) (args : List Value) → Pairwise IsOfKind params args → length params ≡ length args
+fits_length [] [] f = refl
+fits_length [] (v ∷ args) f = absurd f
+fits_length (k ∷ params) [] f = absurd f
+fits_length (k ∷ params) (v ∷ args) f = ap suc (fits_length params args f.1)
+
+pub items_within : (proc : ProcTree) (args : List Value) → IsSound proc → Fits proc args → AllIn (λ (d : KeyDecl). AllIn (IsItemWithin (length args)) d.items) proc.keys
+items_within proc args sound fits =
+    all_map (λ (d : KeyDecl). AllIn (IsSoundItem proc.params) d.items) (λ (d : KeyDecl). AllIn (IsItemWithin (length args)) d.items) proc.keys
+    (λ (d : KeyDecl) s. all_map (IsSoundItem proc.params) (IsItemWithin (length args)) d.items (one_within proc.params (length args) (fits_length proc.params args fits)) s) sound.items
+
+-- a use that is put in at a place
+
+set_cut : {A : Type 0} (xs : List A) (i : ℕ) (x : A) → i < length xs → set xs i x ≡ take i xs ++ x ∷ drop (suc i) xs
+set_cut [] i x below = absurd (omega arith)
+set_cut (y ∷ xs) zero x below = refl
+set_cut (y ∷ xs) (suc i) x below = ap (λ ys. y ∷ ys) (set_cut xs i x (omega arith))
+
+taken : {A : Type 0} (xs : List A) (i : ℕ) (v : A) → i < length xs → v ≡ get_or xs i v → take (suc i) xs ≡ take i xs ++ v ∷ []
+taken [] i v below is = absurd (omega arith)
+taken (x ∷ xs) zero v below is = ap (λ y. y ∷ []) (sym is)
+taken (x ∷ xs) (suc i) v below is = ap (λ ys. x ∷ ys) (taken xs i v (omega arith) is)
+
+module _ (xs : List (Bytes × Mode)) (i : ℕ) (v u : Bytes × Mode) (below : i < length xs) (is : v ≡ get_or xs i v) (further : with_use xs u ≡ take i xs ++ with_use (drop i xs) u) where
+  cut : drop i xs ≡ v ∷ drop (suc i) xs
+  cut = drop-cons xs i v below ∙ ap (λ x. x ∷ drop (suc i) xs) (sym is)
+
+  placed_at : (o : Ordering) → slice_cmp nat_cmp u.0 v.0 ≡ o → with_use xs u ≡ take i xs ++ placed o u v (drop (suc i) xs) (with_use (drop (suc i) xs) u)
+  placed_at o e = further ∙ ap (λ ys. take i xs ++ with_use ys u) cut ∙ ap (λ o. take i xs ++ placed o u v (drop (suc i) xs) (with_use (drop (suc i) xs) u)) e
+
+  pub use_before : slice_cmp nat_cmp u.0 v.0 ≡ Less → take i xs ++ u ∷ drop i xs ≡ with_use xs u
+  use_before e = ap (λ ys. take i xs ++ u ∷ ys) cut ∙ sym (placed_at Less e)
+
+  pub use_same : slice_cmp nat_cmp u.0 v.0 ≡ Equal → set xs i (v.0, merged v.1 u.1) ≡ with_use xs u
+  use_same e = set_cut xs i (v.0, merged v.1 u.1) below ∙ sym (placed_at Equal e)
+
+  pub use_further : slice_cmp nat_cmp u.0 v.0 ≡ Greater → with_use xs u ≡ take (i + 1) xs ++ with_use (drop (i + 1) xs) u
+  use_further e =
+      placed_at Greater e ∙ sym (append_assoc (take i xs) (v ∷ []) (with_use (drop (suc i) xs) u)) ∙ ap (λ ys. ys ++ with_use (drop (suc i) xs) u) (sym (taken xs i v below is))
+      ∙ ap (λ j. take j xs ++ with_use (drop j xs) u) (sym (add-one i))
+
+pub use_last : (xs : List (Bytes × Mode)) (i : ℕ) (u : Bytes × Mode) → length xs ≤ i → with_use xs u ≡ take i xs ++ with_use (drop i xs) u → xs ++ u ∷ [] ≡ with_use xs u
+use_last xs i u past further = sym (further ∙ ap₂ (λ ys zs. ys ++ with_use zs u) (take_all i xs past) (drop_all i xs past))
+
+-- what was read at a place is one thing
+pub same_read : {A : Type 0} (xs : List A) (i : ℕ) (v w : A) → i < length xs → v ≡ get_or xs i v → w ≡ get_or xs i w → v ≡ w
+same_read [] i v w below p q = absurd (omega arith)
+same_read (x ∷ xs) zero v w below p q = p ∙ sym q
+same_read (x ∷ xs) (suc i) v w below p q = same_read xs i v w (omega arith) p q
+
+zero_add : (j : ℕ) → 0 + j ≡ j
+zero_add j = omega arith
+
+add_zero : (n : ℕ) → n + 0 ≡ n
+add_zero n = omega arith
+
+shifted : (n j : ℕ) → n + suc j ≡ n + 1 + j
+shifted n j = omega arith
+
+-- what is known of the uses gathered from the first declarations
+pub record Gathers (proc : ProcTree) (args : List Value) (declarations : List KeyDecl) (number : ℕ) (uses : List (Bytes × Mode)) : Type 0 where
+  pub within : AllIn (λ (d : KeyDecl). AllIn (IsItemWithin (length args)) d.items) (drop number declarations)
+  pub told : fold with_use uses (map (use_of args) (drop number declarations)) ≡ keys_of proc args
+  pub all : AllIn IsKey (names_in args (drop number declarations)) → HasKeys proc args
+  pub first : (j : ℕ) → IsFirstBad (names_in args (drop number declarations)) j → IsFirstBad (names_of proc args) (number + j)
+
+pub gathers_none : (proc : ProcTree) (args : List Value) (declarations : List KeyDecl) (uses : List (Bytes × Mode)) → IsSound proc → Fits proc args → declarations ≡ proc.keys → uses ≡ [] → Gathers proc args declarations 0 uses
+gathers_none proc args declarations uses sound fits same none = record {
+  within = subst (AllIn (λ (d : KeyDecl). AllIn (IsItemWithin (length args)) d.items)) (sym same) (items_within proc args sound fits);
+  told = λ i. fold with_use (none i) (map (use_of args) (same i));
+  all = λ h. subst (λ ds. AllIn IsKey (names_in args ds)) same h;
+  first = λ j h. subst (λ n. IsFirstBad (names_of proc args) n) (sym (zero_add j)) (subst (λ ds. IsFirstBad (names_in args ds) j) same h);
+}
+
+module _ (proc : ProcTree) (args : List Value) (declarations : List KeyDecl) (number : ℕ) (uses : List (Bytes × Mode)) (d : KeyDecl) (below : number < length declarations) (is : d ≡ get_or declarations number d) (known : Gathers proc args declarations number uses) where
+  declared : drop number declarations ≡ d ∷ drop (number + 1) declarations
+  declared = drop-cons declarations number d below ∙ ap (λ x. x ∷ drop (suc number) declarations) (sym is) ∙ ap (λ j. d ∷ drop j declarations) (sym (add-one number))
+
+  pub gathers_within : AllIn (IsItemWithin (length args)) d.items
+  gathers_within = (subst (AllIn (λ (d : KeyDecl). AllIn (IsItemWithin (length args)) d.items)) declared known.within).0
+
+  pub gathers_more : IsKey (key_text args d.items) → (more : List (Bytes × Mode)) → more ≡ with_use uses (use_of args d) → Gathers proc args declarations (number + 1) more
+  gathers_more key more e = record {
+    within = (subst (AllIn (λ (d : KeyDecl). AllIn (IsItemWithin (length args)) d.items)) declared known.within).1;
+    told = ap (λ us. fold with_use us (map (use_of args) (drop (number + 1) declarations))) e ∙ ap (λ ds. fold with_use uses (map (use_of args) ds)) (sym declared) ∙ known.told;
+    all = λ h. known.all (subst (λ ds. AllIn IsKey (names_in args ds)) (sym declared) (key, h));
+    first = λ j h. subst (IsFirstBad (names_of proc args)) (shifted number j) (known.first (suc j) (subst (λ ds. IsFirstBad (names_in args ds) (suc j)) (sym declared) (key, h)));
+  }
+
+  pub gathers_bad : ¬ (IsKey (key_text args d.items)) → (i : ℕ) → i ≡ number → IsFirstBad (names_of proc args) i
+  gathers_bad bad i e = subst (IsFirstBad (names_of proc args)) (add_zero number ∙ sym e) (known.first 0 (subst (λ ds. IsFirstBad (names_in args ds) 0) (sym declared) bad))
+
+module _ (proc : ProcTree) (args : List Value) (declarations : List KeyDecl) (number : ℕ) (uses : List (Bytes × Mode)) (past : length declarations ≤ number) (known : Gathers proc args declarations number uses) where
+  pub gathers_all : uses ≡ keys_of proc args
+  gathers_all = ap (λ ds. fold with_use uses (map (use_of args) ds)) (sym (drop_all number declarations past)) ∙ known.told
+
+  pub gathers_keys : HasKeys proc args
+  gathers_keys = known.all (subst (λ ds. AllIn IsKey (names_in args ds)) (sym (drop_all number declarations past)) tt)
+
+  pub gathers_ascend : HasAscendingKeys uses
+  gathers_ascend = subst HasAscendingKeys (sym gathers_all) (keys_ascend proc args)

@@ -1,0 +1,169 @@
+ghost use Rattle.std.specs.Prelude.{◌≡◌, ◌<◌, length, map, IfOk, OnOk, option_copied};
+ghost use Rattle.dt_lists.specs.Lists.{AllIn};
+ghost use Rattle.dt_proc.specs.declared.tree.Sort.{Sort};
+ghost use Rattle.dt_proc.specs.Shown.{block_of, formula_of, gift_of, step_of};
+ghost use Rattle.dt_proc.specs.Sound.{IsSoundGift, IsStored};
+ghost use Rattle.dt_proc.specs.Tree.{choose, let_new, set_row};
+ghost use Rattle.dt_eval.specs.Data.{sort_of_datum};
+ghost use Rattle.dt_eval.specs.Framed.{Answers, HasSortIn, IsSorted, IsSoundBlock, IsSoundStep, Reaches, seen, told};
+ghost use Rattle.dt_eval.specs.Running.{after_block, after_gifts, after_step, gift_value};
+
+use crate::finish::{Cause, Values};
+use crate::operators::{byte_count, decides, negated, number_in, operate, opposite, printed, stored, text_in, truth_of};
+use crate::rows::Rows;
+use crate::state::Datum;
+use crate::stop::Stop;
+use dt_proc::{Expr, Give, Stmt, Stmts};
+use dt_text::{NoMemory, Value};
+use std::alloc::Global;
+
+/// What a run knows between two statements.
+#[derive(Drop)]
+pub(crate) struct Frame {
+    /// The parameters, and the lets that are visible.
+    pub(crate) variables: Vec<Datum>,
+    /// The rows of its keys.
+    pub(crate) rows: Rows,
+    /// The values given so far.
+    pub(crate) given: Values,
+}
+
+impl Frame {
+    /// What an expression gives. Operands are evaluated from the left, and the right one only where the left one does not
+    /// decide.
+    pub(crate) fn value_of(&self, alloc: Global, expr: &Expr) -> Result<Datum, Stop>
+        requires { IsSorted self.now (formula_of expr.now) }
+        ensures answer { Answers (told self.now (formula_of expr.now)) result }
+        ensures sort { (s : Sort) → HasSortIn self.now (formula_of expr.now) s → IfOk result (λ d. sort_of_datum d ≡ s) }
+    {
+        match expr {
+            Expr::Int(number) => Ok(Datum::Int(*number)),
+            Expr::Text(text) => Ok(Datum::Text(text.copy(alloc)?)),
+            Expr::Bool(truth) => Ok(Datum::Bool(*truth)),
+            Expr::Var(variable) => Ok(self.variables[*variable as usize].copy(alloc)?),
+            Expr::IntOf(key) => number_in(self.rows.value(*key)),
+            Expr::TextOf(key) => text_in(alloc, self.rows.value(*key)),
+            Expr::Has(key) => Ok(Datum::Bool(self.rows.value(*key).is_some())),
+            Expr::Len(text) => Ok(byte_count(self.value_of(alloc, text)?)),
+            Expr::Show(number) => printed(alloc, self.value_of(alloc, number)?),
+            Expr::Neg(number) => Ok(negated(self.value_of(alloc, number)?)?),
+            Expr::Not(truth) => Ok(opposite(self.value_of(alloc, truth)?)),
+            Expr::Binary(op, left, right) => {
+                let left = self.value_of(alloc, left)?;
+                if decides(*op, &left) {
+                    return Ok(left);
+                }
+                let right = self.value_of(alloc, right)?;
+                operate(alloc, *op, left, right)
+            }
+        }
+    }
+
+    /// Runs a statement.
+    #[cycle(running)]
+    #[tactic(auto, using(crate::proofs::FrameLaws::step_let, crate::proofs::FrameLaws::step_set_key, crate::proofs::FrameLaws::step_set_value, crate::proofs::FrameLaws::step_clear_key, crate::proofs::FrameLaws::step_gifts))]
+    fn step(&mut self, alloc: Global, stmt: &Stmt) -> Result<(), Stop>
+        requires { IsSoundStep self.old (step_of stmt.now) }
+        ensures answer { Reaches (after_step self.old.rows.0 (step_of stmt.now) (seen self.old)) self.new result }
+        ensures names { OnOk result (self.new.rows.0 ≡ self.old.rows.0) }
+    {
+        match stmt {
+            Stmt::Let(value) => self.bind(alloc, value),
+            Stmt::Set(key, value) => self.set(alloc, *key, value),
+            Stmt::Clear(key) => {
+                self.rows.change(*key, None);
+                Ok(())
+            }
+            Stmt::If(test, then, otherwise) => self.choose(alloc, test, then, otherwise),
+            Stmt::Abort(text) => Err(Stop::Aborted(Cause::Word(text.copy(alloc)?))),
+            Stmt::Give(items) => self.give(alloc, items.as_slice()),
+        }
+    }
+
+    /// Runs statements in order, up to the first that aborts.
+    #[cycle(running)]
+    pub(crate) fn block(&mut self, alloc: Global, stmts: &[Stmt]) -> Result<(), Stop>
+        requires { IsSoundBlock self.old (block_of stmts.now) }
+        ensures answer { Reaches (after_block self.old.rows.0 (block_of stmts.now) (seen self.old)) self.new result }
+        ensures names { OnOk result (self.new.rows.0 ≡ self.old.rows.0) }
+    {
+        for stmt in stmts {
+            self.step(alloc, stmt)?;
+        }
+        Ok(())
+    }
+
+    /// Runs the one block or the other, and forgets its lets.
+    #[cycle(running)]
+    fn choose(&mut self, alloc: Global, test: &Expr, then: &Stmts, otherwise: &Stmts) -> Result<(), Stop>
+        requires { IsSoundStep self.old (choose (formula_of test.now) then.now otherwise.now) }
+        ensures answer { Reaches (after_step self.old.rows.0 (choose (formula_of test.now) then.now otherwise.now) (seen self.old)) self.new result }
+        ensures names { OnOk result (self.new.rows.0 ≡ self.old.rows.0) }
+    {
+        let visible = self.variables.len();
+        if truth_of(self.value_of(alloc, test)?) {
+            self.block(alloc, then.as_slice())?;
+        } else {
+            self.block(alloc, otherwise.as_slice())?;
+        }
+        self.variables.truncate(visible);
+        Ok(())
+    }
+
+    /// Gives a new variable the value of an expression.
+    fn bind(&mut self, alloc: Global, value: &Expr) -> Result<(), Stop>
+        requires { IsSorted self.old (formula_of value.now) }
+        ensures answer { Reaches (after_step self.old.rows.0 (let_new (formula_of value.now)) (seen self.old)) self.new result }
+        ensures names { OnOk result (self.new.rows.0 ≡ self.old.rows.0) }
+    {
+        let value = self.value_of(alloc, value)?;
+        self.variables.push(value)?;
+        Ok(())
+    }
+
+    /// Gives the row of a key the value of an expression.
+    fn set(&mut self, alloc: Global, key: u32, value: &Expr) -> Result<(), Stop>
+        requires key { key < length self.old.rows.0 }
+        requires value { (s : Sort) × IsStored s × HasSortIn self.old (formula_of value.now) s }
+        ensures answer { Reaches (after_step self.old.rows.0 (set_row key (formula_of value.now)) (seen self.old)) self.new result }
+        ensures names { OnOk result (self.new.rows.0 ≡ self.old.rows.0) }
+    {
+        let value = stored(self.value_of(alloc, value)?);
+        self.rows.change(key, Some(value));
+        Ok(())
+    }
+
+    /// Adds the values of the items to the result, in order.
+    fn give(&mut self, alloc: Global, items: &[Give]) -> Result<(), Stop>
+        requires { AllIn (IsSoundGift (map sort_of_datum self.old.variables.items) (length self.old.rows.0)) (map gift_of items.now) }
+        ensures answer { Reaches (after_gifts self.old.rows.0 (map gift_of items.now) (seen self.old)) self.new result }
+        ensures names { OnOk result (self.new.rows.0 ≡ self.old.rows.0) }
+    {
+        for item in items {
+            let value = self.gift(alloc, item)?;
+            self.given.push(value)?;
+        }
+        Ok(())
+    }
+
+    /// What an item adds to the result.
+    fn gift(&self, alloc: Global, item: &Give) -> Result<Option<Value>, Stop>
+        requires { IsSoundGift (map sort_of_datum self.now.variables.items) (length self.now.rows.0) (gift_of item.now) }
+        ensures { Answers (gift_value self.now.rows.0 (gift_of item.now) (seen self.now)) result }
+    {
+        match item {
+            Give::Row(key) => Ok(copied(alloc, self.rows.value(*key))?),
+            Give::Value(value) => Ok(Some(stored(self.value_of(alloc, value)?))),
+        }
+    }
+}
+
+/// A copy of what is borrowed, if there is something.
+fn copied(alloc: Global, value: Option<&Value>) -> Result<Option<Value>, NoMemory>
+    ensures { IfOk result (λ copy. copy ≡ option_copied value.entry) }
+{
+    match value {
+        Some(value) => Ok(Some(value.copy(alloc)?)),
+        None => Ok(None),
+    }
+}

@@ -1,0 +1,159 @@
+ghost use Rattle.std.specs.Prelude.{◌≡◌, ◌<◌, ◌^◌, ◌++◌, ℕ, Some, IfOk, OnOk, length};
+ghost use Rattle.dt_lists.specs.Lists.{AllIn};
+ghost use Rattle.dt_text.specs.Texts.{IsKey};
+ghost use Rattle.dt_eval.specs.Keys.{HasKeys, IsFirstBad, item_text, key_text, keys_of, merged, names_of, plain, use_of, with_use};
+ghost use Rattle.dt_eval.specs.Meaning.{Fits};
+ghost use Rattle.dt_eval.specs.Framed.{IsItemWithin};
+
+use dt_access::{Keys, Mode};
+use dt_proc::{KeyDecl, KeyItem, Proc};
+use dt_text::{Key, NoMemory, Value, put_i64};
+use std::alloc::Global;
+use std::cmp::Ordering;
+use std::fmt;
+
+/// Why the keys of a call are not told.
+#[derive(Debug, Drop)]
+pub enum KeysError {
+    /// The declaration of this number, from 0, is the first that gives no key.
+    BadKey(u32),
+    /// Memory ran out.
+    NoMemory,
+}
+
+impl fmt::Display for KeysError {
+    fn fmt<W: fmt::Write>(&self, f: &mut fmt::Formatter<W>) -> fmt::Result {
+        match self {
+            KeysError::BadKey(number) => write!(f, "declaration {number} gives no key"),
+            KeysError::NoMemory => write!(f, "no memory"),
+        }
+    }
+}
+
+impl std::error::Error for KeysError {}
+
+impl From<NoMemory> for KeysError {
+    ghost use Rattle.dt_eval.specs.declared.keys.KeysError.TheVariants as variants;
+
+    ghost from_gives = { λ _ e. e ≡ variants.NoMemory };
+
+    fn from(_error: NoMemory) -> Self {
+        KeysError::NoMemory
+    }
+}
+
+/// The distinct keys that a call uses, in ascending order, each with its mode: `Write` if any declaration of it is.
+///
+/// The arguments fit. `BadKey` names the first declaration that gives no key.
+#[tactic(auto, using(crate::proofs::KeyLaws::keys_ascend, crate::proofs::KeyLaws::items_within))]
+pub fn keys_of(alloc: Global, body: &Proc, args: &[Value]) -> Result<Keys, KeysError>
+    requires { Fits body.now args.now }
+    ensures keys { IfOk result (λ keys. keys ≡ keys_of body.now args.now) }
+    ensures ok { IfOk result (λ keys. HasKeys body.now args.now) }
+    ensures bad { (i : ℕ) → result ≡ Err (KeysError.BadKey i) → IsFirstBad (names_of body.now args.now) i }
+{
+    let mut uses = Vec::new(alloc);
+    let declarations = body.keys();
+    for (number, declared) in declarations.iter().enumerate() {
+        let (key, mode) = use_of(alloc, number, declared, args)?;
+        add_use(&mut uses, key, mode)?;
+    }
+    Ok(Keys::from_vec(uses))
+}
+
+/// The key and the mode of the declaration of this number.
+fn use_of(
+    alloc: Global,
+    number: usize,
+    declared: &KeyDecl,
+    args: &[Value],
+) -> Result<(Key, Mode), KeysError>
+    requires number { number < 2 ^ 32 }
+    requires items { AllIn (IsItemWithin (length args.now)) declared.now.items }
+    ensures uses { IfOk result (λ used. (used ≡ use_of args.now declared.now) × IsKey (key_text args.now declared.now.items)) }
+    ensures bad { (i : ℕ) → result ≡ Err (KeysError.BadKey i) → (i ≡ number) × ¬ (IsKey (key_text args.now declared.now.items)) }
+{
+    let text = key_text(alloc, declared.items.as_slice(), args)?;
+    if !Key::is_key(text.as_slice()) {
+        return Err(KeysError::BadKey(number as u32));
+    }
+    let mode = if declared.write {
+        Mode::Write
+    } else {
+        Mode::Read
+    };
+    Ok((Key::new(alloc, text.as_slice())?, mode))
+}
+
+/// What a key expression gives.
+pub(crate) fn key_text(
+    alloc: Global,
+    items: &[KeyItem],
+    args: &[Value],
+) -> Result<Vec<u8>, NoMemory>
+    requires { AllIn (IsItemWithin (length args.now)) items.now }
+    ensures { IfOk result (λ text. text.items ≡ key_text args.now items.now) }
+{
+    let mut text = Vec::new(alloc);
+    for item in items {
+        add_item(alloc, &mut text, item, args)?;
+    }
+    Ok(text)
+}
+
+/// Adds a part of a key expression to the text.
+fn add_item(
+    alloc: Global,
+    text: &mut Vec<u8>,
+    item: &KeyItem,
+    args: &[Value],
+) -> Result<(), NoMemory>
+    requires { IsItemWithin (length args.now) item.now }
+    ensures { OnOk result (text.new.items ≡ text.old.items ++ item_text args.now item.now) }
+{
+    match item {
+        KeyItem::Text(part) => text.extend_from_slice(part.bytes())?,
+        KeyItem::Param(param) => add_argument(alloc, text, &args[*param as usize])?,
+        KeyItem::Show(param) => add_argument(alloc, text, &args[*param as usize])?,
+    }
+    Ok(())
+}
+
+/// Adds an argument as it stands in a key: a text as it is, a number in its printed form.
+fn add_argument(alloc: Global, text: &mut Vec<u8>, argument: &Value) -> Result<(), NoMemory>
+    ensures { OnOk result (text.new.items ≡ text.old.items ++ plain (Some argument.now)) }
+{
+    match argument {
+        Value::Int(number) => put_i64(alloc, text, *number)?,
+        Value::Text(part) => text.extend_from_slice(part.bytes())?,
+    }
+    Ok(())
+}
+
+/// Adds a use to uses in ascending order of keys: a key that is there already stays once, and its modes are merged.
+fn add_use(uses: &mut Vec<(Key, Mode)>, key: Key, mode: Mode) -> Result<(), NoMemory>
+    ensures { OnOk result (uses.new.items ≡ with_use uses.old.items (key, mode)) }
+{
+    for place in 0..uses.len() {
+        match key.cmp(&uses[place].0) {
+            Ordering::Less => {
+                uses.insert(place, (key, mode))?;
+                return Ok(());
+            }
+            Ordering::Equal => {
+                uses[place].1 = merged(uses[place].1, mode);
+                return Ok(());
+            }
+            Ordering::Greater => {}
+        }
+    }
+    uses.push((key, mode))?;
+    Ok(())
+}
+
+/// `Write` if either mode is.
+fn merged(first: Mode, second: Mode) -> Mode
+    ensures { result ≡ merged first second }
+{
+    if first.is_write() { first } else { second }
+}

@@ -1,0 +1,236 @@
+ghost use Rattle.std.specs.Prelude.{◌≡◌, ◌++◌, Some, Ok, IfOk, option_copied};
+ghost use Rattle.std.specs.Fmt.{signed_decimal};
+ghost use Rattle.dt_text.specs.Texts.{IsStr};
+ghost use Rattle.dt_proc.specs.declared.tree.Sort.TheVariants as sort;
+ghost use Rattle.dt_proc.specs.Sound.{IsStored, Takes};
+ghost use Rattle.dt_eval.specs.declared.state.Datum.TheVariants.{Int, Bool as Truth};
+ghost use Rattle.dt_eval.specs.Data.{sort_of_datum, stored};
+ghost use Rattle.dt_eval.specs.Evaluating as spec;
+ghost use Rattle.dt_eval.specs.Framed.{Answers, TakesBoth, or_overflow};
+
+use crate::finish::Cause;
+use crate::state::Datum;
+use crate::stop::Stop;
+use dt_proc::Op;
+use dt_text::{NoMemory, Str, StrError, Value, put_i64};
+use std::alloc::Global;
+
+/// The number in a row.
+pub(crate) fn number_in(value: Option<&Value>) -> Result<Datum, Stop>
+    ensures { Answers (spec.number_in (option_copied value.entry)) result }
+{
+    match value {
+        Some(Value::Int(number)) => Ok(Datum::Int(*number)),
+        _ => Err(Stop::Aborted(Cause::Kind)),
+    }
+}
+
+/// The text in a row.
+pub(crate) fn text_in(alloc: Global, value: Option<&Value>) -> Result<Datum, Stop>
+    ensures { Answers (spec.text_in (option_copied value.entry)) result }
+{
+    match value {
+        Some(Value::Text(text)) => Ok(Datum::Text(text.copy(alloc)?)),
+        _ => Err(Stop::Aborted(Cause::Kind)),
+    }
+}
+
+/// The number that an expression gave.
+fn number_of(datum: Datum) -> i64
+    requires { sort_of_datum datum ≡ sort.Int }
+    ensures { datum ≡ Int result }
+{
+    match datum {
+        Datum::Int(number) => number,
+        _ => unreachable!(),
+    }
+}
+
+/// The truth that an expression gave.
+pub(crate) fn truth_of(datum: Datum) -> bool
+    requires { sort_of_datum datum ≡ sort.Bool }
+    ensures { datum ≡ Truth result }
+{
+    match datum {
+        Datum::Bool(truth) => truth,
+        _ => unreachable!(),
+    }
+}
+
+/// What an expression gave, as a row has it.
+pub(crate) fn stored(datum: Datum) -> Value
+    requires { IsStored (sort_of_datum datum) }
+    ensures { stored datum ≡ Some result }
+{
+    match datum {
+        Datum::Int(number) => Value::Int(number),
+        Datum::Text(text) => Value::Text(text),
+        Datum::Bool(_) => unreachable!(),
+    }
+}
+
+/// How many bytes a text has.
+pub(crate) fn byte_count(datum: Datum) -> Datum
+    requires { sort_of_datum datum ≡ sort.Text }
+    ensures { spec.byte_count datum ≡ Ok result }
+{
+    match datum {
+        Datum::Text(text) => Datum::Int(text.bytes().len() as i64),
+        _ => unreachable!(),
+    }
+}
+
+/// The printed form of a number.
+#[tactic(auto, using(crate::proofs::TextLaws::signed_is_str))]
+pub(crate) fn printed(alloc: Global, datum: Datum) -> Result<Datum, Stop>
+    requires { sort_of_datum datum ≡ sort.Int }
+    ensures { Answers (spec.printed datum) result }
+{
+    let bytes = digits_of(alloc, number_of(datum))?;
+    Ok(Datum::Text(text_of(alloc, bytes.as_slice())?))
+}
+
+/// The bytes of the printed form of a number.
+#[tactic(auto, using(crate::proofs::TextLaws::signed_is_str))]
+fn digits_of(alloc: Global, number: i64) -> Result<Vec<u8>, NoMemory>
+    ensures { IfOk result (λ bytes. (bytes.items ≡ signed_decimal number) × IsStr (signed_decimal number)) }
+{
+    let mut bytes = Vec::new(alloc);
+    put_i64(alloc, &mut bytes, number)?;
+    Ok(bytes)
+}
+
+/// The text that has these bytes.
+fn text_of(alloc: Global, bytes: &[u8]) -> Result<Str, NoMemory>
+    requires { IsStr bytes.now }
+    ensures { IfOk result (λ text. text ≡ bytes.now) }
+{
+    match Str::read(alloc, bytes) {
+        Ok(text) => Ok(text),
+        Err(StrError::NoMemory) => Err(NoMemory),
+        Err(StrError::Long) => unreachable!(),
+        Err(StrError::BadByte(_)) => unreachable!(),
+    }
+}
+
+/// The number with the other sign.
+pub(crate) fn negated(datum: Datum) -> Result<Datum, Cause>
+    requires { sort_of_datum datum ≡ sort.Int }
+    ensures { result ≡ spec.negated datum }
+{
+    in_range(number_of(datum).checked_neg())
+}
+
+/// The other truth.
+pub(crate) fn opposite(datum: Datum) -> Datum
+    requires { sort_of_datum datum ≡ sort.Bool }
+    ensures { spec.other_truth datum ≡ Ok result }
+{
+    Datum::Bool(!truth_of(datum))
+}
+
+/// The number, or `Overflow` where there is none.
+fn in_range(number: Option<i64>) -> Result<Datum, Cause>
+    ensures { result ≡ or_overflow number }
+{
+    match number {
+        Some(number) => Ok(Datum::Int(number)),
+        None => Err(Cause::Overflow),
+    }
+}
+
+/// Whether the left operand decides: `and` by false, `or` by true.
+pub(crate) fn decides(op: Op, left: &Datum) -> bool
+    ensures { result ≡ spec.decides op left.now }
+{
+    match left {
+        Datum::Bool(true) => matches!(op, Op::Or),
+        Datum::Bool(false) => matches!(op, Op::And),
+        _ => false,
+    }
+}
+
+/// What an operator gives of two operands.
+pub(crate) fn operate(alloc: Global, op: Op, left: Datum, right: Datum) -> Result<Datum, Stop>
+    requires { TakesBoth op left right }
+    ensures { Answers (spec.operate op left right) result }
+{
+    match (left, right) {
+        (Datum::Int(left), Datum::Int(right)) => Ok(of_numbers(op, left, right)?),
+        (Datum::Text(left), Datum::Text(right)) => of_texts(alloc, op, &left, &right),
+        (Datum::Bool(left), Datum::Bool(right)) => Ok(of_truths(op, left, right)),
+        _ => unreachable!(),
+    }
+}
+
+/// What an operator gives of two numbers.
+fn of_numbers(op: Op, left: i64, right: i64) -> Result<Datum, Cause>
+    requires { Takes op sort.Int }
+    ensures { result ≡ spec.of_numbers op left right }
+{
+    match op {
+        Op::Equal => Ok(Datum::Bool(left == right)),
+        Op::Differ => Ok(Datum::Bool(left != right)),
+        Op::Less => Ok(Datum::Bool(left < right)),
+        Op::AtMost => Ok(Datum::Bool(left <= right)),
+        Op::More => Ok(Datum::Bool(left > right)),
+        Op::AtLeast => Ok(Datum::Bool(left >= right)),
+        Op::Add => in_range(left.checked_add(right)),
+        Op::Sub => in_range(left.checked_sub(right)),
+        Op::Mul => in_range(left.checked_mul(right)),
+        Op::Div | Op::Rem if right == 0 => Err(Cause::Zero),
+        Op::Div => in_range(left.checked_div(right)),
+        Op::Rem => in_range(left.checked_rem(right)),
+        Op::Or | Op::And | Op::Join => unreachable!(),
+    }
+}
+
+/// What an operator gives of two texts.
+fn of_texts(alloc: Global, op: Op, left: &Str, right: &Str) -> Result<Datum, Stop>
+    requires { Takes op sort.Text }
+    ensures { Answers (spec.of_texts op left.now right.now) result }
+{
+    match op {
+        Op::Equal => Ok(Datum::Bool(left == right)),
+        Op::Differ => Ok(Datum::Bool(left != right)),
+        Op::Less => Ok(Datum::Bool(left < right)),
+        Op::AtMost => Ok(Datum::Bool(left <= right)),
+        Op::More => Ok(Datum::Bool(left > right)),
+        Op::AtLeast => Ok(Datum::Bool(left >= right)),
+        Op::Join => joined(alloc, left, right),
+        _ => unreachable!(),
+    }
+}
+
+/// The one text and then the other, or `Long` where that is no text.
+#[tactic(auto, using(crate::proofs::TextLaws::joined_text))]
+fn joined(alloc: Global, left: &Str, right: &Str) -> Result<Datum, Stop>
+    ensures { Answers (spec.joining left.now right.now) result }
+{
+    if left.bytes().len() + right.bytes().len() > Str::LONGEST {
+        return Err(Stop::Aborted(Cause::Long));
+    }
+    let bytes = bytes_of_both(alloc, left, right)?;
+    Ok(Datum::Text(text_of(alloc, bytes.as_slice())?))
+}
+
+/// The bytes of the one text and then those of the other.
+fn bytes_of_both(alloc: Global, left: &Str, right: &Str) -> Result<Vec<u8>, NoMemory>
+    ensures { IfOk result (λ bytes. (bytes.items ≡ left.now ++ right.now) × IsStr left.now × IsStr right.now) }
+{
+    let mut bytes = Vec::from_slice(alloc, left.bytes())?;
+    bytes.extend_from_slice(right.bytes())?;
+    Ok(bytes)
+}
+
+/// What an operator gives of two truths, the left one not deciding.
+fn of_truths(op: Op, left: bool, right: bool) -> Datum
+    requires { Takes op sort.Bool }
+    ensures { spec.of_truths op left right ≡ Ok result }
+{
+    match op {
+        Op::Or => Datum::Bool(left || right),
+        Op::And => Datum::Bool(left && right),
+        _ => unreachable!(),
+    }
+}
