@@ -1,7 +1,7 @@
 -- The headline, and when it must come true.
-use Rattle.std.specs.Prelude.{◌≡◌, ℕ, ◌≤◌, ◌⊎◌, List, map, length, Option, Some, IfSome}
+use Rattle.std.specs.Prelude.{◌≡◌, ℕ, ◌≤◌, ◌⊎◌, List, map, length, Option, Some, IfSome, Bool, true, false, IsTrue}
+use Rattle.std.specs.List.{list_any}
 use Rattle.dt_access.specs.Clash.{Bytes}
-use Rattle.dt_lists.specs.Lists.{AnyIn}
 use Rattle.dt_outside.specs.Files.{Files}
 use Rattle.dt_events.specs.declared.Event.{Event}
 use Rattle.dt_events.specs.Events.{AreEvents}
@@ -77,14 +77,18 @@ pub record Headline (told : Option Files) (words : List Bytes) (Written : Bytes 
   -- what was written is the report of these events
   pub report : Written (report_text (report_of cluster workload (unnumbered events)))
 
--- a move
-abbrev pub IsMove : Wanted → Type 0
-IsMove (Call proc args) = ⊥
-IsMove (Move key target) = Unit {0}
+-- whether it is a move
+abbrev pub is_move : Wanted → Bool
+is_move (Call proc args) = false
+is_move (Move key target) = true
+
+-- whether a session of the workload wants a move
+abbrev pub moves : Workload → Bool
+moves workload = list_any (λ s. list_any is_move s.calls) workload.sessions
 
 -- a session of the workload wants a move
 abbrev pub HasMove : Workload → Type 0
-HasMove workload = AnyIn (λ s. AnyIn IsMove s.calls) workload.sessions
+HasMove workload = IsTrue (moves workload)
 
 -- a replay that can be done: the words are those of one, all files are what they are to be, nothing is moved (which is not
 -- built yet), and the events are legal

@@ -217,8 +217,8 @@ fn write_pieces<O: Sink>(out: &mut O, pieces: &[Piece<'_>]) -> Result<(), Failed
 
 /// Writes a piece.
 fn write_piece<O: Sink>(out: &mut O, piece: Piece<'_>) -> Result<(), Failed>
-    ensures added { OnOk result (Adds (O.held out.old) (O.held out.new) (said piece)) }
-    ensures prefix { OnErr result (AddsPrefix (O.held out.old) (O.held out.new) (said piece)) }
+    ensures added { OnOk result (Adds (O.held out.old) (O.held out.new) (said piece.entry)) }
+    ensures prefix { OnErr result (AddsPrefix (O.held out.old) (O.held out.new) (said piece.entry)) }
     ensures failed { OnErr result (Rose (O.faults out.old) (O.faults out.new)) }
     ensures later { O.faults out.old ≤ O.faults out.new }
 {

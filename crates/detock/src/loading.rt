@@ -35,10 +35,10 @@ pub fn load_cluster<F: Folder>(
     word: ClusterWord<'_>,
 ) -> Result<Cluster, Status>
     requires { IsRight word }
-    ensures cluster { IfOk result (λ cluster. HasCluster (F.told files.old) (word_of word) cluster) }
+    ensures cluster { IfOk result (λ cluster. HasCluster (F.told files.old) (word_of word.entry) cluster) }
     ensures valid { IfOk result IsValidCluster }
     ensures refused { (status : _) → result ≡ Err status →
-        IsClusterRefusal (F.told files.old) (word_of word) (F.faults files.old) (F.faults files.new) status }
+        IsClusterRefusal (F.told files.old) (word_of word.entry) (F.faults files.old) (F.faults files.new) status }
     ensures same_told { F.told files.new ≡ F.told files.old }
     ensures later { F.faults files.old ≤ F.faults files.new }
 {

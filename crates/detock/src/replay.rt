@@ -1,12 +1,12 @@
-ghost use Rattle.std.specs.Prelude.{◌≡◌, ◌≤◌, length, map, IfOk, MatchBool};
-ghost use Rattle.dt_lists.specs.Lists.{AnyIn};
+ghost use Rattle.std.specs.Prelude.{◌≡◌, ◌≤◌, length, map, IfOk};
+ghost use Rattle.std.specs.List.{list_any};
 ghost use Rattle.dt_cluster.specs.Valid.{IsValidCluster};
 ghost use Rattle.dt_workload.specs.Valid.{IsValidWorkload};
 ghost use Rattle.dt_session.specs.Run.{AreLegal, world_after};
 ghost use Rattle.dt_report.specs.Report.{report_text};
 ghost use Rattle.dt_world.specs.Reported.{report_of};
 ghost use Rattle.detock.specs.Words.{NeedsThreads, spelled};
-ghost use Rattle.detock.specs.Headline.{HasMove, Headline, IsMove, IsReplayable, file_limit, unnumbered};
+ghost use Rattle.detock.specs.Headline.{Headline, IsReplayable, file_limit, is_move, moves, unnumbered};
 ghost use Rattle.detock.specs.Refusals.{IsRefusal, IsStepRefusal, refusal_of};
 
 use crate::loading::{load_cluster, load_events, load_workload};
@@ -18,7 +18,7 @@ use dt_outside::Folder;
 use dt_plain::PlainSched;
 use dt_report::print;
 use dt_text::NoMemory;
-use dt_workload::{Wanted, Workload};
+use dt_workload::{Session, Wanted, Workload};
 use dt_world::{StepError, World};
 use std::alloc::Global;
 
@@ -46,26 +46,22 @@ pub fn report<F: Folder>(alloc: Global, words: &[String], files: &mut F) -> Resu
 
 /// Whether a session of the workload wants a move, which is not built yet.
 fn has_move(workload: &Workload) -> bool
-    ensures { MatchBool result (HasMove workload.now) (¬ HasMove workload.now) }
+    ensures { result ≡ moves workload.now }
 {
-    for session in workload.sessions.as_slice() {
-        if wants_move(session.calls.as_slice()) {
-            return true;
-        }
-    }
-    false
+    workload.sessions.as_slice().iter().any(wants_move)
 }
 
-/// Whether one of these is a move.
-fn wants_move(calls: &[Wanted]) -> bool
-    ensures { MatchBool result (AnyIn IsMove calls.now) (¬ AnyIn IsMove calls.now) }
+/// Whether one of the calls of a session is a move.
+fn wants_move(session: &Session) -> bool
+    ensures { result ≡ list_any is_move session.now.calls }
 {
-    for call in calls {
-        if let Wanted::Move(_, _) = call {
-            return true;
-        }
-    }
-    false
+    session.calls.as_slice().iter().any(is_move)
+}
+
+fn is_move(call: &Wanted) -> bool
+    ensures { result ≡ is_move call.now }
+{
+    matches!(call, Wanted::Move(_, _))
 }
 
 /// The text of the report of these events, if each is legal after those before it.

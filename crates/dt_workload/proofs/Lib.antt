@@ -1,3 +1,5 @@
 mod Cuts
 mod Forms
 mod Steps
+pub mod OneForm
+pub mod OneFile

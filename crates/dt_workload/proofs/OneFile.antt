@@ -1,0 +1,415 @@
+-- Bytes are one workload of a cluster or have one fault, and never both.
+use Rattle.std.proofs.Common.{◌≡◌, ◌≢◌, ◌⊎◌, inl, inr, ℕ, zero, suc, ◌+◌, ◌<◌, ◌≤◌, ◌==◌, Bool, true, false, cond, not, nat_lt, List, [], ◌∷◌, ◌++◌, length, map, slice_get, Option, Some, None, refl, sym, ap, ◌∙◌, subst, arith, append_assoc, append-nil, length-append}
+use Rattle.std.specs.Prelude.{nat_eq, IsSome}
+use Rattle.std.specs.Option.{is_some, option_and_then}
+use Rattle.std.specs.List.{position_or_len, sum_by}
+use Rattle.std.specs.Cmp.Lexicographic.{pointwise, bytes_decides}
+use Rattle.std.proofs.lemmas.Bool.Decides.{nat_tests}
+use Rattle.std.proofs.lemmas.List.{map-append}
+use Rattle.std.proofs.lemmas.List.Sums.{sum_by-append}
+use Rattle.dt_lists.specs.Lists.{AllIn, Has, Distinct, Pairwise}
+use Rattle.dt_lists.proofs.Words.{all_get, all_append_right, each_across, has_map}
+use Rattle.dt_lists.proofs.Places.{has_place, place_within}
+use Rattle.dt_text.specs.Texts.{IsKey, IsName}
+use Rattle.dt_text.specs.Lines.{FileLine, lines_of}
+use Rattle.dt_text.specs.declared.Value.{Value}
+use Rattle.dt_proc.specs.Tree.{ProcTree}
+use Rattle.dt_proc.specs.Names.{place_of_name}
+use Rattle.dt_cluster.specs.declared.Cluster.{Cluster}
+use Rattle.dt_cluster.specs.Valid.{IsValidCluster}
+use Rattle.dt_workload.specs.Lines.{Bytes, Form, session_line, call_line, move_line, HasForm}
+use Rattle.dt_workload.specs.File.{name_of, wanted_line, all_lines, CanBeWanted, CanBeSession, names_in, sessions_at, calls_in, AreSessions, IsWorkload, Needs, NothingMore, proc_named, FitsIf, GivesKeys, IsFormFault, IsLineFault, IsWorkloadFault}
+use Rattle.dt_workload.specs.declared.workload.Wanted.{Wanted}
+use Rattle.dt_workload.specs.declared.workload.Wanted.TheVariants.{Call, Move}
+use Rattle.dt_workload.specs.declared.workload.Session.{Session}
+use Rattle.dt_workload.specs.declared.workload.Workload.{Workload}
+use Rattle.dt_workload.specs.declared.error.WorkloadCause.{WorkloadCause}
+use Rattle.dt_workload.specs.declared.error.WorkloadCause.TheVariants as cause
+use Rattle.dt_workload.proofs.OneForm.{head-is, tail-is, one_form}
+
+-- ---- the procedure of a name
+
+abbrev HaveNames : List ProcTree → Type 0
+HaveNames procs = Distinct (map (λ p. p.name) procs)
+
+other_name : (name : Bytes) (p : ProcTree) → p.name ≢ name → pointwise nat_eq p.name name ≡ false
+other_name name p ne = decided (pointwise nat_eq p.name name) refl
+  where
+    decided : (b : Bool) → pointwise nat_eq p.name name ≡ b → b ≡ false
+    decided true e = absurd (ne ((bytes_decides p.name name).0 e))
+    decided false e = refl
+
+named_at : (procs : List ProcTree) (number : ℕ) (body : ProcTree) (name : Bytes) → HaveNames procs → slice_get procs number ≡ Some body → body.name ≡ name
+    → position_or_len (λ p. pointwise nat_eq p.name name) procs ≡ number
+named_at [] number body name once e is = cc
+named_at (p ∷ ps) zero body name once e is =
+    ap (λ b. cond (not b) (1 + position_or_len (λ p. pointwise nat_eq p.name name) ps) 0) ((bytes_decides p.name name).1 (ap (λ q. q.name) (same_some e) ∙ is))
+  where
+    same_some : ◌≡◌ {A = Option ProcTree} (Some p) (Some body) → p ≡ body
+    same_some e = cc
+named_at (p ∷ ps) (suc number) body name once e is =
+    let next : 1 + number ≡ suc number = omega arith in
+    ap (λ b. cond (not b) (1 + position_or_len (λ p. pointwise nat_eq p.name name) ps) 0) (other_name name p (λ same. all_get _ (map (λ p. p.name) ps) once.0 body.name (has_map (λ p. p.name) ps body (has_place ps number body e)) (same ∙ sym is)))
+    ∙ ap (λ n. 1 + n) (named_at ps number body name once.1 e is)
+    ∙ next
+
+is_below : (n limit : ℕ) → n < limit → nat_lt n limit ≡ true
+is_below n limit h = grind (arith, nat_tests)
+
+found : (cluster : Cluster) (number : ℕ) (body : ProcTree) → HaveNames cluster.procs → slice_get cluster.procs number ≡ Some body → proc_named cluster body.name ≡ Some body
+found cluster number body once e =
+    let at = named_at cluster.procs number body body.name once e refl in
+    let place : place_of_name body.name cluster.procs ≡ Some number = ap (λ n. cond (nat_lt n (length cluster.procs)) (Some n) None) at ∙ ap (λ b. cond b (Some number) None) (is_below number (length cluster.procs) (place_within cluster.procs number body e)) in
+    ap (option_and_then (slice_get cluster.procs)) place ∙ e
+
+-- ---- calls and moves by their lines
+
+call_name : {p q : Bytes} {a b : List Value} → call_line p a ≡ call_line q b → p ≡ q
+call_name e = cc
+
+call_args : {p q : Bytes} {a b : List Value} → call_line p a ≡ call_line q b → a ≡ b
+call_args e = cc
+
+move_key : {k j : Bytes} {m n : ℕ} → move_line k m ≡ move_line j n → k ≡ j
+move_key e = cc
+
+move_target : {k j : Bytes} {m n : ℕ} → move_line k m ≡ move_line j n → m ≡ n
+move_target e = cc
+
+session_name : {k j : Bytes} {m n : ℕ} → session_line k m ≡ session_line j n → k ≡ j
+session_name e = cc
+
+session_region : {k j : Bytes} {m n : ℕ} → session_line k m ≡ session_line j n → m ≡ n
+session_region e = cc
+
+same_wanted : (cluster : Cluster) → HaveNames cluster.procs → (v w : Wanted) → CanBeWanted cluster v → CanBeWanted cluster w
+    → wanted_line cluster.procs v ≡ wanted_line cluster.procs w → v ≡ w
+same_wanted cluster once (Call m a) (Call n b) h k e =
+    let names : k.body.name ≡ h.body.name = sym (ap name_of k.named) ∙ sym (call_name e) ∙ ap name_of h.named in
+    let number : m ≡ n = sym (named_at cluster.procs m h.body h.body.name once h.named refl) ∙ named_at cluster.procs n k.body h.body.name once k.named names in
+    let args = call_args e in
+    λ i. Call (number i) (args i)
+same_wanted cluster once (Call m a) (Move j n) h k e = absurd cc
+same_wanted cluster once (Move i m) (Call n b) h k e = absurd cc
+same_wanted cluster once (Move k m) (Move j n) h l e =
+    let key = move_key e in
+    let target = move_target e in
+    λ i. Move (key i) (target i)
+
+-- a session's line is not that of a call or move
+no_session_line : (procs : List ProcTree) (name : Bytes) (region : ℕ) (w : Wanted) → session_line name region ≡ wanted_line procs w → ⊥
+no_session_line procs name region (Call number args) e = cc
+no_session_line procs name region (Move key target) e = cc
+
+-- lines of sessions do not begin with that of a call or move
+no_wanted_first : (procs : List ProcTree) (xs : List Session) (w : Wanted) (more : List Form) → all_lines procs xs ≡ wanted_line procs w ∷ more → ⊥
+no_wanted_first procs [] w more e = cc
+no_wanted_first procs (x ∷ xs) w more e = no_session_line procs x.name x.region w (head-is e)
+
+-- the one calls and moves are the others and more
+record GoOn (procs : List ProcTree) (calls others : List Wanted) (rest : List Form) : Type 0 where
+  pub wanted : Wanted
+  pub later : List Wanted
+  pub lines : List Form
+  pub is : calls ≡ others ++ wanted ∷ later
+  pub told : rest ≡ wanted_line procs wanted ∷ lines
+
+split_calls : (cluster : Cluster) → HaveNames cluster.procs → (xs : List Session) (calls others : List Wanted) (rest : List Form)
+    → AllIn (CanBeWanted cluster) calls → AllIn (CanBeWanted cluster) others
+    → map (wanted_line cluster.procs) calls ++ all_lines cluster.procs xs ≡ map (wanted_line cluster.procs) others ++ rest
+    → ((calls ≡ others) × (all_lines cluster.procs xs ≡ rest)) ⊎ GoOn cluster.procs calls others rest
+split_calls cluster once xs [] [] rest h k e = inl (refl, e)
+split_calls cluster once xs [] (w ∷ others) rest h k e = absurd (no_wanted_first cluster.procs xs w (map (wanted_line cluster.procs) others ++ rest) e)
+split_calls cluster once xs (w ∷ calls) [] rest h k e =
+    inr (record { wanted = w; later = calls; lines = map (wanted_line cluster.procs) calls ++ all_lines cluster.procs xs; is = refl; told = sym e })
+split_calls cluster once xs (v ∷ calls) (w ∷ others) rest h k e =
+    one_more (same_wanted cluster once v w h.0 k.0 (head-is e)) (split_calls cluster once xs calls others rest h.1 k.1 (tail-is e))
+  where
+    one_more : v ≡ w → ((calls ≡ others) × (all_lines cluster.procs xs ≡ rest)) ⊎ GoOn cluster.procs calls others rest
+        → ((v ∷ calls ≡ w ∷ others) × (all_lines cluster.procs xs ≡ rest)) ⊎ GoOn cluster.procs (v ∷ calls) (w ∷ others) rest
+    one_more same (inl (c, l)) = inl ((λ i. same i ∷ c i), l)
+    one_more same (inr g) = inr (record { wanted = g.wanted; later = g.later; lines = g.lines; is = λ i. same i ∷ g.is i; told = g.told })
+
+-- ---- sessions whose lines are those of others and more
+
+-- one more session
+record BySession (before all : List Session) (form : Form) : Type 0 where
+  pub session : Session
+  pub later : List Session
+  pub is : all ≡ before ++ session ∷ later
+  pub told : form ≡ session_line session.name session.region
+
+abbrev longer : Session → Wanted → List Wanted → Session
+longer session wanted later = record { name = session.name; region = session.region; calls = session.calls ++ wanted ∷ later }
+
+-- one more call or move of the last session
+record ByWanted (procs : List ProcTree) (before all : List Session) (form : Form) : Type 0 where
+  pub front : List Session
+  pub last : Session
+  pub wanted : Wanted
+  pub others : List Wanted
+  pub later : List Session
+  pub was : before ≡ front ++ last ∷ []
+  pub is : all ≡ front ++ longer last wanted others ∷ later
+  pub told : form ≡ wanted_line procs wanted
+
+abbrev Onward : List ProcTree → List Session → List Session → List Form → Type 0
+Onward procs before all [] = all ≡ before
+Onward procs before all (form ∷ forms) = BySession before all form ⊎ ByWanted procs before all form
+
+one_session_more : (procs : List ProcTree) (y x : Session) (ys xs : List Session) (rest : List Form) → x ≡ y → Onward procs ys xs rest → Onward procs (y ∷ ys) (x ∷ xs) rest
+one_session_more procs y x ys xs [] same o = λ i. same i ∷ o i
+one_session_more procs y x ys xs (form ∷ rest) same (inl o) = inl (record { session = o.session; later = o.later; is = λ i. same i ∷ o.is i; told = o.told })
+one_session_more procs y x ys xs (form ∷ rest) same (inr o) =
+    inr (record { front = y ∷ o.front; last = o.last; wanted = o.wanted; others = o.others; later = o.later; was = ap (λ l. y ∷ l) o.was; is = λ i. same i ∷ o.is i; told = o.told })
+
+last_goes_on : (procs : List ProcTree) (y x : Session) (ys xs : List Session) (rest : List Form) → session_line x.name x.region ≡ session_line y.name y.region
+    → GoOn procs x.calls y.calls (all_lines procs ys ++ rest) → Onward procs (y ∷ ys) (x ∷ xs) rest
+last_goes_on procs y x [] xs [] head g = absurd (none g.told)
+  where
+    none : ◌≡◌ {A = List Form} [] (wanted_line procs g.wanted ∷ g.lines) → ⊥
+    none e = cc
+last_goes_on procs y x [] xs (form ∷ rest) head g =
+    let name = session_name head in
+    let region = session_region head in
+    inr (record {
+      front = [];
+      last = y;
+      wanted = g.wanted;
+      others = g.later;
+      later = xs;
+      was = refl;
+      is = λ i. record { name = name i; region = region i; calls = g.is i } ∷ xs;
+      told = head-is g.told;
+    })
+last_goes_on procs y x (z ∷ ys) xs rest head g = absurd (no_session_line procs z.name z.region g.wanted (head-is g.told))
+
+onward : (cluster : Cluster) → HaveNames cluster.procs → (before all : List Session) (rest : List Form)
+    → AllIn (CanBeSession cluster) before → AllIn (CanBeSession cluster) all
+    → all_lines cluster.procs all ≡ all_lines cluster.procs before ++ rest → Onward cluster.procs before all rest
+onward cluster once [] [] [] h k e = refl
+onward cluster once [] [] (form ∷ rest) h k e = absurd cc
+onward cluster once [] (x ∷ xs) [] h k e = absurd cc
+onward cluster once [] (x ∷ xs) (form ∷ rest) h k e = inl (record { session = x; later = xs; is = refl; told = sym (head-is e) })
+onward cluster once (y ∷ ys) [] rest h k e = absurd cc
+onward cluster once (y ∷ ys) (x ∷ xs) rest h k e =
+    by (split_calls cluster once xs x.calls y.calls (all_lines cluster.procs ys ++ rest) k.0.2 h.0.2
+    (tail-is e ∙ append_assoc (map (wanted_line cluster.procs) y.calls) (all_lines cluster.procs ys) rest))
+    (λ lines. onward cluster once ys xs rest h.1 k.1 lines)
+  where
+    head : session_line x.name x.region ≡ session_line y.name y.region
+    head = head-is e
+
+    by : ((x.calls ≡ y.calls) × (all_lines cluster.procs xs ≡ all_lines cluster.procs ys ++ rest)) ⊎ GoOn cluster.procs x.calls y.calls (all_lines cluster.procs ys ++ rest)
+        → (all_lines cluster.procs xs ≡ all_lines cluster.procs ys ++ rest → Onward cluster.procs ys xs rest) → Onward cluster.procs (y ∷ ys) (x ∷ xs) rest
+    by (inl (calls, lines)) later =
+        one_session_more cluster.procs y x ys xs rest (λ i. record { name = session_name head i; region = session_region head i; calls = calls i }) (later lines)
+    by (inr g) later = last_goes_on cluster.procs y x ys xs rest head g
+
+-- ---- lines of a file
+
+abbrev IsLine : FileLine → Form → Type 0
+IsLine line form = HasForm line.bytes form
+
+-- what is related to a front of a list is a front of what is related to the list
+related_front : (xs more : List FileLine) (fs gs : List Form) → Pairwise IsLine (xs ++ more) fs → Pairwise IsLine xs gs
+    → (rest : List Form) × (fs ≡ gs ++ rest) × Pairwise IsLine more rest
+related_front [] more fs [] h k = (fs, refl, h)
+related_front [] more fs (g ∷ gs) h k = absurd k
+related_front (x ∷ xs) more [] gs h k = absurd h
+related_front (x ∷ xs) more (f ∷ fs) [] h k = absurd k
+related_front (x ∷ xs) more (f ∷ fs) (g ∷ gs) h k =
+    let r : (rest : List Form) × (fs ≡ gs ++ rest) × Pairwise IsLine more rest = related_front xs more fs gs h.1 k.1 in
+    (r.0, (λ i. one_form x.bytes f g h.0 k.0 i ∷ r.1 i), r.2)
+
+one_sessions : (cluster : Cluster) → HaveNames cluster.procs → (lines : List FileLine) (s t : List Session) → AreSessions cluster lines s → AreSessions cluster lines t → t ≡ s
+one_sessions cluster once lines s t h k =
+    by (related_front lines [] (all_lines cluster.procs t) (all_lines cluster.procs s) (subst (λ l. Pairwise IsLine l (all_lines cluster.procs t)) (sym (append-nil lines)) k.lines) h.lines)
+  where
+    by : (rest : List Form) × (all_lines cluster.procs t ≡ all_lines cluster.procs s ++ rest) × Pairwise IsLine [] rest → t ≡ s
+    by ([], e, none) = onward cluster once s t [] h.sessions k.sessions e
+    by (form ∷ rest, e, none) = absurd none
+
+-- ---- needs
+
+abbrev HasNoCause : (WorkloadCause → Type 0) → Type 0
+HasNoCause Told = (told : WorkloadCause) → Told told → ⊥
+
+abbrev HasOneCause : (WorkloadCause → Type 0) → Type 0
+HasOneCause Told = (a b : WorkloadCause) → Told a → Told b → a ≡ b
+
+met : (P : Type 0) (why : WorkloadCause) (later : WorkloadCause → Type 0) → P → HasNoCause later → HasNoCause (Needs P why later)
+met P why later p none told (inl h) = h.1 p
+met P why later p none told (inr h) = none told h.1
+
+all_met : HasNoCause NothingMore
+all_met told h = h
+
+one_need : (P : Type 0) (why : WorkloadCause) (later : WorkloadCause → Type 0) → HasOneCause later → HasOneCause (Needs P why later)
+one_need P why later one a b (inl h) (inl k) = h.0 ∙ sym k.0
+one_need P why later one a b (inl h) (inr k) = absurd (h.1 k.0)
+one_need P why later one a b (inr h) (inl k) = absurd (k.1 h.0)
+one_need P why later one a b (inr h) (inr k) = one a b h.1 k.1
+
+no_need : HasOneCause NothingMore
+no_need a b h k = absurd h
+
+one_form_fault : (cluster : Cluster) (before : List Session) (form : Form) → HasOneCause (IsFormFault cluster before form)
+one_form_fault cluster before (session_line name region) =
+    one_need (IsName name) cause.Name _ (one_need (¬ (Has (names_in before) name)) cause.Twice _
+    (one_need (region < cluster.regions) cause.Region _ (one_need (sessions_at region before < 64) cause.TooMany NothingMore no_need)))
+one_form_fault cluster before (call_line name args) =
+    one_need (¬ (before ≡ [])) cause.NoSession _ (one_need (IsSome (proc_named cluster name)) cause.Proc _
+    (one_need (FitsIf (proc_named cluster name) args) cause.Args _ (one_need (GivesKeys (proc_named cluster name) args) cause.Key _
+    (one_need (calls_in before < 20000) cause.TooMany NothingMore no_need))))
+one_form_fault cluster before (move_line key region) =
+    one_need (¬ (before ≡ [])) cause.NoSession _ (one_need (IsKey key) cause.Key _
+    (one_need (region < cluster.regions) cause.Region _ (one_need (calls_in before < 20000) cause.TooMany NothingMore no_need)))
+
+one_line_fault : (cluster : Cluster) (before : List Session) (line : Bytes) → HasOneCause (IsLineFault cluster before line)
+one_line_fault cluster before line a b (inl h) (inl k) = h.0 ∙ sym k.0
+one_line_fault cluster before line a b (inl h) (inr k) = absurd (h.1 k.0 k.1)
+one_line_fault cluster before line a b (inr h) (inl k) = absurd (k.1 h.0 h.1)
+one_line_fault cluster before line a b (inr h) (inr k) =
+    one_form_fault cluster before h.0 a b h.2 (subst (λ f. IsFormFault cluster before f b) (one_form line k.0 h.0 k.1 h.1) k.2)
+
+-- ---- what goes on to be sessions has no fault
+
+-- what sessions are, whatever their lines
+record Fit (cluster : Cluster) (sessions : List Session) : Type 0 where
+  pub can_be : AllIn (CanBeSession cluster) sessions
+  pub names_once : Distinct (names_in sessions)
+  pub few_sessions : (region : ℕ) → sessions_at region sessions ≤ 64
+  pub few_calls : calls_in sessions ≤ 20000
+
+equal_itself : (n : ℕ) → (n == n) ≡ true
+equal_itself n = grind (arith, nat_tests)
+
+sum_parts : {A : Type 0} (f : A → ℕ) (xs : List A) (y : A) (ys : List A) → sum_by f (xs ++ y ∷ ys) ≡ sum_by f xs + (f y + sum_by f ys)
+sum_parts f xs y ys =
+    let all : sum_by f (xs ++ y ∷ ys) ≡ sum_by f xs + sum_by f (y ∷ ys) = sum_by-append f xs (y ∷ ys) in
+    let first : sum_by f (y ∷ ys) ≡ (0 + f y) + sum_by f ys = sum_by-append f (y ∷ []) ys in
+    omega (arith, all, first)
+
+fresh_name : (before : List Session) (x : Session) (xs : List Session) → Distinct (names_in (before ++ x ∷ xs)) → ¬ (Has (names_in before) x.name)
+fresh_name before x xs once has =
+    each_across (λ a b. ¬ (a ≡ b)) (names_in before) (names_in (x ∷ xs)) x.name x.name (subst Distinct (map-append (λ s. s.name) before (x ∷ xs)) once) has (inl refl) refl
+
+room_there : (before : List Session) (x : Session) (xs : List Session) → sessions_at x.region (before ++ x ∷ xs) ≤ 64 → sessions_at x.region before < 64
+room_there before x xs few =
+    let sum : sessions_at x.region (before ++ x ∷ xs) ≡ sessions_at x.region before + (cond (x.region == x.region) 1 0 + sessions_at x.region xs) = sum_parts (λ s. cond (s.region == x.region) 1 0) before x xs in
+    let one : ◌≡◌ {A = ℕ} (cond (x.region == x.region) 1 0) 1 = ap (λ b. cond b 1 0) (equal_itself x.region) in
+    omega (arith, few, sum, one)
+
+no_session_fault : (cluster : Cluster) (before : List Session) (x : Session) (xs : List Session) → Fit cluster (before ++ x ∷ xs)
+    → HasNoCause (IsFormFault cluster before (session_line x.name x.region))
+no_session_fault cluster before x xs fit =
+    let can_be = (all_append_right (CanBeSession cluster) before (x ∷ xs) fit.can_be).0 in
+    met (IsName x.name) cause.Name _ can_be.0 (met (¬ (Has (names_in before) x.name)) cause.Twice _ (fresh_name before x xs fit.names_once)
+    (met (x.region < cluster.regions) cause.Region _ can_be.1 (met (sessions_at x.region before < 64) cause.TooMany NothingMore (room_there before x xs (fit.few_sessions x.region)) all_met)))
+
+some_before : (front : List Session) (last : Session) → ¬ (front ++ last ∷ [] ≡ [])
+some_before [] last e = cc
+some_before (x ∷ front) last e = cc
+
+room_for_one : (front : List Session) (last : Session) (wanted : Wanted) (others : List Wanted) (later : List Session)
+    → calls_in (front ++ longer last wanted others ∷ later) ≤ 20000 → calls_in (front ++ last ∷ []) < 20000
+room_for_one front last wanted others later few =
+    let sum : calls_in (front ++ longer last wanted others ∷ later) ≡ calls_in front + (length (last.calls ++ wanted ∷ others) + calls_in later) = sum_parts (λ s. length s.calls) front (longer last wanted others) later in
+    let before : calls_in (front ++ last ∷ []) ≡ calls_in front + (length last.calls + 0) = sum_parts (λ s. length s.calls) front last [] in
+    let calls = length-append last.calls (wanted ∷ others) in
+    omega (arith, few, sum, before, calls)
+
+no_wanted_fault : (cluster : Cluster) → HaveNames cluster.procs → (front : List Session) (last : Session) (wanted : Wanted) (others : List Wanted) (later : List Session)
+    → Fit cluster (front ++ longer last wanted others ∷ later) → HasNoCause (IsFormFault cluster (front ++ last ∷ []) (wanted_line cluster.procs wanted))
+no_wanted_fault cluster once front last wanted others later fit =
+    by wanted ((all_append_right (CanBeWanted cluster) last.calls (wanted ∷ others) (all_append_right (CanBeSession cluster) front (longer last wanted others ∷ later) fit.can_be).0.2).0)
+  where
+    by : (w : Wanted) → CanBeWanted cluster w → HasNoCause (IsFormFault cluster (front ++ last ∷ []) (wanted_line cluster.procs w))
+    by (Call number args) can =
+        let name : Bytes = name_of (slice_get cluster.procs number) in
+        let is : proc_named cluster name ≡ Some can.body = ap (λ o. proc_named cluster (name_of o)) can.named ∙ found cluster number can.body once can.named in
+        met (¬ (front ++ last ∷ [] ≡ [])) cause.NoSession _ (some_before front last) (met (IsSome (proc_named cluster name)) cause.Proc _ (ap is_some is)
+        (met (FitsIf (proc_named cluster name) args) cause.Args _ (subst (λ o. FitsIf o args) (sym is) can.fits)
+        (met (GivesKeys (proc_named cluster name) args) cause.Key _ (subst (λ o. GivesKeys o args) (sym is) can.keys)
+        (met (calls_in (front ++ last ∷ []) < 20000) cause.TooMany NothingMore (room_for_one front last wanted others later fit.few_calls) all_met))))
+    by (Move key target) can =
+        met (¬ (front ++ last ∷ [] ≡ [])) cause.NoSession _ (some_before front last) (met (IsKey key) cause.Key _ can.0
+        (met (target < cluster.regions) cause.Region _ can.1
+        (met (calls_in (front ++ last ∷ []) < 20000) cause.TooMany NothingMore (room_for_one front last wanted others later fit.few_calls) all_met)))
+
+no_onward_fault : (cluster : Cluster) → HaveNames cluster.procs → (before all : List Session) (form : Form) (rest : List Form)
+    → Fit cluster all → Onward cluster.procs before all (form ∷ rest) → HasNoCause (IsFormFault cluster before form)
+no_onward_fault cluster once before all form rest fit (inl o) told fault =
+    no_session_fault cluster before o.session o.later (subst (Fit cluster) o.is fit) told (subst (λ f. IsFormFault cluster before f told) o.told fault)
+no_onward_fault cluster once before all form rest fit (inr o) told fault =
+    no_wanted_fault cluster once o.front o.last o.wanted o.others o.later (subst (Fit cluster) o.is fit) told
+    (subst (λ b. IsFormFault cluster b (wanted_line cluster.procs o.wanted) told) o.was (subst (λ f. IsFormFault cluster before f told) o.told fault))
+
+-- a line that is followed through to sessions has no fault after those of the lines before it
+no_line_fault : (cluster : Cluster) → HaveNames cluster.procs → (before : List FileLine) (line : FileLine) (after : List FileLine) (s t : List Session) (told : WorkloadCause)
+    → AreSessions cluster before s → AreSessions cluster (before ++ line ∷ after) t → IsLineFault cluster s line.bytes told → ⊥
+no_line_fault cluster once before line after s t told h k fault =
+    by (related_front before (line ∷ after) (all_lines cluster.procs t) (all_lines cluster.procs s) k.lines h.lines)
+  where
+    fit : Fit cluster t
+    fit = record { can_be = k.sessions; names_once = k.names_once; few_sessions = k.few_sessions; few_calls = k.few_calls }
+
+    has : (form : Form) (rest : List Form) → HasForm line.bytes form → all_lines cluster.procs t ≡ all_lines cluster.procs s ++ form ∷ rest → IsLineFault cluster s line.bytes told → ⊥
+    has form rest is e (inl f) = f.1 form is
+    has form rest is e (inr f) =
+        no_onward_fault cluster once s t form rest fit (onward cluster once s t (form ∷ rest) h.sessions k.sessions e) told
+        (subst (λ g. IsFormFault cluster s g told) (one_form line.bytes f.0 form f.1 is) f.2)
+
+    by : (rest : List Form) × (all_lines cluster.procs t ≡ all_lines cluster.procs s ++ rest) × Pairwise IsLine (line ∷ after) rest → ⊥
+    by ([], e, none) = none
+    by (form ∷ rest, e, is) = has form rest is.0 e fault
+
+-- ---- files
+
+-- two cuts of a list before an item: at one place, or one of them further on
+abbrev Cuts : List FileLine → FileLine → List FileLine → FileLine → Type 0
+Cuts xs x ys y =
+    ((xs ≡ ys) × (x ≡ y)) ⊎ (((more : List FileLine) × (ys ≡ xs ++ x ∷ more)) ⊎ ((more : List FileLine) × (xs ≡ ys ++ y ∷ more)))
+
+cuts : (xs : List FileLine) (x : FileLine) (us ys : List FileLine) (y : FileLine) (vs : List FileLine) → xs ++ x ∷ us ≡ ys ++ y ∷ vs → Cuts xs x ys y
+cuts [] x us [] y vs e = inl (refl, head-is e)
+cuts [] x us (z ∷ ys) y vs e = inr (inl (ys, ap (λ l. l ∷ ys) (sym (head-is e))))
+cuts (z ∷ xs) x us [] y vs e = inr (inr (xs, ap (λ l. l ∷ xs) (head-is e)))
+cuts (z ∷ xs) x us (w ∷ ys) y vs e = one_more (head-is e) (cuts xs x us ys y vs (tail-is e))
+  where
+    one_more : z ≡ w → Cuts xs x ys y → Cuts (z ∷ xs) x (w ∷ ys) y
+    one_more same (inl (l, k)) = inl ((λ i. same i ∷ l i), k)
+    one_more same (inr (inl (more, l))) = inr (inl (more, λ i. sym same i ∷ l i))
+    one_more same (inr (inr (more, l))) = inr (inr (more, λ i. same i ∷ l i))
+
+-- bytes are one workload of a cluster
+pub one_workload : (cluster : Cluster) → IsValidCluster cluster → (bytes : Bytes) (v w : Workload) → IsWorkload cluster bytes v → IsWorkload cluster bytes w → v ≡ w
+one_workload cluster valid bytes v w h k =
+    let same = one_sessions cluster valid.procs.distinct (lines_of bytes) w.sessions v.sessions k h in
+    λ i. record { sessions = same i }
+
+-- a workload has no fault
+pub no_workload_fault : (cluster : Cluster) → IsValidCluster cluster → (bytes : Bytes) (v : Workload) (line : ℕ) (why : WorkloadCause)
+    → IsWorkload cluster bytes v → IsWorkloadFault cluster bytes line why → ⊥
+no_workload_fault cluster valid bytes v line why h k =
+    no_line_fault cluster valid.procs.distinct k.before k.faulty k.after k.sessions v.sessions why k.fine
+    (subst (λ l. AreSessions cluster l v.sessions) k.cut h) k.fault
+
+-- bytes have one fault in a cluster
+pub one_workload_fault : (cluster : Cluster) → IsValidCluster cluster → (bytes : Bytes) (l m : ℕ) (why how : WorkloadCause)
+    → IsWorkloadFault cluster bytes l why → IsWorkloadFault cluster bytes m how → (l ≡ m) × (why ≡ how)
+one_workload_fault cluster valid bytes l m why how h k =
+    by (cuts h.before h.faulty h.after k.before k.faulty k.after (sym h.cut ∙ k.cut))
+  where
+    by : Cuts h.before h.faulty k.before k.faulty → (l ≡ m) × (why ≡ how)
+    by (inl (front, line)) =
+        let same = one_sessions cluster valid.procs.distinct h.before h.sessions k.sessions h.fine (subst (λ f. AreSessions cluster f k.sessions) (sym front) k.fine) in (
+          sym h.numbered ∙ ap (λ f. f.number) line ∙ k.numbered,
+          one_line_fault cluster h.sessions h.faulty.bytes why how h.fault
+              (subst (λ s. IsLineFault cluster s h.faulty.bytes how) same (subst (λ f. IsLineFault cluster k.sessions f.bytes how) (sym line) k.fault)),
+        )
+    by (inr (inl (more, further))) =
+        absurd (no_line_fault cluster valid.procs.distinct h.before h.faulty more h.sessions k.sessions why h.fine (subst (λ f. AreSessions cluster f k.sessions) further k.fine) h.fault)
+    by (inr (inr (more, further))) =
+        absurd (no_line_fault cluster valid.procs.distinct k.before k.faulty more k.sessions h.sessions how k.fine (subst (λ f. AreSessions cluster f h.sessions) further h.fine) k.fault)
