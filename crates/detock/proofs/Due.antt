@@ -13,7 +13,9 @@ use Rattle.dt_cluster.specs.declared.Cluster.{Cluster}
 use Rattle.dt_cluster.specs.declared.ClusterFault.{ClusterFault}
 use Rattle.dt_cluster.specs.Builtin.{builtin_cluster}
 use Rattle.dt_cluster.specs.File.{IsCluster, IsClusterFault}
-use Rattle.dt_cluster.proofs.OneFile.{one_cluster, no_cluster_fault, one_cluster_fault}
+use Rattle.dt_cluster.specs.Valid.{IsValidCluster}
+use Rattle.dt_cluster.proofs.OneCluster.{one_cluster, no_fault as no_cluster_fault, one_fault as one_cluster_fault}
+use Rattle.dt_cluster.proofs.FileValid.{cluster_valid, builtin_valid}
 use Rattle.dt_workload.specs.declared.Workload.{Workload}
 use Rattle.dt_workload.specs.declared.WorkloadCause.{WorkloadCause}
 use Rattle.dt_workload.specs.File.{IsWorkload, IsWorkloadFault}
@@ -164,6 +166,14 @@ module _ (files : Files) (words : List Bytes) where
       let P : Replay → Type 0 = λ q. HasCluster (Some files) q.cluster d in
       (same, same_cluster r.cluster c d a.cluster_word (subst P (sym same) b.cluster_word))
 
+  -- which is valid
+  valid_cluster : (word : Bytes) (c : Cluster) → HasCluster (Some files) word c → IsValidCluster c
+  valid_cluster word c (inl (n, (some, few), is, made)) = subst IsValidCluster (sym made) (builtin_valid n some few)
+  valid_cluster word c (inr (_, bytes, told, is)) = cluster_valid bytes c is.form
+
+  valid_asked : (r : Replay) (c : Cluster) → AsksOn (Some files) words r c → IsValidCluster c
+  valid_asked r c asks = valid_cluster r.cluster c asks.cluster_word
+
   -- and one workload
   same_workload : (r s : Replay) (c d : Cluster) (v w : Workload) → HasWorkload (Some files) words r c v → HasWorkload (Some files) words s d w → (r ≡ s) × (c ≡ d) × (v ≡ w)
   same_workload r s c d v w a b =
@@ -171,7 +181,7 @@ module _ (files : Files) (words : List Bytes) where
       let P : Replay × Cluster → Type 0 = λ q. Told (Some files) q.0.workload (AreWorkload q.1 w) in
       let pair : (s, d) ≡ (r, c) = λ i. (sym same.0 i, sym same.1 i) in
       let (bytes, one, other) = both_told files r.workload (AreWorkload c v) (AreWorkload c w) a.workload_file (subst P pair b.workload_file) in
-      (same.0, same.1, one_workload c bytes v w one.form other.form)
+      (same.0, same.1, one_workload c (valid_asked r c a.asks) bytes v w one.form other.form)
 
   -- what is built has a workload that stays where it is
   built : (r : Replay) (c : Cluster) (v : Workload) → HasWorkload (Some files) words r c v → ¬ HasMove v → IsNotBuilt (Some files) words → ⊥
@@ -220,7 +230,7 @@ module _ (files : Files) (words : List Bytes) where
     where
       go : (bytes : Bytes) → AreWorkload c v bytes → AreBadWorkload c l why bytes → ⊥
       go bytes is (inl (zero_l, whole, long)) = omega (arith, long, is.short)
-      go bytes is (inr (short, has)) = no_workload_fault c bytes v l why is.form has
+      go bytes is (inr (short, has)) = no_workload_fault c (valid_asked r c a.asks) bytes v l why is.form has
 
   -- a workload's file has one fault
   same_workload_fault : (l m : ℕ) (why how : WorkloadCause) → HasBadWorkload (Some files) words l why → HasBadWorkload (Some files) words m how → BadWorkload l why ≡ BadWorkload m how
@@ -236,7 +246,7 @@ module _ (files : Files) (words : List Bytes) where
       go bytes (inl (zero_l, is, long)) (inr (short, has)) = absurd (omega (arith, long, short))
       go bytes (inr (short, has)) (inl (zero_m, too, long)) = absurd (omega (arith, long, short))
       go bytes (inr (_, one)) (inr (_, other)) =
-          let both = one_workload_fault c bytes l m why how one other in λ i. BadWorkload (both.0 i) (both.1 i)
+          let both = one_workload_fault c (valid_asked r c asks) bytes l m why how one other in λ i. BadWorkload (both.0 i) (both.1 i)
 
   workload_of : (is : IsReplayable (Some files) words) → HasWorkload (Some files) words is.replay is.cluster is.workload
   workload_of is = record { asks = record { asked = is.asked; cluster_word = is.cluster_word }; workload_file = is.workload_file }

@@ -1,3 +1,3 @@
 mod Listing
+mod OneCluster
 mod Valid
-pub mod OneFile

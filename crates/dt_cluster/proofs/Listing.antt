@@ -13,7 +13,7 @@ use Rattle.dt_text.proofs.Allowed.{outside_where}
 use Rattle.toml.specs.Data.{Data, string, integer, float, boolean, datetime, array, table, as_str, as_integer, as_table, get_member, same_key, Members}
 use Rattle.toml.specs.View.{view, members_view}
 use Rattle.toml.specs.declared.value.Value.{Value}
-use Rattle.dt_cluster.specs.Document.{Bytes, Entry, AreEntries}
+use Rattle.dt_cluster.specs.Document.{Entry, entries_of, AreEntries}
 use Rattle.dt_cluster.specs.Finding.{Tells}
 use Rattle.dt_cluster.specs.declared.error.ClusterFault.{ClusterFault}
 use Rattle.dt_cluster.specs.declared.error.ClusterError.{ClusterError}
@@ -26,14 +26,9 @@ Kept = String Global × Value
 abbrev pub listed : List Kept → List Entry
 listed es = map (λ e. (string_bytes e.0, view e.1)) es
 
-found : {A : Type 0} (o : Ordering) (a b : A) → cond (is_eq o) a b ≡ match_ordering o b a b
-found Less a b = refl
-found Equal a b = refl
-found Greater a b = refl
-
-listed_same : (name : Bytes) (es : List Kept) → lookup (same_key name) (listed es) ≡ get_member name (members_view es)
-listed_same name [] = refl
-listed_same name (e ∷ es) = found (slice_cmp nat_cmp name (string_bytes e.0)) (Some (view e.1)) (lookup (same_key name) (listed es)) ∙ ap (λ o. match_ordering (slice_cmp nat_cmp name (string_bytes e.0)) o (Some (view e.1)) o) (listed_same name es)
+listed_same : (es : List Kept) → listed es ≡ entries_of (members_view es)
+listed_same [] = refl
+listed_same (e ∷ es) = ap (λ rest. (string_bytes e.0, view e.1) ∷ rest) (listed_same es)
 
 listed_below : (name : String Global) (es : List Kept) → AllByRecursion (λ y. string_cmp name y ≡ Less) (keys_of es) → AllByRecursion (λ y. slice_cmp nat_cmp (string_bytes name) y ≡ Less) (map (λ e. e.0) (listed es))
 listed_below name [] h = h
@@ -46,7 +41,7 @@ listed_ascend (e ∷ es) h = (listed_below e.0 es h.0, listed_ascend es h.1)
 
 -- the entries of a map are those of its table
 pub listed_are : (es : List Kept) → IsStrictlySortedBy string_cmp (keys_of es) → AreEntries (members_view es) (listed es)
-listed_are es ordered = record { ascending = listed_ascend es ordered; same = λ name. listed_same name es }
+listed_are es ordered = record { ascending = listed_ascend es ordered; same = listed_same es }
 
 refused : (some all : Bool) (n place : ℕ) → some ≡ not all → cond some (Some n) None ≡ Some place → all ≡ true → ⊥
 refused true true n place e found h = absurd cc

@@ -1,10 +1,9 @@
 -- A cluster file as a document of TOML, and a table of it as the list of its entries.
 use Rattle.std.specs.Prelude.{◌≡◌, ◌⊎◌, ℕ, List, [], ◌∷◌, map, Option, Some, None, IsUtf8}
-use Rattle.std.specs.Map.{lookup}
 use Rattle.std.specs.Ordering.{nat_cmp}
 use Rattle.std.specs.Cmp.Lexicographic.{slice_cmp}
 use Rattle.std.specs.List.Sorted.{IsStrictlySortedBy}
-use Rattle.toml.specs.Data.{Data, Members, table, get_member, same_key}
+use Rattle.toml.specs.Data.{Data, Members, no_members, member, table}
 use Rattle.toml.specs.Parse.{parse_document}
 
 abbrev pub Bytes : Type 0
@@ -18,10 +17,15 @@ Entry = Bytes × Data
 abbrev pub IsDocument : Bytes → Members → Type 0
 IsDocument bytes top = IsUtf8 bytes × (parse_document bytes ≡ Some top)
 
--- all entries of a table, by ascending names in byte order
+-- the entries of a table, as TOML keeps them
+abbrev pub entries_of : Members → List Entry
+entries_of no_members = []
+entries_of (member name value rest) = (name, value) ∷ entries_of rest
+
+-- these are the entries of a table, by ascending names in byte order
 pub record AreEntries (members : Members) (entries : List Entry) : Type 0 where
   pub ascending : IsStrictlySortedBy (slice_cmp nat_cmp) (map (λ e. e.0) entries)
-  pub same : (name : Bytes) → lookup (same_key name) entries ≡ get_member name members
+  pub same : entries ≡ entries_of members
 
 -- the entries of the table at a name: there are none where nothing stands there
 abbrev pub AreEntriesAt : Option Data → List Entry → Type 0

@@ -95,11 +95,16 @@ call_writes_ascend procs number args reads same = go (slice_get procs number)
     go (Some body) = writes_in_order body args reads ascend
     go None = tt
 
+reads_alike : (values others : Bytes → Option Value) (us : List (Bytes × Mode)) → AllIn (λ u. values u.0 ≡ others u.0) us → ◌≡◌ {A = List (Bytes × Option Value)} (map (λ u. (u.0, values u.0)) us) (map (λ u. (u.0, others u.0)) us)
+reads_alike values others [] all = refl
+reads_alike values others (u ∷ us) all = let head : ◌≡◌ {A = Bytes × Option Value} (u.0, values u.0) (u.0, others u.0) = ap (λ v. (u.0, v)) all.0 in ap₂ ◌∷◌ head (reads_alike values others us all.1)
+
+-- what a call of a procedure means depends on the values of its keys alone
+pub keys_alone : (proc : ProcTree) (args : List Value) (values others : Bytes → Option Value) → AllIn (λ u. values u.0 ≡ others u.0) (keys_of proc args) →
+    meaning proc args (map (λ u. (u.0, values u.0)) (keys_of proc args)) ≡ meaning proc args (map (λ u. (u.0, others u.0)) (keys_of proc args))
+keys_alone proc args values others same = ap (meaning proc args) (reads_alike values others (keys_of proc args) same)
+
 -- what a call means depends on the values of its keys alone
 pub call_meaning_alike : (procs : List ProcTree) (number : ℕ) (args : List Value) (values others : Bytes → Option Value) → AllIn (λ u. values u.0 ≡ others u.0) (call_keys procs number args) →
     call_meaning procs number args (map (λ u. (u.0, values u.0)) (call_keys procs number args)) ≡ call_meaning procs number args (map (λ u. (u.0, others u.0)) (call_keys procs number args))
-call_meaning_alike procs number args values others same = ap (call_meaning procs number args) (alike (call_keys procs number args) same)
-  where
-    alike : (us : List (Bytes × Mode)) → AllIn (λ u. values u.0 ≡ others u.0) us → ◌≡◌ {A = List (Bytes × Option Value)} (map (λ u. (u.0, values u.0)) us) (map (λ u. (u.0, others u.0)) us)
-    alike [] all = refl
-    alike (u ∷ us) all = let head : ◌≡◌ {A = Bytes × Option Value} (u.0, values u.0) (u.0, others u.0) = ap (λ v. (u.0, v)) all.0 in ap₂ ◌∷◌ head (alike us all.1)
+call_meaning_alike procs number args values others same = ap (call_meaning procs number args) (reads_alike values others (call_keys procs number args) same)

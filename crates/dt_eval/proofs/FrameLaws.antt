@@ -87,7 +87,7 @@ gifts_lead Q names (g ∷ gs) s q =
     after_state (λ t. Q t.variables) (after_gift names g s) (after_gifts names gs) (after_value (λ t. Q t.variables) (gift_value names g s) (λ v. Ok (with_given v s)) (λ v e. q)) (gifts_lead Q names gs)
 
 -- what follows a sound statement is sound where it leads
-follow : (names : List Bytes) (writes : List Bool) (st : Step) (rest : Block) (s : State) → AreSound (map sort_of_datum s.variables) writes (then st rest) → Leads (λ t. AreSound (map sort_of_datum t.variables) writes rest) (after_step names st s)
+pub follow : (names : List Bytes) (writes : List Bool) (st : Step) (rest : Block) (s : State) → AreSound (map sort_of_datum s.variables) writes (then st rest) → Leads (λ t. AreSound (map sort_of_datum t.variables) writes rest) (after_step names st s)
 follow names writes (let_new f) rest s h =
     after_value (λ t. AreSound (map sort_of_datum t.variables) writes rest) (value_now names s f) (λ d. Ok (with_variable d s))
     (λ d e. subst (λ vs. AreSound vs writes rest) (sym (map-append sort_of_datum s.variables (d ∷ []) ∙ ap (λ x. map sort_of_datum s.variables ++ x ∷ []) (subst (GivesSort h.0) e (sort_kept s.variables (row_at names s) (length writes) f h.0 h.1)))) h.2)

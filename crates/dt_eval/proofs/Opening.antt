@@ -89,7 +89,7 @@ rows_ascend proc args reads rows e same =
 
 -- soundness
 
-opening_sorts : (params : List Kind) (args : List Value) → Pairwise IsOfKind params args → map sort_of_datum (map datum_of args) ≡ map sort_of params
+pub opening_sorts : (params : List Kind) (args : List Value) → Pairwise IsOfKind params args → map sort_of_datum (map datum_of args) ≡ map sort_of params
 opening_sorts [] [] f = refl
 opening_sorts [] (v ∷ args) f = absurd f
 opening_sorts (k ∷ params) [] f = absurd f

@@ -46,7 +46,6 @@ OfNumbers AtLeast a b r = Tells r (b ≤ℤ a)
 OfNumbers Add a b r = IsInRange r (a +ℤ b)
 OfNumbers Sub a b r = IsInRange r (a -ℤ b)
 OfNumbers Mul a b r = IsInRange r (a *ℤ b)
-
 -- `int_div` rounds toward zero, and `int_rem` has the sign of the left operand
 OfNumbers Div a b r = UnlessZero r b (IsInRange r (int_div a b))
 OfNumbers Rem a b r = UnlessZero r b (GivesIf r (FitsSigned w64 (int_div a b)) (Int (int_rem a b)) cause.Overflow)
@@ -81,17 +80,14 @@ pub data Gives (variables : List Datum) (row : ℕ → Option Value) : Formula �
   a_text : (t : Bytes) → Gives variables row (text t) (Ok (Text t))
   a_truth : (b : Bool) → Gives variables row (truth b) (Ok (Truth b))
   a_variable : (n : ℕ) (d : Datum) → slice_get variables n ≡ Some d → Gives variables row (variable n) (Ok d)
-
   -- `int(K)` and `text(K)`
   a_row_number : (k : ℕ) (z : ℤ) → row k ≡ Some (val.Int z) → Gives variables row (number_of k) (Ok (Int z))
   no_row_number : (k : ℕ) → ((z : ℤ) → row k ≢ Some (val.Int z)) → Gives variables row (number_of k) (Err cause.Kind)
   a_row_text : (k : ℕ) (t : Bytes) → row k ≡ Some (val.Text t) → Gives variables row (text_of k) (Ok (Text t))
   no_row_text : (k : ℕ) → ((t : Bytes) → row k ≢ Some (val.Text t)) → Gives variables row (text_of k) (Err cause.Kind)
-
   -- `has(K)`
   a_value : (k : ℕ) (v : Value) → row k ≡ Some v → Gives variables row (has_value k) (Ok (Truth true))
   no_value : (k : ℕ) → row k ≡ None → Gives variables row (has_value k) (Ok (Truth false))
-
   -- `len`, `show`, `-` and `not`
   a_length : (f : Formula) (t : Bytes) → Gives variables row f (Ok (Text t)) → Gives variables row (length_of f) (Ok (Int (pos (length t))))
   no_length : (f : Formula) (c : Cause) → Gives variables row f (Err c) → Gives variables row (length_of f) (Err c)
@@ -101,7 +97,6 @@ pub data Gives (variables : List Datum) (row : ℕ → Option Value) : Formula �
   no_negative : (f : Formula) (c : Cause) → Gives variables row f (Err c) → Gives variables row (negative f) (Err c)
   an_opposite : (f : Formula) (b : Bool) → Gives variables row f (Ok (Truth b)) → Gives variables row (opposite f) (Ok (Truth (not b)))
   no_opposite : (f : Formula) (c : Cause) → Gives variables row f (Err c) → Gives variables row (opposite f) (Err c)
-
   -- an operator: the left operand comes first, and the right one is evaluated only where the left one does not decide
   left_aborts : (o : Op) (f g : Formula) (c : Cause) → Gives variables row f (Err c) → Gives variables row (binary o f g) (Err c)
   left_decides : (o : Op) (f g : Formula) (a : Datum) → Gives variables row f (Ok a) → Decides o a → Gives variables row (binary o f g) (Ok a)

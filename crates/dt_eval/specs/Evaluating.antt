@@ -1,7 +1,7 @@
 -- What expressions give, as a function.
 use Rattle.std.specs.Prelude.{ℕ, zero, suc, ℤ, pos, negsuc, neg_ℤ, ◌+ℤ◌, ◌-ℤ◌, ◌*ℤ◌, int_lt, int_le, int_div, int_rem, ◌^◌, nat_lt, nat_le, Bool, true, false, not, ◌&&◌, ◌||◌, cond, List, [], ◌∷◌, ◌++◌, length, slice_get, is_some, Option, Some, None, Result, Ok, Err}
 use Rattle.std.specs.Fmt.{signed_decimal}
-use Rattle.std.specs.Ordering.{nat_cmp, is_lt, is_le, is_gt, is_ge}
+use Rattle.std.specs.Ordering.{nat_cmp, int_eq, is_lt, is_le, is_gt, is_ge}
 use Rattle.std.specs.declared.cmp.Ordering.{Ordering}
 use Rattle.std.specs.Cmp.Lexicographic.{slice_cmp}
 use Rattle.dt_access.specs.Clash.{Bytes, same_key}
@@ -43,18 +43,14 @@ remainder a b = cond (is_zero b) (Err cause.Zero) (cond (is_small (int_div a b))
 abbrev pub joining : Bytes → Bytes → Result Datum Cause
 joining s t = cond (nat_le (length (s ++ t)) 256) (Ok (Text (s ++ t))) (Err cause.Long)
 
--- whether two numbers are the same
-abbrev pub same_number : ℤ → ℤ → Bool
-same_number a b = int_le a b && int_le b a
-
 -- how two texts compare: by bytes, a proper front being less than the whole
 abbrev pub text_order : Bytes → Bytes → Ordering
 text_order s t = slice_cmp nat_cmp s t
 
 -- what an operator gives of two numbers; the last line is for operators that take none
 abbrev pub of_numbers : Op → ℤ → ℤ → Result Datum Cause
-of_numbers Equal a b = Ok (Truth (same_number a b))
-of_numbers Differ a b = Ok (Truth (not (same_number a b)))
+of_numbers Equal a b = Ok (Truth (int_eq a b))
+of_numbers Differ a b = Ok (Truth (not (int_eq a b)))
 of_numbers Less a b = Ok (Truth (int_lt a b))
 of_numbers AtMost a b = Ok (Truth (int_le a b))
 of_numbers More a b = Ok (Truth (int_lt b a))

@@ -4,5 +4,6 @@ pub mod Data
 pub mod Evaluating
 pub mod Framed
 pub mod Keys
+pub mod Laws
 pub mod Meaning
 pub mod Running

@@ -55,12 +55,7 @@ fn is_of_kind(kind: Kind, value: &Value) -> bool
 /// Runs a call on the values of the rows that it uses.
 ///
 /// The arguments fit, and the reads are of just the keys of `keys_of`, in their order.
-pub fn run(
-    alloc: Global,
-    body: &Proc,
-    args: &[Value],
-    reads: &Reads,
-) -> Result<Finish, NoMemory>
+pub fn run(alloc: Global, body: &Proc, args: &[Value], reads: &Reads) -> Result<Finish, NoMemory>
     requires fits { Fits body.now args.now }
     requires keys { HasKeys body.now args.now }
     requires reads { map (λ read. read.0) reads.now ≡ map (λ used. used.0) (keys_of body.now args.now) }

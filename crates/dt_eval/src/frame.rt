@@ -9,7 +9,9 @@ ghost use Rattle.dt_eval.specs.Framed.{Answers, HasSortIn, IsSorted, IsSoundBloc
 ghost use Rattle.dt_eval.specs.Running.{after_block, after_gifts, after_step, gift_value};
 
 use crate::finish::{Cause, Values};
-use crate::operators::{byte_count, decides, negated, number_in, operate, opposite, printed, stored, text_in, truth_of};
+use crate::operators::{
+    byte_count, decides, negated, number_in, operate, opposite, printed, stored, text_in, truth_of,
+};
 use crate::rows::Rows;
 use crate::state::Datum;
 use crate::stop::Stop;
@@ -95,7 +97,13 @@ impl Frame {
 
     /// Runs the one block or the other, and forgets its lets.
     #[cycle(running)]
-    fn choose(&mut self, alloc: Global, test: &Expr, then: &Stmts, otherwise: &Stmts) -> Result<(), Stop>
+    fn choose(
+        &mut self,
+        alloc: Global,
+        test: &Expr,
+        then: &Stmts,
+        otherwise: &Stmts,
+    ) -> Result<(), Stop>
         requires { IsSoundStep self.old (choose (formula_of test.now) then.now otherwise.now) }
         ensures answer { Reaches (after_step self.old.rows.0 (choose (formula_of test.now) then.now otherwise.now) (seen self.old)) self.new result }
         ensures names { OnOk result (self.new.rows.0 ≡ self.old.rows.0) }

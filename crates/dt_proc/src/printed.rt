@@ -1,5 +1,6 @@
 //! Trees as texts, for tests: each operation stands in brackets, and what is named is shown by its number.
 
+use crate::error::ProcError;
 use crate::procs::{Proc, Procs};
 use crate::tree::{Expr, Give, KeyDecl, KeyItem, Kind, Op, Stmt};
 use dt_text::{NoMemory, put_i64, put_text, put_u64};
@@ -30,7 +31,7 @@ fn put_proc(alloc: Global, out: &mut Vec<u8>, proc: &Proc) -> Result<(), NoMemor
     for key in proc.keys() {
         put_key(alloc, out, key)?;
     }
-    put_block(alloc, out, proc.body())
+    put_body(alloc, out, proc.body())
 }
 
 fn kind_word(kind: Kind) -> &'static [u8] {
@@ -60,20 +61,59 @@ fn put_key(alloc: Global, out: &mut Vec<u8>, key: &KeyDecl) -> Result<(), NoMemo
     put(out, b"; ")
 }
 
-#[cycle(printed)]
-fn put_block(alloc: Global, out: &mut Vec<u8>, stmts: &[Stmt]) -> Result<(), NoMemory> {
+/// A fault: its cause and its place. Want of memory is told as such.
+pub(crate) fn put_fault(
+    alloc: Global,
+    out: &mut Vec<u8>,
+    fault: ProcError,
+) -> Result<(), NoMemory> {
+    let (word, place) = match fault {
+        ProcError::Syntax(place) => (b"Syntax ".as_slice(), place),
+        ProcError::TooMany(place) => (b"TooMany ".as_slice(), place),
+        ProcError::Twice(place) => (b"Twice ".as_slice(), place),
+        ProcError::Unknown(place) => (b"Unknown ".as_slice(), place),
+        ProcError::Kind(place) => (b"Kind ".as_slice(), place),
+        ProcError::NoMemory => return Err(NoMemory),
+    };
+    put(out, word)?;
+    put_u64(alloc, out, place as u64)
+}
+
+/// The statements of a body.
+pub(crate) fn put_body(alloc: Global, out: &mut Vec<u8>, stmts: &[Stmt]) -> Result<(), NoMemory> {
     put(out, b"{")?;
     for (i, stmt) in stmts.iter().enumerate() {
         if i > 0 {
             put(out, b" ")?;
         }
-        put_stmt(alloc, out, stmt)?;
+        match stmt {
+            Stmt::If(test, then, otherwise) => {
+                put(out, b"if ")?;
+                put_expr(alloc, out, test)?;
+                put(out, b" ")?;
+                put_branch(alloc, out, then.as_slice())?;
+                put(out, b" ")?;
+                put_branch(alloc, out, otherwise.as_slice())?;
+            }
+            _ => put_plain(alloc, out, stmt)?,
+        }
     }
     put(out, b"}")
 }
 
-#[cycle(printed)]
-fn put_stmt(alloc: Global, out: &mut Vec<u8>, stmt: &Stmt) -> Result<(), NoMemory> {
+/// The statements of a branch, in which those with branches are not shown whole.
+fn put_branch(alloc: Global, out: &mut Vec<u8>, stmts: &[Stmt]) -> Result<(), NoMemory> {
+    put(out, b"{")?;
+    for (i, stmt) in stmts.iter().enumerate() {
+        if i > 0 {
+            put(out, b" ")?;
+        }
+        put_plain(alloc, out, stmt)?;
+    }
+    put(out, b"}")
+}
+
+fn put_plain(alloc: Global, out: &mut Vec<u8>, stmt: &Stmt) -> Result<(), NoMemory> {
     match stmt {
         Stmt::Let(value) => {
             put(out, b"let ")?;
@@ -90,14 +130,7 @@ fn put_stmt(alloc: Global, out: &mut Vec<u8>, stmt: &Stmt) -> Result<(), NoMemor
             put_number(alloc, out, b"clear ", *key)?;
             put(out, b";")
         }
-        Stmt::If(test, then, otherwise) => {
-            put(out, b"if ")?;
-            put_expr(alloc, out, test)?;
-            put(out, b" ")?;
-            put_block(alloc, out, then.as_slice())?;
-            put(out, b" ")?;
-            put_block(alloc, out, otherwise.as_slice())
-        }
+        Stmt::If(_, _, _) => put(out, b"if"),
         Stmt::Abort(text) => {
             put(out, b"abort ")?;
             put_text(alloc, out, text)?;
@@ -131,10 +164,26 @@ fn put_expr(alloc: Global, out: &mut Vec<u8>, expr: &Expr) -> Result<(), NoMemor
         Expr::IntOf(key) => put_number(alloc, out, b"i", *key),
         Expr::TextOf(key) => put_number(alloc, out, b"t", *key),
         Expr::Has(key) => put_number(alloc, out, b"h", *key),
-        Expr::Len(text) => put_call(alloc, out, b"len(", text),
-        Expr::Show(number) => put_call(alloc, out, b"show(", number),
-        Expr::Neg(number) => put_call(alloc, out, b"-(", number),
-        Expr::Not(truth) => put_call(alloc, out, b"not(", truth),
+        Expr::Len(text) => {
+            put(out, b"len(")?;
+            put_expr(alloc, out, text)?;
+            put(out, b")")
+        }
+        Expr::Show(number) => {
+            put(out, b"show(")?;
+            put_expr(alloc, out, number)?;
+            put(out, b")")
+        }
+        Expr::Neg(number) => {
+            put(out, b"-(")?;
+            put_expr(alloc, out, number)?;
+            put(out, b")")
+        }
+        Expr::Not(truth) => {
+            put(out, b"not(")?;
+            put_expr(alloc, out, truth)?;
+            put(out, b")")
+        }
         Expr::Binary(op, left, right) => {
             put(out, b"(")?;
             put_expr(alloc, out, left)?;
@@ -143,12 +192,6 @@ fn put_expr(alloc: Global, out: &mut Vec<u8>, expr: &Expr) -> Result<(), NoMemor
             put(out, b")")
         }
     }
-}
-
-fn put_call(alloc: Global, out: &mut Vec<u8>, front: &[u8], inner: &Expr) -> Result<(), NoMemory> {
-    put(out, front)?;
-    put_expr(alloc, out, inner)?;
-    put(out, b")")
 }
 
 fn op_word(op: Op) -> &'static [u8] {

@@ -2,303 +2,330 @@
 ghost use Rattle.std.specs.Prelude.{◌<◌, ◌^◌, length};
 
 use super::*;
-use crate::printed::put_procs;
+use crate::printed::{put_body, put_fault, put_procs};
+use dt_text::NoMemory;
 use std::alloc::Global;
 use std::test::Fail;
 
-/// Texts, with what the procedures are or with the fault.
-const TEXTS: [(&[u8], Result<&[u8], ProcError>); 44] = [
-    (b"", Ok(b"")),
-    (b" \t\r\n# ( \xff", Ok(b"")),
-    (
-        b"#\nproc f()read a=\"k\";{}#",
-        Ok(b"proc f() read \"k\"; {}"),
-    ),
-    (b"\x0c", Err(ProcError::Syntax(0))),
-    (b"proc", Err(ProcError::Syntax(4))),
-    (b"proc\x00", Err(ProcError::Syntax(4))),
-    (
-        b"proc f(k: text) read a = j; { }",
-        Err(ProcError::Unknown(25)),
-    ),
-    (
-        b"proc a_0123456789_bcdefghijklmnopqrst()read a=\"\";{}",
-        Ok(b"proc a_0123456789_bcdefghijklmnopqrst() read \"\"; {}"),
-    ),
-    (
-        b"proc a_0123456789_bcdefghijklmnopqrstu()",
-        Err(ProcError::Syntax(5)),
-    ),
-    (b"proc _a", Err(ProcError::Syntax(5))),
-    (b"proc A", Err(ProcError::Syntax(5))),
-    (b"proc 9", Err(ProcError::Syntax(5))),
-    (b"proc proc", Err(ProcError::Syntax(5))),
-    (b"proc f g", Err(ProcError::Syntax(7))),
-    (b"read a", Err(ProcError::Syntax(0))),
-    (b"f", Err(ProcError::Syntax(0))),
-    (b"proc f(k: text, k: int)", Err(ProcError::Syntax(23))),
-    (
-        b"proc f(k: text, k: int)read a=k;{}",
-        Err(ProcError::Twice(16)),
-    ),
-    (b"proc f(k: has)", Err(ProcError::Syntax(10))),
-    (b"proc f(k text)", Err(ProcError::Syntax(9))),
-    (b"proc f(,)", Err(ProcError::Syntax(7))),
-    (b"proc f(k: int,)", Err(ProcError::Syntax(14))),
-    (b"proc f()", Err(ProcError::Syntax(8))),
-    (b"proc f(){}", Err(ProcError::Syntax(8))),
-    (
-        b"proc f()read a=\"\";write b=\"\";",
-        Err(ProcError::Syntax(29)),
-    ),
-    (
-        b"proc f(k:int,t:text)read a=t++\"/\"++show(k)++\"\";{}",
-        Ok(b"proc f(int, text) read p1 ++ \"/\" ++ s0 ++ \"\"; {}"),
-    ),
-    (b"proc f(k:int)read a=k;{}", Err(ProcError::Kind(20))),
-    (b"proc f(t:text)read a=show(t);{}", Err(ProcError::Kind(26))),
-    (
-        b"proc f(t:text)read a=show(u);{}",
-        Err(ProcError::Unknown(26)),
-    ),
-    (
-        b"proc f(t:text)read a=\"x\"++a;{}",
-        Err(ProcError::Unknown(26)),
-    ),
-    (
-        b"proc f(t:text)read a=t;read b=a;{}",
-        Err(ProcError::Kind(30)),
-    ),
-    (b"proc f(t:text)read t=t;{}", Err(ProcError::Twice(19))),
-    (
-        b"proc f(t:text)read a=t;write a=u;{}",
-        Err(ProcError::Twice(29)),
-    ),
-    (b"proc f()read a=1;{}", Err(ProcError::Syntax(15))),
-    (
-        b"proc f()read a=\"\";read b=show(\"\");{}",
-        Err(ProcError::Syntax(30)),
-    ),
-    (
-        b"proc f()write a=\"x\"+\"y\";{}",
-        Err(ProcError::Syntax(19)),
-    ),
-    (b"proc f()write a=\"x\"{}", Err(ProcError::Syntax(19))),
-    (b"proc f()read a=\"\";{}}", Err(ProcError::Syntax(20))),
-    (b"proc f()read a=\"\";{", Err(ProcError::Syntax(19))),
-    (
-        b"proc f()read a=\"\";{} proc g()write b=\"\";{}",
-        Ok(b"proc f() read \"\"; {} proc g() write \"\"; {}"),
-    ),
-    (
-        b"proc f()read a=\"\";{} proc f()read a=\"\";{}",
-        Err(ProcError::Twice(26)),
-    ),
-    (
-        b"proc f()read a=u;{} proc f()read a=\"\";{}",
-        Err(ProcError::Unknown(15)),
-    ),
-    (
-        b"proc f()read a=\"\";{} proc f(x:int,x:int)read a=\"\";{}",
-        Err(ProcError::Twice(26)),
-    ),
-    (
-        b"proc f()read a=\"\";{} proc f()read a=\"\";{ let",
-        Err(ProcError::Syntax(44)),
-    ),
-];
+/// A text on each odd line, and on the next line the procedures or the fault.
+const TEXTS: &[u8] = b"
+
+\x0c
+Syntax 0
+proc
+Syntax 4
+proc\x00
+Syntax 4
+proc f(k: text) read a = j; { }
+Unknown 25
+proc a_0123456789_bcdefghijklmnopqrst()read a=\"\";{}
+proc a_0123456789_bcdefghijklmnopqrst() read \"\"; {}
+proc a_0123456789_bcdefghijklmnopqrstu()
+Syntax 5
+proc _a
+Syntax 5
+proc A
+Syntax 5
+proc 9
+Syntax 5
+proc proc
+Syntax 5
+proc f g
+Syntax 7
+read a
+Syntax 0
+f
+Syntax 0
+proc f(k: text, k: int)
+Syntax 23
+proc f(k: text, k: int)read a=k;{}
+Twice 16
+proc f(k: has)
+Syntax 10
+proc f(k text)
+Syntax 9
+proc f(,)
+Syntax 7
+proc f(k: int,)
+Syntax 14
+proc f()
+Syntax 8
+proc f(){}
+Syntax 8
+proc f()read a=\"\";write b=\"\";
+Syntax 29
+proc f(k:int,t:text)read a=t++\"/\"++show(k)++\"\";{}
+proc f(int, text) read p1 ++ \"/\" ++ s0 ++ \"\"; {}
+proc f(k:int)read a=k;{}
+Kind 20
+proc f(t:text)read a=show(t);{}
+Kind 26
+proc f(t:text)read a=show(u);{}
+Unknown 26
+proc f(t:text)read a=\"x\"++a;{}
+Unknown 26
+proc f(t:text)read a=t;read b=a;{}
+Kind 30
+proc f(t:text)read t=t;{}
+Twice 19
+proc f(t:text)read a=t;write a=u;{}
+Twice 29
+proc f()read a=1;{}
+Syntax 15
+proc f()read a=\"\";read b=show(\"\");{}
+Syntax 30
+proc f()write a=\"x\"+\"y\";{}
+Syntax 19
+proc f()write a=\"x\"{}
+Syntax 19
+proc f()read a=\"\";{}}
+Syntax 20
+proc f()read a=\"\";{
+Syntax 19
+proc f()read a=\"\";{} proc g()write b=\"\";{}
+proc f() read \"\"; {} proc g() write \"\"; {}
+proc f()read a=\"\";{} proc f()read a=\"\";{}
+Twice 26
+proc f()read a=u;{} proc f()read a=\"\";{}
+Unknown 15
+proc f()read a=\"\";{} proc f(x:int,x:int)read a=\"\";{}
+Twice 26
+proc f()read a=\"\";{} proc f()read a=\"\";{ let
+Syntax 44";
 
 /// Before the statements of a body; the first statement stands at byte 64.
 const FRONT: &[u8] = b"proc f(n: int, t: text) read r = t; write w = \"x\" ++ show(n); { ";
 
-/// The procedure of such a body, up to the body.
-const SHOWN: &[u8] = b"proc f(int, text) read p1; write \"x\" ++ s0; ";
-
-/// Statements, with what the body is or with the fault.
-const BODIES: [(&[u8], Result<&[u8], ProcError>); 113] = [
-    (b"let x = 0;", Ok(b"{let 0;}")),
-    (
-        b"let x = 9223372036854775807;",
-        Ok(b"{let 9223372036854775807;}"),
-    ),
-    (b"let x = 9223372036854775808;", Err(ProcError::Syntax(72))),
-    (b"let x = 01;", Err(ProcError::Syntax(72))),
-    (b"let x = 0a;", Err(ProcError::Syntax(72))),
-    (b"let x = 1_;", Err(ProcError::Syntax(72))),
-    (b"let x = -0;", Ok(b"{let -(0);}")),
-    (b"let x = \"\";", Ok(b"{let \"\";}")),
-    (b"let x = \"\\\"\\\\\";", Ok(b"{let \"\\\"\\\\\";}")),
-    (b"let x = \"\\n\";", Err(ProcError::Syntax(72))),
-    (b"let x = \"a\tb\";", Err(ProcError::Syntax(72))),
-    (b"let x = \"a;", Err(ProcError::Syntax(72))),
-    (b"let x = \"a\"b;", Err(ProcError::Syntax(75))),
-    (
-        b"let x = true or false and true;",
-        Ok(b"{let (true or (false and true));}"),
-    ),
-    (
-        b"let x = true and false or true;",
-        Ok(b"{let ((true and false) or true);}"),
-    ),
-    (
-        b"let x = true or true or false;",
-        Ok(b"{let ((true or true) or false);}"),
-    ),
-    (
-        b"let x = true and true and false;",
-        Ok(b"{let ((true and true) and false);}"),
-    ),
-    (
-        b"let x = not true and not false;",
-        Ok(b"{let (not(true) and not(false));}"),
-    ),
-    (b"let x = not not true;", Err(ProcError::Syntax(76))),
-    (
-        b"let x = not (true and true);",
-        Ok(b"{let not((true and true));}"),
-    ),
-    (
-        b"let x = 1 == 2 or 3 != 4;",
-        Ok(b"{let ((1 == 2) or (3 != 4));}"),
-    ),
-    (b"let x = 1 < 2 == 3;", Err(ProcError::Syntax(78))),
-    (
-        b"let x = 1 < 2 and \"a\" <= t;",
-        Ok(b"{let ((1 < 2) and (\"a\" <= v1));}"),
-    ),
-    (
-        b"let x = n > 1 or t >= \"b\";",
-        Ok(b"{let ((v0 > 1) or (v1 >= \"b\"));}"),
-    ),
-    (b"let x = (1 == 2) == true;", Err(ProcError::Kind(81))),
-    (b"let x = 1 == \"1\";", Err(ProcError::Kind(74))),
-    (b"let x = \"1\" < 1;", Err(ProcError::Kind(76))),
-    (b"let x = true != false;", Err(ProcError::Kind(77))),
-    (b"let x = 1 - 2 * 3 - 4;", Ok(b"{let ((1 - (2 * 3)) - 4);}")),
-    (
-        b"let x = 1 * 2 - 3 / 4 % 5;",
-        Ok(b"{let ((1 * 2) - ((3 / 4) % 5));}"),
-    ),
-    (b"let x = 1 + (2 + 3);", Ok(b"{let (1 + (2 + 3));}")),
-    (b"let x = n + n - n;", Ok(b"{let ((v0 + v0) - v0);}")),
-    (b"let x = -n - -1;", Ok(b"{let (-(v0) - -(1));}")),
-    (b"let x = --1;", Err(ProcError::Syntax(73))),
-    (b"let x = - (1 + 2) * 3;", Ok(b"{let (-((1 + 2)) * 3);}")),
-    (
-        b"let x = t ++ \"a\" ++ show(n);",
-        Ok(b"{let ((v1 ++ \"a\") ++ show(v0));}"),
-    ),
-    (b"let x = t ++ 1;", Err(ProcError::Kind(74))),
-    (b"let x = t + t;", Err(ProcError::Kind(74))),
-    (b"let x = n % t;", Err(ProcError::Kind(74))),
-    (b"let x = 1 / true;", Err(ProcError::Kind(74))),
-    (b"let x = n * \"\";", Err(ProcError::Kind(74))),
-    (b"let x = n - t;", Err(ProcError::Kind(74))),
-    (b"let x = -t;", Err(ProcError::Kind(72))),
-    (b"let x = not n;", Err(ProcError::Kind(72))),
-    (b"let x = true and 1;", Err(ProcError::Kind(77))),
-    (b"let x = t or true;", Err(ProcError::Kind(74))),
-    (
-        b"let x = len(t ++ \"a\") + 1;",
-        Ok(b"{let (len((v1 ++ \"a\")) + 1);}"),
-    ),
-    (b"let x = len(n);", Err(ProcError::Kind(72))),
-    (b"let x = show(t);", Err(ProcError::Kind(72))),
-    (
-        b"let x = show(1) ++ text(r);",
-        Ok(b"{let (show(1) ++ t0);}"),
-    ),
-    (b"let x = int(r) + int(w);", Ok(b"{let (i0 + i1);}")),
-    (b"let x = int(n);", Err(ProcError::Kind(76))),
-    (b"let x = text(q);", Err(ProcError::Unknown(77))),
-    (
-        b"let x = has(r) and not has(w);",
-        Ok(b"{let (h0 and not(h1));}"),
-    ),
-    (b"let x = has(t);", Err(ProcError::Kind(76))),
-    (b"let x = int(1);", Err(ProcError::Syntax(76))),
-    (b"let x = r;", Err(ProcError::Kind(72))),
-    (b"let x = q;", Err(ProcError::Unknown(72))),
-    (b"let x = x;", Err(ProcError::Unknown(72))),
-    (b"let n = 1;", Err(ProcError::Twice(68))),
-    (b"let w = 1;", Err(ProcError::Twice(68))),
-    (b"let x = 1; let x = 2;", Err(ProcError::Twice(79))),
-    (b"let x = q; let n = 1;", Err(ProcError::Unknown(72))),
-    (b"let n = q;", Err(ProcError::Twice(68))),
-    (
-        b"let x = 1; let y = x + n; let z = y;",
-        Ok(b"{let 1; let (v2 + v0); let v3;}"),
-    ),
-    (
-        b"if true { let x = 1; } let y = x;",
-        Err(ProcError::Unknown(95)),
-    ),
-    (
-        b"if true { let x = 1; } let x = t; let y = x;",
-        Ok(b"{if true {let 1;} {} let v1; let v2;}"),
-    ),
-    (
-        b"if true { let x = 1; } else { let y = x; }",
-        Err(ProcError::Unknown(102)),
-    ),
-    (
-        b"if true { let x = 1; if true { let x = 2; } }",
-        Err(ProcError::Twice(99)),
-    ),
-    (
-        b"if n == 1 { clear w; } else { abort \"no\"; }",
-        Ok(b"{if (v0 == 1) {clear 1;} {abort \"no\";}}"),
-    ),
-    (b"if n { }", Err(ProcError::Kind(64))),
-    (b"if t { } else { }", Err(ProcError::Kind(64))),
-    (b"if true { } else if true { }", Err(ProcError::Syntax(81))),
-    (b"if true let", Err(ProcError::Syntax(72))),
-    (b"if true { } else { } else", Err(ProcError::Syntax(85))),
-    (b"set w = n;", Ok(b"{set 1 v0;}")),
-    (b"set w = t;", Ok(b"{set 1 v1;}")),
-    (b"set w = true;", Err(ProcError::Kind(64))),
-    (b"set w = n == n and q;", Err(ProcError::Unknown(83))),
-    (b"set r = 1;", Err(ProcError::Kind(68))),
-    (b"set n = 1;", Err(ProcError::Kind(68))),
-    (b"set q = 1;", Err(ProcError::Unknown(68))),
-    (b"clear w;", Ok(b"{clear 1;}")),
-    (b"clear r;", Err(ProcError::Kind(70))),
-    (b"clear n;", Err(ProcError::Kind(70))),
-    (b"clear q;", Err(ProcError::Unknown(70))),
-    (b"abort \"sold out\";", Ok(b"{abort \"sold out\";}")),
-    (b"abort t;", Err(ProcError::Syntax(70))),
-    (b"abort \"a\" ++ \"b\";", Err(ProcError::Syntax(74))),
-    (
-        b"give n, t, row(r), int(w);",
-        Ok(b"{give v0, v1, row0, i1;}"),
-    ),
-    (b"give row(r);", Ok(b"{give row0;}")),
-    (b"give true;", Err(ProcError::Kind(69))),
-    (b"give 1, (n == n);", Err(ProcError::Kind(72))),
-    (b"give (n < 1);", Err(ProcError::Kind(69))),
-    (b"give row(n);", Err(ProcError::Kind(73))),
-    (b"give row(q);", Err(ProcError::Unknown(73))),
-    (b"give row(1);", Err(ProcError::Syntax(73))),
-    (b"give;", Err(ProcError::Syntax(68))),
-    (b"give n,;", Err(ProcError::Syntax(71))),
-    (b"let = 1;", Err(ProcError::Syntax(68))),
-    (b"let x 1;", Err(ProcError::Syntax(70))),
-    (b"let x == 1;", Err(ProcError::Syntax(70))),
-    (b"let x = ;", Err(ProcError::Syntax(72))),
-    (b"let x = 1", Err(ProcError::Syntax(74))),
-    (b"let x = 1 2;", Err(ProcError::Syntax(74))),
-    (b"let x = (1;", Err(ProcError::Syntax(74))),
-    (b"let x = 1);", Err(ProcError::Syntax(73))),
-    (b"let x = !1;", Err(ProcError::Syntax(72))),
-    (b"let x = 1 ! 2;", Err(ProcError::Syntax(74))),
-    (b"x = 1;", Err(ProcError::Syntax(64))),
-    (b"read q = t;", Err(ProcError::Syntax(64))),
-    (b"proc", Err(ProcError::Syntax(64))),
-    (b"}", Err(ProcError::Syntax(66))),
-];
+/// Statements on each odd line, and on the next line the body or the fault.
+const BODIES: &[u8] = b"let x = 0;
+{let 0;}
+let x = 9223372036854775807;
+{let 9223372036854775807;}
+let x = 9223372036854775808;
+Syntax 72
+let x = 01;
+Syntax 72
+let x = 0a;
+Syntax 72
+let x = 1_;
+Syntax 72
+let x = -0;
+{let -(0);}
+let x = \"\";
+{let \"\";}
+let x = \"\\\"\\\\\";
+{let \"\\\"\\\\\";}
+let x = \"\\n\";
+Syntax 72
+let x = \"a\tb\";
+Syntax 72
+let x = \"a;
+Syntax 72
+let x = \"a\"b;
+Syntax 75
+let x = true or false and true;
+{let (true or (false and true));}
+let x = true and false or true;
+{let ((true and false) or true);}
+let x = true or true or false;
+{let ((true or true) or false);}
+let x = true and true and false;
+{let ((true and true) and false);}
+let x = not true and not false;
+{let (not(true) and not(false));}
+let x = not not true;
+Syntax 76
+let x = not (true and true);
+{let not((true and true));}
+let x = 1 == 2 or 3 != 4;
+{let ((1 == 2) or (3 != 4));}
+let x = 1 < 2 == 3;
+Syntax 78
+let x = 1 < 2 and \"a\" <= t;
+{let ((1 < 2) and (\"a\" <= v1));}
+let x = n > 1 or t >= \"b\";
+{let ((v0 > 1) or (v1 >= \"b\"));}
+let x = (1 == 2) == true;
+Kind 81
+let x = 1 == \"1\";
+Kind 74
+let x = \"1\" < 1;
+Kind 76
+let x = true != false;
+Kind 77
+let x = 1 - 2 * 3 - 4;
+{let ((1 - (2 * 3)) - 4);}
+let x = 1 * 2 - 3 / 4 % 5;
+{let ((1 * 2) - ((3 / 4) % 5));}
+let x = 1 + (2 + 3);
+{let (1 + (2 + 3));}
+let x = n + n - n;
+{let ((v0 + v0) - v0);}
+let x = -n - -1;
+{let (-(v0) - -(1));}
+let x = --1;
+Syntax 73
+let x = - (1 + 2) * 3;
+{let (-((1 + 2)) * 3);}
+let x = t ++ \"a\" ++ show(n);
+{let ((v1 ++ \"a\") ++ show(v0));}
+let x = t ++ 1;
+Kind 74
+let x = t + t;
+Kind 74
+let x = n % t;
+Kind 74
+let x = 1 / true;
+Kind 74
+let x = n * \"\";
+Kind 74
+let x = n - t;
+Kind 74
+let x = -t;
+Kind 72
+let x = not n;
+Kind 72
+let x = true and 1;
+Kind 77
+let x = t or true;
+Kind 74
+let x = len(t ++ \"a\") + 1;
+{let (len((v1 ++ \"a\")) + 1);}
+let x = len(n);
+Kind 72
+let x = show(t);
+Kind 72
+let x = show(1) ++ text(r);
+{let (show(1) ++ t0);}
+let x = int(r) + int(w);
+{let (i0 + i1);}
+let x = int(n);
+Kind 76
+let x = text(q);
+Unknown 77
+let x = has(r) and not has(w);
+{let (h0 and not(h1));}
+let x = has(t);
+Kind 76
+let x = int(1);
+Syntax 76
+let x = r;
+Kind 72
+let x = q;
+Unknown 72
+let x = x;
+Unknown 72
+let n = 1;
+Twice 68
+let w = 1;
+Twice 68
+let x = 1; let x = 2;
+Twice 79
+let x = q; let n = 1;
+Unknown 72
+let n = q;
+Twice 68
+let x = 1; let y = x + n; let z = y;
+{let 1; let (v2 + v0); let v3;}
+if true { let x = 1; } let y = x;
+Unknown 95
+if true { let x = 1; } let x = t; let y = x;
+{if true {let 1;} {} let v1; let v2;}
+if true { let x = 1; } else { let y = x; }
+Unknown 102
+if true { let x = 1; if true { let x = 2; } }
+Twice 99
+if n == 1 { clear w; } else { abort \"no\"; }
+{if (v0 == 1) {clear 1;} {abort \"no\";}}
+if n { }
+Kind 64
+if t { } else { }
+Kind 64
+if true { } else if true { }
+Syntax 81
+if true let
+Syntax 72
+if true { } else { } else
+Syntax 85
+set w = n;
+{set 1 v0;}
+set w = t;
+{set 1 v1;}
+set w = true;
+Kind 64
+set w = n == n and q;
+Unknown 83
+set r = 1;
+Kind 68
+set n = 1;
+Kind 68
+set q = 1;
+Unknown 68
+clear w;
+{clear 1;}
+clear r;
+Kind 70
+clear n;
+Kind 70
+clear q;
+Unknown 70
+abort \"sold out\";
+{abort \"sold out\";}
+abort t;
+Syntax 70
+abort \"a\" ++ \"b\";
+Syntax 74
+give n, t, row(r), int(w);
+{give v0, v1, row0, i1;}
+give row(r);
+{give row0;}
+give true;
+Kind 69
+give 1, (n == n);
+Kind 72
+give (n < 1);
+Kind 69
+give row(n);
+Kind 73
+give row(q);
+Unknown 73
+give row(1);
+Syntax 73
+give;
+Syntax 68
+give n,;
+Syntax 71
+let = 1;
+Syntax 68
+let x 1;
+Syntax 70
+let x == 1;
+Syntax 70
+let x = ;
+Syntax 72
+let x = 1
+Syntax 74
+let x = 1 2;
+Syntax 74
+let x = (1;
+Syntax 74
+let x = 1);
+Syntax 73
+let x = !1;
+Syntax 72
+let x = 1 ! 2;
+Syntax 74
+x = 1;
+Syntax 64
+read q = t;
+Syntax 64
+proc
+Syntax 64
+}
+Syntax 66";
 
 /// What is before a piece, the piece, how often it stands there, what is after it, and the fault.
-const REPEATED: [(&[u8], &[u8], u32, &[u8], Option<ProcError>); 28] = [
+const REPEATED: [(&[u8], &[u8], u32, &[u8], Option<ProcError>); 30] = [
     (
         b"proc f()read a=\"\";{let x=",
         b"(",
@@ -471,6 +498,14 @@ const REPEATED: [(&[u8], &[u8], u32, &[u8], Option<ProcError>); 28] = [
         Some(ProcError::Syntax(25)),
     ),
     (b"proc f()read a=\"\";{give ", b"1,", 300, b"1;}", None),
+    (b"", b"#\n", 3, b"proc f()read a=\"k\";{}#", None),
+    (
+        b" \t\r\n",
+        b"# ( \xff\n",
+        2,
+        b"\x0c",
+        Some(ProcError::Syntax(16)),
+    ),
 ];
 
 /// The built-in procedures.
@@ -493,43 +528,69 @@ proc xfer(from: text, to: text, n: int) write a = from; write b = to; {
 }
 ";
 
-/// What a text means, printed.
-fn printed(alloc: Global, text: &[u8]) -> Result<Vec<u8>, ProcError>
+/// What a text means, printed, or the fault.
+fn printed(alloc: Global, text: &[u8]) -> Result<Vec<u8>, NoMemory>
     requires { length text.now < 2 ^ 32 }
 {
-    let procs = read_procs(alloc, text)?;
     let mut out = Vec::new(alloc);
-    put_procs(alloc, &mut out, &procs)?;
+    match read_procs(alloc, text) {
+        Ok(procs) => put_procs(alloc, &mut out, &procs)?,
+        Err(fault) => put_fault(alloc, &mut out, fault)?,
+    }
+    Ok(out)
+}
+
+/// The body of the first procedure of a text, printed, or the fault.
+fn printed_body(alloc: Global, text: &[u8]) -> Result<Vec<u8>, NoMemory>
+    requires { length text.now < 2 ^ 32 }
+{
+    let mut out = Vec::new(alloc);
+    match read_procs(alloc, text) {
+        Ok(procs) => {
+            if let Some(proc) = procs.get(0) {
+                put_body(alloc, &mut out, proc.body())?;
+            }
+        }
+        Err(fault) => put_fault(alloc, &mut out, fault)?,
+    }
     Ok(out)
 }
 
 #[test]
 fn texts_have_their_outcomes(rt: HostRuntime) -> Result<(), Fail> {
-    for (i, (text, want)) in TEXTS.iter().enumerate() {
+    let mut text = b"".as_slice();
+    for (i, line) in TEXTS.split(|byte| *byte == b'\n').enumerate() {
+        if i % 2 == 0 {
+            text = line;
+            continue;
+        }
         assert!(rt; text.len() < 1000);
-        let read = printed(rt.alloc(), text);
-        assert_eq!(rt;
-            read.as_ref()
-                .map(|out| out.as_slice())
-                .map_err(|fault| *fault),
-            *want,
-            "text {i}"
-        );
+        let out = printed(rt.alloc(), text)?;
+        assert_eq!(rt; out.as_slice(), line, "line {i}");
     }
-    for (i, (body, want)) in BODIES.iter().enumerate() {
+    Ok(())
+}
+
+#[test]
+fn bodies_have_their_outcomes(rt: HostRuntime) -> Result<(), Fail> {
+    let mut body = b"".as_slice();
+    for (i, line) in BODIES.split(|byte| *byte == b'\n').enumerate() {
+        if i % 2 == 0 {
+            body = line;
+            continue;
+        }
         let mut text = Vec::from_slice(rt.alloc(), FRONT)?;
         text.extend_from_slice(body)?;
         text.extend_from_slice(b" }")?;
         assert!(rt; text.len() < 1000);
-        let read = printed(rt.alloc(), text.as_slice());
-        assert_eq!(rt;
-            read.as_ref()
-                .map(|out| &out[SHOWN.len()..])
-                .map_err(|fault| *fault),
-            *want,
-            "body {i}"
-        );
+        let out = printed_body(rt.alloc(), text.as_slice())?;
+        assert_eq!(rt; out.as_slice(), line, "line {i}");
     }
+    Ok(())
+}
+
+#[test]
+fn what_is_one_too_many_is_told(rt: HostRuntime) -> Result<(), Fail> {
     for (i, (front, piece, times, back, want)) in REPEATED.iter().enumerate() {
         let mut text = Vec::from_slice(rt.alloc(), front)?;
         for _ in 0..*times {

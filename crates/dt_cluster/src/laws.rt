@@ -1,0 +1,18 @@
+//! Laws of cluster files. Each is what its function ensures; the functions do nothing.
+
+ghost use Rattle.dt_cluster.specs.Laws.{ClustersHaveNoFault, FilesAreOneCluster, FilesHaveOneFault};
+
+/// A file is one cluster at most.
+pub fn files_are_one_cluster()
+    ensures { FilesAreOneCluster }
+{}
+
+/// A file that is a cluster has no fault.
+pub fn clusters_have_no_fault()
+    ensures { ClustersHaveNoFault }
+{}
+
+/// A file has one fault at most.
+pub fn files_have_one_fault()
+    ensures { FilesHaveOneFault }
+{}
