@@ -44,11 +44,11 @@ first_illegal cluster workload events i rule d inside before illegal by = record
 }
 
 -- the world that legal events led to, and the next event, which was made
-pub step_made : (cluster : Cluster) (workload : Workload) (events : List (ℕ × Event)) (i : ℕ) (x : ℕ × Event) (old new : Kept) → i < length events → x ≡ get_or events i x → (old.cluster ≡ cluster) × (old.workload ≡ workload) × (old.steps ≡ i) × AreLegal cluster workload (unnumbered (take i events)) × (old.state ≡ world_after cluster workload (unnumbered (take i events))) → IsLegal old.cluster old.workload old.state x.1 → new ≡ record old { state = next cluster old.workload old.state x.1; steps = old.steps + 1 } → (new.cluster ≡ cluster) × (new.workload ≡ workload) × (new.steps ≡ i + 1) × AreLegal cluster workload (unnumbered (take (i + 1) events)) × (new.state ≡ world_after cluster workload (unnumbered (take (i + 1) events)))
+pub step_made : (cluster : Cluster) (workload : Workload) (events : List (ℕ × Event)) (i : ℕ) (x : ℕ × Event) (old new : Kept) → i < length events → x ≡ get_or events i x → (old.cluster ≡ cluster) × (old.workload ≡ workload) × (old.steps ≡ i) × AreLegal cluster workload (unnumbered (take i events)) × (old.state ≡ world_after cluster workload (unnumbered (take i events))) → IsLegal old.cluster old.workload old.state x.1 → new ≡ record old { state = next old.cluster old.workload old.state x.1; steps = old.steps + 1 } → (new.cluster ≡ cluster) × (new.workload ≡ workload) × (new.steps ≡ i + 1) × AreLegal cluster workload (unnumbered (take (i + 1) events)) × (new.state ≡ world_after cluster workload (unnumbered (take (i + 1) events)))
 step_made cluster workload events i x old new inside item (of_cluster, of_workload, steps, before, state) legal is =
     let Legal : Cluster × (Workload × (World × (ℕ × Event))) → Type 0 = λ q. IsLegal q.0 q.1.0 q.1.1.0 q.1.1.1.1 in
     let same : (old.cluster, (old.workload, (old.state, x))) ≡ (cluster, (workload, (world_after cluster workload (unnumbered (take i events)), get_or events i x))) = λ j. (of_cluster j, (of_workload j, (state j, item j))) in
-    let after : next cluster old.workload old.state x.1 ≡ next cluster workload (world_after cluster workload (unnumbered (take i events))) (get_or events i x).1 = λ j. next cluster (of_workload j) (state j) (item j).1 in (
+    let after : next old.cluster old.workload old.state x.1 ≡ next cluster workload (world_after cluster workload (unnumbered (take i events))) (get_or events i x).1 = λ j. next (of_cluster j) (of_workload j) (state j) (item j).1 in (
       ap (λ (k : Kept). k.cluster) is ∙ of_cluster,
       ap (λ (k : Kept). k.workload) is ∙ of_workload,
       ap (λ (k : Kept). k.steps) is ∙ ap (λ n. n + 1) steps,
