@@ -1,11 +1,15 @@
 -- Fault lines, as their pieces are written.
-use Rattle.std.proofs.Common.{◌≡◌, ℕ, List, [], ◌∷◌, ◌++◌, length, take, Option, Result, Ok, Err, OnOk, OnErr, refl, ap, sym, ◌∙◌, append_assoc, codes}
+use Rattle.std.proofs.Common.{◌≡◌, ℕ, List, [], ◌∷◌, ◌++◌, length, take, Option, Result, Ok, Err, OnOk, OnErr, refl, ap, sym, ◌∙◌, append_assoc, append-nil, codes}
 use Rattle.std.proofs.Math.Seq.{take-length}
 use Rattle.std.specs.Fmt.{decimal}
 use Rattle.dt_access.specs.Clash.{Bytes}
 use Rattle.dt_outside.specs.Held.{Adds, AddsPrefix, held_with}
-use Rattle.detock.specs.Statuses.{fault_line, told_line}
-use Rattle.detock.specs.declared.status.Status.TheVariants.{CannotRead, BadEvents}
+use Rattle.dt_outside.proofs.Writing.{Adds-append, AddsPrefix-append}
+use Rattle.dt_cluster.specs.declared.ClusterFault.{ClusterFault}
+use Rattle.dt_workload.specs.declared.WorkloadCause.{WorkloadCause}
+use Rattle.detock.specs.Pieces.{cluster_end, workload_end}
+use Rattle.detock.specs.Statuses.{cluster_text, fault_line, place_text, told_line, workload_text}
+use Rattle.detock.specs.declared.status.Status.TheVariants.{CannotRead, BadCluster, BadWorkload, BadEvents}
 use Rattle.detock.specs.declared.status.EventsCause.TheVariants.{TooLong, Form, Rule}
 
 -- the line of a file that could not be read
@@ -33,3 +37,23 @@ rule_line number rule line n is by =
 pub in_part : {E : Type 0} (r : Result (Unit {0}) E) (old new : Option (List ℕ)) (piece : List ℕ) → OnOk r (Adds old new piece) → OnErr r (AddsPrefix old new piece) → AddsPrefix old new piece
 in_part (Ok x) old new piece whole part = (length piece, whole ∙ ap (held_with old) (sym (take-length piece)))
 in_part (Err e) old new piece whole part = part
+
+-- the line of a fault in a cluster's file
+pub cluster_line : (fault : ClusterFault) → (codes "detock: cluster" ++ place_text fault.place) ++ cluster_end fault.cause ≡ fault_line (BadCluster fault)
+cluster_line fault =
+    ap (λ rest. codes "detock: cluster" ++ rest) (sym (append_assoc (place_text fault.place ++ codes ": ") (cluster_text fault.cause) (10 ∷ []) ∙ append_assoc (place_text fault.place) (codes ": ") (cluster_text fault.cause ++ 10 ∷ [])))
+
+-- the line of a fault in a workload's file
+pub workload_line : (number : Bytes) (line : ℕ) (cause : WorkloadCause) → number ≡ decimal line → (codes "detock: workload line " ++ (number ++ [])) ++ workload_end cause ≡ fault_line (BadWorkload line cause)
+workload_line number line cause is =
+    ap (λ digits. (codes "detock: workload line " ++ digits) ++ workload_end cause) (append-nil number ∙ is)
+    ∙ ap (λ rest. codes "detock: workload line " ++ rest) (sym (append_assoc (decimal line ++ codes ": ") (workload_text cause) (10 ∷ []) ∙ append_assoc (decimal line) (codes ": ") (workload_text cause ++ 10 ∷ [])))
+
+-- what is added behind what was added before
+pub then_whole : {E : Type 0} (r : Result (Unit {0}) E) (old mid new : Option (List ℕ)) (first second : List ℕ) → Adds old mid first → OnOk r (Adds mid new second) → OnOk r (Adds old new (first ++ second))
+then_whole (Ok x) old mid new first second before after = Adds-append old mid new first second before after
+then_whole (Err e) old mid new first second before after = tt
+
+pub then_part : {E : Type 0} (r : Result (Unit {0}) E) (old mid new : Option (List ℕ)) (first second : List ℕ) → Adds old mid first → OnErr r (AddsPrefix mid new second) → OnErr r (AddsPrefix old new (first ++ second))
+then_part (Ok x) old mid new first second before after = tt
+then_part (Err e) old mid new first second before after = AddsPrefix-append old mid new first second before after

@@ -1,7 +1,9 @@
 -- Lines are written in pieces.
-use Rattle.std.specs.Prelude.{ℕ, List, map}
+use Rattle.std.specs.Prelude.{ℕ, List, [], ◌∷◌, ◌++◌, codes, map}
 use Rattle.dt_access.specs.Clash.{Bytes}
-use Rattle.detock.specs.Statuses.{printed}
+use Rattle.dt_cluster.specs.declared.ClusterCause.{ClusterCause}
+use Rattle.dt_workload.specs.declared.WorkloadCause.{WorkloadCause}
+use Rattle.detock.specs.Statuses.{cluster_text, printed, workload_text}
 use Rattle.detock.specs.declared.faults.Piece.{Piece}
 use Rattle.detock.specs.declared.faults.Piece.TheVariants.{Text, Name}
 
@@ -9,3 +11,11 @@ use Rattle.detock.specs.declared.faults.Piece.TheVariants.{Text, Name}
 abbrev pub said : Piece → Bytes
 said (Text bytes) = bytes.now
 said (Name name) = map printed name.now
+
+-- how the line of a fault in a cluster's file ends
+abbrev pub cluster_end : ClusterCause → Bytes
+cluster_end cause = codes ": " ++ (cluster_text cause ++ 10 ∷ [])
+
+-- how the line of a fault in a workload's file ends
+abbrev pub workload_end : WorkloadCause → Bytes
+workload_end cause = codes ": " ++ (workload_text cause ++ 10 ∷ [])

@@ -2,8 +2,8 @@ ghost use Rattle.std.specs.Prelude.{◌≡◌, ◌≤◌, ◌++◌, map, OnOk, O
 ghost use Rattle.std.specs.List.{flat_map};
 ghost use Rattle.dt_outside.specs.Faults.{Rose};
 ghost use Rattle.dt_outside.specs.Held.{Adds, AddsPrefix};
-ghost use Rattle.detock.specs.Pieces.{said};
-ghost use Rattle.detock.specs.Statuses.{cluster_text, fault_line, place_text, printed, workload_text};
+ghost use Rattle.detock.specs.Pieces.{cluster_end, said, workload_end};
+ghost use Rattle.detock.specs.Statuses.{fault_line, place_text, printed};
 
 use crate::status::{EventsCause, Status};
 use dt_cluster::{ClusterCause, ClusterFault, ClusterPlace};
@@ -84,54 +84,62 @@ fn put_bad_cluster<E: Sink>(fault: &ClusterFault, err: &mut E) -> Result<(), Fai
     ensures failed { OnErr result (Rose (E.faults err.old) (E.faults err.new)) }
     ensures later { E.faults err.old ≤ E.faults err.new }
 {
-    let mut digits = Buffer::new();
-    let (front, place) = place_pieces(&fault.place, &mut digits);
-    write_pieces(
-        err,
-        &[
-            Piece::Text(b"detock: cluster"),
-            Piece::Text(front),
-            place,
-            Piece::Text(b": "),
-            Piece::Text(cluster_text(fault.cause)),
-            Piece::Text(b"\n"),
-        ],
-    )
+    write_all(err, b"detock: cluster")?;
+    put_place(&fault.place, err)?;
+    put_cluster_cause(fault.cause, err)
 }
 
-/// What is written of the place of a fault, in two pieces.
-fn place_pieces<'a>(place: &'a ClusterPlace, digits: &'a mut Buffer) -> (&'a [u8], Piece<'a>)
-    ensures { result.0.now ++ said result.1 ≡ place_text place.now }
+/// Writes where a cluster's file is at fault.
+fn put_place<E: Sink>(place: &ClusterPlace, err: &mut E) -> Result<(), Failed>
+    ensures added { OnOk result (Adds (E.held err.old) (E.held err.new) (place_text place.now)) }
+    ensures prefix { OnErr result (AddsPrefix (E.held err.old) (E.held err.new) (place_text place.now)) }
+    ensures failed { OnErr result (Rose (E.faults err.old) (E.faults err.new)) }
+    ensures later { E.faults err.old ≤ E.faults err.new }
 {
     match place {
-        ClusterPlace::Whole => (b"", Piece::Text(b"")),
-        ClusterPlace::Entry(name) => (b" ", Piece::Name(name.bytes())),
-        ClusterPlace::Home(name) => (b" homes.", Piece::Name(name.bytes())),
-        ClusterPlace::Row(name) => (b" rows.", Piece::Name(name.bytes())),
-        ClusterPlace::Procs(at) => (
-            b" procs byte ",
-            Piece::Text(digits.format(*at).as_bytes()),
-        ),
+        ClusterPlace::Whole => write_all(err, b""),
+        ClusterPlace::Entry(name) => put_named(b" ", name.bytes(), err),
+        ClusterPlace::Home(name) => put_named(b" homes.", name.bytes(), err),
+        ClusterPlace::Row(name) => put_named(b" rows.", name.bytes(), err),
+        ClusterPlace::Procs(at) => {
+            let mut number = Buffer::new();
+            let number = number.format(*at).as_bytes();
+            write_pieces(err, &[Piece::Text(b" procs byte "), Piece::Text(number)])
+        }
     }
 }
 
-/// What is wrong with a cluster's file, in words.
-fn cluster_text(cause: ClusterCause) -> &'static [u8]
-    ensures { result.now ≡ cluster_text cause }
+/// Writes some bytes and a name.
+fn put_named<E: Sink>(front: &[u8], name: &[u8], err: &mut E) -> Result<(), Failed>
+    ensures added { OnOk result (Adds (E.held err.old) (E.held err.new) (front.now ++ map printed name.now)) }
+    ensures prefix { OnErr result (AddsPrefix (E.held err.old) (E.held err.new) (front.now ++ map printed name.now)) }
+    ensures failed { OnErr result (Rose (E.faults err.old) (E.faults err.new)) }
+    ensures later { E.faults err.old ≤ E.faults err.new }
+{
+    write_all(err, front)?;
+    write_name(err, name)
+}
+
+/// Writes the end of the line of a fault in a cluster's file: what is wrong there.
+fn put_cluster_cause<E: Sink>(cause: ClusterCause, err: &mut E) -> Result<(), Failed>
+    ensures added { OnOk result (Adds (E.held err.old) (E.held err.new) (cluster_end cause)) }
+    ensures prefix { OnErr result (AddsPrefix (E.held err.old) (E.held err.new) (cluster_end cause)) }
+    ensures failed { OnErr result (Rose (E.faults err.old) (E.faults err.new)) }
+    ensures later { E.faults err.old ≤ E.faults err.new }
 {
     match cause {
-        ClusterCause::TooLong => b"too long",
-        ClusterCause::NotToml => b"no toml",
-        ClusterCause::Unknown => b"unknown entry",
-        ClusterCause::Missing => b"missing",
-        ClusterCause::Kind => b"wrong kind",
-        ClusterCause::Range => b"out of range",
-        ClusterCause::BadKey => b"no key",
-        ClusterCause::BadText => b"no text",
-        ClusterCause::Syntax => b"syntax",
-        ClusterCause::UnknownName => b"unknown name",
-        ClusterCause::Twice => b"name used twice",
-        ClusterCause::TooMany => b"too many",
+        ClusterCause::TooLong => write_all(err, b": too long\n"),
+        ClusterCause::NotToml => write_all(err, b": no toml\n"),
+        ClusterCause::Unknown => write_all(err, b": unknown entry\n"),
+        ClusterCause::Missing => write_all(err, b": missing\n"),
+        ClusterCause::Kind => write_all(err, b": wrong kind\n"),
+        ClusterCause::Range => write_all(err, b": out of range\n"),
+        ClusterCause::BadKey => write_all(err, b": no key\n"),
+        ClusterCause::BadText => write_all(err, b": no text\n"),
+        ClusterCause::Syntax => write_all(err, b": syntax\n"),
+        ClusterCause::UnknownName => write_all(err, b": unknown name\n"),
+        ClusterCause::Twice => write_all(err, b": name used twice\n"),
+        ClusterCause::TooMany => write_all(err, b": too many\n"),
     }
 }
 
@@ -146,31 +154,29 @@ fn put_bad_workload<E: Sink>(line: u32, cause: WorkloadCause, err: &mut E) -> Re
     let number = number.format(line).as_bytes();
     write_pieces(
         err,
-        &[
-            Piece::Text(b"detock: workload line "),
-            Piece::Text(number),
-            Piece::Text(b": "),
-            Piece::Text(workload_text(cause)),
-            Piece::Text(b"\n"),
-        ],
-    )
+        &[Piece::Text(b"detock: workload line "), Piece::Text(number)],
+    )?;
+    put_workload_cause(cause, err)
 }
 
-/// What is wrong with a workload's file, in words.
-fn workload_text(cause: WorkloadCause) -> &'static [u8]
-    ensures { result.now ≡ workload_text cause }
+/// Writes the end of the line of a fault in a workload's file: what is wrong there.
+fn put_workload_cause<E: Sink>(cause: WorkloadCause, err: &mut E) -> Result<(), Failed>
+    ensures added { OnOk result (Adds (E.held err.old) (E.held err.new) (workload_end cause)) }
+    ensures prefix { OnErr result (AddsPrefix (E.held err.old) (E.held err.new) (workload_end cause)) }
+    ensures failed { OnErr result (Rose (E.faults err.old) (E.faults err.new)) }
+    ensures later { E.faults err.old ≤ E.faults err.new }
 {
     match cause {
-        WorkloadCause::TooLong => b"too long",
-        WorkloadCause::Form => b"no line of a workload",
-        WorkloadCause::Name => b"no name",
-        WorkloadCause::Twice => b"name used twice",
-        WorkloadCause::Region => b"no region",
-        WorkloadCause::TooMany => b"too many",
-        WorkloadCause::NoSession => b"no session",
-        WorkloadCause::Proc => b"unknown procedure",
-        WorkloadCause::Args => b"wrong arguments",
-        WorkloadCause::Key => b"no key",
+        WorkloadCause::TooLong => write_all(err, b": too long\n"),
+        WorkloadCause::Form => write_all(err, b": no line of a workload\n"),
+        WorkloadCause::Name => write_all(err, b": no name\n"),
+        WorkloadCause::Twice => write_all(err, b": name used twice\n"),
+        WorkloadCause::Region => write_all(err, b": no region\n"),
+        WorkloadCause::TooMany => write_all(err, b": too many\n"),
+        WorkloadCause::NoSession => write_all(err, b": no session\n"),
+        WorkloadCause::Proc => write_all(err, b": unknown procedure\n"),
+        WorkloadCause::Args => write_all(err, b": wrong arguments\n"),
+        WorkloadCause::Key => write_all(err, b": no key\n"),
     }
 }
 
