@@ -86,7 +86,7 @@ fn put_bad_cluster<E: Sink>(fault: &ClusterFault, err: &mut E) -> Result<(), Fai
 {
     write_all(err, b"detock: cluster")?;
     put_place(&fault.place, err)?;
-    put_cluster_cause(fault.cause, err)
+    write_all(err, cluster_end(fault.cause))
 }
 
 /// Writes where a cluster's file is at fault.
@@ -120,26 +120,23 @@ fn put_named<E: Sink>(front: &[u8], name: &[u8], err: &mut E) -> Result<(), Fail
     write_name(err, name)
 }
 
-/// Writes the end of the line of a fault in a cluster's file: what is wrong there.
-fn put_cluster_cause<E: Sink>(cause: ClusterCause, err: &mut E) -> Result<(), Failed>
-    ensures added { OnOk result (Adds (E.held err.old) (E.held err.new) (cluster_end cause)) }
-    ensures prefix { OnErr result (AddsPrefix (E.held err.old) (E.held err.new) (cluster_end cause)) }
-    ensures failed { OnErr result (Rose (E.faults err.old) (E.faults err.new)) }
-    ensures later { E.faults err.old ≤ E.faults err.new }
+/// The end of the line of a fault in a cluster's file: what is wrong there.
+fn cluster_end(cause: ClusterCause) -> &'static [u8]
+    ensures { result.now ≡ cluster_end cause }
 {
     match cause {
-        ClusterCause::TooLong => write_all(err, b": too long\n"),
-        ClusterCause::NotToml => write_all(err, b": no toml\n"),
-        ClusterCause::Unknown => write_all(err, b": unknown entry\n"),
-        ClusterCause::Missing => write_all(err, b": missing\n"),
-        ClusterCause::Kind => write_all(err, b": wrong kind\n"),
-        ClusterCause::Range => write_all(err, b": out of range\n"),
-        ClusterCause::BadKey => write_all(err, b": no key\n"),
-        ClusterCause::BadText => write_all(err, b": no text\n"),
-        ClusterCause::Syntax => write_all(err, b": syntax\n"),
-        ClusterCause::UnknownName => write_all(err, b": unknown name\n"),
-        ClusterCause::Twice => write_all(err, b": name used twice\n"),
-        ClusterCause::TooMany => write_all(err, b": too many\n"),
+        ClusterCause::TooLong => b": too long\n",
+        ClusterCause::NotToml => b": no toml\n",
+        ClusterCause::Unknown => b": unknown entry\n",
+        ClusterCause::Missing => b": missing\n",
+        ClusterCause::Kind => b": wrong kind\n",
+        ClusterCause::Range => b": out of range\n",
+        ClusterCause::BadKey => b": no key\n",
+        ClusterCause::BadText => b": no text\n",
+        ClusterCause::Syntax => b": syntax\n",
+        ClusterCause::UnknownName => b": unknown name\n",
+        ClusterCause::Twice => b": name used twice\n",
+        ClusterCause::TooMany => b": too many\n",
     }
 }
 
@@ -156,27 +153,24 @@ fn put_bad_workload<E: Sink>(line: u32, cause: WorkloadCause, err: &mut E) -> Re
         err,
         &[Piece::Text(b"detock: workload line "), Piece::Text(number)],
     )?;
-    put_workload_cause(cause, err)
+    write_all(err, workload_end(cause))
 }
 
-/// Writes the end of the line of a fault in a workload's file: what is wrong there.
-fn put_workload_cause<E: Sink>(cause: WorkloadCause, err: &mut E) -> Result<(), Failed>
-    ensures added { OnOk result (Adds (E.held err.old) (E.held err.new) (workload_end cause)) }
-    ensures prefix { OnErr result (AddsPrefix (E.held err.old) (E.held err.new) (workload_end cause)) }
-    ensures failed { OnErr result (Rose (E.faults err.old) (E.faults err.new)) }
-    ensures later { E.faults err.old ≤ E.faults err.new }
+/// The end of the line of a fault in a workload's file: what is wrong there.
+fn workload_end(cause: WorkloadCause) -> &'static [u8]
+    ensures { result.now ≡ workload_end cause }
 {
     match cause {
-        WorkloadCause::TooLong => write_all(err, b": too long\n"),
-        WorkloadCause::Form => write_all(err, b": no line of a workload\n"),
-        WorkloadCause::Name => write_all(err, b": no name\n"),
-        WorkloadCause::Twice => write_all(err, b": name used twice\n"),
-        WorkloadCause::Region => write_all(err, b": no region\n"),
-        WorkloadCause::TooMany => write_all(err, b": too many\n"),
-        WorkloadCause::NoSession => write_all(err, b": no session\n"),
-        WorkloadCause::Proc => write_all(err, b": unknown procedure\n"),
-        WorkloadCause::Args => write_all(err, b": wrong arguments\n"),
-        WorkloadCause::Key => write_all(err, b": no key\n"),
+        WorkloadCause::TooLong => b": too long\n",
+        WorkloadCause::Form => b": no line of a workload\n",
+        WorkloadCause::Name => b": no name\n",
+        WorkloadCause::Twice => b": name used twice\n",
+        WorkloadCause::Region => b": no region\n",
+        WorkloadCause::TooMany => b": too many\n",
+        WorkloadCause::NoSession => b": no session\n",
+        WorkloadCause::Proc => b": unknown procedure\n",
+        WorkloadCause::Args => b": wrong arguments\n",
+        WorkloadCause::Key => b": no key\n",
     }
 }
 

@@ -1,3 +1,4 @@
 mod Listing
 mod OneCluster
 mod Valid
+pub mod FileValid

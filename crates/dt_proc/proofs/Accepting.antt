@@ -1,5 +1,5 @@
 -- Every beginning of the tokens of some procedures is read by the machine.
-use Rattle.std.proofs.Common.{◌≡◌, ℕ, zero, suc, ◌+◌, ◌<◌, ◌≤◌, Bool, true, false, cond, ◌==◌, nat_le, List, [], ◌∷◌, ◌++◌, length, Option, Some, None, refl, sym, ap, ◌∙◌, subst, arith, append_assoc, append-nil, length-append, eq-eqb}
+use Rattle.std.proofs.Common.{◌≡◌, ℕ, zero, suc, ◌<◌, ◌≤◌, Bool, true, false, cond, ◌==◌, List, [], ◌∷◌, ◌++◌, length, Option, Some, None, refl, sym, ap, ◌∙◌, subst, arith, append_assoc, append-nil, length-append}
 use Rattle.std.specs.List.{flat_map}
 use Rattle.std.proofs.lemmas.Bool.Decides.{nat_tests}
 use Rattle.dt_lists.specs.Lists.{AllIn}
@@ -12,8 +12,8 @@ use Rattle.dt_proc.specs.declared.token.Token.TheVariants as tok
 use Rattle.dt_proc.specs.declared.token.Placed.{Placed}
 use Rattle.dt_proc.specs.declared.machine.Sym.{Sym}
 use Rattle.dt_proc.specs.declared.machine.Sym.TheVariants as expect
-use Rattle.dt_proc.specs.Machine.{Turn, takes, passes, refuses, tails, after_operator, operand, operator, turn, turned, advance, onward, run}
-use Rattle.dt_proc.specs.Syntax.{at, Syntax, chain, minus, denial, int, text, truth, name, parens, of_key, made, Links, no_link, link, syntax_tokens, links_tokens, level_of, IsLevel, AreLinks, Reader, reads_int, reads_text, reads_presence, Maker, makes_length, makes_text, Bracketed, bracketed_tokens, reader_token, maker_token, Param, param_tokens, kind_token, Params, no_param, params, params_tokens, KeyPart, text_part, name_part, show_part, part_tokens, KeySyntax, key_tokens, mode_token, Item, row_item, value_item, item_tokens, items_tokens, Statement, let_new, set_key, clear_key, when, choose, abort, give, Statements, nothing, first, statement_tokens, statements_tokens, IsItem, IsStatement, AreStatements, ProcSyntax, proc_tokens, procs_tokens, IsProc, AreProcs, InGrammar, Begins}
+use Rattle.dt_proc.specs.Machine.{passes, tails, operator, turned, advance, onward, run}
+use Rattle.dt_proc.specs.Syntax.{at, Syntax, chain, minus, denial, int, text, truth, name, parens, of_key, made, Links, no_link, link, syntax_tokens, links_tokens, level_of, IsLevel, AreLinks, reads_int, reads_text, reads_presence, makes_length, makes_text, Param, param_tokens, kind_token, Params, no_param, params, params_tokens, KeyPart, text_part, name_part, show_part, part_tokens, KeySyntax, key_tokens, mode_token, Item, row_item, value_item, item_tokens, items_tokens, Statement, let_new, set_key, clear_key, when, choose, abort, give, Statements, nothing, first, statement_tokens, statements_tokens, IsItem, IsStatement, AreStatements, ProcSyntax, proc_tokens, procs_tokens, IsProc, AreProcs, InGrammar, Begins}
 
 -- an expression of the level does not go on with this token
 abbrev pub Stops : ℕ → Token → Type 0

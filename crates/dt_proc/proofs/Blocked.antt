@@ -1,6 +1,5 @@
 -- The statements of a block, as the walk over them finds them.
-use Rattle.std.proofs.Common.{◌≡◌, ◌⊎◌, inl, inr, ℕ, suc, ◌+◌, ◌-◌, ◌<◌, ◌≤◌, List, [], ◌∷◌, ◌++◌, map, length, take, get_or, Bool, true, false, cond, Result, Ok, Err, refl, sym, ap, ◌∙◌, subst, arith, append_assoc, append-nil, length-append}
-use Rattle.std.specs.List.{flat_map}
+use Rattle.std.proofs.Common.{◌≡◌, ◌⊎◌, inl, inr, ℕ, ◌<◌, ◌≤◌, List, [], ◌∷◌, ◌++◌, length, take, get_or, Bool, true, false, cond, Ok, Err, refl, sym, ap, ◌∙◌, subst, arith, append_assoc, append-nil, length-append}
 use Rattle.std.proofs.lemmas.List.{take-append-le}
 use Rattle.std.proofs.Math.Seq.{take-length}
 use Rattle.dt_proc.specs.declared.token.Token.{Token}
@@ -17,7 +16,7 @@ use Rattle.dt_proc.specs.declared.tree.Sort.TheVariants as sort
 use Rattle.dt_proc.specs.Walked.{Answers, NoElse, EndsBlock}
 use Rattle.dt_proc.specs.Syntax.{at, Statement, let_new, set_key, clear_key, when, choose, abort, give, Statements, nothing, first, statement_tokens, statements_tokens, IsStatement, AreStatements, Syntax, syntax_tokens, IsLevel, Item, IsItem, items_tokens}
 use Rattle.dt_lists.specs.Lists.{AllIn}
-use Rattle.dt_proc.proofs.Walks.{head_is, tail_is, placed_is, left_of, cut_first}
+use Rattle.dt_proc.proofs.Walks.{head_is, tail_is, left_of, cut_first}
 
 -- what was visible is visible still, before anything new
 pub record Grown (old new : Scope) : Type 0 where

@@ -2,7 +2,7 @@
 use Rattle.std.proofs.Common.{◌≡◌, ℕ, zero, suc, ◌+◌, ◌<◌, ◌≤◌, List, [], ◌∷◌, ◌++◌, length, take, get_or, refl, ap, sym, ◌∙◌, arith}
 use Rattle.std.proofs.lemmas.List.{take_more}
 use Rattle.dt_proc.specs.declared.tree.Stmt.{Stmt}
-use Rattle.dt_proc.specs.Tree.{Block, done, then, joined}
+use Rattle.dt_proc.specs.Tree.{done, then, joined}
 use Rattle.dt_proc.specs.Shown.{step_of, block_of, step_size, block_size}
 
 pub with_last : (ss : List Stmt) (s : Stmt) → block_of (ss ++ s ∷ []) ≡ joined (block_of ss) (then (step_of s) done)

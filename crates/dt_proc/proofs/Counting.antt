@@ -1,19 +1,17 @@
 -- Where no token of some procedures is one too many, there are at most 64 procedures, and each has at most 16 parameters and 16 keys.
-use Rattle.std.proofs.Common.{◌≡◌, ◌⊎◌, inl, inr, ℕ, zero, suc, ◌+◌, ◌<◌, ◌≤◌, Bool, true, false, cond, ◌&&◌, ◌||◌, ◌==◌, nat_le, nat_lt, List, [], ◌∷◌, ◌++◌, map, length, append_assoc, refl, sym, ap, ◌∙◌, subst, arith}
+use Rattle.std.proofs.Common.{◌≡◌, ℕ, suc, ◌+◌, ◌≤◌, Bool, true, false, cond, ◌&&◌, ◌||◌, ◌==◌, nat_le, nat_lt, List, [], ◌∷◌, ◌++◌, map, length, append_assoc, refl, sym, ap, ◌∙◌, subst, arith}
 use Rattle.std.specs.List.{flat_map}
 use Rattle.std.proofs.lemmas.Bool.Decides.{nat_tests}
 use Rattle.std.proofs.lemmas.List.{length-map}
 use Rattle.dt_lists.specs.Lists.{AllIn}
 use Rattle.dt_proc.specs.declared.tree.Kind.{Kind}
 use Rattle.dt_proc.specs.declared.tree.Kind.TheVariants as kind
-use Rattle.dt_proc.specs.declared.tree.Op.{Op}
-use Rattle.dt_proc.specs.declared.tree.Op.TheVariants as op
 use Rattle.dt_proc.specs.declared.token.Token.{Token}
 use Rattle.dt_proc.specs.declared.token.Token.TheVariants as tok
 use Rattle.dt_proc.specs.declared.token.Placed.{Placed}
 use Rattle.dt_proc.specs.Checked.{param_kinds}
 use Rattle.dt_proc.specs.Walked.{comma_param, joined_part, IsSmall}
-use Rattle.dt_proc.specs.Passes.{is_proc, is_mode, is_name, is_comma, is_close, follows, procs_begun, in_proc, is_proc_too_many, is_param_too_many, is_key_too_many, is_token_too_many, is_bracket_too_many, is_too_many, AreFew, backwards}
+use Rattle.dt_proc.specs.Passes.{is_proc, is_mode, is_comma, is_close, procs_begun, in_proc, is_proc_too_many, is_param_too_many, is_key_too_many, is_token_too_many, is_bracket_too_many, is_too_many, AreFew, backwards}
 use Rattle.dt_proc.specs.Syntax.{at, Syntax, chain, minus, denial, int, text, truth, name, parens, of_key, made, Links, no_link, link, syntax_tokens, links_tokens, Reader, reads_int, reads_text, reads_presence, reader_token, Maker, makes_length, makes_text, maker_token, Bracketed, bracketed_tokens, kind_token, Param, param_tokens, Params, no_param, params, params_tokens, KeyPart, text_part, name_part, show_part, part_tokens, mode_token, KeySyntax, key_tokens, Item, row_item, value_item, item_tokens, items_tokens, Statement, let_new, set_key, clear_key, when, choose, abort, give, Statements, nothing, first, statement_tokens, statements_tokens, ProcSyntax, proc_tokens, procs_tokens}
 
 few_left : (e xs ys : List Placed) → AreFew e (xs ++ ys) → AreFew e xs

@@ -1,21 +1,18 @@
 -- The items of a `give`, as the walk over them finds them.
-use Rattle.std.proofs.Common.{◌≡◌, ◌⊎◌, inl, inr, ℕ, suc, ◌+◌, ◌<◌, ◌≤◌, List, [], ◌∷◌, ◌++◌, map, length, Result, Ok, Err, refl, sym, ap, ◌∙◌, subst, arith, append_assoc, append-nil}
+use Rattle.std.proofs.Common.{◌≡◌, inl, inr, ℕ, List, [], ◌∷◌, ◌++◌, Ok, Err, refl, sym, ap, ◌∙◌, append_assoc, append-nil}
 use Rattle.std.specs.List.{flat_map}
 use Rattle.dt_lists.specs.Lists.{AllIn}
-use Rattle.dt_proc.specs.declared.token.Token.{Token}
 use Rattle.dt_proc.specs.declared.token.Token.TheVariants as tok
 use Rattle.dt_proc.specs.declared.token.Placed.{Placed}
 use Rattle.dt_proc.specs.declared.tree.Op.TheVariants as op
-use Rattle.dt_proc.specs.declared.tree.Give.{Give}
 use Rattle.dt_proc.specs.declared.error.ProcError.{ProcError}
 use Rattle.dt_proc.specs.Tree as tree
 use Rattle.dt_proc.specs.Tree.{Gift}
-use Rattle.dt_proc.specs.Shown.{gift_of}
 use Rattle.dt_proc.specs.Names.{Scope}
-use Rattle.dt_proc.specs.Checked.{Told, Typed, after_ok, check, key_of, needs_stored, front_place, check_item, check_items, check_all_items}
+use Rattle.dt_proc.specs.Checked.{Told, after_ok, check, key_of, needs_stored, front_place, check_item, check_items, check_all_items}
 use Rattle.dt_proc.specs.Walked.{FrontStops, Answers}
-use Rattle.dt_proc.specs.Syntax.{at, Bracketed, bracketed_tokens, Syntax, chain, minus, denial, int, text, truth, name, parens, of_key, made, Links, syntax_tokens, links_tokens, IsLevel, reads_int, reads_text, reads_presence, makes_length, makes_text, Item, row_item, value_item, item_tokens, items_tokens, IsItem}
-use Rattle.dt_proc.proofs.Walks.{head_is, tail_is, placed_is}
+use Rattle.dt_proc.specs.Syntax.{at, Bracketed, bracketed_tokens, Syntax, chain, minus, denial, int, text, truth, name, parens, of_key, made, syntax_tokens, links_tokens, IsLevel, reads_int, reads_text, reads_presence, makes_length, makes_text, Item, row_item, value_item, item_tokens, items_tokens, IsItem}
+use Rattle.dt_proc.proofs.Walks.{head_is, tail_is}
 
 -- an expression begins with a token that is no `row`
 pub front_token : (x : Syntax) → (u : Placed) × (us : List Placed) × (syntax_tokens x ≡ u ∷ us) × (u.place ≡ front_place x) × ¬ (u.token ≡ tok.Row)

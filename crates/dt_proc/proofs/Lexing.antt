@@ -1,14 +1,12 @@
 -- How the tokens of some bytes come from those of what is left of them.
-use Rattle.std.proofs.Common.{◌≡◌, ◌≢◌, ℕ, zero, suc, ◌+◌, ◌-◌, ◌<◌, ◌≤◌, Bool, true, false, cond, ◌&&◌, ◌==◌, not, nat_le, List, [], ◌∷◌, ◌++◌, length, take, drop, Option, Some, None, IsTrue, refl, sym, ap, ◌∙◌, subst, arith, append_assoc, take_while, get_or, eq-eqb, length-drop}
+use Rattle.std.proofs.Common.{◌≡◌, ◌≢◌, ℕ, zero, suc, ◌+◌, ◌-◌, ◌<◌, ◌≤◌, Bool, true, false, cond, ◌==◌, List, [], ◌∷◌, ◌++◌, length, take, drop, Option, Some, None, refl, sym, ap, ◌∙◌, arith, append_assoc, take_while, get_or, eq-eqb, length-drop}
 use Rattle.std.proofs.Math.Seq.{take-length}
 use Rattle.std.proofs.lemmas.List.{drop_more, drop_all, drop-drop}
 use Rattle.std.proofs.lemmas.List.Sums.{take_while-cons}
 use Rattle.std.specs.Option.{option_map}
 use Rattle.std.specs.List.{list_all}
 use Rattle.std.proofs.lemmas.Bool.Decides.{nat_tests}
-use Rattle.dt_text.specs.Texts.{is_text_byte}
-use Rattle.dt_proc.specs.declared.token.Placed.{Placed}
-use Rattle.dt_proc.specs.Tokens.{tokens_from, Lexed, with_front, front_token, is_blank, is_no_line_end, items_of, with_item, text_found, Sized, BeginsToken}
+use Rattle.dt_proc.specs.Tokens.{tokens_from, with_front, front_token, is_blank, is_no_line_end, with_item, BeginsToken}
 
 -- what was read of a text, and what comes after it
 abbrev pub with_items : List ℕ → Option (List ℕ × List ℕ) → Option (List ℕ × List ℕ)

@@ -21,3 +21,4 @@ pub mod Spelled
 pub mod Together
 pub mod Unique
 pub mod Walks
+pub mod SoundProcs

@@ -1,5 +1,5 @@
 -- Parameters and keys, as the walk over them finds them.
-use Rattle.std.proofs.Common.{◌≡◌, ◌⊎◌, inl, inr, ℕ, List, [], ◌∷◌, ◌++◌, map, length, Bool, true, false, Result, Ok, Err, OnOk, MatchResult, refl, sym, ap, ◌∙◌, subst, append_assoc, append-nil}
+use Rattle.std.proofs.Common.{◌≡◌, inl, inr, ℕ, List, [], ◌∷◌, ◌++◌, map, Bool, true, false, Result, Ok, Err, OnOk, MatchResult, refl, sym, ap, ◌∙◌, append_assoc, append-nil}
 use Rattle.std.specs.List.{flat_map}
 use Rattle.std.specs.Borrow.{Bor}
 use Rattle.dt_proc.specs.declared.token.Token.{Token}

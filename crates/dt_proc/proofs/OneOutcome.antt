@@ -1,13 +1,11 @@
 -- A text has one outcome.
-use Rattle.std.proofs.Common.{◌≡◌, ◌⊎◌, inl, inr, ℕ, Bool, true, false, List, [], ◌∷◌, ◌++◌, Option, Some, None, Result, Ok, Err, refl, sym, ap, ◌∙◌, subst, append_assoc, append-nil, length}
-use Rattle.dt_lists.specs.Lists.{AllIn}
+use Rattle.std.proofs.Common.{◌≡◌, ◌⊎◌, inl, inr, ℕ, Bool, true, false, List, [], ◌∷◌, ◌++◌, Option, Some, None, Ok, Err, refl, sym, ap, ◌∙◌, subst, append_assoc, append-nil}
 use Rattle.dt_proc.specs.declared.token.Placed.{Placed}
-use Rattle.dt_proc.specs.declared.error.ProcError.{ProcError}
 use Rattle.dt_proc.specs.declared.error.ProcError.TheVariants as fault
 use Rattle.dt_proc.specs.Tree.{ProcTree}
-use Rattle.dt_proc.specs.Tokens.{tokens_of, Lexed}
-use Rattle.dt_proc.specs.Syntax.{InGrammar, Begins, procs_tokens}
-use Rattle.dt_proc.specs.Passes.{is_too_many, AreFew, backwards, StartsWell, PassesFirst, FaultAfter, IsSyntaxFault, IsTooMany}
+use Rattle.dt_proc.specs.Tokens.{tokens_of}
+use Rattle.dt_proc.specs.Syntax.{InGrammar, Begins}
+use Rattle.dt_proc.specs.Passes.{is_too_many, AreFew, backwards, StartsWell, FaultAfter}
 use Rattle.dt_proc.specs.Checked.{Told, check_procs}
 use Rattle.dt_proc.specs.Outcome.{Outcome, SecondTells}
 use Rattle.dt_proc.proofs.Unique.{one_reading}

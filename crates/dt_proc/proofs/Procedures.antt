@@ -1,24 +1,22 @@
 -- A procedure, as the walk over it finds it.
-use Rattle.std.proofs.Common.{◌≡◌, ◌⊎◌, inl, inr, ℕ, suc, ◌≤◌, ◌<◌, ◌+◌, Bool, true, false, cond, List, [], ◌∷◌, ◌++◌, map, length, append_assoc, Result, Ok, Err, refl, sym, ap, ◌∙◌, subst, arith, nat_eq}
+use Rattle.std.proofs.Common.{◌≡◌, inl, inr, ℕ, ◌≤◌, ◌<◌, Bool, true, false, cond, List, [], ◌∷◌, ◌++◌, map, length, append_assoc, Ok, Err, refl, sym, ap, ◌∙◌, subst, arith, nat_eq}
 use Rattle.std.specs.List.{flat_map, list_any}
 use Rattle.std.specs.Cmp.Lexicographic.{pointwise}
 use Rattle.std.proofs.lemmas.List.{length-append}
-use Rattle.dt_lists.specs.Lists.{AllIn}
 use Rattle.dt_text.specs.Texts.{IsName}
 use Rattle.dt_proc.specs.declared.tree.Kind.{Kind}
 use Rattle.dt_proc.specs.declared.tree.KeyDecl.{KeyDecl}
-use Rattle.dt_proc.specs.declared.tree.Sort.{Sort}
 use Rattle.dt_proc.specs.declared.token.Token.TheVariants as tok
 use Rattle.dt_proc.specs.declared.token.Placed.{Placed}
 use Rattle.dt_proc.specs.declared.error.ProcError.{ProcError}
 use Rattle.dt_proc.specs.declared.error.ProcError.TheVariants as fault
 use Rattle.dt_proc.specs.Names.{Scope}
 use Rattle.dt_proc.specs.Tree.{Block, ProcTree}
-use Rattle.dt_proc.specs.Sound.{IsSound, IsSoundItem, AreSound, sort_of}
+use Rattle.dt_proc.specs.Sound.{IsSound, AreSound, sort_of}
 use Rattle.dt_proc.specs.Checked.{Told, after_ok, check_params, param_kinds, check_keys, check_block, check_proc}
 use Rattle.dt_proc.specs.Walked.{Answers, AllSound, IsSmall, params_told, keys_told}
 use Rattle.dt_proc.specs.Syntax.{at, params_tokens, key_tokens, KeySyntax, statements_tokens, ProcSyntax, proc_tokens}
-use Rattle.dt_proc.proofs.Sorted.{sound_left, sound_right, Holds, holds_ok, holds_after, sorts, writes}
+use Rattle.dt_proc.proofs.Sorted.{sound_left, sound_right, holds_ok, holds_after, sorts, writes}
 use Rattle.dt_proc.proofs.Keyed.{HasParams, KeysMade, keys_make, ParamsMade, params_make}
 use Rattle.dt_proc.proofs.Fitted.{block_fits}
 

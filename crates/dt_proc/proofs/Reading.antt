@@ -1,24 +1,21 @@
 -- How the first pass goes on over a text.
-use Rattle.std.proofs.Common.{◌≡◌, ◌⊎◌, inl, inr, ℕ, zero, suc, ◌+◌, ◌-◌, ◌<◌, ◌≤◌, ◌^◌, Bool, true, false, cond, ◌&&◌, ◌==◌, not, nat_le, List, [], ◌∷◌, ◌++◌, length, take, drop, reverse, take_while, Option, Some, None, refl, sym, ap, ◌∙◌, subst, arith, get_or, append_assoc, append-nil, length-append, length-drop}
+use Rattle.std.proofs.Common.{◌≡◌, inl, inr, ℕ, zero, suc, ◌+◌, ◌-◌, ◌<◌, ◌≤◌, ◌^◌, Bool, true, false, cond, ◌==◌, List, [], ◌∷◌, ◌++◌, length, drop, take_while, Option, Some, None, refl, sym, ap, ◌∙◌, subst, arith, get_or, append_assoc, append-nil, length-append, length-drop}
 use Rattle.std.specs.Option.{option_map}
 use Rattle.std.proofs.lemmas.List.{drop_more, drop_all, drop-drop}
-use Rattle.std.proofs.lemmas.Bool.Decides.{nat_tests}
 use Rattle.dt_text.specs.Texts.{is_name_byte}
 use Rattle.dt_proc.specs.declared.token.Token.{Token}
 use Rattle.dt_proc.specs.declared.token.Placed.{Placed}
 use Rattle.dt_proc.specs.declared.machine.Sym.{Sym}
 use Rattle.dt_proc.specs.declared.machine.Sym.TheVariants as expect
 use Rattle.dt_proc.specs.declared.counts.Counts.{Counts}
-use Rattle.dt_proc.specs.declared.error.ProcError.TheVariants as fault
 use Rattle.dt_proc.specs.Tokens.{tokens_of, tokens_from, Lexed, with_front, front_token, front_word, word_token, text_after, text_found, items_of, sign_before, single_sign, double_sign, first_of, Sized, BeginsToken}
-use Rattle.dt_proc.specs.Syntax.{at, InGrammar, Begins}
+use Rattle.dt_proc.specs.Syntax.{at}
 use Rattle.dt_proc.specs.Machine.{advance, onward, run}
-use Rattle.dt_proc.specs.Passes.{is_proc, is_mode, is_comma, is_close, is_opening, is_closing, is_of_expression, in_proc, in_a_row, procs_begun, brackets_open, is_too_many, AreFew, StartsWell, PassesFirst, IsSyntaxFault, IsTooMany, backwards}
+use Rattle.dt_proc.specs.Passes.{is_proc, is_mode, is_comma, is_close, is_opening, is_closing, is_of_expression, is_too_many, AreFew, StartsWell, PassesFirst, IsSyntaxFault, IsTooMany, backwards}
 use Rattle.dt_proc.specs.Counted.{counts_of, AreAtMost}
 use Rattle.dt_proc.proofs.Accepting.{grammar_read, beginning_read, run_joined}
 use Rattle.dt_proc.proofs.Finishing.{read_begins, read_whole}
 use Rattle.std.proofs.lemmas.List.Sums.{take_while-cons}
-use Rattle.std.proofs.lemmas.List.{reverse-reverse}
 use Rattle.dt_proc.proofs.Lexing.{passed, at_front}
 
 -- the size of a token

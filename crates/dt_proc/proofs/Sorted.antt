@@ -1,22 +1,12 @@
 -- What the second pass makes fits.
-use Rattle.std.proofs.Common.{◌≡◌, ◌⊎◌, inl, inr, ℕ, zero, suc, ◌+◌, ◌<◌, ◌≤◌, Bool, true, false, cond, List, [], ◌∷◌, ◌++◌, map, length, slice_get, Option, Some, None, Result, Ok, Err, refl, sym, ap, ◌∙◌, subst, arith, nat_eq, w64, FitsSigned}
+use Rattle.std.proofs.Common.{◌≡◌, inl, inr, ℕ, suc, ◌<◌, Bool, true, false, cond, List, [], ◌∷◌, ◌++◌, map, length, slice_get, Option, Some, None, Ok, Err, refl, ap, subst, nat_eq}
 use Rattle.std.specs.Option.{option_map}
-use Rattle.std.specs.List.{flat_map}
 use Rattle.std.specs.Cmp.Lexicographic.{pointwise}
-use Rattle.std.proofs.lemmas.List.{map-append, length-map}
-use Rattle.std.proofs.lemmas.Option.{slice_get_within, slice_get-map}
-use Rattle.dt_lists.specs.Lists.{AllIn}
-use Rattle.dt_text.specs.Texts.{IsStr, IsName}
-use Rattle.dt_proc.specs.declared.tree.Kind.{Kind}
-use Rattle.dt_proc.specs.declared.tree.Kind.TheVariants as kind
+use Rattle.std.proofs.lemmas.Option.{slice_get_within}
 use Rattle.dt_proc.specs.declared.tree.Sort.{Sort}
 use Rattle.dt_proc.specs.declared.tree.Sort.TheVariants as sort
 use Rattle.dt_proc.specs.declared.tree.Op.{Op}
 use Rattle.dt_proc.specs.declared.tree.Op.TheVariants as op
-use Rattle.dt_proc.specs.declared.tree.KeyItem.{KeyItem}
-use Rattle.dt_proc.specs.declared.tree.KeyItem.TheVariants as item
-use Rattle.dt_proc.specs.declared.tree.KeyDecl.{KeyDecl}
-use Rattle.dt_proc.specs.declared.token.Token.{Token}
 use Rattle.dt_proc.specs.declared.token.Token.TheVariants as tok
 use Rattle.dt_proc.specs.declared.token.Placed.{Placed}
 use Rattle.dt_proc.specs.declared.scope.Meaning.{Meaning}
@@ -24,12 +14,12 @@ use Rattle.dt_proc.specs.declared.scope.Meaning.TheVariants.{Variable, Key, Unkn
 use Rattle.dt_proc.specs.declared.error.ProcError.{ProcError}
 use Rattle.dt_proc.specs.declared.error.ProcError.TheVariants as fault
 use Rattle.dt_proc.specs.Names.{Scope, entry_of, meaning, as_entry, as_key_entry}
-use Rattle.dt_proc.specs.Sound.{Takes, given_by, HasSort, IsStored, IsSoundGift, AreSound, IsSoundItem, sort_of}
+use Rattle.dt_proc.specs.Sound.{Takes, given_by, HasSort, IsStored}
 use Rattle.dt_proc.specs.Tree as tree
 use Rattle.dt_proc.specs.Tree.{Formula, Gift, Step, Block, done, then}
-use Rattle.dt_proc.specs.Checked.{Told, Typed, after_ok, same_sort, needs, needs_stored, fits_both, combined, as_variable, as_key, as_written, as_new, as_param, key_of, read_by, made_by, check, check_links, front_place, check_item, check_items, check_all_items, with_variable, with_key, one_block, two_blocks, check_block, check_statement, check_part, check_parts, check_key, check_keys, check_param, check_more_params, check_params, param_kinds}
-use Rattle.dt_proc.specs.Syntax.{at, Syntax, chain, minus, denial, int, text, truth, name, parens, of_key, made, Links, no_link, link, syntax_tokens, links_tokens, Reader, reads_int, reads_text, reads_presence, Maker, makes_length, makes_text, Bracketed, bracketed_tokens, Param, param_tokens, Params, no_param, params, params_tokens, KeyPart, text_part, name_part, show_part, part_tokens, KeySyntax, key_tokens, Item, row_item, value_item, item_tokens, items_tokens, Statement, let_new, set_key, clear_key, when, choose, abort, give, Statements, nothing, first, statement_tokens, statements_tokens}
-use Rattle.dt_proc.specs.Walked.{IsSoundToken, AllSound}
+use Rattle.dt_proc.specs.Checked.{Told, Typed, after_ok, same_sort, needs, needs_stored, fits_both, combined, as_variable, as_key, as_written, key_of, read_by, made_by, check, check_links}
+use Rattle.dt_proc.specs.Syntax.{at, Syntax, chain, minus, denial, int, text, truth, name, parens, of_key, made, Links, no_link, link, syntax_tokens, links_tokens, Reader, reads_int, reads_text, reads_presence, Maker, makes_length, makes_text}
+use Rattle.dt_proc.specs.Walked.{AllSound}
 
 pub sound_left : (xs ys : List Placed) → AllSound (xs ++ ys) → AllSound xs
 sound_left [] ys h = tt

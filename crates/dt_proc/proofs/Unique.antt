@@ -1,15 +1,14 @@
 -- Procedures are spelled in one way: tokens that some procedures spell are those of no others.
-use Rattle.std.proofs.Common.{◌≡◌, ℕ, Bool, true, false, List, [], ◌∷◌, ◌++◌, refl, sym, ap, ◌∙◌, append_assoc}
+use Rattle.std.proofs.Common.{◌≡◌, ℕ, Bool, List, [], ◌∷◌, ◌++◌, refl, sym, ap, ◌∙◌, append_assoc}
 use Rattle.std.specs.List.{flat_map}
 use Rattle.dt_lists.specs.Lists.{AllIn}
-use Rattle.dt_proc.specs.declared.token.Token.{Token}
 use Rattle.dt_proc.specs.declared.token.Token.TheVariants as tok
 use Rattle.dt_proc.specs.declared.token.Placed.{Placed}
 use Rattle.dt_proc.specs.declared.tree.Kind.{Kind}
 use Rattle.dt_proc.specs.declared.tree.Kind.TheVariants as kind
 use Rattle.dt_proc.specs.declared.tree.Op.TheVariants as op
 use Rattle.dt_proc.specs.Walked.{comma_param, joined_part}
-use Rattle.dt_proc.specs.Syntax.{at, Bracketed, bracketed_tokens, Param, kind_token, param_tokens, Params, no_param, params, params_tokens, KeyPart, text_part, name_part, show_part, part_tokens, KeySyntax, mode_token, key_tokens, Statements, statements_tokens, ProcSyntax, proc_tokens, procs_tokens, IsProc, AreProcs}
+use Rattle.dt_proc.specs.Syntax.{at, bracketed_tokens, Param, kind_token, param_tokens, Params, no_param, params, params_tokens, KeyPart, text_part, name_part, show_part, part_tokens, KeySyntax, mode_token, key_tokens, statements_tokens, ProcSyntax, proc_tokens, procs_tokens, IsProc, AreProcs}
 use Rattle.dt_proc.proofs.Listing.{key_cut, mode_is, mode_begin, no_comma_close, no_join_semicolon}
 use Rattle.dt_proc.proofs.Procedures.{proc_cut}
 use Rattle.dt_proc.proofs.Spelled.{front_place_is, front_token_is, after_front, same_name, same_text, one_bracketed, one_list, one_statements}

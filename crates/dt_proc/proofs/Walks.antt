@@ -1,19 +1,18 @@
 -- What a walk over tokens answers, put together from its parts.
-use Rattle.std.proofs.Common.{◌≡◌, ◌⊎◌, inl, inr, ℕ, zero, suc, ◌+◌, ◌<◌, ◌≤◌, List, [], ◌∷◌, ◌++◌, Result, Ok, Err, refl, sym, ap, ◌∙◌, subst, arith, append_assoc, take, drop, get_or, length, length-append, add-one, Bool, true, false, ℤ, ◌-◌}
+use Rattle.std.proofs.Common.{◌≡◌, inl, inr, ℕ, suc, ◌+◌, ◌<◌, ◌≤◌, List, [], ◌∷◌, ◌++◌, Ok, Err, refl, sym, ap, ◌∙◌, subst, arith, append_assoc, take, drop, get_or, length, length-append, add-one, Bool, true, false, ℤ, ◌-◌}
 use Rattle.std.proofs.Math.Seq.{take-length}
 use Rattle.dt_proc.specs.declared.token.Token.{Token}
 use Rattle.dt_proc.specs.declared.token.Token.TheVariants as tok
 use Rattle.dt_proc.specs.declared.token.Placed.{Placed}
 use Rattle.dt_proc.specs.declared.tree.Op.{Op}
 use Rattle.dt_proc.specs.declared.tree.Op.TheVariants as op
-use Rattle.dt_proc.specs.declared.tree.Sort.{Sort}
 use Rattle.dt_proc.specs.declared.tree.Sort.TheVariants as sort
 use Rattle.dt_proc.specs.declared.error.ProcError.{ProcError}
 use Rattle.dt_proc.specs.declared.error.ProcError.TheVariants as fault
 use Rattle.dt_proc.specs.Sound.{given_by}
 use Rattle.dt_proc.specs.Tree as tree
 use Rattle.dt_proc.specs.Names.{Scope, meaning}
-use Rattle.dt_proc.specs.Checked.{Told, Typed, after_ok, check, check_links, as_variable, as_key, key_of, read_by, made_by, combined, fits_both}
+use Rattle.dt_proc.specs.Checked.{Told, Typed, after_ok, check, check_links, as_variable, key_of, made_by, fits_both}
 use Rattle.dt_proc.specs.Walked.{Stops, FrontStops, Answers}
 use Rattle.dt_proc.specs.Syntax.{at, Bracketed, bracketed_tokens, Syntax, chain, minus, denial, int, text, truth, name, parens, of_key, made, Links, no_link, link, syntax_tokens, links_tokens, level_of, IsLevel, AreLinks, reads_int, reads_text, reads_presence, makes_length, makes_text}
 

@@ -1,11 +1,10 @@
 -- The built-in procedures, as trees. Beside each stands its text.
-use Rattle.std.specs.Prelude.{ℕ, ℤ, pos, Bool, true, false, List, [], ◌∷◌, codes}
-use Rattle.dt_proc.specs.declared.tree.Kind.{Kind}
+use Rattle.std.specs.Prelude.{ℕ, true, false, List, [], ◌∷◌, codes}
 use Rattle.dt_proc.specs.declared.tree.Kind.TheVariants.{Int, Text}
 use Rattle.dt_proc.specs.declared.tree.Op.TheVariants.{Less, Add, Sub, Div}
 use Rattle.dt_proc.specs.declared.tree.KeyItem.TheVariants.{Param}
 use Rattle.dt_proc.specs.declared.tree.KeyDecl.{KeyDecl}
-use Rattle.dt_proc.specs.Tree.{Formula, number, text, variable, number_of, has_value, binary, Gift, row, value, Step, set_row, clear_row, choose, abort_with, give_all, Block, done, then, ProcTree}
+use Rattle.dt_proc.specs.Tree.{variable, number_of, has_value, binary, row, value, Step, set_row, clear_row, choose, abort_with, give_all, Block, done, then, ProcTree}
 
 -- the key that is given as a parameter, and may be set
 abbrev pub written_key : ℕ → KeyDecl

@@ -1,9 +1,8 @@
 -- The codes by which proofs tell trees apart.
-use Rattle.std.specs.Prelude.{◌≡◌, ℕ, zero, suc, ℤ, Bool, List, [], ◌∷◌, refl}
+use Rattle.std.specs.Prelude.{◌≡◌, ℕ, List, refl}
 use Rattle.std.proofs.Common.{ap, arith}
 use Rattle.std.specs.Coded.{Coded, code_by, coded×, coded_ℕ, coded_ℤ, coded_bool, coded_list}
-use base.Stored.{Gv, gnil, gnum, gcons, code_l}
-use Rattle.dt_proc.specs.declared.tree.Op.{Op}
+use base.Stored.{Gv, gnil, gnum, gcons}
 use Rattle.dt_proc.specs.contracts.tree.Op as op
 use Rattle.dt_proc.specs.contracts.tree.Kind as kind
 use Rattle.dt_proc.specs.contracts.tree.KeyDecl as key

@@ -1,5 +1,5 @@
 -- What is counted of the tokens so far, as the first pass keeps it.
-use Rattle.std.specs.Prelude.{ℕ, ◌≤◌, List, [], ◌∷◌}
+use Rattle.std.specs.Prelude.{ℕ, ◌≤◌, List}
 use Rattle.dt_proc.specs.declared.token.Placed.{Placed}
 use Rattle.dt_proc.specs.declared.counts.Counts.{Counts}
 use Rattle.dt_proc.specs.Passes.{is_proc, is_mode, is_comma, is_close, follows, procs_begun, in_proc, in_a_row, brackets_open}

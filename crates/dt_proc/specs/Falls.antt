@@ -1,5 +1,5 @@
 -- Statements within a statement are smaller than it: what lets a walk down the statements end.
-use Rattle.std.specs.Prelude.{ℕ, ◌+◌, ◌≤◌, List, [], ◌∷◌}
+use Rattle.std.specs.Prelude.{◌≤◌, List, [], ◌∷◌}
 use Rattle.std.proofs.Common.{arith}
 use denote.Param.Weighed.{most}
 use Rattle.dt_proc.specs.declared.tree.Stmts.TheDeep.{deep-Stmt}

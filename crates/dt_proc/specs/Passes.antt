@@ -1,5 +1,5 @@
 -- The first pass: syntax, and what is one too many. The text is read from the front, and the first fault by place is told.
-use Rattle.std.specs.Prelude.{◌≡◌, ◌⊎◌, ℕ, ◌+◌, ◌-◌, Bool, true, false, if◌then◌else◌, ◌&&◌, ◌||◌, ◌==◌, not, nat_le, nat_lt, List, [], ◌∷◌, ◌++◌, length, Option, Some, None}
+use Rattle.std.specs.Prelude.{◌≡◌, ◌⊎◌, ℕ, ◌+◌, ◌-◌, Bool, true, false, if◌then◌else◌, ◌&&◌, ◌||◌, ◌==◌, nat_le, nat_lt, List, [], ◌∷◌, ◌++◌, length, Some, None}
 use Rattle.dt_proc.specs.declared.token.Token.{Token}
 use Rattle.dt_proc.specs.declared.token.Token.TheVariants as tok
 use Rattle.dt_proc.specs.declared.token.Placed.{Placed}

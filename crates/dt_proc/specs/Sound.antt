@@ -11,8 +11,7 @@ use Rattle.dt_proc.specs.declared.tree.Op.{Op}
 use Rattle.dt_proc.specs.declared.tree.Op.TheVariants.{Or, And, Equal, Differ, Less, AtMost, More, AtLeast, Add, Sub, Join, Mul, Div, Rem}
 use Rattle.dt_proc.specs.declared.tree.KeyItem.{KeyItem}
 use Rattle.dt_proc.specs.declared.tree.KeyItem.TheVariants.{Text, Param, Show}
-use Rattle.dt_proc.specs.declared.tree.KeyDecl.{KeyDecl}
-use Rattle.dt_proc.specs.Tree.{Formula, number, text, truth, variable, number_of, text_of, has_value, length_of, shown, negative, opposite, binary, Gift, row, value, Step, let_new, set_row, clear_row, choose, abort_with, give_all, Block, done, then, ProcTree}
+use Rattle.dt_proc.specs.Tree.{Formula, number, text, truth, variable, number_of, text_of, has_value, length_of, shown, negative, opposite, binary, Gift, row, value, let_new, set_row, clear_row, choose, abort_with, give_all, Block, done, then, ProcTree}
 
 -- an operator needs two operands of this sort
 abbrev pub Takes : Op → Sort → Type 0

@@ -3,6 +3,8 @@
 
 mod annotation;
 mod called;
+#[cfg(test)]
+mod copies;
 mod execution;
 mod outcome;
 mod placement;

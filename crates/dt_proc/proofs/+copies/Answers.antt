@@ -1,5 +1,4 @@
-use Rattle.std.proofs.Common.{◌≡◌, ap, sym, ◌∙◌, arith}
-use Rattle.dt_proc.specs.Tree.{joined, then, done}
+use Rattle.std.proofs.Common.{arith}
 use Rattle.dt_proc.proofs.Blocks.{step_in, taken_step}
 use Rattle.dt_proc.proofs.+copies.Goals as goal
 

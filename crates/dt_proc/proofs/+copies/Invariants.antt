@@ -1,4 +1,4 @@
-use Rattle.std.proofs.Common.{◌≡◌, ℕ, ◌+◌, ◌*◌, take}
+use Rattle.std.proofs.Common.{◌≡◌, ◌+◌, ◌*◌, take}
 use Rattle.dt_proc.specs.Shown.{block_of, step_of, step_size, block_size}
 use Rattle.dt_proc.proofs.+copies.Given as goal
 

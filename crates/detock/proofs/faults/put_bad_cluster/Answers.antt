@@ -22,14 +22,14 @@ returns-in_err-put_place-clause-prefix g c =
 
 pub returns-clause-added : goal.returns-clause-added
 returns-clause-added g c =
-    let P : List ℕ → Type 0 = λ line. OnOk c.put_cluster_cause.result (Adds (g.E.Sink.held c.args.err.now) (g.E.Sink.held c.put_cluster_cause.new.err) line) in
+    let P : List ℕ → Type 0 = λ line. OnOk c.write_all-2.result (Adds (g.E.Sink.held c.args.err.now) (g.E.Sink.held c.write_all-2.new.out) line) in
     subst P (cluster_line c.args.fault.now)
-    (then_whole c.put_cluster_cause.result _ _ _ (codes "detock: cluster" ++ place_text c.args.fault.now.place) (cluster_end c.args.fault.now.cause)
-    (Adds-append _ _ _ (codes "detock: cluster") (place_text c.args.fault.now.place) c.in_ok-write_all.ensures.added c.in_ok-put_place.ensures.added) c.put_cluster_cause.ensures.added)
+    (then_whole c.write_all-2.result _ _ _ (codes "detock: cluster" ++ place_text c.args.fault.now.place) (cluster_end c.args.fault.now.cause)
+    (Adds-append _ _ _ (codes "detock: cluster") (place_text c.args.fault.now.place) c.in_ok-write_all.ensures.added c.in_ok-put_place.ensures.added) (subst (λ (e : List ℕ). OnOk c.write_all-2.result (Adds (g.E.Sink.held c.put_place.new.err) (g.E.Sink.held c.write_all-2.new.out) e)) c.cluster_end.ensures c.write_all-2.ensures.added))
 
 pub returns-clause-prefix : goal.returns-clause-prefix
 returns-clause-prefix g c =
-    let P : List ℕ → Type 0 = λ line. OnErr c.put_cluster_cause.result (AddsPrefix (g.E.Sink.held c.args.err.now) (g.E.Sink.held c.put_cluster_cause.new.err) line) in
+    let P : List ℕ → Type 0 = λ line. OnErr c.write_all-2.result (AddsPrefix (g.E.Sink.held c.args.err.now) (g.E.Sink.held c.write_all-2.new.out) line) in
     subst P (cluster_line c.args.fault.now)
-    (then_part c.put_cluster_cause.result _ _ _ (codes "detock: cluster" ++ place_text c.args.fault.now.place) (cluster_end c.args.fault.now.cause)
-    (Adds-append _ _ _ (codes "detock: cluster") (place_text c.args.fault.now.place) c.in_ok-write_all.ensures.added c.in_ok-put_place.ensures.added) c.put_cluster_cause.ensures.prefix)
+    (then_part c.write_all-2.result _ _ _ (codes "detock: cluster" ++ place_text c.args.fault.now.place) (cluster_end c.args.fault.now.cause)
+    (Adds-append _ _ _ (codes "detock: cluster") (place_text c.args.fault.now.place) c.in_ok-write_all.ensures.added c.in_ok-put_place.ensures.added) (subst (λ (e : List ℕ). OnErr c.write_all-2.result (AddsPrefix (g.E.Sink.held c.put_place.new.err) (g.E.Sink.held c.write_all-2.new.out) e)) c.cluster_end.ensures c.write_all-2.ensures.prefix))

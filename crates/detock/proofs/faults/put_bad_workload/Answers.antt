@@ -13,12 +13,12 @@ returns-in_err-write_pieces-clause-prefix g c =
 
 pub returns-clause-added : goal.returns-clause-added
 returns-clause-added g c =
-    let P : List ℕ → Type 0 = λ line. OnOk c.put_workload_cause.result (Adds (g.E.Sink.held c.args.err.now) (g.E.Sink.held c.put_workload_cause.new.err) line) in
+    let P : List ℕ → Type 0 = λ line. OnOk c.write_all.result (Adds (g.E.Sink.held c.args.err.now) (g.E.Sink.held c.write_all.new.out) line) in
     subst P (workload_line c.as_bytes-number.result.now c.args.line c.args.cause (c.as_bytes-number.ensures.value ∙ c.format.ensures.text))
-    (then_whole c.put_workload_cause.result _ _ _ (codes "detock: workload line " ++ (c.as_bytes-number.result.now ++ [])) (workload_end c.args.cause) c.in_ok-write_pieces.ensures.added c.put_workload_cause.ensures.added)
+    (then_whole c.write_all.result _ _ _ (codes "detock: workload line " ++ (c.as_bytes-number.result.now ++ [])) (workload_end c.args.cause) c.in_ok-write_pieces.ensures.added (subst (λ (e : List ℕ). OnOk c.write_all.result (Adds (g.E.Sink.held c.write_pieces.new.out) (g.E.Sink.held c.write_all.new.out) e)) c.workload_end.ensures c.write_all.ensures.added))
 
 pub returns-clause-prefix : goal.returns-clause-prefix
 returns-clause-prefix g c =
-    let P : List ℕ → Type 0 = λ line. OnErr c.put_workload_cause.result (AddsPrefix (g.E.Sink.held c.args.err.now) (g.E.Sink.held c.put_workload_cause.new.err) line) in
+    let P : List ℕ → Type 0 = λ line. OnErr c.write_all.result (AddsPrefix (g.E.Sink.held c.args.err.now) (g.E.Sink.held c.write_all.new.out) line) in
     subst P (workload_line c.as_bytes-number.result.now c.args.line c.args.cause (c.as_bytes-number.ensures.value ∙ c.format.ensures.text))
-    (then_part c.put_workload_cause.result _ _ _ (codes "detock: workload line " ++ (c.as_bytes-number.result.now ++ [])) (workload_end c.args.cause) c.in_ok-write_pieces.ensures.added c.put_workload_cause.ensures.prefix)
+    (then_part c.write_all.result _ _ _ (codes "detock: workload line " ++ (c.as_bytes-number.result.now ++ [])) (workload_end c.args.cause) c.in_ok-write_pieces.ensures.added (subst (λ (e : List ℕ). OnErr c.write_all.result (AddsPrefix (g.E.Sink.held c.write_pieces.new.out) (g.E.Sink.held c.write_all.new.out) e)) c.workload_end.ensures c.write_all.ensures.prefix))

@@ -1,10 +1,9 @@
-use Rattle.std.proofs.Common.{◌≡◌, ℕ, ◌+◌, ◌≤◌, [], ◌∷◌, ◌++◌, length, drop, reverse, ap, sym, ◌∙◌, subst, arith, Some, None, false, true, refl}
+use Rattle.std.proofs.Common.{[], reverse, ap, sym, ◌∙◌, subst, arith, refl}
 use Rattle.std.proofs.lemmas.List.{reverse-reverse}
 use Rattle.dt_proc.specs.Tokens.{front_token}
 use Rattle.dt_proc.specs.Machine.{Advances}
 use Rattle.dt_proc.specs.Passes.{backwards}
 use Rattle.dt_proc.specs.Syntax.{at}
-use Rattle.dt_proc.specs.declared.machine.Sym.TheVariants as expect
 use Rattle.dt_proc.proofs.Lexing.{rest_from}
 use Rattle.dt_proc.proofs.Reading.{Reading, bad_token, refused, one_too_many, counts_small, front_within, reads_on, passes, too_early}
 use Rattle.dt_proc.proofs.first_pass.first_pass.Goals as goal

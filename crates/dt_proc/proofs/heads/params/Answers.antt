@@ -1,8 +1,8 @@
-use Rattle.std.proofs.Common.{◌≡◌, [], ◌∷◌, ◌++◌, ap, sym, ◌∙◌, refl, Ok, Err, subst}
+use Rattle.std.proofs.Common.{[], ◌∷◌, ◌++◌, ap, sym, ◌∙◌, Err, subst}
 use Rattle.std.specs.List.{flat_map}
 use Rattle.std.proofs.lemmas.Result.{err_from_is_err_and}
 use Rattle.dt_proc.specs.declared.token.Token.TheVariants as tok
-use Rattle.dt_proc.specs.Syntax.{at, param_tokens}
+use Rattle.dt_proc.specs.Syntax.{at}
 use Rattle.dt_proc.specs.Checked.{check_param}
 use Rattle.dt_proc.specs.Walked.{comma_param, Answers}
 use Rattle.dt_proc.proofs.Listing.{params_first, params_first_fault, params_more_fault, params_told_is}

@@ -1,4 +1,3 @@
-use Rattle.std.proofs.Common.{◌≡◌, ap, sym, ◌∙◌}
 use Rattle.dt_text.specs.Texts.{is_name_byte}
 use Rattle.dt_proc.proofs.Lexing.{take_while_front, all_taken}
 use Rattle.dt_proc.proofs.lexer.front_word.Goals as goal

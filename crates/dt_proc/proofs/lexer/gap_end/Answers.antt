@@ -1,4 +1,4 @@
-use Rattle.std.proofs.Common.{◌≡◌, ◌+◌, ap, sym, ◌∙◌, arith, length-drop}
+use Rattle.std.proofs.Common.{◌+◌, sym, ◌∙◌, arith, length-drop}
 use Rattle.dt_proc.proofs.Lexing.{gap_blank, gap_comment, rest_from}
 use Rattle.dt_proc.proofs.lexer.gap_end.Goals as goal
 

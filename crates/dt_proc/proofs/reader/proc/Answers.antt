@@ -1,11 +1,11 @@
-use Rattle.std.proofs.Common.{◌≡◌, ◌⊎◌, inl, inr, [], ◌∷◌, ◌++◌, ap, sym, ◌∙◌, refl, Ok, Err, subst, length, ◌<◌, false, nat_eq}
+use Rattle.std.proofs.Common.{inr, ◌∷◌, ◌++◌, ap, sym, ◌∙◌, Ok, Err, subst, length, ◌<◌, nat_eq}
 use Rattle.std.specs.List.{flat_map, list_any}
 use Rattle.std.specs.Cmp.Lexicographic.{pointwise}
 use Rattle.std.proofs.lemmas.Result.{err_from_is_err_and}
 use Rattle.dt_text.specs.Texts.{IsName}
 use Rattle.dt_proc.specs.declared.token.Token.TheVariants as tok
 use Rattle.dt_proc.specs.Tree.{ProcTree}
-use Rattle.dt_proc.specs.Syntax.{at, proc_tokens, params_tokens, key_tokens, statements_tokens}
+use Rattle.dt_proc.specs.Syntax.{at, params_tokens, key_tokens, statements_tokens}
 use Rattle.dt_proc.specs.Walked.{Answers, keys_told}
 use Rattle.dt_proc.proofs.Procedures.{Free, proc_cut, proc_longer, proc_twice, proc_sound, params_first_fault, keys_first_fault, body_first_fault, proc_told}
 use Rattle.dt_proc.proofs.reader.proc.Goals as goal

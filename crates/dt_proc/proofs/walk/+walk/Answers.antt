@@ -1,12 +1,11 @@
-use Rattle.std.proofs.Common.{◌≡◌, ◌⊎◌, inl, inr, ap, sym, ◌∙◌, arith, Ok, Err, refl, ◌++◌, rules}
+use Rattle.std.proofs.Common.{inr, ap, sym, ◌∙◌, arith, Ok, refl, ◌++◌, rules}
 use Rattle.std.proofs.lemmas.Result.{err_from_is_err_and}
 use Rattle.dt_proc.specs.declared.token.Token.TheVariants as tok
 use Rattle.dt_proc.specs.Syntax.{syntax_tokens, links_tokens}
-use Rattle.dt_proc.specs.Checked.{check, check_links, combined}
+use Rattle.dt_proc.specs.Checked.{check, check_links}
 use Rattle.dt_proc.specs.Tree as tree
 use Rattle.dt_proc.specs.declared.tree.Sort.TheVariants as sort
 use Rattle.dt_proc.specs.Shown.{formula_of}
-use Rattle.dt_proc.specs.Walked.{shown}
 use Rattle.dt_proc.proofs.Walks.{ok_then, err_then, chain_shape, links_stop, chain_cut, operand_when, not_empty, told_is, told_right, no_operand, no_links, link_first, six_stop, link_misfit, link_fits}
 use Rattle.dt_proc.proofs.walk.+walk.Goals as goal
 

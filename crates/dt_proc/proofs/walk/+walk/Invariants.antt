@@ -1,4 +1,4 @@
-use Rattle.std.proofs.Common.{ℕ, ◌+◌, ◌-◌, ◌*◌, length}
+use Rattle.std.proofs.Common.{◌+◌, ◌-◌, ◌*◌, length}
 use Rattle.dt_proc.proofs.walk.+walk.Given as goal
 
 abbrev pub decreases-expression : goal.decreases-expression

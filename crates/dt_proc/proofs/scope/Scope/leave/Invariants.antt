@@ -1,5 +1,4 @@
 use Rattle.std.proofs.Common.{◌≡◌, length, take}
-use Rattle.dt_proc.specs.Names.{Scope}
 use Rattle.dt_proc.proofs.scope.Scope.leave.Given as goal
 
 abbrev pub invariant-loop-self : goal.invariant-loop-self

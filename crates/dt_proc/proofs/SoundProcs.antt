@@ -1,0 +1,199 @@
+-- The procedures that a text means are sound, and so are the built-in ones.
+use Rattle.std.proofs.Common.{◌≡◌, inl, inr, ℕ, suc, ◌≤◌, Bool, true, false, ◌||◌, ◌&&◌, not, List, [], ◌∷◌, ◌++◌, map, length, append_assoc, append-nil, Ok, Err, refl, sym, ap, ◌∙◌, subst, arith, nat_eq}
+use Rattle.std.specs.List.{list_any, list_all}
+use Rattle.std.specs.Cmp.Lexicographic.{pointwise, bytes_decides}
+use Rattle.std.proofs.lemmas.Bool.{false≢true}
+use Rattle.std.proofs.lemmas.List.{map-append}
+use Rattle.dt_lists.specs.Lists.{AllIn, Has, Distinct}
+use Rattle.dt_lists.proofs.Distinct.{distinct_push}
+use Rattle.dt_proc.specs.declared.error.ProcError.TheVariants as fault
+use Rattle.dt_proc.specs.declared.tree.KeyDecl.{KeyDecl}
+use Rattle.dt_proc.specs.declared.tree.Sort.TheVariants as sort
+use Rattle.dt_proc.specs.Names.{Scope}
+use Rattle.dt_proc.specs.Tree.{ProcTree}
+use Rattle.dt_proc.specs.Sound.{IsSound, AreProcs}
+use Rattle.dt_proc.specs.Builtin.{put, note, get, del, add, div, sum, xfer, builtin_procs}
+use Rattle.dt_proc.specs.Checked.{after_ok, check_params, param_kinds, check_keys, check_block, check_proc, check_procs}
+use Rattle.dt_proc.specs.Walked.{AllSound, IsSmall}
+use Rattle.dt_proc.specs.Syntax.{ProcSyntax, proc_tokens, procs_tokens}
+use Rattle.dt_proc.specs.Passes.{AreFew}
+use Rattle.dt_proc.specs.Outcome.{Outcome}
+use Rattle.dt_proc.proofs.Sorted.{sound_left, sound_right, Holds, holds_ok, holds_after, holds_cond}
+use Rattle.dt_proc.proofs.Procedures.{proc_sound}
+use Rattle.dt_proc.proofs.Counting.{procs_small}
+use Rattle.dt_proc.proofs.Numbers.{left_of, right_of}
+use Rattle.dt_proc.proofs.Soundness.{text_sound}
+
+abbrev is_named : List ProcTree → List ℕ → Bool
+is_named procs name = list_any (λ (q : ProcTree). pointwise nat_eq q.name name) procs
+
+abbrev names : List ProcTree → List (List ℕ)
+names procs = map (λ (p : ProcTree). p.name) procs
+
+-- a procedure that is told fits, and its name is new
+abbrev IsNext : List ProcTree → ProcTree → Type 0
+IsNext before q = IsSound q × (is_named before q.name ≡ false)
+
+next_fits : (before : List ProcTree) (p : ProcSyntax) → AllSound (proc_tokens p) → IsSmall p → Holds (IsNext before) (check_proc before p)
+next_fits before p sound small =
+    holds_cond (IsNext before) (is_named before p.name) (Err (fault.Twice p.name_at)) _ (λ e q is. absurd cc)
+    (λ free. holds_after (IsNext before) (check_params p.params) _
+    (λ s params. holds_after {A = List KeyDecl × Scope} (IsNext before) (check_keys s (p.key ∷ p.more_keys)) _
+    (λ r keys. holds_after (IsNext before) (check_block r.1 p.body) _
+    (λ b body. holds_ok (IsNext before) (record { name = p.name; params = param_kinds p.params; keys = r.0; body = b }) (
+      proc_sound p p.name s r.1 (param_kinds p.params) r.0 b sound small sound.1.0
+          (ap (λ t. after_ok {A = Scope} t (λ s. Ok (s, param_kinds p.params))) params)
+          (ap (λ t. after_ok {A = List KeyDecl × Scope} t (λ r. Ok (r.1, [] ++ r.0))) keys)
+          body,
+      free,
+    )))))
+
+named_within : (procs : List ProcTree) (name : List ℕ) → Has (names procs) name → is_named procs name ≡ true
+named_within [] name h = absurd h
+named_within (q ∷ procs) name (inl e) = left (pointwise nat_eq q.name name) ((bytes_decides q.name name).1 e)
+  where
+    left : (b : Bool) → b ≡ true → (b || is_named procs name) ≡ true
+    left b e = cc
+named_within (q ∷ procs) name (inr h) = right (pointwise nat_eq q.name name) (named_within procs name h)
+  where
+    right : (b : Bool) → is_named procs name ≡ true → (b || is_named procs name) ≡ true
+    right true e = refl
+    right false e = e
+
+-- procedures that are told after others are as many as are spelled, and fit, and their names are new
+abbrev AreNext : List ProcTree → List ProcSyntax → List ProcTree → Type 0
+AreNext before ps qs = (length qs ≡ length ps) × AllIn IsSound qs × Distinct (names (before ++ qs))
+
+all_fit : (before : List ProcTree) (ps : List ProcSyntax) → AllIn IsSmall ps → AllSound (procs_tokens ps) → Distinct (names before)
+    → Holds (AreNext before ps) (check_procs before ps)
+all_fit before [] small sound distinct =
+    holds_ok (AreNext before []) [] (refl, tt, subst (λ v. Distinct (names v)) (sym (append-nil before)) distinct)
+all_fit before (p ∷ ps) small sound distinct =
+    holds_after (AreNext before (p ∷ ps)) (check_proc before p) _ (λ q told.
+    let one = next_fits before p (sound_left (proc_tokens p) (procs_tokens ps) sound) small.0 q told in
+    let new : ¬ (Has (names before) q.name) = λ h. false≢true (sym one.1 ∙ named_within before q.name h) in
+    let longer : Distinct (names (before ++ q ∷ [])) = subst Distinct (sym (map-append (λ (p : ProcTree). p.name) before (q ∷ []))) (distinct_push (names before) q.name distinct new) in
+    holds_after (AreNext before (p ∷ ps)) (check_procs (before ++ q ∷ []) ps) _ (λ qs rest.
+    let more = all_fit (before ++ q ∷ []) ps small.1 (sound_right (proc_tokens p) (procs_tokens ps) sound) longer qs rest in
+    holds_ok (AreNext before (p ∷ ps)) (q ∷ qs)
+    (ap suc more.0, (one.0, more.1), subst (λ v. Distinct (names v)) (append_assoc before (q ∷ []) qs) more.2)))
+
+-- the procedures that a text means are sound
+pub outcome_sound : (text : List ℕ) (procs : List ProcTree) → Outcome text (Ok procs) → AreProcs procs
+outcome_sound text procs h =
+    let small = procs_small h.spelled (subst (AreFew []) (sym h.spells) h.passes.few) in
+    let sound : AllSound (procs_tokens h.spelled) = subst AllSound (ap (λ l. l.tokens) h.passes.whole ∙ sym h.spells) (text_sound text) in
+    let fit = all_fit [] h.spelled small.1 sound tt procs h.tells in
+    record { few = subst (λ n. n ≤ 64) (sym fit.0) small.0; distinct = fit.2; sound = fit.1 }
+
+-- ---- the built-in procedures
+
+-- no name is equal to one after it, as a test
+are_apart : List (List ℕ) → Bool
+are_apart [] = true
+are_apart (n ∷ ns) = list_all (λ m. not (pointwise nat_eq n m)) ns && are_apart ns
+
+differ : (n m : List ℕ) → not (pointwise nat_eq n m) ≡ true → ¬ (n ≡ m)
+differ n m e is = clash (pointwise nat_eq n m) e ((bytes_decides n m).1 is)
+  where
+    clash : (b : Bool) → not b ≡ true → b ≡ true → ⊥
+    clash true e t = false≢true e
+    clash false e t = false≢true t
+
+other_names : (n : List ℕ) (ns : List (List ℕ)) → list_all (λ m. not (pointwise nat_eq n m)) ns ≡ true → AllIn (λ m. ¬ (n ≡ m)) ns
+other_names n [] e = tt
+other_names n (m ∷ ns) e = (differ n m (left_of _ _ e), other_names n ns (right_of (not (pointwise nat_eq n m)) _ e))
+
+apart_distinct : (ns : List (List ℕ)) → are_apart ns ≡ true → Distinct ns
+unfolding are_apart
+apart_distinct [] e = tt
+apart_distinct (n ∷ ns) e = (other_names n ns (left_of _ _ e), apart_distinct ns (right_of (list_all (λ m. not (pointwise nat_eq n m)) ns) _ e))
+
+put_sound : IsSound put
+put_sound = record {
+  name = (omega arith, omega arith, refl);
+  few_params = omega arith;
+  some_key = omega arith;
+  few_keys = omega arith;
+  items = ((refl, tt), tt);
+  body = (refl, (sort.Int, inl refl, refl), tt);
+}
+
+note_sound : IsSound note
+note_sound = record {
+  name = (omega arith, omega arith, refl);
+  few_params = omega arith;
+  some_key = omega arith;
+  few_keys = omega arith;
+  items = ((refl, tt), tt);
+  body = (refl, (sort.Text, inr refl, refl), tt);
+}
+
+get_sound : IsSound get
+get_sound = record {
+  name = (omega arith, omega arith, refl);
+  few_params = omega arith;
+  some_key = omega arith;
+  few_keys = omega arith;
+  items = ((refl, tt), tt);
+  body = ((omega arith, tt), tt);
+}
+
+del_sound : IsSound del
+del_sound = record {
+  name = (omega arith, omega arith, refl);
+  few_params = omega arith;
+  some_key = omega arith;
+  few_keys = omega arith;
+  items = ((refl, tt), tt);
+  body = (refl, tt);
+}
+
+add_sound : IsSound add
+add_sound = record {
+  name = (omega arith, omega arith, refl);
+  few_params = omega arith;
+  some_key = omega arith;
+  few_keys = omega arith;
+  items = ((refl, tt), tt);
+  body = ((refl, omega arith), (refl, (sort.Int, inl refl, (sort.Int, refl, (refl, omega arith), refl, refl)), tt), (refl, (sort.Int, inl refl, refl), tt), (((sort.Int, inl refl, (refl, omega arith)), tt), tt));
+}
+
+div_sound : IsSound div
+div_sound = record {
+  name = (omega arith, omega arith, refl);
+  few_params = omega arith;
+  some_key = omega arith;
+  few_keys = omega arith;
+  items = ((refl, tt), tt);
+  body = (((sort.Int, inl refl, (sort.Int, refl, (refl, omega arith), refl, refl)), tt), tt);
+}
+
+sum_sound : IsSound sum
+sum_sound = record {
+  name = (omega arith, omega arith, refl);
+  few_params = omega arith;
+  some_key = omega arith;
+  few_keys = omega arith;
+  items = ((refl, tt), ((refl, tt), tt));
+  body = (((sort.Int, inl refl, (sort.Int, refl, (refl, omega arith), (refl, omega arith), refl)), tt), tt);
+}
+
+xfer_sound : IsSound xfer
+xfer_sound = record {
+  name = (omega arith, omega arith, refl);
+  few_params = omega arith;
+  some_key = omega arith;
+  few_keys = omega arith;
+  items = ((refl, tt), ((refl, tt), tt));
+  body = ((sort.Int, inl refl, (refl, omega arith), refl, refl), ((omega arith, refl), tt), tt, (refl, (sort.Int, inl refl, (sort.Int, refl, (refl, omega arith), refl, refl)), (refl, (sort.Int, inl refl, (sort.Int, refl, (refl, omega arith), refl, refl)), (((sort.Int, inl refl, (refl, omega arith)), ((sort.Int, inl refl, (refl, omega arith)), tt)), tt))));
+}
+
+-- the built-in procedures are sound
+pub builtin_sound : AreProcs builtin_procs
+unfolding are_apart
+builtin_sound = record {
+  few = omega arith;
+  distinct = apart_distinct (names builtin_procs) refl;
+  sound = (put_sound, (note_sound, (get_sound, (del_sound, (add_sound, (div_sound, (sum_sound, (xfer_sound, tt))))))));
+}
