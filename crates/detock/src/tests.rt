@@ -39,11 +39,7 @@ fn words_of(alloc: Global, words: &[&str]) -> Result<Vec<String>, Fail> {
 }
 
 /// A folder with these files, whose loads of these numbers fail.
-fn folder_of(
-    alloc: Global,
-    texts: &[(&str, &str)],
-    failing: &[u64],
-) -> Result<MemoryFolder, Fail> {
+fn folder_of(alloc: Global, texts: &[(&str, &str)], failing: &[u64]) -> Result<MemoryFolder, Fail> {
     let mut files = Vec::new(alloc);
     for (name, text) in texts {
         files.push((
@@ -84,7 +80,13 @@ fn replay<R: Threads + Wait + Sync>(
     let texts = [("c", cluster), ("w", workload), ("e", events)];
     let files = folder_of(alloc, &texts, &[])?;
     let word = if cluster.len() > 2 { "c" } else { cluster };
-    call(rt, alloc, &["replay", word, "w", "e"], files, (AMPLE, AMPLE))
+    call(
+        rt,
+        alloc,
+        &["replay", word, "w", "e"],
+        files,
+        (AMPLE, AMPLE),
+    )
 }
 
 /// The call reported these sections and these events.
@@ -307,10 +309,7 @@ fn the_first_fault_of_a_workload_is_told(rt: HostRuntime) -> Result<(), Fail> {
             "session a at 0\ncall nope 1\n",
             "detock: workload line 2: unknown procedure\n",
         ),
-        (
-            "session a at 2\n",
-            "detock: workload line 1: no region\n",
-        ),
+        ("session a at 2\n", "detock: workload line 1: no region\n"),
         (
             "session a at 0\nmove aaaaaaaaaaaaaaaaaaaaaaaaaaaaaaaaaaaaaaaaaaaaaaaaaaaaaaaaaaaaaaaaa to 0\n",
             "detock: workload line 2: no key\n",

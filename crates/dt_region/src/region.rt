@@ -163,12 +163,7 @@ impl<S: Scheduler> Region<S> {
 
     /// Submits a body: it becomes the transaction of the region's next id, annotated by the region's table, and each of
     /// its homes is asked for its part. Gives the id. After `NoMemory` the region is as before.
-    pub fn submit(
-        &mut self,
-        alloc: Global,
-        body: Body,
-        procs: &Procs,
-    ) -> Result<TxnId, NoMemory>
+    pub fn submit(&mut self, alloc: Global, body: Body, procs: &Procs) -> Result<TxnId, NoMemory>
         requires fits { BodyFits procs.now self.old.state.regions body }
         requires place { length self.old.state.submitted < 4294967295 }
         ensures state { OnOk result (self.new.state ≡ after_submit procs.now self.old.state body) }
@@ -271,12 +266,7 @@ impl<S: Scheduler> Region<S> {
     }
 
     // What a transaction that the region holds comes to on its table, by these procedures.
-    fn run(
-        &self,
-        alloc: Global,
-        id: TxnId,
-        procs: &Procs,
-    ) -> Result<(Outcome, Effect), NoMemory>
+    fn run(&self, alloc: Global, id: TxnId, procs: &Procs) -> Result<(Outcome, Effect), NoMemory>
         requires holds { HoldsValid procs.now self.now.state }
         requires held { (txn : Txn) × (held self.now.state id ≡ Some txn) }
         ensures { (txn : Txn) → held self.now.state id ≡ Some txn → IfOk result (λ run. run ≡ one procs.now txn self.now.state.here.table) }
@@ -296,12 +286,7 @@ impl<S: Scheduler> Region<S> {
 
     /// Executes a transaction on the region's table, by these procedures. False exactly where it isn't executable here; then nothing changes,
     /// and neither does after `NoMemory`.
-    pub fn execute(
-        &mut self,
-        alloc: Global,
-        id: TxnId,
-        procs: &Procs,
-    ) -> Result<bool, NoMemory>
+    pub fn execute(&mut self, alloc: Global, id: TxnId, procs: &Procs) -> Result<bool, NoMemory>
         requires { HoldsValid procs.now self.old.state }
         ensures steps { Steps procs.now self.old.state (Execute self.old.state.number id) result self.new.state }
         ensures sound { IsSoundRegion self.new.state }

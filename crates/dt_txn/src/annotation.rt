@@ -30,12 +30,7 @@ pub fn annotate(
 }
 
 /// The access list of a body by this table.
-fn annotated(
-    alloc: Global,
-    body: &Body,
-    procs: &Procs,
-    table: &Table,
-) -> Result<Accesses, NoMemory>
+fn annotated(alloc: Global, body: &Body, procs: &Procs, table: &Table) -> Result<Accesses, NoMemory>
     requires { CanRun procs.now body.now }
     ensures { IfOk result (λ access. access ≡ map (annotated table.now.state) (uses_of procs.now body.now)) }
 {

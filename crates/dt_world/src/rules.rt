@@ -148,10 +148,7 @@ impl<S: Scheduler + Drop> World<S> {
         if region >= self.cluster.regions {
             return Err(StepError::Illegal(6));
         }
-        if !self
-            .sites
-            .execute(alloc, region, id, &self.cluster.procs)?
-        {
+        if !self.sites.execute(alloc, region, id, &self.cluster.procs)? {
             return Err(StepError::Illegal(6));
         }
         self.steps += 1;

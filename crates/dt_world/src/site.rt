@@ -153,12 +153,7 @@ impl<S: Scheduler> Site<S> {
     }
 
     /// As the region's.
-    pub fn execute(
-        &mut self,
-        alloc: Global,
-        id: TxnId,
-        procs: &Procs,
-    ) -> Result<bool, NoMemory>
+    pub fn execute(&mut self, alloc: Global, id: TxnId, procs: &Procs) -> Result<bool, NoMemory>
         requires { HoldsValid procs.now self.old.state }
         ensures steps { Steps procs.now self.old.state (Execute self.old.state.number id) result self.new.state }
         ensures origins { self.new.origins ≡ self.old.origins }
