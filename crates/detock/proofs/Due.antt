@@ -169,7 +169,7 @@ module _ (files : Files) (words : List Bytes) where
   -- which is valid
   valid_cluster : (word : Bytes) (c : Cluster) → HasCluster (Some files) word c → IsValidCluster c
   valid_cluster word c (inl (n, (some, few), is, made)) = subst IsValidCluster (sym made) (builtin_valid n some few)
-  valid_cluster word c (inr (_, bytes, told, is)) = cluster_valid bytes c is.form
+  valid_cluster word c (inr (file, content)) = cluster_valid content.0 c content.2.form
 
   valid_asked : (r : Replay) (c : Cluster) → AsksOn (Some files) words r c → IsValidCluster c
   valid_asked r c asks = valid_cluster r.cluster c asks.cluster_word
@@ -284,28 +284,28 @@ module _ (files : Files) (words : List Bytes) where
   before BadWords BadWords none also = refl
   before BadWords NotBuilt none (inl threads) = absurd (none (inr threads))
   before BadWords NotBuilt none (inr (r, c, v, has, moves)) = absurd (formed r has.asks.asked none)
-  before BadWords (BadCluster f) none (r, asked, bad) = absurd (formed r asked none)
+  before BadWords (BadCluster f) none (r, asked, file, bad) = absurd (formed r asked none)
   before BadWords (BadWorkload l why) none (r, c, asks, bad) = absurd (formed r asks.asked none)
-  before BadWords (BadEvents l c) none (r, d, v, has, bad) = absurd (formed r has.asks.asked none)
+  before BadWords (BadEvents l c) none (r, d, v, has, still, bad) = absurd (formed r has.asks.asked none)
   before NotBuilt NotBuilt not also = refl
-  before NotBuilt (BadCluster f) (inl threads) (r, asked, bad) = absurd (no_threads words r asked threads)
+  before NotBuilt (BadCluster f) (inl threads) (r, asked, file, bad) = absurd (no_threads words r asked threads)
   before NotBuilt (BadCluster f) (inr (r, c, v, has, moves)) bad = absurd (sound_cluster r c f has.asks bad)
   before NotBuilt (BadWorkload l why) (inl threads) (r, c, asks, bad) = absurd (no_threads words r asks.asked threads)
   before NotBuilt (BadWorkload l why) (inr (r, c, v, has, moves)) bad = absurd (sound_workload r c v l why has bad)
   before NotBuilt (BadEvents l c) not (r, d, v, has, still, bad) = absurd (built r d v has still not)
   before (BadCluster f) (BadCluster g) bad also = ap BadCluster (same_cluster_fault f g bad also)
   before (BadCluster f) (BadWorkload l why) bad (r, c, asks, worse) = absurd (sound_cluster r c f asks bad)
-  before (BadCluster f) (BadEvents l c) bad (r, d, v, has, worse) = absurd (sound_cluster r d f has.asks bad)
+  before (BadCluster f) (BadEvents l c) bad (r, d, v, has, still, worse) = absurd (sound_cluster r d f has.asks bad)
   before (BadWorkload l why) (BadWorkload m how) bad also = same_workload_fault l m why how bad also
-  before (BadWorkload l why) (BadEvents m c) bad (r, d, v, has, worse) = absurd (sound_workload r d v l why has bad)
+  before (BadWorkload l why) (BadEvents m c) bad (r, d, v, has, still, worse) = absurd (sound_workload r d v l why has bad)
   before (BadEvents l c) (BadEvents m d) bad also = same_fault l m c d bad also
   before BadWords Done none is = absurd (formed is.replay is.asked none)
   before NotBuilt Done not is = absurd (built is.replay is.cluster is.workload (workload_of is) is.still not)
   before NotBuilt BadWords (inl threads) none = absurd (none (inr threads))
   before NotBuilt BadWords (inr (r, c, v, has, moves)) none = absurd (formed r has.asks.asked none)
   before (BadCluster f) Done bad is = absurd (sound_cluster is.replay is.cluster f (workload_of is).asks bad)
-  before (BadCluster f) BadWords (r, asked, bad) none = absurd (formed r asked none)
-  before (BadCluster f) NotBuilt (r, asked, bad) (inl threads) = absurd (no_threads words r asked threads)
+  before (BadCluster f) BadWords (r, asked, file, bad) none = absurd (formed r asked none)
+  before (BadCluster f) NotBuilt (r, asked, file, bad) (inl threads) = absurd (no_threads words r asked threads)
   before (BadCluster f) NotBuilt bad (inr (r, c, v, has, moves)) = absurd (sound_cluster r c f has.asks bad)
   before (BadWorkload l why) Done bad is = absurd (sound_workload is.replay is.cluster is.workload l why (workload_of is) bad)
   before (BadWorkload l why) BadWords (r, c, asks, bad) none = absurd (formed r asks.asked none)
@@ -313,10 +313,10 @@ module _ (files : Files) (words : List Bytes) where
   before (BadWorkload l why) NotBuilt bad (inr (r, c, v, has, moves)) = absurd (sound_workload r c v l why has bad)
   before (BadWorkload l why) (BadCluster f) (r, c, asks, worse) bad = absurd (sound_cluster r c f asks bad)
   before (BadEvents l c) Done bad is = absurd (doable is l c bad)
-  before (BadEvents l c) BadWords (r, d, v, has, bad) none = absurd (formed r has.asks.asked none)
+  before (BadEvents l c) BadWords (r, d, v, has, still, bad) none = absurd (formed r has.asks.asked none)
   before (BadEvents l c) NotBuilt (r, d, v, has, still, bad) not = absurd (built r d v has still not)
-  before (BadEvents l c) (BadCluster f) (r, d, v, has, worse) bad = absurd (sound_cluster r d f has.asks bad)
-  before (BadEvents m c) (BadWorkload l why) (r, d, v, has, worse) bad = absurd (sound_workload r d v l why has bad)
+  before (BadEvents l c) (BadCluster f) (r, d, v, has, still, worse) bad = absurd (sound_cluster r d f has.asks bad)
+  before (BadEvents m c) (BadWorkload l why) (r, d, v, has, still, worse) bad = absurd (sound_workload r d v l why has bad)
   before NoMemory t none is = absurd none
   before (CannotRead word) t none is = absurd none
   before CannotWrite t none is = absurd none

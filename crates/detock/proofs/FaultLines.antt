@@ -57,3 +57,12 @@ then_whole (Err e) old mid new first second before after = tt
 pub then_part : {E : Type 0} (r : Result (Unit {0}) E) (old mid new : Option (List ℕ)) (first second : List ℕ) → Adds old mid first → OnErr r (AddsPrefix mid new second) → OnErr r (AddsPrefix old new (first ++ second))
 then_part (Ok x) old mid new first second before after = tt
 then_part (Err e) old mid new first second before after = AddsPrefix-append old mid new first second before after
+
+-- what holds where there is an error, holds there
+pub where_err : {A E : Type 0} (r : Result A E) (old new : Option (List ℕ)) (line : List ℕ) → AddsPrefix old new line → OnErr r (AddsPrefix old new line)
+where_err (Ok x) old new line part = tt
+where_err (Err e) old new line part = part
+
+-- where a number stands at the end
+pub ends_with : (front number : Bytes) (n : ℕ) → number ≡ decimal n → front ++ (number ++ []) ≡ front ++ decimal n
+ends_with front number n is = ap (λ rest. front ++ rest) (append-nil number ∙ is)

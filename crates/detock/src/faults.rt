@@ -1,4 +1,4 @@
-ghost use Rattle.std.specs.Prelude.{◌≡◌, ◌≤◌, ◌++◌, map, OnOk, OnErr};
+ghost use Rattle.std.specs.Prelude.{◌≡◌, ◌≤◌, [], ◌∷◌, ◌++◌, map, OnOk, OnErr};
 ghost use Rattle.std.specs.List.{flat_map};
 ghost use Rattle.dt_outside.specs.Faults.{Rose};
 ghost use Rattle.dt_outside.specs.Held.{Adds, AddsPrefix};
@@ -236,9 +236,19 @@ fn write_name<O: Sink>(out: &mut O, name: &[u8]) -> Result<(), Failed>
     ensures later { O.faults out.old ≤ O.faults out.new }
 {
     for byte in name {
-        write_all(out, &[printed(*byte)])?;
+        write_byte(out, *byte)?;
     }
     Ok(())
+}
+
+/// Writes a byte of a name.
+fn write_byte<O: Sink>(out: &mut O, byte: u8) -> Result<(), Failed>
+    ensures added { OnOk result (Adds (O.held out.old) (O.held out.new) (printed byte ∷ [])) }
+    ensures prefix { OnErr result (AddsPrefix (O.held out.old) (O.held out.new) (printed byte ∷ [])) }
+    ensures failed { OnErr result (Rose (O.faults out.old) (O.faults out.new)) }
+    ensures later { O.faults out.old ≤ O.faults out.new }
+{
+    write_all(out, &[printed(byte)])
 }
 
 /// A byte of a name as it is printed.

@@ -2,14 +2,14 @@ use Rattle.std.proofs.Common.{◌∙◌, [], ◌++◌, codes, List, ℕ, OnOk, O
 use Rattle.dt_outside.specs.Held.{Adds, AddsPrefix}
 use Rattle.dt_outside.proofs.Writing.{AddsPrefix-longer}
 use Rattle.detock.specs.Pieces.{workload_end}
-use Rattle.detock.proofs.FaultLines.{workload_line, then_part, then_whole}
+use Rattle.detock.proofs.FaultLines.{workload_line, then_part, then_whole, where_err}
 use Rattle.detock.proofs.faults.put_bad_workload.Goals as goal
 
 pub returns-in_err-write_pieces-clause-prefix : goal.returns-in_err-write_pieces-clause-prefix
 returns-in_err-write_pieces-clause-prefix g c =
     let P : List ℕ → Type 0 = λ line. AddsPrefix (g.E.Sink.held c.args.err.now) (g.E.Sink.held c.write_pieces.new.out) line in
-    subst P (workload_line c.as_bytes-number.result.now c.args.line c.args.cause (c.as_bytes-number.ensures.value ∙ c.format.ensures.text))
-    (AddsPrefix-longer _ _ (codes "detock: workload line " ++ (c.as_bytes-number.result.now ++ [])) (workload_end c.args.cause) c.in_err-write_pieces.ensures.prefix)
+    where_err c.from_residual.result _ _ _ (subst P (workload_line c.as_bytes-number.result.now c.args.line c.args.cause (c.as_bytes-number.ensures.value ∙ c.format.ensures.text))
+    (AddsPrefix-longer _ _ (codes "detock: workload line " ++ (c.as_bytes-number.result.now ++ [])) (workload_end c.args.cause) c.in_err-write_pieces.ensures.prefix))
 
 pub returns-clause-added : goal.returns-clause-added
 returns-clause-added g c =

@@ -1,17 +1,10 @@
-use Rattle.std.proofs.Common.{◌∙◌, subst, OnOk, OnErr, List, ℕ}
-use Rattle.dt_outside.specs.Held.{Adds, AddsPrefix}
-use Rattle.detock.proofs.FaultLines.{cannot_read_line}
 use Rattle.detock.proofs.faults.put_fault.Goals as goal
 
 pub returns-in-CannotRead-clause-added : goal.returns-in-CannotRead-clause-added
-returns-in-CannotRead-clause-added g c =
-    let P : List ℕ → Type 0 = λ bytes. OnOk c.write_pieces.result (Adds (g.E.Sink.held c.args.err.now) (g.E.Sink.held c.write_pieces.new.out) bytes) in
-    rw c.in-CannotRead.is (subst P (cannot_read_line c.as_bytes-number.result.now c.in-CannotRead.word (c.as_bytes-number.ensures.value ∙ c.format.ensures.text)) c.write_pieces.ensures.added)
+returns-in-CannotRead-clause-added g c = rw c.in-CannotRead.is c.put_cannot_read.ensures.added
 
 pub returns-in-CannotRead-clause-prefix : goal.returns-in-CannotRead-clause-prefix
-returns-in-CannotRead-clause-prefix g c =
-    let P : List ℕ → Type 0 = λ bytes. OnErr c.write_pieces.result (AddsPrefix (g.E.Sink.held c.args.err.now) (g.E.Sink.held c.write_pieces.new.out) bytes) in
-    rw c.in-CannotRead.is (subst P (cannot_read_line c.as_bytes-number.result.now c.in-CannotRead.word (c.as_bytes-number.ensures.value ∙ c.format.ensures.text)) c.write_pieces.ensures.prefix)
+returns-in-CannotRead-clause-prefix g c = rw c.in-CannotRead.is c.put_cannot_read.ensures.prefix
 
 pub returns-in-BadEvents-clause-added : goal.returns-in-BadEvents-clause-added
 returns-in-BadEvents-clause-added g c = rw c.in-BadEvents.is c.put_bad_events.ensures.added

@@ -13,3 +13,8 @@ pub returns-in-Err-clause-cannot_write : goal.returns-in-Err-clause-cannot_write
 returns-in-Err-clause-cannot_write g c = λ is.
     let P : Status → Type 0 = IsRefusal (g.F.Folder.told c.args.files.now) (spelled c.args.words.now) (g.F.Folder.faults c.args.files.now) (g.F.Folder.faults c.report.new.files) in
     absurd (subst P is (c.in-Err.ensures.refused c.in-Err.status refl))
+
+pub returns-in-Err-clause-possible : goal.returns-in-Err-clause-possible
+returns-in-Err-clause-possible g c = λ is.
+    let P : Status → Type 0 = IsRefusal (g.F.Folder.told c.args.files.now) (spelled c.args.words.now) (g.F.Folder.faults c.args.files.now) (g.F.Folder.faults c.report.new.files) in
+    absurd (subst P is (c.in-Err.ensures.refused c.in-Err.status refl))
