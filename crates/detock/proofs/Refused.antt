@@ -17,10 +17,10 @@ use Rattle.detock.specs.declared.status.Status.{Status}
 use Rattle.detock.specs.declared.status.Status.TheVariants.{Done, NoMemory, BadWords, CannotRead, BadCluster, BadWorkload, BadEvents, CannotWrite, NotBuilt}
 use Rattle.detock.specs.declared.status.EventsCause.{EventsCause}
 use Rattle.detock.specs.declared.status.EventsCause.TheVariants.{TooLong, Form, Rule}
-use Rattle.detock.specs.Words.{Replay, IsReplay}
+use Rattle.detock.specs.Words.{Replay, IsReplay, IsClusterFile}
 use Rattle.detock.specs.Headline.{Told, HasCluster, AreWorkload, AreNumbered, HasMove, Headline, IsReplayable, unnumbered}
 use Rattle.detock.specs.Causes.{AsksOn, HasWorkload, AreBadEvents}
-use Rattle.detock.specs.Refusals.{IsClusterRefusal, IsWorkloadRefusal, IsEventsRefusal, IsStepRefusal, IsRefusal, AreMalformed}
+use Rattle.detock.specs.Refusals.{IsFileRefusal, IsClusterRefusal, IsWorkloadRefusal, IsEventsRefusal, IsStepRefusal, IsRefusal, AreMalformed}
 
 -- what holds of a file's bytes, and what follows from it
 told_more : (told : Option Files) (name : Bytes) (P Q : Bytes → Type 0) → ((bytes : Bytes) → P bytes → Q bytes) → Told told name P → Told told name Q
@@ -108,3 +108,10 @@ module _ (told : Option Files) (words : List Bytes) (replay : Replay) where
 -- an error that a `?` hands on as it is
 pub passed_on : {T U : Type 0} (r : Result T Status) (s : Result U Status) (field made status : Status) → r ≡ Err field → s ≡ Err made → made ≡ field → s ≡ Err status → r ≡ Err status
 passed_on r s field made status was is_made same is = cc
+
+-- a cluster's file was refused, where the word is the name of a file
+pub in_cluster_file : (told : Option Files) (name : Bytes) (before now : ℕ) (status : Status) → IsClusterFile name → IsFileRefusal told name before now status → IsClusterRefusal told name before now status
+in_cluster_file told name before now NoMemory right is = tt
+in_cluster_file told name before now (BadCluster fault) right is = (right, is)
+in_cluster_file told name before now (CannotRead number) right (two, rose) = (two, right, rose)
+in_cluster_file told name before now status right is = absurd is

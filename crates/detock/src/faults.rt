@@ -183,23 +183,38 @@ fn put_bad_events<E: Sink>(line: u32, cause: EventsCause, err: &mut E) -> Result
 {
     let mut number = Buffer::new();
     let number = number.format(line).as_bytes();
-    let mut digits = Buffer::new();
-    let (text, rule): (&[u8], &[u8]) = match cause {
-        EventsCause::TooLong => (b"too long", b""),
-        EventsCause::Form => (b"no event", b""),
-        EventsCause::Rule(rule) => (b"rule ", digits.format(rule).as_bytes()),
-    };
-    write_pieces(
-        err,
-        &[
-            Piece::Text(b"detock: events line "),
-            Piece::Text(number),
-            Piece::Text(b": "),
-            Piece::Text(text),
-            Piece::Text(rule),
-            Piece::Text(b"\n"),
-        ],
-    )
+    match cause {
+        EventsCause::TooLong => write_pieces(
+            err,
+            &[
+                Piece::Text(b"detock: events line "),
+                Piece::Text(number),
+                Piece::Text(b": too long\n"),
+            ],
+        ),
+        EventsCause::Form => write_pieces(
+            err,
+            &[
+                Piece::Text(b"detock: events line "),
+                Piece::Text(number),
+                Piece::Text(b": no event\n"),
+            ],
+        ),
+        EventsCause::Rule(rule) => {
+            let mut digits = Buffer::new();
+            let digits = digits.format(rule).as_bytes();
+            write_pieces(
+                err,
+                &[
+                    Piece::Text(b"detock: events line "),
+                    Piece::Text(number),
+                    Piece::Text(b": rule "),
+                    Piece::Text(digits),
+                    Piece::Text(b"\n"),
+                ],
+            )
+        }
+    }
 }
 
 /// Writes the pieces, one behind the other.

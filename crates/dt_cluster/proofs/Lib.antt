@@ -1,4 +1,4 @@
 mod Listing
-mod OneCluster
+pub mod OneCluster
 mod Valid
 pub mod FileValid
