@@ -7,31 +7,25 @@ use Rattle.dt_outside.specs.Held.{Adds, AddsPrefix, held_with}
 use Rattle.dt_outside.proofs.Writing.{Adds-append, AddsPrefix-append}
 use Rattle.dt_cluster.specs.declared.ClusterFault.{ClusterFault}
 use Rattle.dt_workload.specs.declared.WorkloadCause.{WorkloadCause}
-use Rattle.detock.specs.Pieces.{cluster_end, workload_end}
-use Rattle.detock.specs.Statuses.{cluster_text, fault_line, place_text, told_line, workload_text}
+use Rattle.detock.specs.Pieces.{cluster_end, events_end, workload_end}
+use Rattle.detock.specs.Statuses.{cause_text, cluster_text, fault_line, place_text, told_line, workload_text}
 use Rattle.detock.specs.declared.status.Status.TheVariants.{CannotRead, BadCluster, BadWorkload, BadEvents}
-use Rattle.detock.specs.declared.status.EventsCause.TheVariants.{TooLong, Form, Rule}
+use Rattle.detock.specs.declared.status.EventsCause.{EventsCause}
+use Rattle.detock.specs.declared.status.EventsCause.TheVariants.{Rule}
 
 -- the line of a file that could not be read
 pub cannot_read_line : (number : Bytes) (word : ℕ) → number ≡ decimal word → codes "detock: cannot read word " ++ (number ++ (10 ∷ [])) ≡ fault_line (CannotRead word)
 cannot_read_line number word is = ap (λ digits. codes "detock: cannot read word " ++ (digits ++ 10 ∷ [])) is
 
 -- the line of a fault in an events' file
-events_line : (line : ℕ) (cause : Bytes) → codes "detock: events line " ++ (decimal line ++ (58 ∷ 32 ∷ (cause ++ 10 ∷ []))) ≡ told_line (codes "events line " ++ decimal line ++ codes ": " ++ cause)
-events_line line cause =
-    ap (λ rest. codes "detock: events line " ++ rest) (sym (append_assoc (decimal line ++ codes ": ") cause (10 ∷ []) ∙ append_assoc (decimal line) (codes ": ") (cause ++ 10 ∷ [])))
+pub events_line : (number : Bytes) (line : ℕ) (cause : EventsCause) → number ≡ decimal line → (codes "detock: events line " ++ (number ++ [])) ++ events_end cause ≡ fault_line (BadEvents line cause)
+events_line number line cause is =
+    ap (λ digits. (codes "detock: events line " ++ digits) ++ events_end cause) (append-nil number ∙ is)
+    ∙ ap (λ rest. codes "detock: events line " ++ rest) (sym (append_assoc (decimal line ++ codes ": ") (cause_text cause) (10 ∷ []) ∙ append_assoc (decimal line) (codes ": ") (cause_text cause ++ 10 ∷ [])))
 
-pub too_long_line : (number : Bytes) (line : ℕ) → number ≡ decimal line → codes "detock: events line " ++ (number ++ (codes ": too long" ++ 10 ∷ [])) ≡ fault_line (BadEvents line TooLong)
-too_long_line number line is = ap (λ digits. codes "detock: events line " ++ (digits ++ (codes ": too long" ++ 10 ∷ []))) is ∙ events_line line (codes "too long")
-
-pub form_line : (number : Bytes) (line : ℕ) → number ≡ decimal line → codes "detock: events line " ++ (number ++ (codes ": no event" ++ 10 ∷ [])) ≡ fault_line (BadEvents line Form)
-form_line number line is = ap (λ digits. codes "detock: events line " ++ (digits ++ (codes ": no event" ++ 10 ∷ []))) is ∙ events_line line (codes "no event")
-
-pub rule_line : (number rule : Bytes) (line n : ℕ) → number ≡ decimal line → rule ≡ decimal n → codes "detock: events line " ++ (number ++ (codes ": rule " ++ (rule ++ 10 ∷ []))) ≡ fault_line (BadEvents line (Rule n))
-rule_line number rule line n is by =
-    ap (λ digits. codes "detock: events line " ++ (digits ++ (codes ": rule " ++ (rule ++ 10 ∷ [])))) is
-    ∙ ap (λ digits. codes "detock: events line " ++ (decimal line ++ (codes ": rule " ++ (digits ++ 10 ∷ [])))) by
-    ∙ events_line line (codes "rule " ++ decimal n)
+-- and how it ends where an event is not legal
+pub rule_end : (digits : Bytes) (n : ℕ) → digits ≡ decimal n → codes ": rule " ++ (digits ++ (10 ∷ [])) ≡ events_end (Rule n)
+rule_end digits n is = ap (λ number. codes ": rule " ++ (number ++ (10 ∷ []))) is
 
 -- what was added whole, or in part where the sink failed, was added in part
 pub in_part : {E : Type 0} (r : Result (Unit {0}) E) (old new : Option (List ℕ)) (piece : List ℕ) → OnOk r (Adds old new piece) → OnErr r (AddsPrefix old new piece) → AddsPrefix old new piece

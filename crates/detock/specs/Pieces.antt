@@ -3,7 +3,8 @@ use Rattle.std.specs.Prelude.{ℕ, List, [], ◌∷◌, ◌++◌, codes, map}
 use Rattle.dt_access.specs.Clash.{Bytes}
 use Rattle.dt_cluster.specs.declared.ClusterCause.{ClusterCause}
 use Rattle.dt_workload.specs.declared.WorkloadCause.{WorkloadCause}
-use Rattle.detock.specs.Statuses.{cluster_text, printed, workload_text}
+use Rattle.detock.specs.Statuses.{cause_text, cluster_text, printed, workload_text}
+use Rattle.detock.specs.declared.status.EventsCause.{EventsCause}
 use Rattle.detock.specs.declared.faults.Piece.{Piece}
 use Rattle.detock.specs.declared.faults.Piece.TheVariants.{Text, Name}
 
@@ -19,3 +20,7 @@ cluster_end cause = codes ": " ++ (cluster_text cause ++ 10 ∷ [])
 -- how the line of a fault in a workload's file ends
 abbrev pub workload_end : WorkloadCause → Bytes
 workload_end cause = codes ": " ++ (workload_text cause ++ 10 ∷ [])
+
+-- how the line of a fault in a file of events ends
+abbrev pub events_end : EventsCause → Bytes
+events_end cause = codes ": " ++ (cause_text cause ++ 10 ∷ [])

@@ -2,7 +2,7 @@ ghost use Rattle.std.specs.Prelude.{◌≡◌, ◌≤◌, [], ◌∷◌, ◌++�
 ghost use Rattle.std.specs.List.{flat_map};
 ghost use Rattle.dt_outside.specs.Faults.{Rose};
 ghost use Rattle.dt_outside.specs.Held.{Adds, AddsPrefix};
-ghost use Rattle.detock.specs.Pieces.{cluster_end, said, workload_end};
+ghost use Rattle.detock.specs.Pieces.{cluster_end, events_end, said, workload_end};
 ghost use Rattle.detock.specs.Statuses.{fault_line, place_text, printed};
 
 use crate::status::{EventsCause, Status};
@@ -183,31 +183,29 @@ fn put_bad_events<E: Sink>(line: u32, cause: EventsCause, err: &mut E) -> Result
 {
     let mut number = Buffer::new();
     let number = number.format(line).as_bytes();
+    write_pieces(
+        err,
+        &[Piece::Text(b"detock: events line "), Piece::Text(number)],
+    )?;
+    put_events_end(cause, err)
+}
+
+/// Writes the end of the line of a fault in a file of events: what is wrong there.
+fn put_events_end<E: Sink>(cause: EventsCause, err: &mut E) -> Result<(), Failed>
+    ensures added { OnOk result (Adds (E.held err.old) (E.held err.new) (events_end cause)) }
+    ensures prefix { OnErr result (AddsPrefix (E.held err.old) (E.held err.new) (events_end cause)) }
+    ensures failed { OnErr result (Rose (E.faults err.old) (E.faults err.new)) }
+    ensures later { E.faults err.old ≤ E.faults err.new }
+{
     match cause {
-        EventsCause::TooLong => write_pieces(
-            err,
-            &[
-                Piece::Text(b"detock: events line "),
-                Piece::Text(number),
-                Piece::Text(b": too long\n"),
-            ],
-        ),
-        EventsCause::Form => write_pieces(
-            err,
-            &[
-                Piece::Text(b"detock: events line "),
-                Piece::Text(number),
-                Piece::Text(b": no event\n"),
-            ],
-        ),
+        EventsCause::TooLong => write_all(err, b": too long\n"),
+        EventsCause::Form => write_all(err, b": no event\n"),
         EventsCause::Rule(rule) => {
             let mut digits = Buffer::new();
             let digits = digits.format(rule).as_bytes();
             write_pieces(
                 err,
                 &[
-                    Piece::Text(b"detock: events line "),
-                    Piece::Text(number),
                     Piece::Text(b": rule "),
                     Piece::Text(digits),
                     Piece::Text(b"\n"),
