@@ -29,3 +29,6 @@ returns-in-NoMemory-clause-added g c = rw c.in-NoMemory.is c.write_all.ensures.a
 
 pub returns-in-NoMemory-clause-prefix : goal.returns-in-NoMemory-clause-prefix
 returns-in-NoMemory-clause-prefix g c = rw c.in-NoMemory.is c.write_all.ensures.prefix
+
+pub returns-in-BadWorkload-clause-added : goal.returns-in-BadWorkload-clause-added
+returns-in-BadWorkload-clause-added g c = rw c.in-BadWorkload.is c.put_bad_workload.ensures.added
