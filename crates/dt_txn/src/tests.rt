@@ -1,4 +1,6 @@
-ghost use Rattle.std.specs.Prelude.{◌<◌, ◌^◌, length, IfOk};
+ghost use Rattle.std.specs.Prelude.{◌≡◌, ◌<◌, ◌^◌, length, IfOk, OnOk};
+ghost use Rattle.dt_proc.specs.Builtin.{builtin_procs};
+ghost use Rattle.dt_eval.specs.Meaning.{Fits, HasKeys};
 ghost use Rattle.dt_txn.specs.Transaction.{CanRun};
 
 use crate::annotation::annotate;
@@ -7,7 +9,8 @@ use crate::outcome::Outcome;
 use crate::placement::{homes, parts};
 use crate::txn::Body;
 use dt_access::{Mode, TxnId};
-use dt_eval::{Args, PUT, fits, keys_of};
+use dt_eval::{Args, fits, keys_of};
+use dt_proc::{Proc, Procs, builtin_procs};
 use dt_table::Table;
 use dt_text::{Key, Str, Value};
 use std::alloc::Global;
@@ -18,27 +21,45 @@ fn two_regions(alloc: Global) -> Result<Table, Fail> {
     Ok(Table::new(alloc, 2, &[], &[])?)
 }
 
+/// The number of the procedure `put` among the built-in ones.
+const PUT: u32 = 0;
+
 /// A put of a number at a key.
-fn put(alloc: Global, key: &[u8], number: i64) -> Result<Body, Fail>
-    requires { length key.now < 2 ^ 32 }
-    ensures { IfOk result CanRun }
+fn put(alloc: Global, procs: &Procs, key: &[u8], number: i64) -> Result<Body, Fail>
+    requires key { length key.now < 2 ^ 32 }
+    requires procs { procs.now ≡ builtin_procs }
+    ensures fits { IfOk result (CanRun procs.now) }
 {
     let mut args = Args::new(alloc);
     args.push(Value::Text(Str::read(alloc, key)?))?;
     args.push(Value::Int(number))?;
-    if !fits(PUT, args.as_slice()) {
+    let Some(body) = procs.get(PUT) else {
+        return Err(Fail::from("put is built in"));
+    };
+    if !fits(body, args.as_slice()) {
         return Err(Fail::from("the arguments of a put fit"));
     }
-    let _keys = keys_of(alloc, PUT, args.as_slice())?;
+    gives_keys(alloc, body, args.as_slice())?;
     Ok(Body::Call(PUT, args))
+}
+
+/// Fails where the arguments give no keys.
+fn gives_keys(alloc: Global, body: &Proc, args: &[Value]) -> Result<(), Fail>
+    requires { Fits body.now args.now }
+    ensures keys { OnOk result (HasKeys body.now args.now) }
+{
+    keys_of(alloc, body, args)?;
+    Ok(())
 }
 
 #[test]
 fn a_transaction_is_annotated_by_the_table(rt: HostRuntime) -> Result<(), Fail> {
     let table = two_regions(rt.alloc())?;
+    let procs = builtin_procs(rt.alloc())?;
     let id = TxnId { seq: 1, region: 0 };
     for (key, home) in [(b"a".as_slice(), 1), (b"b".as_slice(), 0)] {
-        let txn = annotate(rt.alloc(), id, put(rt.alloc(), key, 5)?, &table)?;
+        let body = put(rt.alloc(), &procs, key, 5)?;
+        let txn = annotate(rt.alloc(), id, body, &procs, &table)?;
         assert_eq!(rt; txn.access.len(), 1);
         let entry = &txn.access.as_slice()[0];
         assert_eq!(rt; entry.key.bytes(), key);
@@ -52,9 +73,10 @@ fn a_transaction_is_annotated_by_the_table(rt: HostRuntime) -> Result<(), Fail> 
 #[test]
 fn a_move_has_a_part_at_its_target(rt: HostRuntime) -> Result<(), Fail> {
     let table = two_regions(rt.alloc())?;
+    let procs = builtin_procs(rt.alloc())?;
     let id = TxnId { seq: 1, region: 0 };
     let body = Body::Move(Key::read(rt.alloc(), b"b")?, 1);
-    let txn = annotate(rt.alloc(), id, body, &table)?;
+    let txn = annotate(rt.alloc(), id, body, &procs, &table)?;
     assert_eq!(rt; homes(rt.alloc(), &txn)?.as_slice(), [0, 1].as_slice());
     let parts = parts(rt.alloc(), &txn)?;
     assert_eq!(rt; parts.len(), 2);
@@ -67,16 +89,18 @@ fn a_move_has_a_part_at_its_target(rt: HostRuntime) -> Result<(), Fail> {
 #[test]
 fn a_put_is_stale_after_its_row_was_moved(rt: HostRuntime) -> Result<(), Fail> {
     let mut table = two_regions(rt.alloc())?;
+    let procs = builtin_procs(rt.alloc())?;
     let mover = TxnId { seq: 1, region: 0 };
     let moves = Body::Move(Key::read(rt.alloc(), b"b")?, 1);
-    let first = annotate(rt.alloc(), mover, moves, &table)?;
+    let first = annotate(rt.alloc(), mover, moves, &procs, &table)?;
     let id = TxnId { seq: 2, region: 0 };
-    let second = annotate(rt.alloc(), id, put(rt.alloc(), b"b", 7)?, &table)?;
-    let (gave, effect) = execute(rt.alloc(), &first, &table)?;
+    let body = put(rt.alloc(), &procs, b"b", 7)?;
+    let second = annotate(rt.alloc(), id, body, &procs, &table)?;
+    let (gave, effect) = execute(rt.alloc(), &first, &procs, &table)?;
     assert!(rt; matches!(gave, Outcome::Gave(_)));
     table.reserve(1)?;
     table.apply(effect);
-    let (stale, effect) = execute(rt.alloc(), &second, &table)?;
+    let (stale, effect) = execute(rt.alloc(), &second, &procs, &table)?;
     let Outcome::Stale { key, had, by } = stale else {
         panic!(rt; "the put is stale");
     };
