@@ -2,6 +2,8 @@
 #![tactic(auto)]
 
 mod annotation;
+#[cfg(test)]
+mod copies;
 mod execution;
 mod outcome;
 mod placement;
