@@ -15,3 +15,4 @@ pub mod Growing
 pub mod Executed
 pub mod Followed
 pub mod Reporting
+pub mod Played
