@@ -10,3 +10,8 @@ mod opening;
 mod region;
 
 pub use region::Region;
+
+#[cfg(test)]
+mod tests;
+#[cfg(test)]
+mod trying;

@@ -11,8 +11,8 @@ use dt_eval::{Args, PUT, fits, keys_of};
 use dt_log::{Log, Taken};
 use dt_plain::PlainSched;
 use dt_table::Table;
-use dt_text::{Str, Value};
-use dt_txn::{Body, Entry, homes, part_at};
+use dt_text::{Key, Str, Value};
+use dt_txn::{Body, Entry, Outcome, homes, part_at};
 use std::alloc::Global;
 use std::test::Fail;
 
@@ -38,13 +38,18 @@ fn put(alloc: Global, key: &[u8; 1], number: i64) -> Result<Body, Fail>
     Ok(Body::Call(PUT, args))
 }
 
-/// Submits a put of a number at a key.
-pub fn submit_put(
-    region: &mut Region<PlainSched>,
-    alloc: Global,
-    key: &[u8; 1],
-    number: i64,
-) -> Result<TxnId, Fail> {
+/// A move of a key to a region of two.
+fn move_of(alloc: Global, key: &[u8; 1], target: u8) -> Result<Body, Fail>
+    requires { target < 2 }
+    ensures { IfOk result (BodyFits 2) }
+{
+    Ok(Body::Move(Key::read(alloc, key)?, target))
+}
+
+/// Submits a body to a region of two that has made few submissions.
+fn submit(region: &mut Region<PlainSched>, alloc: Global, body: Body) -> Result<TxnId, Fail>
+    requires { BodyFits 2 body }
+{
     let own = region.number();
     let late = TxnId {
         seq: 1000,
@@ -56,8 +61,28 @@ pub fn submit_put(
     if region.regions() != 2 {
         return Err(Fail::from("there are two regions"));
     }
-    let body = put(alloc, key, number)?;
     Ok(region.submit(alloc, body)?)
+}
+
+/// Submits a put of a number at a key.
+pub fn submit_put(
+    region: &mut Region<PlainSched>,
+    alloc: Global,
+    key: &[u8; 1],
+    number: i64,
+) -> Result<TxnId, Fail> {
+    let body = put(alloc, key, number)?;
+    submit(region, alloc, body)
+}
+
+/// Submits a move of a key to the other region of two.
+pub fn submit_move(
+    region: &mut Region<PlainSched>,
+    alloc: Global,
+    key: &[u8; 1],
+) -> Result<TxnId, Fail> {
+    let body = move_of(alloc, key, 1)?;
+    submit(region, alloc, body)
 }
 
 fn is_among(homes: &[u8], home: u8) -> bool
@@ -122,6 +147,39 @@ pub fn append_next(
     }
     let number = region.taken(source);
     Ok(region.append(alloc, source, number, &txn)?)
+}
+
+/// Appends a transaction of another region, which this one does not hold, as that region's next request.
+pub fn append_foreign(
+    region: &mut Region<PlainSched>,
+    alloc: Global,
+    from: &Region<PlainSched>,
+    id: TxnId,
+) -> Result<bool, Fail> {
+    let own = region.number();
+    let other = from.number();
+    if from.regions() != region.regions() {
+        return Err(Fail::from("both are of one cluster"));
+    }
+    if id.region == own {
+        return Err(Fail::from("the transaction is of another region"));
+    }
+    if region.txn(id).is_some() {
+        return Err(Fail::from("the transaction is new here"));
+    }
+    if !has_room(region) {
+        return Err(Fail::from("the logs have room"));
+    }
+    let Some(held) = from.txn(id) else {
+        return Err(Fail::from("the transaction is held there"));
+    };
+    let txn = held.copy(alloc)?;
+    let homes = homes(alloc, &txn)?;
+    if !is_among(homes.as_slice(), own) {
+        return Err(Fail::from("the region is a home"));
+    }
+    let number = region.taken(other);
+    Ok(region.append(alloc, other, number, &txn)?)
 }
 
 /// Offers a transaction that the region holds as a request of a region that is not its next one.
@@ -192,6 +250,40 @@ pub fn deliver_next(
     Ok(region.deliver(alloc, home, first, entries)?)
 }
 
+/// Delivers a transaction that the region holds, at the end of another home's log, in which it is not yet.
+pub fn deliver_held(
+    region: &mut Region<PlainSched>,
+    alloc: Global,
+    home: u8,
+    id: TxnId,
+) -> Result<Taken, Fail> {
+    let own = region.number();
+    if home >= region.regions() {
+        return Err(Fail::from("the home is a region"));
+    }
+    if home == own {
+        return Err(Fail::from("the home is another region"));
+    }
+    let Some(held) = region.txn(id) else {
+        return Err(Fail::from("the transaction is held"));
+    };
+    let txn = held.copy(alloc)?;
+    let homes = homes(alloc, &txn)?;
+    if !is_among(homes.as_slice(), home) {
+        return Err(Fail::from("it has that home"));
+    }
+    if has_part(region.log(home), id) {
+        return Err(Fail::from("it is not in the log"));
+    }
+    if !has_room(region) {
+        return Err(Fail::from("the logs have room"));
+    }
+    let part = part_at(alloc, &txn, home)?;
+    let first = region.log(home).len();
+    let entries = vec![in alloc; Entry { part, txn }]?;
+    Ok(region.deliver(alloc, home, first, entries)?)
+}
+
 /// Delivers the entry at a place of a home's log again.
 pub fn deliver_again(
     region: &mut Region<PlainSched>,
@@ -233,4 +325,73 @@ pub fn deliver_none(
         return Err(Fail::from("the home is another region"));
     }
     Ok(region.deliver(alloc, home, first, Vec::new(alloc))?)
+}
+
+/// Inserts the next part of a home's log.
+pub fn insert(region: &mut Region<PlainSched>, alloc: Global, home: u8) -> Result<bool, Fail> {
+    if home >= region.regions() {
+        return Err(Fail::from("the home is a region"));
+    }
+    Ok(region.insert(alloc, home)?)
+}
+
+/// Resolves a class.
+pub fn resolve(
+    region: &mut Region<PlainSched>,
+    alloc: Global,
+    ids: &[TxnId],
+) -> Result<bool, Fail> {
+    Ok(region.resolve(alloc, ids)?)
+}
+
+/// Executes a transaction.
+pub fn execute(region: &mut Region<PlainSched>, alloc: Global, id: TxnId) -> Result<bool, Fail> {
+    Ok(region.execute(alloc, id)?)
+}
+
+/// The members of a class that is resolvable, or none.
+pub fn next_class(region: &Region<PlainSched>, alloc: Global) -> Result<Vec<TxnId>, Fail> {
+    match region.next_class(alloc)? {
+        Some(ids) => Ok(ids.as_slice().to_vec(alloc)?),
+        None => Ok(Vec::new(alloc)),
+    }
+}
+
+/// The ids that a region asked a home to place.
+pub fn asked(region: &Region<PlainSched>, alloc: Global, home: u8) -> Result<Vec<TxnId>, Fail> {
+    if home >= region.regions() {
+        return Err(Fail::from("the home is a region"));
+    }
+    Ok(region.asked(home).to_vec(alloc)?)
+}
+
+/// How many of a region's requests are placed, and how long that region's log is here.
+pub fn counts(region: &Region<PlainSched>, home: u8) -> Result<(u32, u32), Fail> {
+    if home >= region.regions() {
+        return Err(Fail::from("the home is a region"));
+    }
+    Ok((region.taken(home), region.log(home).len()))
+}
+
+/// A copy of the outcome of an id, if it is done.
+pub fn outcome(
+    region: &Region<PlainSched>,
+    alloc: Global,
+    id: TxnId,
+) -> Result<Option<Outcome>, Fail> {
+    match region.outcome(id) {
+        Some(outcome) => Ok(Some(outcome.copy(alloc)?)),
+        None => Ok(None),
+    }
+}
+
+/// Whether the row of a key has this number.
+pub fn has_number(
+    region: &Region<PlainSched>,
+    alloc: Global,
+    key: &[u8; 1],
+    number: i64,
+) -> Result<bool, Fail> {
+    let key = Key::read(alloc, key)?;
+    Ok(region.table().get(&key) == Some(&Value::Int(number)))
 }

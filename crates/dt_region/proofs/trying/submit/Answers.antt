@@ -1,7 +1,7 @@
 use Rattle.std.proofs.Common.{◌≡◌, sym, ap, ◌∙◌}
 use Rattle.dt_region.proofs.Tried.{few_submitted, none_of_test}
 use Rattle.dt_region.specs.State.{held}
-use Rattle.dt_region.proofs.trying.submit_put.Goals as goal
+use Rattle.dt_region.proofs.trying.submit.Goals as goal
 
 pub submit-requires-clause-place : goal.submit-requires-clause-place
 submit-requires-clause-place c =
