@@ -15,6 +15,10 @@ const ONE_PUT: &str = "session a at 0\ncall put \"b\" 5\n";
 
 const ONE_PUT_EVENTS: &str = "submit 0 a\nappend 0 0 0\ninsert 0 0\nexecute 0 1.0\nanswer 0 a\n";
 
+/// The report of them.
+const ONE_PUT_REPORT: &str =
+    "replies\nreply a 1 done\norder\n1.0 a 1 1 done\ntable 0\nb = 5 home 0 moves 0\nevents\nsubmit 0 a\nappend 0 0 0\ninsert 0 0\nexecute 0 1.0\nanswer 0 a\n";
+
 /// How a call ended, and its sinks.
 #[derive(Drop)]
 struct Ended {
@@ -97,6 +101,16 @@ fn nothing_is_reported_of_nothing(rt: HostRuntime) -> Result<(), Fail> {
 }
 
 #[test]
+fn a_put_is_reported_whole(rt: HostRuntime) -> Result<(), Fail> {
+    let ended = replay(&rt, rt.alloc(), ":1", ONE_PUT, ONE_PUT_EVENTS)?;
+    assert_eq!(rt; ended.status, Status::Done);
+    assert_eq!(rt; ONE_PUT_REPORT.len(), 140);
+    assert_eq!(rt; ended.out.bytes(), ONE_PUT_REPORT.as_bytes());
+    assert_eq!(rt; ended.err.bytes(), b"".as_slice());
+    Ok(())
+}
+
+#[test]
 fn repeated_and_lost_deliveries_change_nothing(rt: HostRuntime) -> Result<(), Fail> {
     let workload =
         "session x at 0\ncall put \"b\" 1\nsession y at 0\ncall put \"d\" 2\nsession z at 0\ncall put \"f\" 3\n";
@@ -167,6 +181,38 @@ fn the_first_fault_of_the_events_is_told(rt: HostRuntime) -> Result<(), Fail> {
         assert_eq!(rt; ended.status, status, "events {events}");
         assert_eq!(rt; ended.out.bytes(), b"".as_slice());
         assert_eq!(rt; ended.err.bytes(), line.as_bytes(), "events {events}");
+    }
+    Ok(())
+}
+
+#[test]
+fn what_does_not_wait_for_each_other_is_not_resolved(rt: HostRuntime) -> Result<(), Fail> {
+    let workload = "session x at 0\ncall put \"b\" 1\nsession y at 1\ncall put \"a\" 2\n";
+    let cases = [
+        // Two puts of one key in one log: the first precedes the second.
+        (
+            ":1",
+            "session x at 0\ncall put \"b\" 1\nsession y at 0\ncall put \"b\" 2\n",
+            "submit 0 x\nsubmit 0 y\nappend 0 0 0\nappend 0 0 1\ninsert 0 0\ninsert 0 0\nresolve 0 1.0 2.0\n",
+            7,
+        ),
+        // Two puts at two homes: neither reaches the other.
+        (
+            ":2",
+            workload,
+            "submit 0 x\nsubmit 1 y\nappend 0 0 0\nappend 1 1 0\ndeliver 1 0 0 1\ninsert 1 0\ninsert 1 1\nresolve 1 1.0 1.1\n",
+            8,
+        ),
+        // There is no region 2.
+        (":2", workload, "resolve 2 1.0 1.1\n", 1),
+    ];
+    for (cluster, workload, events, line) in cases {
+        let ended = replay(&rt, rt.alloc(), cluster, workload, events)?;
+        let status = Status::BadEvents(line, EventsCause::Rule(5));
+        assert_eq!(rt; ended.status, status, "events {events}");
+        assert_eq!(rt; ended.out.bytes(), b"".as_slice());
+        let told = format!(in rt.alloc(); "detock: events line {line}: rule 5\n")?;
+        assert_eq!(rt; ended.err.bytes(), told.as_bytes(), "events {events}");
     }
     Ok(())
 }
@@ -304,7 +350,8 @@ fn no_threads_are_needed_for_a_replay(rt: HostRuntime) -> Result<(), Fail> {
     }
     let status = detock_alone(rt.alloc(), words.as_slice(), &mut files, &mut out, &mut err);
     assert_eq!(rt; status, Status::Done);
-    assert_eq!(rt; out.bytes().len(), 140);
+    assert_eq!(rt; out.bytes(), ONE_PUT_REPORT.as_bytes());
+    assert_eq!(rt; err.bytes(), b"".as_slice());
     Ok(())
 }
 
