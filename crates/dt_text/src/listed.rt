@@ -1,7 +1,7 @@
 ghost use Rattle.std.proofs.Common.{rules};
 ghost use Rattle.std.specs.Cmp.Lexicographic.{pointwise};
 ghost use Rattle.std.specs.Cmp.Rules.{comparing};
-ghost use Rattle.std.specs.Prelude.{◌≡◌, ◌↔◌, [], ◌∷◌, ◌++◌, List, length, IsTrue, OnOk, OnErr, option_to_list};
+ghost use Rattle.std.specs.Prelude.{◌≡◌, ◌↔◌, ◌⊎◌, [], ◌∷◌, ◌++◌, List, length, IsSome, IsTrue, OnOk, OnErr, option_to_list};
 
 use crate::no_memory::NoMemory;
 use std::alloc::Global;
@@ -57,7 +57,8 @@ impl<X> Listed<X> {
 
     /// Takes the last item off, if there is one. Takes no memory.
     pub fn pop(&mut self) -> Option<X>
-        ensures { self.old ≡ self.new ++ option_to_list result }
+        ensures taken { self.old ≡ self.new ++ option_to_list result }
+        ensures empty { IsSome result ⊎ (self.old ≡ []) }
     {
         self.items.pop()
     }

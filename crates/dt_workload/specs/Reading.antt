@@ -53,6 +53,17 @@ abbrev pub IsWithWanted : List Session → Wanted → List Session → Type 0
 IsWithWanted before wanted after =
     (others : List Session) × (last : Session) × (before ≡ others ++ last ∷ []) × (after ≡ others ++ wanting last wanted ∷ [])
 
+-- a session of this name can begin at a region after some sessions: they do not have the name, there is such a region, and room at it
+abbrev pub CanBegin : Cluster → List Session → Bytes → ℕ → Type 0
+CanBegin cluster before name region = ¬ (Has (names_in before) name) × (region < cluster.regions) × (sessions_at region before < 64)
+
+-- why no session of this name can begin at a region after some sessions
+abbrev pub IsNoBeginning : Cluster → List Session → Bytes → ℕ → WorkloadCause → Type 0
+IsNoBeginning cluster before name region told =
+    Needs (¬ (Has (names_in before) name)) cause.Twice
+    (Needs (region < cluster.regions) cause.Region
+    (Needs (sessions_at region before < 64) cause.TooMany NothingMore)) told
+
 -- a form goes on some sessions: a session is one more, and a call or a move is wanted by the last one
 abbrev pub FormGoesOn : Cluster → List Session → lines.Form → List Session → Type 0
 FormGoesOn cluster before (lines.session_line name region) after =

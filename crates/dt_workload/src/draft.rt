@@ -6,7 +6,7 @@ ghost use Rattle.dt_eval.specs.Meaning.{Fits, HasKeys};
 ghost use Rattle.dt_cluster.specs.Valid.{IsValidCluster};
 ghost use Rattle.dt_workload.specs.File.{IsCallFault, IsLineFault, IsMoveFault, IsSessionFault, calls_in, name_of, names_in, proc_named, sessions_at};
 ghost use Rattle.dt_workload.specs.Lines as lines;
-ghost use Rattle.dt_workload.specs.Reading.{FormGoesOn, IsCounted, IsNoCall, IsNoKey, IsWithWanted, LineGoesOn, Refuses};
+ghost use Rattle.dt_workload.specs.Reading.{CanBegin, FormGoesOn, IsCounted, IsNoBeginning, IsNoCall, IsNoKey, IsWithWanted, LineGoesOn, Refuses};
 ghost use Rattle.dt_workload.specs.declared.error.WorkloadCause.TheVariants as cause;
 
 use crate::error::{Refusal, WorkloadCause};
@@ -80,15 +80,7 @@ impl Draft {
         ensures fault { IfErr result (Refuses (IsSessionFault cluster.now self.old.sessions.items word.now region)) }
     {
         let name = session_name(alloc, word)?;
-        if has_name(self.sessions.as_slice(), &name) {
-            return Err(Refusal::Cause(WorkloadCause::Twice));
-        }
-        if region >= u32::from(cluster.regions) {
-            return Err(Refusal::Cause(WorkloadCause::Region));
-        }
-        if count_at(self.sessions.as_slice(), region) >= MOST_SESSIONS {
-            return Err(Refusal::Cause(WorkloadCause::TooMany));
-        }
+        may_begin(cluster, self.sessions.as_slice(), &name, region)?;
         self.sessions.push(Session {
             name,
             region: region as u8,
@@ -190,6 +182,28 @@ fn session_name(alloc: Global, word: &[u8]) -> Result<Name, Refusal>
         Err(KeyError::Long) => Err(Refusal::Cause(WorkloadCause::Name)),
         Err(KeyError::BadByte(_)) => Err(Refusal::Cause(WorkloadCause::Name)),
     }
+}
+
+/// Refuses a session that cannot begin: of a name that is used, at no region, or at one that is full.
+fn may_begin(
+    cluster: &Cluster,
+    sessions: &[Session],
+    name: &Name,
+    region: u32,
+) -> Result<(), Refusal>
+    ensures ok { OnOk result (CanBegin cluster.now sessions.now name.now region) }
+    ensures fault { IfErr result (Refuses (IsNoBeginning cluster.now sessions.now name.now region)) }
+{
+    if has_name(sessions, name) {
+        return Err(Refusal::Cause(WorkloadCause::Twice));
+    }
+    if region >= u32::from(cluster.regions) {
+        return Err(Refusal::Cause(WorkloadCause::Region));
+    }
+    if count_at(sessions, region) >= MOST_SESSIONS {
+        return Err(Refusal::Cause(WorkloadCause::TooMany));
+    }
+    Ok(())
 }
 
 /// Whether some session has the name.
