@@ -180,17 +180,90 @@ fn calls_over_two_homes_deadlock_and_end_alike(rt: HostRuntime) -> Result<(), Fa
     Ok(())
 }
 
+/// The events by which the only session, `a` at region 0, makes so many calls of one home, one after another.
+fn in_turn(alloc: Global, calls: u32) -> Result<String, Fail> {
+    let mut events = String::new(alloc);
+    for call in 0..calls {
+        let id = call + 1;
+        let one = format!(in alloc;
+            "submit 0 a\nappend 0 0 {call}\ninsert 0 0\nexecute 0 {id}.0\nanswer 0 a\n"
+        )?;
+        events.push_str(one.as_str())?;
+    }
+    Ok(events)
+}
+
 #[test]
 fn procedures_abort_with_their_cause(rt: HostRuntime) -> Result<(), Fail> {
     let cluster = "regions = 1\n[rows]\nb = 9223372036854775807\nt = \"x\"\n";
     let workload =
         "session a at 0\ncall add \"b\" 1\n\n  # the others\ncall  div \"b\" 0\ncall add \"t\" 1\ncall xfer \"b\" \"c\" 1\n";
-    let events =
-        "submit 0 a\nappend 0 0 0\ninsert 0 0\nexecute 0 1.0\nanswer 0 a\nsubmit 0 a\nappend 0 0 1\ninsert 0 0\nexecute 0 2.0\nanswer 0 a\nsubmit 0 a\nappend 0 0 2\ninsert 0 0\nexecute 0 3.0\nanswer 0 a\nsubmit 0 a\nappend 0 0 3\ninsert 0 0\nexecute 0 4.0\nanswer 0 a\n";
-    let ended = replay(&rt, rt.alloc(), cluster, workload, events)?;
+    let events = in_turn(rt.alloc(), 4)?;
+    let ended = replay(&rt, rt.alloc(), cluster, workload, events.as_str())?;
     let sections =
         "replies\nreply a 1 abort overflow\nreply a 2 abort zero\nreply a 3 abort kind\nreply a 4 abort kind\norder\n1.0 a 1 1 abort overflow\n2.0 a 2 1 abort zero\n3.0 a 3 1 abort kind\n4.0 a 4 1 abort kind\ntable 0\nb = 9223372036854775807 home 0 moves 0\nt = \"x\" home 0 moves 0\n";
-    assert_reported(&rt, rt.alloc(), &ended, sections, events)
+    assert_reported(&rt, rt.alloc(), &ended, sections, events.as_str())
+}
+
+#[test]
+fn a_transfer_above_the_funds_aborts(rt: HostRuntime) -> Result<(), Fail> {
+    let cluster = "regions = 1\n[rows]\nb = 5\n";
+    let workload = "session a at 0\ncall xfer \"b\" \"b\" 3\ncall xfer \"b\" \"b\" 6\n";
+    let events = in_turn(rt.alloc(), 2)?;
+    let ended = replay(&rt, rt.alloc(), cluster, workload, events.as_str())?;
+    let sections =
+        "replies\nreply a 1 done 5 5\nreply a 2 abort \"funds\"\norder\n1.0 a 1 1 done 5 5\n2.0 a 2 1 abort \"funds\"\ntable 0\nb = 5 home 0 moves 0\n";
+    assert_reported(&rt, rt.alloc(), &ended, sections, events.as_str())
+}
+
+#[test]
+fn a_session_makes_one_call_after_another(rt: HostRuntime) -> Result<(), Fail> {
+    let workload =
+        "session a at 0\ncall put \"b\" 5\ncall xfer \"b\" \"b\" 3\ncall xfer \"b\" \"b\" 6\ncall put \"b\" 9223372036854775807\ncall add \"b\" 1\ncall div \"b\" 0\ncall note \"t\" \"x\"\ncall add \"t\" 1\n";
+    let events = in_turn(rt.alloc(), 8)?;
+    let ended = replay(&rt, rt.alloc(), ":1", workload, events.as_str())?;
+    let sections =
+        "replies\nreply a 1 done\nreply a 2 done 5 5\nreply a 3 abort \"funds\"\nreply a 4 done\nreply a 5 abort overflow\nreply a 6 abort zero\nreply a 7 done\nreply a 8 abort kind\norder\n1.0 a 1 1 done\n2.0 a 2 1 done 5 5\n3.0 a 3 1 abort \"funds\"\n4.0 a 4 1 done\n5.0 a 5 1 abort overflow\n6.0 a 6 1 abort zero\n7.0 a 7 1 done\n8.0 a 8 1 abort kind\ntable 0\nb = 9223372036854775807 home 0 moves 0\nt = \"x\" home 0 moves 0\n";
+    assert_reported(&rt, rt.alloc(), &ended, sections, events.as_str())
+}
+
+#[test]
+fn reads_do_not_wait_for_each_other(rt: HostRuntime) -> Result<(), Fail> {
+    let workload =
+        "session x at 0\ncall get \"b\"\nsession y at 0\ncall get \"b\"\nsession z at 0\ncall put \"b\" 1\n";
+    let front =
+        "submit 0 x\nsubmit 0 y\nsubmit 0 z\nappend 0 0 0\nappend 0 0 1\nappend 0 0 2\ninsert 0 0\ninsert 0 0\ninsert 0 0\nexecute 0 2.0\n";
+    let events = format!(in rt.alloc(); "{front}execute 0 1.0\nexecute 0 3.0\nanswer 0 y\n")?;
+    let ended = replay(&rt, rt.alloc(), ":2", workload, events.as_str())?;
+    let sections =
+        "replies\nreply y 1 done none\norder\n2.0 y 1 1 done none\n1.0 x 1 1 done none\n3.0 z 1 1 done\ntable 0\nb = 1 home 0 moves 0\ntable 1\n";
+    assert_reported(&rt, rt.alloc(), &ended, sections, events.as_str())?;
+    // The put waits for both reads.
+    let events = format!(in rt.alloc(); "{front}execute 0 3.0\n")?;
+    let refused = replay(&rt, rt.alloc(), ":2", workload, events.as_str())?;
+    assert_refused(&rt, &refused, 6, "detock: events line 11: rule 6\n");
+    Ok(())
+}
+
+#[test]
+fn what_stands_outside_a_circle_runs_first(rt: HostRuntime) -> Result<(), Fail> {
+    let cluster = "regions = 3\n[rows]\na = 10\nb = 10\nc = 10\n";
+    let workload =
+        "session u at 0\ncall put \"c\" 20\nsession p at 0\ncall xfer \"c\" \"a\" 1\nsession q at 1\ncall xfer \"a\" \"b\" 1\nsession s at 2\ncall xfer \"b\" \"c\" 1\n";
+    let front =
+        "submit 0 u\nappend 0 0 0\nsubmit 0 p\nsubmit 1 q\nsubmit 2 s\nappend 0 0 1\nappend 1 1 0\nappend 2 2 0\nappend 0 2 0\nappend 1 0 0\nappend 2 1 0\ndeliver 0 1 0 2\ndeliver 0 2 0 2\ninsert 0 0\ninsert 0 0\ninsert 0 0\ninsert 0 1\ninsert 0 1\ninsert 0 2\ninsert 0 2\n";
+    let events = format!(in rt.alloc();
+        "{front}execute 0 1.0\nresolve 0 1.1 1.2 2.0\nexecute 0 1.1\nexecute 0 1.2\nexecute 0 2.0\n"
+    )?;
+    let ended = replay(&rt, rt.alloc(), cluster, workload, events.as_str())?;
+    let sections =
+        "replies\norder\n1.0 u 1 1 done\n1.1 q 1 1 done 9 11\n1.2 s 1 1 done 10 21\n2.0 p 1 1 done 20 10\ntable 0\na = 10 home 1 moves 0\nb = 10 home 2 moves 0\nc = 20 home 0 moves 0\ntable 1\na = 10 home 1 moves 0\nb = 10 home 2 moves 0\nc = 10 home 0 moves 0\ntable 2\na = 10 home 1 moves 0\nb = 10 home 2 moves 0\nc = 10 home 0 moves 0\n";
+    assert_reported(&rt, rt.alloc(), &ended, sections, events.as_str())?;
+    // The put outside the circle is not done.
+    let events = format!(in rt.alloc(); "{front}resolve 0 1.1 1.2 2.0\n")?;
+    let refused = replay(&rt, rt.alloc(), cluster, workload, events.as_str())?;
+    assert_refused(&rt, &refused, 6, "detock: events line 21: rule 5\n");
+    Ok(())
 }
 
 #[test]
@@ -255,18 +328,28 @@ fn other_words_are_told_which_words_there_are(rt: HostRuntime) -> Result<(), Fai
 }
 
 #[test]
-fn runs_and_moves_are_not_built(rt: HostRuntime) -> Result<(), Fail> {
-    let words: [&[&str]; 4] = [
-        &["run", ":1", "w"],
-        &["run", "c", "w"],
-        &["big", "20000"],
-        // The workload is read, and the events are not.
-        &["replay", ":2", "w", "e"],
-    ];
+fn runs_are_not_built(rt: HostRuntime) -> Result<(), Fail> {
+    let words: [&[&str]; 3] = [&["run", ":1", "w"], &["run", "c", "w"], &["big", "20000"]];
     for case in words {
-        let texts = [("w", "session a at 0\nmove b to 1\n")];
-        let files = folder_of(rt.alloc(), &texts, &[])?;
+        let files = folder_of(rt.alloc(), &[], &[])?;
         let ended = call(&rt, rt.alloc(), case, files, (AMPLE, AMPLE))?;
+        assert_refused(&rt, &ended, 9, "detock: not built\n");
+    }
+    Ok(())
+}
+
+#[test]
+fn moves_are_not_built(rt: HostRuntime) -> Result<(), Fail> {
+    let workloads = [
+        "session a at 0\nmove b to 0\n",
+        // A key of 64 bytes.
+        "session a at 0\nmove aaaaaaaaaaaaaaaaaaaaaaaaaaaaaaaaaaaaaaaaaaaaaaaaaaaaaaaaaaaaaaaa to 0\n",
+    ];
+    for workload in workloads {
+        // The workload is read, and the events, whose load would fail, are not.
+        let files = folder_of(rt.alloc(), &[("w", workload), ("e", "")], &[2])?;
+        let words = ["replay", ":1", "w", "e"];
+        let ended = call(&rt, rt.alloc(), &words, files, (AMPLE, AMPLE))?;
         assert_refused(&rt, &ended, 9, "detock: not built\n");
     }
     Ok(())
@@ -306,31 +389,51 @@ fn the_first_fault_of_a_cluster_is_told(rt: HostRuntime) -> Result<(), Fail> {
 fn the_first_fault_of_a_workload_is_told(rt: HostRuntime) -> Result<(), Fail> {
     let cases = [
         (
+            ":1",
             "session a at 0\ncall nope 1\n",
             "detock: workload line 2: unknown procedure\n",
         ),
-        ("session a at 2\n", "detock: workload line 1: no region\n"),
         (
+            ":1",
             "session a at 0\nmove aaaaaaaaaaaaaaaaaaaaaaaaaaaaaaaaaaaaaaaaaaaaaaaaaaaaaaaaaaaaaaaaa to 0\n",
             "detock: workload line 2: no key\n",
         ),
         (
+            ":2",
+            "session a at 2\n",
+            "detock: workload line 1: no region\n",
+        ),
+        (
+            ":2",
             "\n# a comment\ncall put \"b\" 5\n",
             "detock: workload line 3: no session\n",
         ),
         (
+            ":2",
             "session a at 0\ncall put \"b\"\n",
             "detock: workload line 2: wrong arguments\n",
         ),
         (
+            ":2",
             "session a at 0\nsession a at 0\n",
             "detock: workload line 2: name used twice\n",
         ),
     ];
-    for (workload, line) in cases {
-        let ended = replay(&rt, rt.alloc(), ":2", workload, "no event\n")?;
+    for (cluster, workload, line) in cases {
+        let ended = replay(&rt, rt.alloc(), cluster, workload, "no event\n")?;
         assert_refused(&rt, &ended, 5, line);
     }
+    Ok(())
+}
+
+#[test]
+fn a_colon_begins_only_the_words_of_built_in_clusters(rt: HostRuntime) -> Result<(), Fail> {
+    let texts = [(":w", ONE_PUT), (":2", ONE_PUT_EVENTS)];
+    let files = folder_of(rt.alloc(), &texts, &[])?;
+    let words = ["replay", ":1", ":w", ":2"];
+    let ended = call(&rt, rt.alloc(), &words, files, (AMPLE, AMPLE))?;
+    assert_eq!(rt; ended.out.bytes(), ONE_PUT_REPORT.as_bytes());
+    assert_eq!(rt; ended.exit, 0);
     Ok(())
 }
 
