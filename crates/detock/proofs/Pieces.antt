@@ -1,5 +1,5 @@
 -- Pieces that are written one behind the other.
-use Rattle.std.proofs.Common.{◌≡◌, ℕ, ◌+◌, ◌<◌, List, [], ◌∷◌, ◌++◌, length, get_or, drop, map, Option, refl, ap, sym, ◌∙◌, append_assoc, subst}
+use Rattle.std.proofs.Common.{◌≡◌, ℕ, ◌+◌, ◌<◌, List, [], ◌∷◌, ◌++◌, length, get_or, drop, Option, ap, sym, ◌∙◌, append_assoc, subst}
 use Rattle.std.proofs.lemmas.List.{drop_more}
 use Rattle.std.specs.List.{flat_map}
 use Rattle.dt_outside.specs.Held.{Adds, AddsPrefix}
@@ -17,8 +17,3 @@ some_of_next said old mid new pieces i d inside (done, added, all) some =
     let P : List ℕ → Type 0 = λ whole. AddsPrefix old new whole in
     subst P (next_piece said pieces i d done inside all)
     (AddsPrefix-longer old new so_far (flat_map said (drop (i + 1) pieces)) (AddsPrefix-append old mid new done (said (get_or pieces i d)) added some))
-
--- pieces of one byte each
-pub one_each : (f : ℕ → ℕ) (bytes : List ℕ) → flat_map (λ b. f b ∷ []) bytes ≡ map f bytes
-one_each f [] = refl
-one_each f (b ∷ bytes) = ap (λ rest. f b ∷ rest) (one_each f bytes)

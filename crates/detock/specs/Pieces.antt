@@ -1,17 +1,10 @@
--- Lines are written in pieces.
-use Rattle.std.specs.Prelude.{ℕ, List, [], ◌∷◌, ◌++◌, codes, map}
+-- Lines are written in pieces: how they end.
+use Rattle.std.specs.Prelude.{[], ◌∷◌, ◌++◌, codes}
 use Rattle.dt_access.specs.Clash.{Bytes}
 use Rattle.dt_cluster.specs.declared.ClusterCause.{ClusterCause}
 use Rattle.dt_workload.specs.declared.WorkloadCause.{WorkloadCause}
-use Rattle.detock.specs.Statuses.{cause_text, cluster_text, printed, workload_text}
+use Rattle.detock.specs.Statuses.{cause_text, cluster_text, workload_text}
 use Rattle.detock.specs.declared.status.EventsCause.{EventsCause}
-use Rattle.detock.specs.declared.faults.Piece.{Piece}
-use Rattle.detock.specs.declared.faults.Piece.TheVariants.{Text, Name}
-
--- what a piece writes
-abbrev pub said : Piece → Bytes
-said (Text bytes) = bytes.now
-said (Name name) = map printed name.now
 
 -- how the line of a fault in a cluster's file ends
 abbrev pub cluster_end : ClusterCause → Bytes

@@ -1,8 +1,8 @@
-ghost use Rattle.std.specs.Prelude.{◌≡◌, ◌≤◌, [], ◌∷◌, ◌++◌, map, OnOk, OnErr};
+ghost use Rattle.std.specs.Prelude.{◌≡◌, ◌≤◌, ◌++◌, map, length, take, OnOk, OnErr};
 ghost use Rattle.std.specs.List.{flat_map};
 ghost use Rattle.dt_outside.specs.Faults.{Rose};
 ghost use Rattle.dt_outside.specs.Held.{Adds, AddsPrefix};
-ghost use Rattle.detock.specs.Pieces.{cluster_end, events_end, said, workload_end};
+ghost use Rattle.detock.specs.Pieces.{cluster_end, events_end, workload_end};
 ghost use Rattle.detock.specs.Statuses.{fault_line, place_text, printed};
 
 use crate::status::{EventsCause, Status};
@@ -11,14 +11,8 @@ use dt_outside::{Failed, Sink, write_all};
 use dt_workload::WorkloadCause;
 use itoa::Buffer;
 
-/// A piece of a line.
-#[derive(Clone, Copy)]
-enum Piece<'a> {
-    /// These bytes.
-    Text(&'a [u8]),
-    /// A name from a file, in which every byte that is no visible character of ASCII is written as `?`.
-    Name(&'a [u8]),
-}
+/// The most bytes of a name that are written at once.
+const RUN: usize = 256;
 
 /// Tells a status by its line, piece by piece; nothing after `Done`. A fault of the sink is counted there, and changes
 /// nothing here. Takes no memory.
@@ -67,14 +61,7 @@ fn put_cannot_read<E: Sink>(word: u32, err: &mut E) -> Result<(), Failed>
 {
     let mut number = Buffer::new();
     let number = number.format(word).as_bytes();
-    write_pieces(
-        err,
-        &[
-            Piece::Text(b"detock: cannot read word "),
-            Piece::Text(number),
-            Piece::Text(b"\n"),
-        ],
-    )
+    write_pieces(err, &[b"detock: cannot read word ", number, b"\n"])
 }
 
 /// Writes the line of a fault in a cluster's file.
@@ -104,7 +91,7 @@ fn put_place<E: Sink>(place: &ClusterPlace, err: &mut E) -> Result<(), Failed>
         ClusterPlace::Procs(at) => {
             let mut number = Buffer::new();
             let number = number.format(*at).as_bytes();
-            write_pieces(err, &[Piece::Text(b" procs byte "), Piece::Text(number)])
+            write_pieces(err, &[b" procs byte ", number])
         }
     }
 }
@@ -149,10 +136,7 @@ fn put_bad_workload<E: Sink>(line: u32, cause: WorkloadCause, err: &mut E) -> Re
 {
     let mut number = Buffer::new();
     let number = number.format(line).as_bytes();
-    write_pieces(
-        err,
-        &[Piece::Text(b"detock: workload line "), Piece::Text(number)],
-    )?;
+    write_pieces(err, &[b"detock: workload line ", number])?;
     write_all(err, workload_end(cause))
 }
 
@@ -183,10 +167,7 @@ fn put_bad_events<E: Sink>(line: u32, cause: EventsCause, err: &mut E) -> Result
 {
     let mut number = Buffer::new();
     let number = number.format(line).as_bytes();
-    write_pieces(
-        err,
-        &[Piece::Text(b"detock: events line "), Piece::Text(number)],
-    )?;
+    write_pieces(err, &[b"detock: events line ", number])?;
     put_events_end(cause, err)
 }
 
@@ -203,42 +184,22 @@ fn put_events_end<E: Sink>(cause: EventsCause, err: &mut E) -> Result<(), Failed
         EventsCause::Rule(rule) => {
             let mut digits = Buffer::new();
             let digits = digits.format(rule).as_bytes();
-            write_pieces(
-                err,
-                &[
-                    Piece::Text(b": rule "),
-                    Piece::Text(digits),
-                    Piece::Text(b"\n"),
-                ],
-            )
+            write_pieces(err, &[b": rule ", digits, b"\n"])
         }
     }
 }
 
 /// Writes the pieces, one behind the other.
-fn write_pieces<O: Sink>(out: &mut O, pieces: &[Piece<'_>]) -> Result<(), Failed>
-    ensures added { OnOk result (Adds (O.held out.old) (O.held out.new) (flat_map said pieces.now)) }
-    ensures prefix { OnErr result (AddsPrefix (O.held out.old) (O.held out.new) (flat_map said pieces.now)) }
+fn write_pieces<O: Sink>(out: &mut O, pieces: &[&[u8]]) -> Result<(), Failed>
+    ensures added { OnOk result (Adds (O.held out.old) (O.held out.new) (flat_map (λ piece. piece.now) pieces.now)) }
+    ensures prefix { OnErr result (AddsPrefix (O.held out.old) (O.held out.new) (flat_map (λ piece. piece.now) pieces.now)) }
     ensures failed { OnErr result (Rose (O.faults out.old) (O.faults out.new)) }
     ensures later { O.faults out.old ≤ O.faults out.new }
 {
     for piece in pieces {
-        write_piece(out, *piece)?;
+        write_all(out, piece)?;
     }
     Ok(())
-}
-
-/// Writes a piece.
-fn write_piece<O: Sink>(out: &mut O, piece: Piece<'_>) -> Result<(), Failed>
-    ensures added { OnOk result (Adds (O.held out.old) (O.held out.new) (said piece.entry)) }
-    ensures prefix { OnErr result (AddsPrefix (O.held out.old) (O.held out.new) (said piece.entry)) }
-    ensures failed { OnErr result (Rose (O.faults out.old) (O.faults out.new)) }
-    ensures later { O.faults out.old ≤ O.faults out.new }
-{
-    match piece {
-        Piece::Text(bytes) => write_all(out, bytes),
-        Piece::Name(name) => write_name(out, name),
-    }
 }
 
 /// Writes a name, in which every byte that is no visible character of ASCII becomes `?`.
@@ -248,20 +209,37 @@ fn write_name<O: Sink>(out: &mut O, name: &[u8]) -> Result<(), Failed>
     ensures failed { OnErr result (Rose (O.faults out.old) (O.faults out.new)) }
     ensures later { O.faults out.old ≤ O.faults out.new }
 {
-    for byte in name {
-        write_byte(out, *byte)?;
+    let mut rest = name;
+    while rest.len() > RUN {
+        let (run, others) = rest.split_at(RUN);
+        write_run(out, run)?;
+        rest = others;
     }
-    Ok(())
+    write_run(out, rest)
 }
 
-/// Writes a byte of a name.
-fn write_byte<O: Sink>(out: &mut O, byte: u8) -> Result<(), Failed>
-    ensures added { OnOk result (Adds (O.held out.old) (O.held out.new) (printed byte ∷ [])) }
-    ensures prefix { OnErr result (AddsPrefix (O.held out.old) (O.held out.new) (printed byte ∷ [])) }
+/// Writes up to `RUN` bytes of a name in one piece.
+fn write_run<O: Sink>(out: &mut O, run: &[u8]) -> Result<(), Failed>
+    requires { length run.now ≤ 256 }
+    ensures added { OnOk result (Adds (O.held out.old) (O.held out.new) (map printed run.now)) }
+    ensures prefix { OnErr result (AddsPrefix (O.held out.old) (O.held out.new) (map printed run.now)) }
     ensures failed { OnErr result (Rose (O.faults out.old) (O.faults out.new)) }
     ensures later { O.faults out.old ≤ O.faults out.new }
 {
-    write_all(out, &[printed(byte)])
+    let shown = shown(run);
+    write_all(out, &shown[..run.len()])
+}
+
+/// The bytes of a run of a name as they are printed, at the front of an array.
+fn shown(run: &[u8]) -> [u8; RUN]
+    requires { length run.now ≤ 256 }
+    ensures { take (length run.now) result ≡ map printed run.now }
+{
+    let mut shown = [b'?'; RUN];
+    for place in 0..run.len() {
+        shown[place] = printed(run[place]);
+    }
+    shown
 }
 
 /// A byte of a name as it is printed.

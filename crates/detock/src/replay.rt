@@ -29,6 +29,7 @@ pub fn report<F: Folder>(alloc: Global, words: &[String], files: &mut F) -> Resu
     ensures possible { IfOk result (λ _. IsReplayable (F.told files.old) (spelled words.now)) }
     ensures refused { (status : _) → result ≡ Err status →
         IsRefusal (F.told files.old) (spelled words.now) (F.faults files.old) (F.faults files.new) status }
+    ensures unread { result ≡ Err Status.BadWords → files.new ≡ files.old }
     ensures same_told { F.told files.new ≡ F.told files.old }
     ensures later { F.faults files.old ≤ F.faults files.new }
 {

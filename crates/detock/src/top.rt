@@ -35,6 +35,7 @@ pub fn detock<R: Threads + Wait + Sync, F: Folder, O: Sink, E: Sink>(
 
     // Each refusal comes only by its cause, tried in this order.
     ensures bad_words { result ≡ Status.BadWords → ¬ AreAForm (spelled words.now) }
+    ensures unread { result ≡ Status.BadWords → files.new ≡ files.old }
     ensures not_built { result ≡ Status.NotBuilt → IsNotBuilt (F.told files.old) (spelled words.now) }
     ensures bad_cluster { (fault : _) → result ≡ Status.BadCluster fault →
         HasBadCluster (F.told files.old) (spelled words.now) fault }
@@ -51,6 +52,9 @@ pub fn detock<R: Threads + Wait + Sync, F: Folder, O: Sink, E: Sink>(
     ensures complete { (status : _) → IsSome (F.told files.old) → IsDue (F.told files.old) (spelled words.now) status →
         ¬ Rose (F.faults files.old) (F.faults files.new) → ¬ Rose (O.faults out.old) (O.faults out.new) →
         (result ≡ status) ⊎ (result ≡ Status.NoMemory) }
+
+    // Where the words ask for threads, no file is loaded before the answer.
+    ensures not_loaded { NeedsThreads (spelled words.now) → files.new ≡ files.old }
 
     // Nothing is written to `out` but the report, and no file changes.
     ensures out_same { result ≢ Status.Done → result ≢ Status.CannotWrite → out.new ≡ out.old }
@@ -83,6 +87,7 @@ pub fn detock_alone<F: Folder, O: Sink, E: Sink>(
 
     // Each refusal comes only by its cause, tried in this order.
     ensures bad_words { result ≡ Status.BadWords → ¬ AreAForm (spelled words.now) }
+    ensures unread { result ≡ Status.BadWords → files.new ≡ files.old }
     ensures not_built { result ≡ Status.NotBuilt → IsNotBuilt (F.told files.old) (spelled words.now) }
     ensures bad_cluster { (fault : _) → result ≡ Status.BadCluster fault →
         HasBadCluster (F.told files.old) (spelled words.now) fault }
@@ -127,6 +132,7 @@ fn status_of<F: Folder, O: Sink>(
     ensures possible { result ≡ Status.Done → IsReplayable (F.told files.old) (spelled words.now) }
     ensures refused { result ≢ Status.Done → result ≢ Status.CannotWrite →
         IsRefusal (F.told files.old) (spelled words.now) (F.faults files.old) (F.faults files.new) result }
+    ensures unread { result ≡ Status.BadWords → files.new ≡ files.old }
     ensures cannot_write { result ≡ Status.CannotWrite → Rose (O.faults out.old) (O.faults out.new)
         × Headline (F.told files.old) (spelled words.now) (AddsPrefix (O.held out.old) (O.held out.new)) }
     ensures out_same { result ≢ Status.Done → result ≢ Status.CannotWrite → out.new ≡ out.old }

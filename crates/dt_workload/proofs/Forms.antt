@@ -1,5 +1,5 @@
 -- Words of lines and the forms that they say.
-use Rattle.std.proofs.Common.{◌≡◌, ◌≢◌, ℕ, zero, suc, ◌+◌, ◌<◌, ◌≤◌, ◌^◌, Bool, true, false, not, cond, nat_eq, List, [], ◌∷◌, length, map, get_or, Option, Some, None, MatchOption, refl, ap, sym, ◌∙◌, subst, arith}
+use Rattle.std.proofs.Common.{◌≡◌, ◌≢◌, ℕ, zero, suc, ◌+◌, ◌<◌, ◌≤◌, ◌^◌, Bool, true, false, not, cond, nat_eq, List, [], ◌∷◌, length, map, get_or, Option, Some, None, MatchOption, inr, refl, ap, sym, ◌∙◌, subst, arith}
 use Rattle.std.specs.Cmp.Lexicographic.{pointwise, bytes_decides}
 use Rattle.std.specs.Fmt.{decimal}
 use Rattle.dt_lists.specs.Lists.{AllIn}
@@ -10,7 +10,12 @@ use Rattle.dt_text.specs.declared.Word.{Word}
 use Rattle.dt_text.specs.declared.Value.{Value}
 use Rattle.dt_text.proofs.ReadingLaws.{exact}
 use Rattle.dt_workload.specs.Lines.{Bytes, Said, bare, said, Form, form_words, IsForm, HasForm, IsArgument, argument_word}
-use Rattle.dt_workload.specs.Reading.{ReadsForm, ReadsRegion, form_of}
+use Rattle.dt_workload.specs.Reading.{IsNoBeginning, ReadsForm, ReadsRegion, Refuses, form_of}
+use Rattle.dt_workload.specs.File.{IsSessionFault}
+use Rattle.dt_workload.specs.declared.workload.Session.{Session}
+use Rattle.dt_workload.specs.declared.error.Refusal.{Refusal}
+use Rattle.dt_workload.specs.declared.error.Refusal.TheVariants.{Cause, NoMemory}
+use Rattle.dt_cluster.specs.declared.Cluster.{Cluster}
 use Rattle.dt_workload.specs.declared.form.Form.{Form as Said_form}
 
 head-is : {A : Type 0} {x y : A} {xs ys : List A} → x ∷ xs ≡ y ∷ ys → x ≡ y
@@ -93,3 +98,10 @@ refused false all n place e found h = absurd cc
 -- a byte that no name has stands in no name
 pub no_name_outside : (word : Bytes) (place : ℕ) → first_outside is_name_byte word ≡ Some place → ¬ IsName word
 no_name_outside word place found name = refused _ _ _ place (outside_where is_name_byte word) found name.2
+
+-- where no session of a name can begin, its line is at fault for that
+pub no_session : (cluster : Cluster) (before : List Session) (name word : Bytes) (region : ℕ) (why : Refusal) → name ≡ word → IsName name
+    → Refuses (IsNoBeginning cluster before name region) why → Refuses (IsSessionFault cluster before word region) why
+no_session cluster before name word region (Cause told) same is fault =
+    subst (λ w. IsSessionFault cluster before w region told) same (inr (is, fault))
+no_session cluster before name word region NoMemory same is fault = tt

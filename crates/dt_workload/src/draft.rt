@@ -67,6 +67,7 @@ impl Draft {
     }
 
     /// Begins a session.
+    #[tactic(auto, using(crate::proofs::Forms::no_session))]
     fn begin(
         &mut self,
         alloc: Global,
@@ -74,6 +75,7 @@ impl Draft {
         word: &[u8],
         region: u32,
     ) -> Result<(), Refusal>
+        requires valid { IsValidCluster cluster.now }
         requires counted { IsCounted self.old }
         ensures ok { OnOk result (FormGoesOn cluster.now self.old.sessions.items (lines.session_line word.now region) self.new.sessions.items) }
         ensures counted { OnOk result (IsCounted self.new) }

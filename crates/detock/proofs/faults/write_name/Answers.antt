@@ -1,18 +1,29 @@
-use Rattle.std.proofs.Common.{◌∷◌, [], ◌++◌, List, ℕ, OnOk, OnErr, map, rules, subst}
-use Rattle.dt_outside.specs.Held.{Adds, AddsPrefix}
+use Rattle.std.proofs.Common.{List, ℕ, OnErr, map, rules, subst}
+use Rattle.dt_outside.specs.Held.{AddsPrefix}
 use Rattle.dt_outside.proofs.Writing.{Adds-append}
 use Rattle.detock.specs.Statuses.{printed}
-use Rattle.detock.proofs.FaultLines.{where_err}
-use Rattle.detock.proofs.Pieces.{next_piece, one_each, some_of_next}
+use Rattle.detock.proofs.FaultLines.{then_part}
+use Rattle.detock.proofs.Runs.{next_run, some_of_run}
 use Rattle.detock.proofs.faults.write_name.Goals as goal
 
-pub returns-in_err-write_byte-clause-prefix : goal.returns-in_err-write_byte-clause-prefix
-returns-in_err-write_byte-clause-prefix g c =
-    let P : List ℕ → Type 0 = λ line. AddsPrefix (g.O.Sink.held c.args.out.now) (g.O.Sink.held c.write_byte.new.out) line in
-    let some = some_of_next (λ b. printed b ∷ []) _ _ _ c.args.name.now c.loop-byte.byte-index _ c.loop-byte-test.true c.loop-byte.invariant.0 c.in_err-write_byte.ensures.prefix in
-    where_err c.from_residual.result _ _ (map printed c.args.name.now) (subst P (one_each printed c.args.name.now) some)
+pub returns-in_err-write_run-clause-prefix : goal.returns-in_err-write_run-clause-prefix
+returns-in_err-write_run-clause-prefix g c =
+    let (done, added, all) = c.loop-rest.invariant.0 in
+    let some = some_of_run printed _ _ _ done c.split_at.result.0.now c.split_at.result.1.now c.loop-rest.rest.now c.args.name.now (search rules) added all c.in_err-write_run.ensures.prefix in search rules
 
-pub loop-byte-preserved : goal.loop-byte-preserved
-loop-byte-preserved g c =
-    let (done, added, all) = c.loop-byte.invariant.0 in
-    ((_, Adds-append _ _ _ done _ added c.in_ok-write_byte.ensures.added, next_piece (λ b. printed b ∷ []) c.args.name.now c.loop-byte.byte-index _ done c.loop-byte-test.true all), search rules)
+pub loop-rest-preserved : goal.loop-rest-preserved
+loop-rest-preserved g c =
+    let (done, added, all) = c.loop-rest.invariant.0 in (
+      (
+        _,
+        Adds-append _ _ _ done _ added c.in_ok-write_run.ensures.added,
+        next_run printed done c.split_at.result.0.now c.split_at.result.1.now c.loop-rest.rest.now c.args.name.now (search rules) all,
+      ),
+      search rules,
+    )
+
+pub returns-clause-prefix : goal.returns-clause-prefix
+returns-clause-prefix g c =
+    let (done, added, all) = c.loop-rest.invariant.0 in
+    let P : List ℕ → Type 0 = λ bytes. OnErr c.write_run-2.result (AddsPrefix (g.O.Sink.held c.args.out.now) (g.O.Sink.held c.write_run-2.new.out) bytes) in
+    subst P all (then_part c.write_run-2.result _ _ _ done (map printed c.loop-rest.rest.now) added c.write_run-2.ensures.prefix)

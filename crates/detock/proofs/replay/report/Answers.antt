@@ -8,6 +8,7 @@ use Rattle.detock.specs.Headline.{AreNumbered, AreWorkload, HasMove, Told}
 use Rattle.detock.specs.Causes.{AsksOn, IsFirstIllegal}
 use Rattle.detock.specs.Refusals.{IsEventsRefusal, IsStepRefusal, IsWorkloadRefusal}
 use Rattle.detock.proofs.Refused.{headline_made, no_cluster, no_events, no_workload, not_legal, passed_on, possible}
+use Rattle.detock.specs.declared.status.Status.TheVariants.{BadWords}
 use Rattle.detock.proofs.replay.report.Goals as goal
 
 pub returns-in_err-cluster-clause-refused : goal.returns-in_err-cluster-clause-refused
@@ -73,3 +74,24 @@ returns-clause-refused g c = λ status is.
     (subst W c.load_cluster.ensures.same_told c.in_ok-workload.ensures.workload) _ _ c.in_ok-events.events.items status still
     (subst P (c.load_workload.ensures.same_told ∙ c.load_cluster.ensures.same_told) c.in_ok-events.ensures.events)
     (c.report_of.ensures.refused status is)
+
+pub returns-in_err-cluster-clause-unread : goal.returns-in_err-cluster-clause-unread
+returns-in_err-cluster-clause-unread g c = λ is.
+    let (made, is_made, same) = err_from_is_err_and c.from_residual.result c.from_residual.ensures.1 in
+    let refused : c.load_cluster.result ≡ Err BadWords = passed_on c.load_cluster.result c.from_residual.result _ made BadWords c.in_err-cluster.was is_made same is in
+    absurd (c.load_cluster.ensures.refused BadWords refused)
+
+pub returns-in_err-workload-clause-unread : goal.returns-in_err-workload-clause-unread
+returns-in_err-workload-clause-unread g c = λ is.
+    let (made, is_made, same) = err_from_is_err_and c.from_residual-in_err-workload.result c.from_residual-in_err-workload.ensures.1 in
+    let refused : c.load_workload.result ≡ Err BadWords = passed_on c.load_workload.result c.from_residual-in_err-workload.result _ made BadWords c.in_err-workload.was is_made same is in
+    absurd (c.load_workload.ensures.refused BadWords refused)
+
+pub returns-in_err-events-clause-unread : goal.returns-in_err-events-clause-unread
+returns-in_err-events-clause-unread g c = λ is.
+    let (made, is_made, same) = err_from_is_err_and c.from_residual-in_err-events.result c.from_residual-in_err-events.ensures.1 in
+    let refused : c.load_events.result ≡ Err BadWords = passed_on c.load_events.result c.from_residual-in_err-events.result _ made BadWords c.in_err-events.was is_made same is in
+    absurd (c.load_events.ensures.refused BadWords refused)
+
+pub returns-clause-unread : goal.returns-clause-unread
+returns-clause-unread g c = λ is. absurd (c.report_of.ensures.refused BadWords is)
