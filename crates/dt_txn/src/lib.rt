@@ -8,6 +8,8 @@ mod copies;
 mod execution;
 mod outcome;
 mod placement;
+#[cfg(test)]
+mod tests;
 mod txn;
 
 pub use annotation::annotate;
