@@ -1,13 +1,12 @@
 -- A valid transaction changes only keys that it may write. Of what procedures mean, only this is used elsewhere.
-use Rattle.std.proofs.Common.{◌≡◌, ℕ, zero, List, [], ◌∷◌, refl, sym, subst, inl, inr}
-use Rattle.std.specs.Prelude.{Option, Some, None, slice_get}
+use Rattle.std.proofs.Common.{◌≡◌, ℕ, List, refl, sym, subst, inl, inr}
+use Rattle.std.specs.Prelude.{Option}
 use Rattle.dt_lists.specs.Lists.{AnyIn}
 use Rattle.dt_lists.proofs.Words.{all_any, any_of_image}
 use Rattle.dt_access.specs.Clash.{Bytes}
 use Rattle.dt_access.specs.declared.TxnId.{TxnId}
 use Rattle.dt_access.specs.declared.Mode.TheVariants.{Write}
 use Rattle.dt_text.specs.declared.Value.{Value}
-use Rattle.dt_text.specs.declared.Value.TheVariants.{Int, Text}
 use Rattle.dt_proc.specs.Tree.{ProcTree}
 use Rattle.dt_eval.specs.declared.Finish.{Finish}
 use Rattle.dt_eval.specs.declared.finish.Finish.TheVariants.{Gave, Aborted}

@@ -1,5 +1,5 @@
 -- A valid transaction has its keys in ascending order, each once.
-use Rattle.std.proofs.Common.{◌≡◌, ℕ, zero, suc, List, [], ◌∷◌, map, sym, subst}
+use Rattle.std.proofs.Common.{ℕ, zero, suc, List, [], ◌∷◌, sym, subst}
 use Rattle.dt_lists.specs.Lists.{AllIn}
 use Rattle.dt_text.specs.Texts.{IsKey}
 use Rattle.dt_access.specs.Clash.{Bytes}
@@ -11,7 +11,7 @@ use Rattle.dt_eval.proofs.CallLaws.{call_keys_ascend}
 use Rattle.dt_txn.specs.declared.txn.Body.{Body}
 use Rattle.dt_txn.specs.declared.txn.Body.TheVariants.{Call, Move}
 use Rattle.dt_txn.specs.declared.txn.Txn.{Txn}
-use Rattle.dt_txn.specs.Transaction.{uses_of, used_of, BodyFits, CanRun, IsTransaction, IsValid}
+use Rattle.dt_txn.specs.Transaction.{uses_of, BodyFits, CanRun, IsTransaction, IsValid}
 
 pub can_run : (procs : List ProcTree) (regions : ℕ) (body : Body) → BodyFits procs regions body → CanRun procs body
 can_run procs regions (Call proc args) fits = fits

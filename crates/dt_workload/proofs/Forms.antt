@@ -1,5 +1,5 @@
 -- Words of lines and the forms that they say.
-use Rattle.std.proofs.Common.{◌≡◌, ◌≢◌, ℕ, zero, suc, ◌+◌, ◌<◌, ◌≤◌, ◌^◌, Bool, true, false, not, cond, nat_eq, List, [], ◌∷◌, length, map, get_or, Option, Some, None, MatchOption, inr, refl, ap, sym, ◌∙◌, subst, arith}
+use Rattle.std.proofs.Common.{◌≡◌, ◌≢◌, ℕ, zero, suc, ◌<◌, ◌≤◌, ◌^◌, Bool, true, false, not, cond, nat_eq, List, [], ◌∷◌, length, map, get_or, Option, Some, None, MatchOption, inr, refl, ap, sym, ◌∙◌, subst, arith}
 use Rattle.std.specs.Cmp.Lexicographic.{pointwise, bytes_decides}
 use Rattle.std.specs.Fmt.{decimal}
 use Rattle.dt_lists.specs.Lists.{AllIn}
@@ -9,7 +9,7 @@ use Rattle.dt_text.specs.Reading.{words_of}
 use Rattle.dt_text.specs.declared.Word.{Word}
 use Rattle.dt_text.specs.declared.Value.{Value}
 use Rattle.dt_text.proofs.ReadingLaws.{exact}
-use Rattle.dt_workload.specs.Lines.{Bytes, Said, bare, said, Form, form_words, IsForm, HasForm, IsArgument, argument_word}
+use Rattle.dt_workload.specs.Lines.{Bytes, Said, bare, said, Form, HasForm, IsArgument, argument_word}
 use Rattle.dt_workload.specs.Reading.{IsNoBeginning, ReadsForm, ReadsRegion, Refuses, form_of}
 use Rattle.dt_workload.specs.File.{IsSessionFault}
 use Rattle.dt_workload.specs.declared.workload.Session.{Session}

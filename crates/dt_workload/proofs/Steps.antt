@@ -1,13 +1,12 @@
 -- What one line more makes of sessions.
-use Rattle.std.proofs.Common.{◌≡◌, ◌⊎◌, inl, inr, ℕ, zero, suc, ◌+◌, ◌<◌, ◌≤◌, ◌==◌, Bool, true, false, cond, nat_eq, List, [], ◌∷◌, ◌++◌, map, flat_map, length, get_or, slice_get, Option, Some, None, refl, ap, sym, ◌∙◌, subst, arith, position, count_by, append_assoc, append-nil}
-use Rattle.std.specs.List.{sum_by}
+use Rattle.std.proofs.Common.{◌≡◌, ℕ, zero, suc, ◌+◌, ◌<◌, ◌≤◌, ◌==◌, Bool, true, false, cond, nat_eq, List, [], ◌∷◌, ◌++◌, map, length, slice_get, Some, refl, ap, sym, ◌∙◌, subst, arith, append_assoc, append-nil}
 use Rattle.std.specs.Option.{option_and_then}
 use Rattle.std.specs.Cmp.Lexicographic.{pointwise, bytes_decides}
 use Rattle.std.proofs.lemmas.List.Sums.{sum_by-append}
 use Rattle.std.proofs.lemmas.List.Quantifiers.{position-Some}
 use Rattle.std.proofs.lemmas.Option.{get_or_from_slice_get}
 use Rattle.std.proofs.lemmas.Bool.Decides.{nat_tests}
-use Rattle.dt_lists.specs.Lists.{AllIn, Distinct, EachThen, Has, Pairwise}
+use Rattle.dt_lists.specs.Lists.{AllIn, Has, Pairwise}
 use Rattle.dt_lists.proofs.Words.{all_append, all_append_left, all_append_right, all_get}
 use Rattle.dt_lists.proofs.Distinct.{distinct_push}
 use Rattle.dt_lists.proofs.Places.{has_place}
@@ -18,7 +17,7 @@ use Rattle.dt_proc.specs.Names.{place_of_name}
 use Rattle.dt_eval.specs.Keys.{IsFirstBad}
 use Rattle.dt_cluster.specs.declared.Cluster.{Cluster}
 use Rattle.dt_workload.specs.Lines.{Bytes, Form, session_line, call_line, move_line, HasForm}
-use Rattle.dt_workload.specs.File.{name_of, wanted_line, session_lines, all_lines, CanBeWanted, CanBeSession, names_in, sessions_at, calls_in, AreSessions, proc_named}
+use Rattle.dt_workload.specs.File.{wanted_line, session_lines, all_lines, CanBeWanted, CanBeSession, names_in, sessions_at, calls_in, AreSessions, proc_named}
 use Rattle.dt_workload.specs.Reading.{wanting, IsWithWanted, FormGoesOn, LineGoesOn}
 use Rattle.dt_workload.specs.Valid.{WantedFits, IsValidSession, IsValidWorkload}
 use Rattle.dt_workload.specs.declared.workload.Wanted.{Wanted}

@@ -1,4 +1,4 @@
-use Rattle.std.proofs.Common.{◌≡◌, ap, ◌∙◌}
+use Rattle.std.proofs.Common.{ap, ◌∙◌}
 use Rattle.dt_workload.specs.Lines.{said}
 use Rattle.dt_workload.proofs.Forms.{no_arguments, nothing_said}
 use Rattle.dt_workload.proofs.form.arguments.Goals as goal

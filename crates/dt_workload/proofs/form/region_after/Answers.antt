@@ -1,4 +1,4 @@
-use Rattle.std.proofs.Common.{◌≡◌, ap, sym, ◌∙◌, map}
+use Rattle.std.proofs.Common.{ap, sym, ◌∙◌, map}
 use Rattle.dt_workload.specs.Lines.{said}
 use Rattle.dt_workload.proofs.Forms.{pair_of, other_word, region_read}
 use Rattle.dt_workload.proofs.form.region_after.Goals as goal
