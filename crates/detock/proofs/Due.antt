@@ -1,35 +1,33 @@
 -- The words and the files call for one status.
-use Rattle.std.proofs.Common.{◌≡◌, ◌≢◌, ℕ, ◌+◌, ◌<◌, ◌≤◌, ◌⊎◌, inl, inr, List, [], ◌∷◌, ◌++◌, length, map, Option, Some, None, IsSome, slice_get, refl, ap, sym, ◌∙◌, subst, arith, get_or}
+use Rattle.std.proofs.Common.{◌≡◌, ◌≢◌, ℕ, ◌⊎◌, inl, inr, List, [], ◌∷◌, ◌++◌, length, Option, Some, None, IsSome, slice_get, refl, ap, sym, ◌∙◌, subst, arith, get_or}
 use Rattle.std.proofs.lemmas.List.{map-append}
 use Rattle.dt_access.specs.Clash.{Bytes}
 use Rattle.dt_text.specs.Lines.{FileLine, lines_of}
-use Rattle.dt_outside.specs.Faults.{Rose, next_count}
+use Rattle.dt_outside.specs.Faults.{Rose}
 use Rattle.dt_outside.specs.Files.{Files}
 use Rattle.dt_lists.specs.Lists.{Pairwise}
 use Rattle.dt_events.specs.declared.Event.{Event}
-use Rattle.dt_events.specs.Events.{AreEvents, FirstWithoutForm, HasEventForm, IsEventLine, IsNumberedEvent}
+use Rattle.dt_events.specs.Events.{FirstWithoutForm, IsNumberedEvent}
 use Rattle.dt_events.proofs.ReadBack.{one_event}
 use Rattle.dt_cluster.specs.declared.Cluster.{Cluster}
 use Rattle.dt_cluster.specs.declared.ClusterFault.{ClusterFault}
 use Rattle.dt_cluster.specs.Builtin.{builtin_cluster}
-use Rattle.dt_cluster.specs.File.{IsCluster, IsClusterFault}
 use Rattle.dt_cluster.specs.Valid.{IsValidCluster}
 use Rattle.dt_cluster.proofs.OneCluster.{one_cluster, no_fault as no_cluster_fault, one_fault as one_cluster_fault}
 use Rattle.dt_cluster.proofs.FileValid.{cluster_valid, builtin_valid}
 use Rattle.dt_workload.specs.declared.Workload.{Workload}
 use Rattle.dt_workload.specs.declared.WorkloadCause.{WorkloadCause}
-use Rattle.dt_workload.specs.File.{IsWorkload, IsWorkloadFault}
 use Rattle.dt_workload.proofs.OneFile.{one_workload, no_workload_fault, one_workload_fault}
 use Rattle.dt_session.specs.World.{World, opening_world}
 use Rattle.dt_session.specs.Step.{IsLegal, next, rule_of}
-use Rattle.dt_session.specs.Run.{AreLegal, AreLegalFrom, world_after, world_from}
+use Rattle.dt_session.specs.Run.{AreLegal, AreLegalFrom, world_from}
 use Rattle.dt_laws.proofs.Runs.{legal_append}
 use Rattle.detock.specs.declared.status.Status.{Status}
 use Rattle.detock.specs.declared.status.Status.TheVariants.{Done, NoMemory, BadWords, CannotRead, BadCluster, BadWorkload, BadEvents, CannotWrite, NotBuilt}
 use Rattle.detock.specs.declared.status.EventsCause.{EventsCause}
 use Rattle.detock.specs.declared.status.EventsCause.TheVariants.{TooLong, Form, Rule}
-use Rattle.detock.specs.Words.{Replay, IsReplay, IsBuiltin, IsClusterFile, IsRun, IsBig, NeedsThreads, AreAForm, builtin_word}
-use Rattle.detock.specs.Headline.{Told, HasCluster, AreCluster, AreWorkload, AreNumbered, HasMove, IsReplayable, file_limit, unnumbered}
+use Rattle.detock.specs.Words.{Replay, IsReplay, IsBuiltin, IsClusterFile, NeedsThreads, AreAForm, builtin_word}
+use Rattle.detock.specs.Headline.{Told, HasCluster, AreCluster, AreWorkload, AreNumbered, HasMove, IsReplayable, unnumbered}
 use Rattle.detock.specs.Causes.{AsksOn, HasWorkload, IsNotBuilt, AreBadCluster, HasBadCluster, AreBadWorkload, HasBadWorkload, IsFirstIllegal, AreBadEvents, HasBadEvents, CouldNotRead, IsDue}
 use Rattle.detock.specs.Refusals.{IsRefusal}
 use Rattle.detock.proofs.WordForms.{two_bytes}

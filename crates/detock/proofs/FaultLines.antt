@@ -1,5 +1,5 @@
 -- Fault lines, as their pieces are written.
-use Rattle.std.proofs.Common.{◌≡◌, ℕ, List, [], ◌∷◌, ◌++◌, length, take, Option, Result, Ok, Err, OnOk, OnErr, refl, ap, sym, ◌∙◌, append_assoc, append-nil, codes}
+use Rattle.std.proofs.Common.{◌≡◌, ℕ, List, [], ◌∷◌, ◌++◌, length, Option, Result, Ok, Err, OnOk, OnErr, ap, sym, ◌∙◌, append_assoc, append-nil, codes}
 use Rattle.std.proofs.Math.Seq.{take-length}
 use Rattle.std.specs.Fmt.{decimal}
 use Rattle.dt_access.specs.Clash.{Bytes}
@@ -8,7 +8,7 @@ use Rattle.dt_outside.proofs.Writing.{Adds-append, AddsPrefix-append}
 use Rattle.dt_cluster.specs.declared.ClusterFault.{ClusterFault}
 use Rattle.dt_workload.specs.declared.WorkloadCause.{WorkloadCause}
 use Rattle.detock.specs.Pieces.{cluster_end, events_end, workload_end}
-use Rattle.detock.specs.Statuses.{cause_text, cluster_text, fault_line, place_text, told_line, workload_text}
+use Rattle.detock.specs.Statuses.{cause_text, cluster_text, fault_line, place_text, workload_text}
 use Rattle.detock.specs.declared.status.Status.TheVariants.{CannotRead, BadCluster, BadWorkload, BadEvents}
 use Rattle.detock.specs.declared.status.EventsCause.{EventsCause}
 use Rattle.detock.specs.declared.status.EventsCause.TheVariants.{Rule}

@@ -1,5 +1,5 @@
 -- A file that is told to be longer than a limit.
-use Rattle.std.proofs.Common.{◌≡◌, ℕ, ◌+◌, ◌<◌, List, length, replicate, Option, Some, None, IfSome, IsSomeAnd, refl, arith}
+use Rattle.std.proofs.Common.{◌≡◌, ℕ, ◌+◌, ◌<◌, length, replicate, Option, Some, None, IfSome, IsSomeAnd, refl, arith}
 use Rattle.std.proofs.lemmas.List.{length-replicate}
 use Rattle.dt_access.specs.Clash.{Bytes}
 use Rattle.dt_outside.specs.Files.{Files, IsLonger}

@@ -1,9 +1,9 @@
 -- Pieces that are written one behind the other.
-use Rattle.std.proofs.Common.{◌≡◌, ℕ, ◌+◌, ◌<◌, List, [], ◌∷◌, ◌++◌, length, get_or, drop, Option, ap, sym, ◌∙◌, append_assoc, subst}
+use Rattle.std.proofs.Common.{◌≡◌, ℕ, ◌+◌, ◌<◌, List, ◌++◌, length, get_or, drop, Option, ap, sym, ◌∙◌, append_assoc, subst}
 use Rattle.std.proofs.lemmas.List.{drop_more}
 use Rattle.std.specs.List.{flat_map}
 use Rattle.dt_outside.specs.Held.{Adds, AddsPrefix}
-use Rattle.dt_outside.proofs.Writing.{Adds-append, AddsPrefix-append, AddsPrefix-longer}
+use Rattle.dt_outside.proofs.Writing.{AddsPrefix-append, AddsPrefix-longer}
 
 -- those so far, the next one, and those after it are all
 pub next_piece : {A : Type 0} (said : A → List ℕ) (pieces : List A) (i : ℕ) (d : A) (done : List ℕ) → i < length pieces → done ++ flat_map said (drop i pieces) ≡ flat_map said pieces → (done ++ said (get_or pieces i d)) ++ flat_map said (drop (i + 1) pieces) ≡ flat_map said pieces

@@ -1,11 +1,9 @@
 -- What is answered as a whole, from what its parts answered.
-use Rattle.std.proofs.Common.{◌≡◌, ℕ, ◌≤◌, List, Option, Result, Ok, Err, IfOk, Vec, inl, inr, refl, subst, arith}
+use Rattle.std.proofs.Common.{◌≡◌, ℕ, ◌≤◌, List, Option, Result, Ok, Err, IfOk, Vec, inl, inr, arith}
 use Rattle.dt_access.specs.Clash.{Bytes}
-use Rattle.dt_outside.specs.Faults.{Rose}
 use Rattle.dt_outside.specs.Files.{Files}
 use Rattle.dt_events.specs.declared.Event.{Event}
 use Rattle.dt_cluster.specs.declared.Cluster.{Cluster}
-use Rattle.dt_cluster.specs.declared.ClusterFault.{ClusterFault}
 use Rattle.dt_cluster.specs.Valid.{IsValidCluster}
 use Rattle.dt_workload.specs.declared.Workload.{Workload}
 use Rattle.dt_workload.specs.Valid.{IsValidWorkload}
@@ -14,11 +12,11 @@ use Rattle.dt_report.specs.Report.{report_text}
 use Rattle.dt_world.specs.Reported.{report_of}
 use Rattle.dt_laws.proofs.Agreeing.{legal_agree}
 use Rattle.detock.specs.declared.status.Status.{Status}
-use Rattle.detock.specs.declared.status.Status.TheVariants.{Done, NoMemory, BadWords, CannotRead, BadCluster, BadWorkload, BadEvents, CannotWrite, NotBuilt}
+use Rattle.detock.specs.declared.status.Status.TheVariants.{NoMemory, CannotRead, BadCluster, BadWorkload, BadEvents}
 use Rattle.detock.specs.declared.status.EventsCause.{EventsCause}
 use Rattle.detock.specs.declared.status.EventsCause.TheVariants.{TooLong, Form, Rule}
 use Rattle.detock.specs.Words.{Replay, IsReplay, IsClusterFile}
-use Rattle.detock.specs.Headline.{Told, HasCluster, AreWorkload, AreNumbered, HasMove, Headline, IsReplayable, unnumbered}
+use Rattle.detock.specs.Headline.{Told, AreWorkload, AreNumbered, HasMove, Headline, IsReplayable, unnumbered}
 use Rattle.detock.specs.Causes.{AsksOn, HasWorkload, AreBadEvents}
 use Rattle.detock.specs.Refusals.{IsFileRefusal, IsClusterRefusal, IsWorkloadRefusal, IsEventsRefusal, IsStepRefusal, IsRefusal, AreMalformed}
 

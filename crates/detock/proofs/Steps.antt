@@ -1,12 +1,12 @@
 -- Events, each tried after those before it.
-use Rattle.std.proofs.Common.{◌≡◌, ℕ, ◌+◌, ◌<◌, List, [], ◌∷◌, ◌++◌, length, get_or, take, drop, map, ap, sym, ◌∙◌, subst, refl}
+use Rattle.std.proofs.Common.{◌≡◌, ℕ, ◌+◌, ◌<◌, List, [], ◌∷◌, ◌++◌, length, get_or, take, drop, ap, sym, ◌∙◌, subst, refl}
 use Rattle.std.proofs.lemmas.List.{take_more, drop_more, map_push, take-append-drop}
 use Rattle.dt_events.specs.declared.Event.{Event}
 use Rattle.dt_cluster.specs.declared.Cluster.{Cluster}
 use Rattle.dt_workload.specs.declared.Workload.{Workload}
 use Rattle.dt_session.specs.World.{World, opening_world}
 use Rattle.dt_session.specs.Step.{IsLegal, next, rule_of}
-use Rattle.dt_session.specs.Run.{AreLegal, AreLegalFrom, world_after, world_from}
+use Rattle.dt_session.specs.Run.{AreLegal, world_after}
 use Rattle.dt_laws.proofs.Runs.{append_legal, world_from_append}
 use Rattle.detock.specs.Headline.{unnumbered}
 use Rattle.dt_world.specs.Kept.{Kept}

@@ -1,5 +1,4 @@
 -- What the reader of the command line gives.
-use Rattle.std.specs.Prelude.{◌≡◌}
 use Rattle.dt_access.specs.Clash.{Bytes}
 use Rattle.detock.specs.Words.{Replay, IsBuiltin, IsClusterFile, builtin_word}
 use Rattle.detock.specs.declared.words.ClusterWord.{ClusterWord}

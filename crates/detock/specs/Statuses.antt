@@ -1,8 +1,7 @@
 -- What the program ends with: its exit numbers and fault lines.
-use Rattle.std.specs.Prelude.{ℕ, List, [], ◌∷◌, ◌++◌, codes, map, ◌&&◌, nat_le, if◌then◌else◌}
+use Rattle.std.specs.Prelude.{ℕ, [], ◌∷◌, ◌++◌, codes, map, ◌&&◌, nat_le, if◌then◌else◌}
 use Rattle.std.specs.Fmt.{decimal}
 use Rattle.dt_access.specs.Clash.{Bytes}
-use Rattle.dt_cluster.specs.declared.ClusterFault.{ClusterFault}
 use Rattle.dt_cluster.specs.declared.ClusterPlace.{ClusterPlace}
 use Rattle.dt_cluster.specs.declared.error.ClusterPlace.TheVariants as place
 use Rattle.dt_cluster.specs.declared.ClusterCause.{ClusterCause}

@@ -1,12 +1,11 @@
-use Rattle.std.proofs.Common.{◌≡◌, ◌∙◌, ◌≤◌, arith, Err, Option, subst}
+use Rattle.std.proofs.Common.{◌≡◌, ◌∙◌, arith, Err, Option, subst}
 use Rattle.std.proofs.lemmas.Result.{err_from_is_err_and}
 use Rattle.dt_outside.specs.Files.{Files}
-use Rattle.dt_cluster.specs.declared.Cluster.{Cluster}
 use Rattle.detock.specs.Asked.{asked_for}
 use Rattle.detock.specs.Words.{spelled}
 use Rattle.detock.specs.Headline.{AreNumbered, AreWorkload, HasMove, Told}
-use Rattle.detock.specs.Causes.{AsksOn, IsFirstIllegal}
-use Rattle.detock.specs.Refusals.{IsEventsRefusal, IsStepRefusal, IsWorkloadRefusal}
+use Rattle.detock.specs.Causes.{AsksOn}
+use Rattle.detock.specs.Refusals.{IsEventsRefusal, IsWorkloadRefusal}
 use Rattle.detock.proofs.Refused.{headline_made, no_cluster, no_events, no_workload, not_legal, passed_on, possible}
 use Rattle.detock.specs.declared.status.Status.TheVariants.{BadWords}
 use Rattle.detock.proofs.replay.report.Goals as goal

@@ -1,5 +1,5 @@
 use Rattle.std.proofs.Common.{◌≡◌, Err, refl, ap, sym, ◌∙◌, subst}
-use Rattle.detock.specs.Refusals.{IsStepRefusal, refusal_of}
+use Rattle.detock.specs.Refusals.{IsStepRefusal}
 use Rattle.detock.specs.declared.status.Status.{Status}
 use Rattle.detock.proofs.Steps.{step_made, step_refused, refused_by}
 use Rattle.detock.proofs.replay.world_after.Goals as goal
