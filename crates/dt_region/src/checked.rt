@@ -190,12 +190,7 @@ pub fn opening(alloc: Global, number: u8) -> Result<PlainRegion, Fail>
 }
 
 /// Submits a move of a key.
-pub fn submit(
-    region: &mut PlainRegion,
-    alloc: Global,
-    key: Key,
-    target: u8,
-) -> Result<TxnId, Fail>
+pub fn submit(region: &mut PlainRegion, alloc: Global, key: Key, target: u8) -> Result<TxnId, Fail>
     requires { HoldsMoves region.old.state }
     ensures { HoldsMoves region.new.state }
 {

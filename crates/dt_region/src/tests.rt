@@ -91,8 +91,14 @@ fn submissions_are_counted_and_asked_of_their_homes(rt: HostRuntime) -> Result<(
     let mut region = two_submitted(rt.alloc())?;
     let within = region.submit(rt.alloc(), b"b", 0)?;
     assert_eq!(rt; within, TxnId { seq: 3, region: 0 });
-    assert_eq!(rt; asked(region.region(), rt.alloc(), 0)?.as_slice(), [FIRST, SECOND, within].as_slice());
-    assert_eq!(rt; asked(region.region(), rt.alloc(), 1)?.as_slice(), [FIRST, SECOND].as_slice());
+    assert_eq!(rt;
+        asked(region.region(), rt.alloc(), 0)?.as_slice(),
+        [FIRST, SECOND, within].as_slice()
+    );
+    assert_eq!(rt;
+        asked(region.region(), rt.alloc(), 1)?.as_slice(),
+        [FIRST, SECOND].as_slice()
+    );
     Ok(())
 }
 
@@ -112,7 +118,10 @@ fn deliveries_are_new_or_old_or_leave_a_gap(rt: HostRuntime) -> Result<(), Fail>
     let mut region = one_delivered(rt.alloc(), &home)?;
     assert_eq!(rt; region.deliver_again(rt.alloc(), 0, 0)?, Taken::Old);
     assert_eq!(rt; region.deliver(rt.alloc(), &home, 2, SECOND)?, Taken::Gap);
-    assert_eq!(rt; region.deliver(rt.alloc(), &home, 1, SECOND)?, Taken::New(1));
+    assert_eq!(rt;
+        region.deliver(rt.alloc(), &home, 1, SECOND)?,
+        Taken::New(1)
+    );
     assert_eq!(rt; counts(region.region(), 0)?, (0, 2));
     Ok(())
 }
@@ -135,7 +144,13 @@ fn what_is_inserted_is_executed_once(rt: HostRuntime) -> Result<(), Fail> {
     assert!(rt; !region.execute(rt.alloc(), FIRST)?);
     assert!(rt; matches!(region.region().outcome(FIRST), Some(Outcome::Gave(_))));
     assert!(rt; region.region().outcome(SECOND).is_none());
-    assert_eq!(rt; mastership(&region, rt.alloc(), b"b")?, Mastership { home: 0, counter: 1 });
+    assert_eq!(rt;
+        mastership(&region, rt.alloc(), b"b")?,
+        Mastership {
+            home: 0,
+            counter: 1
+        }
+    );
     Ok(())
 }
 
@@ -144,7 +159,10 @@ fn a_class_is_resolved_once_all_of_it_is_there(rt: HostRuntime) -> Result<(), Fa
     let mut region = all_but_one_inserted(rt.alloc())?;
     assert!(rt; next_class(region.region(), rt.alloc())?.is_empty());
     assert!(rt; region.insert(rt.alloc(), 1)?);
-    assert_eq!(rt; next_class(region.region(), rt.alloc())?.as_slice(), [FIRST, OTHER].as_slice());
+    assert_eq!(rt;
+        next_class(region.region(), rt.alloc())?.as_slice(),
+        [FIRST, OTHER].as_slice()
+    );
     assert!(rt; !region.resolve(rt.alloc(), &[OTHER, FIRST])?);
     assert!(rt; region.resolve(rt.alloc(), &[FIRST, OTHER])?);
     assert!(rt; !region.resolve(rt.alloc(), &[FIRST, OTHER])?);

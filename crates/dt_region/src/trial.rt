@@ -68,7 +68,13 @@ impl Trial {
         id: TxnId,
     ) -> Result<bool, Fail> {
         let txn = checked::offered(&self.region, alloc, &source.region, id)?;
-        checked::append(&mut self.region, alloc, source.region.number(), number, &txn)
+        checked::append(
+            &mut self.region,
+            alloc,
+            source.region.number(),
+            number,
+            &txn,
+        )
     }
 
     /// Delivers a transaction of the log of another region.
