@@ -1,20 +1,20 @@
 -- When a region may be given something, from what a test can see of it.
-use Rattle.std.proofs.Common.{◌≡◌, ◌≢◌, ◌↔◌, ◌<◌, ◌≤◌, ◌+◌, ◌-◌, ◌^◌, ℕ, zero, suc, List, [], ◌∷◌, ◌++◌, map, length, set, take, drop, slice_get, Option, Some, None, Bor, is_some, IsTrue, Bool, true, false, refl, sym, ap, subst, ◌∙◌, inl, inr, arith}
+use Rattle.std.proofs.Common.{◌≡◌, ◌≢◌, ◌↔◌, ◌<◌, ◌≤◌, ◌+◌, ◌-◌, ◌^◌, ℕ, zero, suc, List, [], ◌∷◌, ◌++◌, map, length, set, drop, slice_get, Option, Some, None, Bor, is_some, IsTrue, Bool, true, false, refl, sym, ap, subst, ◌∙◌, inl, inr, arith}
 use Rattle.std.specs.Option.{option_copied}
 use Rattle.std.proofs.lemmas.Option.{same_Some, slice_get_within}
 use Rattle.std.proofs.lemmas.List.{append-nil, set-get_or}
-use Rattle.dt_lists.specs.Lists.{AnyIn, AllIn, Has, Distinct, IsFront}
-use Rattle.dt_lists.proofs.Words.{any_get, any_put, any_append, all_get}
+use Rattle.dt_lists.specs.Lists.{AllIn, Has, Distinct}
+use Rattle.dt_lists.proofs.Words.{any_put, any_append, all_get}
 use Rattle.dt_lists.proofs.Places.{has_place}
 use Rattle.dt_access.specs.declared.Part.{Part}
 use Rattle.dt_access.specs.declared.TxnId.{TxnId}
 use Rattle.dt_sched.specs.Views.{View, log_at, ids_of, HasPart}
-use Rattle.dt_sched.specs.Sched.{parts_in, with_part}
+use Rattle.dt_sched.specs.Sched.{parts_in}
 use Rattle.dt_table.specs.Table.{Moved, opening}
 use Rattle.dt_table.proofs.TableLaws.{moves_of-opening}
 use Rattle.dt_txn.specs.declared.txn.Entry.{Entry}
 use Rattle.dt_txn.specs.declared.txn.Txn.{Txn}
-use Rattle.dt_txn.specs.Transaction.{homes_of, part_of, IsValid}
+use Rattle.dt_txn.specs.Transaction.{homes_of, part_of}
 use Rattle.dt_txn.proofs.Formed.{formed}
 use Rattle.dt_region.specs.State.{State, held}
 use Rattle.dt_region.specs.Rules.{taken_from, with_entries}

@@ -11,12 +11,12 @@ ghost use Rattle.dt_region.specs.State.{held};
 
 use crate::region::Region;
 use dt_access::TxnId;
-use dt_log::{Log, Taken};
+use dt_log::Log;
 use dt_plain::PlainSched;
 use dt_proc::{Procs, builtin_procs};
 use dt_table::Table;
 use dt_text::Key;
-use dt_txn::{Body, Entry, Txn, homes, part_at};
+use dt_txn::{Body, Txn, homes};
 use std::alloc::Global;
 use std::test::Fail;
 
@@ -36,17 +36,6 @@ fn check_region(region: &PlainRegion, number: u8) -> Result<(), Fail>
         return Err(Fail::from("a region has this number"));
     }
     Ok(())
-}
-
-/// Checks that another region has this number.
-fn check_other(region: &PlainRegion, number: u8) -> Result<(), Fail>
-    ensures region { OnOk result (number < region.now.state.regions) }
-    ensures other { OnOk result (number ≢ region.now.state.number) }
-{
-    if number == region.number() {
-        return Err(Fail::from("another region has this number"));
-    }
-    check_region(region, number)
 }
 
 /// Checks that a region made fewer than 1000 submissions.
@@ -124,20 +113,6 @@ fn check_fresh(region: &PlainRegion, source: u8, number: u32, id: TxnId) -> Resu
     Ok(())
 }
 
-/// Checks that a place isn't within a log, in which the id does not stand.
-fn check_end(log: &Log, place: u32, id: TxnId) -> Result<(), Fail>
-    ensures place { OnOk result (length log.now ≤ place) }
-    ensures fresh { OnOk result (¬ (HasPart log.now id)) }
-{
-    if place < log.len() {
-        return Err(Fail::from("the place is not within the log"));
-    }
-    if has_part(log, id) {
-        return Err(Fail::from("the id is not in the log"));
-    }
-    Ok(())
-}
-
 /// A copy of the transaction of an id, which the region holds.
 pub fn held(region: &PlainRegion, alloc: Global, id: TxnId) -> Result<Txn, Fail>
     requires { HoldsMoves region.now.state }
@@ -149,35 +124,6 @@ pub fn held(region: &PlainRegion, alloc: Global, id: TxnId) -> Result<Txn, Fail>
         Some(txn) => Ok(txn.copy(alloc)?),
         None => Err(Fail::from("the transaction is held")),
     }
-}
-
-/// A copy of the transaction of an id, which the region holds, or else the other one.
-pub fn offered(
-    region: &PlainRegion,
-    alloc: Global,
-    other: &PlainRegion,
-    id: TxnId,
-) -> Result<Txn, Fail>
-    requires here { HoldsMoves region.now.state }
-    requires there { HoldsMoves other.now.state }
-    ensures { IfOk result (IsOffered region.now.state) }
-{
-    if region.txn(id).is_some() {
-        return held(region, alloc, id);
-    }
-    if id.region == region.number() || other.regions() != region.regions() {
-        return Err(Fail::from("the transaction is of another region"));
-    }
-    held(other, alloc, id)
-}
-
-/// The one entry of a transaction in the log of a home.
-fn entry(alloc: Global, txn: Txn, home: u8) -> Result<Vec<Entry>, Fail>
-    requires { HasAscendingKeys (map used_of txn.access) }
-    ensures { IfOk result (λ entries. entries.items ≡ record { part = part_of txn home; txn = txn } ∷ []) }
-{
-    let part = part_at(alloc, &txn, home)?;
-    Ok(vec![in alloc; Entry { part, txn }]?)
 }
 
 /// A region of two, without rows.
@@ -220,47 +166,6 @@ pub fn append(
     Ok(region.append(alloc, source, number, txn)?)
 }
 
-/// Delivers a transaction at or past the end of the log of a home.
-pub fn deliver(
-    region: &mut PlainRegion,
-    alloc: Global,
-    home: u8,
-    first: u32,
-    txn: Txn,
-) -> Result<Taken, Fail>
-    requires moves { HoldsMoves region.old.state }
-    requires offered { IsOffered region.old.state txn }
-    ensures { HoldsMoves region.new.state }
-{
-    let _own = region.number();
-    check_other(region, home)?;
-    check_home(alloc, &txn, home)?;
-    check_end(region.log(home), first, txn.id)?;
-    check_room(region)?;
-    let entries = entry(alloc, txn, home)?;
-    Ok(region.deliver(alloc, home, first, entries)?)
-}
-
-/// Delivers the entry at a place of the log of a home again.
-pub fn deliver_again(
-    region: &mut PlainRegion,
-    alloc: Global,
-    home: u8,
-    place: u32,
-) -> Result<Taken, Fail>
-    requires { HoldsMoves region.old.state }
-    ensures { HoldsMoves region.new.state }
-{
-    let _own = region.number();
-    check_other(region, home)?;
-    let Some(part) = region.log(home).get(place) else {
-        return Err(Fail::from("the place is within the log"));
-    };
-    let txn = held(region, alloc, part.id)?;
-    let entries = entry(alloc, txn, home)?;
-    Ok(region.deliver(alloc, home, place, entries)?)
-}
-
 /// Inserts the next part of the log of a home.
 pub fn insert(region: &mut PlainRegion, alloc: Global, home: u8) -> Result<bool, Fail>
     requires { HoldsMoves region.old.state }
@@ -268,14 +173,6 @@ pub fn insert(region: &mut PlainRegion, alloc: Global, home: u8) -> Result<bool,
 {
     check_region(region, home)?;
     Ok(region.insert(alloc, home)?)
-}
-
-/// Resolves a class.
-pub fn resolve(region: &mut PlainRegion, alloc: Global, ids: &[TxnId]) -> Result<bool, Fail>
-    requires { HoldsMoves region.old.state }
-    ensures { HoldsMoves region.new.state }
-{
-    Ok(region.resolve(alloc, ids)?)
 }
 
 /// Executes a transaction.
@@ -293,12 +190,6 @@ pub fn next_class(region: &PlainRegion, alloc: Global) -> Result<Vec<TxnId>, Fai
         Some(ids) => Ok(ids.as_slice().to_vec(alloc)?),
         None => Ok(Vec::new(alloc)),
     }
-}
-
-/// The ids that a region asked a home to place.
-pub fn asked(region: &PlainRegion, alloc: Global, home: u8) -> Result<Vec<TxnId>, Fail> {
-    check_region(region, home)?;
-    Ok(region.asked(home).to_vec(alloc)?)
 }
 
 /// How many requests of a region are placed, and how long the log of that region is here.

@@ -15,5 +15,3 @@ pub use region::Region;
 mod checked;
 #[cfg(test)]
 mod tests;
-#[cfg(test)]
-mod trial;
