@@ -1,8 +1,8 @@
 -- An append keeps a region sound, and its scheduler has what it had.
-use Rattle.std.proofs.Common.{◌≡◌, ◌≢◌, ◌<◌, ◌≤◌, ◌+◌, ◌⊎◌, ℕ, List, [], ◌∷◌, ◌++◌, map, length, set, Some, refl, sym, ap, subst, ◌∙◌, inl, inr, arith}
+use Rattle.std.proofs.Common.{◌≡◌, ◌<◌, ◌≤◌, ◌+◌, ℕ, List, [], ◌∷◌, ◌++◌, length, set, refl, sym, ap, subst, ◌∙◌, inl, inr, arith}
 use Rattle.std.specs.Prelude.{slice_index}
 use Rattle.std.proofs.lemmas.List.{length-set, get_or-set_same, get_or-set_other}
-use Rattle.dt_lists.specs.Lists.{AllIn, Has, Distinct, Either}
+use Rattle.dt_lists.specs.Lists.{AllIn, Distinct, Either}
 use Rattle.dt_lists.proofs.Words.{any_of_image, all_map}
 use Rattle.dt_lists.proofs.Places.{all_more}
 use Rattle.dt_lists.proofs.Distinct.{distinct_push}
@@ -13,8 +13,8 @@ use Rattle.dt_sched.specs.Sched.{Sched, with_part}
 use Rattle.dt_sched.proofs.Growing.{log_with_part}
 use Rattle.dt_txn.specs.declared.txn.Txn.{Txn}
 use Rattle.dt_txn.specs.Transaction.{part_of}
-use Rattle.dt_region.specs.State.{State, held, sched_of}
-use Rattle.dt_region.specs.Rules.{taken_from, hold, after_append}
+use Rattle.dt_region.specs.State.{State, sched_of}
+use Rattle.dt_region.specs.Rules.{taken_from, after_append}
 use Rattle.dt_region.specs.Conditions.{CanAppend}
 use Rattle.dt_region.specs.Sound.{IsSoundRegion, IsHeldPart, AreWell}
 use Rattle.dt_region.proofs.Holds.{hold_keeps, hold_holds, hold_foreign, hold_formed}

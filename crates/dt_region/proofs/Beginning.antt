@@ -1,11 +1,10 @@
 -- Before anything happens a region is sound, and its scheduler has nothing.
-use Rattle.std.proofs.Common.{◌≡◌, ◌<◌, ◌≤◌, ◌^◌, ℕ, List, [], length, replicate, refl, sym, ap, subst, ◌∙◌, arith}
+use Rattle.std.proofs.Common.{◌≡◌, ◌<◌, ◌≤◌, ℕ, [], sym, subst, ◌∙◌, arith}
 use Rattle.std.proofs.lemmas.List.{length-replicate}
 use Rattle.dt_lists.specs.Lists.{AllIn, Distinct}
 use Rattle.dt_sched.specs.Views.{ids_of}
 use Rattle.dt_sched.specs.Sched.{Sched, nothing_yet}
 use Rattle.dt_table.specs.Table.{Table}
-use Rattle.dt_region.specs.State.{sched_of}
 use Rattle.dt_region.specs.Rules.{opening_state}
 use Rattle.dt_region.specs.Conditions.{IsTableFor}
 use Rattle.dt_region.specs.Sound.{IsSoundRegion, IsHeldPart, AreWell}

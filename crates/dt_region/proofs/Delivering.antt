@@ -1,19 +1,18 @@
 -- A delivery keeps a region sound, and its scheduler has what it had.
-use Rattle.std.proofs.Common.{◌≡◌, ◌≢◌, ◌<◌, ◌≤◌, ◌+◌, ◌-◌, ℕ, List, [], ◌∷◌, ◌++◌, map, length, set, drop, Some, refl, sym, ap, subst, ◌∙◌, inl, inr, arith}
+use Rattle.std.proofs.Common.{◌≡◌, ◌<◌, ◌≤◌, ◌+◌, ◌-◌, ℕ, List, [], ◌∷◌, map, length, set, drop, Some, refl, sym, ap, subst, ◌∙◌, inl, inr, arith}
 use Rattle.std.specs.Prelude.{slice_index}
 use Rattle.std.proofs.lemmas.List.{length-set, get_or-set_other, map-append, take-append-drop, length-append}
 use Rattle.dt_lists.specs.Lists.{AllIn, Has, Distinct}
 use Rattle.dt_lists.proofs.Words.{all_map, all_append, all_append_right, all_get, all_put, all_image, all_of_image, each_append_right}
 use Rattle.dt_access.specs.declared.Part.{Part}
-use Rattle.dt_access.specs.declared.TxnId.{TxnId}
 use Rattle.dt_sched.specs.Views.{View, log_at, ids_of}
 use Rattle.dt_sched.specs.Sched.{Sched}
 use Rattle.dt_sched.proofs.Growing.{put_log}
 use Rattle.dt_txn.specs.declared.txn.Txn.{Txn}
 use Rattle.dt_txn.specs.declared.txn.Entry.{Entry}
-use Rattle.dt_txn.specs.Transaction.{part_of, IsTransaction}
+use Rattle.dt_txn.specs.Transaction.{IsTransaction}
 use Rattle.dt_region.specs.State.{State, held, sched_of}
-use Rattle.dt_region.specs.Rules.{hold_all, past_end, with_entries, after_deliver}
+use Rattle.dt_region.specs.Rules.{past_end, with_entries, after_deliver}
 use Rattle.dt_region.specs.Conditions.{CanDeliver, Agrees, IsPartAt}
 use Rattle.dt_region.specs.Sound.{IsSoundRegion, IsHeldPart, AreWell}
 use Rattle.dt_region.proofs.Holds.{hold_all_keeps, hold_all_holds, hold_all_foreign, hold_all_formed}

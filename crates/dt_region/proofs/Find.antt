@@ -1,6 +1,5 @@
 -- What is found by its id: among transactions, in a map, and among those that a region counted.
-use Rattle.std.proofs.Common.{◌≡◌, ◌≢◌, ◌<◌, ◌+◌, ◌⊎◌, ℕ, zero, suc, Bool, true, false, cond, List, [], ◌∷◌, ◌++◌, map, Option, Some, None, slice_get, refl, sym, ap, ap₂, subst, ◌∙◌, inl, inr, is_some, if◌then◌else◌, arith}
-use Rattle.std.proofs.lemmas.Bool.{cases_Bool}
+use Rattle.std.proofs.Common.{◌≡◌, ◌≢◌, ◌<◌, ◌+◌, ◌⊎◌, ℕ, zero, suc, true, false, cond, List, [], ◌∷◌, ◌++◌, map, Option, Some, None, slice_get, refl, sym, ap, ap₂, subst, ◌∙◌, inl, inr, is_some, if◌then◌else◌, arith}
 use Rattle.std.proofs.lemmas.Option.{same_Some}
 use Rattle.std.specs.Map.{lookup}
 use Rattle.indexmap.specs.IndexMap.{insert_entry}
@@ -10,7 +9,7 @@ use Rattle.dt_lists.proofs.Words.{all_map}
 use Rattle.dt_access.specs.Ids.{same_id}
 use Rattle.dt_access.specs.declared.TxnId.{TxnId}
 use Rattle.dt_txn.specs.declared.txn.Txn.{Txn}
-use Rattle.dt_region.specs.State.{State, find_txn, held}
+use Rattle.dt_region.specs.State.{find_txn}
 use Rattle.dt_region.specs.Holding.{AreKeyed}
 use Rattle.dt_region.specs.Sound.{AreCounted}
 use Rattle.dt_region.proofs.Ids.{id_of_test, test_of_id, test_of_other, same_id_turned}

@@ -1,20 +1,17 @@
 -- What a region holds it goes on holding, while it submits and gets more.
-use Rattle.std.proofs.Common.{◌≡◌, ◌≢◌, ◌<◌, ◌+◌, ◌⊎◌, ℕ, Bool, true, false, cond, List, [], ◌∷◌, ◌++◌, map, length, Option, Some, None, refl, sym, ap, subst, ◌∙◌, inl, inr, is_some, if◌then◌else◌}
+use Rattle.std.proofs.Common.{◌≡◌, ◌≢◌, true, false, cond, List, [], ◌∷◌, ◌++◌, map, Some, None, refl, sym, ap, subst, ◌∙◌, inl, inr, is_some, if◌then◌else◌}
 use Rattle.std.proofs.lemmas.Bool.{false≢true}
-use Rattle.std.proofs.lemmas.Option.{same_Some}
 use Rattle.dt_lists.specs.Lists.{AllIn, Has, Distinct}
-use Rattle.dt_lists.proofs.Words.{all_get, any_of_image, all_image, all_of_image, all_append}
 use Rattle.dt_lists.proofs.Places.{all_more, has_longer}
 use Rattle.dt_access.specs.Ids.{same_id}
 use Rattle.dt_access.specs.declared.TxnId.{TxnId}
 use Rattle.dt_txn.specs.declared.txn.Txn.{Txn}
-use Rattle.dt_txn.specs.Transaction.{homes_of, IsTransaction}
+use Rattle.dt_txn.specs.Transaction.{IsTransaction}
 use Rattle.dt_region.specs.State.{State, find_txn, held}
 use Rattle.dt_region.specs.Rules.{hold, hold_all}
 use Rattle.dt_region.specs.Conditions.{Agrees}
-use Rattle.dt_region.specs.Sound.{AreCounted}
-use Rattle.dt_region.proofs.Ids.{id_of_test, test_of_id, test_of_other}
-use Rattle.dt_region.proofs.Find.{found, found_or_none, find_left, find_right, find_only}
+use Rattle.dt_region.proofs.Ids.{test_of_id, test_of_other}
+use Rattle.dt_region.proofs.Find.{found_or_none, find_left, find_right, find_only}
 
 -- a transaction that stands among some is found, or one before it that has its id
 pub find_some : (txns : List Txn) (txn : Txn) → Has txns txn → is_some (find_txn txns txn.id) ≡ true

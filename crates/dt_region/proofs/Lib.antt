@@ -12,3 +12,5 @@ pub mod Stepping
 pub mod Kept
 pub mod Order
 pub mod Matching
+pub mod Tried
+pub mod MovesHeld

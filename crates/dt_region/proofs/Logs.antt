@@ -1,13 +1,12 @@
 -- Logs and their inserted fronts: what they come to while logs grow and parts are inserted.
-use Rattle.std.proofs.Common.{◌≡◌, ◌<◌, ◌≤◌, ◌+◌, ◌*◌, ◌^◌, ℕ, zero, suc, List, [], ◌∷◌, ◌++◌, length, set, get_or, take, replicate, slice_get, Some, None, refl, sym, ap, ap₂, subst, ◌∙◌, inl, inr, arith}
-use Rattle.std.specs.Prelude.{slice_index, sum_by}
+use Rattle.std.proofs.Common.{◌≡◌, ◌<◌, ◌≤◌, ◌+◌, ℕ, zero, suc, List, [], ◌∷◌, ◌++◌, length, set, take, replicate, slice_get, Some, refl, sym, ap, ◌∙◌, inl, inr, arith}
+use Rattle.std.specs.Prelude.{slice_index}
 use Rattle.std.proofs.lemmas.List.{take-append-le}
 use Rattle.std.proofs.lemmas.List.Sums.{sum_by-append, sum_by-set}
-use Rattle.dt_lists.specs.Lists.{AllIn, Has, Distinct}
+use Rattle.dt_lists.specs.Lists.{AllIn, Distinct}
 use Rattle.dt_lists.proofs.Words.{all_get, has_map}
 use Rattle.dt_lists.proofs.Places.{has_place}
 use Rattle.dt_access.specs.declared.Part.{Part}
-use Rattle.dt_access.specs.declared.TxnId.{TxnId}
 use Rattle.dt_sched.specs.Views.{View, log_at, ids_of, HasPart}
 use Rattle.dt_sched.specs.Sched.{parts_in, with_part}
 use Rattle.dt_txn.specs.Replica.{fronts}

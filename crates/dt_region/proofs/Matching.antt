@@ -5,9 +5,6 @@ use Rattle.std.proofs.lemmas.List.{length-map, length-append, length-drop, get_o
 use Rattle.std.proofs.lemmas.Option.{slice_get_within}
 use Rattle.dt_lists.specs.Lists.{AllIn, Has}
 use Rattle.dt_lists.proofs.Words.{all_map, all_image}
-use Rattle.dt_access.specs.Clash.{Bytes}
-use Rattle.dt_access.specs.Orders.{HasAscendingKeys}
-use Rattle.dt_access.specs.declared.Mode.{Mode}
 use Rattle.dt_access.specs.declared.Part.{Part}
 use Rattle.dt_access.specs.declared.TxnId.{TxnId}
 use Rattle.dt_log.specs.Logs.{Takes}
@@ -20,7 +17,6 @@ use Rattle.dt_proc.specs.Tree.{ProcTree}
 use Rattle.dt_table.specs.Table.{Table, apply}
 use Rattle.dt_table.specs.declared.Effect.{Effect}
 use Rattle.dt_txn.specs.declared.txn.Body.{Body}
-use Rattle.dt_txn.specs.declared.txn.Body.TheVariants.{Call, Move}
 use Rattle.dt_txn.specs.declared.txn.Entry.{Entry}
 use Rattle.dt_txn.specs.declared.txn.Txn.{Txn}
 use Rattle.dt_txn.specs.declared.outcome.Outcome.{Outcome}

@@ -1,6 +1,5 @@
 -- Whether ids ascend is seen from each one and its next.
-use Rattle.std.proofs.Common.{◌↔◌, List, [], ◌∷◌}
-use Rattle.dt_lists.specs.Lists.{AllIn}
+use Rattle.std.proofs.Common.{◌↔◌, List, ◌∷◌}
 use Rattle.dt_lists.proofs.Words.{all_map}
 use Rattle.dt_access.specs.Ids.{Before, AreAscending}
 use Rattle.dt_access.specs.declared.TxnId.{TxnId}

@@ -1,10 +1,10 @@
 -- The steps that a region makes by itself keep it sound, and its scheduler goes along.
-use Rattle.std.proofs.Common.{◌≡◌, ◌≢◌, ◌<◌, ◌≤◌, ◌+◌, ◌^◌, ◌⊎◌, ℕ, List, [], ◌∷◌, ◌++◌, map, length, set, take, slice_get, Option, Some, refl, sym, ap, subst, ◌∙◌, inl, inr, arith}
+use Rattle.std.proofs.Common.{◌≡◌, ◌<◌, ◌≤◌, ◌+◌, ℕ, List, [], ◌∷◌, ◌++◌, map, length, set, take, slice_get, Some, refl, sym, ap, subst, ◌∙◌, inl, inr, arith}
 use Rattle.std.specs.Prelude.{slice_index}
-use Rattle.std.proofs.lemmas.List.{length-set, get_or-set_same, get_or-set_other, map-append}
+use Rattle.std.proofs.lemmas.List.{length-set, get_or-set_same, get_or-set_other}
 use Rattle.std.proofs.lemmas.Option.{slice_get_within, same_Some}
 use Rattle.dt_lists.specs.Lists.{AllIn, Has, Either}
-use Rattle.dt_lists.proofs.Words.{all_get, all_put, all_append, all_map}
+use Rattle.dt_lists.proofs.Words.{all_get, all_put, all_append}
 use Rattle.dt_lists.proofs.Fronts.{front_take, any_front}
 use Rattle.dt_lists.proofs.Places.{has_place}
 use Rattle.dt_lists.proofs.Decided.{either_nat}
@@ -17,10 +17,10 @@ use Rattle.dt_sched.proofs.Closed.{complete_of_closed, part_of_complete}
 use Rattle.dt_txn.specs.declared.txn.Txn.{Txn}
 use Rattle.dt_txn.specs.declared.outcome.Outcome.{Outcome}
 use Rattle.dt_proc.specs.Tree.{ProcTree}
-use Rattle.dt_txn.specs.Transaction.{homes_of, part_of, IsTransaction}
+use Rattle.dt_txn.specs.Transaction.{homes_of, IsTransaction}
 use Rattle.dt_txn.specs.Execution.{one}
 use Rattle.dt_txn.specs.Replica.{fronts, view_of, done_ids, executed}
-use Rattle.dt_region.specs.State.{State, find_txn, held, sched_of}
+use Rattle.dt_region.specs.State.{State, held, sched_of}
 use Rattle.dt_region.specs.Conditions.{HoldsValid}
 use Rattle.dt_region.specs.Sound.{IsSoundRegion, IsHeldPart, AreWell}
 use Rattle.dt_region.proofs.Find.{found}

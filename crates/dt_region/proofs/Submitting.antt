@@ -1,21 +1,18 @@
 -- A submission keeps a region sound.
-use Rattle.std.proofs.Common.{◌≡◌, ◌≢◌, ◌<◌, ◌≤◌, ◌+◌, ℕ, zero, suc, List, [], ◌∷◌, ◌++◌, length, Option, Some, None, cond, slice_get, refl, sym, ap, subst, ◌∙◌, inl, inr, arith}
+use Rattle.std.proofs.Common.{◌≡◌, ◌+◌, ℕ, List, [], ◌∷◌, ◌++◌, length, Option, Some, None, cond, slice_get, refl, sym, ap, ◌∙◌, inl, inr, arith}
 use Rattle.std.proofs.lemmas.Option.{slice_get_past}
-use Rattle.dt_lists.specs.Lists.{AllIn}
 use Rattle.dt_lists.proofs.Words.{all_map}
 use Rattle.dt_lists.proofs.Places.{all_more}
 use Rattle.dt_access.specs.declared.TxnId.{TxnId}
 use Rattle.dt_sched.specs.Views.{log_at}
-use Rattle.dt_sched.specs.Sched.{Sched}
 use Rattle.dt_txn.specs.declared.txn.Body.{Body}
 use Rattle.dt_txn.specs.declared.txn.Txn.{Txn}
 use Rattle.dt_proc.specs.Tree.{ProcTree}
 use Rattle.dt_txn.specs.Transaction.{homes_of, BodyFits}
 use Rattle.dt_region.specs.State.{State, find_txn, held}
-use Rattle.dt_region.specs.Rules.{next_id, submission_for, with_submission, after_submit}
+use Rattle.dt_region.specs.Rules.{next_id, submission_for, after_submit}
 use Rattle.dt_txn.proofs.Formed.{formed}
-use Rattle.dt_region.specs.Conditions.{IsPartAt}
-use Rattle.dt_region.specs.Sound.{AreCounted, IsSoundRegion, IsHeldPart, AreWell}
+use Rattle.dt_region.specs.Sound.{AreCounted, IsSoundRegion, IsHeldPart}
 use Rattle.dt_region.proofs.Asked.{ask_length}
 use Rattle.dt_region.proofs.Find.{found_or_none, find_left, find_right, find_only, counted_at, apart}
 use Rattle.dt_region.proofs.Ids.{test_of_other}

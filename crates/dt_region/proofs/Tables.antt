@@ -1,7 +1,7 @@
 -- A table that is one for so many regions stays one: it annotates with regions, and is moved to regions.
-use Rattle.std.proofs.Common.{◌≡◌, ◌<◌, ℕ, Bool, true, false, cond, List, [], ◌∷◌, ◌++◌, map, Option, Some, None, refl, sym, ap, subst, ◌∙◌, arith}
+use Rattle.std.proofs.Common.{◌<◌, ℕ, true, false, cond, List, [], ◌∷◌, ◌++◌, map, Option, Some, None, sym, subst, ◌∙◌}
 use Rattle.dt_lists.specs.Lists.{AllIn}
-use Rattle.dt_lists.proofs.Words.{all_append, all_map}
+use Rattle.dt_lists.proofs.Words.{all_append}
 use Rattle.dt_access.specs.Clash.{Bytes, same_key}
 use Rattle.dt_access.specs.declared.Access.{Access}
 use Rattle.dt_access.specs.declared.Mode.{Mode}
@@ -19,7 +19,7 @@ use Rattle.dt_txn.specs.declared.txn.Body.TheVariants.{Call, Move}
 use Rattle.dt_txn.specs.declared.txn.Txn.{Txn}
 use Rattle.dt_txn.specs.declared.outcome.Outcome.{Outcome}
 use Rattle.dt_txn.specs.Transaction.{annotate, annotated, uses_of, targets_of, set_of, BodyFits, IsValid}
-use Rattle.dt_txn.specs.Execution.{see, stale_of, reads_of, result_of, of_finish, unless_stale, execution, one}
+use Rattle.dt_txn.specs.Execution.{see, stale_of, reads_of, result_of, of_finish, unless_stale, one}
 use Rattle.dt_txn.specs.Serial.{after}
 use Rattle.dt_txn.proofs.HomeSets.{with_number_all}
 use Rattle.dt_txn.proofs.PartKeys.{annotated_uses}

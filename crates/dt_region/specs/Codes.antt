@@ -1,6 +1,6 @@
 -- The codes by which proofs tell regions apart.
-use Rattle.std.specs.Prelude.{ℕ, List, Option, refl}
-use Rattle.std.specs.Coded.{Coded, code_by, coded×, coded_ℕ, coded_list, coded_option}
+use Rattle.std.specs.Prelude.{ℕ, List, refl}
+use Rattle.std.specs.Coded.{Coded, code_by, coded×, coded_ℕ, coded_list}
 use Rattle.dt_table.specs.Codes as codes
 use Rattle.dt_table.specs.Table as table
 use Rattle.dt_access.specs.contracts.id.TxnId as id

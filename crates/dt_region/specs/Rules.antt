@@ -5,7 +5,7 @@ use Rattle.dt_access.specs.declared.Part.{Part}
 use Rattle.dt_log.specs.declared.Taken.{Taken}
 use Rattle.dt_log.specs.declared.Taken.TheVariants.{New, Old, Gap}
 use Rattle.dt_events.specs.declared.Event.{Event}
-use Rattle.dt_sched.specs.Views.{View, log_at}
+use Rattle.dt_sched.specs.Views.{log_at}
 use Rattle.dt_sched.specs.Sched.{with_part}
 use Rattle.dt_proc.specs.Tree.{ProcTree}
 use Rattle.dt_table.specs.Table.{Table}

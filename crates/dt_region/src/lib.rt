@@ -10,3 +10,8 @@ mod opening;
 mod region;
 
 pub use region::Region;
+
+#[cfg(test)]
+mod checked;
+#[cfg(test)]
+mod tests;

@@ -1,4 +1,4 @@
-use Rattle.std.proofs.Common.{◌≡◌, ◌<◌, ◌∷◌, List, ℕ, length, subst, sym, arith}
+use Rattle.std.proofs.Common.{◌<◌, ◌∷◌, List, ℕ, length, subst, sym, arith}
 use Rattle.std.specs.Vec.{vec_len}
 use Rattle.dt_lists.specs.Lists.{AllIn}
 use Rattle.dt_region.proofs.asking.+ask.Goals as goal

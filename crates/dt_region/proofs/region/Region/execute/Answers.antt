@@ -2,7 +2,6 @@ use Rattle.std.proofs.Common.{[], ◌∷◌, ◌++◌, ap, sym, ◌∙◌}
 use Rattle.dt_sched.specs.Sched.{after_finish}
 use Rattle.dt_table.specs.Table.{apply}
 use Rattle.dt_txn.specs.Execution.{one}
-use Rattle.dt_region.specs.State.{Kept}
 use Rattle.dt_region.proofs.Matching.{execute_held, execute_made}
 use Rattle.dt_region.proofs.region.Region.execute.Goals as goal
 

@@ -1,4 +1,4 @@
-use Rattle.std.proofs.Common.{[], ◌<◌, ◌+◌, ◌^◌, slice_get, sym, ap, ap₂, subst, ◌∙◌, rules}
+use Rattle.std.proofs.Common.{[], ◌<◌, ◌+◌, ◌^◌, slice_get, sym, ap₂, subst, ◌∙◌, rules}
 use Rattle.dt_region.proofs.Matching.{insert_can, insert_count, insert_made}
 use Rattle.dt_region.proofs.region.Region.insert.Goals as goal
 
