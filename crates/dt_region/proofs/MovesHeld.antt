@@ -1,27 +1,22 @@
 -- A region that holds what is valid whatever the procedures are goes on so, when it is given nothing else.
-use Rattle.std.proofs.Common.{◌≡◌, ◌≢◌, ◌<◌, ◌-◌, ℕ, Bool, true, false, cond, List, [], ◌∷◌, ◌++◌, map, length, Option, Some, None, Result, Ok, Err, IfOk, is_some, sym, ap, subst, ◌∙◌, arith}
+use Rattle.std.proofs.Common.{◌≡◌, ◌<◌, ℕ, Bool, true, false, cond, List, [], ◌∷◌, ◌++◌, Some, Result, Ok, Err, is_some, sym, ap, subst, ◌∙◌, arith}
 use Rattle.dt_lists.specs.Lists.{AllIn}
-use Rattle.dt_lists.proofs.Words.{all_get, all_append, all_image}
+use Rattle.dt_lists.proofs.Words.{all_get, all_append}
 use Rattle.dt_lists.proofs.Places.{all_more}
 use Rattle.dt_text.specs.declared.NoMemory.{NoMemory}
 use Rattle.dt_access.specs.Clash.{Bytes}
 use Rattle.dt_access.specs.declared.TxnId.{TxnId}
 use Rattle.dt_events.specs.declared.Event.{Event}
-use Rattle.dt_log.specs.declared.Taken.{Taken}
-use Rattle.dt_log.specs.declared.Taken.TheVariants.{New, Old, Gap}
 use Rattle.dt_proc.specs.Tree.{ProcTree}
-use Rattle.dt_sched.specs.Views.{log_at}
 use Rattle.dt_table.specs.Table.{Table}
 use Rattle.dt_txn.specs.declared.txn.Body.TheVariants.{Move}
-use Rattle.dt_txn.specs.declared.txn.Entry.{Entry}
 use Rattle.dt_txn.specs.declared.txn.Txn.{Txn}
-use Rattle.dt_txn.specs.Transaction.{homes_of, part_of, IsValid}
+use Rattle.dt_txn.specs.Transaction.{IsValid}
 use Rattle.dt_region.specs.State.{State, find_txn, held}
-use Rattle.dt_region.specs.Rules.{opening_state, next_id, submission_for, after_submit, after_append, after_deliver, after_step, keep, keep_all, past_end, Appends, Delivers, Steps}
+use Rattle.dt_region.specs.Rules.{opening_state, next_id, submission_for, after_submit, after_append, after_step, keep, Appends, Steps}
 use Rattle.dt_region.specs.Conditions.{HoldsValid}
 use Rattle.dt_region.specs.Sound.{IsSoundRegion}
 use Rattle.dt_region.specs.Moves.{HoldsMoves, IsOffered}
-use Rattle.dt_region.proofs.Delivering.{all_drop}
 use Rattle.dt_region.proofs.Find.{found}
 use Rattle.dt_region.proofs.Stepping.{held_id}
 use Rattle.dt_region.proofs.Tables.{annotate_valid}
@@ -45,10 +40,6 @@ kept_of P submitted foreign txn all it = elim (is_some (find_txn (submitted ++ f
   | false ↦ all_more P foreign txn all it
 ]
 
-kept_of_all : (P : Txn → Type 0) (submitted foreign txns : List Txn) → AllIn P foreign → AllIn P txns → AllIn P (keep_all submitted foreign txns)
-kept_of_all P submitted foreign [] all them = all
-kept_of_all P submitted foreign (txn ∷ txns) all them = kept_of_all P submitted (keep submitted foreign txn) txns (kept_of P submitted foreign txn all them.0) them.1
-
 -- so it is after an append
 pub append_moves : (s after : State) (source number : ℕ) (txn : Txn) (answer : Result Bool NoMemory) → Appends s source number txn answer after → IsOffered s txn → HoldsMoves s → HoldsMoves after
 append_moves s after source number txn (Ok true) made offered moves = subst HoldsMoves (sym made.1) grown
@@ -60,20 +51,6 @@ append_moves s after source number txn (Ok true) made offered moves = subst Hold
     }
 append_moves s after source number txn (Ok false) made offered moves = subst HoldsMoves (sym made.1) moves
 append_moves s after source number txn (Err e) made offered moves = subst HoldsMoves (sym made) moves
-
--- so it is after a delivery
-pub deliver_moves : (s after : State) (home first : ℕ) (entries : List Entry) (answer : Result Taken NoMemory) → Delivers s home first entries answer after → ((procs : List ProcTree) → AllIn (λ e. IsValid procs s.regions e.txn) entries) → HoldsMoves s → HoldsMoves after
-deliver_moves s after home first entries (Ok Gap) made valid moves = subst HoldsMoves (sym made.1) moves
-deliver_moves s after home first entries (Ok Old) made valid moves = subst HoldsMoves (sym made.2) moves
-deliver_moves s after home first entries (Ok (New n)) made valid moves = subst HoldsMoves (sym made.3) grown
-  where
-    grown : HoldsMoves (after_deliver s home first entries)
-    grown = record {
-      submitted = moves.submitted;
-      foreign = λ procs. kept_of_all (IsValid procs s.regions) s.submitted s.foreign (map (λ (e : Entry). e.txn) (past_end (log_at s.logs home) first entries)) (moves.foreign procs)
-          (all_image (IsValid procs s.regions) (λ (e : Entry). e.txn) (past_end (log_at s.logs home) first entries) (all_drop _ (length (log_at s.logs home) - first) entries (valid procs)));
-    }
-deliver_moves s after home first entries (Err e) made valid moves = subst HoldsMoves (sym made) moves
 
 -- so it is after a step of its own
 pub step_moves : (procs : List ProcTree) (s after : State) (event : Event) (answer : Result Bool NoMemory) → Steps procs s event answer after → HoldsMoves s → HoldsMoves after
@@ -95,29 +72,3 @@ held_offered s sound moves id txn e = record {
   agrees = held_agrees s sound txn (ap (held s) (held_id s id txn e) ∙ e);
   valid = λ procs. moves_valid s moves procs id txn e;
 }
-
--- what another region of the cluster holds it may be given, if it is of another region, and nothing of its id is held
-pub other_offered : (s other : State) (id : TxnId) (txn : Txn) → IsOffered other txn → held other id ≡ Some txn → held s id ≡ None → id.region ≢ s.number → other.regions ≡ s.regions → IsOffered s txn
-other_offered s other id txn offered there none foreign alike = record {
-  agrees = record {
-    homes = subst (λ n. AllIn (λ home. home < n) (homes_of txn)) alike offered.agrees.homes;
-    same = λ held_here e. absurd (none_some held_here (sym none ∙ ap (held s) (sym same) ∙ e));
-    own = λ own. absurd (foreign (ap (λ i. i.region) (sym same) ∙ own));
-  };
-  valid = λ procs. subst (λ n. IsValid procs n txn) alike (offered.valid procs);
-}
-  where
-    same : txn.id ≡ id
-    same = held_id other id txn there
-
-    none_some : (x : Txn) → ◌≡◌ {A = Option Txn} None (Some x) → ⊥
-    none_some x e = cc
-
--- so it is with what the look-up in the other region answers
-pub other_answer : {E : Type 0} (s other : State) (id : TxnId) (answer : Result Txn E) → IfOk answer (IsOffered other) → IfOk answer (λ txn. held other id ≡ Some txn) → held s id ≡ None → id.region ≢ s.number → other.regions ≡ s.regions → IfOk answer (IsOffered s)
-other_answer s other id (Ok txn) offered there none foreign alike = other_offered s other id txn offered there none foreign alike
-other_answer s other id (Err e) offered there none foreign alike = tt
-
--- the one entry of a transaction that is valid has a valid one
-pub one_valid : (regions home : ℕ) (txn : Txn) (entries : List Entry) → entries ≡ record { part = part_of txn home; txn = txn } ∷ [] → ((procs : List ProcTree) → IsValid procs regions txn) → (procs : List ProcTree) → AllIn (λ e. IsValid procs regions e.txn) entries
-one_valid regions home txn entries same valid procs = subst (AllIn (λ (e : Entry). IsValid procs regions e.txn)) (sym same) (valid procs, tt)

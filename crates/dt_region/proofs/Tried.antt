@@ -1,30 +1,27 @@
 -- When a region may be given something, from what a test can see of it.
-use Rattle.std.proofs.Common.{◌≡◌, ◌≢◌, ◌↔◌, ◌<◌, ◌≤◌, ◌+◌, ◌-◌, ◌^◌, ℕ, zero, suc, List, [], ◌∷◌, ◌++◌, map, length, set, drop, slice_get, Option, Some, None, Bor, is_some, IsTrue, Bool, true, false, refl, sym, ap, subst, ◌∙◌, inl, inr, arith}
+use Rattle.std.proofs.Common.{◌≡◌, ◌≢◌, ◌↔◌, ◌<◌, ◌≤◌, ◌+◌, ◌^◌, ℕ, zero, suc, List, [], ◌∷◌, ◌++◌, length, drop, slice_get, Option, Some, None, Bor, is_some, false, refl, sym, ap, subst, ◌∙◌, inl, inr, arith}
 use Rattle.std.specs.Option.{option_copied}
-use Rattle.std.proofs.lemmas.Option.{same_Some, slice_get_within}
-use Rattle.std.proofs.lemmas.List.{append-nil, set-get_or}
-use Rattle.dt_lists.specs.Lists.{AllIn, Has, Distinct}
+use Rattle.std.proofs.lemmas.Option.{same_Some}
+use Rattle.dt_lists.specs.Lists.{AllIn, Has}
 use Rattle.dt_lists.proofs.Words.{any_put, any_append, all_get}
 use Rattle.dt_lists.proofs.Places.{has_place}
 use Rattle.dt_access.specs.declared.Part.{Part}
 use Rattle.dt_access.specs.declared.TxnId.{TxnId}
-use Rattle.dt_sched.specs.Views.{View, log_at, ids_of, HasPart}
+use Rattle.dt_sched.specs.Views.{log_at, HasPart}
 use Rattle.dt_sched.specs.Sched.{parts_in}
 use Rattle.dt_table.specs.Table.{Moved, opening}
 use Rattle.dt_table.proofs.TableLaws.{moves_of-opening}
-use Rattle.dt_txn.specs.declared.txn.Entry.{Entry}
 use Rattle.dt_txn.specs.declared.txn.Txn.{Txn}
 use Rattle.dt_txn.specs.Transaction.{homes_of, part_of}
 use Rattle.dt_txn.proofs.Formed.{formed}
 use Rattle.dt_region.specs.State.{State, held}
-use Rattle.dt_region.specs.Rules.{taken_from, with_entries}
-use Rattle.dt_region.specs.Conditions.{IsTableFor, Agrees, CanAppend, CanDeliver}
-use Rattle.dt_region.specs.Sound.{IsSoundRegion, IsHeldPart}
-use Rattle.dt_region.proofs.Appending.{once_more}
+use Rattle.dt_region.specs.Rules.{taken_from}
+use Rattle.dt_region.specs.Conditions.{IsTableFor, Agrees, CanAppend}
+use Rattle.dt_region.specs.Sound.{IsSoundRegion}
 use Rattle.dt_region.proofs.Find.{found, held_own}
 use Rattle.dt_region.proofs.Logs.{parts_with}
 use Rattle.dt_region.specs.Moves.{IsOffered}
-use Rattle.dt_region.proofs.Stepping.{held_id, held_formed}
+use Rattle.dt_region.proofs.Stepping.{held_formed}
 
 -- what a region holds agrees with it
 pub held_agrees : (s : State) → IsSoundRegion s → (txn : Txn) → held s txn.id ≡ Some txn → Agrees s txn
@@ -47,73 +44,10 @@ can_append s sound source number txn offered home fresh room = record {
   few = λ turn. let a = parts_with s.logs (part_of txn s.number) (subst (λ n. s.number < n) (sym sound.logs) sound.number) in omega (arith, a, room);
 }
 
-drop_none : {A : Type 0} (n : ℕ) → ◌≡◌ {A = List A} (drop n []) []
-drop_none zero = refl
-drop_none (suc n) = refl
-
-drop_one : {A : Type 0} (n : ℕ) (x : A) → 0 < n → drop n (x ∷ []) ≡ []
-drop_one zero x lt = absurd (omega arith)
-drop_one (suc n) x lt = drop_none n
-
-drop_past : {A : Type 0} (xs : List A) (n : ℕ) → length xs ≤ n → drop n xs ≡ []
-drop_past [] n past = drop_none n
-drop_past (x ∷ xs) zero past = absurd (omega arith)
-drop_past (x ∷ xs) (suc n) past = drop_past xs n (omega arith)
-
 drop_at : {A : Type 0} (xs : List A) (n : ℕ) (x : A) → slice_get xs n ≡ Some x → drop n xs ≡ x ∷ drop (suc n) xs
 drop_at [] n x e = cc
 drop_at (y ∷ xs) zero x e = ap (λ z. z ∷ xs) (same_Some y x e)
 drop_at (y ∷ xs) (suc n) x e = drop_at xs n x e
-
--- one entry of a transaction that the region may be given may be delivered at or past the end of what was received of
--- its home's log, where it doesn't stand in that
-pub can_deliver : (s : State) → IsSoundRegion s → (home first : ℕ) (txn : Txn) → home < s.regions → home ≢ s.number → length (log_at s.logs home) ≤ first → IsOffered s txn → Has (homes_of txn) home → ¬ (HasPart (log_at s.logs home) txn.id) → parts_in s.logs + 1 < 2 ^ 32 →
-    CanDeliver s home first (record { part = part_of txn home; txn = txn } ∷ [])
-can_deliver s sound home first txn known other past offered has fresh room = record {
-  other = other;
-  overlap = inr (part_of txn home ∷ [], ap (λ l. l ++ part_of txn home ∷ []) (drop_past (log_at s.logs home) first past));
-  parts = ((has, refl), tt);
-  agree = (offered.agrees, tt);
-  formed = (formed [] s.regions txn (offered.valid []), tt);
-  distinct = λ reach. subst (λ l. Distinct (ids_of l)) (sym grown) (once_more (log_at s.logs home) (part_of txn home) (sound.once home) fresh);
-  few = λ reach. subst (λ l. parts_in (set s.logs home l) < 2 ^ 32) (sym grown) (let a = parts_with s.logs (part_of txn home) (subst (λ n. home < n) (sym sound.logs) known) in omega (arith, a, room));
-}
-  where
-    grown : with_entries (log_at s.logs home) first (record { part = part_of txn home; txn = txn } ∷ []) ≡ log_at s.logs home ++ part_of txn home ∷ []
-    grown = ap (λ n. log_at s.logs home ++ map (λ (e : Entry). e.part) (drop n (record { part = part_of txn home; txn = txn } ∷ []))) (let z : length (log_at s.logs home) - first ≡ 0 = omega (arith, past) in z)
-
--- one entry may be delivered again
-pub can_deliver_again : (s : State) → IsSoundRegion s → (home first : ℕ) (p : Part) (txn : Txn) → home ≢ s.number → slice_get (log_at s.logs home) first ≡ Some p → held s p.id ≡ Some txn →
-    CanDeliver s home first (record { part = part_of txn home; txn = txn } ∷ [])
-can_deliver_again s sound home first p txn other at e = record {
-  other = other;
-  overlap = inl (drop (suc first) (log_at s.logs home), ap (λ q. q ∷ drop (suc first) (log_at s.logs home)) (sym the_part) ∙ sym (drop_at (log_at s.logs home) first p at));
-  parts = ((has, refl), tt);
-  agree = (held_agrees s sound txn own, tt);
-  formed = (held_formed s sound txn.id txn own, tt);
-  distinct = λ reach. subst (λ l. Distinct (ids_of l)) (sym same) (sound.once home);
-  few = λ reach. subst (λ l. parts_in l < 2 ^ 32) (sym (ap (set s.logs home) same ∙ set-get_or s.logs home [])) sound.few;
-}
-  where
-    own : held s txn.id ≡ Some txn
-    own = ap (held s) (held_id s p.id txn e) ∙ e
-
-    k : IsHeldPart s home p
-    k = all_get (IsHeldPart s home) (log_at s.logs home) (sound.parts home) p (has_place (log_at s.logs home) first p at)
-
-    it : k.0 ≡ txn
-    it = same_Some k.0 txn (sym k.1 ∙ e)
-
-    has : Has (homes_of txn) home
-    has = subst (λ x. Has (homes_of x) home) it k.2.0
-
-    the_part : p ≡ part_of txn home
-    the_part = k.2.1 ∙ ap (λ x. part_of x home) it
-
-    same : with_entries (log_at s.logs home) first (record { part = part_of txn home; txn = txn } ∷ []) ≡ log_at s.logs home
-    same =
-        ap (λ l. log_at s.logs home ++ map (λ (e : Entry). e.part) l) (drop_one (length (log_at s.logs home) - first) (record { part = part_of txn home; txn = txn }) (let w : first < length (log_at s.logs home) = slice_get_within (log_at s.logs home) first p at in omega (arith, w)))
-        ∙ append-nil (log_at s.logs home)
 
 -- the table of a cluster without rows is one for its regions
 pub opening_fits : (regions : ℕ) → IsTableFor regions (opening regions [] [])
@@ -137,15 +71,7 @@ few_submitted s sound e =
     let past : length s.submitted ≤ 999 = none_past s.submitted 999 (sym (held_own s.number s.submitted s.foreign (record { seq = 1000; region = s.number }) 999 sound.counted sound.foreign refl refl) ∙ e) in
     omega (arith, past)
 
--- two short logs have few parts
-pub two_short : (logs : View) → length logs ≡ 2 → length (log_at logs 0) < 1000 → length (log_at logs 1) < 1000 → parts_in logs + 1 < 2 ^ 32
-two_short [] two a b = absurd (omega arith)
-two_short (x ∷ []) two a b = absurd (omega arith)
-two_short (x ∷ y ∷ []) two a b = let all : 0 + length x + length y + 1 < 2 ^ 32 = omega (arith, a, b) in all
-two_short (x ∷ y ∷ z ∷ logs) two a b = absurd (omega arith)
-
 -- going along a log: what is left has a part of the id where the whole log has
-
 pub has_part_on : (log : List Part) (n : ℕ) (p : Part) (id : TxnId) → slice_get log n ≡ Some p → p.id ≢ id → HasPart (drop n log) id ↔ HasPart log id → HasPart (drop (n + 1) log) id ↔ HasPart log id
 has_part_on log n p id at other so =
     let next : drop n log ≡ p ∷ drop (n + 1) log = drop_at log n p at ∙ ap (λ k. p ∷ drop k log) (one_more n) in
@@ -161,7 +87,3 @@ has_part_here log n p at = any_put _ log p (has_place log n p at) refl
 pub none_of_test : {A : Type 0} (o : Option (Bor A)) → is_some o ≡ false → option_copied o ≡ None
 none_of_test None e = refl
 none_of_test (Some x) e = cc
-
--- a test that answered false refutes
-pub refuted : {P : Type 0} (b : Bool) → (IsTrue b ↔ P) → b ≡ false → ¬ P
-refuted b so e p = let t : b ≡ true = so.1 p in cc

@@ -1,4 +1,4 @@
-use Rattle.std.proofs.Common.{sym, ap, subst, ◌∙◌, refl}
+use Rattle.std.proofs.Common.{sym, subst, ◌∙◌, refl}
 use Rattle.std.proofs.lemmas.Bool.{false≢true}
 use Rattle.dt_sched.specs.Views.{HasPart}
 use Rattle.dt_region.proofs.Ids.{id_of_test, test_of_id}
