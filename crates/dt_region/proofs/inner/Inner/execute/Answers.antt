@@ -3,7 +3,7 @@ use Rattle.dt_sched.specs.Sched.{after_finish}
 use Rattle.dt_table.specs.Table.{apply}
 use Rattle.dt_txn.specs.Execution.{one}
 use Rattle.dt_region.proofs.Matching.{execute_held, execute_made}
-use Rattle.dt_region.proofs.region.Region.execute.Goals as goal
+use Rattle.dt_region.proofs.inner.Inner.execute.Goals as goal
 
 pub run-requires-clause-held : goal.run-requires-clause-held
 run-requires-clause-held g c = execute_held _ _ c.self.view_is _ c.self.invariant c.args.id (c.in_ok-executable.ensures.0 c.if-not-branch.false)
