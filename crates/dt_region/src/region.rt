@@ -245,14 +245,18 @@ impl<S: Scheduler> Region<S> {
         ensures event { Keeps self.old.events (Resolve self.old.state.number ids.now) result self.new.events }
         ensures sound { IsSoundRegion self.new.state }
     {
-        let event = Event::Resolve {
-            region: self.inner.number(),
-            ids: Ids::from_vec(ids.to_vec(alloc)?),
-        };
+        let region = self.inner.number();
+        let members = Ids::from_vec(ids.to_vec(alloc)?);
         self.events.reserve(1)?;
         let is_made = self.inner.resolve(alloc, ids)?;
         if is_made {
-            keep(&mut self.events, event);
+            keep(
+                &mut self.events,
+                Event::Resolve {
+                    region,
+                    ids: members,
+                },
+            );
         }
         Ok(is_made)
     }
