@@ -26,7 +26,7 @@ use Rattle.dt_txn.specs.Execution.{one}
 use Rattle.dt_txn.specs.Replica.{view_of, executed}
 use Rattle.dt_region.specs.Fields.{state_of}
 use Rattle.dt_region.specs.Holding.{keep_other, keep_others}
-use Rattle.dt_region.specs.State.{State, Kept, held, sched_of}
+use Rattle.dt_region.specs.State.{State, Bare, held, sched_of}
 use Rattle.dt_region.specs.Rules.{opening_state, next_id, submission_for, keep, keep_all, taken_from, past_end, with_entries, after_submit, after_append, after_deliver, after_step, MayMake, Delivers}
 use Rattle.dt_region.specs.Conditions.{IsTableFor, CanAppend, CanDeliver, HoldsValid}
 use Rattle.dt_region.specs.Sound.{IsSoundRegion, AreWell}
@@ -50,7 +50,7 @@ opening_made number regions table seen submitted foreign asked taken logs insert
     (subst (λ x. AreWell x seen) (sym same) (opening_well number regions table seen below few fits e), same)
 
 -- submissions
-pub submit_made : (procs : List ProcTree) (k : Kept) (s : State) → record { state = s } ≡ k → (seen : Sched) → AreWell s seen → (body : Body) → BodyFits procs k.state.regions body →
+pub submit_made : (procs : List ProcTree) (k : Bare) (s : State) → record { state = s } ≡ k → (seen : Sched) → AreWell s seen → (body : Body) → BodyFits procs k.state.regions body →
     (submitted : List Txn) (asked : List (List TxnId)) (txn : Txn) (id : TxnId) (homes : List ℕ) → id ≡ next_id s → txn ≡ annotate procs id body s.here.table → homes ≡ homes_of txn → submitted ≡ s.submitted ++ txn ∷ [] → asked ≡ ask_of homes id s.asked →
     AreWell (state_of s.number s.regions submitted s.foreign asked s.taken s.logs s.here.inserted s.here.resolved s.here.done s.here.table) seen
     × (state_of s.number s.regions submitted s.foreign asked s.taken s.logs s.here.inserted s.here.resolved s.here.done s.here.table ≡ after_submit procs k.state body)
@@ -64,7 +64,7 @@ submit_made procs k s view seen well body fits submitted asked txn id homes i t 
     (subst (λ x. AreWell x seen) (sym same) (submit_sound procs s well.0 body fits_here, well.1), same ∙ ap (λ x. after_submit procs x.state body) view, i ∙ ap (λ x. next_id x.state) view)
 
 -- the homes that are asked have lists
-pub submit_homes : (procs : List ProcTree) (k : Kept) (s : State) → record { state = s } ≡ k → IsSoundRegion s → (body : Body) → BodyFits procs k.state.regions body →
+pub submit_homes : (procs : List ProcTree) (k : Bare) (s : State) → record { state = s } ≡ k → IsSoundRegion s → (body : Body) → BodyFits procs k.state.regions body →
     (id : TxnId) (txn : Txn) (homes : List ℕ) (n : ℕ) → txn ≡ annotate procs id body s.here.table → homes ≡ homes_of txn → n ≡ length s.asked → AllIn (λ home. home < n) homes
 submit_homes procs k s view sound body fits id txn homes n t h l =
     let fits_here : BodyFits procs s.regions body = subst (λ x. BodyFits procs x.state.regions body) (sym view) fits in
@@ -74,7 +74,7 @@ submit_homes procs k s view sound body fits id txn homes n t h l =
 
 -- appends
 
-pub append_room_at : (k : Kept) (s : State) → record { state = s } ≡ k → IsSoundRegion s → (source number : ℕ) (txn : Txn) → source < k.state.regions → CanAppend k.state source number txn → number ≡ taken_from k.state source →
+pub append_room_at : (k : Bare) (s : State) → record { state = s } ≡ k → IsSoundRegion s → (source number : ℕ) (txn : Txn) → source < k.state.regions → CanAppend k.state source number txn → number ≡ taken_from k.state source →
     (length (log_at s.logs s.number) + 1 < 2 ^ 32) × (number + 1 < 2 ^ 32)
 append_room_at k s view sound source number txn known can turn =
     let a = log_few s.logs s.number in
@@ -86,7 +86,7 @@ append_room_at k s view sound source number txn known can turn =
     let room : length (log_at s.logs s.number) + 1 < 2 ^ 32 = omega (arith, a, b, c) in
     (room, omega (arith, turn_here, d, room))
 
-pub append_made : (k : Kept) (s : State) → record { state = s } ≡ k → (seen : Sched) → AreWell s seen → (source number : ℕ) (txn : Txn) → source < k.state.regions → CanAppend k.state source number txn → number ≡ taken_from k.state source →
+pub append_made : (k : Bare) (s : State) → record { state = s } ≡ k → (seen : Sched) → AreWell s seen → (source number : ℕ) (txn : Txn) → source < k.state.regions → CanAppend k.state source number txn → number ≡ taken_from k.state source →
     (foreign : List Txn) (logs : View) → foreign ≡ keep_other s.number s.foreign txn → logs ≡ with_part s.logs (part_of txn s.number) →
     AreWell (state_of s.number s.regions s.submitted foreign s.asked (set s.taken source (number + 1)) logs s.here.inserted s.here.resolved s.here.done s.here.table) seen
     × (state_of s.number s.regions s.submitted foreign s.asked (set s.taken source (number + 1)) logs s.here.inserted s.here.resolved s.here.done s.here.table ≡ after_append k.state source txn)
@@ -113,7 +113,7 @@ last_are f entries log first n le e =
     let m : length (map f entries) - n ≡ log - first = omega (arith, l, le, e) in
     ap (λ k. drop k (map f entries)) m ∙ drop_map f (log - first) entries
 
-pub deliver_made : (k : Kept) (s : State) → record { state = s } ≡ k → (seen : Sched) → AreWell s seen → (home first : ℕ) (entries : List Entry) → home < k.state.regions → CanDeliver k.state home first entries →
+pub deliver_made : (k : Bare) (s : State) → record { state = s } ≡ k → (seen : Sched) → AreWell s seen → (home first : ℕ) (entries : List Entry) → home < k.state.regions → CanDeliver k.state home first entries →
     (n : ℕ) (parts : List Part) (txns : List Txn) (foreign : List Txn) (logs : View) → parts ≡ map (λ e. e.part) entries → txns ≡ map (λ e. e.txn) entries →
     first ≤ length (log_at s.logs home) → length (log_at s.logs home) + n ≡ first + length entries →
     foreign ≡ keep_others s.number s.foreign (drop (length txns - n) txns) → logs ≡ set s.logs home (log_at s.logs home ++ drop (length parts - n) parts) →
@@ -147,7 +147,7 @@ deliver_places s home first entries known can reach =
     omega (arith, a, b, c, d, f)
 
 -- the same from how the delivery was taken into the log
-pub deliver_new : (k : Kept) (s : State) → record { state = s } ≡ k → (seen : Sched) → AreWell s seen → (home first : ℕ) (entries : List Entry) → home < k.state.regions → CanDeliver k.state home first entries →
+pub deliver_new : (k : Bare) (s : State) → record { state = s } ≡ k → (seen : Sched) → AreWell s seen → (home first : ℕ) (entries : List Entry) → home < k.state.regions → CanDeliver k.state home first entries →
     (n : ℕ) (parts : List Part) (txns : List Txn) (foreign : List Txn) (logs : View) → parts ≡ map (λ e. e.part) entries → txns ≡ map (λ e. e.txn) entries →
     (taken : Taken) → taken ≡ New n → Takes (log_at s.logs home) first parts (Ok taken) (log_at logs home) → logs ≡ set s.logs home (log_at logs home) →
     foreign ≡ keep_others s.number s.foreign (drop (length txns - n) txns) →
@@ -164,7 +164,7 @@ deliver_new k s view seen well home first entries known can n parts txns foreign
     (made.0, (subst (λ x. first ≤ length (log_at x.state.logs home)) view new.0, subst (λ x. length (log_at x.state.logs home) < first + length entries) view past, subst (λ x. length (log_at x.state.logs home) + n ≡ first + length entries) view count, made.1))
 
 -- an old delivery, and one across a gap, change nothing
-pub deliver_old : (k : Kept) (s : State) → record { state = s } ≡ k → (seen : Sched) → AreWell s seen → (home first : ℕ) (entries : List Entry) →
+pub deliver_old : (k : Bare) (s : State) → record { state = s } ≡ k → (seen : Sched) → AreWell s seen → (home first : ℕ) (entries : List Entry) →
     (parts : List Part) (foreign : List Txn) (logs : View) → parts ≡ map (λ e. e.part) entries → foreign ≡ s.foreign →
     (taken : Taken) → ((n : ℕ) → taken ≢ New n) → Takes (log_at s.logs home) first parts (Ok taken) (log_at logs home) → logs ≡ set s.logs home (log_at logs home) →
     AreWell (state_of s.number s.regions s.submitted foreign s.asked s.taken logs s.here.inserted s.here.resolved s.here.done s.here.table) seen
@@ -185,7 +185,7 @@ deliver_old k s view seen well home first entries parts foreign logs p f taken n
         )
     by Gap none h = (subst (λ x. AreWell x seen) (sym (same h.1)) well, (subst (λ x. length (log_at x.state.logs home) < first) view h.0, same h.1 ∙ ap (λ x. x.state) view))
 
-pub deliver_places_at : (k : Kept) (s : State) → record { state = s } ≡ k → IsSoundRegion s → (home first : ℕ) (entries : List Entry) → home < k.state.regions → CanDeliver k.state home first entries →
+pub deliver_places_at : (k : Bare) (s : State) → record { state = s } ≡ k → IsSoundRegion s → (home first : ℕ) (entries : List Entry) → home < k.state.regions → CanDeliver k.state home first entries →
     (parts : List Part) (n : ℕ) → parts ≡ map (λ e. e.part) entries → n ≡ length parts → first ≤ length (log_at s.logs home) → first + n < 2 ^ 32
 deliver_places_at k s view sound home first entries known can parts n p l reach =
     let here : CanDeliver s home first entries = subst (λ x. CanDeliver x.state home first entries) (sym view) can in
@@ -195,14 +195,14 @@ deliver_places_at k s view sound home first entries known can parts n p l reach 
 
 -- insertions
 
-pub insert_can : (k : Kept) (s : State) → record { state = s } ≡ k → (seen : Sched) → AreWell s seen → (home : ℕ) → home < k.state.regions →
+pub insert_can : (k : Bare) (s : State) → record { state = s } ≡ k → (seen : Sched) → AreWell s seen → (home : ℕ) → home < k.state.regions →
     (part copy : Part) → slice_get (log_at k.state.logs home) (slice_index k.state.here.inserted home) ≡ Some part → copy ≡ part → CanInsert seen.logs copy
 insert_can k s view seen well home known part copy next same =
     let known_here : home < s.regions = subst (λ x. home < x.state.regions) (sym view) known in
     let next_here : slice_get (log_at s.logs home) (slice_index s.here.inserted home) ≡ Some part = subst (λ x. slice_get (log_at x.state.logs home) (slice_index x.state.here.inserted home) ≡ Some part) (sym view) next in
     subst (λ v. CanInsert v copy) (sym (ap (λ (x : Sched). x.logs) well.1)) (subst (CanInsert (view_of s.logs s.here)) (sym same) (can_insert s well.0 home part known_here next_here))
 
-pub insert_count : (k : Kept) (s : State) → record { state = s } ≡ k → IsSoundRegion s → (home : ℕ) (part : Part) → slice_get (log_at k.state.logs home) (slice_index k.state.here.inserted home) ≡ Some part → slice_index k.state.here.inserted home + 1 < 2 ^ 32
+pub insert_count : (k : Bare) (s : State) → record { state = s } ≡ k → IsSoundRegion s → (home : ℕ) (part : Part) → slice_get (log_at k.state.logs home) (slice_index k.state.here.inserted home) ≡ Some part → slice_index k.state.here.inserted home + 1 < 2 ^ 32
 insert_count k s view sound home part next =
     let here : slice_index s.here.inserted home + 1 < 2 ^ 32 =
     let next_here : slice_get (log_at s.logs home) (slice_index s.here.inserted home) ≡ Some part = subst (λ x. slice_get (log_at x.state.logs home) (slice_index x.state.here.inserted home) ≡ Some part) (sym view) next in
@@ -212,7 +212,7 @@ insert_count k s view sound home part next =
     omega (arith, a, b, c) in
     subst (λ x. slice_index x.state.here.inserted home + 1 < 2 ^ 32) view here
 
-pub insert_made : (procs : List ProcTree) (k : Kept) (s : State) → record { state = s } ≡ k → (seen : Sched) → AreWell s seen → (home : ℕ) → home < k.state.regions →
+pub insert_made : (procs : List ProcTree) (k : Bare) (s : State) → record { state = s } ≡ k → (seen : Sched) → AreWell s seen → (home : ℕ) → home < k.state.regions →
     (part copy : Part) → slice_get (log_at k.state.logs home) (slice_index k.state.here.inserted home) ≡ Some part → copy ≡ part →
     (place : ℕ) (now : Sched) → place ≡ slice_index k.state.here.inserted home → now ≡ after_insert seen copy →
     AreWell (state_of s.number s.regions s.submitted s.foreign s.asked s.taken s.logs (set s.here.inserted home (place + 1)) now.resolved s.here.done s.here.table) now
@@ -230,7 +230,7 @@ insert_made procs k s view seen well home known part copy next same place now at
 
 -- resolutions
 
-pub resolve_made : (procs : List ProcTree) (k : Kept) (s : State) → record { state = s } ≡ k → (seen : Sched) → AreWell s seen → (ids : List TxnId) → CanResolve seen ids → (now : Sched) → now ≡ after_resolve seen ids →
+pub resolve_made : (procs : List ProcTree) (k : Bare) (s : State) → record { state = s } ≡ k → (seen : Sched) → AreWell s seen → (ids : List TxnId) → CanResolve seen ids → (now : Sched) → now ≡ after_resolve seen ids →
     AreWell (state_of s.number s.regions s.submitted s.foreign s.asked s.taken s.logs s.here.inserted now.resolved s.here.done s.here.table) now
     × MayMake k.state (Resolve k.state.number ids)
     × (state_of s.number s.regions s.submitted s.foreign s.asked s.taken s.logs s.here.inserted now.resolved s.here.done s.here.table ≡ after_step procs k.state (Resolve k.state.number ids))
@@ -243,12 +243,12 @@ resolve_made procs k s view seen well ids can now made =
 
 -- executions
 
-pub execute_held : (k : Kept) (s : State) → record { state = s } ≡ k → (seen : Sched) → AreWell s seen → (id : TxnId) → CanExecute seen id → (txn : Txn) × (held k.state id ≡ Some txn)
+pub execute_held : (k : Bare) (s : State) → record { state = s } ≡ k → (seen : Sched) → AreWell s seen → (id : TxnId) → CanExecute seen id → (txn : Txn) × (held k.state id ≡ Some txn)
 execute_held k s view seen well id can =
     let r : (txn : Txn) × (held s id ≡ Some txn) = executable_held s well.0 id (subst (λ x. CanExecute x id) well.1 can) in
     (r.0, subst (λ x. held x.state id ≡ Some r.0) view r.1)
 
-pub execute_made : (procs : List ProcTree) (k : Kept) (s : State) → record { state = s } ≡ k → (seen : Sched) → AreWell s seen → HoldsValid procs k.state → (id : TxnId) → CanExecute seen id → (txn : Txn) → held k.state id ≡ Some txn →
+pub execute_made : (procs : List ProcTree) (k : Bare) (s : State) → record { state = s } ≡ k → (seen : Sched) → AreWell s seen → HoldsValid procs k.state → (id : TxnId) → CanExecute seen id → (txn : Txn) → held k.state id ≡ Some txn →
     (now : Sched) (done : List (TxnId × Outcome)) (table : Table) (outcome : Outcome) (effect : Effect) → (outcome, effect) ≡ one procs txn s.here.table → now ≡ after_finish seen id → done ≡ s.here.done ++ (id, outcome) ∷ [] → table ≡ apply effect s.here.table →
     AreWell (state_of s.number s.regions s.submitted s.foreign s.asked s.taken s.logs s.here.inserted now.resolved done table) now
     × MayMake k.state (Execute k.state.number id)

@@ -12,7 +12,9 @@ use Rattle.dt_txn.specs.contracts.outcome.Outcome as outcome
 use Rattle.dt_txn.specs.declared.txn.Txn.{Txn}
 use Rattle.dt_txn.specs.declared.outcome.Outcome.{Outcome}
 use Rattle.dt_txn.specs.Replica.{Replica}
-use Rattle.dt_region.specs.State.{State, Kept}
+use Rattle.dt_events.specs.contracts.event.Event as event
+use Rattle.dt_events.specs.declared.Event.{Event}
+use Rattle.dt_region.specs.State.{State, Bare, Kept}
 
 abbrev table_code : Coded table.Table
 table_code = code_by table.Kept codes.kept_code (λ t. record { state = t; spare = 0 }) (λ k. k.state) (λ _. refl)
@@ -45,5 +47,8 @@ state_code = code_by (ℕ × (ℕ × (List Txn × (List Txn × (List (List TxnId
     (λ _. refl)
 
 -- a region is stored as its fields
+abbrev pub bare_code : Coded Bare
+bare_code = code_by State state_code (λ k. k.state) (λ s. record { state = s }) (λ _. refl)
+
 abbrev pub kept_code : Coded Kept
-kept_code = code_by State state_code (λ k. k.state) (λ s. record { state = s }) (λ _. refl)
+kept_code = code_by (State × List Event) (coded× state_code (coded_list event.the_row.coded)) (λ k. (k.state, k.events)) (λ p. record { state = p.0; events = p.1 }) (λ _. refl)

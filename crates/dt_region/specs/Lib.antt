@@ -5,6 +5,7 @@ pub mod Codes
 pub mod Rules
 pub mod Conditions
 pub mod Sound
+pub mod Keeping
 pub mod Moves
 pub use Rattle.dt_txn.specs.Transaction
 pub use Rattle.dt_txn.specs.Asking

@@ -2,6 +2,7 @@ use Rattle.std.specs.Prelude.{ℕ, List, [], ◌∷◌, ◌++◌, Option, Some, 
 use Rattle.std.specs.Map.{lookup}
 use Rattle.dt_access.specs.Ids.{same_id}
 use Rattle.dt_access.specs.declared.TxnId.{TxnId}
+use Rattle.dt_events.specs.declared.Event.{Event}
 use Rattle.dt_sched.specs.Views.{View}
 use Rattle.dt_sched.specs.Sched.{Sched}
 use Rattle.dt_txn.specs.declared.txn.Txn.{Txn}
@@ -26,9 +27,14 @@ pub record State : Type 0 where
   -- what it made of the logs
   pub here : Replica
 
--- a region, as contracts see it
+-- a region without its events, as contracts see it
+pub record Bare : Type 0 where
+  pub state : State
+
+-- a region, as contracts see it: what it holds, and the events that it made, in order
 pub record Kept : Type 0 where
   pub state : State
+  pub events : List Event
 
 -- the transaction of an id among these, if there is one
 abbrev pub find_txn : List Txn → TxnId → Option Txn

@@ -15,7 +15,7 @@ use dt_log::Log;
 use dt_plain::PlainSched;
 use dt_proc::{Procs, builtin_procs};
 use dt_table::Table;
-use dt_text::Key;
+use dt_text::{Key, Name};
 use dt_txn::{Body, Txn, homes};
 use std::alloc::Global;
 use std::test::Fail;
@@ -144,7 +144,8 @@ pub fn submit(region: &mut PlainRegion, alloc: Global, key: Key, target: u8) -> 
     check_region(region, target)?;
     check_submissions(region)?;
     let procs = some_procs(alloc)?;
-    Ok(region.submit(alloc, Body::Move(key, target), &procs)?)
+    let session = Name::read(alloc, b"a")?;
+    Ok(region.submit(alloc, &session, Body::Move(key, target), &procs)?)
 }
 
 /// Appends a transaction as a request of a region.

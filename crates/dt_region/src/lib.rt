@@ -6,6 +6,7 @@ mod asking;
 mod entries;
 mod execution;
 mod foreign;
+mod inner;
 mod opening;
 mod region;
 

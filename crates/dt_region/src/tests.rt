@@ -5,7 +5,8 @@ use crate::checked::{
     PlainRegion, append, counts, execute, held, insert, next_class, opening, submit,
 };
 use dt_access::TxnId;
-use dt_text::Key;
+use dt_events::Event;
+use dt_text::{Key, Name};
 use std::alloc::Global;
 use std::test::Fail;
 
@@ -56,5 +57,19 @@ fn what_is_inserted_is_executed_once(rt: HostRuntime) -> Result<(), Fail> {
     assert!(rt; insert(&mut region, rt.alloc(), 0)?);
     assert!(rt; execute(&mut region, rt.alloc(), FIRST)?);
     assert!(rt; !execute(&mut region, rt.alloc(), FIRST)?);
+    Ok(())
+}
+
+#[test]
+fn what_a_region_did_is_kept(rt: HostRuntime) -> Result<(), Fail> {
+    let mut region = opening(rt.alloc(), 0)?;
+    let session = Name::read(rt.alloc(), b"a")?;
+    region.answer(rt.alloc(), &session)?;
+    assert!(rt;
+        matches!(
+            region.events().first(),
+            Some(Event::Answer { region: 0, .. })
+        )
+    );
     Ok(())
 }

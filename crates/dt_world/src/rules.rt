@@ -156,7 +156,7 @@ impl<S: Scheduler + Drop> World<S> {
     }
 
     /// Rule 7: a region answers one of its sessions.
-    pub(crate) fn answer(&mut self, region: u8, name: &Name) -> Result<(), StepError>
+    pub(crate) fn answer(&mut self, alloc: Global, region: u8, name: &Name) -> Result<(), StepError>
         requires { self.old.steps < 4294967295 }
         ensures { Makes self.old (Answer region name.now) result self.new }
     {
@@ -169,6 +169,7 @@ impl<S: Scheduler + Drop> World<S> {
         if !self.may_end(region, place) {
             return Err(StepError::Illegal(7));
         }
+        self.sites.answer(alloc, region, name)?;
         self.seats.answer(place);
         self.steps += 1;
         Ok(())

@@ -92,11 +92,18 @@ impl<S: Scheduler> Site<S> {
         ensures sound { OnOk result (IsSoundRegion self.new.state) }
     {
         self.origins.reserve(1)?;
-        let id = self.region.submit(alloc, body, procs)?;
+        let id = self.region.submit(alloc, &origin.session, body, procs)?;
         match self.origins.push(origin) {
             Ok(()) => Ok(id),
             Err(_) => unreachable!(),
         }
+    }
+
+    /// Answers a session: the region keeps the event, and nothing else changes.
+    pub fn answer(&mut self, alloc: Global, session: &Name) -> Result<(), NoMemory>
+        ensures { self.new ≡ self.old }
+    {
+        self.region.answer(alloc, session)
     }
 
     /// As the region's.

@@ -16,7 +16,7 @@ use dt_log::Taken;
 use dt_proc::Procs;
 use dt_sched::Scheduler;
 use dt_table::Table;
-use dt_text::NoMemory;
+use dt_text::{Name, NoMemory};
 use dt_txn::{Body, Entry, Txn};
 use std::alloc::Global;
 use std::marker::Model;
@@ -88,6 +88,15 @@ impl<S: Scheduler> Sites<S> {
     {
         let site = &mut self.sites[region as usize];
         site.submit(alloc, body, procs, origin)
+    }
+
+    /// One region answers a session.
+    pub fn answer(&mut self, alloc: Global, region: u8, session: &Name) -> Result<(), NoMemory>
+        requires { region < length self.old }
+        ensures { self.new ≡ self.old }
+    {
+        let site = &mut self.sites[region as usize];
+        site.answer(alloc, session)
     }
 
     /// One region takes a request of another.

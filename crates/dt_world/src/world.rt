@@ -112,7 +112,7 @@ impl<S: Scheduler + Drop> World<S> {
             Event::Insert { region, home } => self.insert(alloc, *region, *home),
             Event::Resolve { region, ids } => self.resolve(alloc, *region, ids.as_slice()),
             Event::Execute { region, id } => self.execute(alloc, *region, *id),
-            Event::Answer { region, session } => self.answer(*region, session),
+            Event::Answer { region, session } => self.answer(alloc, *region, session),
         }
     }
 }

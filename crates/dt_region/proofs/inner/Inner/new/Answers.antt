@@ -2,7 +2,7 @@ use Rattle.std.proofs.Common.{sym, subst}
 use Rattle.dt_region.specs.Fields.{state_of}
 use Rattle.dt_region.specs.Sound.{AreWell}
 use Rattle.dt_region.proofs.Matching.{opening_made}
-use Rattle.dt_region.proofs.region.Region.new.Goals as goal
+use Rattle.dt_region.proofs.inner.Inner.new.Goals as goal
 
 pub invariant_of-result-2 : goal.invariant_of-result-2
 invariant_of-result-2 g c =

@@ -2,7 +2,7 @@ use Rattle.std.proofs.Common.{◌∙◌, ap, ap₂, rules}
 use Rattle.dt_sched.specs.Sched.{with_part}
 use Rattle.dt_region.specs.Holding.{keep_other}
 use Rattle.dt_region.proofs.Matching.{append_room_at, append_made}
-use Rattle.dt_region.proofs.region.Region.append.Goals as goal
+use Rattle.dt_region.proofs.inner.Inner.append.Goals as goal
 
 pub place-requires-clause-room : goal.place-requires-clause-room
 place-requires-clause-room g c = rw c.in_ok-part.ensures (append_room_at _ _ c.self.view_is c.self.invariant.0 c.args.source c.args.number c.args.txn.now c.requires.source c.requires.can (c.if-number-taken.false ∙ c.taken.ensures)).0

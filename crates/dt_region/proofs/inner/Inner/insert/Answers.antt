@@ -1,6 +1,6 @@
 use Rattle.std.proofs.Common.{[], ◌<◌, ◌+◌, ◌^◌, slice_get, sym, ap₂, subst, ◌∙◌, rules}
 use Rattle.dt_region.proofs.Matching.{insert_can, insert_count, insert_made}
-use Rattle.dt_region.proofs.region.Region.insert.Goals as goal
+use Rattle.dt_region.proofs.inner.Inner.insert.Goals as goal
 
 pub insert-requires : goal.insert-requires
 insert-requires g c = insert_can _ _ c.self.view_is _ c.self.invariant c.args.home c.requires c.in-Some.part.now c.in_ok-part.part (ap₂ slice_get (sym c.log.ensures) (sym c.inserted-place.ensures) ∙ sym c.in-Some.ensures) c.in_ok-part.ensures

@@ -1,6 +1,6 @@
 use Rattle.std.proofs.Common.{◌+◌, [], ◌∷◌, ◌++◌, ap, ◌∙◌}
 use Rattle.dt_region.proofs.Matching.{submit_homes, submit_made}
-use Rattle.dt_region.proofs.region.Region.submit.Goals as goal
+use Rattle.dt_region.proofs.inner.Inner.submit.Goals as goal
 
 pub ask-requires : goal.ask-requires
 ask-requires g c = submit_homes c.args.procs.now _ _ c.self.view_is c.self.invariant.0 c.args.body c.requires.fits _ c.in_ok-txn.txn c.as_slice.result.now c.self.inside.asked.len c.in_ok-txn.ensures.annotated (c.as_slice.ensures.same ∙ c.in_ok-homes.ensures) c.self.inside.asked.ok.0

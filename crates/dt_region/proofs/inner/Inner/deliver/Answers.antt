@@ -1,7 +1,7 @@
 use Rattle.std.proofs.Common.{◌-◌, drop, ap₂, ◌∙◌}
 use Rattle.dt_region.specs.Holding.{keep_others}
 use Rattle.dt_region.proofs.Matching.{deliver_new, deliver_old, deliver_places_at}
-use Rattle.dt_region.proofs.region.Region.deliver.Goals as goal
+use Rattle.dt_region.proofs.inner.Inner.deliver.Goals as goal
 
 pub take-requires-clause-place : goal.take-requires-clause-place
 take-requires-clause-place g c reach =
