@@ -29,7 +29,7 @@ pub record AsksOn (told : Option Files) (words : List Bytes) (replay : Replay) (
   pub asked : IsReplay words replay
   pub cluster_word : HasCluster told replay.cluster cluster
 
--- and its first file is this workload
+-- and its workload's file is this workload
 pub record HasWorkload (told : Option Files) (words : List Bytes) (replay : Replay) (cluster : Cluster) (workload : Workload) : Type 0 where
   pub asks : AsksOn told words replay cluster
   pub workload_file : Told told replay.workload (AreWorkload cluster workload)
@@ -58,7 +58,7 @@ AreBadWorkload cluster line cause bytes =
     ((line ≡ 0) × (cause ≡ workload_cause.TooLong) × (file_limit < length bytes))
     ⊎ ((length bytes ≤ file_limit) × IsWorkloadFault cluster bytes line cause)
 
--- the words are a replay on a cluster, and its first file has this fault
+-- the words are a replay on a cluster, and its workload's file has this fault
 abbrev pub HasBadWorkload : Option Files → List Bytes → ℕ → WorkloadCause → Type 0
 HasBadWorkload told words line cause =
     (replay : Replay) × (cluster : Cluster) × AsksOn told words replay cluster
@@ -82,7 +82,7 @@ AreBadEvents cluster workload line Form bytes = (length bytes ≤ file_limit) ×
 AreBadEvents cluster workload line (Rule n) bytes =
     (events : List (ℕ × Event)) × AreNumbered events bytes × IsFirstIllegal cluster workload events line n
 
--- the second file of a replay, whose first file is a workload without moves, has this fault
+-- the events' file of a replay, whose workload has no moves, has this fault
 abbrev pub HasBadEvents : Option Files → List Bytes → ℕ → EventsCause → Type 0
 HasBadEvents told words line cause =
     (replay : Replay) × (cluster : Cluster) × (workload : Workload) × HasWorkload told words replay cluster workload

@@ -19,8 +19,8 @@ use std::thread::Threads;
 /// Does what the words of the command line ask for: so far `replay`, of workloads without moves.
 ///
 /// The cluster's file is loaded and read, then the workload's, then that of the events, all of whose lines are read before any
-/// event is tried; then each event is tried in order; the report is made whole in memory, and then written to `out`. Each status but `Done` is told to `err` by its line. The call takes
-/// threads and locks where the words ask for a run; then its promises hold if it returns.
+/// event is tried; then each event is tried in order; the report is made whole in memory, and then written to `out`. Each status
+/// but `Done` is told to `err` by its line. Words that ask for threads are answered `NotBuilt` at once.
 pub fn detock<R: Threads + Wait + Sync, F: Folder, O: Sink, E: Sink>(
     _rt: &R,
     alloc: Global,

@@ -1,6 +1,6 @@
-use Rattle.std.specs.Prelude.{◌≡◌, ◌≢◌, ℕ, ◌<◌, ◌^◌, ◌⊎◌, Bool, ◌&&◌, ◌==◌, List, ◌∷◌, ◌++◌, Option, MatchOption}
+use Rattle.std.specs.Prelude.{◌≡◌, ◌≢◌, ℕ, ◌<◌, ◌^◌, ◌⊎◌, Bool, ◌&&◌, ◌==◌, List, ◌∷◌, ◌++◌, list_any, Option, MatchOption}
 use Rattle.std.specs.Fmt.{decimal}
-use Rattle.dt_lists.specs.Lists.{EachThen}
+use Rattle.dt_lists.specs.Lists.{EachThen, SomeThen}
 use Rattle.dt_access.specs.declared.id.TxnId.{TxnId}
 
 -- the order of ids: by sequence number, then by region
@@ -10,6 +10,14 @@ Before a b = (a.seq < b.seq) ⊎ ((a.seq ≡ b.seq) × (a.region < b.region))
 -- whether two ids are the same
 abbrev pub same_id : TxnId → TxnId → Bool
 same_id a b = (a.seq == b.seq) && (a.region == b.region)
+
+-- whether the id is one of these
+abbrev pub is_among : List TxnId → TxnId → Bool
+is_among ids id = list_any (same_id id) ids
+
+-- the one id stands earlier in the list than the other
+abbrev pub StandsBefore : List TxnId → TxnId → TxnId → Type 0
+StandsBefore ids a b = SomeThen (λ x y. (x ≡ a) × (y ≡ b)) ids
 
 -- each id stands before all later ones in the order of ids
 abbrev pub AreAscending : List TxnId → Type 0

@@ -42,7 +42,7 @@ fn read_regions(alloc: Global, top: &Table) -> Result<u8, ClusterError>
     Ok(regions as u8)
 }
 
-/// Which packets are lost: none, or every so manieth, but not each.
+/// Which packets are lost: none, or one in every so many, but never each of them.
 fn read_drop(alloc: Global, top: &Table) -> Result<u32, ClusterError>
     ensures ok { IfOk result (HasNumber (table_view top.now) drop_entry) }
     ensures fault { IfErr result (Tells (IsEntryFault (table_view top.now) drop_entry)) }

@@ -9,7 +9,7 @@ use Rattle.dt_lists.specs.Lists.{AllIn, Has, IsFront, Distinct}
 use Rattle.dt_lists.proofs.Words.{any_put, any_append, any_append_right, all_get, all_map, has_map, all_append_left, each_across}
 use Rattle.dt_lists.proofs.Before.{has_before, has_middle}
 use Rattle.dt_lists.proofs.Fronts.{front_refl, front_trans, any_front}
-use Rattle.dt_access.specs.Ids.{same_id}
+use Rattle.dt_access.specs.Ids.{same_id, is_among, StandsBefore}
 use Rattle.dt_access.specs.Clash.{Bytes}
 use Rattle.dt_access.specs.declared.TxnId.{TxnId}
 use Rattle.dt_sched.specs.Views.{View, IsClosed, Precedes}
@@ -36,8 +36,8 @@ use Rattle.dt_workload.specs.declared.Workload.{Workload}
 use Rattle.dt_workload.specs.Valid.{IsValidWorkload}
 use Rattle.dt_session.specs.World.{World, Place, opening_table, opening_world, node_at, logs_of, log_of, received_of, received_logs, view_at, txn_of, attempt_of, outcome_in, outcome_at, session_at}
 use Rattle.dt_session.specs.Step.{IsLast, MayEnd, MayAnswer, next_id}
-use Rattle.dt_session.specs.Run.{world_after, AreLegalFrom, AreLegal, executed_id, is_among, order_of, txns_of, serial_outcomes, serial_outcome, ids_before, table_before, region_table}
-use Rattle.dt_session.specs.Agreement.{StandsBefore, WaitsFor, IsAwaited, HasCause, ReceivedAlike, Agree}
+use Rattle.dt_session.specs.Run.{world_after, AreLegalFrom, AreLegal, executed_id, order_of, txns_of, serial_outcomes, serial_outcome, ids_before, table_before, region_table}
+use Rattle.dt_session.specs.Agreement.{WaitsFor, IsAwaited, HasCause, ReceivedAlike, Agree}
 use Rattle.dt_laws.specs.Invariant.{IsExecutedAt, Rooted, Inv}
 use Rattle.dt_laws.proofs.Ids.{id_of_test, test_of_id}
 use Rattle.dt_laws.proofs.Submissions.{IsKnown, txn_id}

@@ -1,6 +1,7 @@
 -- Each legal event keeps the invariant, so every legal world has it.
 use Rattle.std.proofs.Common.{◌≡◌, ◌<◌, ℕ, Bool, true, false, cond, List, [], ◌∷◌, ◌++◌, refl, sym, subst₂}
 use Rattle.dt_lists.proofs.Places.{from_right}
+use Rattle.dt_access.specs.Ids.{is_among}
 use Rattle.dt_access.specs.declared.TxnId.{TxnId}
 use Rattle.dt_events.specs.declared.Event.{Event}
 use Rattle.dt_events.specs.declared.Event.TheVariants.{Submit, Append, Deliver, Insert, Resolve, Execute, Answer}
@@ -12,7 +13,7 @@ use Rattle.dt_workload.specs.Valid.{IsValidWorkload}
 use Rattle.dt_txn.specs.Replica.{MayStep}
 use Rattle.dt_session.specs.World.{World, node_at, received_logs}
 use Rattle.dt_session.specs.Step.{IsLegal, moved_on, next}
-use Rattle.dt_session.specs.Run.{world_after, AreLegal, is_among, order_of}
+use Rattle.dt_session.specs.Run.{world_after, AreLegal, order_of}
 use Rattle.dt_laws.specs.Invariant.{Inv}
 use Rattle.dt_laws.proofs.Submissions.{IsKnown}
 use Rattle.dt_laws.proofs.Opening.{opening_keeps}

@@ -7,6 +7,7 @@ use Rattle.dt_lists.proofs.Words.{any_append, any_image, some_append_left, all_m
 use Rattle.dt_lists.proofs.Decided.{either_nat, either_le}
 use Rattle.dt_lists.proofs.Before.{has_before}
 use Rattle.dt_lists.proofs.Places.{from_right, map_of_set, flat_map_of_set}
+use Rattle.dt_access.specs.Ids.{is_among, StandsBefore}
 use Rattle.dt_access.specs.Clash.{Bytes}
 use Rattle.dt_access.specs.declared.TxnId.{TxnId}
 use Rattle.dt_access.specs.declared.Access.{Access}
@@ -20,7 +21,6 @@ use Rattle.dt_txn.specs.declared.Txn.{Txn}
 use Rattle.dt_txn.specs.Transaction.{uses_of, annotated, part_of, IsValid}
 use Rattle.dt_txn.specs.Serial.{table_after}
 use Rattle.dt_txn.specs.Replica.{Replica, MayStep, stepped}
-use Rattle.dt_serial.specs.Order.{StandsBefore}
 use Rattle.dt_serial.proofs.Runs.{moves_grow, table_after_append}
 use Rattle.dt_cluster.specs.declared.Cluster.{Cluster}
 use Rattle.dt_cluster.specs.Valid.{IsValidCluster}
@@ -29,7 +29,7 @@ use Rattle.dt_workload.specs.declared.Session.{Session}
 use Rattle.dt_workload.specs.Valid.{IsValidWorkload}
 use Rattle.dt_session.specs.World.{World, Place, Submission, no_node, node_at, with_node, opening_table, asked_of, logs_of, received_of, received_logs, submissions, txn_of, session_at}
 use Rattle.dt_session.specs.Step.{IsLegal, MaySubmit, next_id, submission_for, world_submitted, submitted, placed, received, moved_on, answered, next, body_of}
-use Rattle.dt_session.specs.Run.{world_after, AreLegal, is_among, order_of, txns_of}
+use Rattle.dt_session.specs.Run.{world_after, AreLegal, order_of, txns_of}
 use Rattle.dt_laws.specs.Invariant.{history_of, HasRoot, IsRooted, Rooted, Inv}
 use Rattle.dt_laws.proofs.Submissions.{IsKnown, txns_stay, txns_same}
 use Rattle.dt_laws.proofs.Known.{order_known}

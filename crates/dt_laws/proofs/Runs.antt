@@ -8,7 +8,7 @@ use Rattle.dt_lists.specs.Lists.{Has, IsFront}
 use Rattle.dt_lists.proofs.Places.{has_of_filtered}
 use Rattle.dt_lists.proofs.Filters.{has_filter}
 use Rattle.dt_lists.proofs.Fronts.{front_refl, front_append}
-use Rattle.dt_access.specs.Ids.{same_id}
+use Rattle.dt_access.specs.Ids.{same_id, is_among}
 use Rattle.dt_access.specs.declared.TxnId.{TxnId}
 use Rattle.dt_events.specs.declared.Event.{Event}
 use Rattle.dt_serial.proofs.Past.{has_of_among, among_of_has, not_among}
@@ -16,7 +16,7 @@ use Rattle.dt_cluster.specs.declared.Cluster.{Cluster}
 use Rattle.dt_workload.specs.declared.Workload.{Workload}
 use Rattle.dt_session.specs.World.{World, opening_world}
 use Rattle.dt_session.specs.Step.{IsLegal, next}
-use Rattle.dt_session.specs.Run.{world_from, world_after, AreLegalFrom, AreLegal, executed_id, is_among, without, firsts, order_of}
+use Rattle.dt_session.specs.Run.{world_from, world_after, AreLegalFrom, AreLegal, executed_id, without, firsts, order_of}
 use Rattle.dt_laws.proofs.Ids.{id_of_test, test_of_id}
 
 -- the order after the id of an event, if it executes one: an id that is executed for the first time comes last

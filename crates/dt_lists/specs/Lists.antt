@@ -1,4 +1,4 @@
--- Words on lists, each by recursion on the list. std's `Any`, `All` and `Contains` say the same by index.
+-- Predicates on lists, each by recursion on the list. std's `Any`, `All` and `Contains` say the same by index.
 use Rattle.std.specs.Prelude.{◌≡◌, ◌⊎◌, List, [], ◌∷◌, ◌++◌}
 
 -- some item of the list has P

@@ -9,6 +9,7 @@ use Rattle.dt_lists.specs.Lists.{AllIn, Has, EachThen, Either}
 use Rattle.dt_lists.proofs.Words.{any_get, all_get, all_put, each_map, each_across, has_map}
 use Rattle.dt_lists.proofs.Before.{Spot, spot_has, each_of_steps, each_at, PassesAtFront, if_passes, get_filtered}
 use Rattle.dt_sched.proofs.Ids.{either_id}
+use Rattle.dt_access.specs.Ids.{is_among}
 use Rattle.dt_access.specs.Clash.{Bytes, is_write, uses_clash}
 use Rattle.dt_access.specs.declared.TxnId.{TxnId}
 use Rattle.dt_access.specs.declared.Access.{Access}
@@ -18,7 +19,7 @@ use Rattle.dt_table.specs.Table.{Table, Moved, moves_of, counter_of, next_mover}
 use Rattle.dt_txn.specs.declared.txn.Txn.{Txn}
 use Rattle.dt_txn.specs.Serial.{table_after}
 use Rattle.dt_serial.specs.Order.{txn_ids, Ordered, IsDown, FollowsMove, IsLive, MayWrite, KeepsToKeys, IsHistory}
-use Rattle.dt_serial.specs.Replay.{is_among, replay}
+use Rattle.dt_serial.specs.Replay.{replay}
 use Rattle.dt_serial.proofs.One.{live_entries, IsMoveOf, change_of_one}
 use Rattle.dt_serial.proofs.Runs.{table_after_append, IsMoveAt, move_at, mover_in, replay_append, replay_all, replay_none, chosen_moves, replay_moves}
 use Rattle.dt_serial.proofs.Past.{among_of_has, not_among, IsPast, past_of_down, same_past, down_preceders}

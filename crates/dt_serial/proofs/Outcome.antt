@@ -12,6 +12,7 @@ use Rattle.dt_lists.proofs.Words.{any_map, any_get, any_put, any_of_image, any_a
 use Rattle.dt_lists.proofs.Before.{Spot, spot, spot_has, has_middle, if_passes, get_filtered, front_filtered, same_by_key}
 use Rattle.dt_sched.proofs.Ids.{either_id}
 use Rattle.dt_sched.proofs.Clash.{uses_of_clash}
+use Rattle.dt_access.specs.Ids.{is_among}
 use Rattle.dt_access.specs.Clash.{Bytes, is_write, uses_clash, clash}
 use Rattle.dt_access.specs.declared.TxnId.{TxnId}
 use Rattle.dt_access.specs.declared.Access.{Access}
@@ -25,7 +26,7 @@ use Rattle.dt_txn.specs.declared.outcome.Outcome.{Outcome}
 use Rattle.dt_txn.specs.Execution.{one}
 use Rattle.dt_txn.specs.Serial.{after, outcomes, table_after}
 use Rattle.dt_serial.specs.Order.{txn_ids, Ordered, IsDown, FollowsMove, IsStale, IsLive, Changes, MayWrite, IsHistory, uses_in}
-use Rattle.dt_serial.specs.Replay.{is_among, replay}
+use Rattle.dt_serial.specs.Replay.{replay}
 use Rattle.dt_serial.proofs.Rows.{either_changes}
 use Rattle.dt_serial.proofs.One.{mover_at, one_alike, live_entries, live_of_outcome, change_of_one}
 use Rattle.dt_serial.proofs.Runs.{table_after_append, outcomes_ids, outcome_at, AlongRun, along_put, replay_append, replay_alike, replay_none, replay_value, replay_swap}

@@ -11,11 +11,10 @@ use Rattle.dt_lists.proofs.Filters.{of_filter, filter_each, filter_before}
 use Rattle.dt_lists.proofs.Words.{all_get}
 use Rattle.dt_lists.proofs.Before.{some_each, before_has, has_before, has_middle}
 use Rattle.dt_sched.proofs.Ids.{same_by_parts}
-use Rattle.dt_access.specs.Ids.{same_id}
+use Rattle.dt_access.specs.Ids.{same_id, is_among, StandsBefore}
 use Rattle.dt_access.specs.declared.TxnId.{TxnId}
 use Rattle.dt_txn.specs.declared.txn.Txn.{Txn}
-use Rattle.dt_serial.specs.Order.{txn_ids, StandsBefore, Ordered, IsDown}
-use Rattle.dt_serial.specs.Replay.{is_among}
+use Rattle.dt_serial.specs.Order.{txn_ids, Ordered, IsDown}
 
 -- which ids are among some
 

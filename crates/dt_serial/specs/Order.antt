@@ -1,6 +1,7 @@
 -- When an order of ids fits a serial run of transactions, so that runs of them in other orders agree with it.
 use Rattle.std.specs.Prelude.{◌≡◌, ◌≢◌, ◌⊎◌, ℕ, zero, suc, Bool, true, List, [], map, slice_get, Option, Some, None, IsSomeAnd}
-use Rattle.dt_lists.specs.Lists.{AnyIn, AllIn, SomeThen, Has, Distinct}
+use Rattle.dt_lists.specs.Lists.{AnyIn, AllIn, Has, Distinct}
+use Rattle.dt_access.specs.Ids.{StandsBefore}
 use Rattle.dt_access.specs.Clash.{Bytes, uses_clash}
 use Rattle.dt_access.specs.declared.TxnId.{TxnId}
 use Rattle.dt_access.specs.declared.Access.{Access}
@@ -19,10 +20,6 @@ use Rattle.dt_txn.specs.Serial.{table_after}
 -- the ids of transactions, in their order
 abbrev pub txn_ids : List Txn → List TxnId
 txn_ids txns = map (λ x. x.id) txns
-
--- u stands before t in the list
-abbrev pub StandsBefore : List TxnId → TxnId → TxnId → Type 0
-StandsBefore ids u t = SomeThen (λ a b. (a ≡ u) × (b ≡ t)) ids
 
 -- one of the two precedes the other
 abbrev pub Ordered : (TxnId → TxnId → Type 0) → TxnId → TxnId → Type 0

@@ -1,16 +1,10 @@
 use Rattle.std.specs.Prelude.{Bool, List, [], ◌∷◌, if◌then◌else◌}
-use Rattle.std.specs.List.{list_any}
-use Rattle.dt_access.specs.Ids.{same_id}
 use Rattle.dt_access.specs.declared.TxnId.{TxnId}
 use Rattle.dt_proc.specs.Tree.{ProcTree}
 use Rattle.dt_table.specs.Table.{Table, apply}
 use Rattle.dt_txn.specs.declared.txn.Txn.{Txn}
 use Rattle.dt_txn.specs.Execution.{one}
 use Rattle.dt_txn.specs.Serial.{after}
-
--- whether the id is one of these
-abbrev pub is_among : List TxnId → TxnId → Bool
-is_among ids id = list_any (same_id id) ids
 
 -- the second table after the effects that the chosen ones of these transactions have when all run from the first table
 abbrev pub replay : List ProcTree → (TxnId → Bool) → List Txn → Table → Table → Table

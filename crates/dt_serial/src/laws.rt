@@ -2,6 +2,7 @@
 //! are told by a test here; the lemmas of `proofs/` have the same for any order.
 ghost use Rattle.std.specs.Prelude.{◌≡◌, ◌≢◌, ◌⊎◌, ◌↔◌, ◌≤◌, ℕ, Bool, true, List, [], ◌∷◌, ◌++◌, Some, filter, slice_get};
 ghost use Rattle.dt_lists.specs.Lists.{AllIn, AnyIn, EachThen, Has, IsFront};
+ghost use Rattle.dt_access.specs.Ids.{is_among};
 ghost use Rattle.dt_access.specs.Clash.{Bytes, clash};
 ghost use Rattle.dt_access.specs.declared.TxnId.{TxnId};
 ghost use Rattle.dt_table.specs.Table.{Moved, Table, counter_of, moves_of, next_mover};
@@ -13,7 +14,6 @@ ghost use Rattle.dt_txn.specs.declared.Txn.{Txn};
 ghost use Rattle.dt_txn.specs.declared.txn.Body.TheVariants.{Move};
 ghost use Rattle.dt_serial.specs.Evidence.{HasReason};
 ghost use Rattle.dt_serial.specs.Order.{ByTest, IsHistory, IsPart, IsStale, Ordered, txn_ids, uses_in};
-ghost use Rattle.dt_serial.specs.Replay.{is_among};
 
 /// Each transaction of a part of a history has the outcome that it has in the history, and there it has one only.
 pub fn one_outcome()

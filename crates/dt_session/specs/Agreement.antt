@@ -1,6 +1,7 @@
 use Rattle.std.specs.Prelude.{◌≡◌, ◌<◌, ℕ, List, [], ◌∷◌, ◌++◌, Option, Some, None}
-use Rattle.dt_lists.specs.Lists.{Has, SomeThen}
+use Rattle.dt_lists.specs.Lists.{Has}
 use Rattle.dt_access.specs.Clash.{Bytes}
+use Rattle.dt_access.specs.Ids.{StandsBefore}
 use Rattle.dt_access.specs.declared.TxnId.{TxnId}
 use Rattle.dt_events.specs.declared.Event.{Event}
 use Rattle.dt_events.specs.declared.Event.TheVariants.{Submit, Answer}
@@ -17,10 +18,6 @@ use Rattle.dt_workload.specs.declared.Session.{Session}
 use Rattle.dt_session.specs.World.{World, Place, node_at, txn_of, received_of, received_logs, session_at}
 use Rattle.dt_session.specs.Step.{next_id}
 use Rattle.dt_session.specs.Run.{world_after, order_of, serial_outcome, table_before, region_table}
-
--- the one id stands earlier in the list than the other
-abbrev pub StandsBefore : List TxnId → TxnId → TxnId → Type 0
-StandsBefore ids a b = SomeThen (λ x y. (x ≡ a) × (y ≡ b)) ids
 
 -- the session that this looks up waits for the id
 abbrev pub WaitsFor : Option (Session × Place) → TxnId → Type 0

@@ -3,11 +3,12 @@ use Rattle.std.specs.Ordering.{nat_cmp, is_lt}
 use Rattle.std.specs.Cmp.Lexicographic.{slice_cmp}
 use Rattle.std.specs.List.{list_any}
 use Rattle.dt_lists.specs.Lists.{IsFront, AllIn, Has}
+use Rattle.dt_events.specs.Events.{region_of}
 use Rattle.dt_events.specs.declared.Event.{Event}
 use Rattle.dt_events.specs.declared.Event.TheVariants.{Submit, Append}
 use Rattle.dt_table.specs.Table.{Table}
 use Rattle.dt_txn.specs.Transaction.{annotate, homes_of}
-use Rattle.dt_txn.specs.Replica.{done_ids, region_of}
+use Rattle.dt_txn.specs.Replica.{done_ids}
 use Rattle.dt_cluster.specs.declared.Cluster.{Cluster}
 use Rattle.dt_workload.specs.declared.Workload.{Workload}
 use Rattle.dt_workload.specs.declared.Session.{Session}

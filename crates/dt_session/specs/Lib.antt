@@ -9,6 +9,7 @@ pub use Rattle.dt_txn.specs.Serial
 pub use Rattle.dt_txn.specs.Replica
 pub use Rattle.dt_table.specs.Table
 pub use Rattle.dt_eval.specs.Meaning
+pub use Rattle.dt_events.specs.Events
 pub use Rattle.dt_sched.specs.Views
 pub use Rattle.dt_sched.specs.Decide
 pub use Rattle.dt_access.specs.Ids

@@ -1,6 +1,5 @@
-use Rattle.std.specs.Prelude.{ℕ, List, [], ◌∷◌, filter, filter_map, not, Option, Some, None, Bool, if◌then◌else◌}
-use Rattle.std.specs.List.{list_any}
-use Rattle.dt_access.specs.Ids.{same_id}
+use Rattle.std.specs.Prelude.{ℕ, List, [], ◌∷◌, filter, filter_map, not, Option, Some, None, if◌then◌else◌}
+use Rattle.dt_access.specs.Ids.{same_id, is_among}
 use Rattle.dt_access.specs.declared.TxnId.{TxnId}
 use Rattle.dt_events.specs.declared.Event.{Event}
 use Rattle.dt_events.specs.declared.Event.TheVariants.{Execute}
@@ -36,10 +35,6 @@ AreLegal cluster workload events = AreLegalFrom cluster workload (opening_world 
 abbrev pub executed_id : Event → Option TxnId
 executed_id (Execute region id) = Some id
 executed_id event = None
-
--- whether an id is among some
-abbrev pub is_among : List TxnId → TxnId → Bool
-is_among ids id = list_any (same_id id) ids
 
 -- the ids without one of them
 abbrev pub without : TxnId → List TxnId → List TxnId

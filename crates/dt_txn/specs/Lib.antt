@@ -7,6 +7,7 @@ pub use Rattle.dt_table.specs.Table
 pub use Rattle.dt_eval.specs.Meaning
 pub use Rattle.dt_eval.specs.Calls
 pub use Rattle.dt_proc.specs.Tree
+pub use Rattle.dt_events.specs.Events
 pub use Rattle.dt_sched.specs.Views
 pub use Rattle.dt_sched.specs.Decide
 pub use Rattle.dt_access.specs.Ids

@@ -1,7 +1,8 @@
 use Rattle.std.specs.Prelude.{◌≡◌, ◌<◌, ◌+◌, ℕ, List, [], ◌∷◌, ◌++◌, take, map, set, slice_index, length, Option, Some, None}
 use Rattle.dt_access.specs.declared.TxnId.{TxnId}
 use Rattle.dt_events.specs.declared.Event.{Event}
-use Rattle.dt_events.specs.declared.Event.TheVariants.{Submit, Append, Deliver, Insert, Resolve, Execute, Answer}
+use Rattle.dt_events.specs.declared.Event.TheVariants.{Insert, Resolve, Execute}
+use Rattle.dt_events.specs.Events.{region_of}
 use Rattle.dt_sched.specs.Views.{View, log_at}
 use Rattle.dt_sched.specs.Decide.{IsExecutable, IsResolvable}
 use Rattle.dt_proc.specs.Tree.{ProcTree}
@@ -10,16 +11,6 @@ use Rattle.dt_txn.specs.declared.txn.Txn.{Txn}
 use Rattle.dt_txn.specs.declared.outcome.Outcome.{Outcome}
 use Rattle.dt_txn.specs.Execution.{one}
 use Rattle.dt_txn.specs.Serial.{after}
-
--- the region whose step an event is: the first number in its text
-abbrev pub region_of : Event → ℕ
-region_of (Submit region session) = region
-region_of (Append home source number) = home
-region_of (Deliver region home first last) = region
-region_of (Insert region home) = region
-region_of (Resolve region ids) = region
-region_of (Execute region id) = region
-region_of (Answer region session) = region
 
 -- what a region has made of the logs that it received
 pub record Replica : Type 0 where

@@ -9,7 +9,7 @@ use Rattle.dt_lists.specs.Lists.{AllIn, Has, IsFront}
 use Rattle.dt_lists.proofs.Words.{all_get, all_put, any_of_image, any_image}
 use Rattle.dt_lists.proofs.Fronts.{any_front}
 use Rattle.dt_lists.proofs.Places.{has_last}
-use Rattle.dt_access.specs.Ids.{same_id}
+use Rattle.dt_access.specs.Ids.{same_id, is_among}
 use Rattle.dt_access.specs.declared.TxnId.{TxnId}
 use Rattle.dt_events.specs.declared.Event.{Event}
 use Rattle.dt_events.specs.declared.Event.TheVariants.{Execute}
@@ -23,7 +23,7 @@ use Rattle.dt_workload.specs.declared.Workload.{Workload}
 use Rattle.dt_workload.specs.Valid.{IsValidWorkload}
 use Rattle.dt_session.specs.World.{World, Submission, no_node, node_at, outcome_at, outcome_in, submission_of, submissions, txn_of}
 use Rattle.dt_session.specs.Step.{IsLegal, next}
-use Rattle.dt_session.specs.Run.{AreLegal, executed_id, is_among, order_of, serial_outcome, world_after}
+use Rattle.dt_session.specs.Run.{AreLegal, executed_id, order_of, serial_outcome, world_after}
 use Rattle.dt_laws.specs.Invariant.{Inv, IsExecutedAt}
 use Rattle.dt_laws.proofs.Agreeing.{lookup_has, legal_agree}
 use Rattle.dt_laws.proofs.Executing.{executable_known}

@@ -7,6 +7,7 @@ use Rattle.std.proofs.lemmas.Option.{slice_get-get_or}
 use Rattle.dt_lists.specs.Lists.{AllIn}
 use Rattle.dt_lists.proofs.Words.{all_append}
 use Rattle.dt_lists.proofs.Places.{from_right}
+use Rattle.dt_access.specs.Ids.{is_among}
 use Rattle.dt_access.specs.Clash.{Bytes}
 use Rattle.dt_access.specs.declared.TxnId.{TxnId}
 use Rattle.dt_events.specs.declared.Event.{Event}
@@ -22,7 +23,7 @@ use Rattle.dt_workload.specs.declared.Workload.{Workload}
 use Rattle.dt_workload.specs.Valid.{IsValidWorkload}
 use Rattle.dt_session.specs.World.{World, Node, Place, Submission, idle_place, is_session, no_node, node_at, opening_node, opening_table, opening_world, outcome_at, submission_of}
 use Rattle.dt_session.specs.Step.{next}
-use Rattle.dt_session.specs.Run.{AreLegal, executed_id, is_among, order_of, region_table, world_after}
+use Rattle.dt_session.specs.Run.{AreLegal, executed_id, order_of, region_table, world_after}
 use Rattle.dt_laws.specs.Invariant.{IsExecutedAt}
 use Rattle.dt_laws.proofs.Agreeing.{legal_agree}
 use Rattle.dt_laws.proofs.Keeping.{legal_keeps}

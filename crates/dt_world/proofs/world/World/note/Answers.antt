@@ -1,7 +1,7 @@
 use Rattle.std.proofs.Common.{[], ◌∷◌, ◌++◌, refl, ap, ◌∙◌}
 use Rattle.std.specs.Prelude.{filter_map}
 use Rattle.dt_events.specs.declared.Event.TheVariants.{Execute}
-use Rattle.dt_session.specs.Run.{is_among}
+use Rattle.dt_access.specs.Ids.{is_among}
 use Rattle.dt_world.specs.Reported.{ran_of}
 use Rattle.dt_world.proofs.Reporting.{absent_of, item_at, not_execution, note_executed, note_region, present_of, rans_again, rans_new, seen_again, seen_new, seen_other}
 use Rattle.dt_world.proofs.world.World.note.Goals as goal
