@@ -1,5 +1,6 @@
 ghost use Rattle.std.specs.Prelude.{◌≡◌, IfOk, IfErr, MatchOption};
 ghost use Rattle.dt_text.specs.Texts.{IsStr};
+ghost use Rattle.toml.specs.Data.{string};
 ghost use Rattle.toml.specs.View.{view, table_view};
 ghost use Rattle.dt_cluster.specs.Rows.{IsRow, IsBadRow, IsNoValue, IsValue};
 ghost use Rattle.dt_cluster.specs.File.{HasRows, IsRowsFault};
@@ -62,6 +63,14 @@ fn row_value(alloc: Global, name: &str, value: &toml::Value) -> Result<Value, Cl
     let Some(text) = value.as_str() else {
         return Err(row_fault(alloc, name, ClusterCause::Kind));
     };
+    text_value(alloc, name, text)
+}
+
+/// The text that a string of `rows` gives.
+fn text_value(alloc: Global, name: &str, text: &str) -> Result<Value, ClusterError>
+    ensures ok { IfOk result (IsValue (string text.now)) }
+    ensures fault { IfErr result (Tells (IsFaultAt (Row name.now) (IsNoValue (string text.now)))) }
+{
     match read_text(alloc, text.as_bytes())? {
         Some(text) => Ok(Value::Text(text)),
         None => Err(row_fault(alloc, name, ClusterCause::BadText)),
