@@ -38,6 +38,7 @@ fn a_new_region_has_nothing_to_do(rt: HostRuntime) -> Result<(), Fail> {
     assert!(rt; next_class(&region, rt.alloc())?.is_empty());
     assert!(rt; !insert(&mut region, rt.alloc(), 1)?);
     assert!(rt; !execute(&mut region, rt.alloc(), FIRST)?);
+    assert!(rt; region.events().is_empty());
     Ok(())
 }
 
@@ -48,6 +49,7 @@ fn a_request_is_placed_once(rt: HostRuntime) -> Result<(), Fail> {
     let txn = held(&region, rt.alloc(), FIRST)?;
     assert!(rt; !append(&mut region, rt.alloc(), 0, 0, &txn)?);
     assert_eq!(rt; counts(&region, 0)?, (1, 1));
+    assert_eq!(rt; region.events().len(), 2);
     Ok(())
 }
 
@@ -57,6 +59,7 @@ fn what_is_inserted_is_executed_once(rt: HostRuntime) -> Result<(), Fail> {
     assert!(rt; insert(&mut region, rt.alloc(), 0)?);
     assert!(rt; execute(&mut region, rt.alloc(), FIRST)?);
     assert!(rt; !execute(&mut region, rt.alloc(), FIRST)?);
+    assert_eq!(rt; region.events().len(), 4);
     Ok(())
 }
 
