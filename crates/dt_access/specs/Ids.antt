@@ -1,5 +1,6 @@
-use Rattle.std.specs.Prelude.{◌≡◌, ◌≢◌, ℕ, ◌<◌, ◌^◌, ◌⊎◌, Bool, ◌&&◌, ◌==◌, List, ◌∷◌, ◌++◌, list_any, Option, MatchOption}
+use Rattle.std.specs.Prelude.{◌≡◌, ◌≢◌, ℕ, ◌<◌, ◌^◌, ◌⊎◌, Bool, ◌&&◌, ◌==◌, List, ◌∷◌, ◌++◌, Option, MatchOption}
 use Rattle.std.specs.Fmt.{decimal}
+use Rattle.std.specs.List.{list_any}
 use Rattle.dt_lists.specs.Lists.{EachThen, SomeThen}
 use Rattle.dt_access.specs.declared.id.TxnId.{TxnId}
 
