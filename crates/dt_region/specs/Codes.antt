@@ -16,20 +16,22 @@ use Rattle.dt_events.specs.contracts.event.Event as event
 use Rattle.dt_events.specs.declared.Event.{Event}
 use Rattle.dt_region.specs.State.{State, Bare, Kept}
 
-abbrev table_code : Coded table.Table
+-- a table is stored as what is seen of it, with no room to spare
+abbrev pub table_code : Coded table.Table
 table_code = code_by table.Kept codes.kept_code (λ t. record { state = t; spare = 0 }) (λ k. k.state) (λ _. refl)
 
 abbrev ids_code : Coded (List (List TxnId))
 ids_code = coded_list (coded_list id.the_row.coded)
 
-abbrev replica_code : Coded Replica
+-- a replica, and all that a region holds, is stored as its fields
+abbrev pub replica_code : Coded Replica
 replica_code = code_by (List ℕ × (List (List TxnId) × (List (TxnId × Outcome) × table.Table)))
     (coded× (coded_list coded_ℕ) (coded× ids_code (coded× (coded_list (coded× id.the_row.coded outcome.the_row.coded)) table_code)))
     (λ r. (r.inserted, (r.resolved, (r.done, r.table))))
     (λ p. record { inserted = p.0; resolved = p.1.0; done = p.1.1.0; table = p.1.1.1 })
     (λ _. refl)
 
-abbrev state_code : Coded State
+abbrev pub state_code : Coded State
 state_code = code_by (ℕ × (ℕ × (List Txn × (List Txn × (List (List TxnId) × (List ℕ × (List (List Part) × Replica)))))))
     (coded× coded_ℕ (coded× coded_ℕ (coded× (coded_list txn.the_row.coded) (coded× (coded_list txn.the_row.coded)
     (coded× ids_code (coded× (coded_list coded_ℕ) (coded× (coded_list (coded_list part.the_row.coded)) replica_code)))))))

@@ -39,8 +39,10 @@ AreFew logs = parts_in logs < 2 ^ 32
 
 -- a region may be given this transaction as request `number` of a region
 pub record CanAppend (s : State) (source number : ℕ) (txn : Txn) : Type 0 where
+  -- the region is one of its homes
   pub home : Has (homes_of txn) s.number
   pub agrees : Agrees s txn
+  -- it is a transaction of the region's cluster
   pub formed : IsTransaction s.regions txn
   -- where it is the next request, its id isn't in the region's log, which has a place left for it
   pub fresh : number ≡ taken_from s source → ¬ (HasPart (log_at s.logs s.number) txn.id)
@@ -48,9 +50,11 @@ pub record CanAppend (s : State) (source number : ℕ) (txn : Txn) : Type 0 wher
 
 -- a region may be given these entries of a home's log, from place `first` on
 pub record CanDeliver (s : State) (home first : ℕ) (entries : List Entry) : Type 0 where
+  -- the log is another region's
   pub other : home ≢ s.number
   -- entries that it has already are the same
   pub overlap : AgreeOnOverlap (log_at s.logs home) first (map (λ e. e.part) entries)
+  -- each part is its transaction's at that home, and the transactions agree with the region and are of its cluster
   pub parts : AllIn (λ e. IsPartAt e.txn home e.part) entries
   pub agree : AllIn (λ e. Agrees s e.txn) entries
   pub formed : AllIn (λ e. IsTransaction s.regions e.txn) entries

@@ -8,7 +8,7 @@ use Rattle.dt_log.specs.declared.Taken.TheVariants.{New, Old, Gap}
 use Rattle.dt_sched.specs.Views.{log_at}
 use Rattle.dt_region.specs.State.{Kept}
 
--- the event is kept, behind those before, exactly where the call was taken
+-- the event is kept, behind those before, exactly where the call answers true
 abbrev pub Keeps : List Event → Event → Result Bool NoMemory → List Event → Type 0
 Keeps before event (Ok true) after = after ≡ before ++ event ∷ []
 Keeps before event (Ok false) after = after ≡ before

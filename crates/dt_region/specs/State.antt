@@ -9,7 +9,7 @@ use Rattle.dt_txn.specs.declared.txn.Txn.{Txn}
 use Rattle.dt_txn.specs.declared.outcome.Outcome.{Outcome}
 use Rattle.dt_txn.specs.Replica.{Replica, done_ids, view_of}
 
--- all that one region holds
+-- what one region holds, without the events that it made
 pub record State : Type 0 where
   -- its number, and how many regions there are
   pub number : ℕ

@@ -11,6 +11,7 @@ ghost use Rattle.dt_region.specs.State.{held};
 
 use crate::region::Region;
 use dt_access::TxnId;
+use dt_events::put_event;
 use dt_log::Log;
 use dt_plain::PlainSched;
 use dt_proc::{Procs, builtin_procs};
@@ -191,6 +192,15 @@ pub fn next_class(region: &PlainRegion, alloc: Global) -> Result<Vec<TxnId>, Fai
         Some(ids) => Ok(ids.as_slice().to_vec(alloc)?),
         None => Ok(Vec::new(alloc)),
     }
+}
+
+/// The lines of the events that a region made.
+pub fn lines_of(region: &PlainRegion, alloc: Global) -> Result<Vec<u8>, Fail> {
+    let mut lines = Vec::new(alloc);
+    for event in region.events() {
+        put_event(alloc, &mut lines, event)?;
+    }
+    Ok(lines)
 }
 
 /// How many requests of a region are placed, and how long the log of that region is here.

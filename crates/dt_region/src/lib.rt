@@ -1,4 +1,5 @@
-//! One region: what it submitted and holds, the logs as far as it received them, and what it made of them.
+//! One region: what it submitted and holds, the logs as far as it received them, what it made of them, and the events
+//! that it made.
 #![tactic(auto)]
 
 mod ascent;

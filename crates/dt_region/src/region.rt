@@ -24,9 +24,9 @@ use std::marker::Model;
 
 /// One region of a cluster. What it may execute and resolve is decided by its scheduler `S`.
 ///
-/// Contracts see its `state`, and as `events` the events that it made, in order. Its type keeps what `IsSoundRegion` says: in each log
-/// every id stands once, every part is that of the transaction which the region holds under its id, and all logs together have at most
-/// 4,294,967,295 parts.
+/// Contracts see its `state`, and as `events` the events that it made, in order. Its type keeps what `IsSoundRegion`
+/// says: in each log every id stands once, every part is that of the transaction which the region holds under its id,
+/// and all logs together have at most 4,294,967,295 parts.
 #[derive(Drop)]
 pub struct Region<S: Scheduler> {
     inner: Inner<S>,
@@ -45,7 +45,8 @@ impl<S: Scheduler> Model for Region<S> {
 }
 
 impl<S: Scheduler> Region<S> {
-    /// The region of this number before anything happens, with this table.
+    /// The region of this number before anything happens, in a cluster of so many regions, with this table, which is one
+    /// for so many regions. It fails only for want of memory.
     pub fn new(alloc: Global, number: u8, regions: u8, table: Table) -> Result<Self, NoMemory>
         requires number { number < regions }
         requires regions { regions ≤ 8 }
@@ -128,8 +129,9 @@ impl<S: Scheduler> Region<S> {
         self.events.as_slice()
     }
 
-    /// Submits a body for a session: it becomes the transaction of the region's next id, annotated by the region's table, and each of
-    /// its homes is asked for its part. Gives the id, and keeps the event. After `NoMemory` the region is as before.
+    /// Submits a body for a session: it becomes the transaction of the region's next id, annotated by the region's table,
+    /// and each of its homes is asked for its part. Gives the id, and keeps the event. Whether the session may submit is
+    /// for the caller to know. After `NoMemory` the region is as before.
     pub fn submit(
         &mut self,
         alloc: Global,
@@ -155,9 +157,10 @@ impl<S: Scheduler> Region<S> {
         Ok(id)
     }
 
-    /// Places the part of a transaction at the end of the region's own log, as request `number` of a region, and keeps the event. False
-    /// exactly where `number` isn't the number of requests that were taken from it; then nothing changes, and neither
-    /// does after `NoMemory`.
+    /// Places the part of a transaction at the end of the region's own log, as request `number` of region `source`: the
+    /// transaction is held from now on, one more request is taken from `source`, and the event is kept. False exactly where
+    /// `number` isn't the number of requests that were taken from it; then nothing changes, and neither does after
+    /// `NoMemory`.
     pub fn append(
         &mut self,
         alloc: Global,
@@ -187,9 +190,10 @@ impl<S: Scheduler> Region<S> {
         Ok(is_next)
     }
 
-    /// Takes a delivery of a home's log: its entries from place `first` on. Those past the end of what the region has of
-    /// that log are added, their transactions are kept, and so is the event. Where there is a gap before them, or none of them is new,
-    /// nothing changes, and neither does after `NoMemory`.
+    /// Takes a delivery of a home's log: its entries from place `first` on. `New` where some stand past the end of what the
+    /// region has of that log: these are added, their transactions are held, and the event is kept, from `first` to the
+    /// log's new end. `Gap` where `first` itself stands past that end, and `Old` where no entry is new; then nothing
+    /// changes, and neither does after `NoMemory`.
     pub fn deliver(
         &mut self,
         alloc: Global,
@@ -221,8 +225,8 @@ impl<S: Scheduler> Region<S> {
         Ok(taken)
     }
 
-    /// Inserts the next part of a home's log into the region's view, and keeps the event. False exactly where all that is received is
-    /// inserted; then nothing changes, and neither does after `NoMemory`.
+    /// Inserts the next part of a home's log into the region's view, and keeps the event. False exactly where all that is
+    /// received is inserted; then nothing changes, and neither does after `NoMemory`.
     pub fn insert(&mut self, alloc: Global, home: u8) -> Result<bool, NoMemory>
         requires { home < self.old.state.regions }
         ensures steps { Steps [] self.old.state (Insert self.old.state.number home) result self.new.state }
@@ -238,8 +242,8 @@ impl<S: Scheduler> Region<S> {
         Ok(is_made)
     }
 
-    /// Resolves a class of deadlocked transactions, and keeps the event. False exactly where the ids aren't a class that is resolvable
-    /// here, in ascending order; then nothing changes, and neither does after `NoMemory`.
+    /// Resolves a class of deadlocked transactions, and keeps the event. False exactly where the ids aren't a class that is
+    /// resolvable here, in ascending order; then nothing changes, and neither does after `NoMemory`.
     pub fn resolve(&mut self, alloc: Global, ids: &[TxnId]) -> Result<bool, NoMemory>
         ensures steps { Steps [] self.old.state (Resolve self.old.state.number ids.now) result self.new.state }
         ensures event { Keeps self.old.events (Resolve self.old.state.number ids.now) result self.new.events }
@@ -261,15 +265,16 @@ impl<S: Scheduler> Region<S> {
         Ok(is_made)
     }
 
-    /// Some class that is resolvable here, in ascending order, or `None` where there is none.
+    /// Some class that is resolvable here, in ascending order, or `None` where there is none. It fails only for want of
+    /// memory.
     pub fn next_class(&self, alloc: Global) -> Result<Option<Ids>, NoMemory>
         ensures { IfOk result (IsNextClass (sched_of self.now.state.logs self.now.state.here)) }
     {
         self.inner.next_class(alloc)
     }
 
-    /// Executes a transaction on the region's table, by these procedures, and keeps the event. False exactly where it isn't executable
-    /// here; then nothing changes, and neither does after `NoMemory`.
+    /// Executes a transaction on the region's table, by these procedures, and keeps the event. False exactly where it isn't
+    /// executable here; then nothing changes, and neither does after `NoMemory`.
     pub fn execute(&mut self, alloc: Global, id: TxnId, procs: &Procs) -> Result<bool, NoMemory>
         requires { HoldsValid procs.now self.old.state }
         ensures steps { Steps procs.now self.old.state (Execute self.old.state.number id) result self.new.state }
@@ -285,7 +290,8 @@ impl<S: Scheduler> Region<S> {
         Ok(is_made)
     }
 
-    /// Keeps the event that a session is answered, which changes nothing else. After `NoMemory` the region is as before.
+    /// Keeps the event that a session is answered, which changes nothing else. Whether the session may be answered is for
+    /// the caller to know. After `NoMemory` the region is as before.
     pub fn answer(&mut self, alloc: Global, session: &Name) -> Result<(), NoMemory>
         ensures state { self.new.state ≡ self.old.state }
         ensures event { OnOk result (self.new.events ≡ self.old.events ++ Answer self.old.state.number session.now ∷ []) }

@@ -2,10 +2,9 @@ ghost use Rattle.std.specs.Prelude.{IfOk};
 ghost use Rattle.dt_region.specs.Moves.{HoldsMoves};
 
 use crate::checked::{
-    PlainRegion, append, counts, execute, held, insert, next_class, opening, submit,
+    PlainRegion, append, counts, execute, held, insert, lines_of, next_class, opening, submit,
 };
 use dt_access::TxnId;
-use dt_events::Event;
 use dt_text::{Key, Name};
 use std::alloc::Global;
 use std::test::Fail;
@@ -59,20 +58,21 @@ fn what_is_inserted_is_executed_once(rt: HostRuntime) -> Result<(), Fail> {
     assert!(rt; insert(&mut region, rt.alloc(), 0)?);
     assert!(rt; execute(&mut region, rt.alloc(), FIRST)?);
     assert!(rt; !execute(&mut region, rt.alloc(), FIRST)?);
-    assert_eq!(rt; region.events().len(), 4);
     Ok(())
 }
 
 #[test]
-fn what_a_region_did_is_kept(rt: HostRuntime) -> Result<(), Fail> {
-    let mut region = opening(rt.alloc(), 0)?;
+fn what_a_region_did_is_kept_in_order(rt: HostRuntime) -> Result<(), Fail> {
+    let mut region = placed(rt.alloc(), 0)?;
+    assert!(rt; insert(&mut region, rt.alloc(), 0)?);
+    assert!(rt; !insert(&mut region, rt.alloc(), 0)?);
+    assert!(rt; execute(&mut region, rt.alloc(), FIRST)?);
     let session = Name::read(rt.alloc(), b"a")?;
     region.answer(rt.alloc(), &session)?;
-    assert!(rt;
-        matches!(
-            region.events().first(),
-            Some(Event::Answer { region: 0, .. })
-        )
+    let events = b"submit 0 a\nappend 0 0 0\ninsert 0 0\nexecute 0 1.0\nanswer 0 a\n";
+    assert_eq!(rt;
+        lines_of(&region, rt.alloc())?.as_slice(),
+        events.as_slice()
     );
     Ok(())
 }

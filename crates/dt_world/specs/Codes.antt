@@ -6,12 +6,9 @@ use Rattle.dt_access.specs.contracts.id.TxnId as id
 use Rattle.dt_access.specs.declared.TxnId.{TxnId}
 use Rattle.dt_access.specs.contracts.part.Part as part
 use Rattle.dt_access.specs.declared.Part.{Part}
-use Rattle.dt_table.specs.Codes as tables
-use Rattle.dt_table.specs.Table.{Table, Kept as KeptTable}
+use Rattle.dt_region.specs.Codes as regions
 use Rattle.dt_txn.specs.contracts.txn.Txn as txn
 use Rattle.dt_txn.specs.declared.Txn.{Txn}
-use Rattle.dt_txn.specs.contracts.outcome.Outcome as outcome
-use Rattle.dt_txn.specs.declared.Outcome.{Outcome}
 use Rattle.dt_txn.specs.Replica.{Replica}
 use Rattle.dt_cluster.specs.contracts.Cluster as cluster
 use Rattle.dt_cluster.specs.declared.Cluster.{Cluster}
@@ -20,21 +17,13 @@ use Rattle.dt_workload.specs.declared.Workload.{Workload}
 use Rattle.dt_session.specs.World.{World, Node, Place, Submission}
 use Rattle.dt_world.specs.Kept.{Kept}
 
-abbrev pub table_code : Coded Table
-table_code = code_by KeptTable tables.kept_code (λ t. record { state = t; spare = 0 }) (λ k. k.state) (λ _. refl)
-
-abbrev pub replica_code : Coded Replica
-replica_code = code_by (List ℕ × (List (List TxnId) × (List (TxnId × Outcome) × Table)))
-    (coded× (coded_list coded_ℕ) (coded× (coded_list (coded_list id.the_row.coded)) (coded× (coded_list (coded× id.the_row.coded outcome.the_row.coded)) table_code)))
-    (λ r. (r.inserted, (r.resolved, (r.done, r.table)))) (λ p. record { inserted = p.0; resolved = p.1.0; done = p.1.1.0; table = p.1.1.1 }) (λ _. refl)
-
 abbrev pub submission_code : Coded Submission
 submission_code = code_by (Txn × (Bytes × (ℕ × ℕ))) (coded× txn.the_row.coded (coded× (coded_list coded_ℕ) (coded× coded_ℕ coded_ℕ)))
     (λ s. (s.txn, (s.session, (s.call, s.attempt)))) (λ p. record { txn = p.0; session = p.1.0; call = p.1.1.0; attempt = p.1.1.1 }) (λ _. refl)
 
 abbrev pub node_code : Coded Node
 node_code = code_by (List Submission × (List (List TxnId) × (List ℕ × (List Part × (List ℕ × Replica)))))
-    (coded× (coded_list submission_code) (coded× (coded_list (coded_list id.the_row.coded)) (coded× (coded_list coded_ℕ) (coded× (coded_list part.the_row.coded) (coded× (coded_list coded_ℕ) replica_code)))))
+    (coded× (coded_list submission_code) (coded× (coded_list (coded_list id.the_row.coded)) (coded× (coded_list coded_ℕ) (coded× (coded_list part.the_row.coded) (coded× (coded_list coded_ℕ) regions.replica_code)))))
     (λ n. (n.submitted, (n.asked, (n.taken, (n.log, (n.received, n.here)))))) (λ p. record { submitted = p.0; asked = p.1.0; taken = p.1.1.0; log = p.1.1.1.0; received = p.1.1.1.1.0; here = p.1.1.1.1.1 }) (λ _. refl)
 
 abbrev pub place_code : Coded Place

@@ -29,6 +29,7 @@ impl<S: Scheduler + Drop> World<S> {
         ensures replies { IfOk result (λ report. AllIn (IsReplyOf self.now.cluster.regions self.now.state) report.replies) }
         ensures tables { IfOk result (λ report. report.tables ≡ map (λ node. shown node.here.table) self.now.state.nodes) }
     {
+        // Names the regions, so that the proof has what is kept of them.
         let _sites = &self.sites;
         Ok(Report {
             replies: self.replies(alloc, events.as_slice())?,
@@ -141,6 +142,7 @@ impl<S: Scheduler + Drop> World<S> {
                 let Some(place) = self.seats.find(*region, session) else {
                     unreachable!()
                 };
+                // Names the steps, so that the proof has what is kept of their number.
                 let _steps = self.steps;
                 course.submit(place, *region);
                 Ok(())

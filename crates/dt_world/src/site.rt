@@ -99,7 +99,7 @@ impl<S: Scheduler> Site<S> {
         }
     }
 
-    /// Answers a session: the region keeps the event, and nothing else changes.
+    /// Hands the answer of a session to the region. Nothing that contracts see of it changes.
     pub fn answer(&mut self, alloc: Global, session: &Name) -> Result<(), NoMemory>
         ensures { self.new ≡ self.old }
     {
