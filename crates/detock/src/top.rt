@@ -1,4 +1,4 @@
-ghost use Rattle.std.specs.Prelude.{◌≡◌, ◌≢◌, ℕ, ◌≤◌, ◌⊎◌, IsSome};
+ghost use Rattle.std.specs.Prelude.{◌≡◌, ◌≢◌, ℕ, ◌⊎◌, IsSome};
 ghost use Rattle.dt_outside.specs.Faults.{Rose};
 ghost use Rattle.dt_outside.specs.Held.{Adds, AddsPrefix};
 ghost use Rattle.detock.specs.Words.{AreAForm, NeedsThreads, spelled};

@@ -6,7 +6,7 @@ ghost use Rattle.dt_world.specs.Coursed.{LedTo};
 
 use crate::world::{StepError, World};
 use dt_cluster::{Cluster, ClusterError, read_cluster};
-use dt_events::{Event, read_events};
+use dt_events::{Event, put_event, read_events};
 use dt_plain::PlainSched;
 use dt_report::print;
 use dt_text::NoMemory;
@@ -40,6 +40,8 @@ struct Played {
     report: Vec<u8>,
     /// The line and the rule of each event that was refused.
     refused: Vec<(u32, u8)>,
+    /// The lines of the events that the regions keep, region by region.
+    kept: Vec<u8>,
 }
 
 /// The cluster of a file.
@@ -115,11 +117,24 @@ fn play(alloc: Global, cluster: &Cluster, workload: &Workload, file: &str) -> Re
             refused.push((line, rule))?;
         }
     }
+    let kept = kept_lines(alloc, &world)?;
     let report = world.report(alloc, made)?;
     Ok(Played {
         report: print(alloc, &report)?,
         refused,
+        kept,
     })
+}
+
+/// The lines of the events that the regions of a world keep, region by region.
+fn kept_lines(alloc: Global, world: &World<PlainSched>) -> Result<Vec<u8>, Fail> {
+    let mut lines = Vec::new(alloc);
+    for site in world.sites.as_slice() {
+        for event in site.region().events() {
+            put_event(alloc, &mut lines, event)?;
+        }
+    }
+    Ok(lines)
 }
 
 /// The text of the events without the lines that are refused.
@@ -147,5 +162,20 @@ pub fn assert_case(rt: &impl Abort, alloc: Global, case: &Case) -> Result<(), Fa
     report.extend_from_slice(b"events\n")?;
     report.extend_from_slice(made_of(alloc, case)?.as_slice())?;
     assert_eq!(rt; played.report.as_slice(), report.as_slice());
+    Ok(())
+}
+
+/// Makes the events of a file, and checks the lines of those that the regions then keep, region by region.
+pub fn assert_kept(
+    rt: &impl Abort,
+    alloc: Global,
+    workload: &str,
+    events: &str,
+    kept: &str,
+) -> Result<(), Fail> {
+    let cluster = cluster_of(alloc, "regions = 2\n")?;
+    let workload = workload_of(alloc, &cluster, workload)?;
+    let played = play(alloc, &cluster, &workload, events)?;
+    assert_eq!(rt; played.kept.as_slice(), kept.as_bytes());
     Ok(())
 }

@@ -1,4 +1,4 @@
-ghost use Rattle.std.specs.Prelude.{◌≡◌, ◌<◌, ◌≤◌, ◌+◌, ◌-◌, [], length, get_or, slice_get, option_copied, IfOk, OnOk, OnErr};
+ghost use Rattle.std.specs.Prelude.{◌≡◌, ◌<◌, ◌≤◌, ◌-◌, [], length, get_or, IfOk, OnOk, OnErr};
 ghost use Rattle.dt_events.specs.declared.Event.TheVariants.{Insert, Resolve, Execute};
 ghost use Rattle.dt_txn.specs.Transaction.{BodyFits};
 ghost use Rattle.dt_region.specs.Conditions.{IsTableFor, CanAppend, CanDeliver, HoldsValid};

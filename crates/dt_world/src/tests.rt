@@ -1,4 +1,4 @@
-use crate::playing::{Case, assert_case};
+use crate::playing::{Case, assert_case, assert_kept};
 use std::test::Fail;
 
 #[test]
@@ -186,4 +186,14 @@ fn a_transfer_before_a_move_is_not_stale(rt: HostRuntime) -> Result<(), Fail> {
         sections: "replies\norder\n1.0 p 1 1 done 7 13\n1.1 q 1 1 done\n2.0 n 1 1 stale b had 0 by 1.1\ntable 0\na = 13 home 1 moves 0\nb = 7 home 1 moves 1\ntable 1\na = 10 home 1 moves 0\nb = 10 home 0 moves 0\n",
     };
     assert_case(&rt, rt.alloc(), &case)
+}
+
+#[test]
+fn regions_keep_the_events_that_changed_them(rt: HostRuntime) -> Result<(), Fail> {
+    let workload = "session x at 0\ncall put \"b\" 1\nsession y at 0\ncall put \"d\" 2\n";
+    let events =
+        "submit 0 x\nappend 0 0 0\nappend 0 0 0\ndeliver 1 0 0 0\ndeliver 1 0 0 1\ndeliver 1 0 0 1\nsubmit 0 y\nappend 0 0 1\ndeliver 1 0 0 2\ninsert 1 0\nexecute 1 1.0\nanswer 0 x\ninsert 0 0\nexecute 0 1.0\nanswer 0 x\n";
+    let kept =
+        "submit 0 x\nappend 0 0 0\nsubmit 0 y\nappend 0 0 1\ninsert 0 0\nexecute 0 1.0\nanswer 0 x\ndeliver 1 0 0 1\ndeliver 1 0 1 2\ninsert 1 0\nexecute 1 1.0\n";
+    assert_kept(&rt, rt.alloc(), workload, events, kept)
 }
