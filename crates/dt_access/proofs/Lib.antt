@@ -1,2 +1,4 @@
+pub mod Ids
+pub mod Keys
 pub mod Clashes
 pub mod IdTexts

@@ -4,3 +4,5 @@ pub mod Numerals
 pub mod ReadingAt
 pub mod ReadingLaws
 pub mod ReadingSteps
+pub mod LineLengths
+pub mod Spaced
