@@ -1,3 +1,6 @@
+-- The dependency graph. Each home keeps a log of the parts of transactions that use its rows; what a region has inserted
+-- of all logs is its view. Two parts that clash in one log make an edge from the earlier to the later. Logs of several
+-- homes may disagree, so edges can go round; ids then break the tie. What a region may do with it: Decide.antt.
 use Rattle.std.specs.Prelude.{◌≡◌, ◌≢◌, ◌⊎◌, ◌↔◌, ℕ, List, [], get_or, map, length, true}
 use Rattle.dt_lists.specs.Lists.{AnyIn, AllIn, SomeThen, Has, IsFront, Pairwise, Distinct}
 pub use Rattle.dt_lists.specs.Chain.{Chain, here, onward}
