@@ -11,3 +11,4 @@ pub mod Filters
 pub mod Places
 pub mod Chains
 pub mod Changes
+pub mod Callers

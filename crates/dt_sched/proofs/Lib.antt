@@ -12,3 +12,4 @@ pub mod Growing
 pub mod Sound
 pub use Rattle.dt_access.proofs.Ids
 pub use Rattle.dt_lists.proofs.Chains
+pub mod Callers

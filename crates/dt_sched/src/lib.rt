@@ -20,8 +20,8 @@
 //! An example: two payments, 1.0 from row a to row b, and 1.1 from b to a. Row a has home 0, row b has home 1. Home 0 puts
 //! 1.0 before 1.1, home 1 puts 1.1 before 1.0. A region that has inserted only the first entry of each log sees no edge;
 //! but neither payment is complete, so neither is executable. With all four entries inserted there are edges both ways:
-//! the two are one class, which is resolvable. Once it is resolved, 1.0 precedes 1.1, since its id is the lesser one, and
-//! runs first. Every region finds this, in whatever order the entries came.
+//! the two are one class, which is resolvable, and 1.0 precedes 1.1, since its id is the lesser one. Once the class is
+//! resolved, 1.0 runs, and then 1.1. Every region finds this, in whatever order the entries came.
 //!
 //! Read next: `specs/Views.antt` and `specs/Decide.antt` for the definitions, `laws.rt` for what holds of every view (that
 //! regions agree is `closed_views`, that nothing is left undone is `drained`), and the crate dt_plain for a scheduler.

@@ -6,3 +6,4 @@ pub mod ReadingLaws
 pub mod ReadingSteps
 pub mod LineLengths
 pub mod Spaced
+pub mod Callers
