@@ -5,26 +5,15 @@ use Rattle.std.proofs.lemmas.Grind.{common_steps}
 use Rattle.std.proofs.lemmas.Option.{same_Some}
 use Rattle.dt_lists.specs.Lists.{Pairwise}
 use Rattle.dt_lists.proofs.Changes.{same_head, same_tail}
-use Rattle.dt_text.specs.Texts.{IsName, is_name_byte, first_outside}
 use Rattle.dt_text.specs.Reading.{words_of}
 use Rattle.dt_text.specs.Lines.{FileLine}
 use Rattle.dt_text.specs.declared.Word.{Word}
-use Rattle.dt_text.proofs.Allowed.{outside_where}
 use Rattle.dt_text.proofs.ReadingLaws.{exact}
 use Rattle.dt_access.specs.declared.TxnId.{TxnId}
 use Rattle.dt_access.specs.Ids.{IsCounted, id_text}
 use Rattle.dt_events.specs.declared.event.Event.{Event}
 use Rattle.dt_events.specs.Events.{event_words, bare_bytes, AreBareWords, IsEventLine, IsNumberedEvent}
 use Rattle.dt_events.specs.Reading.{spelled, AreShort, AreIds, ReadsEvent}
-
--- a byte that no name has stands in no name
-outside_cases : (a r : Bool) (n m : ℕ) → a ≡ not r → cond a (Some n) None ≡ Some m → r ≡ true → ⊥
-outside_cases true true n m e h all = cc
-outside_cases true false n m e h all = cc
-outside_cases false r n m e h all = cc
-
-pub no_name_outside : (word : List ℕ) (place : ℕ) → first_outside is_name_byte word ≡ Some place → ¬ IsName word
-no_name_outside word place h name = outside_cases _ _ _ place (outside_where is_name_byte word) h name.2
 
 -- ---- words that are read where they stand
 
