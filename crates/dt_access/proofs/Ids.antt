@@ -31,7 +31,9 @@ pub before_decided : (a b : TxnId) → Either (Before a b)
 before_decided a b = grind arith
 
 pub either_id : (a b : TxnId) → Either (a ≡ b)
-either_id a b = either_same ((a.seq ≡ b.seq) × (a.region ≡ b.region)) (a ≡ b) (λ s. same_by_parts a b s.0 s.1) (λ e. (ap (λ x. x.seq) e, ap (λ x. x.region) e)) (either_and (a.seq ≡ b.seq) (a.region ≡ b.region) (either_nat a.seq b.seq) (either_nat a.region b.region))
+either_id a b =
+    either_same ((a.seq ≡ b.seq) × (a.region ≡ b.region)) (a ≡ b) (λ s. same_by_parts a b s.0 s.1) (λ e. (ap (λ x. x.seq) e, ap (λ x. x.region) e))
+    (either_and (a.seq ≡ b.seq) (a.region ≡ b.region) (either_nat a.seq b.seq) (either_nat a.region b.region))
 
 -- the test of two ids
 

@@ -1,5 +1,6 @@
 -- Words of lines and the events that they spell.
-use Rattle.std.proofs.Common.{◌≡◌, ◌≢◌, ℕ, zero, suc, ◌+◌, ◌<◌, ◌≤◌, ◌^◌, Bool, true, false, not, cond, List, [], ◌∷◌, ◌++◌, length, map, get_or, drop, ◌==◌, Option, Some, None, MatchOption, Bor, refl, ap, sym, ◌∙◌, subst, arith, append_assoc, append-nil}
+use Rattle.std.proofs.Common.{◌≡◌, ◌≢◌, ℕ, zero, suc, ◌+◌, ◌<◌, ◌≤◌, ◌^◌, Bool, true, false, not, cond, List, [], ◌∷◌, ◌++◌}
+use Rattle.std.proofs.Common.{length, map, get_or, drop, ◌==◌, Option, Some, None, MatchOption, Bor, refl, ap, sym, ◌∙◌, subst, arith, append_assoc, append-nil}
 use Rattle.std.specs.List.{join_with_byte, onto_first}
 use Rattle.std.proofs.lemmas.Grind.{common_steps}
 use Rattle.std.proofs.lemmas.Option.{same_Some}
@@ -53,7 +54,9 @@ pub are_bare_words : (line : List ℕ) (words : List Word) (bares : List (List �
 are_bare_words line words bares found same = (words, (exact line words).0 found, same)
 
 -- what was found of the words of a line is found of the line
-pub bare_answer : {V : Type 0} (line : List ℕ) (words : List Word) (view : V → List (List ℕ)) (found : Option V) → words_of line ≡ Some words → MatchOption found ((bares : List (List ℕ)) → map (bare_bytes line) words ≢ map (λ w. Some w) bares) (λ v. map (bare_bytes line) words ≡ map (λ w. Some w) (view v)) → MatchOption found ((bares : List (List ℕ)) → ¬ AreBareWords line bares) (λ v. AreBareWords line (view v))
+pub bare_answer : {V : Type 0} (line : List ℕ) (words : List Word) (view : V → List (List ℕ)) (found : Option V) → words_of line ≡ Some words
+    → MatchOption found ((bares : List (List ℕ)) → map (bare_bytes line) words ≢ map (λ w. Some w) bares) (λ v. map (bare_bytes line) words ≡ map (λ w. Some w) (view v))
+    → MatchOption found ((bares : List (List ℕ)) → ¬ AreBareWords line bares) (λ v. AreBareWords line (view v))
 bare_answer line words view None is none = no_bare_words line words is none
 bare_answer line words view (Some v) is same = are_bare_words line words (view v) is same
 

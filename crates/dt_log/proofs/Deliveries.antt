@@ -11,7 +11,8 @@ drop-front : (front rest : List Part) (k : ℕ) → k ≡ length front → drop 
 drop-front front rest k e = grind (arith, common_steps)
 
 -- after what is past the log's end was added, the log has all that was delivered
-pub stands-new : (log : List Part) (first : ℕ) (entries : List Part) (after : List Part) → AgreeOnOverlap log first entries → first ≤ length log → length log < first + length entries → after ≡ log ++ drop (length log - first) entries → StandFrom after first entries
+pub stands-new : (log : List Part) (first : ℕ) (entries : List Part) (after : List Part) → AgreeOnOverlap log first entries → first ≤ length log
+    → length log < first + length entries → after ≡ log ++ drop (length log - first) entries → StandFrom after first entries
 stands-new log first entries after (inl (rest, e)) within longer is =
     absurd (omega (arith, length-append entries rest, ap length e, length-drop first log))
 stands-new log first entries after (inr (rest, e)) within longer is =
