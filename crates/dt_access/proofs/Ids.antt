@@ -1,5 +1,5 @@
 -- Ids: their order is a strict total order and decided, and the tests on them say what they test.
-use Rattle.std.proofs.Common.{◌≡◌, ◌≢◌, ◌⊎◌, true, false, ◌&&◌, List, eqb-true, eq-eqb, sym, subst, ap, arith}
+use Rattle.std.proofs.Common.{◌≡◌, ◌≢◌, ◌⊎◌, true, false, List, eqb-true, eq-eqb, sym, subst, ap, arith}
 use Rattle.std.proofs.lemmas.Bool.{and_parts, and_from, false_from_ne_true}
 use Rattle.std.proofs.lemmas.Bool.Decides.{nat_tests}
 use Rattle.dt_lists.specs.Lists.{Has, Either}

@@ -6,7 +6,7 @@ use Rattle.dt_lists.specs.Lists.{AllIn, Has, Either}
 use Rattle.dt_lists.proofs.Words.{all_get, all_put}
 use Rattle.dt_access.specs.Ids.{Before}
 use Rattle.dt_access.specs.declared.TxnId.{TxnId}
-use Rattle.dt_sched.specs.Views.{View, IsComplete, Precedes, IsClass}
+use Rattle.dt_sched.specs.Views.{View, Precedes, IsClass}
 use Rattle.dt_sched.specs.Decide.{IsExecutable, IsResolvable}
 use Rattle.dt_lists.proofs.Chains.{chain_join}
 use Rattle.dt_access.proofs.Ids.{either_id, before_decided}
