@@ -20,7 +20,11 @@ fn told(alloc: Global, file: &[u8]) -> Result<Vec<u8>, Fail> {
             Ok(out)
         }
         Err(EventsError::Form(line)) => {
-            Ok(format!(in alloc; "no event in line {line}")?.as_bytes().to_vec(alloc)?)
+            Ok(
+                format!(in alloc; "no event in line {line}")?
+                    .as_bytes()
+                    .to_vec(alloc)?,
+            )
         }
         Err(EventsError::NoMemory) => Err(Fail::from(EventsError::NoMemory)),
     }
@@ -57,7 +61,10 @@ fn each_line_is_an_event_in_one_spelling_or_none(rt: HostRuntime) -> Result<(), 
         (b"execute 0 1.0 2.0", b"no event in line 1"),
         (b"Insert 1 0", b"no event in line 1"),
         (b"jump 0 a", b"no event in line 1"),
-        (b"# rows\xff\nsubmit 0 a\n\nappend 0 0 00\nnothing\n", b"no event in line 4"),
+        (
+            b"# rows\xff\nsubmit 0 a\n\nappend 0 0 00\nnothing\n",
+            b"no event in line 4",
+        ),
         (b"submit 0 a\nsubmit 0", b"no event in line 2"),
     ];
     for (file, want) in files {

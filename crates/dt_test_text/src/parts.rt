@@ -108,10 +108,12 @@ fn ids_are_copied(alloc: Global) -> Result<bool, Fail> {
 fn part_is_copied(alloc: Global) -> Result<bool, Fail> {
     let part = part_of(alloc, b"b", Mode::Read)?;
     let copied = part.copy(alloc)?;
-    Ok(copied.id == part.id
-        && copied.home == part.home
-        && copied.keys.copy(alloc)?.as_slice() == part.keys.as_slice()
-        && copied.homes.copy(alloc)?.as_slice() == part.homes.as_slice())
+    Ok(
+        copied.id == part.id
+            && copied.home == part.home
+            && copied.keys.copy(alloc)?.as_slice() == part.keys.as_slice()
+            && copied.homes.copy(alloc)?.as_slice() == part.homes.as_slice(),
+    )
 }
 
 #[test]

@@ -167,7 +167,11 @@ fn keys_names_and_texts_are_read_or_refused_by_the_first_cause(
         (What::Text, b"\x7f", b"bad byte at 0"),
     ];
     for (row, (what, bytes, want)) in rows.iter().enumerate() {
-        assert_eq!(rt; told(rt.alloc(), *what, bytes)?.as_slice(), *want, "row {row}");
+        assert_eq!(rt;
+            told(rt.alloc(), *what, bytes)?.as_slice(),
+            *want,
+            "row {row}"
+        );
     }
     Ok(())
 }
@@ -208,7 +212,11 @@ fn numbers_have_one_spelling(rt: HostRuntime) -> Result<(), Fail> {
         (What::Signed, b"9223372036854775808", b""),
     ];
     for (row, (what, bytes, want)) in rows.iter().enumerate() {
-        assert_eq!(rt; told(rt.alloc(), *what, bytes)?.as_slice(), *want, "row {row}");
+        assert_eq!(rt;
+            told(rt.alloc(), *what, bytes)?.as_slice(),
+            *want,
+            "row {row}"
+        );
     }
     Ok(())
 }
@@ -245,7 +253,11 @@ fn a_file_is_made_of_lines_and_a_line_of_words(rt: HostRuntime) -> Result<(), Fa
         (What::Words, b"a\\b #", b"0-3;4-5;"),
     ];
     for (row, (what, bytes, want)) in rows.iter().enumerate() {
-        assert_eq!(rt; told(rt.alloc(), *what, bytes)?.as_slice(), *want, "row {row}");
+        assert_eq!(rt;
+            told(rt.alloc(), *what, bytes)?.as_slice(),
+            *want,
+            "row {row}"
+        );
     }
     Ok(())
 }
@@ -296,7 +308,12 @@ fn are_in_order(alloc: Global, low: &[u8; 2], high: &[u8; 2]) -> Result<bool, Fa
 
 #[test]
 fn keys_are_ordered_by_their_bytes(rt: HostRuntime) -> Result<(), Fail> {
-    for (low, high) in [(b"az", b"b0"), (b"a.", b"a/"), (b"zz", b"aa"), (b"aa", b"aa")] {
+    for (low, high) in [
+        (b"az", b"b0"),
+        (b"a.", b"a/"),
+        (b"zz", b"aa"),
+        (b"aa", b"aa"),
+    ] {
         let want = low < high;
         assert_eq!(rt; are_in_order(rt.alloc(), low, high)?, want);
     }
