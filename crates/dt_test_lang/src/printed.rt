@@ -6,11 +6,13 @@ use std::alloc::Global;
 
 /// Procedures, with a space between them.
 pub fn put_procs(alloc: Global, out: &mut Vec<u8>, procs: &Procs) -> Result<(), NoMemory> {
-    for (i, proc) in procs.as_slice().iter().enumerate() {
-        if i > 0 {
+    for number in 0..procs.len() {
+        if number > 0 {
             put(out, b" ")?;
         }
-        put_proc(alloc, out, proc)?;
+        if let Some(proc) = procs.get(number) {
+            put_proc(alloc, out, proc)?;
+        }
     }
     Ok(())
 }

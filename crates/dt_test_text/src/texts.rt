@@ -176,42 +176,44 @@ fn keys_names_and_texts_are_read_or_refused_by_the_first_cause(
     Ok(())
 }
 
+/// Words, and the numbers that they spell, printed.
+const NUMBERS: [(What, &[u8], &[u8]); 23] = [
+    (What::Unsigned, b"", b""),
+    (What::Unsigned, b"0", b"0"),
+    (What::Unsigned, b"00", b""),
+    (What::Unsigned, b"007", b""),
+    (What::Unsigned, b"+7", b""),
+    (What::Unsigned, b"7 ", b""),
+    (What::Unsigned, b"-7", b""),
+    (What::Unsigned, b"4294967295", b"4294967295"),
+    (What::Unsigned, b"4294967296", b""),
+    (What::Unsigned, b"18446744073709551616", b""),
+    (What::Unsigned, b"99999999999999999999", b""),
+    (What::Signed, b"", b""),
+    (What::Signed, b"-", b""),
+    (What::Signed, b"0", b"0 0"),
+    (What::Signed, b"-0", b""),
+    (What::Signed, b"007", b""),
+    (What::Signed, b"-07", b""),
+    (What::Signed, b"--7", b""),
+    (What::Signed, b"-7", b"-7 -7"),
+    (
+        What::Signed,
+        b"-9223372036854775808",
+        b"-9223372036854775808 -9223372036854775808",
+    ),
+    (What::Signed, b"-9223372036854775809", b""),
+    (
+        What::Signed,
+        b"9223372036854775807",
+        b"9223372036854775807 9223372036854775807",
+    ),
+    (What::Signed, b"9223372036854775808", b""),
+];
+
 #[test]
 fn numbers_have_one_spelling(rt: HostRuntime) -> Result<(), Fail> {
-    let rows: [(What, &[u8], &[u8]); 23] = [
-        (What::Unsigned, b"", b""),
-        (What::Unsigned, b"0", b"0"),
-        (What::Unsigned, b"00", b""),
-        (What::Unsigned, b"007", b""),
-        (What::Unsigned, b"+7", b""),
-        (What::Unsigned, b"7 ", b""),
-        (What::Unsigned, b"-7", b""),
-        (What::Unsigned, b"4294967295", b"4294967295"),
-        (What::Unsigned, b"4294967296", b""),
-        (What::Unsigned, b"18446744073709551616", b""),
-        (What::Unsigned, b"99999999999999999999", b""),
-        (What::Signed, b"", b""),
-        (What::Signed, b"-", b""),
-        (What::Signed, b"0", b"0 0"),
-        (What::Signed, b"-0", b""),
-        (What::Signed, b"007", b""),
-        (What::Signed, b"-07", b""),
-        (What::Signed, b"--7", b""),
-        (What::Signed, b"-7", b"-7 -7"),
-        (
-            What::Signed,
-            b"-9223372036854775808",
-            b"-9223372036854775808 -9223372036854775808",
-        ),
-        (What::Signed, b"-9223372036854775809", b""),
-        (
-            What::Signed,
-            b"9223372036854775807",
-            b"9223372036854775807 9223372036854775807",
-        ),
-        (What::Signed, b"9223372036854775808", b""),
-    ];
-    for (row, (what, bytes, want)) in rows.iter().enumerate() {
+    for (row, (what, bytes, want)) in NUMBERS.iter().enumerate() {
         assert_eq!(rt;
             told(rt.alloc(), *what, bytes)?.as_slice(),
             *want,
