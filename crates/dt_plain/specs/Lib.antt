@@ -4,4 +4,3 @@ pub mod Links
 pub mod Graphs
 pub mod Deciding
 pub mod Kept
-pub mod Fitting
