@@ -18,6 +18,3 @@ pub use keys::Keys;
 pub use lists::{Accesses, Ids};
 pub use part::{Part, clash};
 pub use writes::Writes;
-
-#[cfg(test)]
-mod tests;

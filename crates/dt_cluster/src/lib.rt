@@ -15,8 +15,3 @@ pub use cluster::{Cluster, HomeList, RowList, builtin};
 pub use error::{ClusterCause, ClusterError, ClusterFault, ClusterPlace, Label};
 pub use laws::{clusters_have_no_fault, files_are_one_cluster, files_have_one_fault};
 pub use reader::read_cluster;
-
-#[cfg(test)]
-mod file_tests;
-#[cfg(test)]
-mod tests;

@@ -10,8 +10,6 @@ mod operators;
 mod rows;
 mod state;
 mod stop;
-#[cfg(test)]
-mod tests;
 
 pub use calls::{fits, run};
 pub use finish::{Args, Cause, Finish, Reads, Values};

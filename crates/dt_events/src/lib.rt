@@ -11,6 +11,3 @@ pub use event::Event;
 pub use laws::{lines_are_one_event, printed_events_read_back};
 pub use printed::put_event;
 pub use reader::{EventsError, read_events};
-
-#[cfg(test)]
-mod tests;

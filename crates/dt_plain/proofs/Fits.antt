@@ -1,20 +1,9 @@
 -- What may be inserted.
-use Rattle.std.proofs.Common.{◌*◌, ◌<◌, ◌≤◌, [], ◌∷◌, length, arith}
-use Rattle.std.proofs.lemmas.List.Sums.{sum_by-cons}
-use Rattle.dt_lists.specs.Lists.{AllIn}
+use Rattle.std.proofs.Common.{◌<◌, length}
 use Rattle.dt_lists.proofs.Words.{all_get}
 use Rattle.dt_access.specs.declared.Part.{Part}
 use Rattle.dt_sched.specs.Views.{View}
-use Rattle.dt_sched.specs.Sched.{parts_in, CanInsert}
-use Rattle.dt_plain.specs.TestFitting.{IsShort}
-
--- few short logs have few parts
-pub few_parts : (view : View) → AllIn IsShort view → parts_in view ≤ 100 * length view
-few_parts [] a = omega arith
-few_parts (log ∷ view) a =
-    let rest : parts_in view ≤ 100 * length view = few_parts view a.1 in
-    let short : length log < 100 = a.0 in
-    omega (arith, sum_by-cons length log view, rest, short)
+use Rattle.dt_sched.specs.Sched.{CanInsert}
 
 -- a part that may be inserted has its home among the logs
 pub home_there : (view : View) (part : Part) → CanInsert view part → part.home < length view

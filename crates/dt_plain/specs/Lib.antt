@@ -1,4 +1,3 @@
 pub mod PlainSchedView
 pub mod Links
 pub mod Graphs
-pub mod TestFitting

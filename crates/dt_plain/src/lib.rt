@@ -10,8 +10,3 @@ mod plain;
 mod search;
 
 pub use plain::PlainSched;
-
-#[cfg(test)]
-mod fitting;
-#[cfg(test)]
-mod tests;

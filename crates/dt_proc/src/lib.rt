@@ -24,8 +24,3 @@ pub use laws::texts_have_one_outcome;
 pub use procs::{Proc, Procs};
 pub use reader::read_procs;
 pub use tree::{Expr, Give, Gives, KeyDecl, KeyItem, KeyItems, Kind, Op, Sort, Stmt, Stmts};
-
-#[cfg(test)]
-mod printed;
-#[cfg(test)]
-mod tests;

@@ -8,6 +8,3 @@ mod words;
 
 pub use printed::print;
 pub use report::{EventList, Ran, Rans, Replies, Reply, Report, Tables};
-
-#[cfg(test)]
-mod tests;

@@ -9,6 +9,3 @@ mod table;
 pub use effect::Effect;
 pub use shown::{Shown, ShownList};
 pub use table::{Mastership, Table};
-
-#[cfg(test)]
-mod tests;

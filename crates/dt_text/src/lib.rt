@@ -28,6 +28,3 @@ pub use printed::{put_text, put_value};
 pub use text::Str;
 pub use value::Value;
 pub use word::{Word, Words, words};
-
-#[cfg(test)]
-mod tests;

@@ -3,13 +3,9 @@
 
 mod annotation;
 mod called;
-#[cfg(test)]
-mod copies;
 mod execution;
 mod outcome;
 mod placement;
-#[cfg(test)]
-mod tests;
 mod txn;
 
 pub use annotation::annotate;

@@ -15,4 +15,3 @@ pub mod Growing
 pub mod Executed
 pub mod Followed
 pub mod Reporting
-pub mod Played

@@ -3,15 +3,11 @@
 #![tactic(auto)]
 
 mod course;
-#[cfg(test)]
-mod playing;
 mod report;
 mod rules;
 mod seats;
 mod site;
 mod sites;
-#[cfg(test)]
-mod tests;
 mod world;
 
 pub use world::{StepError, World};

@@ -1,0 +1,638 @@
+//! Replays: what events come to, and the first fault in them.
+use super::{file_of, replay, reported};
+use std::alloc::Global;
+use std::sync::Wait;
+use std::test::Fail;
+use std::thread::Threads;
+
+/// A replay, and how it ends; a line each.
+#[derive(Clone, Copy)]
+struct Case {
+    /// What the case shows.
+    shows: &'static str,
+    /// The lines of the cluster's file, or the word of a built-in one.
+    cluster: &'static [&'static str],
+    workload: &'static [&'static str],
+    events: &'static [&'static str],
+    exit: u8,
+    /// The report up to its events, or else the fault.
+    told: &'static [&'static str],
+}
+
+/// Replays.
+const CASES: [Case; 17] = [
+    Case {
+        shows: "nothing is reported of nothing",
+        cluster: &[":1"],
+        workload: &[],
+        events: &[],
+        exit: 0,
+        told: &["replies", "order", "table 0"],
+    },
+    Case {
+        shows: "a put is reported whole",
+        cluster: &[":1"],
+        workload: &["session a at 0", "call put \"b\" 5"],
+        events: &[
+            "submit 0 a",
+            "append 0 0 0",
+            "insert 0 0",
+            "execute 0 1.0",
+            "answer 0 a",
+        ],
+        exit: 0,
+        told: &[
+            "replies",
+            "reply a 1 done",
+            "order",
+            "1.0 a 1 1 done",
+            "table 0",
+            "b = 5 home 0 moves 0",
+        ],
+    },
+    Case {
+        shows: "repeated and lost deliveries change nothing",
+        cluster: &[":2"],
+        workload: &[
+            "session x at 0",
+            "call put \"b\" 1",
+            "session y at 0",
+            "call put \"d\" 2",
+            "session z at 0",
+            "call put \"f\" 3",
+        ],
+        events: &[
+            "submit 0 x",
+            "submit 0 y",
+            "submit 0 z",
+            "append 0 0 0",
+            "append 0 0 1",
+            "append 0 0 2",
+            "deliver 1 0 0 2",
+            "deliver 1 0 0 2",
+            "deliver 1 0 3 3",
+            "deliver 1 0 1 3",
+            "insert 1 0",
+            "insert 1 0",
+            "insert 1 0",
+            "execute 1 1.0",
+            "execute 1 2.0",
+            "execute 1 3.0",
+        ],
+        exit: 0,
+        told: &[
+            "replies",
+            "order",
+            "1.0 x 1 1 done",
+            "2.0 y 1 1 done",
+            "3.0 z 1 1 done",
+            "table 0",
+            "table 1",
+            "b = 1 home 0 moves 0",
+            "d = 2 home 0 moves 0",
+            "f = 3 home 0 moves 0",
+        ],
+    },
+    Case {
+        shows: "a delivery past the end of a log is refused",
+        cluster: &[":2"],
+        workload: &[
+            "session x at 0",
+            "call put \"b\" 1",
+            "session y at 0",
+            "call put \"d\" 2",
+            "session z at 0",
+            "call put \"f\" 3",
+        ],
+        events: &[
+            "submit 0 x",
+            "submit 0 y",
+            "submit 0 z",
+            "append 0 0 0",
+            "append 0 0 1",
+            "append 0 0 2",
+            "deliver 1 0 0 4",
+        ],
+        exit: 6,
+        told: &["detock: events line 7: rule 3"],
+    },
+    Case {
+        shows: "regions may execute what does not clash in any order",
+        cluster: &[":2"],
+        workload: &[
+            "session x at 0",
+            "call put \"b\" 1",
+            "session y at 0",
+            "call put \"d\" 2",
+        ],
+        events: &[
+            "submit 0 x",
+            "submit 0 y",
+            "append 0 0 0",
+            "append 0 0 1",
+            "insert 0 0",
+            "insert 0 0",
+            "deliver 1 0 0 2",
+            "insert 1 0",
+            "insert 1 0",
+            "execute 1 2.0",
+            "execute 0 1.0",
+            "execute 0 2.0",
+            "execute 1 1.0",
+        ],
+        exit: 0,
+        told: &[
+            "replies",
+            "order",
+            "2.0 y 1 1 done",
+            "1.0 x 1 1 done",
+            "table 0",
+            "b = 1 home 0 moves 0",
+            "d = 2 home 0 moves 0",
+            "table 1",
+            "b = 1 home 0 moves 0",
+            "d = 2 home 0 moves 0",
+        ],
+    },
+    Case {
+        shows: "calls over two homes deadlock and end alike",
+        cluster: &["regions = 2", "[rows]", "a = 10", "b = 10"],
+        workload: &[
+            "session p at 0",
+            "call xfer \"b\" \"a\" 3",
+            "session q at 1",
+            "call xfer \"a\" \"b\" 4",
+        ],
+        events: &[
+            "submit 0 p",
+            "submit 1 q",
+            "append 0 0 0",
+            "append 1 1 0",
+            "append 0 1 0",
+            "append 1 0 0",
+            "deliver 0 1 0 2",
+            "deliver 1 0 0 2",
+            "insert 0 0",
+            "insert 0 0",
+            "insert 0 1",
+            "insert 0 1",
+            "insert 1 0",
+            "insert 1 0",
+            "insert 1 1",
+            "insert 1 1",
+            "resolve 0 1.0 1.1",
+            "execute 0 1.0",
+            "execute 0 1.1",
+            "resolve 1 1.0 1.1",
+            "execute 1 1.0",
+            "execute 1 1.1",
+            "answer 0 p",
+            "answer 1 q",
+        ],
+        exit: 0,
+        told: &[
+            "replies",
+            "reply p 1 done 7 13",
+            "reply q 1 done 9 11",
+            "order",
+            "1.0 p 1 1 done 7 13",
+            "1.1 q 1 1 done 9 11",
+            "table 0",
+            "a = 9 home 1 moves 0",
+            "b = 11 home 0 moves 0",
+            "table 1",
+            "a = 9 home 1 moves 0",
+            "b = 11 home 0 moves 0",
+        ],
+    },
+    Case {
+        shows: "a group is not resolved before it is known whole",
+        cluster: &["regions = 2", "[rows]", "a = 10", "b = 10"],
+        workload: &[
+            "session p at 0",
+            "call xfer \"b\" \"a\" 3",
+            "session q at 1",
+            "call xfer \"a\" \"b\" 4",
+        ],
+        events: &[
+            "submit 0 p",
+            "submit 1 q",
+            "append 0 0 0",
+            "append 1 1 0",
+            "append 0 1 0",
+            "append 1 0 0",
+            "deliver 0 1 0 2",
+            "deliver 1 0 0 2",
+            "insert 0 0",
+            "insert 0 0",
+            "resolve 0 1.0 1.1",
+        ],
+        exit: 6,
+        told: &["detock: events line 11: rule 5"],
+    },
+    Case {
+        shows: "a member of a group is not executed before it is resolved",
+        cluster: &["regions = 2", "[rows]", "a = 10", "b = 10"],
+        workload: &[
+            "session p at 0",
+            "call xfer \"b\" \"a\" 3",
+            "session q at 1",
+            "call xfer \"a\" \"b\" 4",
+        ],
+        events: &[
+            "submit 0 p",
+            "submit 1 q",
+            "append 0 0 0",
+            "append 1 1 0",
+            "append 0 1 0",
+            "append 1 0 0",
+            "deliver 0 1 0 2",
+            "deliver 1 0 0 2",
+            "insert 0 0",
+            "insert 0 0",
+            "execute 0 1.0",
+        ],
+        exit: 6,
+        told: &["detock: events line 11: rule 6"],
+    },
+    Case {
+        shows: "reads do not wait for each other",
+        cluster: &[":2"],
+        workload: &[
+            "session x at 0",
+            "call get \"b\"",
+            "session y at 0",
+            "call get \"b\"",
+            "session z at 0",
+            "call put \"b\" 1",
+        ],
+        events: &[
+            "submit 0 x",
+            "submit 0 y",
+            "submit 0 z",
+            "append 0 0 0",
+            "append 0 0 1",
+            "append 0 0 2",
+            "insert 0 0",
+            "insert 0 0",
+            "insert 0 0",
+            "execute 0 2.0",
+            "execute 0 1.0",
+            "execute 0 3.0",
+            "answer 0 y",
+        ],
+        exit: 0,
+        told: &[
+            "replies",
+            "reply y 1 done none",
+            "order",
+            "2.0 y 1 1 done none",
+            "1.0 x 1 1 done none",
+            "3.0 z 1 1 done",
+            "table 0",
+            "b = 1 home 0 moves 0",
+            "table 1",
+        ],
+    },
+    Case {
+        shows: "a put waits for the reads before it",
+        cluster: &[":2"],
+        workload: &[
+            "session x at 0",
+            "call get \"b\"",
+            "session y at 0",
+            "call get \"b\"",
+            "session z at 0",
+            "call put \"b\" 1",
+        ],
+        events: &[
+            "submit 0 x",
+            "submit 0 y",
+            "submit 0 z",
+            "append 0 0 0",
+            "append 0 0 1",
+            "append 0 0 2",
+            "insert 0 0",
+            "insert 0 0",
+            "insert 0 0",
+            "execute 0 2.0",
+            "execute 0 3.0",
+        ],
+        exit: 6,
+        told: &["detock: events line 11: rule 6"],
+    },
+    Case {
+        shows: "what stands outside a circle runs first",
+        cluster: &["regions = 3", "[rows]", "a = 10", "b = 10", "c = 10"],
+        workload: &[
+            "session u at 0",
+            "call put \"c\" 20",
+            "session p at 0",
+            "call xfer \"c\" \"a\" 1",
+            "session q at 1",
+            "call xfer \"a\" \"b\" 1",
+            "session s at 2",
+            "call xfer \"b\" \"c\" 1",
+        ],
+        events: &[
+            "submit 0 u",
+            "append 0 0 0",
+            "submit 0 p",
+            "submit 1 q",
+            "submit 2 s",
+            "append 0 0 1",
+            "append 1 1 0",
+            "append 2 2 0",
+            "append 0 2 0",
+            "append 1 0 0",
+            "append 2 1 0",
+            "deliver 0 1 0 2",
+            "deliver 0 2 0 2",
+            "insert 0 0",
+            "insert 0 0",
+            "insert 0 0",
+            "insert 0 1",
+            "insert 0 1",
+            "insert 0 2",
+            "insert 0 2",
+            "execute 0 1.0",
+            "resolve 0 1.1 1.2 2.0",
+            "execute 0 1.1",
+            "execute 0 1.2",
+            "execute 0 2.0",
+        ],
+        exit: 0,
+        told: &[
+            "replies",
+            "order",
+            "1.0 u 1 1 done",
+            "1.1 q 1 1 done 9 11",
+            "1.2 s 1 1 done 10 21",
+            "2.0 p 1 1 done 20 10",
+            "table 0",
+            "a = 10 home 1 moves 0",
+            "b = 10 home 2 moves 0",
+            "c = 20 home 0 moves 0",
+            "table 1",
+            "a = 10 home 1 moves 0",
+            "b = 10 home 2 moves 0",
+            "c = 10 home 0 moves 0",
+            "table 2",
+            "a = 10 home 1 moves 0",
+            "b = 10 home 2 moves 0",
+            "c = 10 home 0 moves 0",
+        ],
+    },
+    Case {
+        shows: "a circle waits for what reaches it from outside",
+        cluster: &["regions = 3", "[rows]", "a = 10", "b = 10", "c = 10"],
+        workload: &[
+            "session u at 0",
+            "call put \"c\" 20",
+            "session p at 0",
+            "call xfer \"c\" \"a\" 1",
+            "session q at 1",
+            "call xfer \"a\" \"b\" 1",
+            "session s at 2",
+            "call xfer \"b\" \"c\" 1",
+        ],
+        events: &[
+            "submit 0 u",
+            "append 0 0 0",
+            "submit 0 p",
+            "submit 1 q",
+            "submit 2 s",
+            "append 0 0 1",
+            "append 1 1 0",
+            "append 2 2 0",
+            "append 0 2 0",
+            "append 1 0 0",
+            "append 2 1 0",
+            "deliver 0 1 0 2",
+            "deliver 0 2 0 2",
+            "insert 0 0",
+            "insert 0 0",
+            "insert 0 0",
+            "insert 0 1",
+            "insert 0 1",
+            "insert 0 2",
+            "insert 0 2",
+            "resolve 0 1.1 1.2 2.0",
+        ],
+        exit: 6,
+        told: &["detock: events line 21: rule 5"],
+    },
+    Case {
+        shows: "nothing is executed before its insertion",
+        cluster: &[":1"],
+        workload: &["session a at 0", "call put \"b\" 5"],
+        events: &["submit 0 a", "append 0 0 0", "execute 0 1.0"],
+        exit: 6,
+        told: &["detock: events line 3: rule 6"],
+    },
+    Case {
+        shows: "a number has one spelling",
+        cluster: &[":1"],
+        workload: &["session a at 0", "call put \"b\" 5"],
+        events: &[
+            "submit 0 a",
+            "append 0 0 00",
+            "insert 0 0",
+            "execute 0 1.0",
+            "answer 0 a",
+        ],
+        exit: 6,
+        told: &["detock: events line 2: no event"],
+    },
+    Case {
+        shows: "all lines are read before any event is tried, and skipped lines count",
+        cluster: &[":1"],
+        workload: &["session a at 0", "call put \"b\" 5"],
+        events: &["answer 0 a", "", "# a comment", "answer 0"],
+        exit: 6,
+        told: &["detock: events line 4: no event"],
+    },
+    Case {
+        shows: "the line of an event is told and not its number",
+        cluster: &[":1"],
+        workload: &["session a at 0", "call put \"b\" 5"],
+        events: &["# a comment", "answer 0 a", "answer 0 a"],
+        exit: 6,
+        told: &["detock: events line 2: rule 7"],
+    },
+    Case {
+        shows: "there is no region 2",
+        cluster: &[":1"],
+        workload: &["session a at 0", "call put \"b\" 5"],
+        events: &["resolve 2 1.0 1.1"],
+        exit: 6,
+        told: &["detock: events line 1: rule 5"],
+    },
+];
+
+/// How a case is to end.
+fn wanted(alloc: Global, case: &Case) -> Result<Vec<u8>, Fail> {
+    if case.exit == 0 {
+        return reported(alloc, case.told, file_of(alloc, case.events)?.as_slice());
+    }
+    let mut fault = format!(in alloc; "{} ", case.exit)?
+        .as_bytes()
+        .to_vec(alloc)?;
+    fault.extend_from_slice(file_of(alloc, case.told)?.as_slice())?;
+    fault.push(b'|')?;
+    Ok(fault)
+}
+
+/// How a case ends.
+fn told<R: Threads + Wait + Sync>(rt: &R, alloc: Global, case: &Case) -> Result<Vec<u8>, Fail> {
+    let cluster = file_of(alloc, case.cluster)?;
+    let workload = file_of(alloc, case.workload)?;
+    let events = file_of(alloc, case.events)?;
+    replay(
+        rt,
+        alloc,
+        cluster.as_slice(),
+        workload.as_slice(),
+        events.as_slice(),
+    )
+}
+
+#[test]
+fn replays_end_with_a_report_or_with_the_first_fault(rt: HostRuntime) -> Result<(), Fail> {
+    for case in CASES {
+        assert_eq!(rt;
+            told(&rt, rt.alloc(), &case)?,
+            wanted(rt.alloc(), &case)?,
+            "{}",
+            case.shows
+        );
+    }
+    Ok(())
+}
+
+/// The lines of a cluster and of a workload with one session `a` at region 0, how many calls it makes, and the report of them.
+const IN_TURN: [(&[&str], &[&str], u32, &[&str]); 3] = [
+    (
+        &[
+            "regions = 1",
+            "[rows]",
+            "b = 9223372036854775807",
+            "t = \"x\"",
+        ],
+        &[
+            "session a at 0",
+            "call add \"b\" 1",
+            "",
+            "  # the others",
+            "call  div \"b\" 0",
+            "call add \"t\" 1",
+            "call xfer \"b\" \"c\" 1",
+        ],
+        4,
+        &[
+            "replies",
+            "reply a 1 abort overflow",
+            "reply a 2 abort zero",
+            "reply a 3 abort kind",
+            "reply a 4 abort kind",
+            "order",
+            "1.0 a 1 1 abort overflow",
+            "2.0 a 2 1 abort zero",
+            "3.0 a 3 1 abort kind",
+            "4.0 a 4 1 abort kind",
+            "table 0",
+            "b = 9223372036854775807 home 0 moves 0",
+            "t = \"x\" home 0 moves 0",
+        ],
+    ),
+    (
+        &["regions = 1", "[rows]", "b = 5"],
+        &[
+            "session a at 0",
+            "call xfer \"b\" \"b\" 3",
+            "call xfer \"b\" \"b\" 6",
+        ],
+        2,
+        &[
+            "replies",
+            "reply a 1 done 5 5",
+            "reply a 2 abort \"funds\"",
+            "order",
+            "1.0 a 1 1 done 5 5",
+            "2.0 a 2 1 abort \"funds\"",
+            "table 0",
+            "b = 5 home 0 moves 0",
+        ],
+    ),
+    (
+        &[":1"],
+        &[
+            "session a at 0",
+            "call put \"b\" 5",
+            "call xfer \"b\" \"b\" 3",
+            "call xfer \"b\" \"b\" 6",
+            "call put \"b\" 9223372036854775807",
+            "call add \"b\" 1",
+            "call div \"b\" 0",
+            "call note \"t\" \"x\"",
+            "call add \"t\" 1",
+        ],
+        8,
+        &[
+            "replies",
+            "reply a 1 done",
+            "reply a 2 done 5 5",
+            "reply a 3 abort \"funds\"",
+            "reply a 4 done",
+            "reply a 5 abort overflow",
+            "reply a 6 abort zero",
+            "reply a 7 done",
+            "reply a 8 abort kind",
+            "order",
+            "1.0 a 1 1 done",
+            "2.0 a 2 1 done 5 5",
+            "3.0 a 3 1 abort \"funds\"",
+            "4.0 a 4 1 done",
+            "5.0 a 5 1 abort overflow",
+            "6.0 a 6 1 abort zero",
+            "7.0 a 7 1 done",
+            "8.0 a 8 1 abort kind",
+            "table 0",
+            "b = 9223372036854775807 home 0 moves 0",
+            "t = \"x\" home 0 moves 0",
+        ],
+    ),
+];
+
+/// The events by which the only session, `a` at region 0, makes so many calls of one home, one after another.
+fn in_turn(alloc: Global, calls: u32) -> Result<Vec<u8>, Fail> {
+    let mut events = Vec::new(alloc);
+    for call in 0..calls {
+        let id = call + 1;
+        let one = format!(in alloc;
+            "submit 0 a\nappend 0 0 {call}\ninsert 0 0\nexecute 0 {id}.0\nanswer 0 a\n"
+        )?;
+        events.extend_from_slice(one.as_bytes())?;
+    }
+    Ok(events)
+}
+
+#[test]
+fn a_session_makes_one_call_after_another_and_each_is_answered(
+    rt: HostRuntime,
+) -> Result<(), Fail> {
+    for (cluster, workload, calls, report) in IN_TURN {
+        let cluster = file_of(rt.alloc(), cluster)?;
+        let workload = file_of(rt.alloc(), workload)?;
+        let events = in_turn(rt.alloc(), calls)?;
+        let told = replay(
+            &rt,
+            rt.alloc(),
+            cluster.as_slice(),
+            workload.as_slice(),
+            events.as_slice(),
+        )?;
+        assert_eq!(rt; told, reported(rt.alloc(), report, events.as_slice())?);
+    }
+    Ok(())
+}

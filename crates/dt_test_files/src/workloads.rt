@@ -1,0 +1,222 @@
+//! Workload files: the sessions of each, or its first fault.
+use dt_cluster::builtin;
+use dt_text::{NoMemory, put_u64, put_value};
+use dt_workload::{Session, Wanted, Workload, WorkloadError, read_workload};
+use std::alloc::Global;
+use std::test::Fail;
+
+/// More bytes than a test reads.
+const MANY: usize = 1000000;
+
+/// A call in words, as the number of its procedure and its arguments, or a move, as its key and its home.
+fn put_wanted(alloc: Global, out: &mut Vec<u8>, wanted: &Wanted) -> Result<(), NoMemory> {
+    out.push(b' ')?;
+    match wanted {
+        Wanted::Call(number, args) => {
+            put_u64(alloc, out, u64::from(*number))?;
+            for value in args.as_slice() {
+                out.push(b' ')?;
+                put_value(alloc, out, value)?;
+            }
+        }
+        Wanted::Move(key, home) => {
+            out.extend_from_slice(key.bytes())?;
+            out.push(b'>')?;
+            put_u64(alloc, out, u64::from(*home))?;
+        }
+    }
+    out.push(b',')?;
+    Ok(())
+}
+
+/// A session in words: its name, its region, and what it wants.
+fn put_session(alloc: Global, out: &mut Vec<u8>, session: &Session) -> Result<(), NoMemory> {
+    out.extend_from_slice(session.name.bytes())?;
+    out.push(b'@')?;
+    put_u64(alloc, out, u64::from(session.region))?;
+    for wanted in session.calls.as_slice() {
+        put_wanted(alloc, out, wanted)?;
+    }
+    out.push(b';')?;
+    Ok(())
+}
+
+/// The sessions of a workload in words.
+fn shown(alloc: Global, workload: &Workload) -> Result<Vec<u8>, NoMemory> {
+    let mut out = Vec::new(alloc);
+    for session in workload.sessions.as_slice() {
+        put_session(alloc, &mut out, session)?;
+    }
+    Ok(out)
+}
+
+/// A copy of the workload of a file, in words, or its first fault, in a cluster of so many regions.
+fn told(alloc: Global, regions: u8, file: &[u8]) -> Result<Vec<u8>, Fail> {
+    if file.len() > MANY {
+        return Err(Fail::from("a test reads few bytes"));
+    }
+    if regions < 1 || regions > 8 {
+        return Err(Fail::from("a cluster has 1 to 8 regions"));
+    }
+    let cluster = builtin(alloc, regions)?;
+    match read_workload(alloc, file, &cluster) {
+        Ok(workload) => Ok(shown(alloc, &workload.copy(alloc)?)?),
+        Err(WorkloadError::Fault(line, cause)) => {
+            let fault = format!(in alloc; "{line} {cause:?}")?;
+            Ok(fault.as_bytes().to_vec(alloc)?)
+        }
+        Err(WorkloadError::NoMemory) => Err(Fail::from(NoMemory)),
+    }
+}
+
+/// Files, each with what is told of it in a cluster of two regions.
+const FILES: [(&[u8], &str); 55] = [
+    (b"", ""),
+    (b"\n   \n # \xff\t\n", ""),
+    (b"session a at 0", "a@0;"),
+    (b"  session   a  at 1  \n", "a@1;"),
+    (b"\tsession a at 0", "1 Form"),
+    (b"session a at 0\r\n", "1 Form"),
+    (b"session A at 0", "1 Name"),
+    (b"session a-b at 9", "1 Name"),
+    (b"session abcdefghijklmnopqrstuvwxyz0123456 at 0", "1 Name"),
+    (
+        b"session abcdefghijklmnopqrstuvwxyz012345 at 0",
+        "abcdefghijklmnopqrstuvwxyz012345@0;",
+    ),
+    (b"session \"a\" at 0", "1 Form"),
+    (b"session a at 0\n# x\n\nsession a at 9", "4 Twice"),
+    (b"session a at 2", "1 Region"),
+    (b"session a at 4294967295", "1 Region"),
+    (b"session a at 4294967296", "1 Form"),
+    (b"session a at 00", "1 Form"),
+    (b"session a at -1", "1 Form"),
+    (b"session a in 0", "1 Form"),
+    (b"session a at 0 0", "1 Form"),
+    (b"session a at", "1 Form"),
+    (b"session", "1 Form"),
+    (b"sessions a at 0", "1 Form"),
+    (b"session a at 0\ncall put \"b\" 5", "a@0 0 \"b\" 5,;"),
+    (
+        b"session a at 0\ncall put \"b\" -9223372036854775808",
+        "a@0 0 \"b\" -9223372036854775808,;",
+    ),
+    (
+        b"session a at 0\ncall put \"b\" 9223372036854775808",
+        "2 Form",
+    ),
+    (b"session a at 0\ncall put \"b\" -0", "2 Form"),
+    (b"session a at 0\ncall put \"b\" 07", "2 Form"),
+    (b"session a at 0\ncall put \"b\" x", "2 Form"),
+    (b"session a at 0\ncall nope x", "2 Form"),
+    (b"session a at 0\ncall nope 1", "2 Proc"),
+    (b"session a at 0\ncall nope", "2 Proc"),
+    (b"session a at 0\ncall PUT \"B\" 1", "2 Proc"),
+    (b"session a at 0\ncall put \"b\" \"5\"", "2 Args"),
+    (b"session a at 0\ncall put \"B\"", "2 Args"),
+    (b"session a at 0\ncall put \"b\" 5 5", "2 Args"),
+    (b"session a at 0\ncall put \"B\" 5", "2 Key"),
+    (b"session a at 0\ncall xfer \"b\" \"\" 5", "2 Key"),
+    (b"session a at 0\ncall \"put\" \"b\" 5", "2 Form"),
+    (b"session a at 0\ncall put \"b\"5", "2 Form"),
+    (b"session a at 0\ncall put 5\"b\" 1", "2 Form"),
+    (b"session a at 0\ncall", "2 Form"),
+    (b"session a at 0\nmove b to 1", "a@0 b>1,;"),
+    (b"session a at 0\nmove b to 2", "2 Region"),
+    (b"session a at 0\nmove B to 2", "2 Key"),
+    (b"session a at 0\nmove b at 1", "2 Form"),
+    (b"session a at 0\nmove \"b\" to 1", "2 Form"),
+    (
+        b"session a at 0\nmove aaaaaaaaaaaaaaaaaaaaaaaaaaaaaaaaaaaaaaaaaaaaaaaaaaaaaaaaaaaaaaaa to 0",
+        "a@0 aaaaaaaaaaaaaaaaaaaaaaaaaaaaaaaaaaaaaaaaaaaaaaaaaaaaaaaaaaaaaaaa>0,;",
+    ),
+    (
+        b"session a at 0\nmove aaaaaaaaaaaaaaaaaaaaaaaaaaaaaaaaaaaaaaaaaaaaaaaaaaaaaaaaaaaaaaaaa to 0",
+        "2 Key",
+    ),
+    (b"session a at 0\nmoved b to 1", "2 Form"),
+    (
+        b"session a at 0\n\ncall put \"b\" 5 # 6\ncall nope",
+        "3 Form",
+    ),
+    (b"call put \"b\" 5", "1 NoSession"),
+    (b"move B to 9", "1 NoSession"),
+    (b"call nope", "1 NoSession"),
+    (b"call nope x", "1 Form"),
+    (
+        b"session z at 1\ncall note \"k/1\" \"a \\\"b\\\\\"\nmove k/1 to 0\nsession a at 0\ncall xfer \"b\" \"a\" -3\n",
+        "z@1 1 \"k/1\" \"a \\\"b\\\\\", k/1>0,;a@0 7 \"b\" \"a\" -3,;",
+    ),
+];
+
+#[test]
+fn each_file_is_a_workload_or_has_a_first_fault(rt: HostRuntime) -> Result<(), Fail> {
+    for (file, words) in FILES {
+        assert_eq!(rt; told(rt.alloc(), 2, file)?.as_slice(), words.as_bytes());
+    }
+    Ok(())
+}
+
+/// A file of so many sessions, at each of so many regions in turn.
+fn sessions(alloc: Global, regions: u8, count: u32) -> Result<Vec<u8>, Fail> {
+    let mut file = Vec::new(alloc);
+    for number in 0..count {
+        let region = number % u32::from(regions.max(1));
+        let line = format!(in alloc; "session s{number} at {region}\n")?;
+        file.extend_from_slice(line.as_bytes())?;
+    }
+    Ok(file)
+}
+
+#[test]
+fn a_region_has_64_sessions(rt: HostRuntime) -> Result<(), Fail> {
+    let rows: [(u8, u32, usize, &[u8]); 5] = [
+        (1, 64, 374, b"s62@0;s63@0;"),
+        (1, 65, 10, b"65 TooMany"),
+        (8, 320, 2130, b"s318@6;s319@7;"),
+        (8, 512, 3474, b"s510@6;s511@7;"),
+        (8, 513, 11, b"513 TooMany"),
+    ];
+    for (regions, count, length, end) in rows {
+        let file = sessions(rt.alloc(), regions, count)?;
+        let told = told(rt.alloc(), regions, file.as_slice())?;
+        assert!(rt;
+            told.len() == length && told.ends_with(end),
+            "{count} sessions"
+        );
+    }
+    Ok(())
+}
+
+/// A session with so many moves of the same key, and what follows.
+fn moves(alloc: Global, count: u32, back: &[u8]) -> Result<Vec<u8>, Fail> {
+    let mut file = b"session a at 0\n".to_vec(alloc)?;
+    for _ in 0..count {
+        file.extend_from_slice(b"move b to 0\n")?;
+    }
+    file.extend_from_slice(back)?;
+    Ok(file)
+}
+
+#[test]
+fn a_file_has_20000_calls_and_moves(rt: HostRuntime) -> Result<(), Fail> {
+    let rows: [(u32, &[u8], usize, &[u8]); 3] = [
+        (20000, b"", 100004, b" b>0, b>0,;"),
+        (20001, b"", 13, b"20002 TooMany"),
+        (
+            20000,
+            b"session b at 0\nmove b to 0\n",
+            13,
+            b"20003 TooMany",
+        ),
+    ];
+    for (count, back, length, end) in rows {
+        let file = moves(rt.alloc(), count, back)?;
+        let told = told(rt.alloc(), 1, file.as_slice())?;
+        assert!(rt;
+            told.len() == length && told.ends_with(end),
+            "{count} moves"
+        );
+    }
+    Ok(())
+}

@@ -1,0 +1,220 @@
+//! Trees as texts: each operation stands in brackets, and what is named is shown by its number.
+
+use dt_proc::{Expr, Give, KeyDecl, KeyItem, Kind, Op, Proc, ProcError, Procs, Stmt};
+use dt_text::{NoMemory, put_i64, put_text, put_u64};
+use std::alloc::Global;
+
+/// Procedures, with a space between them.
+pub fn put_procs(alloc: Global, out: &mut Vec<u8>, procs: &Procs) -> Result<(), NoMemory> {
+    for number in 0..procs.len() {
+        if number > 0 {
+            put(out, b" ")?;
+        }
+        if let Some(proc) = procs.get(number) {
+            put_proc(alloc, out, proc)?;
+        }
+    }
+    Ok(())
+}
+
+fn put_proc(alloc: Global, out: &mut Vec<u8>, proc: &Proc) -> Result<(), NoMemory> {
+    put(out, b"proc ")?;
+    put(out, proc.name().bytes())?;
+    put(out, b"(")?;
+    for (i, kind) in proc.params().iter().enumerate() {
+        if i > 0 {
+            put(out, b", ")?;
+        }
+        put(out, kind_word(*kind))?;
+    }
+    put(out, b") ")?;
+    for key in proc.keys() {
+        put_key(alloc, out, key)?;
+    }
+    put_body(alloc, out, proc.body())
+}
+
+fn kind_word(kind: Kind) -> &'static [u8] {
+    match kind {
+        Kind::Int => b"int",
+        Kind::Text => b"text",
+    }
+}
+
+fn put_key(alloc: Global, out: &mut Vec<u8>, key: &KeyDecl) -> Result<(), NoMemory> {
+    let word = if key.write {
+        b"write ".as_slice()
+    } else {
+        b"read ".as_slice()
+    };
+    put(out, word)?;
+    for (i, item) in key.items.as_slice().iter().enumerate() {
+        if i > 0 {
+            put(out, b" ++ ")?;
+        }
+        match item {
+            KeyItem::Text(text) => put_text(alloc, out, text)?,
+            KeyItem::Param(param) => put_number(alloc, out, b"p", *param)?,
+            KeyItem::Show(param) => put_number(alloc, out, b"s", *param)?,
+        }
+    }
+    put(out, b"; ")
+}
+
+/// A fault: its cause and its place. Want of memory is told as such.
+pub fn put_fault(alloc: Global, out: &mut Vec<u8>, fault: ProcError) -> Result<(), NoMemory> {
+    let (word, place) = match fault {
+        ProcError::Syntax(place) => (b"Syntax ".as_slice(), place),
+        ProcError::TooMany(place) => (b"TooMany ".as_slice(), place),
+        ProcError::Twice(place) => (b"Twice ".as_slice(), place),
+        ProcError::Unknown(place) => (b"Unknown ".as_slice(), place),
+        ProcError::Kind(place) => (b"Kind ".as_slice(), place),
+        ProcError::NoMemory => return Err(NoMemory),
+    };
+    put(out, word)?;
+    put_u64(alloc, out, place as u64)
+}
+
+/// The statements of a body.
+pub fn put_body(alloc: Global, out: &mut Vec<u8>, stmts: &[Stmt]) -> Result<(), NoMemory> {
+    put(out, b"{")?;
+    for (i, stmt) in stmts.iter().enumerate() {
+        if i > 0 {
+            put(out, b" ")?;
+        }
+        match stmt {
+            Stmt::If(test, then, otherwise) => {
+                put(out, b"if ")?;
+                put_expr(alloc, out, test)?;
+                put(out, b" ")?;
+                put_branch(alloc, out, then.as_slice())?;
+                put(out, b" ")?;
+                put_branch(alloc, out, otherwise.as_slice())?;
+            }
+            _ => put_plain(alloc, out, stmt)?,
+        }
+    }
+    put(out, b"}")
+}
+
+/// The statements of a branch, in which those with branches are not shown whole.
+fn put_branch(alloc: Global, out: &mut Vec<u8>, stmts: &[Stmt]) -> Result<(), NoMemory> {
+    put(out, b"{")?;
+    for (i, stmt) in stmts.iter().enumerate() {
+        if i > 0 {
+            put(out, b" ")?;
+        }
+        put_plain(alloc, out, stmt)?;
+    }
+    put(out, b"}")
+}
+
+fn put_plain(alloc: Global, out: &mut Vec<u8>, stmt: &Stmt) -> Result<(), NoMemory> {
+    match stmt {
+        Stmt::Let(value) => {
+            put(out, b"let ")?;
+            put_expr(alloc, out, value)?;
+            put(out, b";")
+        }
+        Stmt::Set(key, value) => {
+            put_number(alloc, out, b"set ", *key)?;
+            put(out, b" ")?;
+            put_expr(alloc, out, value)?;
+            put(out, b";")
+        }
+        Stmt::Clear(key) => {
+            put_number(alloc, out, b"clear ", *key)?;
+            put(out, b";")
+        }
+        Stmt::If(_, _, _) => put(out, b"if"),
+        Stmt::Abort(text) => {
+            put(out, b"abort ")?;
+            put_text(alloc, out, text)?;
+            put(out, b";")
+        }
+        Stmt::Give(gives) => put_gives(alloc, out, gives.as_slice()),
+    }
+}
+
+fn put_gives(alloc: Global, out: &mut Vec<u8>, gives: &[Give]) -> Result<(), NoMemory> {
+    put(out, b"give ")?;
+    for (i, give) in gives.iter().enumerate() {
+        if i > 0 {
+            put(out, b", ")?;
+        }
+        match give {
+            Give::Row(key) => put_number(alloc, out, b"row", *key)?,
+            Give::Value(value) => put_expr(alloc, out, value)?,
+        }
+    }
+    put(out, b";")
+}
+
+fn put_expr(alloc: Global, out: &mut Vec<u8>, expr: &Expr) -> Result<(), NoMemory> {
+    match expr {
+        Expr::Int(number) => put_i64(alloc, out, *number),
+        Expr::Text(text) => put_text(alloc, out, text),
+        Expr::Bool(true) => put(out, b"true"),
+        Expr::Bool(false) => put(out, b"false"),
+        Expr::Var(variable) => put_number(alloc, out, b"v", *variable),
+        Expr::IntOf(key) => put_number(alloc, out, b"i", *key),
+        Expr::TextOf(key) => put_number(alloc, out, b"t", *key),
+        Expr::Has(key) => put_number(alloc, out, b"h", *key),
+        Expr::Len(text) => {
+            put(out, b"len(")?;
+            put_expr(alloc, out, text)?;
+            put(out, b")")
+        }
+        Expr::Show(number) => {
+            put(out, b"show(")?;
+            put_expr(alloc, out, number)?;
+            put(out, b")")
+        }
+        Expr::Neg(number) => {
+            put(out, b"-(")?;
+            put_expr(alloc, out, number)?;
+            put(out, b")")
+        }
+        Expr::Not(truth) => {
+            put(out, b"not(")?;
+            put_expr(alloc, out, truth)?;
+            put(out, b")")
+        }
+        Expr::Binary(op, left, right) => {
+            put(out, b"(")?;
+            put_expr(alloc, out, left)?;
+            put(out, op_word(*op))?;
+            put_expr(alloc, out, right)?;
+            put(out, b")")
+        }
+    }
+}
+
+fn op_word(op: Op) -> &'static [u8] {
+    match op {
+        Op::Or => b" or ",
+        Op::And => b" and ",
+        Op::Equal => b" == ",
+        Op::Differ => b" != ",
+        Op::Less => b" < ",
+        Op::AtMost => b" <= ",
+        Op::More => b" > ",
+        Op::AtLeast => b" >= ",
+        Op::Add => b" + ",
+        Op::Sub => b" - ",
+        Op::Join => b" ++ ",
+        Op::Mul => b" * ",
+        Op::Div => b" / ",
+        Op::Rem => b" % ",
+    }
+}
+
+fn put_number(alloc: Global, out: &mut Vec<u8>, front: &[u8], number: u32) -> Result<(), NoMemory> {
+    put(out, front)?;
+    put_u64(alloc, out, number as u64)
+}
+
+fn put(out: &mut Vec<u8>, bytes: &[u8]) -> Result<(), NoMemory> {
+    out.extend_from_slice(bytes)?;
+    Ok(())
+}

@@ -1,0 +1,12 @@
+-- For the tests of schedulers: what a part may look like beside those that were inserted before.
+-- The condition itself is CanInsert of dt_sched/specs/Sched.antt.
+use Rattle.std.specs.Prelude.{◌≡◌, ◌<◌, List, length}
+use Rattle.dt_access.specs.declared.Part.{Part}
+
+-- where the other part is of the same transaction, it names the same homes
+abbrev pub IsAlike : Part → Part → Type 0
+IsAlike part other = other.id ≡ part.id → other.homes ≡ part.homes
+
+-- the log has fewer than a hundred parts
+abbrev pub IsShort : List Part → Type 0
+IsShort log = length log < 100

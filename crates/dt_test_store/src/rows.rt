@@ -1,0 +1,197 @@
+//! Rows: their values, homes and moves after changes, and which of them are shown.
+ghost use Rattle.std.specs.Prelude.{◌<◌, ◌^◌, length};
+
+use dt_access::{TxnId, Writes};
+use dt_table::{Effect, Table};
+use dt_text::{Key, NoMemory, Value, put_u64, put_value};
+use std::alloc::Global;
+use std::test::Fail;
+
+/// What is done to a key.
+#[derive(Clone, Copy)]
+enum Change {
+    /// It gets this number.
+    Put(i64),
+    /// It gets none.
+    Clear,
+    /// It is moved to a home, by the transaction of this number in region 0.
+    Move(u8, u32),
+}
+
+/// The key of a few bytes.
+fn key_of(alloc: Global, bytes: &[u8]) -> Result<Key, Fail> {
+    if bytes.len() > 100 {
+        return Err(Fail::from("a key has few bytes"));
+    }
+    Ok(Key::read(alloc, bytes)?)
+}
+
+/// A table of three regions, with a row `b` and a home for `ab`.
+fn opened(alloc: Global) -> Result<Table, Fail> {
+    let homes = [(Key::read(alloc, b"ab")?, 0)];
+    let rows = [(Key::read(alloc, b"b")?, Value::Int(7))];
+    Ok(Table::new(alloc, 3, homes.as_slice(), rows.as_slice())?)
+}
+
+/// Gives a key a value or none.
+fn put(table: &mut Table, alloc: Global, key: Key, value: Option<Value>) -> Result<(), Fail> {
+    let mut writes = Writes::new(alloc);
+    writes.push((key, value))?;
+    table.reserve(1)?;
+    table.apply(Effect {
+        writes,
+        moved: None,
+    });
+    Ok(())
+}
+
+/// Moves a key, by the transaction of this number in region 0.
+fn move_to(table: &mut Table, alloc: Global, key: Key, target: u8, seq: u32) -> Result<(), Fail> {
+    if table.mastership(&key).counter > 1000 {
+        return Err(Fail::from("a key has few moves"));
+    }
+    table.reserve(1)?;
+    table.apply(Effect {
+        writes: Writes::new(alloc),
+        moved: Some((key, target, TxnId { seq, region: 0 })),
+    });
+    Ok(())
+}
+
+/// Makes a change of a key.
+fn change(table: &mut Table, alloc: Global, key: &[u8], change: Change) -> Result<(), Fail> {
+    let key = key_of(alloc, key)?;
+    match change {
+        Change::Put(number) => put(table, alloc, key, Some(Value::Int(number))),
+        Change::Clear => put(table, alloc, key, None),
+        Change::Move(target, seq) => move_to(table, alloc, key, target, seq),
+    }
+}
+
+/// Adds a value, or `none`.
+fn put_option(alloc: Global, out: &mut Vec<u8>, value: Option<&Value>) -> Result<(), NoMemory> {
+    match value {
+        Some(value) => put_value(alloc, out, value)?,
+        None => out.extend_from_slice(b"none")?,
+    }
+    Ok(())
+}
+
+/// A key in words: its value, its home, how often it was moved, and by whom, from move 0 to the one that is not there yet.
+fn put_row(alloc: Global, out: &mut Vec<u8>, table: &Table, key: &Key) -> Result<(), NoMemory> {
+    put_option(alloc, out, table.get(key))?;
+    let mastership = table.mastership(key);
+    out.push(b'@')?;
+    put_u64(alloc, out, u64::from(mastership.home))?;
+    for number in 0..mastership.counter.saturating_add(2) {
+        match table.mover(key, number) {
+            Some(mover) => {
+                out.push(b' ')?;
+                put_u64(alloc, out, u64::from(mover.seq))?;
+            }
+            None => out.extend_from_slice(b" -")?,
+        }
+    }
+    Ok(())
+}
+
+/// The rows that a table shows, in words.
+fn put_shown(alloc: Global, out: &mut Vec<u8>, table: &Table) -> Result<(), NoMemory> {
+    for row in table.shown(alloc)?.as_slice() {
+        out.extend_from_slice(b"; ")?;
+        out.extend_from_slice(row.key.bytes())?;
+        out.push(b'=')?;
+        put_option(alloc, out, row.value.as_ref())?;
+        out.push(b'@')?;
+        put_u64(alloc, out, u64::from(row.home))?;
+        out.push(b'*')?;
+        put_u64(alloc, out, u64::from(row.moves))?;
+    }
+    Ok(())
+}
+
+/// What a key has, and what a table shows, after these changes of keys.
+fn told(alloc: Global, changes: &[(&[u8], Change)], key: &[u8]) -> Result<Vec<u8>, Fail> {
+    let mut table = opened(alloc)?;
+    for (changed, how) in changes {
+        change(&mut table, alloc, changed, *how)?;
+    }
+    let mut out = Vec::new(alloc);
+    put_row(alloc, &mut out, &table, &key_of(alloc, key)?)?;
+    put_shown(alloc, &mut out, &table)?;
+    Ok(out)
+}
+
+/// Changes, a key, and what is told of them.
+const ROWS: [(&[(&[u8], Change)], &[u8], &[u8]); 10] = [
+    // A key has its listed home, or its first byte modulo the regions.
+    (&[], b"ab", b"none@0 - -; b=7@2*0"),
+    (&[], b"ac", b"none@1 - -; b=7@2*0"),
+    (&[], b"ba", b"none@2 - -; b=7@2*0"),
+    (&[], b"cb", b"none@0 - -; b=7@2*0"),
+    // And the value that was listed or written last.
+    (&[], b"b", b"7@2 - -; b=7@2*0"),
+    (&[(b"b", Change::Put(8))], b"b", b"8@2 - -; b=8@2*0"),
+    (
+        &[(b"b", Change::Put(8)), (b"b", Change::Clear)],
+        b"b",
+        b"none@2 - -",
+    ),
+    // Each move has its mover, past a move of another key and a write.
+    (
+        &[
+            (b"c", Change::Move(1, 4)),
+            (b"d", Change::Move(2, 5)),
+            (b"c", Change::Clear),
+            (b"c", Change::Move(1, 6)),
+        ],
+        b"c",
+        b"none@1 - 4 6 -; b=7@2*0; c=none@1*2; d=none@2*1",
+    ),
+    // Shown is each key with a value or a move, in byte order.
+    (
+        &[
+            (b"z", Change::Clear),
+            (b"a/", Change::Put(5)),
+            (b"a.", Change::Put(6)),
+            (b"a", Change::Move(0, 3)),
+        ],
+        b"z",
+        b"none@2 - -; a=none@0*1; a.=6@1*0; a/=5@1*0; b=7@2*0",
+    ),
+    (
+        &[(b"b", Change::Move(2, 9)), (b"b", Change::Clear)],
+        b"b",
+        b"none@2 - 9 -; b=none@2*1",
+    ),
+];
+
+#[test]
+fn rows_have_what_the_changes_gave_them(rt: HostRuntime) -> Result<(), Fail> {
+    for (changes, key, want) in ROWS {
+        assert_eq!(rt; told(rt.alloc(), changes, key)?.as_slice(), want);
+    }
+    Ok(())
+}
+
+/// How much is told of a key after so many moves of it, each with a write of another key.
+fn length_of_many(alloc: Global, count: u32) -> Result<usize, Fail> {
+    let mut table = opened(alloc)?;
+    for number in 0..count {
+        let key = format!(in alloc; "k{number}")?;
+        change(&mut table, alloc, key.as_bytes(), Change::Put(1))?;
+        change(&mut table, alloc, b"m", Change::Move(1, 7))?;
+    }
+    let mut out = Vec::new(alloc);
+    put_row(alloc, &mut out, &table, &Key::read(alloc, b"m")?)?;
+    put_shown(alloc, &mut out, &table)?;
+    Ok(out.len())
+}
+
+#[test]
+fn a_table_has_hundreds_of_rows_and_moves(rt: HostRuntime) -> Result<(), Fail> {
+    for (count, want) in [(1, 43), (255, 3493), (256, 3507), (257, 3521), (600, 8323)] {
+        assert_eq!(rt; length_of_many(rt.alloc(), count)?, want, "{count} moves");
+    }
+    Ok(())
+}

@@ -1,0 +1,195 @@
+//! Transactions that move a key: their homes and parts, and what they come to.
+ghost use Rattle.std.specs.Prelude.{◌≡◌, IfOk, map};
+ghost use Rattle.dt_access.specs.Orders.{HasAscendingKeys};
+ghost use Rattle.dt_txn.specs.Transaction.{CanRun, used_of, uses_of};
+
+use dt_access::{Part, TxnId, Writes, put_id};
+use dt_proc::{Procs, builtin_procs};
+use dt_table::{Effect, Table};
+use dt_text::{Key, NoMemory, Value, put_u64, put_value};
+use dt_txn::{Body, Outcome, Txn, annotate, execute, execute_seen, homes, part_at, parts, see};
+use std::alloc::Global;
+use std::test::Fail;
+
+/// The id of the transaction that a test is about.
+const ID: TxnId = TxnId { seq: 2, region: 0 };
+
+/// The id of a transaction before it.
+const MOVER: TxnId = TxnId { seq: 1, region: 1 };
+
+/// A table of three regions, in which the key `b` has the value 5 at its home, region 2.
+fn opened(alloc: Global) -> Result<Table, Fail> {
+    let rows = [(Key::read(alloc, b"b")?, Value::Int(5))];
+    Ok(Table::new(alloc, 3, &[], rows.as_slice())?)
+}
+
+/// The same table after the key `b` was moved to region 1.
+fn moved(alloc: Global) -> Result<Table, Fail> {
+    let mut table = opened(alloc)?;
+    let key = Key::read(alloc, b"b")?;
+    if table.mastership(&key).counter > 1000 {
+        return Err(Fail::from("a key has few moves"));
+    }
+    table.reserve(1)?;
+    table.apply(Effect {
+        writes: Writes::new(alloc),
+        moved: Some((key, 1, MOVER)),
+    });
+    Ok(table)
+}
+
+/// The transaction that moves a key to a region, by the table before any move.
+fn a_move(alloc: Global, procs: &Procs, key: &[u8; 1], target: u8) -> Result<Txn, Fail>
+    ensures body { IfOk result (λ txn. CanRun procs.now txn.body) }
+    ensures uses { IfOk result (λ txn. map used_of txn.access ≡ uses_of procs.now txn.body) }
+    ensures ascending { IfOk result (λ txn. HasAscendingKeys (map used_of txn.access)) }
+{
+    let body = Body::Move(Key::read(alloc, key)?, target);
+    let table = opened(alloc)?;
+    Ok(annotate(alloc, ID, body, procs, &table)?)
+}
+
+/// Adds a part: its home, its keys with their modes, and all homes.
+fn put_part(alloc: Global, out: &mut Vec<u8>, part: &Part) -> Result<(), NoMemory> {
+    put_u64(alloc, out, u64::from(part.home))?;
+    out.push(b':')?;
+    for (key, mode) in part.keys.as_slice() {
+        out.push(if mode.is_write() { b'w' } else { b'r' })?;
+        out.extend_from_slice(key.bytes())?;
+    }
+    for home in part.homes.as_slice() {
+        out.push(b'@')?;
+        put_u64(alloc, out, u64::from(*home))?;
+    }
+    out.push(b' ')?;
+    Ok(())
+}
+
+/// The homes of a move, its parts, and its part at its target, in words.
+fn parts_told(alloc: Global, key: &[u8; 1], target: u8) -> Result<Vec<u8>, Fail> {
+    let procs = builtin_procs(alloc)?;
+    let txn = a_move(alloc, &procs, key, target)?;
+    let mut out = Vec::new(alloc);
+    for home in homes(alloc, &txn.copy(alloc)?)?.as_slice() {
+        put_u64(alloc, &mut out, u64::from(*home))?;
+        out.push(b' ')?;
+    }
+    for part in parts(alloc, &txn)? {
+        put_part(alloc, &mut out, &part)?;
+    }
+    put_part(alloc, &mut out, &part_at(alloc, &txn, target)?)?;
+    Ok(out)
+}
+
+#[test]
+fn a_move_has_a_part_with_its_key_at_each_of_its_homes(rt: HostRuntime) -> Result<(), Fail> {
+    let rows: [(&[u8; 1], u8, &[u8]); 3] = [
+        (b"b", 0, b"0 2 0:wb@0@2 2:wb@0@2 0:wb@0@2 "),
+        (b"a", 2, b"1 2 1:wa@1@2 2:wa@1@2 2:wa@1@2 "),
+        (b"b", 2, b"2 2:wb@2 2:wb@2 "),
+    ];
+    for (key, target, want) in rows {
+        assert_eq!(rt; parts_told(rt.alloc(), key, target)?.as_slice(), want);
+    }
+    Ok(())
+}
+
+/// Adds an outcome and what changes by it.
+fn put_outcome(
+    alloc: Global,
+    out: &mut Vec<u8>,
+    outcome: &Outcome,
+    effect: &Effect,
+) -> Result<(), NoMemory> {
+    match outcome {
+        Outcome::Gave(values) => {
+            out.extend_from_slice(b"gave ")?;
+            put_u64(alloc, out, values.len() as u64)?;
+        }
+        Outcome::Aborted(_) => out.extend_from_slice(b"aborted")?,
+        Outcome::Stale { key, had, by } => {
+            out.extend_from_slice(b"stale ")?;
+            out.extend_from_slice(key.bytes())?;
+            out.push(b' ')?;
+            put_u64(alloc, out, u64::from(*had))?;
+            out.push(b' ')?;
+            put_id(alloc, out, *by)?;
+        }
+    }
+    out.extend_from_slice(b", writes ")?;
+    put_u64(alloc, out, effect.writes.as_slice().len() as u64)?;
+    if let Some((key, target, by)) = &effect.moved {
+        out.extend_from_slice(b", moves ")?;
+        out.extend_from_slice(key.bytes())?;
+        out.push(b' ')?;
+        put_u64(alloc, out, u64::from(*target))?;
+        out.push(b' ')?;
+        put_id(alloc, out, *by)?;
+    }
+    Ok(())
+}
+
+/// What a move sees of its row: the value, how often it was moved, and who made the next move.
+fn seen_told(alloc: Global, key: &[u8; 1], table: &Table) -> Result<Vec<u8>, Fail> {
+    let procs = builtin_procs(alloc)?;
+    let txn = a_move(alloc, &procs, key, 0)?;
+    let mut out = Vec::new(alloc);
+    for row in see(alloc, &txn, table)?.as_slice() {
+        if let Some(value) = &row.value {
+            put_value(alloc, &mut out, value)?;
+        }
+        out.push(b' ')?;
+        put_u64(alloc, &mut out, u64::from(row.counter))?;
+        out.push(b' ')?;
+        if let Some(mover) = row.mover {
+            put_id(alloc, &mut out, mover)?;
+        }
+    }
+    Ok(out)
+}
+
+/// What a move of a key to region 0 comes to on a table; from what it sees there it comes to the same.
+fn outcome_told(alloc: Global, key: &[u8; 1], table: &Table) -> Result<Vec<u8>, Fail> {
+    let procs = builtin_procs(alloc)?;
+    let txn = a_move(alloc, &procs, key, 0)?;
+    let mut out = Vec::new(alloc);
+    let (outcome, effect) = execute(alloc, &txn, &procs, table)?;
+    put_outcome(alloc, &mut out, &outcome.copy(alloc)?, &effect)?;
+    let seen = see(alloc, &txn, table)?;
+    if seen.len() != txn.access.len() {
+        return Err(Fail::from("each row is seen"));
+    }
+    let (outcome, effect) = execute_seen(alloc, &txn, &procs, &seen)?;
+    let mut same = Vec::new(alloc);
+    put_outcome(alloc, &mut same, &outcome, &effect)?;
+    if same != out {
+        return Err(Fail::from("it comes to the same"));
+    }
+    Ok(out)
+}
+
+/// What a move of a key sees and comes to, before or after the key `b` was moved.
+fn told(alloc: Global, key: &[u8; 1], is_moved: bool) -> Result<Vec<u8>, Fail> {
+    let table = if is_moved {
+        moved(alloc)?
+    } else {
+        opened(alloc)?
+    };
+    let mut out = seen_told(alloc, key, &table)?;
+    out.extend_from_slice(b": ")?;
+    out.extend_from_slice(outcome_told(alloc, key, &table)?.as_slice())?;
+    Ok(out)
+}
+
+#[test]
+fn a_move_is_stale_after_another_of_its_key(rt: HostRuntime) -> Result<(), Fail> {
+    let rows: [(&[u8; 1], bool, &[u8]); 3] = [
+        (b"b", false, b"5 0 : gave 0, writes 0, moves b 0 2.0"),
+        (b"b", true, b"5 1 1.1: stale b 0 1.1, writes 0"),
+        (b"a", true, b" 0 : gave 0, writes 0, moves a 0 2.0"),
+    ];
+    for (key, is_moved, want) in rows {
+        assert_eq!(rt; told(rt.alloc(), key, is_moved)?.as_slice(), want);
+    }
+    Ok(())
+}

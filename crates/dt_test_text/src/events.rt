@@ -1,0 +1,94 @@
+//! Events: what a file of them is read as, and what is printed of it.
+use dt_events::{EventsError, put_event, read_events};
+use std::alloc::Global;
+use std::test::Fail;
+
+/// More bytes than a test reads.
+const MANY: usize = 100000;
+
+/// The events of a file, each copied and printed, or the line that is none.
+fn told(alloc: Global, file: &[u8]) -> Result<Vec<u8>, Fail> {
+    if file.len() > MANY {
+        return Err(Fail::from("a test reads few bytes"));
+    }
+    match read_events(alloc, file) {
+        Ok(events) => {
+            let mut out = Vec::new(alloc);
+            for (_line, event) in events.as_slice() {
+                put_event(alloc, &mut out, &event.copy(alloc)?)?;
+            }
+            Ok(out)
+        }
+        Err(EventsError::Form(line)) => {
+            Ok(
+                format!(in alloc; "no event in line {line}")?
+                    .as_bytes()
+                    .to_vec(alloc)?,
+            )
+        }
+        Err(EventsError::NoMemory) => Err(Fail::from(EventsError::NoMemory)),
+    }
+}
+
+#[test]
+fn each_line_is_an_event_in_one_spelling_or_none(rt: HostRuntime) -> Result<(), Fail> {
+    let files: [(&[u8], &[u8]); 30] = [
+        (b"", b""),
+        (b"submit 0 a", b"submit 0 a\n"),
+        (b"append 255 0 4294967295", b"append 255 0 4294967295\n"),
+        (b"deliver 1 0 0 2", b"deliver 1 0 0 2\n"),
+        (b"insert 1 0", b"insert 1 0\n"),
+        (b"resolve 0 2.0 1.1 1.1", b"resolve 0 2.0 1.1 1.1\n"),
+        (b"execute 0 4294967295.255", b"execute 0 4294967295.255\n"),
+        (b"answer 0 s_01", b"answer 0 s_01\n"),
+        (b"  insert   1 0  ", b"insert 1 0\n"),
+        (b"#\n\nanswer 0 a\ninsert 1 0", b"answer 0 a\ninsert 1 0\n"),
+        (b"submit", b"no event in line 1"),
+        (b"submit 0", b"no event in line 1"),
+        (b"submit 0 a b", b"no event in line 1"),
+        (b"submit 256 a", b"no event in line 1"),
+        (b"submit 0 A", b"no event in line 1"),
+        (b"submit 0 \"a\"", b"no event in line 1"),
+        (b"submit 0 a\t", b"no event in line 1"),
+        (b"append 0 0 00", b"no event in line 1"),
+        (b"append 0 0 4294967296", b"no event in line 1"),
+        (b"deliver 0 0 0", b"no event in line 1"),
+        (b"insert 0 256", b"no event in line 1"),
+        (b"insert 0 -1", b"no event in line 1"),
+        (b"resolve 0 1.0", b"no event in line 1"),
+        (b"execute 0 0.1", b"no event in line 1"),
+        (b"execute 0 1", b"no event in line 1"),
+        (b"execute 0 1.0 2.0", b"no event in line 1"),
+        (b"Insert 1 0", b"no event in line 1"),
+        (b"jump 0 a", b"no event in line 1"),
+        (
+            b"# rows\xff\nsubmit 0 a\n\nappend 0 0 00\nnothing\n",
+            b"no event in line 4",
+        ),
+        (b"submit 0 a\nsubmit 0", b"no event in line 2"),
+    ];
+    for (file, want) in files {
+        assert_eq!(rt; told(rt.alloc(), file)?.as_slice(), want);
+    }
+    Ok(())
+}
+
+#[test]
+fn there_are_as_many_events_and_ids_as_are_listed(rt: HostRuntime) -> Result<(), Fail> {
+    let files: [(&[u8], &[u8], u32); 3] = [
+        (b"", b"deliver 1 0 0 2\n", 700),
+        (b"", b"answer 0 a\n", 5000),
+        (b"resolve 0", b" 1.0", 700),
+    ];
+    for (front, piece, times) in files {
+        let mut file = front.to_vec(rt.alloc())?;
+        for _ in 0..times {
+            file.extend_from_slice(piece)?;
+        }
+        if !file.ends_with(b"\n") {
+            file.push(b'\n')?;
+        }
+        assert_eq!(rt; told(rt.alloc(), file.as_slice())?, file);
+    }
+    Ok(())
+}

@@ -1,0 +1,10 @@
+//! Tests of the world: which events are legal, and what they come to.
+//! A case is a cluster, a workload and a list of events, as a reader would write them; there is no other code here.
+#![tactic(auto)]
+
+#[cfg(test)]
+mod cases;
+#[cfg(test)]
+mod regions;
+#[cfg(test)]
+mod worlds;
