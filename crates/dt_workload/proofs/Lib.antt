@@ -3,3 +3,5 @@ mod Forms
 mod Steps
 pub mod OneForm
 pub mod OneFile
+pub mod Decisions
+pub mod Outcomes
