@@ -11,7 +11,7 @@ use Rattle.dt_text.specs.declared.Word.{Word}
 use Rattle.dt_text.specs.declared.Value.{Value}
 use Rattle.dt_text.proofs.ReadingLaws.{exact}
 use Rattle.dt_workload.specs.Lines.{Bytes, Said, bare, said, Form, HasForm, IsArgument, argument_word}
-use Rattle.dt_workload.specs.Reading.{IsNoBeginning, ReadsForm, ReadsRegion, Refuses, form_of}
+use Rattle.dt_workload.specs.ReaderParts.{IsNoBeginning, ReadsForm, ReadsRegion, Refuses, form_of}
 use Rattle.dt_workload.specs.File.{IsSessionFault}
 use Rattle.dt_workload.specs.declared.workload.Session.{Session}
 use Rattle.dt_workload.specs.declared.error.Refusal.{Refusal}

@@ -24,7 +24,7 @@ use Rattle.dt_workload.specs.Lines.{Bytes, Said, said, Form, session_line, call_
 use Rattle.dt_workload.specs.Valid.{session_names, session_count_at, calls_in}
 use Rattle.dt_workload.specs.File.{AreSessions, IsWorkload, Needs, NothingMore, FitsIf, GivesKeys, proc_name, proc_named}
 use Rattle.dt_workload.specs.File.{IsFormFault, IsLineFault, IsWorkloadFault}
-use Rattle.dt_workload.specs.Reading.{FormGoesOn, LineGoesOn, IsWithWanted, wanting}
+use Rattle.dt_workload.specs.ReaderParts.{FormGoesOn, LineGoesOn, IsWithWanted, wanting}
 use Rattle.dt_workload.specs.Laws.{WorkloadFilesHaveAnOutcome}
 use Rattle.dt_workload.specs.declared.workload.Wanted.{Wanted}
 use Rattle.dt_workload.specs.declared.workload.Wanted.TheVariants.{Call, Move}

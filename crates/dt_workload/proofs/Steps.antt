@@ -20,7 +20,7 @@ use Rattle.dt_cluster.specs.declared.Cluster.{Cluster}
 use Rattle.dt_workload.specs.Lines.{Bytes, Form, session_line, call_line, move_line, HasForm}
 use Rattle.dt_workload.specs.File.{wanted_line, session_lines, all_lines, AreSessions, proc_named}
 use Rattle.dt_workload.specs.Valid.{session_names, session_count_at, calls_in, WantedFits, IsValidSession, IsValidWorkload}
-use Rattle.dt_workload.specs.Reading.{wanting, IsWithWanted, FormGoesOn, LineGoesOn}
+use Rattle.dt_workload.specs.ReaderParts.{wanting, IsWithWanted, FormGoesOn, LineGoesOn}
 use Rattle.dt_workload.specs.declared.workload.Wanted.{Wanted}
 use Rattle.dt_workload.specs.declared.workload.Wanted.TheVariants.{Call, Move}
 use Rattle.dt_workload.specs.declared.workload.Session.{Session}

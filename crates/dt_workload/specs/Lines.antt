@@ -1,4 +1,6 @@
--- The forms that a line of a workload file can have.
+-- The forms that a line of a workload file can have: `session NAME at REGION`, `call PROC ARG ..`, `move KEY to REGION`. A line
+-- has a form where its words are those of the form; a number and a text have one spelling each, so a line has one form at
+-- most. Next: `File`, what lines make together.
 use Rattle.std.specs.Prelude.{◌≡◌, ℕ, ◌<◌, ◌^◌, List, [], ◌∷◌, map, codes, FitsSigned}
 use Rattle.std.specs.Int.{w64}
 use Rattle.std.specs.List.{slice_range}

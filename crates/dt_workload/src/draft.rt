@@ -7,7 +7,7 @@ ghost use Rattle.dt_cluster.specs.Valid.{IsValidCluster};
 ghost use Rattle.dt_workload.specs.File.{IsCallFault, IsLineFault, IsMoveFault, IsSessionFault, proc_name, proc_named};
 ghost use Rattle.dt_workload.specs.Valid.{calls_in, session_names, session_count_at};
 ghost use Rattle.dt_workload.specs.Lines as lines;
-ghost use Rattle.dt_workload.specs.Reading.{CanBegin, FormGoesOn, HasCount, IsNoBeginning, IsNoCall, IsNoKey, IsWithWanted, LineGoesOn, Refuses};
+ghost use Rattle.dt_workload.specs.ReaderParts.{CanBegin, FormGoesOn, HasCount, IsNoBeginning, IsNoCall, IsNoKey, IsWithWanted, LineGoesOn, Refuses};
 ghost use Rattle.dt_workload.specs.declared.error.WorkloadCause.TheVariants as cause;
 
 use crate::error::{Refusal, WorkloadCause};

@@ -4,7 +4,7 @@ ghost use Rattle.dt_lists.specs.Lists.{AllIn};
 ghost use Rattle.dt_text.specs.Reading.{IsWordIn};
 ghost use Rattle.dt_workload.specs.Lines.{HasForm, IsArgument, argument_word, bare, said};
 ghost use Rattle.dt_workload.specs.Lines as lines;
-ghost use Rattle.dt_workload.specs.Reading.{form_of, ReadsForm, ReadsRegion};
+ghost use Rattle.dt_workload.specs.ReaderParts.{form_of, ReadsForm, ReadsRegion};
 ghost use Rattle.dt_text.specs.declared.Value.{Value as AnyValue};
 
 use dt_eval::Args;
