@@ -7,8 +7,8 @@ use Rattle.dt_access.specs.declared.TxnId.{TxnId}
 use Rattle.dt_access.specs.declared.Part.{Part}
 use Rattle.dt_sched.specs.Views.{View, log_at, HasPart, AreClashing, Edge, here, onward, Reaches, IsPresent, HasParts, IsComplete, IsClosed, Mutual, Precedes, IsClass, IsWellFormed, HasOneHomeEach}
 use Rattle.dt_sched.specs.Decide.{IsExecutable, IsResolvable, IsDownward}
-use Rattle.dt_sched.proofs.Ids.{either_id}
-use Rattle.dt_sched.proofs.Chains.{chain_step}
+use Rattle.dt_access.proofs.Ids.{either_id}
+use Rattle.dt_lists.proofs.Chains.{chain_step}
 use Rattle.dt_sched.proofs.Closed.{home_of_edge, complete_of_closed}
 use Rattle.dt_sched.proofs.Reach.{reach_source, present_of_complete}
 use Rattle.dt_sched.proofs.Classes.{class_alone}
@@ -83,7 +83,10 @@ module _ (view : View) (w : IsWellFormed view) (one : HasOneHomeEach view) where
   complete_of_present t there =
       let h : (home : ℕ) × (home < length view) × HasPart (log_at view home) t = any_at _ [] view there in
       let p : (p : Part) × Has (log_at view h.0) p × (p.id ≡ t) = any_get _ (log_at view h.0) h.2 in
-      let parts : HasParts view p.0.homes t = all_put _ p.0.homes (λ home k. subst (λ c. HasPart (log_at view c) t) (only_item p.0.homes h.0 home (all_get _ (log_at view h.0) (one_at h.0) p.0 p.1) (all_get _ (log_at view h.0) (w.homed h.0) p.0 p.1).1 k) h.2) in
+      let one = all_get _ (log_at view h.0) (one_at h.0) p.0 p.1 in
+      let homed = all_get _ (log_at view h.0) (w.homed h.0) p.0 p.1 in
+      let parts : HasParts view p.0.homes t =
+      all_put _ p.0.homes (λ home k. subst (λ c. HasPart (log_at view c) t) (only_item p.0.homes h.0 home one homed.1 k) h.2) in
       any_from_at _ [] view h.0 (λ e. e) (any_put _ (log_at view h.0) p.0 p.1 (p.2, parts))
 
   pub closed_where_present : (t : TxnId) → IsClosed view t ↔ IsPresent view t
