@@ -11,7 +11,8 @@ use Rattle.dt_proc.specs.declared.error.ProcError.{ProcError}
 use Rattle.dt_proc.specs.declared.error.ProcError.TheVariants as refused
 use Rattle.dt_proc.proofs.OneOutcome.{one_outcome}
 use Rattle.toml.specs.Data.{Data, string, integer, float, boolean, datetime, array, table, Members, get_member}
-use Rattle.dt_cluster.specs.Document.{Bytes, Entry, IsDocument, entries_of, AreEntries, AreEntriesAt, IsNoTable, IsFirstFaulty}
+use Rattle.dt_text.specs.Texts.{Bytes}
+use Rattle.dt_cluster.specs.Document.{Entry, IsDocument, entries_of, AreEntries, AreEntriesAt, IsNoTable, IsFirstFaulty}
 use Rattle.dt_cluster.specs.Numbers.{NumberEntry, GivesNumber, IsAtFault, HasNumber, HasBadNumber, regions_entry, workers_entry, tries_entry, drop_entry, repeat_entry}
 use Rattle.dt_cluster.specs.Rows.{IsHome, IsNoHome, IsBadHome, IsValue, IsNoValue, IsRow, IsBadRow}
 use Rattle.dt_cluster.specs.File.{IsKnown, AreKnown, IsUnknownFault, HasNumbers, number_entries, IsNumberFault, GivesProcs, IsToldAs, IsProcsFaultAt, HasProcs}

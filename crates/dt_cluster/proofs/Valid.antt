@@ -14,7 +14,8 @@ use Rattle.dt_text.specs.declared.value.Value.{Value}
 use Rattle.dt_text.specs.declared.value.Value.TheVariants.{Int, Text}
 use Rattle.dt_proc.specs.Sound.{AreProcs}
 use Rattle.toml.specs.Data.{Data, string, integer, float, boolean, datetime, array, table, Members, get_member}
-use Rattle.dt_cluster.specs.Document.{Bytes, Entry, AreEntries, AreEntriesAt}
+use Rattle.dt_text.specs.Texts.{Bytes}
+use Rattle.dt_cluster.specs.Document.{Entry, AreEntries, AreEntriesAt}
 use Rattle.dt_cluster.specs.Numbers.{NumberEntry, GivesNumber, within, regions_entry, workers_entry, tries_entry, drop_entry, repeat_entry}
 use Rattle.dt_cluster.specs.Rows.{IsHome, IsRow, IsValue}
 use Rattle.dt_cluster.specs.File.{HasNumbers, HasHomes, HasRows}

@@ -5,11 +5,9 @@ use Rattle.std.specs.Prelude.{◌≡◌, ◌⊎◌, ℕ, List, [], ◌∷◌, ma
 use Rattle.std.specs.Ordering.{nat_cmp}
 use Rattle.std.specs.Cmp.Lexicographic.{slice_cmp}
 use Rattle.std.specs.List.Sorted.{IsStrictlySortedBy}
+use Rattle.dt_text.specs.Texts.{Bytes}
 use Rattle.toml.specs.Data.{Data, Members, no_members, member, table}
 use Rattle.toml.specs.Parse.{parse_document}
-
-abbrev pub Bytes : Type 0
-Bytes = List ℕ
 
 -- an entry of a table: its name and its value
 abbrev pub Entry : Type 0

@@ -10,7 +10,8 @@ use Rattle.dt_proc.specs.Outcome.{Outcome}
 use Rattle.dt_proc.specs.declared.error.ProcError.{ProcError}
 use Rattle.dt_proc.specs.declared.error.ProcError.TheVariants as refused
 use Rattle.toml.specs.Data.{Data, string, Members, get_member}
-use Rattle.dt_cluster.specs.Document.{Bytes, Entry, IsDocument, AreEntries, AreEntriesAt, IsNoTable, IsFirstFaulty}
+use Rattle.dt_text.specs.Texts.{Bytes}
+use Rattle.dt_cluster.specs.Document.{Entry, IsDocument, AreEntries, AreEntriesAt, IsNoTable, IsFirstFaulty}
 use Rattle.dt_cluster.specs.Numbers.{NumberEntry, regions_entry, workers_entry, tries_entry, drop_entry, repeat_entry, HasNumber, HasBadNumber}
 use Rattle.dt_cluster.specs.Rows.{IsHome, IsBadHome, IsRow, IsBadRow}
 use Rattle.dt_cluster.specs.declared.cluster.Cluster.{Cluster}

@@ -1,7 +1,7 @@
 -- What holds of cluster files: a file is one cluster at most, it has one fault at most, and a file that is a cluster has none.
 -- So what the reader answers is the only thing that it could answer, memory aside.
 use Rattle.std.specs.Prelude.{◌≡◌}
-use Rattle.dt_cluster.specs.Document.{Bytes}
+use Rattle.dt_text.specs.Texts.{Bytes}
 use Rattle.dt_cluster.specs.File.{IsCluster, IsClusterFault}
 use Rattle.dt_cluster.specs.declared.cluster.Cluster.{Cluster}
 use Rattle.dt_cluster.specs.declared.error.ClusterFault.{ClusterFault}

@@ -2,7 +2,7 @@
 -- what its fault is. `File` puts them in their order.
 use Rattle.std.specs.Prelude.{◌≡◌, ℕ, Bool, true, false, ◌&&◌, ◌||◌, ◌==◌, nat_le, ℤ, pos, Option, Some, None, codes}
 use Rattle.toml.specs.Data.{Data, integer, Members, get_member}
-use Rattle.dt_cluster.specs.Document.{Bytes}
+use Rattle.dt_text.specs.Texts.{Bytes}
 use Rattle.dt_cluster.specs.declared.error.ClusterCause.{ClusterCause}
 use Rattle.dt_cluster.specs.declared.error.ClusterCause.TheVariants.{Missing, Kind, Range}
 

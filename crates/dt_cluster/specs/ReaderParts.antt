@@ -4,7 +4,8 @@ use Rattle.std.specs.Prelude.{◌≡◌, ℕ, List}
 use Rattle.dt_lists.specs.Lists.{Pairwise}
 use Rattle.dt_text.specs.declared.value.Value.{Value}
 use Rattle.toml.specs.Data.{Members}
-use Rattle.dt_cluster.specs.Document.{Bytes, Entry, AreEntries, IsFirstFaulty}
+use Rattle.dt_text.specs.Texts.{Bytes}
+use Rattle.dt_cluster.specs.Document.{Entry, AreEntries, IsFirstFaulty}
 use Rattle.dt_cluster.specs.Numbers.{NumberEntry, HasBadNumber}
 use Rattle.dt_cluster.specs.Rows.{IsHome, IsBadHome, IsRow, IsBadRow}
 use Rattle.dt_cluster.specs.declared.error.ClusterCause.{ClusterCause}

@@ -6,7 +6,8 @@ use Rattle.dt_text.specs.Texts.{IsKey, IsStr}
 use Rattle.dt_text.specs.declared.value.Value.{Value}
 use Rattle.dt_text.specs.declared.value.Value.TheVariants.{Int, Text}
 use Rattle.toml.specs.Data.{Data, integer, string}
-use Rattle.dt_cluster.specs.Document.{Bytes, Entry}
+use Rattle.dt_text.specs.Texts.{Bytes}
+use Rattle.dt_cluster.specs.Document.{Entry}
 use Rattle.dt_cluster.specs.declared.error.ClusterCause.{ClusterCause}
 use Rattle.dt_cluster.specs.declared.error.ClusterCause.TheVariants.{BadKey, BadText, Kind, Range}
 

@@ -6,13 +6,14 @@ use Rattle.std.specs.List.{list_all}
 use Rattle.std.specs.Fmt.{decimal, signed_decimal}
 use Rattle.std.specs.Str.Parse.{digits_value}
 use Rattle.dt_lists.specs.Lists.{AllIn, Has, Pairwise, Either}
-use Rattle.dt_lists.proofs.Decided.{either_not, either_and, either_and3, either_or, either_same, either_all, either_has, either_nat, either_le, either_true, either_list}
+use Rattle.dt_lists.proofs.Callers.{either_not, either_and, either_and3, either_or, either_same, either_all, either_has, either_nat, either_le, either_true, either_list}
 use Rattle.dt_text.specs.Texts.{IsKey, IsName, IsStr, is_key_byte, is_name_byte, is_text_byte}
 use Rattle.dt_text.specs.Numbers.{ReadsSignedNumber}
-use Rattle.dt_text.proofs.Numerals.{decimal_value, minus_none, minus_some, plain_none, plain_some}
+use Rattle.dt_text.proofs.Callers.{decimal_value, minus_none, minus_some, plain_none, plain_some}
 use Rattle.dt_text.specs.declared.Value.{Value}
 use Rattle.dt_text.specs.declared.Value.TheVariants.{Int, Text}
-use Rattle.dt_workload.specs.Lines.{Bytes, Said, bare, quoted, Form, session_line, call_line, move_line, argument_word, form_words, IsArgument, IsForm}
+use Rattle.dt_text.specs.Texts.{Bytes}
+use Rattle.dt_workload.specs.Lines.{Said, bare, quoted, Form, session_line, call_line, move_line, argument_word, form_words, IsArgument, IsForm}
 
 -- ---- bytes, keys and names
 

@@ -1,4 +1,3 @@
-mod Cuts
 mod Forms
 mod Steps
 pub mod OneForm

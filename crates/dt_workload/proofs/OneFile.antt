@@ -8,9 +8,10 @@ use Rattle.std.specs.Cmp.Lexicographic.{pointwise, bytes_decides}
 use Rattle.std.proofs.lemmas.Bool.Decides.{nat_tests}
 use Rattle.std.proofs.lemmas.List.{map-append}
 use Rattle.std.proofs.lemmas.List.Sums.{sum_by-append}
+use Rattle.dt_lists.proofs.Callers.{same_head, same_tail}
 use Rattle.dt_lists.specs.Lists.{AllIn, Has, Distinct, Pairwise}
-use Rattle.dt_lists.proofs.Words.{all_get, all_append_right, each_across, has_map}
-use Rattle.dt_lists.proofs.Places.{has_place, place_within}
+use Rattle.dt_lists.proofs.Callers.{all_get, all_append_right, each_across, has_map}
+use Rattle.dt_lists.proofs.Callers.{has_place, place_within}
 use Rattle.dt_text.specs.Texts.{IsKey, IsName}
 use Rattle.dt_text.specs.Lines.{FileLine, lines_of}
 use Rattle.dt_text.specs.declared.Value.{Value}
@@ -18,7 +19,8 @@ use Rattle.dt_proc.specs.Tree.{ProcTree}
 use Rattle.dt_proc.specs.Names.{place_of_name}
 use Rattle.dt_cluster.specs.declared.Cluster.{Cluster}
 use Rattle.dt_cluster.specs.Valid.{IsValidCluster}
-use Rattle.dt_workload.specs.Lines.{Bytes, Form, session_line, call_line, move_line, HasForm}
+use Rattle.dt_text.specs.Texts.{Bytes}
+use Rattle.dt_workload.specs.Lines.{Form, session_line, call_line, move_line, HasForm}
 use Rattle.dt_workload.specs.File.{proc_name, wanted_line, all_lines, AreSessions, IsWorkload, Needs, NothingMore, proc_named, FitsIf, GivesKeys, IsFormFault, IsLineFault, IsWorkloadFault}
 use Rattle.dt_workload.specs.Valid.{session_names, session_count_at, calls_in, WantedFits, IsValidSession, IsValidWorkload}
 use Rattle.dt_workload.specs.declared.workload.Wanted.{Wanted}
@@ -27,7 +29,7 @@ use Rattle.dt_workload.specs.declared.workload.Session.{Session}
 use Rattle.dt_workload.specs.declared.workload.Workload.{Workload}
 use Rattle.dt_workload.specs.declared.error.WorkloadCause.{WorkloadCause}
 use Rattle.dt_workload.specs.declared.error.WorkloadCause.TheVariants as cause
-use Rattle.dt_workload.proofs.OneForm.{head-is, tail-is, one_form}
+use Rattle.dt_workload.proofs.OneForm.{same_head, same_tail, one_form}
 
 -- ---- the procedure of a name
 
@@ -110,7 +112,7 @@ no_session_line procs name region (Move key target) e = cc
 -- lines of sessions do not begin with that of a call or move
 no_wanted_first : (procs : List ProcTree) (xs : List Session) (w : Wanted) (more : List Form) → all_lines procs xs ≡ wanted_line procs w ∷ more → ⊥
 no_wanted_first procs [] w more e = cc
-no_wanted_first procs (x ∷ xs) w more e = no_session_line procs x.name x.region w (head-is e)
+no_wanted_first procs (x ∷ xs) w more e = no_session_line procs x.name x.region w (same_head e)
 
 -- the one calls and moves are the others and more
 record GoOn (procs : List ProcTree) (calls others : List Wanted) (rest : List Form) : Type 0 where
@@ -129,7 +131,7 @@ split_calls cluster once xs [] (w ∷ others) rest h k e = absurd (no_wanted_fir
 split_calls cluster once xs (w ∷ calls) [] rest h k e =
     inr (record { wanted = w; later = calls; lines = map (wanted_line cluster.procs) calls ++ all_lines cluster.procs xs; is = refl; told = sym e })
 split_calls cluster once xs (v ∷ calls) (w ∷ others) rest h k e =
-    one_more (same_wanted cluster once v w h.0 k.0 (head-is e)) (split_calls cluster once xs calls others rest h.1 k.1 (tail-is e))
+    one_more (same_wanted cluster once v w h.0 k.0 (same_head e)) (split_calls cluster once xs calls others rest h.1 k.1 (same_tail e))
   where
     one_more : v ≡ w → ((calls ≡ others) × (all_lines cluster.procs xs ≡ rest)) ⊎ GoOn cluster.procs calls others rest
         → ((v ∷ calls ≡ w ∷ others) × (all_lines cluster.procs xs ≡ rest)) ⊎ GoOn cluster.procs (v ∷ calls) (w ∷ others) rest
@@ -186,9 +188,9 @@ last_goes_on procs y x [] xs (form ∷ rest) head g =
       later = xs;
       was = refl;
       is = λ i. record { name = name i; region = region i; calls = g.is i } ∷ xs;
-      told = head-is g.told;
+      told = same_head g.told;
     })
-last_goes_on procs y x (z ∷ ys) xs rest head g = absurd (no_session_line procs z.name z.region g.wanted (head-is g.told))
+last_goes_on procs y x (z ∷ ys) xs rest head g = absurd (no_session_line procs z.name z.region g.wanted (same_head g.told))
 
 onward : (cluster : Cluster) → HaveNames cluster.procs → (before all : List Session) (rest : List Form)
     → AllIn (IsValidSession cluster.procs cluster.regions) before → AllIn (IsValidSession cluster.procs cluster.regions) all
@@ -196,15 +198,15 @@ onward : (cluster : Cluster) → HaveNames cluster.procs → (before all : List 
 onward cluster once [] [] [] h k e = refl
 onward cluster once [] [] (form ∷ rest) h k e = absurd cc
 onward cluster once [] (x ∷ xs) [] h k e = absurd cc
-onward cluster once [] (x ∷ xs) (form ∷ rest) h k e = inl (record { session = x; later = xs; is = refl; told = sym (head-is e) })
+onward cluster once [] (x ∷ xs) (form ∷ rest) h k e = inl (record { session = x; later = xs; is = refl; told = sym (same_head e) })
 onward cluster once (y ∷ ys) [] rest h k e = absurd cc
 onward cluster once (y ∷ ys) (x ∷ xs) rest h k e =
     by (split_calls cluster once xs x.calls y.calls (all_lines cluster.procs ys ++ rest) k.0.calls h.0.calls
-    (tail-is e ∙ append_assoc (map (wanted_line cluster.procs) y.calls) (all_lines cluster.procs ys) rest))
+    (same_tail e ∙ append_assoc (map (wanted_line cluster.procs) y.calls) (all_lines cluster.procs ys) rest))
     (λ lines. onward cluster once ys xs rest h.1 k.1 lines)
   where
     head : session_line x.name x.region ≡ session_line y.name y.region
-    head = head-is e
+    head = same_head e
 
     by : ((x.calls ≡ y.calls) × (all_lines cluster.procs xs ≡ all_lines cluster.procs ys ++ rest)) ⊎ GoOn cluster.procs x.calls y.calls (all_lines cluster.procs ys ++ rest)
         → (all_lines cluster.procs xs ≡ all_lines cluster.procs ys ++ rest → Onward cluster.procs ys xs rest) → Onward cluster.procs (y ∷ ys) (x ∷ xs) rest
@@ -380,10 +382,10 @@ Cuts xs x ys y =
     ((xs ≡ ys) × (x ≡ y)) ⊎ (((more : List FileLine) × (ys ≡ xs ++ x ∷ more)) ⊎ ((more : List FileLine) × (xs ≡ ys ++ y ∷ more)))
 
 cuts : (xs : List FileLine) (x : FileLine) (us ys : List FileLine) (y : FileLine) (vs : List FileLine) → xs ++ x ∷ us ≡ ys ++ y ∷ vs → Cuts xs x ys y
-cuts [] x us [] y vs e = inl (refl, head-is e)
-cuts [] x us (z ∷ ys) y vs e = inr (inl (ys, ap (λ l. l ∷ ys) (sym (head-is e))))
-cuts (z ∷ xs) x us [] y vs e = inr (inr (xs, ap (λ l. l ∷ xs) (head-is e)))
-cuts (z ∷ xs) x us (w ∷ ys) y vs e = one_more (head-is e) (cuts xs x us ys y vs (tail-is e))
+cuts [] x us [] y vs e = inl (refl, same_head e)
+cuts [] x us (z ∷ ys) y vs e = inr (inl (ys, ap (λ l. l ∷ ys) (sym (same_head e))))
+cuts (z ∷ xs) x us [] y vs e = inr (inr (xs, ap (λ l. l ∷ xs) (same_head e)))
+cuts (z ∷ xs) x us (w ∷ ys) y vs e = one_more (same_head e) (cuts xs x us ys y vs (same_tail e))
   where
     one_more : z ≡ w → Cuts xs x ys y → Cuts (z ∷ xs) x (w ∷ ys) y
     one_more same (inl (l, k)) = inl ((λ i. same i ∷ l i), k)

@@ -2,12 +2,13 @@
 use Rattle.std.proofs.Common.{◌≡◌, ◌≢◌, ◌⊎◌, inl, inr, ℕ, ◌<◌, Bool, true, List, [], ◌∷◌, ◌++◌, map, length, slice_get, Option, Some, None, IsSome, is_some}
 use Rattle.std.proofs.Common.{refl, sym, ap, ◌∙◌, subst, arith, append_assoc, append-nil}
 use Rattle.std.specs.Option.{option_and_then}
+use Rattle.std.proofs.lemmas.Option.{same_Some}
 use Rattle.dt_lists.specs.Lists.{AllIn, Has, Pairwise, Either}
-use Rattle.dt_lists.proofs.Decided.{either_not, either_all, either_has}
+use Rattle.dt_lists.proofs.Callers.{either_not, either_all, either_has}
 use Rattle.dt_text.specs.Texts.{IsKey, IsName}
 use Rattle.dt_text.specs.Lines.{FileLine, lines_of}
 use Rattle.dt_text.specs.Reading.{words_of}
-use Rattle.dt_text.proofs.ReadingLaws.{exact}
+use Rattle.dt_text.proofs.Callers.{exact}
 use Rattle.dt_text.specs.declared.Word.{Word}
 use Rattle.dt_text.specs.declared.Value.{Value}
 use Rattle.dt_text.specs.declared.Value.TheVariants as val
@@ -20,7 +21,8 @@ use Rattle.dt_eval.specs.Meaning.{IsOfKind, Fits, HasKeys, names_of}
 use Rattle.dt_eval.specs.Calls.{CallFits}
 use Rattle.dt_cluster.specs.declared.Cluster.{Cluster}
 use Rattle.dt_cluster.specs.Valid.{IsValidCluster}
-use Rattle.dt_workload.specs.Lines.{Bytes, Said, said, Form, session_line, call_line, move_line, HasForm, IsForm}
+use Rattle.dt_text.specs.Texts.{Bytes}
+use Rattle.dt_workload.specs.Lines.{Said, said, Form, session_line, call_line, move_line, HasForm, IsForm}
 use Rattle.dt_workload.specs.Valid.{session_names, session_count_at, calls_in}
 use Rattle.dt_workload.specs.File.{AreSessions, IsWorkload, Needs, NothingMore, FitsIf, GivesKeys, proc_name, proc_named}
 use Rattle.dt_workload.specs.File.{IsFormFault, IsLineFault, IsWorkloadFault}
@@ -163,9 +165,6 @@ of_form : (cluster : Cluster) (before : List Session) (line : Bytes) (form : For
 of_form cluster before line form has (inl (after, on)) = inl (after, (form, has, on))
 of_form cluster before line form has (inr (told, fault)) = inr (told, inr (form, has, fault))
 
-some_is : {A : Type 0} {x y : A} → Some x ≡ Some y → x ≡ y
-some_is e = cc
-
 of_words : (cluster : Cluster) → IsValidCluster cluster → (before : List Session) (line : Bytes) (words : List Word) → words_of line ≡ Some words
     → Either (SayForm (map (said line) words)) → LineComesTo cluster before line
 of_words cluster valid before line words is (inl (form, fits, says)) =
@@ -174,7 +173,7 @@ of_words cluster valid before line words is (inr not_so) = inr (cause.Form, inl 
   where
     none : (form : Form) → ¬ (HasForm line form)
     none form has =
-        let same : has.1.0 ≡ words = some_is (sym ((exact line has.1.0).1 has.1.1) ∙ is) in
+        let same : has.1.0 ≡ words = same_Some _ _ (sym ((exact line has.1.0).1 has.1.1) ∙ is) in
         not_so (form, has.0, ap (map (said line)) (sym same) ∙ has.1.2)
 
 line_comes_to : (cluster : Cluster) → IsValidCluster cluster → (before : List Session) (line : Bytes) (words : Option (List Word)) → words_of line ≡ words

@@ -8,16 +8,17 @@ use Rattle.std.proofs.lemmas.List.Quantifiers.{position-Some}
 use Rattle.std.proofs.lemmas.Option.{get_or_from_slice_get}
 use Rattle.std.proofs.lemmas.Bool.Decides.{nat_tests}
 use Rattle.dt_lists.specs.Lists.{AllIn, Has, Pairwise}
-use Rattle.dt_lists.proofs.Words.{all_append, all_append_left, all_append_right, all_get}
-use Rattle.dt_lists.proofs.Distinct.{distinct_push}
-use Rattle.dt_lists.proofs.Places.{has_place}
+use Rattle.dt_lists.proofs.Callers.{all_append, all_append_left, all_append_right, all_get}
+use Rattle.dt_lists.proofs.Callers.{distinct_push}
+use Rattle.dt_lists.proofs.Callers.{has_place}
 use Rattle.dt_text.specs.Texts.{IsKey}
 use Rattle.dt_text.specs.Lines.{FileLine}
 use Rattle.dt_proc.specs.Tree.{ProcTree}
 use Rattle.dt_proc.specs.Names.{place_of_name}
 use Rattle.dt_eval.specs.Keys.{IsFirstBad}
 use Rattle.dt_cluster.specs.declared.Cluster.{Cluster}
-use Rattle.dt_workload.specs.Lines.{Bytes, Form, session_line, call_line, move_line, HasForm}
+use Rattle.dt_text.specs.Texts.{Bytes}
+use Rattle.dt_workload.specs.Lines.{Form, session_line, call_line, move_line, HasForm}
 use Rattle.dt_workload.specs.File.{wanted_line, session_lines, all_lines, AreSessions, proc_named}
 use Rattle.dt_workload.specs.Valid.{session_names, session_count_at, calls_in, WantedFits, IsValidSession, IsValidWorkload}
 use Rattle.dt_workload.specs.ReaderParts.{wanting, IsWithWanted, FormGoesOn, LineGoesOn}

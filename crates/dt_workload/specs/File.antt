@@ -11,7 +11,8 @@ use Rattle.dt_proc.specs.Tree.{ProcTree}
 use Rattle.dt_proc.specs.Names.{place_of_name}
 use Rattle.dt_eval.specs.Meaning.{Fits, HasKeys}
 use Rattle.dt_cluster.specs.declared.Cluster.{Cluster}
-use Rattle.dt_workload.specs.Lines.{Bytes, Form, session_line, call_line, move_line, HasForm}
+use Rattle.dt_text.specs.Texts.{Bytes}
+use Rattle.dt_workload.specs.Lines.{Form, session_line, call_line, move_line, HasForm}
 use Rattle.dt_workload.specs.Valid.{session_names, session_count_at, calls_in, IsValidWorkload}
 use Rattle.dt_workload.specs.declared.workload.Wanted.{Wanted}
 use Rattle.dt_workload.specs.declared.workload.Wanted.TheVariants.{Call, Move}

@@ -3,7 +3,7 @@
 use Rattle.std.specs.Prelude.{◌≡◌, ◌⊎◌, ℕ}
 use Rattle.dt_cluster.specs.declared.Cluster.{Cluster}
 use Rattle.dt_cluster.specs.Valid.{IsValidCluster}
-use Rattle.dt_workload.specs.Lines.{Bytes}
+use Rattle.dt_text.specs.Texts.{Bytes}
 use Rattle.dt_workload.specs.File.{IsWorkload, IsWorkloadFault}
 use Rattle.dt_workload.specs.declared.workload.Workload.{Workload}
 use Rattle.dt_workload.specs.declared.error.WorkloadCause.{WorkloadCause}

@@ -6,15 +6,12 @@ use Rattle.std.specs.Int.{w64}
 use Rattle.std.specs.List.{slice_range}
 use Rattle.std.specs.Fmt.{decimal, signed_decimal}
 use Rattle.dt_lists.specs.Lists.{AllIn}
-use Rattle.dt_text.specs.Texts.{IsStr}
+use Rattle.dt_text.specs.Texts.{Bytes, IsStr}
 use Rattle.dt_text.specs.Words.{AreWords}
 use Rattle.dt_text.specs.declared.Word.{Word}
 use Rattle.dt_text.specs.declared.Word.TheVariants as word
 use Rattle.dt_text.specs.declared.Value.{Value}
 use Rattle.dt_text.specs.declared.Value.TheVariants.{Int, Text}
-
-abbrev pub Bytes : Type 0
-Bytes = List ℕ
 
 -- a word by what it says: a bare word its bytes, a text word its text
 pub data Said : Type 0 where

@@ -3,7 +3,8 @@
 use Rattle.std.specs.Prelude.{◌≡◌, ◌≢◌, ℕ, ◌<◌, ◌≤◌, ◌^◌, List, [], ◌∷◌, ◌++◌, slice_get, Option, MatchOption, IsSome}
 use Rattle.std.specs.Fmt.{decimal}
 use Rattle.dt_workload.specs.Lines as lines
-use Rattle.dt_workload.specs.Lines.{Bytes, Said, bare, form_words, IsForm, HasForm}
+use Rattle.dt_text.specs.Texts.{Bytes}
+use Rattle.dt_workload.specs.Lines.{Said, bare, form_words, IsForm, HasForm}
 use Rattle.dt_workload.specs.File.{proc_name, Needs, NothingMore, FitsIf, GivesKeys}
 use Rattle.dt_workload.specs.Valid.{session_names, session_count_at, calls_in}
 use Rattle.dt_proc.specs.Tree.{ProcTree}

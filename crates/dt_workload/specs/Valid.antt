@@ -8,7 +8,7 @@ use Rattle.dt_text.specs.Texts.{IsKey, IsName}
 use Rattle.dt_proc.specs.Tree.{ProcTree}
 use Rattle.dt_eval.specs.Calls.{CallFits}
 use Rattle.dt_cluster.specs.declared.Cluster.{Cluster}
-use Rattle.dt_workload.specs.Lines.{Bytes}
+use Rattle.dt_text.specs.Texts.{Bytes}
 use Rattle.dt_workload.specs.declared.workload.Wanted.{Wanted}
 use Rattle.dt_workload.specs.declared.workload.Wanted.TheVariants.{Call, Move}
 use Rattle.dt_workload.specs.declared.workload.Session.{Session}

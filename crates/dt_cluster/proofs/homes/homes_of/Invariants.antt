@@ -1,7 +1,8 @@
 -- The entries so far are the homes so far: what is left decides.
 use Rattle.std.proofs.Common.{ℕ, List, ◌++◌}
 use Rattle.dt_lists.specs.Lists.{Pairwise}
-use Rattle.dt_cluster.specs.Document.{Bytes, IsFirstFaulty}
+use Rattle.dt_text.specs.Texts.{Bytes}
+use Rattle.dt_cluster.specs.Document.{IsFirstFaulty}
 use Rattle.dt_cluster.specs.Rows.{IsHome, IsBadHome}
 use Rattle.dt_cluster.specs.declared.error.ClusterCause.{ClusterCause}
 use Rattle.dt_cluster.proofs.Listing.{listed}

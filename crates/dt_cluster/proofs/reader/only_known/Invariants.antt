@@ -1,7 +1,8 @@
 -- The names so far are known: what is left decides.
 use Rattle.std.proofs.Common.{◌≡◌}
 use Rattle.dt_lists.specs.Lists.{AllIn}
-use Rattle.dt_cluster.specs.Document.{Bytes, IsFirstFaulty}
+use Rattle.dt_text.specs.Texts.{Bytes}
+use Rattle.dt_cluster.specs.Document.{IsFirstFaulty}
 use Rattle.dt_cluster.specs.File.{IsKnown}
 use Rattle.dt_cluster.specs.declared.error.ClusterCause.{ClusterCause}
 use Rattle.dt_cluster.specs.declared.error.ClusterCause.TheVariants as cause

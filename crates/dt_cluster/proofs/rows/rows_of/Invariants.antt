@@ -2,7 +2,8 @@
 use Rattle.std.proofs.Common.{ℕ, List, ◌++◌}
 use Rattle.dt_lists.specs.Lists.{Pairwise}
 use Rattle.dt_text.specs.declared.value.Value.{Value}
-use Rattle.dt_cluster.specs.Document.{Bytes, IsFirstFaulty}
+use Rattle.dt_text.specs.Texts.{Bytes}
+use Rattle.dt_cluster.specs.Document.{IsFirstFaulty}
 use Rattle.dt_cluster.specs.Rows.{IsRow, IsBadRow}
 use Rattle.dt_cluster.specs.declared.error.ClusterCause.{ClusterCause}
 use Rattle.dt_cluster.proofs.Listing.{listed}

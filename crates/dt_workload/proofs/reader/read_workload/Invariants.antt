@@ -4,7 +4,7 @@ use Rattle.dt_lists.specs.Lists.{AllIn}
 use Rattle.dt_text.specs.Lines.{FileLine, lines_of}
 use Rattle.dt_workload.specs.File.{AreSessions}
 use Rattle.dt_workload.specs.ReaderParts.{HasCount}
-use Rattle.dt_workload.proofs.Cuts.{IsLineWithin}
+use Rattle.dt_text.proofs.Callers.{IsLineWithin}
 use Rattle.dt_workload.proofs.reader.read_workload.Given as goal
 
 abbrev pub invariant-loop-line : goal.invariant-loop-line
