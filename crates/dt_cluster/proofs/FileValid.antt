@@ -5,7 +5,7 @@ use Rattle.dt_proc.specs.Tree.{ProcTree}
 use Rattle.dt_proc.specs.Sound.{AreProcs}
 use Rattle.dt_proc.proofs.SoundProcs.{outcome_sound, builtin_sound}
 use Rattle.toml.specs.Data.{Data, string, integer, float, boolean, datetime, array, table, get_member}
-use Rattle.dt_cluster.specs.Document.{Bytes}
+use Rattle.dt_text.specs.Texts.{Bytes}
 use Rattle.dt_cluster.specs.File.{GivesProcs, IsCluster}
 use Rattle.dt_cluster.specs.Builtin.{builtin_cluster}
 use Rattle.dt_cluster.specs.Valid.{IsValidCluster}

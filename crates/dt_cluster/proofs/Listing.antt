@@ -1,6 +1,8 @@
 -- The entries of a map as those of the table that it stands for, and what the accessors of values find.
 use Rattle.std.proofs.lemmas.Bool.{false≢true}
-use Rattle.std.proofs.Common.{◌≡◌, ◌↔◌, ◌⊎◌, inl, inr, ℕ, ℤ, ◌<◌, ◌≤◌, Bool, true, false, cond, not, ◌&&◌, List, [], ◌∷◌, ◌++◌, length, map, position, Option, Some, None, option_map, String, Global, BTreeMap, Ordering, Less, Equal, Greater, string_bytes, nat_cmp, is_eq, refl, sym, ap, ◌∙◌, IsTrue, Result, Ok, Err, IfErr}
+use Rattle.std.proofs.Common.{◌≡◌, ◌↔◌, ◌⊎◌, inl, inr, ℕ, ℤ, ◌<◌, ◌≤◌, Bool, true, false, cond, not, ◌&&◌, List, [], ◌∷◌, ◌++◌, length, map, position, Option}
+use Rattle.std.proofs.Common.{Some, None, option_map, String, Global, BTreeMap, Ordering, Less, Equal, Greater, string_bytes, nat_cmp, is_eq, refl, sym, ap}
+use Rattle.std.proofs.Common.{◌∙◌, IsTrue, Result, Ok, Err, IfErr}
 use Rattle.std.specs.Result.{IsErrAnd}
 use Rattle.std.specs.Cmp.Lexicographic.{slice_cmp}
 use Rattle.std.specs.List.{AllByRecursion, list_all}
@@ -9,12 +11,12 @@ use Rattle.std.specs.Map.{keys_of, lookup}
 use Rattle.std.specs.String.{string_cmp}
 use Rattle.std.specs.Ordering.{match_ordering}
 use Rattle.dt_text.specs.Texts.{first_outside}
-use Rattle.dt_text.proofs.Allowed.{outside_where}
+use Rattle.dt_text.proofs.Callers.{outside_where}
 use Rattle.toml.specs.Data.{Data, string, integer, float, boolean, datetime, array, table, as_str, as_integer, as_table, get_member, same_key, Members}
 use Rattle.toml.specs.View.{view, members_view}
 use Rattle.toml.specs.declared.value.Value.{Value}
 use Rattle.dt_cluster.specs.Document.{Entry, entries_of, AreEntries}
-use Rattle.dt_cluster.specs.Finding.{Tells}
+use Rattle.dt_cluster.specs.ReaderParts.{TellsFault}
 use Rattle.dt_cluster.specs.declared.error.ClusterFault.{ClusterFault}
 use Rattle.dt_cluster.specs.declared.error.ClusterError.{ClusterError}
 use Rattle.dt_cluster.specs.declared.error.ClusterError.TheVariants.{Fault, NoMemory}
@@ -53,7 +55,7 @@ pub byte_outside : (allowed : ℕ → Bool) (bs : List ℕ) (place : ℕ) → fi
 byte_outside allowed bs place found all = refused _ _ _ place (outside_where allowed bs) found all
 
 -- what is told is told of more
-pub tells_more : (P Q : ClusterFault → Type 0) → ((f : ClusterFault) → P f → Q f) → (e : ClusterError) → Tells P e → Tells Q e
+pub tells_more : (P Q : ClusterFault → Type 0) → ((f : ClusterFault) → P f → Q f) → (e : ClusterError) → TellsFault P e → TellsFault Q e
 tells_more P Q more (Fault f) h = more f h
 tells_more P Q more NoMemory h = tt
 

@@ -11,10 +11,12 @@ use Rattle.dt_proc.specs.declared.error.ProcError.{ProcError}
 use Rattle.dt_proc.specs.declared.error.ProcError.TheVariants as refused
 use Rattle.dt_proc.proofs.OneOutcome.{one_outcome}
 use Rattle.toml.specs.Data.{Data, string, integer, float, boolean, datetime, array, table, Members, get_member}
-use Rattle.dt_cluster.specs.Document.{Bytes, Entry, IsDocument, entries_of, AreEntries, AreEntriesAt, IsNoTable, IsFirstBad}
-use Rattle.dt_cluster.specs.Numbers.{NumberEntry, Gives, IsAtFault, HasNumber, HasBadNumber, regions_entry, workers_entry, tries_entry, drop_entry, repeat_entry}
+use Rattle.dt_text.specs.Texts.{Bytes}
+use Rattle.dt_cluster.specs.Document.{Entry, IsDocument, entries_of, AreEntries, AreEntriesAt, IsNoTable, IsFirstFaulty}
+use Rattle.dt_cluster.specs.Numbers.{NumberEntry, GivesNumber, IsAtFault, HasNumber, HasBadNumber, regions_entry, workers_entry, tries_entry, drop_entry, repeat_entry}
 use Rattle.dt_cluster.specs.Rows.{IsHome, IsNoHome, IsBadHome, IsValue, IsNoValue, IsRow, IsBadRow}
-use Rattle.dt_cluster.specs.File.{IsKnown, AreKnown, IsUnknownFault, HasNumbers, number_entries, IsNumberFault, GivesProcs, told, IsProcsFaultAt, HasProcs, IsProcsFault, HasHomes, IsHomesFault, HasRows, IsRowsFault, IsClusterOf, IsFaultOf, IsCluster, IsClusterFault}
+use Rattle.dt_cluster.specs.File.{IsKnown, AreKnown, IsUnknownFault, HasNumbers, number_entries, IsNumberFault, GivesProcs, IsToldAs, IsProcsFaultAt, HasProcs}
+use Rattle.dt_cluster.specs.File.{IsProcsFault, HasHomes, IsHomesFault, HasRows, IsRowsFault, IsClusterOf, IsFaultOf, IsCluster, IsClusterFault}
 use Rattle.dt_cluster.specs.declared.cluster.Cluster.{Cluster}
 use Rattle.dt_cluster.specs.declared.error.ClusterCause.{ClusterCause}
 use Rattle.dt_cluster.specs.declared.error.ClusterCause.TheVariants as cause
@@ -71,7 +73,7 @@ no_list_at (Some (array ds)) xs none h = h
 
 -- ---- numbers
 
-one_number : (e : NumberEntry) (d : Option Data) (n m : ℕ) → Gives e d n → Gives e d m → n ≡ m
+one_number : (e : NumberEntry) (d : Option Data) (n m : ℕ) → GivesNumber e d n → GivesNumber e d m → n ≡ m
 one_number e None n m h k = some-is (sym h ∙ k)
 one_number e (Some (integer z)) n m h k = pos-is (sym h.0 ∙ k.0)
 one_number e (Some (string s)) n m h k = absurd h
@@ -81,7 +83,7 @@ one_number e (Some (datetime t)) n m h k = absurd h
 one_number e (Some (array ds)) n m h k = absurd h
 one_number e (Some (table ms)) n m h k = absurd h
 
-number_or_fault : (e : NumberEntry) (d : Option Data) (n : ℕ) (c : ClusterCause) → Gives e d n → IsAtFault e d c → ⊥
+number_or_fault : (e : NumberEntry) (d : Option Data) (n : ℕ) (c : ClusterCause) → GivesNumber e d n → IsAtFault e d c → ⊥
 number_or_fault e None n c h k = none-some k.1 h
 number_or_fault e (Some (integer z)) n c h k = false≢true (sym (k.1 n h.0) ∙ h.1)
 number_or_fault e (Some (string s)) n c h k = h
@@ -104,13 +106,13 @@ one_number_fault e (Some (table ms)) b c h k = h ∙ sym k
 -- ---- first faults in lists
 
 fine_or_bad : {A C : Type 0} (name_of : A → Bytes) (Fine : A → Type 0) (Bad : A → C → Type 0) → ((x : A) (c : C) → Fine x → Bad x c → ⊥)
-    → (xs : List A) (name : Bytes) (c : C) → AllIn Fine xs → IsFirstBad name_of Fine Bad xs name c → ⊥
+    → (xs : List A) (name : Bytes) (c : C) → AllIn Fine xs → IsFirstFaulty name_of Fine Bad xs name c → ⊥
 fine_or_bad name_of Fine Bad apart [] name c fine bad = bad
 fine_or_bad name_of Fine Bad apart (x ∷ xs) name c fine (inl here) = apart x c fine.0 here.1
 fine_or_bad name_of Fine Bad apart (x ∷ xs) name c fine (inr later) = fine_or_bad name_of Fine Bad apart xs name c fine.1 later.1
 
 one_bad : {A C : Type 0} (name_of : A → Bytes) (Fine : A → Type 0) (Bad : A → C → Type 0) → ((x : A) (c : C) → Fine x → Bad x c → ⊥) → ((x : A) (b c : C) → Bad x b → Bad x c → b ≡ c)
-    → (xs : List A) (m n : Bytes) (b c : C) → IsFirstBad name_of Fine Bad xs m b → IsFirstBad name_of Fine Bad xs n c → (m ≡ n) × (b ≡ c)
+    → (xs : List A) (m n : Bytes) (b c : C) → IsFirstFaulty name_of Fine Bad xs m b → IsFirstFaulty name_of Fine Bad xs n c → (m ≡ n) × (b ≡ c)
 one_bad name_of Fine Bad apart one [] m n b c h k = absurd h
 one_bad name_of Fine Bad apart one (x ∷ xs) m n b c (inl h) (inl k) = (h.0 ∙ sym k.0, one x b c h.1 k.1)
 one_bad name_of Fine Bad apart one (x ∷ xs) m n b c (inl h) (inr k) = absurd (apart x b k.0 h.1)
@@ -227,7 +229,7 @@ procs_or_fault (Some (datetime t)) p f h k = h
 procs_or_fault (Some (array ds)) p f h k = h
 procs_or_fault (Some (table ms)) p f h k = h
 
-told_once : (e : ProcError) (f g : ClusterFault) → told e f → told e g → f ≡ g
+told_once : (e : ProcError) (f g : ClusterFault) → IsToldAs e f → IsToldAs e g → f ≡ g
 told_once (refused.Syntax at) f g h k = h ∙ sym k
 told_once (refused.Unknown at) f g h k = h ∙ sym k
 told_once (refused.Kind at) f g h k = h ∙ sym k
@@ -238,7 +240,7 @@ told_once refused.NoMemory f g h k = absurd h
 one_procs_fault : (d : Option Data) (f g : ClusterFault) → IsProcsFaultAt d f → IsProcsFaultAt d g → f ≡ g
 one_procs_fault None f g h k = absurd h
 one_procs_fault (Some (string s)) f g h k =
-    told_once h.0 f g h.2 (subst (λ e. told e g) (err-is (Err k.0) (Err h.0) k.0 h.0 refl refl (one_outcome s (Err k.0) (Err h.0) k.1 h.1)) k.2)
+    told_once h.0 f g h.2 (subst (λ e. IsToldAs e g) (err-is (Err k.0) (Err h.0) k.0 h.0 refl refl (one_outcome s (Err k.0) (Err h.0) k.1 h.1)) k.2)
 one_procs_fault (Some (integer z)) f g h k = h ∙ sym k
 one_procs_fault (Some (float x)) f g h k = h ∙ sym k
 one_procs_fault (Some (boolean b)) f g h k = h ∙ sym k
@@ -254,12 +256,12 @@ Unknown e c = (c ≡ cause.Unknown) × ¬ (IsKnown e)
 known_or_fault : (top : Members) (f : ClusterFault) → AreKnown top → IsUnknownFault top f → ⊥
 known_or_fault top f (xs, are, all) (name, is, (ys, are', bad)) =
     fine_or_bad (λ e. e.0) IsKnown Unknown (λ e c fine un. un.1 fine) xs name cause.Unknown all
-    (subst (λ es. IsFirstBad (λ e. e.0) IsKnown Unknown es name cause.Unknown) (one_list top ys xs are' are) bad)
+    (subst (λ es. IsFirstFaulty (λ e. e.0) IsKnown Unknown es name cause.Unknown) (one_list top ys xs are' are) bad)
 
 one_unknown_fault : (top : Members) (f g : ClusterFault) → IsUnknownFault top f → IsUnknownFault top g → f ≡ g
 one_unknown_fault top f g (m, is, (xs, are, bad)) (n, is', (ys, are', bad')) =
     let same = one_bad (λ e. e.0) IsKnown Unknown (λ e c fine un. un.1 fine) (λ e b c h k. h.0 ∙ sym k.0) xs m n cause.Unknown cause.Unknown bad
-    (subst (λ es. IsFirstBad (λ e. e.0) IsKnown Unknown es n cause.Unknown) (one_list top ys xs are' are) bad') in
+    (subst (λ es. IsFirstFaulty (λ e. e.0) IsKnown Unknown es n cause.Unknown) (one_list top ys xs are' are) bad') in
     is ∙ ap (λ v. record { place = place.Entry v; cause = cause.Unknown }) same.0 ∙ sym is'
 
 abbrev FineNumber : Members → NumberEntry → Type 0
@@ -285,7 +287,7 @@ homes_or_fault : (top : Members) (regions : ℕ) (homes : List (Bytes × ℕ)) (
 homes_or_fault top regions homes f (xs, are, pairs) (inl none) = no_list_at (get_member (codes "homes") top) xs none.0 are
 homes_or_fault top regions homes f (xs, are, pairs) (inr (name, why, is, (ys, are', bad))) =
     fine_or_bad (λ e. e.0) (FineHome regions) (IsBadHome regions) (home_or_bad regions) xs name why (each_left (IsHome regions) xs homes pairs)
-    (subst (λ es. IsFirstBad (λ e. e.0) (FineHome regions) (IsBadHome regions) es name why) (one_list_at (get_member (codes "homes") top) ys xs are' are) bad)
+    (subst (λ es. IsFirstFaulty (λ e. e.0) (FineHome regions) (IsBadHome regions) es name why) (one_list_at (get_member (codes "homes") top) ys xs are' are) bad)
 
 one_homes_fault : (top : Members) (regions : ℕ) (f g : ClusterFault) → IsHomesFault top regions f → IsHomesFault top regions g → f ≡ g
 one_homes_fault top regions f g (inl h) (inl k) = h.1 ∙ sym k.1
@@ -293,7 +295,7 @@ one_homes_fault top regions f g (inl h) (inr (n, why, is, (xs, are, bad))) = abs
 one_homes_fault top regions f g (inr (n, why, is, (xs, are, bad))) (inl k) = absurd (no_list_at (get_member (codes "homes") top) xs k.0 are)
 one_homes_fault top regions f g (inr (m, why, is, (xs, are, bad))) (inr (n, why', is', (ys, are', bad'))) =
     let same = one_bad (λ e. e.0) (FineHome regions) (IsBadHome regions) (home_or_bad regions) (one_bad_home regions) xs m n why why' bad
-    (subst (λ es. IsFirstBad (λ e. e.0) (FineHome regions) (IsBadHome regions) es n why') (one_list_at (get_member (codes "homes") top) ys xs are' are) bad') in
+    (subst (λ es. IsFirstFaulty (λ e. e.0) (FineHome regions) (IsBadHome regions) es n why') (one_list_at (get_member (codes "homes") top) ys xs are' are) bad') in
     is ∙ (λ i. record { place = place.Home (same.0 i); cause = same.1 i }) ∙ sym is'
 
 one_homes : (top : Members) (regions : ℕ) (h k : List (Bytes × ℕ)) → HasHomes top regions h → HasHomes top regions k → h ≡ k
@@ -307,7 +309,7 @@ rows_or_fault : (top : Members) (rows : List (Bytes × Value)) (f : ClusterFault
 rows_or_fault top rows f (xs, are, pairs) (inl none) = no_list_at (get_member (codes "rows") top) xs none.0 are
 rows_or_fault top rows f (xs, are, pairs) (inr (name, why, is, (ys, are', bad))) =
     fine_or_bad (λ e. e.0) FineRow IsBadRow row_or_bad xs name why (each_left IsRow xs rows pairs)
-    (subst (λ es. IsFirstBad (λ e. e.0) FineRow IsBadRow es name why) (one_list_at (get_member (codes "rows") top) ys xs are' are) bad)
+    (subst (λ es. IsFirstFaulty (λ e. e.0) FineRow IsBadRow es name why) (one_list_at (get_member (codes "rows") top) ys xs are' are) bad)
 
 one_rows_fault : (top : Members) (f g : ClusterFault) → IsRowsFault top f → IsRowsFault top g → f ≡ g
 one_rows_fault top f g (inl h) (inl k) = h.1 ∙ sym k.1
@@ -315,7 +317,7 @@ one_rows_fault top f g (inl h) (inr (n, why, is, (xs, are, bad))) = absurd (no_l
 one_rows_fault top f g (inr (n, why, is, (xs, are, bad))) (inl k) = absurd (no_list_at (get_member (codes "rows") top) xs k.0 are)
 one_rows_fault top f g (inr (m, why, is, (xs, are, bad))) (inr (n, why', is', (ys, are', bad'))) =
     let same = one_bad (λ e. e.0) FineRow IsBadRow row_or_bad one_bad_row xs m n why why' bad
-    (subst (λ es. IsFirstBad (λ e. e.0) FineRow IsBadRow es n why') (one_list_at (get_member (codes "rows") top) ys xs are' are) bad') in
+    (subst (λ es. IsFirstFaulty (λ e. e.0) FineRow IsBadRow es n why') (one_list_at (get_member (codes "rows") top) ys xs are' are) bad') in
     is ∙ (λ i. record { place = place.Row (same.0 i); cause = same.1 i }) ∙ sym is'
 
 one_rows : (top : Members) (r s : List (Bytes × Value)) → HasRows top r → HasRows top s → r ≡ s

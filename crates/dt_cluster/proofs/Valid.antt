@@ -1,5 +1,6 @@
 -- What a file gives is a cluster that can be.
-use Rattle.std.proofs.Common.{◌≡◌, ◌⊎◌, inl, inr, ℕ, ◌<◌, ◌≤◌, ℤ, pos, Bool, true, false, ◌&&◌, ◌||◌, ◌==◌, nat_le, List, [], ◌∷◌, map, Option, Some, None, Ordering, Less, Equal, Greater, nat_cmp, refl, sym, ap, ◌∙◌, subst, arith, FitsSigned}
+use Rattle.std.proofs.Common.{◌≡◌, ◌⊎◌, inl, inr, ℕ, ◌<◌, ◌≤◌, ℤ, pos, Bool, true, false, ◌&&◌, ◌||◌, ◌==◌, nat_le, List, [], ◌∷◌, map, Option, Some, None}
+use Rattle.std.proofs.Common.{Ordering, Less, Equal, Greater, nat_cmp, refl, sym, ap, ◌∙◌, subst, arith, FitsSigned}
 use Rattle.std.specs.Int.{w64}
 use Rattle.std.specs.Cmp.{tied_itself}
 use Rattle.std.proofs.lemmas.Cmp.{nat_list_cmp_total}
@@ -13,8 +14,9 @@ use Rattle.dt_text.specs.declared.value.Value.{Value}
 use Rattle.dt_text.specs.declared.value.Value.TheVariants.{Int, Text}
 use Rattle.dt_proc.specs.Sound.{AreProcs}
 use Rattle.toml.specs.Data.{Data, string, integer, float, boolean, datetime, array, table, Members, get_member}
-use Rattle.dt_cluster.specs.Document.{Bytes, Entry, AreEntries, AreEntriesAt}
-use Rattle.dt_cluster.specs.Numbers.{NumberEntry, Gives, within, regions_entry, workers_entry, tries_entry, drop_entry, repeat_entry}
+use Rattle.dt_text.specs.Texts.{Bytes}
+use Rattle.dt_cluster.specs.Document.{Entry, AreEntries, AreEntriesAt}
+use Rattle.dt_cluster.specs.Numbers.{NumberEntry, GivesNumber, within, regions_entry, workers_entry, tries_entry, drop_entry, repeat_entry}
 use Rattle.dt_cluster.specs.Rows.{IsHome, IsRow, IsValue}
 use Rattle.dt_cluster.specs.File.{HasNumbers, HasHomes, HasRows}
 use Rattle.dt_cluster.specs.Valid.{IsRowValue, IsDrop, IsValidCluster}
@@ -22,7 +24,7 @@ use Rattle.dt_cluster.specs.declared.cluster.Cluster.{Cluster}
 
 -- an entry gives a number that it allows, where what stands for it is allowed
 given_allowed : (entry : NumberEntry) (P : ℕ → Type 0) → ((n : ℕ) → entry.absent ≡ Some n → P n) → ((n : ℕ) → entry.allows n ≡ true → P n)
-    → (d : Option Data) (n : ℕ) → Gives entry d n → P n
+    → (d : Option Data) (n : ℕ) → GivesNumber entry d n → P n
 given_allowed entry P absent allowed None n h = absent n h
 given_allowed entry P absent allowed (Some (integer z)) n h = allowed n h.1
 given_allowed entry P absent allowed (Some (string s)) n h = absurd h
@@ -35,16 +37,16 @@ given_allowed entry P absent allowed (Some (table ms)) n h = absurd h
 is_within : (least greatest n : ℕ) → within least greatest n ≡ true → (least ≤ n) × (n ≤ greatest)
 is_within least greatest n h = (grind (arith, nat_tests), grind (arith, nat_tests))
 
-regions_within : (d : Option Data) (n : ℕ) → Gives regions_entry d n → (1 ≤ n) × (n ≤ 8)
+regions_within : (d : Option Data) (n : ℕ) → GivesNumber regions_entry d n → (1 ≤ n) × (n ≤ 8)
 regions_within d n h = given_allowed regions_entry (λ n. (1 ≤ n) × (n ≤ 8)) (λ n e. absurd cc) (is_within 1 8) d n h
 
-workers_within : (d : Option Data) (n : ℕ) → Gives workers_entry d n → (1 ≤ n) × (n ≤ 16)
+workers_within : (d : Option Data) (n : ℕ) → GivesNumber workers_entry d n → (1 ≤ n) × (n ≤ 16)
 workers_within d n h = given_allowed workers_entry (λ n. (1 ≤ n) × (n ≤ 16)) (λ n e. rw (← same_some 4 n e) (omega arith, omega arith)) (is_within 1 16) d n h
   where
     same_some : (a b : ℕ) → Some a ≡ Some b → a ≡ b
     same_some a b e = cc
 
-tries_within : (d : Option Data) (n : ℕ) → Gives tries_entry d n → (1 ≤ n) × (n ≤ 8)
+tries_within : (d : Option Data) (n : ℕ) → GivesNumber tries_entry d n → (1 ≤ n) × (n ≤ 8)
 tries_within d n h = given_allowed tries_entry (λ n. (1 ≤ n) × (n ≤ 8)) (λ n e. rw (← same_some 3 n e) (omega arith, omega arith)) (is_within 1 8) d n h
   where
     same_some : (a b : ℕ) → Some a ≡ Some b → a ≡ b
@@ -53,13 +55,13 @@ tries_within d n h = given_allowed tries_entry (λ n. (1 ≤ n) × (n ≤ 8)) (�
 drop_allowed : (n : ℕ) → (n == 0 || within 2 1000 n) ≡ true → IsDrop n
 drop_allowed n h = grind (arith, nat_tests)
 
-drop_within : (d : Option Data) (n : ℕ) → Gives drop_entry d n → IsDrop n
+drop_within : (d : Option Data) (n : ℕ) → GivesNumber drop_entry d n → IsDrop n
 drop_within d n h = given_allowed drop_entry IsDrop (λ n e. inl (sym (same_some 0 n e))) drop_allowed d n h
   where
     same_some : (a b : ℕ) → Some a ≡ Some b → a ≡ b
     same_some a b e = cc
 
-repeat_within : (d : Option Data) (n : ℕ) → Gives repeat_entry d n → n ≤ 1000
+repeat_within : (d : Option Data) (n : ℕ) → GivesNumber repeat_entry d n → n ≤ 1000
 repeat_within d n h = given_allowed repeat_entry (λ n. n ≤ 1000) (λ n e. rw (← same_some 0 n e) (omega arith)) (λ n e. (is_within 0 1000 n e).1) d n h
   where
     same_some : (a b : ℕ) → Some a ≡ Some b → a ≡ b

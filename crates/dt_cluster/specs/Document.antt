@@ -1,13 +1,13 @@
--- A cluster file as a document of TOML, and a table of it as the list of its entries.
+-- A cluster file as a document of TOML, and a table of it as the list of its entries by ascending names. What a document is,
+-- is the crate `toml`'s matter (`parse_document`); all that is said of cluster files stands on its table. Next: `Numbers` and
+-- `Rows`, the entries one by one, and `File`, the whole file.
 use Rattle.std.specs.Prelude.{◌≡◌, ◌⊎◌, ℕ, List, [], ◌∷◌, map, Option, Some, None, IsUtf8}
 use Rattle.std.specs.Ordering.{nat_cmp}
 use Rattle.std.specs.Cmp.Lexicographic.{slice_cmp}
 use Rattle.std.specs.List.Sorted.{IsStrictlySortedBy}
+use Rattle.dt_text.specs.Texts.{Bytes}
 use Rattle.toml.specs.Data.{Data, Members, no_members, member, table}
 use Rattle.toml.specs.Parse.{parse_document}
-
-abbrev pub Bytes : Type 0
-Bytes = List ℕ
 
 -- an entry of a table: its name and its value
 abbrev pub Entry : Type 0
@@ -40,7 +40,7 @@ IsNoTable (Some (table _)) = ⊥
 IsNoTable (Some other) = Unit {0}
 
 -- the first item of a list that is at fault has this name and this cause, and each before it is fine
-abbrev pub IsFirstBad : {A C : Type 0} → (A → Bytes) → (A → Type 0) → (A → C → Type 0) → List A → Bytes → C → Type 0
-IsFirstBad name_of Fine Bad [] name cause = ⊥
-IsFirstBad name_of Fine Bad (x ∷ xs) name cause =
-    ((name ≡ name_of x) × Bad x cause) ⊎ (Fine x × IsFirstBad name_of Fine Bad xs name cause)
+abbrev pub IsFirstFaulty : {A C : Type 0} → (A → Bytes) → (A → Type 0) → (A → C → Type 0) → List A → Bytes → C → Type 0
+IsFirstFaulty name_of Fine Bad [] name cause = ⊥
+IsFirstFaulty name_of Fine Bad (x ∷ xs) name cause =
+    ((name ≡ name_of x) × Bad x cause) ⊎ (Fine x × IsFirstFaulty name_of Fine Bad xs name cause)

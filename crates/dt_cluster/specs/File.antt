@@ -1,4 +1,6 @@
--- What a cluster file is, and what fault is told of a file that is none.
+-- What a cluster file is, and what fault is told of a file that is none. The faults have an order: unknown names, the numbers,
+-- the procedures, the homes, the rows; the first fault in that order is told, so a file has at most one (`Laws`). The entries
+-- are in `Numbers` and `Rows`, and what every cluster that is read keeps is in `Valid`.
 use Rattle.std.specs.Prelude.{◌≡◌, ◌⊎◌, ℕ, List, [], ◌∷◌, Option, Some, None, Ok, Err, codes}
 use Rattle.dt_lists.specs.Lists.{AllIn, Has, Pairwise}
 use Rattle.dt_text.specs.declared.value.Value.{Value}
@@ -8,7 +10,8 @@ use Rattle.dt_proc.specs.Outcome.{Outcome}
 use Rattle.dt_proc.specs.declared.error.ProcError.{ProcError}
 use Rattle.dt_proc.specs.declared.error.ProcError.TheVariants as refused
 use Rattle.toml.specs.Data.{Data, string, Members, get_member}
-use Rattle.dt_cluster.specs.Document.{Bytes, Entry, IsDocument, AreEntries, AreEntriesAt, IsNoTable, IsFirstBad}
+use Rattle.dt_text.specs.Texts.{Bytes}
+use Rattle.dt_cluster.specs.Document.{Entry, IsDocument, AreEntries, AreEntriesAt, IsNoTable, IsFirstFaulty}
 use Rattle.dt_cluster.specs.Numbers.{NumberEntry, regions_entry, workers_entry, tries_entry, drop_entry, repeat_entry, HasNumber, HasBadNumber}
 use Rattle.dt_cluster.specs.Rows.{IsHome, IsBadHome, IsRow, IsBadRow}
 use Rattle.dt_cluster.specs.declared.cluster.Cluster.{Cluster}
@@ -35,7 +38,7 @@ abbrev pub IsUnknownFault : Members → ClusterFault → Type 0
 IsUnknownFault top fault =
     (name : Bytes) × (fault ≡ record { place = place.Entry name; cause = cause.Unknown })
     × ((entries : List Entry) × AreEntries top entries
-    × IsFirstBad (λ e. e.0) IsKnown (λ e c. (c ≡ cause.Unknown) × ¬ (IsKnown e)) entries name cause.Unknown)
+    × IsFirstFaulty (λ e. e.0) IsKnown (λ e c. (c ≡ cause.Unknown) × ¬ (IsKnown e)) entries name cause.Unknown)
 
 -- the numbers that a document gives
 abbrev pub HasNumbers : Members → ℕ → ℕ → ℕ → ℕ → ℕ → Type 0
@@ -50,7 +53,7 @@ number_entries = regions_entry ∷ workers_entry ∷ tries_entry ∷ drop_entry 
 abbrev pub IsNumberFault : Members → ClusterFault → Type 0
 IsNumberFault top fault =
     (name : Bytes) × (why : ClusterCause) × (fault ≡ record { place = place.Entry name; cause = why })
-    × IsFirstBad (λ e. e.name) (λ e. (n : ℕ) × HasNumber top e n) (HasBadNumber top) number_entries name why
+    × IsFirstFaulty (λ e. e.name) (λ e. (n : ℕ) × HasNumber top e n) (HasBadNumber top) number_entries name why
 
 -- the procedures that a document gives: those of the text at `procs`, and the built-in ones where there is none
 abbrev pub GivesProcs : Option Data → List ProcTree → Type 0
@@ -59,18 +62,18 @@ GivesProcs (Some (string text)) procs = Outcome text (Ok procs)
 GivesProcs (Some other) procs = ⊥
 
 -- a fault in the text of procedures as one of the file
-abbrev pub told : ProcError → ClusterFault → Type 0
-told (refused.Syntax at) fault = fault ≡ record { place = place.Procs at; cause = cause.Syntax }
-told (refused.Unknown at) fault = fault ≡ record { place = place.Procs at; cause = cause.UnknownName }
-told (refused.Kind at) fault = fault ≡ record { place = place.Procs at; cause = cause.Kind }
-told (refused.Twice at) fault = fault ≡ record { place = place.Procs at; cause = cause.Twice }
-told (refused.TooMany at) fault = fault ≡ record { place = place.Procs at; cause = cause.TooMany }
-told refused.NoMemory fault = ⊥
+abbrev pub IsToldAs : ProcError → ClusterFault → Type 0
+IsToldAs (refused.Syntax at) fault = fault ≡ record { place = place.Procs at; cause = cause.Syntax }
+IsToldAs (refused.Unknown at) fault = fault ≡ record { place = place.Procs at; cause = cause.UnknownName }
+IsToldAs (refused.Kind at) fault = fault ≡ record { place = place.Procs at; cause = cause.Kind }
+IsToldAs (refused.Twice at) fault = fault ≡ record { place = place.Procs at; cause = cause.Twice }
+IsToldAs (refused.TooMany at) fault = fault ≡ record { place = place.Procs at; cause = cause.TooMany }
+IsToldAs refused.NoMemory fault = ⊥
 
 -- the fault of `procs`: it is no string, or its text has a fault
 abbrev pub IsProcsFaultAt : Option Data → ClusterFault → Type 0
 IsProcsFaultAt None fault = ⊥
-IsProcsFaultAt (Some (string text)) fault = (e : ProcError) × Outcome text (Err e) × told e fault
+IsProcsFaultAt (Some (string text)) fault = (e : ProcError) × Outcome text (Err e) × IsToldAs e fault
 IsProcsFaultAt (Some other) fault = fault ≡ record { place = place.Entry (codes "procs"); cause = cause.Kind }
 
 abbrev pub HasProcs : Members → List ProcTree → Type 0
@@ -90,7 +93,7 @@ IsHomesFault top regions fault =
     (IsNoTable (get_member (codes "homes") top) × (fault ≡ record { place = place.Entry (codes "homes"); cause = cause.Kind }))
     ⊎ ((name : Bytes) × (why : ClusterCause) × (fault ≡ record { place = place.Home name; cause = why })
     × ((entries : List Entry) × AreEntriesAt (get_member (codes "homes") top) entries
-    × IsFirstBad (λ e. e.0) (λ e. (h : Bytes × ℕ) × IsHome regions e h) (IsBadHome regions) entries name why))
+    × IsFirstFaulty (λ e. e.0) (λ e. (h : Bytes × ℕ) × IsHome regions e h) (IsBadHome regions) entries name why))
 
 -- the rows that a document lists, by ascending keys
 abbrev pub HasRows : Members → List (Bytes × Value) → Type 0
@@ -103,7 +106,7 @@ IsRowsFault top fault =
     (IsNoTable (get_member (codes "rows") top) × (fault ≡ record { place = place.Entry (codes "rows"); cause = cause.Kind }))
     ⊎ ((name : Bytes) × (why : ClusterCause) × (fault ≡ record { place = place.Row name; cause = why })
     × ((entries : List Entry) × AreEntriesAt (get_member (codes "rows") top) entries
-    × IsFirstBad (λ e. e.0) (λ e. (r : Bytes × Value) × IsRow e r) IsBadRow entries name why))
+    × IsFirstFaulty (λ e. e.0) (λ e. (r : Bytes × Value) × IsRow e r) IsBadRow entries name why))
 
 -- a document is this cluster
 pub record IsClusterOf (top : Members) (cluster : Cluster) : Type 0 where

@@ -1,6 +1,7 @@
--- What holds of cluster files.
+-- What holds of cluster files: a file is one cluster at most, it has one fault at most, and a file that is a cluster has none.
+-- So what the reader answers is the only thing that it could answer, memory aside.
 use Rattle.std.specs.Prelude.{◌≡◌}
-use Rattle.dt_cluster.specs.Document.{Bytes}
+use Rattle.dt_text.specs.Texts.{Bytes}
 use Rattle.dt_cluster.specs.File.{IsCluster, IsClusterFault}
 use Rattle.dt_cluster.specs.declared.cluster.Cluster.{Cluster}
 use Rattle.dt_cluster.specs.declared.error.ClusterFault.{ClusterFault}
@@ -14,5 +15,5 @@ abbrev pub ClustersHaveNoFault : Type 0
 ClustersHaveNoFault = (file : Bytes) (c : Cluster) (fault : ClusterFault) → IsCluster file c → ¬ (IsClusterFault file fault)
 
 -- a file has one fault at most
-abbrev pub FilesHaveOneFault : Type 0
-FilesHaveOneFault = (file : Bytes) (f g : ClusterFault) → IsClusterFault file f → IsClusterFault file g → f ≡ g
+abbrev pub ClusterFilesHaveOneFault : Type 0
+ClusterFilesHaveOneFault = (file : Bytes) (f g : ClusterFault) → IsClusterFault file f → IsClusterFault file g → f ≡ g

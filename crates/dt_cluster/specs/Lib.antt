@@ -1,7 +1,7 @@
 pub mod Builtin
 pub mod Document
 pub mod File
-pub mod Finding
+pub mod ReaderParts
 pub mod Laws
 pub mod Numbers
 pub mod Rows

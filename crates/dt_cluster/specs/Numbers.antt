@@ -1,7 +1,8 @@
--- The entries of a cluster file that hold numbers.
+-- The entries of a cluster file that hold numbers: which numbers each may have, what stands for it where it is absent, and
+-- what its fault is. `File` puts them in their order.
 use Rattle.std.specs.Prelude.{◌≡◌, ℕ, Bool, true, false, ◌&&◌, ◌||◌, ◌==◌, nat_le, ℤ, pos, Option, Some, None, codes}
 use Rattle.toml.specs.Data.{Data, integer, Members, get_member}
-use Rattle.dt_cluster.specs.Document.{Bytes}
+use Rattle.dt_text.specs.Texts.{Bytes}
 use Rattle.dt_cluster.specs.declared.error.ClusterCause.{ClusterCause}
 use Rattle.dt_cluster.specs.declared.error.ClusterCause.TheVariants.{Missing, Kind, Range}
 
@@ -35,10 +36,10 @@ abbrev pub repeat_entry : NumberEntry
 repeat_entry = record { name = codes "repeat"; allows = within 0 1000; absent = Some 0 }
 
 -- the entry, which has this value or none, gives the number
-abbrev pub Gives : NumberEntry → Option Data → ℕ → Type 0
-Gives entry None n = entry.absent ≡ Some n
-Gives entry (Some (integer z)) n = (z ≡ pos n) × (entry.allows n ≡ true)
-Gives entry (Some other) n = ⊥
+abbrev pub GivesNumber : NumberEntry → Option Data → ℕ → Type 0
+GivesNumber entry None n = entry.absent ≡ Some n
+GivesNumber entry (Some (integer z)) n = (z ≡ pos n) × (entry.allows n ≡ true)
+GivesNumber entry (Some other) n = ⊥
 
 -- the entry, which has this value or none, is at fault: it is missing, or no integer, or out of range
 abbrev pub IsAtFault : NumberEntry → Option Data → ClusterCause → Type 0
@@ -47,7 +48,7 @@ IsAtFault entry (Some (integer z)) cause = (cause ≡ Range) × ((n : ℕ) → z
 IsAtFault entry (Some other) cause = cause ≡ Kind
 
 abbrev pub HasNumber : Members → NumberEntry → ℕ → Type 0
-HasNumber top entry n = Gives entry (get_member entry.name top) n
+HasNumber top entry n = GivesNumber entry (get_member entry.name top) n
 
 abbrev pub HasBadNumber : Members → NumberEntry → ClusterCause → Type 0
 HasBadNumber top entry cause = IsAtFault entry (get_member entry.name top) cause

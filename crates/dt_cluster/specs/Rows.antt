@@ -1,11 +1,13 @@
--- The entries of the tables `homes` and `rows`.
+-- The entries of the tables `homes` and `rows`: a home is a key with the number of a region, a row a key with a number or a
+-- text. For an entry that is none, the cause. `File` goes through them by ascending names.
 use Rattle.std.specs.Prelude.{◌≡◌, ◌⊎◌, ◌<◌, ℕ, pos, FitsSigned}
 use Rattle.std.specs.Int.{w64}
 use Rattle.dt_text.specs.Texts.{IsKey, IsStr}
 use Rattle.dt_text.specs.declared.value.Value.{Value}
 use Rattle.dt_text.specs.declared.value.Value.TheVariants.{Int, Text}
 use Rattle.toml.specs.Data.{Data, integer, string}
-use Rattle.dt_cluster.specs.Document.{Bytes, Entry}
+use Rattle.dt_text.specs.Texts.{Bytes}
+use Rattle.dt_cluster.specs.Document.{Entry}
 use Rattle.dt_cluster.specs.declared.error.ClusterCause.{ClusterCause}
 use Rattle.dt_cluster.specs.declared.error.ClusterCause.TheVariants.{BadKey, BadText, Kind, Range}
 

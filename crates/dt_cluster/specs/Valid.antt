@@ -1,3 +1,5 @@
+-- What every cluster is that a file, or a number of regions, gives: its numbers are in their ranges, its procedures are sound,
+-- and its homes and rows can stand in a table. Whoever takes a cluster may rely on this (`IsValidCluster`).
 use Rattle.std.specs.Prelude.{◌≡◌, ◌<◌, ◌≤◌, ◌⊎◌, ℕ, map, FitsSigned}
 use Rattle.std.specs.Int.{w64}
 use Rattle.dt_lists.specs.Lists.{AllIn, Distinct}

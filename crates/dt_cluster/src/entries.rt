@@ -4,7 +4,7 @@ ghost use Rattle.toml.specs.View.{view, table_view};
 ghost use Rattle.dt_cluster.specs.declared.error.ClusterPlace.TheVariants.{Entry, Home, Row};
 ghost use Rattle.dt_cluster.specs.declared.error.ClusterError.TheVariants.{Fault};
 ghost use Rattle.dt_cluster.specs.declared.error.ClusterFault.{ClusterFault};
-ghost use Rattle.dt_cluster.specs.Finding.{Tells};
+ghost use Rattle.dt_cluster.specs.ReaderParts.{TellsFault};
 
 use crate::error::{ClusterCause, ClusterError, ClusterFault, ClusterPlace, Label};
 use dt_text::NoMemory;
@@ -27,7 +27,7 @@ pub(crate) fn fault(place: ClusterPlace, cause: ClusterCause) -> ClusterError
 
 /// The fault of an entry at the top, by this cause.
 pub(crate) fn entry_fault(alloc: Global, name: &str, cause: ClusterCause) -> ClusterError
-    ensures { Tells (λ f. f ≡ record { place = Entry name.now; cause = cause }) result }
+    ensures { TellsFault (λ f. f ≡ record { place = Entry name.now; cause = cause }) result }
 {
     match Label::new(alloc, name.as_bytes()) {
         Ok(label) => fault(ClusterPlace::Entry(label), cause),
@@ -37,7 +37,7 @@ pub(crate) fn entry_fault(alloc: Global, name: &str, cause: ClusterCause) -> Clu
 
 /// The fault of a listed home, by this cause.
 pub(crate) fn home_fault(alloc: Global, name: &str, cause: ClusterCause) -> ClusterError
-    ensures { Tells (λ f. f ≡ record { place = Home name.now; cause = cause }) result }
+    ensures { TellsFault (λ f. f ≡ record { place = Home name.now; cause = cause }) result }
 {
     match Label::new(alloc, name.as_bytes()) {
         Ok(label) => fault(ClusterPlace::Home(label), cause),
@@ -47,7 +47,7 @@ pub(crate) fn home_fault(alloc: Global, name: &str, cause: ClusterCause) -> Clus
 
 /// The fault of a listed row, by this cause.
 pub(crate) fn row_fault(alloc: Global, name: &str, cause: ClusterCause) -> ClusterError
-    ensures { Tells (λ f. f ≡ record { place = Row name.now; cause = cause }) result }
+    ensures { TellsFault (λ f. f ≡ record { place = Row name.now; cause = cause }) result }
 {
     match Label::new(alloc, name.as_bytes()) {
         Ok(label) => fault(ClusterPlace::Row(label), cause),

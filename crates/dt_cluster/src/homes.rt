@@ -2,7 +2,7 @@ ghost use Rattle.std.specs.Prelude.{IfOk, IfErr};
 ghost use Rattle.toml.specs.View.{view, table_view};
 ghost use Rattle.dt_cluster.specs.Rows.{IsHome, IsBadHome};
 ghost use Rattle.dt_cluster.specs.File.{HasHomes, IsHomesFault};
-ghost use Rattle.dt_cluster.specs.Finding.{Tells, IsFaultAt, AreHomesOf, IsBadHomeOf};
+ghost use Rattle.dt_cluster.specs.ReaderParts.{TellsFault, IsFaultAt, AreHomesOf, IsBadHomeOf};
 ghost use Rattle.dt_cluster.specs.declared.error.ClusterPlace.TheVariants.{Home};
 
 use crate::cluster::HomeList;
@@ -15,7 +15,7 @@ use toml::{Table, Value};
 /// Reads the homes that a cluster lists, by ascending keys.
 pub(crate) fn read_homes(alloc: Global, top: &Table, regions: u8) -> Result<HomeList, ClusterError>
     ensures ok { IfOk result (HasHomes (table_view top.now) regions) }
-    ensures fault { IfErr result (Tells (IsHomesFault (table_view top.now) regions)) }
+    ensures fault { IfErr result (TellsFault (IsHomesFault (table_view top.now) regions)) }
 {
     let Some(value) = value_at(top, "homes") else {
         return Ok(Listed::new(alloc));
@@ -29,7 +29,7 @@ pub(crate) fn read_homes(alloc: Global, top: &Table, regions: u8) -> Result<Home
 /// The homes that a table lists.
 fn homes_of(alloc: Global, table: &Table, regions: u8) -> Result<HomeList, ClusterError>
     ensures ok { IfOk result (AreHomesOf (table_view table.now) regions) }
-    ensures fault { IfErr result (Tells (IsBadHomeOf (table_view table.now) regions)) }
+    ensures fault { IfErr result (TellsFault (IsBadHomeOf (table_view table.now) regions)) }
 {
     let mut homes = Vec::with_capacity(alloc, table.len())?;
     for (name, value) in table.iter() {
@@ -41,7 +41,7 @@ fn homes_of(alloc: Global, table: &Table, regions: u8) -> Result<HomeList, Clust
 /// The home that an entry gives.
 fn home(alloc: Global, name: &str, value: &Value, regions: u8) -> Result<(Key, u8), ClusterError>
     ensures ok { IfOk result (IsHome regions (name.now, view value.now)) }
-    ensures fault { IfErr result (Tells (IsFaultAt (Home name.now) (IsBadHome regions (name.now, view value.now)))) }
+    ensures fault { IfErr result (TellsFault (IsFaultAt (Home name.now) (IsBadHome regions (name.now, view value.now)))) }
 {
     if !Key::is_key(name.as_bytes()) {
         return Err(home_fault(alloc, name, ClusterCause::BadKey));

@@ -1,6 +1,6 @@
 //! Laws of cluster files. Each is what its function ensures; the functions do nothing.
 
-ghost use Rattle.dt_cluster.specs.Laws.{ClustersHaveNoFault, FilesAreOneCluster, FilesHaveOneFault};
+ghost use Rattle.dt_cluster.specs.Laws.{ClustersHaveNoFault, FilesAreOneCluster, ClusterFilesHaveOneFault};
 
 /// A file is one cluster at most.
 pub fn files_are_one_cluster()
@@ -14,5 +14,5 @@ pub fn clusters_have_no_fault()
 
 /// A file has one fault at most.
 pub fn files_have_one_fault()
-    ensures { FilesHaveOneFault }
+    ensures { ClusterFilesHaveOneFault }
 {}

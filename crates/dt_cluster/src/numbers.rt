@@ -2,7 +2,7 @@ ghost use Rattle.std.specs.Prelude.{IfOk, IfErr};
 ghost use Rattle.toml.specs.View.{table_view};
 ghost use Rattle.dt_cluster.specs.Numbers.{HasNumber, drop_entry, regions_entry, within};
 ghost use Rattle.dt_cluster.specs.File.{HasNumbers, IsNumberFault};
-ghost use Rattle.dt_cluster.specs.Finding.{IsEntryFault, Tells};
+ghost use Rattle.dt_cluster.specs.ReaderParts.{IsEntryFault, TellsFault};
 
 use crate::entries::{entry_fault, value_at};
 use crate::error::{ClusterCause, ClusterError};
@@ -22,7 +22,7 @@ pub(crate) struct Numbers {
 /// Reads the numbers of a cluster, in the order in which their faults are told.
 pub(crate) fn read_numbers(alloc: Global, top: &Table) -> Result<Numbers, ClusterError>
     ensures ok { IfOk result (λ n. HasNumbers (table_view top.now) n.regions n.workers n.tries n.drop n.repeat) }
-    ensures fault { IfErr result (Tells (IsNumberFault (table_view top.now))) }
+    ensures fault { IfErr result (TellsFault (IsNumberFault (table_view top.now))) }
 {
     Ok(Numbers {
         regions: read_regions(alloc, top)?,
@@ -36,7 +36,7 @@ pub(crate) fn read_numbers(alloc: Global, top: &Table) -> Result<Numbers, Cluste
 /// The number of regions, which has to be there.
 fn read_regions(alloc: Global, top: &Table) -> Result<u8, ClusterError>
     ensures ok { IfOk result (HasNumber (table_view top.now) regions_entry) }
-    ensures fault { IfErr result (Tells (IsEntryFault (table_view top.now) regions_entry)) }
+    ensures fault { IfErr result (TellsFault (IsEntryFault (table_view top.now) regions_entry)) }
 {
     let regions = number(alloc, top, "regions", 1, 8, None)?;
     Ok(regions as u8)
@@ -45,7 +45,7 @@ fn read_regions(alloc: Global, top: &Table) -> Result<u8, ClusterError>
 /// Which packets are lost: none, or one in every so many, but never each of them.
 fn read_drop(alloc: Global, top: &Table) -> Result<u32, ClusterError>
     ensures ok { IfOk result (HasNumber (table_view top.now) drop_entry) }
-    ensures fault { IfErr result (Tells (IsEntryFault (table_view top.now) drop_entry)) }
+    ensures fault { IfErr result (TellsFault (IsEntryFault (table_view top.now) drop_entry)) }
 {
     let drop = number(alloc, top, "drop", 0, 1000, Some(0))?;
     if drop == 1 {
@@ -65,7 +65,7 @@ fn number(
 ) -> Result<u32, ClusterError>
     ensures ok { IfOk result (HasNumber (table_view top.now)
         (record { name = name.now; allows = within least greatest; absent = absent })) }
-    ensures fault { IfErr result (Tells (IsEntryFault (table_view top.now)
+    ensures fault { IfErr result (TellsFault (IsEntryFault (table_view top.now)
         (record { name = name.now; allows = within least greatest; absent = absent }))) }
 {
     let Some(value) = value_at(top, name) else {

@@ -4,8 +4,8 @@ ghost use Rattle.std.specs.Prelude.{◌↔◌, IfOk, IfErr, IsTrue, Err};
 ghost use Rattle.dt_lists.specs.Lists.{Has};
 ghost use Rattle.toml.specs.View.{table_view};
 ghost use Rattle.dt_proc.specs.Sound.{AreProcs};
-ghost use Rattle.dt_cluster.specs.File.{AreKnown, IsUnknownFault, known_names, HasProcs, IsProcsFault, told, IsClusterOf, IsFaultOf, IsCluster, IsClusterFault};
-ghost use Rattle.dt_cluster.specs.Finding.{Tells};
+ghost use Rattle.dt_cluster.specs.File.{AreKnown, IsUnknownFault, known_names, HasProcs, IsProcsFault, IsToldAs, IsClusterOf, IsFaultOf, IsCluster, IsClusterFault};
+ghost use Rattle.dt_cluster.specs.ReaderParts.{TellsFault};
 ghost use Rattle.dt_cluster.specs.Valid.{IsValidCluster};
 
 use crate::cluster::Cluster;
@@ -26,7 +26,7 @@ use toml::Table;
 /// That a file is too long is told by who loads it.
 pub fn read_cluster(alloc: Global, bytes: &[u8]) -> Result<Cluster, ClusterError>
     ensures cluster { IfOk result (IsCluster bytes.now) }
-    ensures fault { IfErr result (Tells (IsClusterFault bytes.now)) }
+    ensures fault { IfErr result (TellsFault (IsClusterFault bytes.now)) }
     ensures valid { IfOk result IsValidCluster }
 {
     match toml::table_from_slice(alloc, bytes) {
@@ -39,7 +39,7 @@ pub fn read_cluster(alloc: Global, bytes: &[u8]) -> Result<Cluster, ClusterError
 /// The cluster that a document is.
 fn cluster_of(alloc: Global, top: &Table) -> Result<Cluster, ClusterError>
     ensures cluster { IfOk result (IsClusterOf (table_view top.now)) }
-    ensures fault { IfErr result (Tells (IsFaultOf (table_view top.now))) }
+    ensures fault { IfErr result (TellsFault (IsFaultOf (table_view top.now))) }
     ensures valid { IfOk result IsValidCluster }
 {
     only_known(alloc, top)?;
@@ -62,7 +62,7 @@ fn cluster_of(alloc: Global, top: &Table) -> Result<Cluster, ClusterError>
 /// Refuses the least name at the top that is unknown.
 fn only_known(alloc: Global, top: &Table) -> Result<(), ClusterError>
     ensures ok { IfOk result (λ _. AreKnown (table_view top.now)) }
-    ensures fault { IfErr result (Tells (IsUnknownFault (table_view top.now))) }
+    ensures fault { IfErr result (TellsFault (IsUnknownFault (table_view top.now))) }
 {
     for (name, _) in top.iter() {
         if !is_known(name.as_bytes()) {
@@ -85,7 +85,7 @@ fn is_known(name: &[u8]) -> bool
 /// The procedures of a cluster: those of its text, or the built-in ones.
 fn procs_of(alloc: Global, top: &Table) -> Result<Procs, ClusterError>
     ensures ok { IfOk result (HasProcs (table_view top.now)) }
-    ensures fault { IfErr result (Tells (IsProcsFault (table_view top.now))) }
+    ensures fault { IfErr result (TellsFault (IsProcsFault (table_view top.now))) }
     ensures sound { IfOk result AreProcs }
 {
     let Some(value) = value_at(top, "procs") else {
@@ -106,7 +106,7 @@ fn procs_of(alloc: Global, top: &Table) -> Result<Procs, ClusterError>
 
 /// A fault in the procedures' text as one of the file.
 fn refusal(error: ProcError) -> ClusterError
-    ensures { Tells (told error) result }
+    ensures { TellsFault (IsToldAs error) result }
 {
     match error {
         ProcError::Syntax(place) => fault(ClusterPlace::Procs(place), ClusterCause::Syntax),

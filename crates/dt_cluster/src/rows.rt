@@ -4,7 +4,7 @@ ghost use Rattle.toml.specs.Data.{string};
 ghost use Rattle.toml.specs.View.{view, table_view};
 ghost use Rattle.dt_cluster.specs.Rows.{IsRow, IsBadRow, IsNoValue, IsValue};
 ghost use Rattle.dt_cluster.specs.File.{HasRows, IsRowsFault};
-ghost use Rattle.dt_cluster.specs.Finding.{Tells, IsFaultAt, AreRowsOf, IsBadRowOf};
+ghost use Rattle.dt_cluster.specs.ReaderParts.{TellsFault, IsFaultAt, AreRowsOf, IsBadRowOf};
 ghost use Rattle.dt_cluster.specs.declared.error.ClusterPlace.TheVariants.{Row};
 
 use crate::cluster::RowList;
@@ -17,7 +17,7 @@ use toml::Table;
 /// Reads the rows that a cluster lists, by ascending keys.
 pub(crate) fn read_rows(alloc: Global, top: &Table) -> Result<RowList, ClusterError>
     ensures ok { IfOk result (HasRows (table_view top.now)) }
-    ensures fault { IfErr result (Tells (IsRowsFault (table_view top.now))) }
+    ensures fault { IfErr result (TellsFault (IsRowsFault (table_view top.now))) }
 {
     let Some(value) = value_at(top, "rows") else {
         return Ok(Listed::new(alloc));
@@ -31,7 +31,7 @@ pub(crate) fn read_rows(alloc: Global, top: &Table) -> Result<RowList, ClusterEr
 /// The rows that a table lists.
 fn rows_of(alloc: Global, table: &Table) -> Result<RowList, ClusterError>
     ensures ok { IfOk result (AreRowsOf (table_view table.now)) }
-    ensures fault { IfErr result (Tells (IsBadRowOf (table_view table.now))) }
+    ensures fault { IfErr result (TellsFault (IsBadRowOf (table_view table.now))) }
 {
     let mut rows = Vec::with_capacity(alloc, table.len())?;
     for (name, value) in table.iter() {
@@ -43,7 +43,7 @@ fn rows_of(alloc: Global, table: &Table) -> Result<RowList, ClusterError>
 /// The row that an entry gives.
 fn row(alloc: Global, name: &str, value: &toml::Value) -> Result<(Key, Value), ClusterError>
     ensures ok { IfOk result (IsRow (name.now, view value.now)) }
-    ensures fault { IfErr result (Tells (IsFaultAt (Row name.now) (IsBadRow (name.now, view value.now)))) }
+    ensures fault { IfErr result (TellsFault (IsFaultAt (Row name.now) (IsBadRow (name.now, view value.now)))) }
 {
     if !Key::is_key(name.as_bytes()) {
         return Err(row_fault(alloc, name, ClusterCause::BadKey));
@@ -55,7 +55,7 @@ fn row(alloc: Global, name: &str, value: &toml::Value) -> Result<(Key, Value), C
 /// The value that an entry of `rows` gives.
 fn row_value(alloc: Global, name: &str, value: &toml::Value) -> Result<Value, ClusterError>
     ensures ok { IfOk result (IsValue (view value.now)) }
-    ensures fault { IfErr result (Tells (IsFaultAt (Row name.now) (IsNoValue (view value.now)))) }
+    ensures fault { IfErr result (TellsFault (IsFaultAt (Row name.now) (IsNoValue (view value.now)))) }
 {
     if let Some(number) = value.as_integer() {
         return Ok(Value::Int(number));
@@ -69,7 +69,7 @@ fn row_value(alloc: Global, name: &str, value: &toml::Value) -> Result<Value, Cl
 /// The text that a string of `rows` gives.
 fn text_value(alloc: Global, name: &str, text: &str) -> Result<Value, ClusterError>
     ensures ok { IfOk result (IsValue (string text.now)) }
-    ensures fault { IfErr result (Tells (IsFaultAt (Row name.now) (IsNoValue (string text.now)))) }
+    ensures fault { IfErr result (TellsFault (IsFaultAt (Row name.now) (IsNoValue (string text.now)))) }
 {
     match read_text(alloc, text.as_bytes())? {
         Some(text) => Ok(Value::Text(text)),

@@ -1,16 +1,20 @@
 -- Words of lines and the forms that they say.
-use Rattle.std.proofs.Common.{◌≡◌, ◌≢◌, ℕ, zero, suc, ◌<◌, ◌≤◌, ◌^◌, Bool, true, false, not, cond, nat_eq, List, [], ◌∷◌, length, map, get_or, Option, Some, None, MatchOption, inr, refl, ap, sym, ◌∙◌, subst, arith}
+use Rattle.std.proofs.Common.{◌≡◌, ◌≢◌, ℕ, zero, suc, ◌<◌, ◌≤◌, ◌^◌, Bool, true, false, not, cond, nat_eq, List, [], ◌∷◌, length, map, get_or, Option, Some}
+use Rattle.std.proofs.Common.{None, MatchOption, inr, refl, ap, sym, ◌∙◌, subst, arith}
 use Rattle.std.specs.Cmp.Lexicographic.{pointwise, bytes_decides}
 use Rattle.std.specs.Fmt.{decimal}
+use Rattle.dt_lists.proofs.Callers.{same_head, same_tail}
+use Rattle.std.proofs.lemmas.Option.{same_Some}
 use Rattle.dt_lists.specs.Lists.{AllIn}
 use Rattle.dt_text.specs.Texts.{IsName, is_name_byte, first_outside}
-use Rattle.dt_text.proofs.Allowed.{outside_where}
+use Rattle.dt_text.proofs.Callers.{outside_where}
 use Rattle.dt_text.specs.Reading.{words_of}
 use Rattle.dt_text.specs.declared.Word.{Word}
 use Rattle.dt_text.specs.declared.Value.{Value}
-use Rattle.dt_text.proofs.ReadingLaws.{exact}
-use Rattle.dt_workload.specs.Lines.{Bytes, Said, bare, said, Form, HasForm, IsArgument, argument_word}
-use Rattle.dt_workload.specs.Reading.{IsNoBeginning, ReadsForm, ReadsRegion, Refuses, form_of}
+use Rattle.dt_text.proofs.Callers.{exact}
+use Rattle.dt_text.specs.Texts.{Bytes}
+use Rattle.dt_workload.specs.Lines.{Said, bare, said, Form, HasForm, IsArgument, argument_word}
+use Rattle.dt_workload.specs.ReaderParts.{IsNoBeginning, ReadsForm, ReadsRegion, Refuses, form_of}
 use Rattle.dt_workload.specs.File.{IsSessionFault}
 use Rattle.dt_workload.specs.declared.workload.Session.{Session}
 use Rattle.dt_workload.specs.declared.error.Refusal.{Refusal}
@@ -18,23 +22,14 @@ use Rattle.dt_workload.specs.declared.error.Refusal.TheVariants.{Cause, NoMemory
 use Rattle.dt_cluster.specs.declared.Cluster.{Cluster}
 use Rattle.dt_workload.specs.declared.form.Form.{Form as Said_form}
 
-head-is : {A : Type 0} {x y : A} {xs ys : List A} → x ∷ xs ≡ y ∷ ys → x ≡ y
-head-is e = cc
-
-tail-is : {A : Type 0} {x y : A} {xs ys : List A} → x ∷ xs ≡ y ∷ ys → xs ≡ ys
-tail-is e = cc
-
-some-is : {A : Type 0} {x y : A} → Some x ≡ Some y → x ≡ y
-some-is e = cc
-
 -- words of which one is no argument are no arguments
 pub no_arguments : (line : Bytes) (words : List Word) (i : ℕ) (d : Word) → i < length words
     → ((arg : Value) → IsArgument arg → said line (get_or words i d) ≢ argument_word arg)
     → (args : List Value) → AllIn IsArgument args → map (said line) words ≢ map argument_word args
 no_arguments line [] i d within none args are same = absurd (omega arith)
 no_arguments line (w ∷ ws) i d within none [] are same = cc
-no_arguments line (w ∷ ws) zero d within none (arg ∷ args) are same = none arg are.0 (head-is same)
-no_arguments line (w ∷ ws) (suc i) d within none (arg ∷ args) are same = no_arguments line ws i d (omega arith) none args are.1 (tail-is same)
+no_arguments line (w ∷ ws) zero d within none (arg ∷ args) are same = none arg are.0 (same_head same)
+no_arguments line (w ∷ ws) (suc i) d within none (arg ∷ args) are same = no_arguments line ws i d (omega arith) none args are.1 (same_tail same)
 
 -- two items
 pub pair_of : {A : Type 0} (xs : List A) (a b : A) → 2 ≤ length xs → length xs < 3 → a ≡ get_or xs 0 a → b ≡ get_or xs 1 b → xs ≡ a ∷ b ∷ []
@@ -51,7 +46,7 @@ no_form line none f has = let h = (exact line has.1.0).1 has.1.1 in cc
 pub form_answer : (line : Bytes) (words : List Word) (answer : Option Said_form) → words_of line ≡ Some words → ReadsForm (map (said line) words) answer
     → MatchOption answer ((f : Form) → ¬ HasForm line f) (λ f. HasForm line (form_of f))
 form_answer line words None is none = λ f has.
-    let one : has.1.0 ≡ words = some-is (sym ((exact line has.1.0).1 has.1.1) ∙ is) in
+    let one : has.1.0 ≡ words = same_Some _ _ (sym ((exact line has.1.0).1 has.1.1) ∙ is) in
     none f has.0 (ap (map (said line)) (sym one) ∙ has.1.2)
 form_answer line words (Some f) is read = (read.0, (words, (exact line words).0 is, read.1))
 
@@ -77,12 +72,12 @@ same_bytes b x y is h = (bytes_decides x y).0 (true_where (pointwise nat_eq x y)
 
 -- a word that says another than the fixed one is not followed by a number of a region
 pub other_word : (fixed found : Bytes) (s : Said) (ne : Bool) (n t : Said) → ne ≡ not (pointwise nat_eq found fixed) → ne ≡ true → s ∷ t ∷ [] ≡ bare fixed ∷ n ∷ [] → s ≡ bare found → ⊥
-other_word fixed found s ne n t is h same said = not_same ne found fixed is h (bare-is (sym said ∙ head-is same))
+other_word fixed found s ne n t is h same said = not_same ne found fixed is h (bare-is (sym said ∙ same_head same))
 
 -- the fixed word and then a number, where one is read
 pub region_read : (fixed found word : Bytes) (s t : Said) (ne : Bool) (answer : Option ℕ) → ne ≡ not (pointwise nat_eq found fixed) → ne ≡ false → s ≡ bare found → t ≡ bare word
     → MatchOption answer ((n : ℕ) → n < 2 ^ 32 → word ≢ decimal n) (λ n. (n < 2 ^ 32) × (word ≡ decimal n)) → ReadsRegion fixed (s ∷ t ∷ []) answer
-region_read fixed found word s t ne None is h a b none = λ n small same. none n small (bare-is (sym b ∙ head-is (tail-is same)))
+region_read fixed found word s t ne None is h a b none = λ n small same. none n small (bare-is (sym b ∙ same_head (same_tail same)))
 region_read fixed found word s t ne (Some n) is h a b read = (read.0, rw (a, b, same_bytes ne found fixed is h, read.1) refl)
 
 -- nothing was read, so nothing is said

@@ -1,5 +1,6 @@
-mod Cuts
 mod Forms
 mod Steps
 pub mod OneForm
 pub mod OneFile
+pub mod Decisions
+pub mod Outcomes

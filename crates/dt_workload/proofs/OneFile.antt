@@ -1,5 +1,6 @@
 -- Bytes are one workload of a cluster or have one fault, and never both.
-use Rattle.std.proofs.Common.{◌≡◌, ◌≢◌, ◌⊎◌, inl, inr, ℕ, zero, suc, ◌+◌, ◌<◌, ◌≤◌, ◌==◌, Bool, true, false, cond, not, nat_lt, List, [], ◌∷◌, ◌++◌, length, map, slice_get, Option, Some, None, refl, sym, ap, ◌∙◌, subst, arith, append_assoc, append-nil, length-append}
+use Rattle.std.proofs.Common.{◌≡◌, ◌≢◌, ◌⊎◌, inl, inr, ℕ, zero, suc, ◌+◌, ◌<◌, ◌≤◌, ◌==◌, Bool, true, false, cond, not, nat_lt, List, [], ◌∷◌, ◌++◌, length}
+use Rattle.std.proofs.Common.{map, slice_get, Option, Some, None, refl, sym, ap, ◌∙◌, subst, arith, append_assoc, append-nil, length-append}
 use Rattle.std.specs.Prelude.{nat_eq, IsSome}
 use Rattle.std.specs.Option.{is_some, option_and_then}
 use Rattle.std.specs.List.{position_or_len, sum_by}
@@ -7,9 +8,10 @@ use Rattle.std.specs.Cmp.Lexicographic.{pointwise, bytes_decides}
 use Rattle.std.proofs.lemmas.Bool.Decides.{nat_tests}
 use Rattle.std.proofs.lemmas.List.{map-append}
 use Rattle.std.proofs.lemmas.List.Sums.{sum_by-append}
+use Rattle.dt_lists.proofs.Callers.{same_head, same_tail}
 use Rattle.dt_lists.specs.Lists.{AllIn, Has, Distinct, Pairwise}
-use Rattle.dt_lists.proofs.Words.{all_get, all_append_right, each_across, has_map}
-use Rattle.dt_lists.proofs.Places.{has_place, place_within}
+use Rattle.dt_lists.proofs.Callers.{all_get, all_append_right, each_across, has_map}
+use Rattle.dt_lists.proofs.Callers.{has_place, place_within}
 use Rattle.dt_text.specs.Texts.{IsKey, IsName}
 use Rattle.dt_text.specs.Lines.{FileLine, lines_of}
 use Rattle.dt_text.specs.declared.Value.{Value}
@@ -17,15 +19,17 @@ use Rattle.dt_proc.specs.Tree.{ProcTree}
 use Rattle.dt_proc.specs.Names.{place_of_name}
 use Rattle.dt_cluster.specs.declared.Cluster.{Cluster}
 use Rattle.dt_cluster.specs.Valid.{IsValidCluster}
-use Rattle.dt_workload.specs.Lines.{Bytes, Form, session_line, call_line, move_line, HasForm}
-use Rattle.dt_workload.specs.File.{name_of, wanted_line, all_lines, CanBeWanted, CanBeSession, names_in, sessions_at, calls_in, AreSessions, IsWorkload, Needs, NothingMore, proc_named, FitsIf, GivesKeys, IsFormFault, IsLineFault, IsWorkloadFault}
+use Rattle.dt_text.specs.Texts.{Bytes}
+use Rattle.dt_workload.specs.Lines.{Form, session_line, call_line, move_line, HasForm}
+use Rattle.dt_workload.specs.File.{proc_name, wanted_line, all_lines, AreSessions, IsWorkload, Needs, NothingMore, proc_named, FitsIf, GivesKeys, IsFormFault, IsLineFault, IsWorkloadFault}
+use Rattle.dt_workload.specs.Valid.{session_names, session_count_at, calls_in, WantedFits, IsValidSession, IsValidWorkload}
 use Rattle.dt_workload.specs.declared.workload.Wanted.{Wanted}
 use Rattle.dt_workload.specs.declared.workload.Wanted.TheVariants.{Call, Move}
 use Rattle.dt_workload.specs.declared.workload.Session.{Session}
 use Rattle.dt_workload.specs.declared.workload.Workload.{Workload}
 use Rattle.dt_workload.specs.declared.error.WorkloadCause.{WorkloadCause}
 use Rattle.dt_workload.specs.declared.error.WorkloadCause.TheVariants as cause
-use Rattle.dt_workload.proofs.OneForm.{head-is, tail-is, one_form}
+use Rattle.dt_workload.proofs.OneForm.{same_head, same_tail, one_form}
 
 -- ---- the procedure of a name
 
@@ -49,7 +53,9 @@ named_at (p ∷ ps) zero body name once e is =
     same_some e = cc
 named_at (p ∷ ps) (suc number) body name once e is =
     let next : 1 + number ≡ suc number = omega arith in
-    ap (λ b. cond (not b) (1 + position_or_len (λ p. pointwise nat_eq p.name name) ps) 0) (other_name name p (λ same. all_get _ (map (λ p. p.name) ps) once.0 body.name (has_map (λ p. p.name) ps body (has_place ps number body e)) (same ∙ sym is)))
+    let later = has_map (λ p. p.name) ps body (has_place ps number body e) in
+    let other = other_name name p (λ same. all_get _ (map (λ p. p.name) ps) once.0 body.name later (same ∙ sym is)) in
+    ap (λ b. cond (not b) (1 + position_or_len (λ p. pointwise nat_eq p.name name) ps) 0) other
     ∙ ap (λ n. 1 + n) (named_at ps number body name once.1 e is)
     ∙ next
 
@@ -59,7 +65,9 @@ is_below n limit h = grind (arith, nat_tests)
 found : (cluster : Cluster) (number : ℕ) (body : ProcTree) → HaveNames cluster.procs → slice_get cluster.procs number ≡ Some body → proc_named cluster body.name ≡ Some body
 found cluster number body once e =
     let at = named_at cluster.procs number body body.name once e refl in
-    let place : place_of_name body.name cluster.procs ≡ Some number = ap (λ n. cond (nat_lt n (length cluster.procs)) (Some n) None) at ∙ ap (λ b. cond b (Some number) None) (is_below number (length cluster.procs) (place_within cluster.procs number body e)) in
+    let below = is_below number (length cluster.procs) (place_within cluster.procs number body e) in
+    let place : place_of_name body.name cluster.procs ≡ Some number =
+        ap (λ n. cond (nat_lt n (length cluster.procs)) (Some n) None) at ∙ ap (λ b. cond b (Some number) None) below in
     ap (option_and_then (slice_get cluster.procs)) place ∙ e
 
 -- ---- calls and moves by their lines
@@ -82,10 +90,10 @@ session_name e = cc
 session_region : {k j : Bytes} {m n : ℕ} → session_line k m ≡ session_line j n → m ≡ n
 session_region e = cc
 
-same_wanted : (cluster : Cluster) → HaveNames cluster.procs → (v w : Wanted) → CanBeWanted cluster v → CanBeWanted cluster w
+same_wanted : (cluster : Cluster) → HaveNames cluster.procs → (v w : Wanted) → WantedFits cluster.procs cluster.regions v → WantedFits cluster.procs cluster.regions w
     → wanted_line cluster.procs v ≡ wanted_line cluster.procs w → v ≡ w
 same_wanted cluster once (Call m a) (Call n b) h k e =
-    let names : k.body.name ≡ h.body.name = sym (ap name_of k.named) ∙ sym (call_name e) ∙ ap name_of h.named in
+    let names : k.body.name ≡ h.body.name = sym (ap proc_name k.named) ∙ sym (call_name e) ∙ ap proc_name h.named in
     let number : m ≡ n = sym (named_at cluster.procs m h.body h.body.name once h.named refl) ∙ named_at cluster.procs n k.body h.body.name once k.named names in
     let args = call_args e in
     λ i. Call (number i) (args i)
@@ -104,7 +112,7 @@ no_session_line procs name region (Move key target) e = cc
 -- lines of sessions do not begin with that of a call or move
 no_wanted_first : (procs : List ProcTree) (xs : List Session) (w : Wanted) (more : List Form) → all_lines procs xs ≡ wanted_line procs w ∷ more → ⊥
 no_wanted_first procs [] w more e = cc
-no_wanted_first procs (x ∷ xs) w more e = no_session_line procs x.name x.region w (head-is e)
+no_wanted_first procs (x ∷ xs) w more e = no_session_line procs x.name x.region w (same_head e)
 
 -- the one calls and moves are the others and more
 record GoOn (procs : List ProcTree) (calls others : List Wanted) (rest : List Form) : Type 0 where
@@ -115,7 +123,7 @@ record GoOn (procs : List ProcTree) (calls others : List Wanted) (rest : List Fo
   pub told : rest ≡ wanted_line procs wanted ∷ lines
 
 split_calls : (cluster : Cluster) → HaveNames cluster.procs → (xs : List Session) (calls others : List Wanted) (rest : List Form)
-    → AllIn (CanBeWanted cluster) calls → AllIn (CanBeWanted cluster) others
+    → AllIn (WantedFits cluster.procs cluster.regions) calls → AllIn (WantedFits cluster.procs cluster.regions) others
     → map (wanted_line cluster.procs) calls ++ all_lines cluster.procs xs ≡ map (wanted_line cluster.procs) others ++ rest
     → ((calls ≡ others) × (all_lines cluster.procs xs ≡ rest)) ⊎ GoOn cluster.procs calls others rest
 split_calls cluster once xs [] [] rest h k e = inl (refl, e)
@@ -123,7 +131,7 @@ split_calls cluster once xs [] (w ∷ others) rest h k e = absurd (no_wanted_fir
 split_calls cluster once xs (w ∷ calls) [] rest h k e =
     inr (record { wanted = w; later = calls; lines = map (wanted_line cluster.procs) calls ++ all_lines cluster.procs xs; is = refl; told = sym e })
 split_calls cluster once xs (v ∷ calls) (w ∷ others) rest h k e =
-    one_more (same_wanted cluster once v w h.0 k.0 (head-is e)) (split_calls cluster once xs calls others rest h.1 k.1 (tail-is e))
+    one_more (same_wanted cluster once v w h.0 k.0 (same_head e)) (split_calls cluster once xs calls others rest h.1 k.1 (same_tail e))
   where
     one_more : v ≡ w → ((calls ≡ others) × (all_lines cluster.procs xs ≡ rest)) ⊎ GoOn cluster.procs calls others rest
         → ((v ∷ calls ≡ w ∷ others) × (all_lines cluster.procs xs ≡ rest)) ⊎ GoOn cluster.procs (v ∷ calls) (w ∷ others) rest
@@ -180,25 +188,25 @@ last_goes_on procs y x [] xs (form ∷ rest) head g =
       later = xs;
       was = refl;
       is = λ i. record { name = name i; region = region i; calls = g.is i } ∷ xs;
-      told = head-is g.told;
+      told = same_head g.told;
     })
-last_goes_on procs y x (z ∷ ys) xs rest head g = absurd (no_session_line procs z.name z.region g.wanted (head-is g.told))
+last_goes_on procs y x (z ∷ ys) xs rest head g = absurd (no_session_line procs z.name z.region g.wanted (same_head g.told))
 
 onward : (cluster : Cluster) → HaveNames cluster.procs → (before all : List Session) (rest : List Form)
-    → AllIn (CanBeSession cluster) before → AllIn (CanBeSession cluster) all
+    → AllIn (IsValidSession cluster.procs cluster.regions) before → AllIn (IsValidSession cluster.procs cluster.regions) all
     → all_lines cluster.procs all ≡ all_lines cluster.procs before ++ rest → Onward cluster.procs before all rest
 onward cluster once [] [] [] h k e = refl
 onward cluster once [] [] (form ∷ rest) h k e = absurd cc
 onward cluster once [] (x ∷ xs) [] h k e = absurd cc
-onward cluster once [] (x ∷ xs) (form ∷ rest) h k e = inl (record { session = x; later = xs; is = refl; told = sym (head-is e) })
+onward cluster once [] (x ∷ xs) (form ∷ rest) h k e = inl (record { session = x; later = xs; is = refl; told = sym (same_head e) })
 onward cluster once (y ∷ ys) [] rest h k e = absurd cc
 onward cluster once (y ∷ ys) (x ∷ xs) rest h k e =
-    by (split_calls cluster once xs x.calls y.calls (all_lines cluster.procs ys ++ rest) k.0.2 h.0.2
-    (tail-is e ∙ append_assoc (map (wanted_line cluster.procs) y.calls) (all_lines cluster.procs ys) rest))
+    by (split_calls cluster once xs x.calls y.calls (all_lines cluster.procs ys ++ rest) k.0.calls h.0.calls
+    (same_tail e ∙ append_assoc (map (wanted_line cluster.procs) y.calls) (all_lines cluster.procs ys) rest))
     (λ lines. onward cluster once ys xs rest h.1 k.1 lines)
   where
     head : session_line x.name x.region ≡ session_line y.name y.region
-    head = head-is e
+    head = same_head e
 
     by : ((x.calls ≡ y.calls) × (all_lines cluster.procs xs ≡ all_lines cluster.procs ys ++ rest)) ⊎ GoOn cluster.procs x.calls y.calls (all_lines cluster.procs ys ++ rest)
         → (all_lines cluster.procs xs ≡ all_lines cluster.procs ys ++ rest → Onward cluster.procs ys xs rest) → Onward cluster.procs (y ∷ ys) (x ∷ xs) rest
@@ -227,7 +235,7 @@ one_sessions cluster once lines s t h k =
     by (related_front lines [] (all_lines cluster.procs t) (all_lines cluster.procs s) (subst (λ l. Pairwise IsLine l (all_lines cluster.procs t)) (sym (append-nil lines)) k.lines) h.lines)
   where
     by : (rest : List Form) × (all_lines cluster.procs t ≡ all_lines cluster.procs s ++ rest) × Pairwise IsLine [] rest → t ≡ s
-    by ([], e, none) = onward cluster once s t [] h.sessions k.sessions e
+    by ([], e, none) = onward cluster once s t [] h.valid.sessions k.valid.sessions e
     by (form ∷ rest, e, none) = absurd none
 
 -- ---- needs
@@ -256,8 +264,8 @@ no_need a b h k = absurd h
 
 one_form_fault : (cluster : Cluster) (before : List Session) (form : Form) → HasOneCause (IsFormFault cluster before form)
 one_form_fault cluster before (session_line name region) =
-    one_need (IsName name) cause.Name _ (one_need (¬ (Has (names_in before) name)) cause.Twice _
-    (one_need (region < cluster.regions) cause.Region _ (one_need (sessions_at region before < 64) cause.TooMany NothingMore no_need)))
+    one_need (IsName name) cause.Name _ (one_need (¬ (Has (session_names before) name)) cause.Twice _
+    (one_need (region < cluster.regions) cause.Region _ (one_need (session_count_at region before < 64) cause.TooMany NothingMore no_need)))
 one_form_fault cluster before (call_line name args) =
     one_need (¬ (before ≡ [])) cause.NoSession _ (one_need (IsSome (proc_named cluster name)) cause.Proc _
     (one_need (FitsIf (proc_named cluster name) args) cause.Args _ (one_need (GivesKeys (proc_named cluster name) args) cause.Key _
@@ -276,11 +284,8 @@ one_line_fault cluster before line a b (inr h) (inr k) =
 -- ---- what goes on to be sessions has no fault
 
 -- what sessions are, whatever their lines
-record Fit (cluster : Cluster) (sessions : List Session) : Type 0 where
-  pub can_be : AllIn (CanBeSession cluster) sessions
-  pub names_once : Distinct (names_in sessions)
-  pub few_sessions : (region : ℕ) → sessions_at region sessions ≤ 64
-  pub few_calls : calls_in sessions ≤ 20000
+abbrev Fit : Cluster → List Session → Type 0
+Fit cluster sessions = IsValidWorkload cluster (record { sessions = sessions })
 
 equal_itself : (n : ℕ) → (n == n) ≡ true
 equal_itself n = grind (arith, nat_tests)
@@ -291,22 +296,24 @@ sum_parts f xs y ys =
     let first : sum_by f (y ∷ ys) ≡ (0 + f y) + sum_by f ys = sum_by-append f (y ∷ []) ys in
     omega (arith, all, first)
 
-fresh_name : (before : List Session) (x : Session) (xs : List Session) → Distinct (names_in (before ++ x ∷ xs)) → ¬ (Has (names_in before) x.name)
+fresh_name : (before : List Session) (x : Session) (xs : List Session) → Distinct (session_names (before ++ x ∷ xs)) → ¬ (Has (session_names before) x.name)
 fresh_name before x xs once has =
-    each_across (λ a b. ¬ (a ≡ b)) (names_in before) (names_in (x ∷ xs)) x.name x.name (subst Distinct (map-append (λ s. s.name) before (x ∷ xs)) once) has (inl refl) refl
+    each_across (λ a b. ¬ (a ≡ b)) (session_names before) (session_names (x ∷ xs)) x.name x.name (subst Distinct (map-append (λ s. s.name) before (x ∷ xs)) once) has (inl refl) refl
 
-room_there : (before : List Session) (x : Session) (xs : List Session) → sessions_at x.region (before ++ x ∷ xs) ≤ 64 → sessions_at x.region before < 64
+room_there : (before : List Session) (x : Session) (xs : List Session) → session_count_at x.region (before ++ x ∷ xs) ≤ 64 → session_count_at x.region before < 64
 room_there before x xs few =
-    let sum : sessions_at x.region (before ++ x ∷ xs) ≡ sessions_at x.region before + (cond (x.region == x.region) 1 0 + sessions_at x.region xs) = sum_parts (λ s. cond (s.region == x.region) 1 0) before x xs in
+    let at : ℕ → List Session → ℕ = session_count_at in
+    let sum : at x.region (before ++ x ∷ xs) ≡ at x.region before + (cond (x.region == x.region) 1 0 + at x.region xs) = sum_parts (λ s. cond (s.region == x.region) 1 0) before x xs in
     let one : ◌≡◌ {A = ℕ} (cond (x.region == x.region) 1 0) 1 = ap (λ b. cond b 1 0) (equal_itself x.region) in
     omega (arith, few, sum, one)
 
 no_session_fault : (cluster : Cluster) (before : List Session) (x : Session) (xs : List Session) → Fit cluster (before ++ x ∷ xs)
     → HasNoCause (IsFormFault cluster before (session_line x.name x.region))
 no_session_fault cluster before x xs fit =
-    let can_be = (all_append_right (CanBeSession cluster) before (x ∷ xs) fit.can_be).0 in
-    met (IsName x.name) cause.Name _ can_be.0 (met (¬ (Has (names_in before) x.name)) cause.Twice _ (fresh_name before x xs fit.names_once)
-    (met (x.region < cluster.regions) cause.Region _ can_be.1 (met (sessions_at x.region before < 64) cause.TooMany NothingMore (room_there before x xs (fit.few_sessions x.region)) all_met)))
+    let can_be = (all_append_right (IsValidSession cluster.procs cluster.regions) before (x ∷ xs) fit.sessions).0 in
+    met (IsName x.name) cause.Name _ can_be.name (met (¬ (Has (session_names before) x.name)) cause.Twice _ (fresh_name before x xs fit.names_once)
+    (met (x.region < cluster.regions) cause.Region _ can_be.region
+    (met (session_count_at x.region before < 64) cause.TooMany NothingMore (room_there before x xs (fit.few_sessions x.region)) all_met)))
 
 some_before : (front : List Session) (last : Session) → ¬ (front ++ last ∷ [] ≡ [])
 some_before [] last e = cc
@@ -315,7 +322,8 @@ some_before (x ∷ front) last e = cc
 room_for_one : (front : List Session) (last : Session) (wanted : Wanted) (others : List Wanted) (later : List Session)
     → calls_in (front ++ longer last wanted others ∷ later) ≤ 20000 → calls_in (front ++ last ∷ []) < 20000
 room_for_one front last wanted others later few =
-    let sum : calls_in (front ++ longer last wanted others ∷ later) ≡ calls_in front + (length (last.calls ++ wanted ∷ others) + calls_in later) = sum_parts (λ s. length s.calls) front (longer last wanted others) later in
+    let sum : calls_in (front ++ longer last wanted others ∷ later) ≡ calls_in front + (length (last.calls ++ wanted ∷ others) + calls_in later) =
+        sum_parts (λ s. length s.calls) front (longer last wanted others) later in
     let before : calls_in (front ++ last ∷ []) ≡ calls_in front + (length last.calls + 0) = sum_parts (λ s. length s.calls) front last [] in
     let calls = length-append last.calls (wanted ∷ others) in
     omega (arith, few, sum, before, calls)
@@ -323,12 +331,13 @@ room_for_one front last wanted others later few =
 no_wanted_fault : (cluster : Cluster) → HaveNames cluster.procs → (front : List Session) (last : Session) (wanted : Wanted) (others : List Wanted) (later : List Session)
     → Fit cluster (front ++ longer last wanted others ∷ later) → HasNoCause (IsFormFault cluster (front ++ last ∷ []) (wanted_line cluster.procs wanted))
 no_wanted_fault cluster once front last wanted others later fit =
-    by wanted ((all_append_right (CanBeWanted cluster) last.calls (wanted ∷ others) (all_append_right (CanBeSession cluster) front (longer last wanted others ∷ later) fit.can_be).0.2).0)
+    let valid = (all_append_right (IsValidSession cluster.procs cluster.regions) front (longer last wanted others ∷ later) fit.sessions).0 in
+    by wanted (all_append_right (WantedFits cluster.procs cluster.regions) last.calls (wanted ∷ others) valid.calls).0
   where
-    by : (w : Wanted) → CanBeWanted cluster w → HasNoCause (IsFormFault cluster (front ++ last ∷ []) (wanted_line cluster.procs w))
+    by : (w : Wanted) → WantedFits cluster.procs cluster.regions w → HasNoCause (IsFormFault cluster (front ++ last ∷ []) (wanted_line cluster.procs w))
     by (Call number args) can =
-        let name : Bytes = name_of (slice_get cluster.procs number) in
-        let is : proc_named cluster name ≡ Some can.body = ap (λ o. proc_named cluster (name_of o)) can.named ∙ found cluster number can.body once can.named in
+        let name : Bytes = proc_name (slice_get cluster.procs number) in
+        let is : proc_named cluster name ≡ Some can.body = ap (λ o. proc_named cluster (proc_name o)) can.named ∙ found cluster number can.body once can.named in
         met (¬ (front ++ last ∷ [] ≡ [])) cause.NoSession _ (some_before front last) (met (IsSome (proc_named cluster name)) cause.Proc _ (ap is_some is)
         (met (FitsIf (proc_named cluster name) args) cause.Args _ (subst (λ o. FitsIf o args) (sym is) can.fits)
         (met (GivesKeys (proc_named cluster name) args) cause.Key _ (subst (λ o. GivesKeys o args) (sym is) can.keys)
@@ -353,12 +362,12 @@ no_line_fault cluster once before line after s t told h k fault =
     by (related_front before (line ∷ after) (all_lines cluster.procs t) (all_lines cluster.procs s) k.lines h.lines)
   where
     fit : Fit cluster t
-    fit = record { can_be = k.sessions; names_once = k.names_once; few_sessions = k.few_sessions; few_calls = k.few_calls }
+    fit = k.valid
 
     has : (form : Form) (rest : List Form) → HasForm line.bytes form → all_lines cluster.procs t ≡ all_lines cluster.procs s ++ form ∷ rest → IsLineFault cluster s line.bytes told → ⊥
     has form rest is e (inl f) = f.1 form is
     has form rest is e (inr f) =
-        no_onward_fault cluster once s t form rest fit (onward cluster once s t (form ∷ rest) h.sessions k.sessions e) told
+        no_onward_fault cluster once s t form rest fit (onward cluster once s t (form ∷ rest) h.valid.sessions k.valid.sessions e) told
         (subst (λ g. IsFormFault cluster s g told) (one_form line.bytes f.0 form f.1 is) f.2)
 
     by : (rest : List Form) × (all_lines cluster.procs t ≡ all_lines cluster.procs s ++ rest) × Pairwise IsLine (line ∷ after) rest → ⊥
@@ -373,10 +382,10 @@ Cuts xs x ys y =
     ((xs ≡ ys) × (x ≡ y)) ⊎ (((more : List FileLine) × (ys ≡ xs ++ x ∷ more)) ⊎ ((more : List FileLine) × (xs ≡ ys ++ y ∷ more)))
 
 cuts : (xs : List FileLine) (x : FileLine) (us ys : List FileLine) (y : FileLine) (vs : List FileLine) → xs ++ x ∷ us ≡ ys ++ y ∷ vs → Cuts xs x ys y
-cuts [] x us [] y vs e = inl (refl, head-is e)
-cuts [] x us (z ∷ ys) y vs e = inr (inl (ys, ap (λ l. l ∷ ys) (sym (head-is e))))
-cuts (z ∷ xs) x us [] y vs e = inr (inr (xs, ap (λ l. l ∷ xs) (head-is e)))
-cuts (z ∷ xs) x us (w ∷ ys) y vs e = one_more (head-is e) (cuts xs x us ys y vs (tail-is e))
+cuts [] x us [] y vs e = inl (refl, same_head e)
+cuts [] x us (z ∷ ys) y vs e = inr (inl (ys, ap (λ l. l ∷ ys) (sym (same_head e))))
+cuts (z ∷ xs) x us [] y vs e = inr (inr (xs, ap (λ l. l ∷ xs) (same_head e)))
+cuts (z ∷ xs) x us (w ∷ ys) y vs e = one_more (same_head e) (cuts xs x us ys y vs (same_tail e))
   where
     one_more : z ≡ w → Cuts xs x ys y → Cuts (z ∷ xs) x (w ∷ ys) y
     one_more same (inl (l, k)) = inl ((λ i. same i ∷ l i), k)

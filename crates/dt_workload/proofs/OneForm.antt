@@ -6,21 +6,21 @@ use Rattle.std.specs.Fmt.{decimal, signed_decimal}
 use Rattle.std.specs.Cmp.Lexicographic.{pointwise, bytes_decides}
 use Rattle.std.proofs.lemmas.Bool.{false≢true}
 use Rattle.std.proofs.lemmas.Fmt.{decimal_injective}
+use Rattle.dt_lists.proofs.Callers.{same_head, same_tail}
+use Rattle.std.proofs.lemmas.Option.{same_Some}
 use Rattle.dt_lists.specs.Lists.{AllIn}
 use Rattle.dt_text.specs.declared.Value.{Value}
 use Rattle.dt_text.specs.declared.Value.TheVariants.{Int, Text}
-use Rattle.dt_text.proofs.Numerals.{no_minus}
-use Rattle.dt_text.proofs.ReadingLaws.{exact}
-use Rattle.dt_workload.specs.Lines.{Bytes, bare, quoted, said, Form, session_line, call_line, move_line, argument_word, form_words, IsArgument, IsForm, HasForm}
+use Rattle.dt_text.proofs.Callers.{no_minus}
+use Rattle.dt_text.proofs.Callers.{exact}
+use Rattle.dt_text.specs.Texts.{Bytes}
+use Rattle.dt_workload.specs.Lines.{bare, quoted, said, Form, session_line, call_line, move_line, argument_word, form_words, IsArgument, IsForm, HasForm}
 
-pub head-is : {A : Type 0} {x y : A} {xs ys : List A} → x ∷ xs ≡ y ∷ ys → x ≡ y
-head-is e = cc
+pub same_head : {A : Type 0} {x y : A} {xs ys : List A} → x ∷ xs ≡ y ∷ ys → x ≡ y
+same_head e = cc
 
-pub tail-is : {A : Type 0} {x y : A} {xs ys : List A} → x ∷ xs ≡ y ∷ ys → xs ≡ ys
-tail-is e = cc
-
-same_some : {A : Type 0} {x y : A} → Some x ≡ Some y → x ≡ y
-same_some e = cc
+pub same_tail : {A : Type 0} {x y : A} {xs ys : List A} → x ∷ xs ≡ y ∷ ys → xs ≡ ys
+same_tail e = cc
 
 same_bare : {a b : Bytes} → bare a ≡ bare b → a ≡ b
 same_bare e = cc
@@ -56,31 +56,31 @@ same_arguments [] [] fit_vs fit_ws e = refl
 same_arguments [] (w ∷ ws) fit_vs fit_ws e = cc
 same_arguments (v ∷ vs) [] fit_vs fit_ws e = cc
 same_arguments (v ∷ vs) (w ∷ ws) fit_vs fit_ws e =
-    λ i. same_argument v w fit_vs.0 fit_ws.0 (head-is e) i ∷ same_arguments vs ws fit_vs.1 fit_ws.1 (tail-is e) i
+    λ i. same_argument v w fit_vs.0 fit_ws.0 (same_head e) i ∷ same_arguments vs ws fit_vs.1 fit_ws.1 (same_tail e) i
 
 -- the words tell the form
 same_form : (f g : Form) → IsForm f → IsForm g → form_words f ≡ form_words g → f ≡ g
 same_form (session_line n r) (session_line m q) is_f is_g e =
-    let name : n ≡ m = same_bare (head-is (tail-is e)) in
-    let region = same_number r q is_f is_g (same_bare (head-is (tail-is (tail-is (tail-is e))))) in
+    let name : n ≡ m = same_bare (same_head (same_tail e)) in
+    let region = same_number r q is_f is_g (same_bare (same_head (same_tail (same_tail (same_tail e))))) in
     λ i. session_line (name i) (region i)
-same_form (session_line n r) (call_line p args) is_f is_g e = absurd (differ (codes "session") (codes "call") refl (head-is e))
-same_form (session_line n r) (move_line k q) is_f is_g e = absurd (differ (codes "session") (codes "move") refl (head-is e))
-same_form (call_line p args) (session_line n r) is_f is_g e = absurd (differ (codes "call") (codes "session") refl (head-is e))
+same_form (session_line n r) (call_line p args) is_f is_g e = absurd (differ (codes "session") (codes "call") refl (same_head e))
+same_form (session_line n r) (move_line k q) is_f is_g e = absurd (differ (codes "session") (codes "move") refl (same_head e))
+same_form (call_line p args) (session_line n r) is_f is_g e = absurd (differ (codes "call") (codes "session") refl (same_head e))
 same_form (call_line p args) (call_line o others) is_f is_g e =
-    let proc : p ≡ o = same_bare (head-is (tail-is e)) in
-    let same = same_arguments args others is_f is_g (tail-is (tail-is e)) in
+    let proc : p ≡ o = same_bare (same_head (same_tail e)) in
+    let same = same_arguments args others is_f is_g (same_tail (same_tail e)) in
     λ i. call_line (proc i) (same i)
-same_form (call_line p args) (move_line k q) is_f is_g e = absurd (differ (codes "call") (codes "move") refl (head-is e))
-same_form (move_line k r) (session_line n q) is_f is_g e = absurd (differ (codes "move") (codes "session") refl (head-is e))
-same_form (move_line k r) (call_line p args) is_f is_g e = absurd (differ (codes "move") (codes "call") refl (head-is e))
+same_form (call_line p args) (move_line k q) is_f is_g e = absurd (differ (codes "call") (codes "move") refl (same_head e))
+same_form (move_line k r) (session_line n q) is_f is_g e = absurd (differ (codes "move") (codes "session") refl (same_head e))
+same_form (move_line k r) (call_line p args) is_f is_g e = absurd (differ (codes "move") (codes "call") refl (same_head e))
 same_form (move_line k r) (move_line j q) is_f is_g e =
-    let key : k ≡ j = same_bare (head-is (tail-is e)) in
-    let region = same_number r q is_f is_g (same_bare (head-is (tail-is (tail-is (tail-is e))))) in
+    let key : k ≡ j = same_bare (same_head (same_tail e)) in
+    let region = same_number r q is_f is_g (same_bare (same_head (same_tail (same_tail (same_tail e))))) in
     λ i. move_line (key i) (region i)
 
 -- a line has one form
 pub one_form : (line : Bytes) (f g : Form) → HasForm line f → HasForm line g → f ≡ g
 one_form line f g h k =
-    let words : h.1.0 ≡ k.1.0 = same_some (sym ((exact line h.1.0).1 h.1.1) ∙ (exact line k.1.0).1 k.1.1) in
+    let words : h.1.0 ≡ k.1.0 = same_Some _ _ (sym ((exact line h.1.0).1 h.1.1) ∙ (exact line k.1.0).1 k.1.1) in
     same_form f g h.0 k.0 (sym h.1.2 ∙ ap (map (said line)) words ∙ k.1.2)

@@ -1,5 +1,6 @@
 -- What one line more makes of sessions.
-use Rattle.std.proofs.Common.{◌≡◌, ℕ, zero, suc, ◌+◌, ◌<◌, ◌≤◌, ◌==◌, Bool, true, false, cond, nat_eq, List, [], ◌∷◌, ◌++◌, map, length, slice_get, Some, refl, ap, sym, ◌∙◌, subst, arith, append_assoc, append-nil}
+use Rattle.std.proofs.Common.{◌≡◌, ℕ, zero, suc, ◌+◌, ◌<◌, ◌≤◌, ◌==◌, Bool, true, false, cond, nat_eq, List, [], ◌∷◌, ◌++◌, map, length, slice_get, Some, refl}
+use Rattle.std.proofs.Common.{ap, sym, ◌∙◌, subst, arith, append_assoc, append-nil}
 use Rattle.std.specs.Option.{option_and_then}
 use Rattle.std.specs.Cmp.Lexicographic.{pointwise, bytes_decides}
 use Rattle.std.proofs.lemmas.List.Sums.{sum_by-append}
@@ -7,19 +8,20 @@ use Rattle.std.proofs.lemmas.List.Quantifiers.{position-Some}
 use Rattle.std.proofs.lemmas.Option.{get_or_from_slice_get}
 use Rattle.std.proofs.lemmas.Bool.Decides.{nat_tests}
 use Rattle.dt_lists.specs.Lists.{AllIn, Has, Pairwise}
-use Rattle.dt_lists.proofs.Words.{all_append, all_append_left, all_append_right, all_get}
-use Rattle.dt_lists.proofs.Distinct.{distinct_push}
-use Rattle.dt_lists.proofs.Places.{has_place}
+use Rattle.dt_lists.proofs.Callers.{all_append, all_append_left, all_append_right, all_get}
+use Rattle.dt_lists.proofs.Callers.{distinct_push}
+use Rattle.dt_lists.proofs.Callers.{has_place}
 use Rattle.dt_text.specs.Texts.{IsKey}
 use Rattle.dt_text.specs.Lines.{FileLine}
 use Rattle.dt_proc.specs.Tree.{ProcTree}
 use Rattle.dt_proc.specs.Names.{place_of_name}
 use Rattle.dt_eval.specs.Keys.{IsFirstBad}
 use Rattle.dt_cluster.specs.declared.Cluster.{Cluster}
-use Rattle.dt_workload.specs.Lines.{Bytes, Form, session_line, call_line, move_line, HasForm}
-use Rattle.dt_workload.specs.File.{wanted_line, session_lines, all_lines, CanBeWanted, CanBeSession, names_in, sessions_at, calls_in, AreSessions, proc_named}
-use Rattle.dt_workload.specs.Reading.{wanting, IsWithWanted, FormGoesOn, LineGoesOn}
-use Rattle.dt_workload.specs.Valid.{WantedFits, IsValidSession, IsValidWorkload}
+use Rattle.dt_text.specs.Texts.{Bytes}
+use Rattle.dt_workload.specs.Lines.{Form, session_line, call_line, move_line, HasForm}
+use Rattle.dt_workload.specs.File.{wanted_line, session_lines, all_lines, AreSessions, proc_named}
+use Rattle.dt_workload.specs.Valid.{session_names, session_count_at, calls_in, WantedFits, IsValidSession, IsValidWorkload}
+use Rattle.dt_workload.specs.ReaderParts.{wanting, IsWithWanted, FormGoesOn, LineGoesOn}
 use Rattle.dt_workload.specs.declared.workload.Wanted.{Wanted}
 use Rattle.dt_workload.specs.declared.workload.Wanted.TheVariants.{Call, Move}
 use Rattle.dt_workload.specs.declared.workload.Session.{Session}
@@ -65,11 +67,11 @@ lines_wanting procs others last w =
     ∙ sym (append_assoc (all_lines procs others) (session_lines procs last) (wanted_line procs w ∷ []))
     ∙ ap (λ ls. ls ++ wanted_line procs w ∷ []) (sym (lines_more procs others last))
 
-names_wanting : (others : List Session) (last : Session) (w : Wanted) → names_in (others ++ wanting last w ∷ []) ≡ names_in (others ++ last ∷ [])
+names_wanting : (others : List Session) (last : Session) (w : Wanted) → session_names (others ++ wanting last w ∷ []) ≡ session_names (others ++ last ∷ [])
 names_wanting [] last w = refl
 names_wanting (s ∷ others) last w = ap (λ ns. s.name ∷ ns) (names_wanting others last w)
 
-at_wanting : (region : ℕ) (others : List Session) (last : Session) (w : Wanted) → sessions_at region (others ++ wanting last w ∷ []) ≡ sessions_at region (others ++ last ∷ [])
+at_wanting : (region : ℕ) (others : List Session) (last : Session) (w : Wanted) → session_count_at region (others ++ wanting last w ∷ []) ≡ session_count_at region (others ++ last ∷ [])
 at_wanting region others last w =
     sum_by-append (λ (s : Session). cond (s.region == region) 1 0) others (wanting last w ∷ [])
     ∙ sym (sum_by-append (λ (s : Session). cond (s.region == region) 1 0) others (last ∷ []))
@@ -85,12 +87,12 @@ calls_wanting others last w =
     one_longer [] w = refl
     one_longer (v ∷ ws) w = omega (arith, one_longer ws w)
 
-none_at : (region : ℕ) → sessions_at region [] ≤ 64
+none_at : (region : ℕ) → session_count_at region [] ≤ 64
 none_at region = omega arith
 
 -- no lines are no sessions
 pub none_read : (cluster : Cluster) → AreSessions cluster [] []
-none_read cluster = record { lines = tt; sessions = tt; names_once = tt; few_sessions = none_at; few_calls = omega arith }
+none_read cluster = record { lines = tt; valid = record { sessions = tt; names_once = tt; few_sessions = none_at; few_calls = omega arith } }
 
 one_more_at : (b : Bool) (n : ℕ) → (b ≡ true → n < 64) → n ≤ 64 → n + (0 + cond b 1 0) ≤ 64
 one_more_at true n room few = let r = room refl in omega arith
@@ -99,69 +101,88 @@ one_more_at false n room few = omega arith
 same_number : (a b : ℕ) → (a == b) ≡ true → a ≡ b
 same_number a b h = grind (arith, nat_tests)
 
-room_at : (region : ℕ) (before : List Session) (x : Session) → sessions_at x.region before < 64 → sessions_at region before ≤ 64 → sessions_at region (before ++ x ∷ []) ≤ 64
+room_at : (region : ℕ) (before : List Session) (x : Session) → session_count_at x.region before < 64 → session_count_at region before ≤ 64
+    → session_count_at region (before ++ x ∷ []) ≤ 64
 room_at region before x room few =
+    let room_if : (x.region == region) ≡ true → session_count_at region before < 64 = λ e. subst (λ r. session_count_at r before < 64) (same_number x.region region e) room in
     rw (sum_by-append (λ (s : Session). cond (s.region == region) 1 0) before (x ∷ []))
-    (one_more_at (x.region == region) (sessions_at region before) (λ e. subst (λ r. sessions_at r before < 64) (same_number x.region region e) room) few)
+    (one_more_at (x.region == region) (session_count_at region before) room_if few)
 
-session_read : (cluster : Cluster) (ls : List FileLine) (line : FileLine) (before : List Session) (x : Session) → AreSessions cluster ls before → CanBeSession cluster x → x.calls ≡ []
-    → HasForm line.bytes (session_line x.name x.region) → ¬ (Has (names_in before) x.name) → sessions_at x.region before < 64 → AreSessions cluster (ls ++ line ∷ []) (before ++ x ∷ [])
-session_read cluster ls line before x are can none has new room =
+-- some lines and their forms
+abbrev Say : List FileLine → List Form → Type 0
+Say ls forms = Pairwise (λ (l : FileLine) form. HasForm l.bytes form) ls forms
+
+say_more : (ls : List FileLine) (forms : List Form) (line : FileLine) (form : Form) → Say ls forms → HasForm line.bytes form → Say (ls ++ line ∷ []) (forms ++ form ∷ [])
+say_more ls forms line form say has = pairwise_more (λ (l : FileLine) form. HasForm l.bytes form) ls forms line form say has
+
+say_session : (procs : List ProcTree) (ls : List FileLine) (line : FileLine) (before : List Session) (x : Session) → Say ls (all_lines procs before) → x.calls ≡ []
+    → HasForm line.bytes (session_line x.name x.region) → Say (ls ++ line ∷ []) (all_lines procs (before ++ x ∷ []))
+say_session procs ls line before x say none has =
+    let first : Form = session_line x.name x.region in
+    let wants : List Wanted → Type 0 = λ ws. Say (ls ++ line ∷ []) (all_lines procs before ++ first ∷ map (wanted_line procs) ws) in
+    rw (lines_more procs before x) (subst wants (sym none) (say_more ls (all_lines procs before) line first say has))
+
+-- sessions of which the last wants nothing yet, and which may begin
+session_valid : (cluster : Cluster) (before : List Session) (x : Session) → IsValidWorkload cluster (record { sessions = before })
+    → IsValidSession cluster.procs cluster.regions x → x.calls ≡ [] → ¬ (Has (session_names before) x.name) → session_count_at x.region before < 64
+    → IsValidWorkload cluster (record { sessions = before ++ x ∷ [] })
+session_valid cluster before x valid can none new room =
     record {
-      lines = rw (lines_more cluster.procs before x) (subst (λ ws. Pairwise (λ (l : FileLine) form. HasForm l.bytes form) (ls ++ line ∷ []) (all_lines cluster.procs before ++ session_line x.name x.region ∷ map (wanted_line cluster.procs) ws))
-          (sym none) (pairwise_more (λ (l : FileLine) form. HasForm l.bytes form) ls (all_lines cluster.procs before) line (session_line x.name x.region) are.lines has));
-      sessions = all_append (CanBeSession cluster) before (x ∷ []) are.sessions (can, tt);
-      names_once = rw (map_more (λ (s : Session). s.name) before (x ∷ [])) (distinct_push (names_in before) x.name are.names_once new);
-      few_sessions = λ region. room_at region before x room (are.few_sessions region);
-      few_calls = rw (sum_by-append (λ (s : Session). length s.calls) before (x ∷ []), none) (omega (arith, are.few_calls));
+      sessions = all_append (IsValidSession cluster.procs cluster.regions) before (x ∷ []) valid.sessions (can, tt);
+      names_once = rw (map_more (λ (s : Session). s.name) before (x ∷ [])) (distinct_push (session_names before) x.name valid.names_once new);
+      few_sessions = λ region. room_at region before x room (valid.few_sessions region);
+      few_calls = rw (sum_by-append (λ (s : Session). length s.calls) before (x ∷ []), none) (omega (arith, valid.few_calls));
     }
 
-can_be_wanting : (cluster : Cluster) (last : Session) (w : Wanted) → CanBeSession cluster last → CanBeWanted cluster w → CanBeSession cluster (wanting last w)
-can_be_wanting cluster last w can wanted = (can.0, can.1, all_append (CanBeWanted cluster) last.calls (w ∷ []) can.2 (wanted, tt))
+can_be_wanting : (cluster : Cluster) (last : Session) (w : Wanted) → IsValidSession cluster.procs cluster.regions last → WantedFits cluster.procs cluster.regions w
+    → IsValidSession cluster.procs cluster.regions (wanting last w)
+can_be_wanting cluster last w can wanted =
+    record { name = can.name; region = can.region; calls = all_append (WantedFits cluster.procs cluster.regions) last.calls (w ∷ []) can.calls (wanted, tt) }
 
-wanted_read : (cluster : Cluster) (ls : List FileLine) (line : FileLine) (others : List Session) (last : Session) (w : Wanted) → AreSessions cluster ls (others ++ last ∷ []) → CanBeWanted cluster w
-    → HasForm line.bytes (wanted_line cluster.procs w) → calls_in (others ++ last ∷ []) < 20000 → AreSessions cluster (ls ++ line ∷ []) (others ++ wanting last w ∷ [])
-wanted_read cluster ls line others last w are can has room =
+-- sessions of which the last wants one thing more
+wanting_valid : (cluster : Cluster) (others : List Session) (last : Session) (w : Wanted) → IsValidWorkload cluster (record { sessions = others ++ last ∷ [] })
+    → WantedFits cluster.procs cluster.regions w → calls_in (others ++ last ∷ []) < 20000 → IsValidWorkload cluster (record { sessions = others ++ wanting last w ∷ [] })
+wanting_valid cluster others last w valid can room =
+    let P = IsValidSession cluster.procs cluster.regions in
+    let last_can = (all_append_right P others (last ∷ []) valid.sessions).0 in
     record {
-      lines = rw (lines_wanting cluster.procs others last w) (pairwise_more (λ (l : FileLine) form. HasForm l.bytes form) ls (all_lines cluster.procs (others ++ last ∷ [])) line (wanted_line cluster.procs w) are.lines has);
-      sessions = all_append (CanBeSession cluster) others (wanting last w ∷ []) (all_append_left (CanBeSession cluster) others (last ∷ []) are.sessions)
-          (can_be_wanting cluster last w (all_append_right (CanBeSession cluster) others (last ∷ []) are.sessions).0 can, tt);
-      names_once = rw (names_wanting others last w) are.names_once;
-      few_sessions = λ region. rw (at_wanting region others last w) (are.few_sessions region);
+      sessions = all_append P others (wanting last w ∷ []) (all_append_left P others (last ∷ []) valid.sessions) (can_be_wanting cluster last w last_can can, tt);
+      names_once = rw (names_wanting others last w) valid.names_once;
+      few_sessions = λ region. rw (at_wanting region others last w) (valid.few_sessions region);
       few_calls = rw (calls_wanting others last w) (omega (arith, room));
     }
 
-wanted_goes_on : (cluster : Cluster) (ls : List FileLine) (line : FileLine) (before after : List Session) (w : Wanted) → AreSessions cluster ls before → CanBeWanted cluster w
-    → HasForm line.bytes (wanted_line cluster.procs w) → calls_in before < 20000 → IsWithWanted before w after → AreSessions cluster (ls ++ line ∷ []) after
+wanted_read : (cluster : Cluster) (ls : List FileLine) (line : FileLine) (others : List Session) (last : Session) (w : Wanted) → AreSessions cluster ls (others ++ last ∷ [])
+    → WantedFits cluster.procs cluster.regions w → HasForm line.bytes (wanted_line cluster.procs w) → calls_in (others ++ last ∷ []) < 20000
+    → AreSessions cluster (ls ++ line ∷ []) (others ++ wanting last w ∷ [])
+wanted_read cluster ls line others last w are can has room =
+    record {
+      lines = rw (lines_wanting cluster.procs others last w) (say_more ls (all_lines cluster.procs (others ++ last ∷ [])) line (wanted_line cluster.procs w) are.lines has);
+      valid = wanting_valid cluster others last w are.valid can room;
+    }
+
+wanted_goes_on : (cluster : Cluster) (ls : List FileLine) (line : FileLine) (before after : List Session) (w : Wanted) → AreSessions cluster ls before
+    → WantedFits cluster.procs cluster.regions w → HasForm line.bytes (wanted_line cluster.procs w) → calls_in before < 20000 → IsWithWanted before w after
+    → AreSessions cluster (ls ++ line ∷ []) after
 wanted_goes_on cluster ls line before after w are can has room with =
     rw with.3 (wanted_read cluster ls line with.0 with.1 w (subst (AreSessions cluster ls) with.2 are) can has (subst (λ s. calls_in s < 20000) with.2 room))
 
 form_read : (cluster : Cluster) (ls : List FileLine) (line : FileLine) (before after : List Session) (form : Form) → AreSessions cluster ls before → HasForm line.bytes form
     → FormGoesOn cluster before form after → AreSessions cluster (ls ++ line ∷ []) after
 form_read cluster ls line before after (session_line name region) are has on =
-    rw on.4 (session_read cluster ls line before (record { name = name; region = region; calls = [] }) are (on.0, on.2, tt) refl has on.1 on.3)
+    let x : Session = record { name = name; region = region; calls = [] } in
+    let can : IsValidSession cluster.procs cluster.regions x = record { name = on.0; region = on.2; calls = tt } in
+    rw on.4 (record { lines = say_session cluster.procs ls line before x are.lines refl has; valid = session_valid cluster before x are.valid can refl on.1 on.3 })
 form_read cluster ls line before after (call_line name args) are has on =
     wanted_goes_on cluster ls line before after (Call on.0 args) are on.2 (subst (λ n. HasForm line.bytes (call_line n args)) (sym on.1) has) on.3 on.4
 form_read cluster ls line before after (move_line key target) are has on =
     wanted_goes_on cluster ls line before after (Move key target) are (on.0, on.1) has on.2 on.3
 
 -- one line more, by which sessions go on
-pub line_read : (cluster : Cluster) (ls : List FileLine) (line : FileLine) (before after : List Session) → AreSessions cluster ls before → LineGoesOn cluster before line.bytes after
-    → AreSessions cluster (ls ++ line ∷ []) after
+pub line_read : (cluster : Cluster) (ls : List FileLine) (line : FileLine) (before after : List Session) → AreSessions cluster ls before
+    → LineGoesOn cluster before line.bytes after → AreSessions cluster (ls ++ line ∷ []) after
 line_read cluster ls line before after are on = form_read cluster ls line before after on.0 are on.1 on.2
-
-wanted_fits : (cluster : Cluster) (w : Wanted) → CanBeWanted cluster w → WantedFits cluster.procs cluster.regions w
-wanted_fits cluster (Call number args) can = can
-wanted_fits cluster (Move key target) can = can.1
-
-all_fit : (cluster : Cluster) (ws : List Wanted) → AllIn (CanBeWanted cluster) ws → AllIn (WantedFits cluster.procs cluster.regions) ws
-all_fit cluster [] can = tt
-all_fit cluster (w ∷ ws) can = (wanted_fits cluster w can.0, all_fit cluster ws can.1)
-
-all_valid : (cluster : Cluster) (sessions : List Session) → AllIn (CanBeSession cluster) sessions → AllIn (IsValidSession cluster.procs cluster.regions) sessions
-all_valid cluster [] can = tt
-all_valid cluster (s ∷ sessions) can = (record { region = can.0.1; calls = all_fit cluster s.calls can.0.2 }, all_valid cluster sessions can.1)
 
 -- the workload of a file is one that the cluster can be given
 pub read_valid : (cluster : Cluster) (ls : List FileLine) (workload : Workload) → AreSessions cluster ls workload.sessions → IsValidWorkload cluster workload
-read_valid cluster ls workload are = record { names_once = are.names_once; sessions = all_valid cluster workload.sessions are.sessions }
+read_valid cluster ls workload are = are.valid

@@ -1,17 +1,19 @@
--- What a workload file is, and what fault is told of a file that is none.
-use Rattle.std.specs.Prelude.{◌≡◌, ◌⊎◌, ℕ, ◌<◌, ◌≤◌, ◌==◌, List, [], ◌∷◌, ◌++◌, map, flat_map, length, slice_get, Option, Some, None, IsSome, count_by}
+-- What a workload file is, and what fault is told of a file that is none. A file is read line by line: the lines before the
+-- first faulty one are some sessions, and that line's fault is the first of its causes in a fixed order, so each file is one
+-- workload or has one fault (`Laws`). The forms of lines are in `Lines`, and what a workload is in `Valid`.
+use Rattle.std.specs.Prelude.{◌≡◌, ◌⊎◌, ℕ, ◌<◌, List, [], ◌∷◌, ◌++◌, map, flat_map, length, slice_get, Option, Some, None, IsSome}
 use Rattle.std.specs.Option.{option_and_then}
-use Rattle.std.specs.List.{sum_by}
-use Rattle.dt_lists.specs.Lists.{AllIn, Distinct, Has, Pairwise}
+use Rattle.dt_lists.specs.Lists.{Has, Pairwise}
 use Rattle.dt_text.specs.Texts.{IsKey, IsName}
 use Rattle.dt_text.specs.Lines.{FileLine, lines_of}
 use Rattle.dt_text.specs.declared.Value.{Value}
 use Rattle.dt_proc.specs.Tree.{ProcTree}
 use Rattle.dt_proc.specs.Names.{place_of_name}
 use Rattle.dt_eval.specs.Meaning.{Fits, HasKeys}
-use Rattle.dt_eval.specs.Calls.{CallFits}
 use Rattle.dt_cluster.specs.declared.Cluster.{Cluster}
-use Rattle.dt_workload.specs.Lines.{Bytes, Form, session_line, call_line, move_line, HasForm}
+use Rattle.dt_text.specs.Texts.{Bytes}
+use Rattle.dt_workload.specs.Lines.{Form, session_line, call_line, move_line, HasForm}
+use Rattle.dt_workload.specs.Valid.{session_names, session_count_at, calls_in, IsValidWorkload}
 use Rattle.dt_workload.specs.declared.workload.Wanted.{Wanted}
 use Rattle.dt_workload.specs.declared.workload.Wanted.TheVariants.{Call, Move}
 use Rattle.dt_workload.specs.declared.workload.Session.{Session}
@@ -19,13 +21,14 @@ use Rattle.dt_workload.specs.declared.workload.Workload.{Workload}
 use Rattle.dt_workload.specs.declared.error.WorkloadCause.{WorkloadCause}
 use Rattle.dt_workload.specs.declared.error.WorkloadCause.TheVariants as cause
 
-abbrev pub name_of : Option ProcTree → Bytes
-name_of None = []
-name_of (Some proc) = proc.name
+-- the name of a procedure, if there is one
+abbrev pub proc_name : Option ProcTree → Bytes
+proc_name None = []
+proc_name (Some proc) = proc.name
 
 -- the line of a call or a move: a call names its procedure
 abbrev pub wanted_line : List ProcTree → Wanted → Form
-wanted_line procs (Call number args) = call_line (name_of (slice_get procs number)) args
+wanted_line procs (Call number args) = call_line (proc_name (slice_get procs number)) args
 wanted_line procs (Move key target) = move_line key target
 
 -- the lines of a session: its own, and then those of its calls and moves
@@ -36,35 +39,10 @@ session_lines procs session = session_line session.name session.region ∷ map (
 abbrev pub all_lines : List ProcTree → List Session → List Form
 all_lines procs sessions = flat_map (session_lines procs) sessions
 
--- a call or a move that the cluster can be asked for: arguments fit and give keys; a move is of a key to a region
-abbrev pub CanBeWanted : Cluster → Wanted → Type 0
-CanBeWanted cluster (Call number args) = CallFits cluster.procs number args
-CanBeWanted cluster (Move key target) = IsKey key × (target < cluster.regions)
-
--- a session that can be: it has a name and a region, and wants what can be wanted
-abbrev pub CanBeSession : Cluster → Session → Type 0
-CanBeSession cluster session =
-    IsName session.name × (session.region < cluster.regions) × AllIn (CanBeWanted cluster) session.calls
-
-abbrev pub names_in : List Session → List Bytes
-names_in sessions = map (λ s. s.name) sessions
-
--- how many of the sessions are at a region
-abbrev pub sessions_at : ℕ → List Session → ℕ
-sessions_at region sessions = count_by (λ s. s.region == region) sessions
-
--- how many calls and moves there are in all sessions
-abbrev pub calls_in : List Session → ℕ
-calls_in sessions = sum_by (λ s. length s.calls) sessions
-
--- some lines are these sessions: they are the sessions' lines in order; sessions can be, their names differ, there are at most
--- 64 at each region, and at most 20,000 calls and moves
+-- some lines are these sessions: they are the sessions' lines in order, and the sessions are a valid workload
 pub record AreSessions (cluster : Cluster) (file_lines : List FileLine) (read : List Session) : Type 0 where
   pub lines : Pairwise (λ (l : FileLine) form. HasForm l.bytes form) file_lines (all_lines cluster.procs read)
-  pub sessions : AllIn (CanBeSession cluster) read
-  pub names_once : Distinct (names_in read)
-  pub few_sessions : (region : ℕ) → sessions_at region read ≤ 64
-  pub few_calls : calls_in read ≤ 20000
+  pub valid : IsValidWorkload cluster (record { sessions = read })
 
 -- the bytes are this workload, in this cluster
 abbrev pub IsWorkload : Cluster → Bytes → Workload → Type 0
@@ -82,9 +60,9 @@ NothingMore told = ⊥
 abbrev pub IsSessionFault : Cluster → List Session → Bytes → ℕ → WorkloadCause → Type 0
 IsSessionFault cluster before name region told =
     Needs (IsName name) cause.Name
-    (Needs (¬ (Has (names_in before) name)) cause.Twice
+    (Needs (¬ (Has (session_names before) name)) cause.Twice
     (Needs (region < cluster.regions) cause.Region
-    (Needs (sessions_at region before < 64) cause.TooMany NothingMore))) told
+    (Needs (session_count_at region before < 64) cause.TooMany NothingMore))) told
 
 -- the procedure of a name, if there is one
 abbrev pub proc_named : Cluster → Bytes → Option ProcTree

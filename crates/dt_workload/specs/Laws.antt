@@ -1,8 +1,9 @@
--- What holds of workload files.
-use Rattle.std.specs.Prelude.{◌≡◌, ℕ}
+-- What holds of workload files: in a cluster each file is one workload, or has one fault at one line, and not both; and each
+-- file is one of the two. So the answer of the reader is the only one that a file can have, memory aside.
+use Rattle.std.specs.Prelude.{◌≡◌, ◌⊎◌, ℕ}
 use Rattle.dt_cluster.specs.declared.Cluster.{Cluster}
 use Rattle.dt_cluster.specs.Valid.{IsValidCluster}
-use Rattle.dt_workload.specs.Lines.{Bytes}
+use Rattle.dt_text.specs.Texts.{Bytes}
 use Rattle.dt_workload.specs.File.{IsWorkload, IsWorkloadFault}
 use Rattle.dt_workload.specs.declared.workload.Workload.{Workload}
 use Rattle.dt_workload.specs.declared.error.WorkloadCause.{WorkloadCause}
@@ -19,7 +20,13 @@ WorkloadsHaveNoFault =
     → IsWorkload cluster file v → ¬ (IsWorkloadFault cluster file line why)
 
 -- in a cluster, a file has one fault at most, at one line
-abbrev pub FilesHaveOneFault : Type 0
-FilesHaveOneFault =
+abbrev pub WorkloadFilesHaveOneFault : Type 0
+WorkloadFilesHaveOneFault =
     (cluster : Cluster) → IsValidCluster cluster → (file : Bytes) (l m : ℕ) (why how : WorkloadCause)
     → IsWorkloadFault cluster file l why → IsWorkloadFault cluster file m how → (l ≡ m) × (why ≡ how)
+
+-- in a cluster, every file is a workload or has a fault
+abbrev pub WorkloadFilesHaveAnOutcome : Type 0
+WorkloadFilesHaveAnOutcome =
+    (cluster : Cluster) → IsValidCluster cluster → (file : Bytes)
+    → ((workload : Workload) × IsWorkload cluster file workload) ⊎ ((line : ℕ) × (why : WorkloadCause) × IsWorkloadFault cluster file line why)

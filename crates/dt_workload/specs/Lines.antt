@@ -1,18 +1,17 @@
--- The forms that a line of a workload file can have.
+-- The forms that a line of a workload file can have: `session NAME at REGION`, `call PROC ARG ..`, `move KEY to REGION`. A line
+-- has a form where its words are those of the form; a number and a text have one spelling each, so a line has one form at
+-- most. Next: `File`, what lines make together.
 use Rattle.std.specs.Prelude.{◌≡◌, ℕ, ◌<◌, ◌^◌, List, [], ◌∷◌, map, codes, FitsSigned}
 use Rattle.std.specs.Int.{w64}
 use Rattle.std.specs.List.{slice_range}
 use Rattle.std.specs.Fmt.{decimal, signed_decimal}
 use Rattle.dt_lists.specs.Lists.{AllIn}
-use Rattle.dt_text.specs.Texts.{IsStr}
+use Rattle.dt_text.specs.Texts.{Bytes, IsStr}
 use Rattle.dt_text.specs.Words.{AreWords}
 use Rattle.dt_text.specs.declared.Word.{Word}
 use Rattle.dt_text.specs.declared.Word.TheVariants as word
 use Rattle.dt_text.specs.declared.Value.{Value}
 use Rattle.dt_text.specs.declared.Value.TheVariants.{Int, Text}
-
-abbrev pub Bytes : Type 0
-Bytes = List ℕ
 
 -- a word by what it says: a bare word its bytes, a text word its text
 pub data Said : Type 0 where

@@ -4,9 +4,10 @@ ghost use Rattle.dt_text.specs.Texts.{IsName};
 ghost use Rattle.dt_eval.specs.Calls.{CallFits};
 ghost use Rattle.dt_eval.specs.Meaning.{Fits, HasKeys};
 ghost use Rattle.dt_cluster.specs.Valid.{IsValidCluster};
-ghost use Rattle.dt_workload.specs.File.{IsCallFault, IsLineFault, IsMoveFault, IsSessionFault, calls_in, name_of, names_in, proc_named, sessions_at};
+ghost use Rattle.dt_workload.specs.File.{IsCallFault, IsLineFault, IsMoveFault, IsSessionFault, proc_name, proc_named};
+ghost use Rattle.dt_workload.specs.Valid.{calls_in, session_names, session_count_at};
 ghost use Rattle.dt_workload.specs.Lines as lines;
-ghost use Rattle.dt_workload.specs.Reading.{CanBegin, FormGoesOn, IsCounted, IsNoBeginning, IsNoCall, IsNoKey, IsWithWanted, LineGoesOn, Refuses};
+ghost use Rattle.dt_workload.specs.ReaderParts.{CanBegin, FormGoesOn, HasCount, IsNoBeginning, IsNoCall, IsNoKey, IsWithWanted, LineGoesOn, Refuses};
 ghost use Rattle.dt_workload.specs.declared.error.WorkloadCause.TheVariants as cause;
 
 use crate::error::{Refusal, WorkloadCause};
@@ -36,7 +37,7 @@ impl Draft {
     /// No sessions.
     pub(crate) fn new(alloc: Global) -> Self
         ensures empty { result.sessions.items ≡ [] }
-        ensures counted { IsCounted result }
+        ensures counted { HasCount result }
     {
         Draft {
             sessions: Vec::new(alloc),
@@ -53,9 +54,9 @@ impl Draft {
     ) -> Result<(), Refusal>
         requires short { length line.now < 2 ^ 32 }
         requires valid { IsValidCluster cluster.now }
-        requires counted { IsCounted self.old }
+        requires counted { HasCount self.old }
         ensures ok { OnOk result (LineGoesOn cluster.now self.old.sessions.items line.now self.new.sessions.items) }
-        ensures counted { OnOk result (IsCounted self.new) }
+        ensures counted { OnOk result (HasCount self.new) }
         ensures fault { IfErr result (Refuses (IsLineFault cluster.now self.old.sessions.items line.now)) }
     {
         match read_form(alloc, line)? {
@@ -76,9 +77,9 @@ impl Draft {
         region: u32,
     ) -> Result<(), Refusal>
         requires valid { IsValidCluster cluster.now }
-        requires counted { IsCounted self.old }
+        requires counted { HasCount self.old }
         ensures ok { OnOk result (FormGoesOn cluster.now self.old.sessions.items (lines.session_line word.now region) self.new.sessions.items) }
-        ensures counted { OnOk result (IsCounted self.new) }
+        ensures counted { OnOk result (HasCount self.new) }
         ensures fault { IfErr result (Refuses (IsSessionFault cluster.now self.old.sessions.items word.now region)) }
     {
         let name = session_name(alloc, word)?;
@@ -100,9 +101,9 @@ impl Draft {
         args: Args,
     ) -> Result<(), Refusal>
         requires valid { IsValidCluster cluster.now }
-        requires counted { IsCounted self.old }
+        requires counted { HasCount self.old }
         ensures ok { OnOk result (FormGoesOn cluster.now self.old.sessions.items (lines.call_line word.now args) self.new.sessions.items) }
-        ensures counted { OnOk result (IsCounted self.new) }
+        ensures counted { OnOk result (HasCount self.new) }
         ensures fault { IfErr result (Refuses (IsCallFault cluster.now self.old.sessions.items word.now args)) }
     {
         if self.sessions.is_empty() {
@@ -120,9 +121,9 @@ impl Draft {
         word: &[u8],
         region: u32,
     ) -> Result<(), Refusal>
-        requires counted { IsCounted self.old }
+        requires counted { HasCount self.old }
         ensures ok { OnOk result (FormGoesOn cluster.now self.old.sessions.items (lines.move_line word.now region) self.new.sessions.items) }
-        ensures counted { OnOk result (IsCounted self.new) }
+        ensures counted { OnOk result (HasCount self.new) }
         ensures fault { IfErr result (Refuses (IsMoveFault cluster.now self.old.sessions.items word.now region)) }
     {
         if self.sessions.is_empty() {
@@ -141,9 +142,9 @@ impl Draft {
     /// The last session wants one thing more.
     fn want(&mut self, wanted: Wanted) -> Result<(), Refusal>
         requires some { ¬ (self.old.sessions.items ≡ []) }
-        requires counted { IsCounted self.old }
+        requires counted { HasCount self.old }
         ensures ok { OnOk result (IsWithWanted self.old.sessions.items wanted self.new.sessions.items × (calls_in self.old.sessions.items < 20000)) }
-        ensures counted { OnOk result (IsCounted self.new) }
+        ensures counted { OnOk result (HasCount self.new) }
         ensures fault { IfErr result (Refuses (λ why. (why ≡ cause.TooMany) × ¬ (calls_in self.old.sessions.items < 20000))) }
     {
         if self.made >= MOST_CALLS {
@@ -210,7 +211,7 @@ fn may_begin(
 
 /// Whether some session has the name.
 fn has_name(sessions: &[Session], name: &Name) -> bool
-    ensures { IsTrue result ↔ Has (names_in sessions.now) name.now }
+    ensures { IsTrue result ↔ Has (session_names sessions.now) name.now }
 {
     let mut rest = sessions;
     while let Some((first, others)) = rest.split_first() {
@@ -224,7 +225,7 @@ fn has_name(sessions: &[Session], name: &Name) -> bool
 
 /// How many of the sessions are at a region.
 fn count_at(sessions: &[Session], region: u32) -> usize
-    ensures { result ≡ sessions_at region sessions.now }
+    ensures { result ≡ session_count_at region sessions.now }
 {
     sessions
         .iter()
@@ -235,7 +236,7 @@ fn count_at(sessions: &[Session], region: u32) -> usize
 /// The number of the procedure of this name, which the arguments fit and by which they give keys.
 fn call_number(alloc: Global, cluster: &Cluster, word: &[u8], args: &Args) -> Result<u32, Refusal>
     requires { IsValidCluster cluster.now }
-    ensures ok { IfOk result (λ number. (name_of (slice_get cluster.now.procs number) ≡ word.now) × CallFits cluster.now.procs number args.now
+    ensures ok { IfOk result (λ number. (proc_name (slice_get cluster.now.procs number) ≡ word.now) × CallFits cluster.now.procs number args.now
         × (proc_named cluster.now word.now ≡ slice_get cluster.now.procs number)) }
     ensures fault { IfErr result (Refuses (IsNoCall (proc_named cluster.now word.now) args.now)) }
 {

@@ -3,8 +3,9 @@ ghost use Rattle.std.specs.Fmt.{decimal};
 ghost use Rattle.dt_lists.specs.Lists.{AllIn};
 ghost use Rattle.dt_text.specs.Reading.{IsWordIn};
 ghost use Rattle.dt_workload.specs.Lines.{HasForm, IsArgument, argument_word, bare, said};
+ghost use Rattle.dt_text.specs.Texts.{Bytes};
 ghost use Rattle.dt_workload.specs.Lines as lines;
-ghost use Rattle.dt_workload.specs.Reading.{form_of, ReadsForm, ReadsRegion};
+ghost use Rattle.dt_workload.specs.ReaderParts.{form_of, ReadsForm, ReadsRegion};
 ghost use Rattle.dt_text.specs.declared.Value.{Value as AnyValue};
 
 use dt_eval::Args;
@@ -82,7 +83,7 @@ fn form_of_kind<'a>(
 /// The bytes of a word, if it is bare.
 fn bare_word<'a>(line: &'a [u8], word: &Word) -> Option<&'a [u8]>
     requires inside { IsWordIn line.now word.now }
-    ensures exact { MatchOption result ((bytes : lines.Bytes) → said line.now word.now ≢ bare bytes) (λ bytes. said line.now word.now ≡ bare bytes.now) }
+    ensures exact { MatchOption result ((bytes : Bytes) → said line.now word.now ≢ bare bytes) (λ bytes. said line.now word.now ≡ bare bytes.now) }
     ensures short { MatchOption result (Unit {0}) (λ bytes. length bytes.now ≤ length line.now) }
 {
     match word {

@@ -10,6 +10,8 @@ mod reader;
 mod workload;
 
 pub use error::{WorkloadCause, WorkloadError};
-pub use laws::{files_are_one_workload, files_have_one_fault, workloads_have_no_fault};
+pub use laws::{
+    files_are_one_workload, files_have_an_outcome, files_have_one_fault, workloads_have_no_fault,
+};
 pub use reader::read_workload;
 pub use workload::{Bodies, Session, SessionList, Wanted, Workload};

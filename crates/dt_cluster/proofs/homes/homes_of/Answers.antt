@@ -2,7 +2,7 @@ use Rattle.std.proofs.Common.{◌≡◌, ◌∷◌, [], inl, inr, sym, ◌∙◌
 use Rattle.toml.specs.View.{view}
 use Rattle.dt_lists.specs.Lists.{Pairwise}
 use Rattle.dt_cluster.specs.Rows.{IsHome}
-use Rattle.dt_cluster.specs.Finding.{IsBadHomeOf, Tells}
+use Rattle.dt_cluster.specs.ReaderParts.{IsBadHomeOf, TellsFault}
 use Rattle.dt_cluster.proofs.Listing.{listed, listed_are, tells_more, err_passed, one_more, nothing_more}
 use Rattle.dt_cluster.proofs.homes.homes_of.Goals as goal
 

@@ -1,7 +1,8 @@
 -- The entries so far are the homes so far: what is left decides.
 use Rattle.std.proofs.Common.{ℕ, List, ◌++◌}
 use Rattle.dt_lists.specs.Lists.{Pairwise}
-use Rattle.dt_cluster.specs.Document.{Bytes, IsFirstBad}
+use Rattle.dt_text.specs.Texts.{Bytes}
+use Rattle.dt_cluster.specs.Document.{IsFirstFaulty}
 use Rattle.dt_cluster.specs.Rows.{IsHome, IsBadHome}
 use Rattle.dt_cluster.specs.declared.error.ClusterCause.{ClusterCause}
 use Rattle.dt_cluster.proofs.Listing.{listed}
@@ -12,5 +13,5 @@ invariant-loop-name l =
     (goal.iterator-loop-name).can_next l.name-iterator × (goal.iterator-loop-name).is_finite l.name-iterator
     × ((rest : List (Bytes × ℕ)) → Pairwise (IsHome l.regions) (listed l.name-iterator) rest
     → Pairwise (IsHome l.regions) (listed l.table.entries) (l.homes.items ++ rest))
-    × ((name : Bytes) (why : ClusterCause) → IsFirstBad (λ e. e.0) (λ e. (h : Bytes × ℕ) × IsHome l.regions e h) (IsBadHome l.regions) (listed l.name-iterator) name why
-    → IsFirstBad (λ e. e.0) (λ e. (h : Bytes × ℕ) × IsHome l.regions e h) (IsBadHome l.regions) (listed l.table.entries) name why)
+    × ((name : Bytes) (why : ClusterCause) → IsFirstFaulty (λ e. e.0) (λ e. (h : Bytes × ℕ) × IsHome l.regions e h) (IsBadHome l.regions) (listed l.name-iterator) name why
+    → IsFirstFaulty (λ e. e.0) (λ e. (h : Bytes × ℕ) × IsHome l.regions e h) (IsBadHome l.regions) (listed l.table.entries) name why)

@@ -2,7 +2,7 @@ use Rattle.std.proofs.Common.{◌≡◌, ◌∷◌, [], inl, inr, sym, ◌∙◌
 use Rattle.toml.specs.View.{view}
 use Rattle.dt_lists.specs.Lists.{Pairwise}
 use Rattle.dt_cluster.specs.Rows.{IsRow}
-use Rattle.dt_cluster.specs.Finding.{IsBadRowOf, Tells}
+use Rattle.dt_cluster.specs.ReaderParts.{IsBadRowOf, TellsFault}
 use Rattle.dt_cluster.proofs.Listing.{listed, listed_are, tells_more, err_passed, one_more, nothing_more}
 use Rattle.dt_cluster.proofs.rows.rows_of.Goals as goal
 

@@ -2,7 +2,8 @@
 use Rattle.std.proofs.Common.{ℕ, List, ◌++◌}
 use Rattle.dt_lists.specs.Lists.{Pairwise}
 use Rattle.dt_text.specs.declared.value.Value.{Value}
-use Rattle.dt_cluster.specs.Document.{Bytes, IsFirstBad}
+use Rattle.dt_text.specs.Texts.{Bytes}
+use Rattle.dt_cluster.specs.Document.{IsFirstFaulty}
 use Rattle.dt_cluster.specs.Rows.{IsRow, IsBadRow}
 use Rattle.dt_cluster.specs.declared.error.ClusterCause.{ClusterCause}
 use Rattle.dt_cluster.proofs.Listing.{listed}
@@ -13,5 +14,5 @@ invariant-loop-name l =
     (goal.iterator-loop-name).can_next l.name-iterator × (goal.iterator-loop-name).is_finite l.name-iterator
     × ((rest : List (Bytes × Value)) → Pairwise IsRow (listed l.name-iterator) rest
     → Pairwise IsRow (listed l.table.entries) (l.rows.items ++ rest))
-    × ((name : Bytes) (why : ClusterCause) → IsFirstBad (λ e. e.0) (λ e. (r : Bytes × Value) × IsRow e r) IsBadRow (listed l.name-iterator) name why
-    → IsFirstBad (λ e. e.0) (λ e. (r : Bytes × Value) × IsRow e r) IsBadRow (listed l.table.entries) name why)
+    × ((name : Bytes) (why : ClusterCause) → IsFirstFaulty (λ e. e.0) (λ e. (r : Bytes × Value) × IsRow e r) IsBadRow (listed l.name-iterator) name why
+    → IsFirstFaulty (λ e. e.0) (λ e. (r : Bytes × Value) × IsRow e r) IsBadRow (listed l.table.entries) name why)

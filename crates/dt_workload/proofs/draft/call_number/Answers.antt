@@ -1,7 +1,7 @@
 use Rattle.std.proofs.Common.{◌≡◌, ap, sym, ◌∙◌, subst, Some, slice_get, option_copied}
 use Rattle.dt_eval.specs.Meaning.{Fits, HasKeys}
 use Rattle.dt_proc.specs.Sound.{IsSound}
-use Rattle.dt_workload.specs.File.{name_of}
+use Rattle.dt_workload.specs.File.{proc_name}
 use Rattle.dt_workload.proofs.Steps.{named_word, found_proc, all_at}
 use Rattle.dt_workload.proofs.draft.call_number.Goals as goal
 
@@ -10,7 +10,7 @@ returns-clause-ok c =
     let body = c.in-Some-get.body.now in
     let place = sym c.find.ensures ∙ c.in-Some.is in
     let there : slice_get c.args.cluster.now.procs c.in-Some.number ≡ Some body = sym c.get.ensures ∙ ap option_copied c.in-Some-get.is in (
-      ap name_of there ∙ named_word c.args.cluster.now.procs c.args.word.now c.in-Some.number body place there,
+      ap proc_name there ∙ named_word c.args.cluster.now.procs c.args.word.now c.in-Some.number body place there,
       record {
         body = body;
         named = there;

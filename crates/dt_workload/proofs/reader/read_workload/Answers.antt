@@ -1,7 +1,7 @@
 use Rattle.std.proofs.Common.{[], ◌∷◌, ◌++◌, length, ap, sym, ◌∙◌, subst, append_assoc}
 use Rattle.dt_lists.specs.Lists.{AllIn}
 use Rattle.dt_text.specs.Lines.{FileLine}
-use Rattle.dt_workload.proofs.Cuts.{IsLineWithin, lines_of-within}
+use Rattle.dt_text.proofs.Callers.{IsLineWithin, lines_of-within}
 use Rattle.dt_workload.proofs.Steps.{none_read, line_read, read_valid}
 use Rattle.dt_workload.proofs.reader.read_workload.Goals as goal
 

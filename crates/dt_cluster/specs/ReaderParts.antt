@@ -1,9 +1,11 @@
--- What the parts of the reader of cluster files find.
+-- Inner words, for the private parts of the reader alone: what each part answers, said of the table that it looks at. `File`
+-- says the same of the whole document; a reader of the contracts of `dt_cluster` can skip this file.
 use Rattle.std.specs.Prelude.{◌≡◌, ℕ, List}
 use Rattle.dt_lists.specs.Lists.{Pairwise}
 use Rattle.dt_text.specs.declared.value.Value.{Value}
 use Rattle.toml.specs.Data.{Members}
-use Rattle.dt_cluster.specs.Document.{Bytes, Entry, AreEntries, IsFirstBad}
+use Rattle.dt_text.specs.Texts.{Bytes}
+use Rattle.dt_cluster.specs.Document.{Entry, AreEntries, IsFirstFaulty}
 use Rattle.dt_cluster.specs.Numbers.{NumberEntry, HasBadNumber}
 use Rattle.dt_cluster.specs.Rows.{IsHome, IsBadHome, IsRow, IsBadRow}
 use Rattle.dt_cluster.specs.declared.error.ClusterCause.{ClusterCause}
@@ -14,9 +16,9 @@ use Rattle.dt_cluster.specs.declared.error.ClusterError.{ClusterError}
 use Rattle.dt_cluster.specs.declared.error.ClusterError.TheVariants.{Fault, NoMemory}
 
 -- an error tells a fault that is one, or that memory ran out
-abbrev pub Tells : (ClusterFault → Type 0) → ClusterError → Type 0
-Tells IsFault (Fault fault) = IsFault fault
-Tells IsFault NoMemory = Unit {0}
+abbrev pub TellsFault : (ClusterFault → Type 0) → ClusterError → Type 0
+TellsFault IsFault (Fault fault) = IsFault fault
+TellsFault IsFault NoMemory = Unit {0}
 
 -- the fault stands at this place, and its cause is one that is there
 abbrev pub IsFaultAt : ClusterPlace → (ClusterCause → Type 0) → ClusterFault → Type 0
@@ -35,7 +37,7 @@ abbrev pub IsBadHomeOf : Members → ℕ → ClusterFault → Type 0
 IsBadHomeOf members regions fault =
     (name : Bytes) × (why : ClusterCause) × (fault ≡ record { place = place.Home name; cause = why })
     × ((entries : List Entry) × AreEntries members entries
-    × IsFirstBad (λ e. e.0) (λ e. (h : Bytes × ℕ) × IsHome regions e h) (IsBadHome regions) entries name why)
+    × IsFirstFaulty (λ e. e.0) (λ e. (h : Bytes × ℕ) × IsHome regions e h) (IsBadHome regions) entries name why)
 
 -- the rows that a table lists, by ascending keys
 abbrev pub AreRowsOf : Members → List (Bytes × Value) → Type 0
@@ -46,4 +48,4 @@ abbrev pub IsBadRowOf : Members → ClusterFault → Type 0
 IsBadRowOf members fault =
     (name : Bytes) × (why : ClusterCause) × (fault ≡ record { place = place.Row name; cause = why })
     × ((entries : List Entry) × AreEntries members entries
-    × IsFirstBad (λ e. e.0) (λ e. (r : Bytes × Value) × IsRow e r) IsBadRow entries name why)
+    × IsFirstFaulty (λ e. e.0) (λ e. (r : Bytes × Value) × IsRow e r) IsBadRow entries name why)

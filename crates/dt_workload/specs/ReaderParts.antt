@@ -1,9 +1,12 @@
--- What the parts of the reader of workload files find.
+-- Inner words, for the private parts of the reader alone: what a line makes of the sessions so far, and why it makes nothing.
+-- `File` says the same of whole files; a reader of the contracts of `dt_workload` can skip this file.
 use Rattle.std.specs.Prelude.{◌≡◌, ◌≢◌, ℕ, ◌<◌, ◌≤◌, ◌^◌, List, [], ◌∷◌, ◌++◌, slice_get, Option, MatchOption, IsSome}
 use Rattle.std.specs.Fmt.{decimal}
 use Rattle.dt_workload.specs.Lines as lines
-use Rattle.dt_workload.specs.Lines.{Bytes, Said, bare, form_words, IsForm, HasForm}
-use Rattle.dt_workload.specs.File.{name_of, names_in, sessions_at, calls_in, Needs, NothingMore, FitsIf, GivesKeys}
+use Rattle.dt_text.specs.Texts.{Bytes}
+use Rattle.dt_workload.specs.Lines.{Said, bare, form_words, IsForm, HasForm}
+use Rattle.dt_workload.specs.File.{proc_name, Needs, NothingMore, FitsIf, GivesKeys}
+use Rattle.dt_workload.specs.Valid.{session_names, session_count_at, calls_in}
 use Rattle.dt_proc.specs.Tree.{ProcTree}
 use Rattle.dt_text.specs.declared.Value.{Value}
 use Rattle.dt_lists.specs.Lists.{Has}
@@ -55,22 +58,22 @@ IsWithWanted before wanted after =
 
 -- a session of this name can begin at a region after some sessions: they do not have the name, there is such a region, and room at it
 abbrev pub CanBegin : Cluster → List Session → Bytes → ℕ → Type 0
-CanBegin cluster before name region = ¬ (Has (names_in before) name) × (region < cluster.regions) × (sessions_at region before < 64)
+CanBegin cluster before name region = ¬ (Has (session_names before) name) × (region < cluster.regions) × (session_count_at region before < 64)
 
 -- why no session of this name can begin at a region after some sessions
 abbrev pub IsNoBeginning : Cluster → List Session → Bytes → ℕ → WorkloadCause → Type 0
 IsNoBeginning cluster before name region told =
-    Needs (¬ (Has (names_in before) name)) cause.Twice
+    Needs (¬ (Has (session_names before) name)) cause.Twice
     (Needs (region < cluster.regions) cause.Region
-    (Needs (sessions_at region before < 64) cause.TooMany NothingMore)) told
+    (Needs (session_count_at region before < 64) cause.TooMany NothingMore)) told
 
 -- a form goes on some sessions: a session is one more, and a call or a move is wanted by the last one
 abbrev pub FormGoesOn : Cluster → List Session → lines.Form → List Session → Type 0
 FormGoesOn cluster before (lines.session_line name region) after =
-    IsName name × ¬ (Has (names_in before) name) × (region < cluster.regions) × (sessions_at region before < 64)
+    IsName name × ¬ (Has (session_names before) name) × (region < cluster.regions) × (session_count_at region before < 64)
     × (after ≡ before ++ record { name = name; region = region; calls = [] } ∷ [])
 FormGoesOn cluster before (lines.call_line name args) after =
-    (number : ℕ) × (name_of (slice_get cluster.procs number) ≡ name) × CallFits cluster.procs number args
+    (number : ℕ) × (proc_name (slice_get cluster.procs number) ≡ name) × CallFits cluster.procs number args
     × (calls_in before < 20000) × IsWithWanted before (Call number args) after
 FormGoesOn cluster before (lines.move_line key target) after =
     IsKey key × (target < cluster.regions) × (calls_in before < 20000) × IsWithWanted before (Move key target) after
@@ -89,5 +92,5 @@ abbrev pub IsNoKey : ProcTree → List Value → WorkloadCause → Type 0
 IsNoKey proc args told = (told ≡ cause.Key) × ¬ (HasKeys proc args)
 
 -- the calls and moves are counted, and not too many
-abbrev pub IsCounted : Draft → Type 0
-IsCounted draft = (draft.made ≡ calls_in draft.sessions.items) × (calls_in draft.sessions.items ≤ 20000)
+abbrev pub HasCount : Draft → Type 0
+HasCount draft = (draft.made ≡ calls_in draft.sessions.items) × (calls_in draft.sessions.items ≤ 20000)
