@@ -35,7 +35,7 @@ use Rattle.dt_workload.specs.declared.Session.{Session}
 use Rattle.dt_workload.specs.declared.Workload.{Workload}
 use Rattle.dt_workload.specs.Valid.{IsValidWorkload}
 use Rattle.dt_session.specs.World.{World, Place, opening_table, opening_world, node_at, logs_of, log_of, received_of, received_logs, view_at, txn_of, attempt_of, outcome_in, outcome_at, session_at}
-use Rattle.dt_session.specs.Step.{IsLast, MayEnd, MayAnswer, next_id}
+use Rattle.dt_session.specs.Step.{IsLast, MayEnd, MayAnswer, upcoming_id}
 use Rattle.dt_session.specs.Run.{world_after, AreLegalFrom, AreLegal, executed_id, order_of, txns_of, serial_outcomes, serial_outcome, ids_before, table_before, region_table}
 use Rattle.dt_session.specs.Agreement.{WaitsFor, IsAwaited, HasCause, ReceivedAlike, Agree}
 use Rattle.dt_laws.specs.Invariant.{IsExecutedAt, Rooted, Inv}
@@ -241,8 +241,8 @@ module _ (cluster : Cluster) (ok : IsValidCluster cluster) (workload : Workload)
   real_time_at : (first : List Event) (region : ℕ) (session : Bytes) (middle : List Event) (other : ℕ) (name : Bytes) (last : List Event) (a : TxnId)
       → AreLegal cluster workload (first ++ Answer region session ∷ middle ++ Submit other name ∷ last)
       → IsAwaited cluster workload first region session a
-      → Has (order_of (first ++ Answer region session ∷ middle ++ Submit other name ∷ last)) (next_id (world_after cluster workload (first ++ Answer region session ∷ middle)) other)
-      → StandsBefore (order_of (first ++ Answer region session ∷ middle ++ Submit other name ∷ last)) a (next_id (world_after cluster workload (first ++ Answer region session ∷ middle)) other)
+      → Has (order_of (first ++ Answer region session ∷ middle ++ Submit other name ∷ last)) (upcoming_id (world_after cluster workload (first ++ Answer region session ∷ middle)) other)
+      → StandsBefore (order_of (first ++ Answer region session ∷ middle ++ Submit other name ∷ last)) a (upcoming_id (world_after cluster workload (first ++ Answer region session ∷ middle)) other)
   real_time_at first region session middle other name last a legal awaited executed =
       subst (λ l. StandsBefore l a b) front.1 (stands_across (order_of (first ++ Answer region session ∷ middle)) front.0 a b
       (any_front (λ y. y ≡ a) (order_of first) (order_of (first ++ Answer region session ∷ middle)) (order_front first (Answer region session ∷ middle)) answered)
@@ -252,7 +252,7 @@ module _ (cluster : Cluster) (ok : IsValidCluster cluster) (workload : Workload)
       ]))
     where
       b : TxnId
-      b = next_id (world_after cluster workload (first ++ Answer region session ∷ middle)) other
+      b = upcoming_id (world_after cluster workload (first ++ Answer region session ∷ middle)) other
 
       front : IsFront (order_of (first ++ Answer region session ∷ middle)) (order_of (first ++ Answer region session ∷ middle ++ Submit other name ∷ last))
       front = order_front (first ++ Answer region session ∷ middle) (Submit other name ∷ last)
@@ -282,8 +282,8 @@ module _ (cluster : Cluster) (ok : IsValidCluster cluster) (workload : Workload)
     outcomes = outcomes_agree cluster ok workload fits events legal;
     tables = tables_agree cluster ok workload fits events legal;
     real_time = λ first region session middle other name last a split awaited executed.
-        subst (λ l. StandsBefore (order_of l) a (next_id (world_after cluster workload (first ++ Answer region session ∷ middle)) other)) (sym split)
-        (real_time_at first region session middle other name last a (subst (AreLegal cluster workload) split legal) awaited (subst (λ l. Has (order_of l) (next_id (world_after cluster workload (first ++ Answer region session ∷ middle)) other)) split executed));
+        subst (λ l. StandsBefore (order_of l) a (upcoming_id (world_after cluster workload (first ++ Answer region session ∷ middle)) other)) (sym split)
+        (real_time_at first region session middle other name last a (subst (AreLegal cluster workload) split legal) awaited (subst (λ l. Has (order_of l) (upcoming_id (world_after cluster workload (first ++ Answer region session ∷ middle)) other)) split executed));
     causes = causes_agree cluster ok workload fits events legal;
     drained = drained_agree cluster ok workload fits events legal;
   }

@@ -13,8 +13,8 @@ use Rattle.dt_session.specs.World.{World, Node, no_node, node_at, log_of, logs_o
 use Rattle.dt_session.specs.Step.{received, next}
 use Rattle.dt_events.specs.declared.Event.TheVariants.{Deliver}
 use Rattle.dt_laws.specs.Invariant.{IsSized, AreInOrder, Inv}
-use Rattle.dt_laws.proofs.Kept.{Keeps, Sized, Lengths, ids_kept, valid_kept, asked_kept, logs_kept, sound_kept, tables_kept, ordered_kept, sessions_kept}
-use Rattle.dt_laws.proofs.Submissions.{txns_same}
+use Rattle.dt_laws.proofs.Kept.{Sized, Lengths, ids_kept, valid_kept, asked_kept, logs_kept, sound_kept, tables_kept, ordered_kept, sessions_kept}
+use Rattle.dt_laws.proofs.Submissions.{Keeps, txns_same}
 use Rattle.dt_laws.proofs.Views.{view_is}
 use Rattle.dt_laws.proofs.Known.{view_fronts}
 use Rattle.dt_txn.specs.Replica.{fronts, done_ids}
@@ -126,11 +126,11 @@ module _ (cluster : Cluster) (workload : Workload) (w : World) (order : List Txn
     sized = sized;
     ids = ids_kept cluster w v cluster.regions (keeps (λ n. n.submitted) refl) i.ids;
     valid = valid_kept cluster w v cluster.regions subs_same i.valid;
-    asked = asked_kept cluster w v cluster.regions (keeps (λ n. n.asked) refl) (keeps (λ n. n.submitted) refl) i.asked;
-    logs = logs_kept cluster w v cluster.regions (keeps (λ n. n.log) refl) (keeps (λ n. n.taken) refl) (keeps (λ n. n.asked) refl) subs_same i.logs;
+    asked = asked_kept cluster w v cluster.regions (keeps (λ n. n.here.asked) refl) (keeps (λ n. n.submitted) refl) i.asked;
+    logs = logs_kept cluster w v cluster.regions (keeps (λ n. n.log) refl) (keeps (λ n. n.here.taken) refl) (keeps (λ n. n.here.asked) refl) (keeps (λ n. n.submitted) refl) i.logs;
     lengths = lengths;
     sound = sound_kept cluster w v cluster.regions view_same (keeps (λ n. n.here.resolved) refl) (keeps (λ n. n.here.done) refl) i.sound;
-    tables = tables_kept cluster w v (λ q lq. txns_same w v subs_same (done_ids (node_at w q).here)) (keeps (λ n. n.here.done) refl) (keeps (λ n. n.here.table) refl) i.tables;
+    tables = tables_kept cluster w v (λ q lq. txns_same w v (keeps (λ n. n.submitted) refl) (done_ids (node_at w q).here)) (keeps (λ n. n.here.done) refl) (keeps (λ n. n.here.table) refl) i.tables;
     ordered = ordered_kept cluster w v cluster.regions order logs_same (keeps (λ n. n.here.done) refl) i.ordered;
     sessions = sessions_kept cluster w v workload (keeps (λ n. n.submitted) refl) refl i.sessions;
   }

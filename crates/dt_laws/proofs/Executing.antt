@@ -25,8 +25,8 @@ use Rattle.dt_session.specs.World.{World, Node, no_node, node_at, with_node, ope
 use Rattle.dt_session.specs.Step.{moved_on}
 use Rattle.dt_session.specs.Run.{txns_of}
 use Rattle.dt_laws.specs.Invariant.{IsSized, IsRunOf, IsExecutedAt, IsOrder, Inv}
-use Rattle.dt_laws.proofs.Kept.{Keeps, Sized, Sound, Tables, ids_kept, valid_kept, asked_kept, logs_kept, lengths_kept, view_kept, sessions_kept}
-use Rattle.dt_laws.proofs.Submissions.{IsKnown, txns_same, txn_id}
+use Rattle.dt_laws.proofs.Kept.{Sized, Sound, Tables, ids_kept, valid_kept, asked_kept, logs_kept, lengths_kept, view_kept, sessions_kept}
+use Rattle.dt_laws.proofs.Submissions.{Keeps, IsKnown, txns_same, txn_id}
 use Rattle.dt_laws.proofs.Known.{closed_full, closed_known, precedes_full}
 
 -- the transaction of an id at the end
@@ -105,9 +105,9 @@ module _ (cluster : Cluster) (workload : Workload) (w : World) (order : List Txn
     where
       by : Either (q ≡ region) → IsRunOf cluster (opening_table cluster) (txns_of v (done_ids (node_at v q).here)) (node_at v q).here
       by (inr n) = subst (λ x. IsRunOf cluster (opening_table cluster) (txns_of v (done_ids x.here)) x.here) (sym (other q n))
-          (subst (λ l. IsRunOf cluster (opening_table cluster) l (node_at w q).here) (sym (txns_same w v subs_same (done_ids (node_at w q).here))) (i.tables q lq))
+          (subst (λ l. IsRunOf cluster (opening_table cluster) l (node_at w q).here) (sym (txns_same w v (keeps (λ n. n.submitted) refl) (done_ids (node_at w q).here))) (i.tables q lq))
       by (inl e) = subst (λ y. IsRunOf cluster (opening_table cluster) (txns_of v (done_ids (node_at v y).here)) (node_at v y).here) (sym e)
-          (subst (λ l. IsRunOf cluster (opening_table cluster) l (node_at v region).here) (sym (txns_same w v subs_same (done_ids (node_at v region).here) ∙ ap (txns_of w) done_now ∙ txns_more w (done_ids (node_at w region).here) id txn found))
+          (subst (λ l. IsRunOf cluster (opening_table cluster) l (node_at v region).here) (sym (txns_same w v (keeps (λ n. n.submitted) refl) (done_ids (node_at v region).here) ∙ ap (txns_of w) done_now ∙ txns_more w (done_ids (node_at w region).here) id txn found))
           (subst (λ x. IsRunOf cluster (opening_table cluster) (txns_of w (done_ids (node_at w region).here) ++ txn ∷ []) x.here) (sym node)
           (run_more cluster (opening_table cluster) (txns_of w (done_ids (node_at w region).here)) txn (node_at w region).here (i.tables region lr))))
 
@@ -162,8 +162,8 @@ module _ (cluster : Cluster) (workload : Workload) (w : World) (order : List Txn
     sized = sized;
     ids = ids_kept cluster w v cluster.regions (keeps (λ n. n.submitted) refl) i.ids;
     valid = valid_kept cluster w v cluster.regions subs_same i.valid;
-    asked = asked_kept cluster w v cluster.regions (keeps (λ n. n.asked) refl) (keeps (λ n. n.submitted) refl) i.asked;
-    logs = logs_kept cluster w v cluster.regions (keeps (λ n. n.log) refl) (keeps (λ n. n.taken) refl) (keeps (λ n. n.asked) refl) subs_same i.logs;
+    asked = asked_kept cluster w v cluster.regions (keeps (λ n. n.here.asked) refl) (keeps (λ n. n.submitted) refl) i.asked;
+    logs = logs_kept cluster w v cluster.regions (keeps (λ n. n.log) refl) (keeps (λ n. n.here.taken) refl) (keeps (λ n. n.here.asked) refl) (keeps (λ n. n.submitted) refl) i.logs;
     lengths = lengths_kept cluster w v cluster.regions (keeps (λ n. n.here.inserted) refl) (keeps (λ n. n.received) refl) (keeps (λ n. n.log) refl) i.lengths;
     sound = sound;
     tables = tables;
@@ -178,7 +178,7 @@ module _ (cluster : Cluster) (workload : Workload) (w : World) (order : List Txn
   -- the region ran one transaction more
   pub executed_txns : txns_of (moved_on cluster w region (Execute region id)) (done_ids (node_at (moved_on cluster w region (Execute region id)) region).here) ≡ txns_of w (done_ids (node_at w region).here) ++ txn ∷ []
   executed_txns = subst (λ x. txns_of x (done_ids (node_at x region).here) ≡ txns_of w (done_ids (node_at w region).here) ++ txn ∷ []) world_is
-      (txns_same w v subs_same (done_ids (node_at v region).here) ∙ ap (txns_of w) done_now ∙ txns_more w (done_ids (node_at w region).here) id txn found)
+      (txns_same w v (keeps (λ n. n.submitted) refl) (done_ids (node_at v region).here) ∙ ap (txns_of w) done_now ∙ txns_more w (done_ids (node_at w region).here) id txn found)
 
   pub execute_again : Has order id → Inv cluster workload (moved_on cluster w region (Execute region id)) order
   execute_again known = subst (λ x. Inv cluster workload x order) world_is (with_order order (ordered_again known))

@@ -17,13 +17,13 @@ use Rattle.dt_cluster.specs.declared.Cluster.{Cluster}
 use Rattle.dt_workload.specs.declared.Session.{Session}
 use Rattle.dt_workload.specs.declared.Workload.{Workload}
 use Rattle.dt_session.specs.World.{World, Place, Submission, node_at, asked_of, log_of, logs_of, received_of, view_at, submissions, submission_of, attempt_of, txn_of, session_at}
-use Rattle.dt_session.specs.Step.{next_id}
+use Rattle.dt_session.specs.Step.{upcoming_id}
 use Rattle.dt_laws.specs.Invariant.{IsPartAt, IsWaiting, IsPlaced, IsPlaceOf, Inv}
-use Rattle.dt_laws.proofs.Submissions.{IsKnown, find_of_has, from_region, txn_found, txn_there, txn_id, home_region}
+use Rattle.dt_laws.proofs.Submissions.{IsKnown, submission_is_found, from_region, txn_found, txn_there, txn_id, home_region}
 use Rattle.dt_laws.proofs.Logs.{log_once, id_known, part_homed}
 use Rattle.dt_laws.proofs.Requests.{requests_once}
 use Rattle.dt_laws.proofs.Sessions.{session_found}
-use Rattle.dt_laws.proofs.Known.{view_fronts, view_longer, view_well_formed, full_well_formed, submissions_unlike, done_known, order_known}
+use Rattle.dt_laws.proofs.Known.{view_fronts, view_longer, view_well_formed, full_well_formed, done_known, order_known}
 use Rattle.dt_laws.proofs.Submitting.{awaited_attempt}
 use Rattle.dt_laws.proofs.RootedSteps.{next_unknown}
 
@@ -63,7 +63,7 @@ module _ (cluster : Cluster) (workload : Workload) (w : World) (order : List Txn
 
   -- a submission is found by its id
   pub submission_found : (region : ℕ) (s : Submission) → Has (node_at w region).submitted s → submission_of w s.txn.id ≡ Some s
-  submission_found region s h = find_of_has (submissions w) s (submissions_unlike cluster workload w order i) (from_region w region s h)
+  submission_found region s h = submission_is_found cluster.regions w i.nodes i.ids s (from_region w region s h)
 
   pub transaction_found : (region : ℕ) (s : Submission) → Has (node_at w region).submitted s → txn_of w s.txn.id ≡ Some s.txn
   transaction_found region s h = txn_found cluster.regions w i.nodes i.ids s (from_region w region s h)
@@ -75,21 +75,21 @@ module _ (cluster : Cluster) (workload : Workload) (w : World) (order : List Txn
       (subst (IsValid cluster.procs cluster.regions) r.2 (all_get (λ s. IsValid cluster.procs cluster.regions s.txn) (submissions w) i.valid r.0 r.1), txn_id w id txn e, subst (λ x. x.region < cluster.regions) r.3 (home_region cluster.regions w i.nodes i.ids r.0 r.1).0)
 
   -- a new id has no transaction, no part in any log, and no region executed it
-  pub new_unknown : (region : ℕ) → txn_of w (next_id w region) ≡ None
-  new_unknown region = go (txn_of w (next_id w region)) refl
+  pub new_unknown : (region : ℕ) → txn_of w (upcoming_id w region) ≡ None
+  new_unknown region = go (txn_of w (upcoming_id w region)) refl
     where
-      go : (o : Option Txn) → txn_of w (next_id w region) ≡ o → txn_of w (next_id w region) ≡ None
+      go : (o : Option Txn) → txn_of w (upcoming_id w region) ≡ o → txn_of w (upcoming_id w region) ≡ None
       go None e = e
       go (Some txn) e = absurd (next_unknown cluster workload w order i region (txn, e))
 
-  pub new_not_in_log : (region home : ℕ) → home < cluster.regions → ¬ (Has (ids_of (log_of w home)) (next_id w region))
-  new_not_in_log region home lt h = let k : (txn : Txn) × (txn_of w (next_id w region) ≡ Some txn) × ((next_id w region).region < cluster.regions) = id_known cluster.regions w i.nodes i.ids i.asked i.logs home (next_id w region) lt h in next_unknown cluster workload w order i region (k.0, k.1)
+  pub new_not_in_log : (region home : ℕ) → home < cluster.regions → ¬ (Has (ids_of (log_of w home)) (upcoming_id w region))
+  new_not_in_log region home lt h = let k : (txn : Txn) × (txn_of w (upcoming_id w region) ≡ Some txn) × ((upcoming_id w region).region < cluster.regions) = id_known cluster.regions w i.nodes i.ids i.asked i.logs home (upcoming_id w region) lt h in next_unknown cluster workload w order i region (k.0, k.1)
 
-  pub new_not_done : (region at : ℕ) → at < cluster.regions → ¬ (Has (done_ids (node_at w at).here) (next_id w region))
-  new_not_done region at lt h = next_unknown cluster workload w order i region (all_get (IsKnown w) (done_ids (node_at w at).here) (done_known cluster workload w order i at lt) (next_id w region) h)
+  pub new_not_done : (region at : ℕ) → at < cluster.regions → ¬ (Has (done_ids (node_at w at).here) (upcoming_id w region))
+  new_not_done region at lt h = next_unknown cluster workload w order i region (all_get (IsKnown w) (done_ids (node_at w at).here) (done_known cluster workload w order i at lt) (upcoming_id w region) h)
 
-  pub new_not_in_order : (region : ℕ) → ¬ (Has order (next_id w region))
-  new_not_in_order region h = next_unknown cluster workload w order i region (all_get (IsKnown w) order (order_known cluster workload w order i) (next_id w region) h)
+  pub new_not_in_order : (region : ℕ) → ¬ (Has order (upcoming_id w region))
+  new_not_in_order region h = next_unknown cluster workload w order i region (all_get (IsKnown w) order (order_known cluster workload w order i) (upcoming_id w region) h)
 
   -- views
 

@@ -1,7 +1,7 @@
 -- What legal events leave of ids: a transaction that was submitted stays the one of its id.
 use Rattle.std.proofs.Common.{◌≡◌, ℕ, Bool, true, false, cond, ltb, leb, ◌&&◌, List, [], ◌∷◌, ◌++◌, set, Some, None, refl, sym, subst, ◌∙◌, inl, inr, append_assoc, append-nil}
 use Rattle.std.specs.Prelude.{Option}
-use Rattle.dt_lists.proofs.Places.{flat_map_of_set}
+use Rattle.dt_lists.proofs.Places.{field_of_set}
 use Rattle.dt_access.specs.declared.TxnId.{TxnId}
 use Rattle.dt_events.specs.declared.Event.{Event}
 use Rattle.dt_events.specs.declared.Event.TheVariants.{Submit, Append, Deliver, Insert, Resolve, Execute, Answer}
@@ -12,29 +12,29 @@ use Rattle.dt_cluster.specs.Valid.{IsValidCluster}
 use Rattle.dt_workload.specs.declared.Session.{Session}
 use Rattle.dt_workload.specs.declared.Workload.{Workload}
 use Rattle.dt_workload.specs.Valid.{IsValidWorkload}
-use Rattle.dt_session.specs.World.{World, Place, no_node, node_at, received_of, submissions, txn_of, session_at}
+use Rattle.dt_session.specs.World.{World, Place, no_node, node_at, received_of, txn_of, session_at}
 use Rattle.dt_session.specs.Step.{IsLegal, placed, received, moved_on, answered, next}
 use Rattle.dt_session.specs.Run.{world_after, AreLegal, order_of}
 use Rattle.dt_laws.specs.Invariant.{Inv}
-use Rattle.dt_laws.proofs.Submissions.{txn_same}
+use Rattle.dt_laws.proofs.Submissions.{Keeps, txn_same}
 use Rattle.dt_laws.proofs.Submitting.{Submits, submits, submitted_txns}
-use Rattle.dt_laws.proofs.Appending.{append_cases, submissions_placed}
+use Rattle.dt_laws.proofs.Appending.{append_cases, submitted_placed}
 use Rattle.dt_laws.proofs.Runs.{world_after_more, legal_append, legal_more}
 use Rattle.dt_laws.proofs.Keeping.{legal_keeps}
 
-step_same : (cluster : Cluster) (w : World) (region : ℕ) (event : Event) → submissions (moved_on cluster w region event) ≡ submissions w
-step_same cluster w region event = flat_map_of_set (λ n. n.submitted) w.nodes region (record (node_at w region) { here = stepped cluster.procs (txn_of w) (node_at w region).here event }) no_node refl
+step_same : (cluster : Cluster) (w : World) (region : ℕ) (event : Event) → Keeps (λ n. n.submitted) w (moved_on cluster w region event)
+step_same cluster w region event = field_of_set (λ n. n.submitted) w.nodes region (record (node_at w region) { here = stepped cluster.procs (txn_of w) (node_at w region).here event }) no_node refl
 
-received_same : (w : World) (region home last : ℕ) → submissions (received w region home last) ≡ submissions w
-received_same w region home last = flat_map_of_set (λ n. n.submitted) w.nodes region (record (node_at w region) { received = set (node_at w region).received home last }) no_node refl
+received_same : (w : World) (region home last : ℕ) → Keeps (λ n. n.submitted) w (received w region home last)
+received_same w region home last = field_of_set (λ n. n.submitted) w.nodes region (record (node_at w region) { received = set (node_at w region).received home last }) no_node refl
 
-deliver_same : (w : World) (region home last : ℕ) (b : Bool) → submissions (cond b (received w region home last) w) ≡ submissions w
+deliver_same : (w : World) (region home last : ℕ) (b : Bool) → Keeps (λ n. n.submitted) w (cond b (received w region home last) w)
 deliver_same w region home last true = received_same w region home last
-deliver_same w region home last false = refl
+deliver_same w region home last false = λ q. refl
 
-answer_same : (workload : Workload) (w : World) (region : ℕ) (o : Option (Session × Place)) → submissions (answered workload w region o) ≡ submissions w
-answer_same workload w region None = refl
-answer_same workload w region (Some (session, place)) = refl
+answer_same : (workload : Workload) (w : World) (region : ℕ) (o : Option (Session × Place)) → Keeps (λ n. n.submitted) w (answered workload w region o)
+answer_same workload w region None = λ q. refl
+answer_same workload w region (Some (session, place)) = λ q. refl
 
 module _ (cluster : Cluster) (ok : IsValidCluster cluster) (workload : Workload) (fits : IsValidWorkload cluster workload) where
   -- a legal event leaves the transactions of ids
@@ -44,7 +44,7 @@ module _ (cluster : Cluster) (ok : IsValidCluster cluster) (workload : Workload)
       subst (λ x. txn_of x id ≡ Some txn) (sym r.next) (submitted_txns cluster ok workload fits w order region r.session r.place r.call l.regions r.member r.here (subst (λ n. session_at workload.sessions w.places region n ≡ Some (r.session, r.place)) (sym r.named) r.found) r.wants r.on i id txn e)
   next_txns w order (Append home source number) l i id txn e = elim (append_cases cluster workload w order home source number l.regions.0 l.regions.1 l.allowed i) [
     | inl same ↦ subst (λ x. txn_of x id ≡ Some txn) (sym same) e
-    | inr r ↦ subst (λ x. txn_of x id ≡ Some txn) (sym r.2) (txn_same w (placed w home source (Some r.0)) (submissions_placed cluster workload w order home source l.regions.0 l.regions.1 i r.0 r.1.number r.1.request r.1.found) id ∙ e)
+    | inr r ↦ subst (λ x. txn_of x id ≡ Some txn) (sym r.2) (txn_same w (placed w home source (Some r.0)) (submitted_placed cluster workload w order home source l.regions.0 l.regions.1 i r.0 r.1.number r.1.request r.1.found) id ∙ e)
   ]
   next_txns w order (Deliver region home first last) l i id txn e = txn_same w (next cluster workload w (Deliver region home first last)) (deliver_same w region home last (leb first (received_of w region home) && ltb (received_of w region home) last)) id ∙ e
   next_txns w order (Insert region home) l i id txn e = txn_same w (moved_on cluster w region (Insert region home)) (step_same cluster w region (Insert region home)) id ∙ e

@@ -25,3 +25,5 @@ pub mod Agreeing
 pub mod Crossing
 pub mod Facts
 pub mod Growth
+pub mod OneHome
+pub mod Accounted

@@ -15,7 +15,7 @@ use Rattle.dt_access.specs.declared.Part.{Part}
 use Rattle.dt_sched.specs.Views.{ids_of, log_at, IsWellFormed}
 use Rattle.dt_txn.specs.declared.Txn.{Txn}
 use Rattle.dt_txn.specs.Transaction.{homes_of}
-use Rattle.dt_session.specs.World.{World, Submission, no_node, node_at, asked_of, taken_from, logs_of, log_of, submissions, txn_of}
+use Rattle.dt_session.specs.World.{World, Submission, no_node, node_at, asked_of, taken_of, logs_of, log_of, submissions, txn_of}
 use Rattle.dt_laws.specs.Invariant.{has_home, requests, IsPartAt, given_by}
 use Rattle.dt_laws.proofs.Ids.{equal_of_test, test_of_equal}
 use Rattle.dt_laws.proofs.Submissions.{txn_there, home_region, from_region, txn_found}
@@ -51,15 +51,15 @@ module _ (regions : ℕ) (w : World) (nodes : length w.nodes ≡ regions) where
     id_requested home id lt h =
         let k : (txn : Txn) × (txn_of w id ≡ Some txn) × (id.region < regions) = id_known home id lt h in
         let g : Has (given_by id.region (ids_of (log_of w home))) id = has_filter (λ i. eqb i.region id.region) (ids_of (log_of w home)) id h (test_of_equal id.region id.region refl) in
-        let t : Has (take (taken_from w home id.region) (asked_of w id.region home)) id = subst (λ l. Has l id) ((logs home lt).given id.region k.2) g in
-        subst (λ l. Has l id) (asked id.region home k.2 lt) (any_front _ (take (taken_from w home id.region) (asked_of w id.region home)) (asked_of w id.region home) (front_take (taken_from w home id.region) (asked_of w id.region home)) t)
+        let t : Has (take (taken_of w home id.region) (asked_of w id.region home)) id = subst (λ l. Has l id) ((logs home lt).given id.region k.2) g in
+        subst (λ l. Has l id) (asked id.region home k.2 lt) (any_front _ (take (taken_of w home id.region) (asked_of w id.region home)) (asked_of w id.region home) (front_take (taken_of w home id.region) (asked_of w id.region home)) t)
 
     -- no id stands twice in a log
     pub log_once : (home : ℕ) → home < regions → Distinct (ids_of (log_of w home))
     log_once home lt = distinct_by_key (λ b i. eqb i.region b) (λ i. i.region) (ids_of (log_of w home)) (λ i. test_of_equal i.region i.region refl) (λ b. by b (either_le (suc b) regions))
       where
         by : (b : ℕ) → Either (b < regions) → Distinct (given_by b (ids_of (log_of w home)))
-        by b (inl lb) = subst Distinct (sym ((logs home lt).given b lb)) (each_front _ (take (taken_from w home b) (asked_of w b home)) (asked_of w b home) (front_take (taken_from w home b) (asked_of w b home))
+        by b (inl lb) = subst Distinct (sym ((logs home lt).given b lb)) (each_front _ (take (taken_of w home b) (asked_of w b home)) (asked_of w b home) (front_take (taken_of w home b) (asked_of w b home))
             (subst Distinct (sym (asked b home lb lt)) (requests_once b home (node_at w b).submitted (ids b lb))))
         by b (inr nb) = subst Distinct (sym (none_filtered (λ i. eqb i.region b) (ids_of (log_of w home)) (all_put _ (ids_of (log_of w home)) none))) tt
           where

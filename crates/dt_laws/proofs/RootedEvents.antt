@@ -6,7 +6,7 @@ use Rattle.dt_lists.specs.Lists.{AllIn, Has, IsFront, Either}
 use Rattle.dt_lists.proofs.Words.{any_append, any_image, some_append_left, all_map, all_get, all_put, all_image}
 use Rattle.dt_lists.proofs.Decided.{either_nat, either_le}
 use Rattle.dt_lists.proofs.Before.{has_before}
-use Rattle.dt_lists.proofs.Places.{from_right, map_of_set, flat_map_of_set}
+use Rattle.dt_lists.proofs.Places.{from_right, field_of_set, map_of_set, flat_map_of_set}
 use Rattle.dt_access.specs.Ids.{is_among, StandsBefore}
 use Rattle.dt_access.specs.Clash.{Bytes}
 use Rattle.dt_access.specs.declared.TxnId.{TxnId}
@@ -28,13 +28,13 @@ use Rattle.dt_workload.specs.declared.Workload.{Workload}
 use Rattle.dt_workload.specs.declared.Session.{Session}
 use Rattle.dt_workload.specs.Valid.{IsValidWorkload}
 use Rattle.dt_session.specs.World.{World, Place, Submission, no_node, node_at, with_node, opening_table, asked_of, logs_of, received_of, received_logs, submissions, txn_of, session_at}
-use Rattle.dt_session.specs.Step.{IsLegal, MaySubmit, next_id, submission_for, world_submitted, submitted, placed, received, moved_on, answered, next, body_of}
+use Rattle.dt_session.specs.Step.{IsLegal, MaySubmit, upcoming_id, attempt_for, world_submitted, submitted, placed, received, moved_on, answered, next, body_of}
 use Rattle.dt_session.specs.Run.{world_after, AreLegal, order_of, txns_of}
 use Rattle.dt_laws.specs.Invariant.{history_of, HasRoot, IsRooted, Rooted, Inv}
-use Rattle.dt_laws.proofs.Submissions.{IsKnown, txns_stay, txns_same}
+use Rattle.dt_laws.proofs.Submissions.{Keeps, IsKnown, txns_stay, txns_same}
 use Rattle.dt_laws.proofs.Known.{order_known}
 use Rattle.dt_laws.proofs.Submitting.{Submits, submits, submitted_logs, submitted_was, submitted_txns}
-use Rattle.dt_laws.proofs.Appending.{IsNextRequest, append_cases, logs_placed, submissions_placed, placed_longer, placed_well_formed}
+use Rattle.dt_laws.proofs.Appending.{IsNextRequest, append_cases, logs_placed, submissions_placed, submitted_placed, placed_longer, placed_well_formed}
 use Rattle.dt_laws.proofs.Executing.{executable_known, txns_more}
 use Rattle.dt_laws.proofs.Runs.{ordered, world_after_more, legal_more, order_of_more}
 use Rattle.dt_laws.proofs.Keeping.{legal_keeps}
@@ -53,7 +53,7 @@ module _ (cluster : Cluster) (workload : Workload) (w : World) (order : List Txn
       found = subst (λ n. session_at workload.sessions w.places region n ≡ Some (r.session, r.place)) (sym r.named) r.found
 
       v : World
-      v = world_submitted workload w region r.session r.place (submission_for cluster w region r.session r.place r.call)
+      v = world_submitted workload w region r.session r.place (attempt_for cluster w region r.session r.place r.call)
 
       logs : logs_of v ≡ logs_of w
       logs = submitted_logs cluster ok workload fits w order region r.session r.place r.call lr r.member r.here found r.wants r.on i
@@ -61,14 +61,14 @@ module _ (cluster : Cluster) (workload : Workload) (w : World) (order : List Txn
       histories : (key : Bytes) → history_of cluster v order key ≡ history_of cluster w order key
       histories key = ap (λ l. moves_of (table_after cluster.procs l (opening_table cluster)) key) (txns_stay w v (submitted_txns cluster ok workload fits w order region r.session r.place r.call lr r.member r.here found r.wants r.on i) order (order_known cluster workload w order i))
 
-      fresh : AllIn (λ a. IsRooted cluster (logs_of w) (history_of cluster w order a.key) (next_id w region) a) (map (annotated (node_at w region).here.table) (uses_of cluster.procs (body_of r.call)))
-      fresh = all_image (λ a. IsRooted cluster (logs_of w) (history_of cluster w order a.key) (next_id w region) a) (annotated (node_at w region).here.table) (uses_of cluster.procs (body_of r.call)) (all_put _ (uses_of cluster.procs (body_of r.call)) (λ u h. annotated_rooted cluster workload w order i rooted region lr u))
+      fresh : AllIn (λ a. IsRooted cluster (logs_of w) (history_of cluster w order a.key) (upcoming_id w region) a) (map (annotated (node_at w region).here.table) (uses_of cluster.procs (body_of r.call)))
+      fresh = all_image (λ a. IsRooted cluster (logs_of w) (history_of cluster w order a.key) (upcoming_id w region) a) (annotated (node_at w region).here.table) (uses_of cluster.procs (body_of r.call)) (all_put _ (uses_of cluster.procs (body_of r.call)) (λ u h. annotated_rooted cluster workload w order i rooted region lr u))
 
       each : (s : Submission) → Has (submissions v) s → AllIn (λ a. IsRooted cluster (logs_of v) (history_of cluster v order a.key) s.txn.id a) s.txn.access
       each s h = elim (submitted_was cluster ok workload fits w order region r.session r.place r.call lr r.member r.here found r.wants r.on i s h) [
         | inl k ↦ entries_kept cluster (logs_of w) (logs_of v) (history_of cluster w order) (history_of cluster v order) logs histories s.txn.id s.txn.access (all_get (λ x. AllIn (λ a. IsRooted cluster (logs_of w) (history_of cluster w order a.key) x.txn.id a) x.txn.access) (submissions w) rooted s k)
         | inr e ↦ subst (λ x. AllIn (λ a. IsRooted cluster (logs_of v) (history_of cluster v order a.key) x.txn.id a) x.txn.access) e
-            (entries_kept cluster (logs_of w) (logs_of v) (history_of cluster w order) (history_of cluster v order) logs histories (next_id w region) (map (annotated (node_at w region).here.table) (uses_of cluster.procs (body_of r.call))) fresh)
+            (entries_kept cluster (logs_of w) (logs_of v) (history_of cluster w order) (history_of cluster v order) logs histories (upcoming_id w region) (map (annotated (node_at w region).here.table) (uses_of cluster.procs (body_of r.call))) fresh)
       ]
 
   -- a placed request: its part comes after the parts of the movers before it
@@ -140,8 +140,11 @@ module _ (cluster : Cluster) (workload : Workload) (w : World) (order : List Txn
         same : submissions (placed w home source (Some txn)) ≡ submissions w
         same = submissions_placed cluster workload w order home source lh ls i txn request.number request.request request.found
 
+        kept : Keeps (λ n. n.submitted) w (placed w home source (Some txn))
+        kept = submitted_placed cluster workload w order home source lh ls i txn request.number request.request request.found
+
         histories : (key : Bytes) → history_of cluster (placed w home source (Some txn)) order key ≡ history_of cluster w order key
-        histories key = ap (λ l. moves_of (table_after cluster.procs l (opening_table cluster)) key) (txns_same w (placed w home source (Some txn)) same order)
+        histories key = ap (λ l. moves_of (table_after cluster.procs l (opening_table cluster)) key) (txns_same w (placed w home source (Some txn)) kept order)
 
   append_roots : (home source number : ℕ) → home < cluster.regions → source < cluster.regions → number < length (asked_of w source home) → Rooted cluster (next cluster workload w (Append home source number)) order
   append_roots home source number lh ls more = elim (append_cases cluster workload w order home source number lh ls more i) [
@@ -153,12 +156,14 @@ module _ (cluster : Cluster) (workload : Workload) (w : World) (order : List Txn
   step_roots : (region : ℕ) (h : Replica) → Rooted cluster (with_node w region (record (node_at w region) { here = h })) order
   step_roots region h = rooted_kept cluster w (with_node w region (record (node_at w region) { here = h })) order
       (map_of_set (λ n. n.log) w.nodes region (record (node_at w region) { here = h }) no_node refl)
-      (flat_map_of_set (λ n. n.submitted) w.nodes region (record (node_at w region) { here = h }) no_node refl) rooted
+      (flat_map_of_set (λ n. n.submitted) w.nodes region (record (node_at w region) { here = h }) no_node refl)
+      (field_of_set (λ n. n.submitted) w.nodes region (record (node_at w region) { here = h }) no_node refl) rooted
 
   received_roots : (region home last : ℕ) → Rooted cluster (received w region home last) order
   received_roots region home last = rooted_kept cluster w (received w region home last) order
       (map_of_set (λ n. n.log) w.nodes region (record (node_at w region) { received = set (node_at w region).received home last }) no_node refl)
-      (flat_map_of_set (λ n. n.submitted) w.nodes region (record (node_at w region) { received = set (node_at w region).received home last }) no_node refl) rooted
+      (flat_map_of_set (λ n. n.submitted) w.nodes region (record (node_at w region) { received = set (node_at w region).received home last }) no_node refl)
+      (field_of_set (λ n. n.submitted) w.nodes region (record (node_at w region) { received = set (node_at w region).received home last }) no_node refl) rooted
 
   deliver_roots : (region home first last : ℕ) → Rooted cluster (next cluster workload w (Deliver region home first last)) order
   deliver_roots region home first last = go (leb first (received_of w region home) && ltb (received_of w region home) last)
@@ -186,6 +191,7 @@ module _ (cluster : Cluster) (ok : IsValidCluster cluster) (workload : Workload)
       rooted_kept cluster w (moved_on cluster w region (Execute region id)) (cond (is_among order id) order (order ++ id ∷ []))
       (map_of_set (λ n. n.log) w.nodes region (record (node_at w region) { here = stepped cluster.procs (txn_of w) (node_at w region).here (Execute region id) }) no_node refl)
       (flat_map_of_set (λ n. n.submitted) w.nodes region (record (node_at w region) { here = stepped cluster.procs (txn_of w) (node_at w region).here (Execute region id) }) no_node refl)
+      (field_of_set (λ n. n.submitted) w.nodes region (record (node_at w region) { here = stepped cluster.procs (txn_of w) (node_at w region).here (Execute region id) }) no_node refl)
       (go (is_among order id) k)
     where
       go : (b : Bool) → IsKnown w id → Rooted cluster w (cond b order (order ++ id ∷ []))

@@ -2,4 +2,4 @@ use Rattle.dt_laws.proofs.Agreeing.{drained_done}
 use Rattle.dt_laws.proofs.laws.drained_regions.Goals as goal
 
 pub returns : goal.returns
-returns c cluster workload events ok fits legal region lr d = drained_done cluster ok workload fits events legal region lr d
+returns c cluster workload events run region lr d = drained_done cluster run.sound workload run.fits events run.legal region lr d
