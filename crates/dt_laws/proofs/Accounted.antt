@@ -12,16 +12,16 @@ use Rattle.dt_txn.specs.declared.Outcome.{Outcome}
 use Rattle.dt_cluster.specs.declared.Cluster.{Cluster}
 use Rattle.dt_workload.specs.declared.Session.{Session}
 use Rattle.dt_workload.specs.declared.Workload.{Workload}
-use Rattle.dt_session.specs.World.{World, Place, Submission, opening_world, submission_of, session_at}
-use Rattle.dt_session.specs.Step.{IsLegal, MayAnswer, MayEnd}
-use Rattle.dt_session.specs.Run.{world_after, AreLegal, AreLegalFrom, order_of, serial_outcomes, serial_outcome}
+use Rattle.dt_session.specs.World.{World, Place, Submission, submission_of, session_at}
+use Rattle.dt_session.specs.Step.{MayAnswer, MayEnd}
+use Rattle.dt_session.specs.Run.{world_after, AreLegalFrom, order_of, serial_outcomes, serial_outcome}
 use Rattle.dt_session.specs.Agreement.{WaitsFor}
 use Rattle.dt_laws.specs.LegalRun.{IsLegalRun}
 use Rattle.dt_laws.specs.Invariant.{IsExecutedAt, Inv}
 use Rattle.dt_laws.specs.Accounted.{IsAccounted, IsAnswered}
 use Rattle.dt_laws.proofs.Submissions.{IsKnown}
 use Rattle.dt_laws.proofs.Known.{order_known}
-use Rattle.dt_laws.proofs.Runs.{legal_append}
+use Rattle.dt_laws.proofs.Runs.{run_front}
 use Rattle.dt_laws.proofs.Keeping.{legal_keeps}
 use Rattle.dt_laws.proofs.Agreeing.{order_front, answered_done}
 use Rattle.dt_laws.proofs.Crossing.{executed_outcome}
@@ -44,34 +44,45 @@ awaited_there cluster w region (Some (session, place)) may = go place.waits refl
     go (Some id) e m = (id, e)
 
 -- an executed attempt is accounted for
-pub executed_accounted : (cluster : Cluster) (workload : Workload) (events : List Event) → IsLegalRun cluster workload events → (id : TxnId) → Has (order_of events) id → IsAccounted cluster workload events id
-executed_accounted cluster workload events run id h = record { submission = s.0; outcome = o.0; found = s.1; serial = o.2 }
+pub executed_accounted : {cluster : Cluster} {workload : Workload} {events : List Event} → IsLegalRun cluster workload events
+    → (id : TxnId) → Has (order_of events) id → IsAccounted cluster workload events id
+executed_accounted {cluster = cluster} {workload = workload} {events = events} run id h = record { submission = s.0; outcome = o.0; found = s.1; serial = o.2 }
   where
-    i : Inv cluster workload (world_after cluster workload events) (order_of events)
-    i = legal_keeps cluster run.sound workload run.fits events run.legal
+    w : World
+    w = world_after cluster workload events
 
-    s : (s : Submission) × (submission_of (world_after cluster workload events) id ≡ Some s)
-    s = known_submission (world_after cluster workload events) id (all_get (IsKnown (world_after cluster workload events)) (order_of events) (order_known cluster workload (world_after cluster workload events) (order_of events) i) id h)
+    i : Inv cluster workload w (order_of events)
+    i = legal_keeps run
+
+    s : (s : Submission) × (submission_of w id ≡ Some s)
+    s = known_submission w id (all_get (IsKnown w) (order_of events) (order_known i) id h)
 
     o : (o : Outcome) × Has (serial_outcomes cluster workload events) (id, o) × (serial_outcome cluster workload events id ≡ Some o)
-    o = executed_outcome cluster run.sound workload run.fits events run.legal id h
+    o = executed_outcome run id h
 
 -- so is each that an answer ended
-pub answer_accounted : (cluster : Cluster) (workload : Workload) (first : List Event) (region : ℕ) (session : Bytes) (last : List Event)
+pub answer_accounted : {cluster : Cluster} {workload : Workload} (first : List Event) (region : ℕ) (session : Bytes) (last : List Event)
     → IsLegalRun cluster workload (first ++ Answer region session ∷ last) → IsAnswered cluster workload (first ++ Answer region session ∷ last) first region session
-answer_accounted cluster workload first region session last run = record { id = waits.0; awaited = waits.1; accounted = executed_accounted cluster workload (first ++ Answer region session ∷ last) run waits.0 there }
+answer_accounted {cluster = cluster} {workload = workload} first region session last run = record { id = waits.0; awaited = waits.1; accounted = executed_accounted run waits.0 there }
   where
-    split : AreLegal cluster workload first × AreLegalFrom cluster workload (world_after cluster workload first) (Answer region session ∷ last)
-    split = legal_append cluster workload (opening_world cluster workload) first (Answer region session ∷ last) run.legal
+    w : World
+    w = world_after cluster workload first
 
-    early : Inv cluster workload (world_after cluster workload first) (order_of first)
-    early = legal_keeps cluster run.sound workload run.fits first split.0
+    found : Option (Session × Place)
+    found = session_at workload.sessions w.places region session
 
-    waits : (id : TxnId) × WaitsFor (session_at workload.sessions (world_after cluster workload first).places region session) id
-    waits = awaited_there cluster (world_after cluster workload first) region (session_at workload.sessions (world_after cluster workload first).places region session) split.1.0.allowed
+    split : IsLegalRun cluster workload first × AreLegalFrom cluster workload w (Answer region session ∷ last)
+    split = run_front first (Answer region session ∷ last) run
 
-    done : IsExecutedAt (world_after cluster workload first) region waits.0
-    done = answered_done cluster (world_after cluster workload first) region (session_at workload.sessions (world_after cluster workload first).places region session) waits.0 split.1.0.allowed waits.1
+    early : Inv cluster workload w (order_of first)
+    early = legal_keeps split.0
+
+    waits : (id : TxnId) × WaitsFor found id
+    waits = awaited_there cluster w region found split.1.0.allowed
+
+    done : IsExecutedAt w region waits.0
+    done = answered_done cluster w region found waits.0 split.1.0.allowed waits.1
 
     there : Has (order_of (first ++ Answer region session ∷ last)) waits.0
-    there = any_front (λ y. y ≡ waits.0) (order_of first) (order_of (first ++ Answer region session ∷ last)) (order_front first (Answer region session ∷ last)) ((early.ordered.executed waits.0).1 (region, split.1.0.regions, done))
+    there = any_front (λ y. y ≡ waits.0) (order_of first) (order_of (first ++ Answer region session ∷ last)) (order_front first (Answer region session ∷ last))
+        ((early.ordered.executed waits.0).1 (region, split.1.0.regions, done))

@@ -30,21 +30,20 @@ use Rattle.dt_serial.proofs.Causes.{reasons}
 use Rattle.dt_serial.proofs.Outcome.{one_outcome, one_restricted, one_set}
 use Rattle.dt_serial.proofs.Lookups.{looked_from, looked_filter}
 use Rattle.dt_cluster.specs.declared.Cluster.{Cluster}
-use Rattle.dt_cluster.specs.Valid.{IsValidCluster}
 use Rattle.dt_workload.specs.declared.Session.{Session}
 use Rattle.dt_workload.specs.declared.Workload.{Workload}
-use Rattle.dt_workload.specs.Valid.{IsValidWorkload}
-use Rattle.dt_session.specs.World.{World, Place, opening_table, opening_world, node_at, logs_of, log_of, received_of, received_logs, view_at, txn_of, attempt_of, outcome_in, outcome_at, session_at}
+use Rattle.dt_session.specs.World.{World, Place, opening_table, node_at, logs_of, log_of, received_of, received_logs, view_at, txn_of, attempt_of, outcome_in, outcome_at, session_at}
 use Rattle.dt_session.specs.Step.{IsLast, MayEnd, MayAnswer, upcoming_id}
-use Rattle.dt_session.specs.Run.{world_after, AreLegalFrom, AreLegal, executed_id, order_of, txns_of, serial_outcomes, serial_outcome, ids_before, table_before, region_table}
+use Rattle.dt_session.specs.Run.{world_after, AreLegalFrom, executed_id, order_of, txns_of, serial_outcomes, ids_before}
 use Rattle.dt_session.specs.Agreement.{WaitsFor, IsAwaited, HasCause, ReceivedAlike, Agree}
+use Rattle.dt_laws.specs.LegalRun.{IsLegalRun}
 use Rattle.dt_laws.specs.Invariant.{IsExecutedAt, Rooted, Inv}
 use Rattle.dt_laws.proofs.Ids.{id_of_test, test_of_id}
 use Rattle.dt_laws.proofs.Submissions.{IsKnown, txn_id}
 use Rattle.dt_laws.proofs.Views.{received_log}
 use Rattle.dt_laws.proofs.Known.{view_fronts, order_known}
 use Rattle.dt_laws.proofs.Annotating.{unmoved_at_first}
-use Rattle.dt_laws.proofs.Runs.{with_executed_front, legal_append, order_of_more}
+use Rattle.dt_laws.proofs.Runs.{with_executed_front, run_front, order_of_more}
 use Rattle.dt_laws.proofs.Keeping.{legal_keeps}
 use Rattle.dt_laws.proofs.Rooting.{order_ids, done_txn_ids, history, region_members, region_down}
 use Rattle.dt_laws.proofs.RootedSteps.{next_unknown}
@@ -103,128 +102,155 @@ fronts_alike [] (m ∷ b) (log ∷ logs) e = ap₂ ◌∷◌ (ap (λ n. take n l
 fronts_alike (n ∷ a) [] (log ∷ logs) e = ap₂ ◌∷◌ (ap (λ k. take k log) (e zero)) (fronts_alike a [] logs (λ home. e (suc home)))
 fronts_alike (n ∷ a) (m ∷ b) (log ∷ logs) e = ap₂ ◌∷◌ (ap (λ k. take k log) (e zero)) (fronts_alike a b logs (λ home. e (suc home)))
 
-module _ (cluster : Cluster) (ok : IsValidCluster cluster) (workload : Workload) (fits : IsValidWorkload cluster workload) (events : List Event) (legal : AreLegal cluster workload events) where
-  i : Inv cluster workload (world_after cluster workload events) (order_of events)
-  i = legal_keeps cluster ok workload fits events legal
+-- the outcomes of a serial run of these ids
+abbrev pub outcomes_in_order : Cluster → World → List TxnId → List (TxnId × Outcome)
+outcomes_in_order cluster w order = outcomes cluster.procs (txns_of w order) (opening_table cluster)
 
-  rooted : Rooted cluster (world_after cluster workload events) (order_of events)
-  rooted = legal_roots cluster ok workload fits events legal
+-- the transactions that a region ran
+abbrev pub ran_at : World → ℕ → List Txn
+ran_at w region = txns_of w (done_ids (node_at w region).here)
 
-  -- the transactions that ran, in the one order and at a region
+-- a region is drained of what it received
+abbrev pub IsDrainedAt : World → ℕ → Type 0
+IsDrainedAt w region = IsDrained (received_logs w region) (node_at w region).here
 
-  txns : List Txn
-  txns = txns_of (world_after cluster workload events) (order_of events)
+-- a world that keeps the invariant, and in which every annotation is rooted
+module _ {cluster : Cluster} {workload : Workload} {w : World} {order : List TxnId} (i : Inv cluster workload w order) (rooted : Rooted cluster w order) where
+  past : IsHistory cluster.procs (Precedes (logs_of w)) (opening_table cluster) (txns_of w order)
+  past = history i rooted
 
-  ran : ℕ → List Txn
-  ran region = txns_of (world_after cluster workload events) (done_ids (node_at (world_after cluster workload events) region).here)
+  pub outcome_ids : map (λ e. e.0) (outcomes_in_order cluster w order) ≡ order
+  outcome_ids = outcomes_ids cluster.procs (txns_of w order) (opening_table cluster) ∙ order_ids i
 
-  past : IsHistory cluster.procs (Precedes (logs_of (world_after cluster workload events))) (opening_table cluster) (txns_of (world_after cluster workload events) (order_of events))
-  past = history cluster workload (world_after cluster workload events) (order_of events) i rooted
-
-  ids_are : txn_ids txns ≡ order_of events
-  unfolding txns
-  ids_are = order_ids cluster workload (world_after cluster workload events) (order_of events) i
-
-  outcomes_once : Distinct (map (λ e. e.0) (serial_outcomes cluster workload events))
-  unfolding txns
-  outcomes_once = subst Distinct (sym (outcomes_ids cluster.procs txns (opening_table cluster) ∙ ids_are)) i.ordered.down.once
+  pub outcomes_once : Distinct (map (λ e. e.0) (outcomes_in_order cluster w order))
+  outcomes_once = subst Distinct (sym outcome_ids) i.ordered.down.once
 
   -- an outcome that a region keeps is one of the serial run
-  kept_outcome : (region : ℕ) (id : TxnId) (outcome : Outcome) → region < cluster.regions → Has (node_at (world_after cluster workload events) region).here.done (id, outcome) → Has (serial_outcomes cluster workload events) (id, outcome)
-  unfolding txns ran
+  kept_outcome : (region : ℕ) (id : TxnId) (outcome : Outcome) → region < cluster.regions → Has (node_at w region).here.done (id, outcome) → Has (outcomes_in_order cluster w order) (id, outcome)
   kept_outcome region id outcome lr h =
-      all_get (Has (outcomes cluster.procs txns (opening_table cluster))) (outcomes cluster.procs (ran region) (opening_table cluster))
-      (one_outcome cluster.procs (Precedes (logs_of (world_after cluster workload events))) (opening_table cluster) txns past (ran region)
-      (region_members cluster workload (world_after cluster workload events) (order_of events) i rooted region lr)
-      (region_down cluster workload (world_after cluster workload events) (order_of events) i rooted region lr))
+      all_get (Has (outcomes_in_order cluster w order)) (outcomes cluster.procs (ran_at w region) (opening_table cluster))
+      (one_outcome cluster.procs (Precedes (logs_of w)) (opening_table cluster) (txns_of w order) past (ran_at w region)
+      (region_members i rooted region lr)
+      (region_down i rooted region lr))
       (id, outcome) (subst (λ l. Has l (id, outcome)) (i.tables region lr).outcomes h)
 
-  pub outcomes_agree : (region : ℕ) (id : TxnId) (outcome : Outcome) → region < cluster.regions → Has (node_at (world_after cluster workload events) region).here.done (id, outcome) → serial_outcome cluster workload events id ≡ Some outcome
-  outcomes_agree region id outcome lr h = has_lookup (serial_outcomes cluster workload events) id outcome outcomes_once (kept_outcome region id outcome lr h)
+  pub outcomes_agree : (region : ℕ) (id : TxnId) (outcome : Outcome) → region < cluster.regions → Has (node_at w region).here.done (id, outcome)
+      → outcome_in (outcomes_in_order cluster w order) id ≡ Some outcome
+  outcomes_agree region id outcome lr h = has_lookup (outcomes_in_order cluster w order) id outcome outcomes_once (kept_outcome region id outcome lr h)
 
-  pub tables_agree : (region : ℕ) → region < cluster.regions → (node_at (world_after cluster workload events) region).here.table ≡ region_table cluster workload events region
-  unfolding txns ran
+  pub tables_agree : (region : ℕ) → region < cluster.regions
+      → (node_at w region).here.table ≡ table_after cluster.procs (txns_of w (filter (is_among (done_ids (node_at w region).here)) order)) (opening_table cluster)
   tables_agree region lr =
       (i.tables region lr).table
-      ∙ one_restricted cluster.procs (Precedes (logs_of (world_after cluster workload events))) (opening_table cluster) txns past (ran region)
-      (region_members cluster workload (world_after cluster workload events) (order_of events) i rooted region lr)
-      (region_down cluster workload (world_after cluster workload events) (order_of events) i rooted region lr)
-      ∙ ap (λ l. table_after cluster.procs (filter (λ x. is_among l x.id) txns) (opening_table cluster)) (done_txn_ids cluster workload (world_after cluster workload events) (order_of events) i region lr)
-      ∙ ap (λ l. table_after cluster.procs l (opening_table cluster)) (sym (looked_filter (txn_of (world_after cluster workload events)) (txn_id (world_after cluster workload events)) (is_among (done_ids (node_at (world_after cluster workload events) region).here)) (order_of events)))
+      ∙ one_restricted cluster.procs (Precedes (logs_of w)) (opening_table cluster) (txns_of w order) past (ran_at w region)
+      (region_members i rooted region lr)
+      (region_down i rooted region lr)
+      ∙ ap (λ l. table_after cluster.procs (filter (λ x. is_among l x.id) (txns_of w order)) (opening_table cluster)) (done_txn_ids i region lr)
+      ∙ ap (λ l. table_after cluster.procs l (opening_table cluster)) (sym (looked_filter (txn_of w) (txn_id w) (is_among (done_ids (node_at w region).here)) order))
 
-  -- causes
+  -- an outcome that a region keeps has a reason in the serial run
+  reason_of : (region : ℕ) (id : TxnId) (outcome : Outcome) → region < cluster.regions → Has (node_at w region).here.done (id, outcome)
+      → HasReason cluster.procs (txns_of w order) (opening_table cluster) (id, outcome)
+  reason_of region id outcome lr h =
+      all_get (HasReason cluster.procs (txns_of w order) (opening_table cluster)) (outcomes_in_order cluster w order)
+      (reasons cluster.procs (opening_table cluster) (unmoved_at_first cluster) (txns_of w order)) (id, outcome) (kept_outcome region id outcome lr h)
 
   -- the transaction of a reason, and what ran before it
-  module _ (id : TxnId) (front rest : List Txn) (txn : Txn) (split : txns_of (world_after cluster workload events) (order_of events) ≡ front ++ txn ∷ rest) (own : txn.id ≡ id) where
-    found_all : AllIn (λ x. Has (order_of events) x.id × (txn_of (world_after cluster workload events) x.id ≡ Some x)) (front ++ txn ∷ rest)
-    found_all = subst (AllIn _) split (looked_from (txn_of (world_after cluster workload events)) (txn_id (world_after cluster workload events)) (order_of events))
+  module _ (id : TxnId) (front rest : List Txn) (txn : Txn) (split : txns_of w order ≡ front ++ txn ∷ rest) (own : txn.id ≡ id) where
+    found_all : AllIn (λ x. Has order x.id × (txn_of w x.id ≡ Some x)) (front ++ txn ∷ rest)
+    found_all = subst (AllIn _) split (looked_from (txn_of w) (txn_id w) order)
 
-    found_one : txn_of (world_after cluster workload events) id ≡ Some txn
-    found_one = subst (λ x. txn_of (world_after cluster workload events) x ≡ Some txn) own (all_get _ (front ++ txn ∷ rest) found_all txn (has_middle front txn rest)).1
+    found_front : (x : Txn) → Has front x → txn_of w x.id ≡ Some x
+    found_front x h = (all_get _ front (all_append_left _ front (txn ∷ rest) found_all) x h).1
 
-    order_split : order_of events ≡ txn_ids front ++ id ∷ txn_ids rest
-    unfolding txns
-    order_split = sym ids_are ∙ ap txn_ids split ∙ map-append (λ x. x.id) front (txn ∷ rest) ∙ ap (λ x. txn_ids front ++ x ∷ txn_ids rest) own
+    found_one : txn_of w id ≡ Some txn
+    found_one = subst (λ x. txn_of w x ≡ Some txn) own (all_get _ (front ++ txn ∷ rest) found_all txn (has_middle front txn rest)).1
 
-    before_is : table_before cluster workload events id ≡ table_after cluster.procs front (opening_table cluster)
+    order_split : order ≡ txn_ids front ++ id ∷ txn_ids rest
+    order_split = sym (order_ids i) ∙ ap txn_ids split ∙ map-append (λ x. x.id) front (txn ∷ rest) ∙ ap (λ x. txn_ids front ++ x ∷ txn_ids rest) own
+
+    before_is : table_after cluster.procs (txns_of w (ids_before id order)) (opening_table cluster) ≡ table_after cluster.procs front (opening_table cluster)
     before_is =
         let once : Distinct (txn_ids front ++ id ∷ txn_ids rest) = subst Distinct order_split i.ordered.down.once in
-        let ids : ids_before id (order_of events) ≡ txn_ids front = ap (ids_before id) order_split ∙ before_at id (txn_ids front) (txn_ids rest) (λ h. each_across _ (txn_ids front) (id ∷ txn_ids rest) id id once h (inl refl) refl) in
-        ap (λ l. table_after cluster.procs (txns_of (world_after cluster workload events) l) (opening_table cluster)) ids
-        ∙ ap (λ l. table_after cluster.procs l (opening_table cluster)) (txns_of_ids (world_after cluster workload events) front (all_map _ _ front (λ x h. h.1) (all_append_left _ front (txn ∷ rest) found_all)))
-
-    cause_of : (outcome : Outcome) → IsGrounded cluster.procs front (txns_of (world_after cluster workload events) (order_of events)) (opening_table cluster) txn outcome → HasCause cluster workload events id outcome
-    cause_of (Gave values) g = tt
-    cause_of (Aborted cause) g = (txn, found_one, subst₂ (λ x t. (result_of cluster.procs x txn.body (reads_of txn.access (see txn t))).0 ≡ Aborted cause) own (sym before_is) g.1)
-    cause_of (Stale key had by) g =
-        let f : MadeMove cluster.procs front (opening_table cluster) key had by = g.1 in
-        let whole : MadeMove cluster.procs (txns_of (world_after cluster workload events) (order_of events)) (opening_table cluster) key had by = g.2 in
-        let there : Has (txn_ids front) by = subst (Has (txn_ids front)) f.id (has_map (λ x. x.id) front f.mover f.there) in (
-          f.mover,
-          f.target,
-          subst (λ x. txn_of (world_after cluster workload events) x ≡ Some f.mover) f.id (all_get _ front (all_append_left _ front (txn ∷ rest) found_all) f.mover f.there).1,
-          f.body,
-          subst (λ l. StandsBefore l by id) (sym order_split) (has_before by id (txn_ids front) (txn_ids rest) there),
-          has_lookup (serial_outcomes cluster workload events) by (Gave []) outcomes_once whole.gave,
-          ap (λ t. next_mover t key had) before_is ∙ ap (option_map (λ m. m.by)) f.number,
-        )
-
-  pub causes_agree : (region : ℕ) (id : TxnId) (outcome : Outcome) → region < cluster.regions → Has (node_at (world_after cluster workload events) region).here.done (id, outcome) → HasCause cluster workload events id outcome
-  causes_agree region id outcome lr h =
-      let r : HasReason cluster.procs (txns_of (world_after cluster workload events) (order_of events)) (opening_table cluster) (id, outcome) =
-      all_get (HasReason cluster.procs (txns_of (world_after cluster workload events) (order_of events)) (opening_table cluster)) (serial_outcomes cluster workload events) (reasons cluster.procs (opening_table cluster) (unmoved_at_first cluster) (txns_of (world_after cluster workload events) (order_of events))) (id, outcome) (kept_outcome region id outcome lr h) in
-      cause_of id r.front r.rest r.txn r.is r.id outcome r.reason
+        let new : ¬ (Has (txn_ids front) id) = λ h. each_across _ (txn_ids front) (id ∷ txn_ids rest) id id once h (inl refl) refl in
+        let ids : ids_before id order ≡ txn_ids front = ap (ids_before id) order_split ∙ before_at id (txn_ids front) (txn_ids rest) new in
+        ap (λ l. table_after cluster.procs (txns_of w l) (opening_table cluster)) ids
+        ∙ ap (λ l. table_after cluster.procs l (opening_table cluster)) (txns_of_ids w front (all_put _ front found_front))
 
   -- drained regions
 
-  pub drained_done : (region : ℕ) → region < cluster.regions → IsDrained (received_logs (world_after cluster workload events) region) (node_at (world_after cluster workload events) region).here → (id : TxnId) → IsExecutedAt (world_after cluster workload events) region id ↔ IsClosed (view_at (world_after cluster workload events) region) id
-  drained_done region lr d id = done_where_closed (view_at (world_after cluster workload events) region) (node_at (world_after cluster workload events) region).here.resolved (done_ids (node_at (world_after cluster workload events) region).here) (i.sound region lr).done_closed (record { none_executable = d.executed; none_resolvable = d.resolved }) id
+  pub drained_done : (region : ℕ) → region < cluster.regions → IsDrainedAt w region → (id : TxnId) → IsExecutedAt w region id ↔ IsClosed (view_at w region) id
+  drained_done region lr d id =
+      done_where_closed (view_at w region) (node_at w region).here.resolved (done_ids (node_at w region).here) (i.sound region lr).done_closed
+      (record { none_executable = d.executed; none_resolvable = d.resolved }) id
 
-  pub drained_agree : (region other : ℕ) → region < cluster.regions → other < cluster.regions →
-      IsDrained (received_logs (world_after cluster workload events) region) (node_at (world_after cluster workload events) region).here → IsDrained (received_logs (world_after cluster workload events) other) (node_at (world_after cluster workload events) other).here →
-      ReceivedAlike (world_after cluster workload events) region other →
-      (node_at (world_after cluster workload events) region).here.table ≡ (node_at (world_after cluster workload events) other).here.table
-  unfolding ran
-  drained_agree region other lr lo d e alike =
-      (i.tables region lr).table
-      ∙ one_set cluster.procs (Precedes (logs_of (world_after cluster workload events))) (opening_table cluster) (txns_of (world_after cluster workload events) (order_of events)) past (ran region) (ran other)
-      (region_members cluster workload (world_after cluster workload events) (order_of events) i rooted region lr) (region_members cluster workload (world_after cluster workload events) (order_of events) i rooted other lo)
-      (region_down cluster workload (world_after cluster workload events) (order_of events) i rooted region lr) (region_down cluster workload (world_after cluster workload events) (order_of events) i rooted other lo)
-      (λ id. (
-        λ h. subst (λ l. Has l id) (sym (done_txn_ids cluster workload (world_after cluster workload events) (order_of events) i other lo)) ((drained_done other lo e id).1 (subst (λ v. IsClosed v id) same_view ((drained_done region lr d id).0 (subst (λ l. Has l id) (done_txn_ids cluster workload (world_after cluster workload events) (order_of events) i region lr) h)))),
-        λ h. subst (λ l. Has l id) (sym (done_txn_ids cluster workload (world_after cluster workload events) (order_of events) i region lr)) ((drained_done region lr d id).1 (subst (λ v. IsClosed v id) (sym same_view) ((drained_done other lo e id).0 (subst (λ l. Has l id) (done_txn_ids cluster workload (world_after cluster workload events) (order_of events) i other lo) h)))),
-      ))
-      ∙ sym (i.tables other lo).table
-    where
-      all_in : (q : ℕ) (home : ℕ) → IsDrained (received_logs (world_after cluster workload events) q) (node_at (world_after cluster workload events) q).here → slice_index (node_at (world_after cluster workload events) q).here.inserted home ≡ length (take (received_of (world_after cluster workload events) q home) (log_of (world_after cluster workload events) home))
-      all_in q home x = x.inserted home ∙ ap length (received_log (world_after cluster workload events) q home)
+  module _ (region other : ℕ) (lr : region < cluster.regions) (lo : other < cluster.regions) (d : IsDrainedAt w region) (e : IsDrainedAt w other) (alike : ReceivedAlike w region other) where
+    all_in : (q home : ℕ) → IsDrainedAt w q → slice_index (node_at w q).here.inserted home ≡ length (take (received_of w q home) (log_of w home))
+    all_in q home x = x.inserted home ∙ ap length (received_log w q home)
 
-      same_view : view_at (world_after cluster workload events) region ≡ view_at (world_after cluster workload events) other
-      same_view =
-          view_fronts cluster workload (world_after cluster workload events) (order_of events) i region lr
-          ∙ fronts_alike (node_at (world_after cluster workload events) region).here.inserted (node_at (world_after cluster workload events) other).here.inserted (logs_of (world_after cluster workload events))
-          (λ home. all_in region home d ∙ ap (λ n. length (take n (log_of (world_after cluster workload events) home))) (alike home) ∙ sym (all_in other home e))
-          ∙ sym (view_fronts cluster workload (world_after cluster workload events) (order_of events) i other lo)
+    same_view : view_at w region ≡ view_at w other
+    same_view =
+        view_fronts i region lr
+        ∙ fronts_alike (node_at w region).here.inserted (node_at w other).here.inserted (logs_of w)
+        (λ home. all_in region home d ∙ ap (λ n. length (take n (log_of w home))) (alike home) ∙ sym (all_in other home e))
+        ∙ sym (view_fronts i other lo)
+
+    there : (id : TxnId) → Has (txn_ids (ran_at w region)) id → Has (txn_ids (ran_at w other)) id
+    there id h =
+        let done : IsExecutedAt w region id = subst (λ l. Has l id) (done_txn_ids i region lr) h in
+        let closed : IsClosed (view_at w other) id = subst (λ v. IsClosed v id) same_view ((drained_done region lr d id).0 done) in
+        subst (λ l. Has l id) (sym (done_txn_ids i other lo)) ((drained_done other lo e id).1 closed)
+
+    back : (id : TxnId) → Has (txn_ids (ran_at w other)) id → Has (txn_ids (ran_at w region)) id
+    back id h =
+        let done : IsExecutedAt w other id = subst (λ l. Has l id) (done_txn_ids i other lo) h in
+        let closed : IsClosed (view_at w region) id = subst (λ v. IsClosed v id) (sym same_view) ((drained_done other lo e id).0 done) in
+        subst (λ l. Has l id) (sym (done_txn_ids i region lr)) ((drained_done region lr d id).1 closed)
+
+    pub drained_agree : (node_at w region).here.table ≡ (node_at w other).here.table
+    drained_agree =
+        (i.tables region lr).table
+        ∙ one_set cluster.procs (Precedes (logs_of w)) (opening_table cluster) (txns_of w order) past (ran_at w region) (ran_at w other)
+        (region_members i rooted region lr) (region_members i rooted other lo)
+        (region_down i rooted region lr) (region_down i rooted other lo)
+        (λ id. (there id, back id))
+        ∙ sym (i.tables other lo).table
+
+-- causes
+
+module _ {cluster : Cluster} {workload : Workload} {events : List Event} (run : IsLegalRun cluster workload events) where
+  i : Inv cluster workload (world_after cluster workload events) (order_of events)
+  i = legal_keeps run
+
+  rooted : Rooted cluster (world_after cluster workload events) (order_of events)
+  rooted = legal_roots run
+
+  cause_of : (id : TxnId) (front rest : List Txn) (txn : Txn) → txns_of (world_after cluster workload events) (order_of events) ≡ front ++ txn ∷ rest → txn.id ≡ id → (outcome : Outcome)
+      → IsGrounded cluster.procs front (txns_of (world_after cluster workload events) (order_of events)) (opening_table cluster) txn outcome → HasCause cluster workload events id outcome
+  cause_of id front rest txn split own (Gave values) g = tt
+  cause_of id front rest txn split own (Aborted cause) g = (
+    txn,
+    found_one i rooted id front rest txn split own,
+    subst₂ (λ x t. (result_of cluster.procs x txn.body (reads_of txn.access (see txn t))).0 ≡ Aborted cause) own (sym (before_is i rooted id front rest txn split own)) g.1,
+  )
+  cause_of id front rest txn split own (Stale key had by) g =
+      let f : MadeMove cluster.procs front (opening_table cluster) key had by = g.1 in
+      let whole : MadeMove cluster.procs (txns_of (world_after cluster workload events) (order_of events)) (opening_table cluster) key had by = g.2 in
+      let there : Has (txn_ids front) by = subst (Has (txn_ids front)) f.id (has_map (λ x. x.id) front f.mover f.there) in (
+        f.mover,
+        f.target,
+        subst (λ x. txn_of (world_after cluster workload events) x ≡ Some f.mover) f.id (found_front i rooted id front rest txn split own f.mover f.there),
+        f.body,
+        subst (λ l. StandsBefore l by id) (sym (order_split i rooted id front rest txn split own)) (has_before by id (txn_ids front) (txn_ids rest) there),
+        has_lookup (serial_outcomes cluster workload events) by (Gave []) (outcomes_once i rooted) whole.gave,
+        ap (λ t. next_mover t key had) (before_is i rooted id front rest txn split own) ∙ ap (option_map (λ m. m.by)) f.number,
+      )
+
+  causes_agree : (region : ℕ) (id : TxnId) (outcome : Outcome) → region < cluster.regions → Has (node_at (world_after cluster workload events) region).here.done (id, outcome)
+      → HasCause cluster workload events id outcome
+  causes_agree region id outcome lr h =
+      let r : HasReason cluster.procs (txns_of (world_after cluster workload events) (order_of events)) (opening_table cluster) (id, outcome) = reason_of i rooted region id outcome lr h in
+      cause_of id r.front r.rest r.txn r.is r.id outcome r.reason
 
 -- what was answered
 
@@ -237,53 +263,68 @@ answered_done cluster w region (Some (session, place)) a m f = go (outcome_at w 
     go None e l = absurd l
     go (Some outcome) e l = has_map (λ d. d.0) (node_at w region).here.done (a, outcome) (lookup_has (node_at w region).here.done a outcome e)
 
-module _ (cluster : Cluster) (ok : IsValidCluster cluster) (workload : Workload) (fits : IsValidWorkload cluster workload) where
-  real_time_at : (first : List Event) (region : ℕ) (session : Bytes) (middle : List Event) (other : ℕ) (name : Bytes) (last : List Event) (a : TxnId)
-      → AreLegal cluster workload (first ++ Answer region session ∷ middle ++ Submit other name ∷ last)
-      → IsAwaited cluster workload first region session a
-      → Has (order_of (first ++ Answer region session ∷ middle ++ Submit other name ∷ last)) (upcoming_id (world_after cluster workload (first ++ Answer region session ∷ middle)) other)
-      → StandsBefore (order_of (first ++ Answer region session ∷ middle ++ Submit other name ∷ last)) a (upcoming_id (world_after cluster workload (first ++ Answer region session ∷ middle)) other)
-  real_time_at first region session middle other name last a legal awaited executed =
-      subst (λ l. StandsBefore l a b) front.1 (stands_across (order_of (first ++ Answer region session ∷ middle)) front.0 a b
-      (any_front (λ y. y ≡ a) (order_of first) (order_of (first ++ Answer region session ∷ middle)) (order_front first (Answer region session ∷ middle)) answered)
-      (elim (any_append (λ y. y ≡ b) (order_of (first ++ Answer region session ∷ middle)) front.0 (subst (λ l. Has l b) (sym front.1) executed)) [
-        | inl h ↦ absurd (new h)
-        | inr h ↦ h
-      ]))
-    where
-      b : TxnId
-      b = upcoming_id (world_after cluster workload (first ++ Answer region session ∷ middle)) other
+-- what was answered before another attempt was submitted stands earlier
+real_time_at : {cluster : Cluster} {workload : Workload} (first : List Event) (region : ℕ) (session : Bytes) (middle : List Event) (other : ℕ) (name : Bytes) (last : List Event) (a : TxnId)
+    → IsLegalRun cluster workload (first ++ Answer region session ∷ middle ++ Submit other name ∷ last)
+    → IsAwaited cluster workload first region session a
+    → Has (order_of (first ++ Answer region session ∷ middle ++ Submit other name ∷ last)) (upcoming_id (world_after cluster workload (first ++ Answer region session ∷ middle)) other)
+    → StandsBefore (order_of (first ++ Answer region session ∷ middle ++ Submit other name ∷ last)) a (upcoming_id (world_after cluster workload (first ++ Answer region session ∷ middle)) other)
+real_time_at {cluster = cluster} {workload = workload} first region session middle other name last a run awaited executed =
+    subst (λ l. StandsBefore l a b) front.1 (stands_across (order_of before) front.0 a b
+    (any_front (λ y. y ≡ a) (order_of first) (order_of before) (order_front first (Answer region session ∷ middle)) answered)
+    (elim (any_append (λ y. y ≡ b) (order_of before) front.0 (subst (λ l. Has l b) (sym front.1) executed)) [
+      | inl h ↦ absurd (new h)
+      | inr h ↦ h
+    ]))
+  where
+    before : List Event
+    before = first ++ Answer region session ∷ middle
 
-      front : IsFront (order_of (first ++ Answer region session ∷ middle)) (order_of (first ++ Answer region session ∷ middle ++ Submit other name ∷ last))
-      front = order_front (first ++ Answer region session ∷ middle) (Submit other name ∷ last)
+    early : World
+    early = world_after cluster workload first
 
-      outer : AreLegal cluster workload (first ++ Answer region session ∷ middle) × AreLegalFrom cluster workload (world_after cluster workload (first ++ Answer region session ∷ middle)) (Submit other name ∷ last)
-      outer = legal_append cluster workload (opening_world cluster workload) (first ++ Answer region session ∷ middle) (Submit other name ∷ last) legal
+    late : World
+    late = world_after cluster workload before
 
-      inner : AreLegal cluster workload first × AreLegalFrom cluster workload (world_after cluster workload first) (Answer region session ∷ middle)
-      inner = legal_append cluster workload (opening_world cluster workload) first (Answer region session ∷ middle) outer.0
+    b : TxnId
+    b = upcoming_id late other
 
-      early : Inv cluster workload (world_after cluster workload first) (order_of first)
-      early = legal_keeps cluster ok workload fits first inner.0
+    front : IsFront (order_of before) (order_of (first ++ Answer region session ∷ middle ++ Submit other name ∷ last))
+    front = order_front before (Submit other name ∷ last)
 
-      late : Inv cluster workload (world_after cluster workload (first ++ Answer region session ∷ middle)) (order_of (first ++ Answer region session ∷ middle))
-      late = legal_keeps cluster ok workload fits (first ++ Answer region session ∷ middle) outer.0
+    outer : IsLegalRun cluster workload before × AreLegalFrom cluster workload late (Submit other name ∷ last)
+    outer = run_front before (Submit other name ∷ last) run
 
-      answered : Has (order_of first) a
-      answered = (early.ordered.executed a).1 (region, inner.1.0.regions, answered_done cluster (world_after cluster workload first) region (session_at workload.sessions (world_after cluster workload first).places region session) a inner.1.0.allowed awaited)
+    inner : IsLegalRun cluster workload first × AreLegalFrom cluster workload early (Answer region session ∷ middle)
+    inner = run_front first (Answer region session ∷ middle) outer.0
 
-      new : ¬ (Has (order_of (first ++ Answer region session ∷ middle)) b)
-      new h = next_unknown cluster workload (world_after cluster workload (first ++ Answer region session ∷ middle)) (order_of (first ++ Answer region session ∷ middle)) late other
-          (all_get (IsKnown (world_after cluster workload (first ++ Answer region session ∷ middle))) (order_of (first ++ Answer region session ∷ middle)) (order_known cluster workload (world_after cluster workload (first ++ Answer region session ∷ middle)) (order_of (first ++ Answer region session ∷ middle)) late) b h)
+    i : Inv cluster workload early (order_of first)
+    i = legal_keeps inner.0
 
-  -- all regions agree
-  pub legal_agree : (events : List Event) → AreLegal cluster workload events → Agree cluster workload events
-  legal_agree events legal = record {
-    outcomes = outcomes_agree cluster ok workload fits events legal;
-    tables = tables_agree cluster ok workload fits events legal;
-    real_time = λ first region session middle other name last a split awaited executed.
-        subst (λ l. StandsBefore (order_of l) a (upcoming_id (world_after cluster workload (first ++ Answer region session ∷ middle)) other)) (sym split)
-        (real_time_at first region session middle other name last a (subst (AreLegal cluster workload) split legal) awaited (subst (λ l. Has (order_of l) (upcoming_id (world_after cluster workload (first ++ Answer region session ∷ middle)) other)) split executed));
-    causes = causes_agree cluster ok workload fits events legal;
-    drained = drained_agree cluster ok workload fits events legal;
-  }
+    j : Inv cluster workload late (order_of before)
+    j = legal_keeps outer.0
+
+    answered : Has (order_of first) a
+    answered = (i.ordered.executed a).1 (region, inner.1.0.regions, answered_done cluster early region (session_at workload.sessions early.places region session) a inner.1.0.allowed awaited)
+
+    new : ¬ (Has (order_of before) b)
+    new h = next_unknown j other (all_get (IsKnown late) (order_of before) (order_known j) b h)
+
+-- all regions agree
+pub legal_agree : {cluster : Cluster} {workload : Workload} {events : List Event} → IsLegalRun cluster workload events → Agree cluster workload events
+legal_agree {cluster = cluster} {workload = workload} {events = events} run = record {
+  outcomes = outcomes_agree i rooted;
+  tables = tables_agree i rooted;
+  real_time = λ first region session middle other name last a split awaited executed.
+      let b : TxnId = upcoming_id (world_after cluster workload (first ++ Answer region session ∷ middle)) other in
+      subst (λ l. StandsBefore (order_of l) a b) (sym split)
+      (real_time_at first region session middle other name last a (subst (IsLegalRun cluster workload) split run) awaited (subst (λ l. Has (order_of l) b) split executed));
+  causes = causes_agree run;
+  drained = λ region other lr lo d e alike. drained_agree i rooted region other lr lo d e alike;
+}
+  where
+    i : Inv cluster workload (world_after cluster workload events) (order_of events)
+    i = legal_keeps run
+
+    rooted : Rooted cluster (world_after cluster workload events) (order_of events)
+    rooted = legal_roots run

@@ -39,7 +39,7 @@ pub record IsRequest (w : World) (home source : ℕ) (id : TxnId) : Type 0 where
   pub region : id.region ≡ source
   pub home_in : Has (homes_of submission.txn) home
 
-module _ (cluster : Cluster) (workload : Workload) (w : World) (order : List TxnId) (home source : ℕ) (lh : home < cluster.regions) (ls : source < cluster.regions) (i : Inv cluster workload w order) where
+module _ {cluster : Cluster} {workload : Workload} {w : World} {order : List TxnId} (i : Inv cluster workload w order) (home source : ℕ) (lh : home < cluster.regions) (ls : source < cluster.regions) where
   pub request_is : (id : TxnId) → Has (asked_of w source home) id → IsRequest w home source id
   request_is id h =
       let r : (s : Submission) × Has (node_at w source).submitted s × (s.txn.id ≡ id) × (has_home home s.txn ≡ true) = request_has home (node_at w source).submitted id (subst (λ l. Has l id) (i.asked source home ls lh) h) in
@@ -202,7 +202,7 @@ module _ (cluster : Cluster) (workload : Workload) (w : World) (order : List Txn
         view_is v q (λ h lo. (lengths q h lq (subst (λ m. h < m) nodes_now lo)).inserted)
         ∙ ap₂ fronts (keeps (λ n. n.here.inserted) refl q) logs_now
         ∙ fronts_grown (node_at w q).here.inserted (logs_of w) home (part ∷ []) le
-        ∙ sym (view_fronts cluster workload w order i q lq)
+        ∙ sym (view_fronts i q lq)
 
     -- the whole logs are longer, and well formed
 
@@ -221,7 +221,7 @@ module _ (cluster : Cluster) (workload : Workload) (w : World) (order : List Txn
       );
       down = record {
         once = i.ordered.down.once;
-        preceders = λ u t h p. i.ordered.down.preceders u t h ((preceders_stay (logs_of w) (logs_of v) full_longer full_well_formed u t (order_closed cluster workload w order i t h)).1 p);
+        preceders = λ u t h p. i.ordered.down.preceders u t h ((preceders_stay (logs_of w) (logs_of v) full_longer full_well_formed u t (order_closed i t h)).1 p);
       };
     }
 
@@ -269,7 +269,8 @@ pub record IsNextRequest (w : World) (home source : ℕ) (txn : Txn) : Type 0 wh
   pub request : IsRequest w home source txn.id
   pub found : txn_of w txn.id ≡ Some txn
 
-module _ (cluster : Cluster) (workload : Workload) (w : World) (order : List TxnId) (home source number : ℕ) (lh : home < cluster.regions) (ls : source < cluster.regions) (more : number < length (asked_of w source home)) (i : Inv cluster workload w order) where
+module _ {cluster : Cluster} {workload : Workload} {w : World} {order : List TxnId} (i : Inv cluster workload w order)
+    (home source number : ℕ) (lh : home < cluster.regions) (ls : source < cluster.regions) (more : number < length (asked_of w source home)) where
   -- an append leaves the world, or it places the next request
   pub append_cases : (next cluster workload w (Append home source number) ≡ w) ⊎ ((txn : Txn) × IsNextRequest w home source txn × (next cluster workload w (Append home source number) ≡ placed w home source (Some txn)))
   append_cases = go (eqb number (taken_of w home source)) refl
@@ -279,7 +280,7 @@ module _ (cluster : Cluster) (workload : Workload) (w : World) (order : List Txn
       go true e =
           let at : (id : TxnId) × (slice_get (asked_of w source home) number ≡ Some id) = at_place (asked_of w source home) number more in
           let turn : number ≡ taken_of w home source = equal_of_test number (taken_of w home source) e in
-          let r : IsRequest w home source at.0 = request_is cluster workload w order home source lh ls i at.0 (has_place (asked_of w source home) number at.0 at.1) in
+          let r : IsRequest w home source at.0 = request_is i home source lh ls at.0 (has_place (asked_of w source home) number at.0 at.1) in
           let id : at.0 ≡ r.submission.txn.id = sym r.same in
           inr (
             r.submission.txn,
@@ -294,5 +295,5 @@ module _ (cluster : Cluster) (workload : Workload) (w : World) (order : List Txn
   pub append_keeps : Inv cluster workload (next cluster workload w (Append home source number)) order
   append_keeps = elim append_cases [
     | inl e ↦ subst (λ x. Inv cluster workload x order) (sym e) i
-    | inr r ↦ subst (λ x. Inv cluster workload x order) (sym r.2) (placed_keeps cluster workload w order home source lh ls i r.0 r.1.number r.1.request r.1.found)
+    | inr r ↦ subst (λ x. Inv cluster workload x order) (sym r.2) (placed_keeps i home source lh ls r.0 r.1.number r.1.request r.1.found)
   ]

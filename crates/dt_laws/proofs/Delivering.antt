@@ -19,7 +19,8 @@ use Rattle.dt_laws.proofs.Views.{view_is}
 use Rattle.dt_laws.proofs.Known.{view_fronts}
 use Rattle.dt_txn.specs.Replica.{fronts, done_ids}
 
-module _ (cluster : Cluster) (workload : Workload) (w : World) (order : List TxnId) (region home last : ℕ) (lr : region < cluster.regions) (lh : home < cluster.regions) (rises : received_of w region home ≤ last) (reaches : last ≤ length (log_of w home)) (i : Inv cluster workload w order) where
+module _ {cluster : Cluster} {workload : Workload} {w : World} {order : List TxnId} (i : Inv cluster workload w order)
+    (region home last : ℕ) (lr : region < cluster.regions) (lh : home < cluster.regions) (rises : received_of w region home ≤ last) (reaches : last ≤ length (log_of w home)) where
   n' : Node
   n' = record (node_at w region) { received = set (node_at w region).received home last }
 
@@ -117,7 +118,7 @@ module _ (cluster : Cluster) (workload : Workload) (w : World) (order : List Txn
   view_same q lq =
       view_is v q (λ other lo. (lengths q other lq (subst (λ m. other < m) (length-set w.nodes region n' ∙ i.nodes) lo)).inserted)
       ∙ (λ j. fronts (keeps (λ n. n.here.inserted) refl q j) (logs_same j))
-      ∙ sym (view_fronts cluster workload w order i q lq)
+      ∙ sym (view_fronts i q lq)
 
   pub received_keeps : Inv cluster workload (received w region home last) order
   unfolding v n'
@@ -135,8 +136,10 @@ module _ (cluster : Cluster) (workload : Workload) (w : World) (order : List Txn
     sessions = sessions_kept cluster w v workload (keeps (λ n. n.submitted) refl) refl i.sessions;
   }
 
-pub deliver_keeps : (cluster : Cluster) (workload : Workload) (w : World) (order : List TxnId) (region home first last : ℕ) → region < cluster.regions → home < cluster.regions → last ≤ length (log_of w home) → Inv cluster workload w order → Inv cluster workload (next cluster workload w (Deliver region home first last)) order
-deliver_keeps cluster workload w order region home first last lr lh reaches i = go (leb first (received_of w region home) && ltb (received_of w region home) last) refl
+pub deliver_keeps : {cluster : Cluster} {workload : Workload} {w : World} {order : List TxnId} → Inv cluster workload w order
+    → (region home first last : ℕ) → region < cluster.regions → home < cluster.regions → last ≤ length (log_of w home)
+    → Inv cluster workload (next cluster workload w (Deliver region home first last)) order
+deliver_keeps {cluster = cluster} {workload = workload} {w = w} {order = order} i region home first last lr lh reaches = go (leb first (received_of w region home) && ltb (received_of w region home) last) refl
   where
     rises : (a b : Bool) → (a && b) ≡ true → b ≡ true
     rises true b e = e
@@ -146,5 +149,5 @@ deliver_keeps cluster workload w order region home first last lr lh reaches i = 
     below e = grind (arith, nat_tests)
 
     go : (b : Bool) → leb first (received_of w region home) && ltb (received_of w region home) last ≡ b → Inv cluster workload (cond b (received w region home last) w) order
-    go true e = received_keeps cluster workload w order region home last lr lh (below (rises (leb first (received_of w region home)) (ltb (received_of w region home) last) e)) reaches i
+    go true e = received_keeps i region home last lr lh (below (rises (leb first (received_of w region home)) (ltb (received_of w region home) last) e)) reaches
     go false e = i

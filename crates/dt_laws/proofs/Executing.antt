@@ -43,7 +43,8 @@ run_more cluster start txns txn here r = record {
   table = ap (after cluster.procs txn) r.table ∙ sym (table_after_append cluster.procs txns (txn ∷ []) start);
 }
 
-module _ (cluster : Cluster) (workload : Workload) (w : World) (order : List TxnId) (region : ℕ) (id : TxnId) (lr : region < cluster.regions) (may : MayStep (received_logs w region) (node_at w region).here (Execute region id)) (txn : Txn) (found : txn_of w id ≡ Some txn) (i : Inv cluster workload w order) where
+module _ {cluster : Cluster} {workload : Workload} {w : World} {order : List TxnId} (i : Inv cluster workload w order)
+    (region : ℕ) (id : TxnId) (lr : region < cluster.regions) (may : MayStep (received_logs w region) (node_at w region).here (Execute region id)) (txn : Txn) (found : txn_of w id ≡ Some txn) where
   n' : Node
   n' = record (node_at w region) { here = executed cluster.procs (node_at w region).here (Some txn) }
 
@@ -152,7 +153,7 @@ module _ (cluster : Cluster) (workload : Workload) (w : World) (order : List Txn
       λ r. elim (was r.0 x r.2) [ inl k ↦ has_longer order (id ∷ []) x ((i.ordered.executed x).1 (r.0, r.1, k)) | inr e ↦ subst (Has (order ++ id ∷ [])) e (has_last order id) ],
     );
     down = subst (λ l. IsDown (Precedes l) (order ++ id ∷ [])) (sym logs_same) (down_push (Precedes (logs_of w)) order id i.ordered.down new
-        (λ u p. (i.ordered.executed u).1 (region, lr, may.preceders u ((precedes_full cluster workload w order i region u id lr may.closed).1 p))));
+        (λ u p. (i.ordered.executed u).1 (region, lr, may.preceders u ((precedes_full i region u id lr may.closed).1 p))));
   }
 
   with_order : (later : List TxnId) → IsOrder cluster.regions v later → Inv cluster workload v later
@@ -187,5 +188,6 @@ module _ (cluster : Cluster) (workload : Workload) (w : World) (order : List Txn
   execute_first new = subst (λ x. Inv cluster workload x (order ++ id ∷ [])) world_is (with_order (order ++ id ∷ []) (ordered_first new))
 
 -- an executable id was submitted
-pub executable_known : (cluster : Cluster) (workload : Workload) (w : World) (order : List TxnId) (region : ℕ) (id : TxnId) → region < cluster.regions → MayStep (received_logs w region) (node_at w region).here (Execute region id) → Inv cluster workload w order → IsKnown w id
-executable_known cluster workload w order region id lr may i = closed_known cluster workload w order i id (closed_full cluster workload w order i region id lr may.closed)
+pub executable_known : {cluster : Cluster} {workload : Workload} {w : World} {order : List TxnId} → Inv cluster workload w order
+    → (region : ℕ) (id : TxnId) → region < cluster.regions → MayStep (received_logs w region) (node_at w region).here (Execute region id) → IsKnown w id
+executable_known i region id lr may = closed_known i id (closed_full i region id lr may.closed)

@@ -40,7 +40,7 @@ pub record WaitsAt (cluster : Cluster) (w : World) (session : Session) (place : 
   pub attempt_from : 1 ≤ submission.attempt
   pub attempt_to : submission.attempt ≤ cluster.tries
 
-module _ (cluster : Cluster) (workload : Workload) (w : World) (order : List TxnId) (i : Inv cluster workload w order) where
+module _ {cluster : Cluster} {workload : Workload} {w : World} {order : List TxnId} (i : Inv cluster workload w order) where
   -- logs
 
   -- the ids in a log are distinct
@@ -71,8 +71,11 @@ module _ (cluster : Cluster) (workload : Workload) (w : World) (order : List Txn
   -- a submitted transaction is valid, and has the id by which it is found
   pub transaction_valid : (id : TxnId) (txn : Txn) → txn_of w id ≡ Some txn → IsValid cluster.procs cluster.regions txn × (txn.id ≡ id) × (id.region < cluster.regions)
   transaction_valid id txn e =
-      let r : (s : Submission) × Has (submissions w) s × (s.txn ≡ txn) × (s.txn.id ≡ id) = txn_there w id txn e in
-      (subst (IsValid cluster.procs cluster.regions) r.2 (all_get (λ s. IsValid cluster.procs cluster.regions s.txn) (submissions w) i.valid r.0 r.1), txn_id w id txn e, subst (λ x. x.region < cluster.regions) r.3 (home_region cluster.regions w i.nodes i.ids r.0 r.1).0)
+      let r : (s : Submission) × Has (submissions w) s × (s.txn ≡ txn) × (s.txn.id ≡ id) = txn_there w id txn e in (
+        subst (IsValid cluster.procs cluster.regions) r.2 (all_get (λ s. IsValid cluster.procs cluster.regions s.txn) (submissions w) i.valid r.0 r.1),
+        txn_id w id txn e,
+        subst (λ x. x.region < cluster.regions) r.3 (home_region cluster.regions w i.nodes i.ids r.0 r.1).0,
+      )
 
   -- a new id has no transaction, no part in any log, and no region executed it
   pub new_unknown : (region : ℕ) → txn_of w (upcoming_id w region) ≡ None
@@ -80,16 +83,19 @@ module _ (cluster : Cluster) (workload : Workload) (w : World) (order : List Txn
     where
       go : (o : Option Txn) → txn_of w (upcoming_id w region) ≡ o → txn_of w (upcoming_id w region) ≡ None
       go None e = e
-      go (Some txn) e = absurd (next_unknown cluster workload w order i region (txn, e))
+      go (Some txn) e = absurd (next_unknown i region (txn, e))
 
   pub new_not_in_log : (region home : ℕ) → home < cluster.regions → ¬ (Has (ids_of (log_of w home)) (upcoming_id w region))
-  new_not_in_log region home lt h = let k : (txn : Txn) × (txn_of w (upcoming_id w region) ≡ Some txn) × ((upcoming_id w region).region < cluster.regions) = id_known cluster.regions w i.nodes i.ids i.asked i.logs home (upcoming_id w region) lt h in next_unknown cluster workload w order i region (k.0, k.1)
+  new_not_in_log region home lt h =
+      let id : TxnId = upcoming_id w region in
+      let k : (txn : Txn) × (txn_of w id ≡ Some txn) × (id.region < cluster.regions) = id_known cluster.regions w i.nodes i.ids i.asked i.logs home id lt h in
+      next_unknown i region (k.0, k.1)
 
   pub new_not_done : (region at : ℕ) → at < cluster.regions → ¬ (Has (done_ids (node_at w at).here) (upcoming_id w region))
-  new_not_done region at lt h = next_unknown cluster workload w order i region (all_get (IsKnown w) (done_ids (node_at w at).here) (done_known cluster workload w order i at lt) (upcoming_id w region) h)
+  new_not_done region at lt h = next_unknown i region (all_get (IsKnown w) (done_ids (node_at w at).here) (done_known i at lt) (upcoming_id w region) h)
 
   pub new_not_in_order : (region : ℕ) → ¬ (Has order (upcoming_id w region))
-  new_not_in_order region h = next_unknown cluster workload w order i region (all_get (IsKnown w) order (order_known cluster workload w order i) (upcoming_id w region) h)
+  new_not_in_order region h = next_unknown i region (all_get (IsKnown w) order (order_known i) (upcoming_id w region) h)
 
   -- views
 
@@ -100,16 +106,16 @@ module _ (cluster : Cluster) (workload : Workload) (w : World) (order : List Txn
   received_within region home lr lh = (i.lengths region home lr lh).received
 
   pub view_is_fronts : (region : ℕ) → region < cluster.regions → view_at w region ≡ fronts (node_at w region).here.inserted (logs_of w)
-  view_is_fronts region lr = view_fronts cluster workload w order i region lr
+  view_is_fronts region lr = view_fronts i region lr
 
   pub view_is_front : (region : ℕ) → region < cluster.regions → IsLonger (view_at w region) (logs_of w)
-  view_is_front region lr = view_longer cluster workload w order i region lr
+  view_is_front region lr = view_longer i region lr
 
   pub view_formed : (region : ℕ) → region < cluster.regions → IsWellFormed (view_at w region)
-  view_formed region lr = view_well_formed cluster workload w order i region lr
+  view_formed region lr = view_well_formed i region lr
 
   pub logs_formed : IsWellFormed (logs_of w)
-  logs_formed = full_well_formed cluster workload w order i
+  logs_formed = full_well_formed i
 
   -- sessions
 
@@ -117,7 +123,8 @@ module _ (cluster : Cluster) (workload : Workload) (w : World) (order : List Txn
   pub places_parallel : length workload.sessions ≡ length w.places
   places_parallel = pairwise_length (IsPlaceOf cluster.tries w) workload.sessions w.places i.sessions.places
 
-  pub session_placed : (region : ℕ) (name : Bytes) (session : Session) (place : Place) → session_at workload.sessions w.places region name ≡ Some (session, place) → Has workload.sessions session × (session.name ≡ name) × (session.region ≡ region) × IsPlaceOf cluster.tries w session place
+  pub session_placed : (region : ℕ) (name : Bytes) (session : Session) (place : Place) → session_at workload.sessions w.places region name ≡ Some (session, place)
+      → Has workload.sessions session × (session.name ≡ name) × (session.region ≡ region) × IsPlaceOf cluster.tries w session place
   session_placed region name session place e = session_found (IsPlaceOf cluster.tries w) workload.sessions w.places region name session place i.sessions.places e
 
   -- a session that waits, waits for an attempt of its next call, of its own region
@@ -126,7 +133,7 @@ module _ (cluster : Cluster) (workload : Workload) (w : World) (order : List Txn
     where
       of_waiting : IsWaiting cluster.tries (node_at w session.region).submitted session place.answered id → WaitsAt cluster w session place id
       of_waiting q =
-          let found : submission_of w id ≡ Some q.submission = awaited_attempt cluster workload w order i cluster.tries session.region place.answered session id q in
+          let found : submission_of w id ≡ Some q.submission = awaited_attempt i cluster.tries session.region place.answered session id q in
           let at : (j : ℕ) × (slice_get (node_at w session.region).submitted j ≡ Some q.submission) = place_of (node_at w session.region).submitted q.submission q.there in
           record {
             region = ap (λ x. x.region) (sym q.same ∙ i.ids session.region lr at.0 q.submission at.1);

@@ -14,12 +14,13 @@ use Rattle.dt_workload.specs.declared.Workload.{Workload}
 use Rattle.dt_workload.specs.Valid.{IsValidWorkload}
 use Rattle.dt_session.specs.World.{World, Place, no_node, node_at, received_of, txn_of, session_at}
 use Rattle.dt_session.specs.Step.{IsLegal, placed, received, moved_on, answered, next}
-use Rattle.dt_session.specs.Run.{world_after, AreLegal, order_of}
+use Rattle.dt_session.specs.Run.{world_after, order_of}
+use Rattle.dt_laws.specs.LegalRun.{IsLegalRun}
 use Rattle.dt_laws.specs.Invariant.{Inv}
 use Rattle.dt_laws.proofs.Submissions.{Keeps, txn_same}
-use Rattle.dt_laws.proofs.Submitting.{Submits, submits, submitted_txns}
+use Rattle.dt_laws.proofs.Submitting.{Submits, submits, made_txns}
 use Rattle.dt_laws.proofs.Appending.{append_cases, submitted_placed}
-use Rattle.dt_laws.proofs.Runs.{world_after_more, legal_append, legal_more}
+use Rattle.dt_laws.proofs.Runs.{world_after_more, run_front, run_more}
 use Rattle.dt_laws.proofs.Keeping.{legal_keeps}
 
 step_same : (cluster : Cluster) (w : World) (region : ℕ) (event : Event) → Keeps (λ n. n.submitted) w (moved_on cluster w region event)
@@ -36,27 +37,33 @@ answer_same : (workload : Workload) (w : World) (region : ℕ) (o : Option (Sess
 answer_same workload w region None = λ q. refl
 answer_same workload w region (Some (session, place)) = λ q. refl
 
-module _ (cluster : Cluster) (ok : IsValidCluster cluster) (workload : Workload) (fits : IsValidWorkload cluster workload) where
+module _ {cluster : Cluster} {workload : Workload} (ok : IsValidCluster cluster) (fits : IsValidWorkload cluster workload) where
   -- a legal event leaves the transactions of ids
-  pub next_txns : (w : World) (order : List TxnId) (event : Event) → IsLegal cluster workload w event → Inv cluster workload w order → (id : TxnId) (txn : Txn) → txn_of w id ≡ Some txn → txn_of (next cluster workload w event) id ≡ Some txn
+  pub next_txns : (w : World) (order : List TxnId) (event : Event) → IsLegal cluster workload w event → Inv cluster workload w order
+      → (id : TxnId) (txn : Txn) → txn_of w id ≡ Some txn → txn_of (next cluster workload w event) id ≡ Some txn
   next_txns w order (Submit region name) l i id txn e =
-      let r : Submits cluster workload w region name = submits cluster ok workload w order region name l.allowed i in
-      subst (λ x. txn_of x id ≡ Some txn) (sym r.next) (submitted_txns cluster ok workload fits w order region r.session r.place r.call l.regions r.member r.here (subst (λ n. session_at workload.sessions w.places region n ≡ Some (r.session, r.place)) (sym r.named) r.found) r.wants r.on i id txn e)
-  next_txns w order (Append home source number) l i id txn e = elim (append_cases cluster workload w order home source number l.regions.0 l.regions.1 l.allowed i) [
+      let r : Submits cluster workload w region name = submits i ok region name l.allowed in
+      subst (λ x. txn_of x id ≡ Some txn) (sym r.next) (made_txns i ok region name fits l.regions r id txn e)
+  next_txns w order (Append home source number) l i id txn e = elim (append_cases i home source number l.regions.0 l.regions.1 l.allowed) [
     | inl same ↦ subst (λ x. txn_of x id ≡ Some txn) (sym same) e
-    | inr r ↦ subst (λ x. txn_of x id ≡ Some txn) (sym r.2) (txn_same w (placed w home source (Some r.0)) (submitted_placed cluster workload w order home source l.regions.0 l.regions.1 i r.0 r.1.number r.1.request r.1.found) id ∙ e)
+    | inr r ↦ subst (λ x. txn_of x id ≡ Some txn) (sym r.2) (txn_same w (placed w home source (Some r.0)) (submitted_placed i home source l.regions.0 l.regions.1 r.0 r.1.number r.1.request r.1.found) id ∙ e)
   ]
-  next_txns w order (Deliver region home first last) l i id txn e = txn_same w (next cluster workload w (Deliver region home first last)) (deliver_same w region home last (leb first (received_of w region home) && ltb (received_of w region home) last)) id ∙ e
+  next_txns w order (Deliver region home first last) l i id txn e =
+      let moves : Bool = leb first (received_of w region home) && ltb (received_of w region home) last in
+      txn_same w (next cluster workload w (Deliver region home first last)) (deliver_same w region home last moves) id ∙ e
   next_txns w order (Insert region home) l i id txn e = txn_same w (moved_on cluster w region (Insert region home)) (step_same cluster w region (Insert region home)) id ∙ e
   next_txns w order (Resolve region ids) l i id txn e = txn_same w (moved_on cluster w region (Resolve region ids)) (step_same cluster w region (Resolve region ids)) id ∙ e
   next_txns w order (Execute region x) l i id txn e = txn_same w (moved_on cluster w region (Execute region x)) (step_same cluster w region (Execute region x)) id ∙ e
-  next_txns w order (Answer region session) l i id txn e = txn_same w (answered workload w region (session_at workload.sessions w.places region session)) (answer_same workload w region (session_at workload.sessions w.places region session)) id ∙ e
+  next_txns w order (Answer region session) l i id txn e =
+      txn_same w (next cluster workload w (Answer region session)) (answer_same workload w region (session_at workload.sessions w.places region session)) id ∙ e
 
-  -- so do all later ones
-  pub later_txns : (xs ys : List Event) → AreLegal cluster workload (xs ++ ys) → (id : TxnId) (txn : Txn) → txn_of (world_after cluster workload xs) id ≡ Some txn → txn_of (world_after cluster workload (xs ++ ys)) id ≡ Some txn
-  later_txns xs [] legal id txn e = subst (λ l. txn_of (world_after cluster workload l) id ≡ Some txn) (sym (append-nil xs)) e
-  later_txns xs (y ∷ ys) legal id txn e =
-      let all : AreLegal cluster workload (xs ++ y ∷ [] ++ ys) = subst (AreLegal cluster workload) (sym (append_assoc xs (y ∷ []) ys)) legal in
-      let more : AreLegal cluster workload xs × IsLegal cluster workload (world_after cluster workload xs) y = legal_more cluster workload xs y (legal_append cluster workload _ (xs ++ y ∷ []) ys all).0 in
-      let now : txn_of (world_after cluster workload (xs ++ y ∷ [])) id ≡ Some txn = subst (λ w. txn_of w id ≡ Some txn) (sym (world_after_more cluster workload xs y)) (next_txns (world_after cluster workload xs) (order_of xs) y more.1 (legal_keeps cluster ok workload fits xs more.0) id txn e) in
-      subst (λ l. txn_of (world_after cluster workload l) id ≡ Some txn) (append_assoc xs (y ∷ []) ys) (later_txns (xs ++ y ∷ []) ys all id txn now)
+-- so do all later ones
+pub later_txns : {cluster : Cluster} {workload : Workload} (xs ys : List Event) → IsLegalRun cluster workload (xs ++ ys) → (id : TxnId) (txn : Txn)
+    → txn_of (world_after cluster workload xs) id ≡ Some txn → txn_of (world_after cluster workload (xs ++ ys)) id ≡ Some txn
+later_txns {cluster = cluster} {workload = workload} xs [] run id txn e = subst (λ l. txn_of (world_after cluster workload l) id ≡ Some txn) (sym (append-nil xs)) e
+later_txns {cluster = cluster} {workload = workload} xs (y ∷ ys) run id txn e =
+    let all : IsLegalRun cluster workload (xs ++ y ∷ [] ++ ys) = subst (IsLegalRun cluster workload) (sym (append_assoc xs (y ∷ []) ys)) run in
+    let more : IsLegalRun cluster workload xs × IsLegal cluster workload (world_after cluster workload xs) y = run_more (run_front (xs ++ y ∷ []) ys all).0 in
+    let now : txn_of (world_after cluster workload (xs ++ y ∷ [])) id ≡ Some txn = subst (λ w. txn_of w id ≡ Some txn) (sym (world_after_more cluster workload xs y))
+    (next_txns run.sound run.fits (world_after cluster workload xs) (order_of xs) y more.1 (legal_keeps more.0) id txn e) in
+    subst (λ l. txn_of (world_after cluster workload l) id ≡ Some txn) (append_assoc xs (y ∷ []) ys) (later_txns (xs ++ y ∷ []) ys all id txn now)

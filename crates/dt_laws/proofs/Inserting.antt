@@ -22,7 +22,8 @@ use Rattle.dt_laws.proofs.Submissions.{Keeps, txns_same}
 use Rattle.dt_laws.proofs.Views.{view_is, logs_length, fronts_more, fronts_longer, received_log}
 use Rattle.dt_laws.proofs.Known.{view_fronts, full_well_formed}
 
-module _ (cluster : Cluster) (workload : Workload) (w : World) (order : List TxnId) (region home : ℕ) (lr : region < cluster.regions) (lh : home < cluster.regions) (may : MayStep (received_logs w region) (node_at w region).here (Insert region home)) (i : Inv cluster workload w order) where
+module _ {cluster : Cluster} {workload : Workload} {w : World} {order : List TxnId} (i : Inv cluster workload w order)
+    (region home : ℕ) (lr : region < cluster.regions) (lh : home < cluster.regions) (may : MayStep (received_logs w region) (node_at w region).here (Insert region home)) where
   ins : List ℕ
   ins = (node_at w region).here.inserted
 
@@ -123,14 +124,14 @@ module _ (cluster : Cluster) (workload : Workload) (w : World) (order : List Txn
       by : Either (q ≡ region) → IsSound (view_at v q) (node_at v q).here.resolved (done_ids (node_at v q).here)
       by (inr n) =
           let same : node_at v q ≡ node_at w q = unfold v in get_or-set_other w.nodes region q n' no_node n in
-          subst (λ x. IsSound x (node_at v q).here.resolved (done_ids (node_at v q).here)) (sym (view_now q lq ∙ ap (λ x. fronts x.here.inserted (logs_of w)) same ∙ sym (view_fronts cluster workload w order i q lq)))
+          subst (λ x. IsSound x (node_at v q).here.resolved (done_ids (node_at v q).here)) (sym (view_now q lq ∙ ap (λ x. fronts x.here.inserted (logs_of w)) same ∙ sym (view_fronts i q lq)))
           (subst (λ x. IsSound (view_at w q) x.here.resolved (done_ids x.here)) (sym same) before)
       by (inl e) = subst (λ x. IsSound (view_at v x) (node_at v x).here.resolved (done_ids (node_at v x).here)) (sym e) (
           let long : view_at v region ≡ fronts ins' (logs_of w) = view_now region lr ∙ ap (λ x. fronts x.here.inserted (logs_of w)) node in
-          let longer : IsLonger (view_at w region) (fronts ins' (logs_of w)) = subst (λ x. IsLonger x (fronts ins' (logs_of w))) (sym (view_fronts cluster workload w order i region lr)) (fronts_more (node_at w region).here.inserted ins' (logs_of w) (λ other lo. (lengths_here other (subst (λ m. other < m) i.nodes (subst (λ m. other < m) (logs_length w) lo))).1)) in
+          let longer : IsLonger (view_at w region) (fronts ins' (logs_of w)) = subst (λ x. IsLonger x (fronts ins' (logs_of w))) (sym (view_fronts i region lr)) (fronts_more (node_at w region).here.inserted ins' (logs_of w) (λ other lo. (lengths_here other (subst (λ m. other < m) i.nodes (subst (λ m. other < m) (logs_length w) lo))).1)) in
           subst (λ x. IsSound x (node_at v region).here.resolved (done_ids (node_at v region).here)) (sym long)
           (subst (λ x. IsSound (fronts ins' (logs_of w)) x.here.resolved (done_ids x.here)) (sym node)
-          (sound_longer (view_at w region) (fronts ins' (logs_of w)) longer (well_formed_front (fronts ins' (logs_of w)) (logs_of w) (fronts_longer ins' (logs_of w)) (full_well_formed cluster workload w order i)) (node_at w region).here.resolved (done_ids (node_at w region).here) (i.sound region lr))))
+          (sound_longer (view_at w region) (fronts ins' (logs_of w)) longer (well_formed_front (fronts ins' (logs_of w)) (logs_of w) (fronts_longer ins' (logs_of w)) (full_well_formed i)) (node_at w region).here.resolved (done_ids (node_at w region).here) (i.sound region lr))))
 
   pub insert_keeps : Inv cluster workload (moved_on cluster w region (Insert region home)) order
   unfolding v n'

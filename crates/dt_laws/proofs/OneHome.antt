@@ -26,9 +26,9 @@ use Rattle.dt_cluster.specs.declared.Cluster.{Cluster}
 use Rattle.dt_workload.specs.declared.Session.{Session}
 use Rattle.dt_workload.specs.declared.Wanted.{Wanted}
 use Rattle.dt_workload.specs.declared.Workload.{Workload}
-use Rattle.dt_session.specs.World.{World, Submission, node_at, opening_table, opening_world, logs_of, log_of, view_at, submissions, txn_of}
+use Rattle.dt_session.specs.World.{World, Submission, node_at, opening_table, logs_of, log_of, view_at, submissions, txn_of}
 use Rattle.dt_session.specs.Step.{IsLegal, body_of}
-use Rattle.dt_session.specs.Run.{AreLegal, AreLegalFrom, world_after, txns_of, order_of}
+use Rattle.dt_session.specs.Run.{AreLegalFrom, world_after, txns_of, order_of}
 use Rattle.dt_session.specs.OneHome.{homes_at_first, HasOneHome, CallsHaveOneHome}
 use Rattle.dt_laws.specs.LegalRun.{IsLegalRun}
 use Rattle.dt_laws.specs.Invariant.{IsPartAt, IsSubmissionOf, IsRooted, Rooted, history_of, Inv}
@@ -36,7 +36,7 @@ use Rattle.dt_laws.proofs.Submissions.{home_region, txn_there}
 use Rattle.dt_laws.proofs.Known.{view_longer, view_well_formed, full_well_formed}
 use Rattle.dt_laws.proofs.Annotating.{txns_submitted, unmoved_at_first}
 use Rattle.dt_laws.proofs.Rooting.{part_there}
-use Rattle.dt_laws.proofs.Runs.{legal_append}
+use Rattle.dt_laws.proofs.Runs.{run_front}
 use Rattle.dt_laws.proofs.Keeping.{legal_keeps}
 use Rattle.dt_laws.proofs.RootedEvents.{legal_roots}
 
@@ -70,12 +70,13 @@ one_at_first : (cluster : Cluster) (body : Body) → HasOneHome cluster body →
 one_at_first cluster (Call proc args) one = one
 one_at_first cluster (Move key target) one = absurd one
 
-module _ (cluster : Cluster) (workload : Workload) (w : World) (order : List TxnId) (i : Inv cluster workload w order) (rooted : Rooted cluster w order) (calls : CallsHaveOneHome cluster workload) where
+module _ {cluster : Cluster} {workload : Workload} {w : World} {order : List TxnId} (i : Inv cluster workload w order) (rooted : Rooted cluster w order) (calls : CallsHaveOneHome cluster workload) where
   -- each submission does a call of the workload
   body_one : (s : Submission) → Has (submissions w) s → HasOneHome cluster s.txn.body
   body_one s h =
       let at : (s.txn.id.region < cluster.regions) × Has (node_at w s.txn.id.region).submitted s = home_region cluster.regions w i.nodes i.ids s h in
-      let known : AnyIn (IsSubmissionOf cluster.tries s.txn.id.region s) workload.sessions = all_get (λ x. AnyIn (IsSubmissionOf cluster.tries s.txn.id.region x) workload.sessions) (node_at w s.txn.id.region).submitted (i.sessions.known s.txn.id.region at.0) s at.1 in
+      let known : AnyIn (IsSubmissionOf cluster.tries s.txn.id.region s) workload.sessions =
+      all_get (λ x. AnyIn (IsSubmissionOf cluster.tries s.txn.id.region x) workload.sessions) (node_at w s.txn.id.region).submitted (i.sessions.known s.txn.id.region at.0) s at.1 in
       let r : (session : Session) × Has workload.sessions session × IsSubmissionOf cluster.tries s.txn.id.region s session = any_get (IsSubmissionOf cluster.tries s.txn.id.region s) workload.sessions known in
       let its : AllIn (λ call. HasOneHome cluster (body_of call)) r.0.calls = all_get (λ session. AllIn (λ call. HasOneHome cluster (body_of call)) session.calls) workload.sessions calls r.0 r.1 in
       subst (HasOneHome cluster) (sym r.2.of_call.body) (all_get (λ call. HasOneHome cluster (body_of call)) r.0.calls its r.2.of_call.call (has_place r.0.calls r.2.of_call.place r.2.of_call.call r.2.of_call.called))
@@ -104,7 +105,8 @@ module _ (cluster : Cluster) (workload : Workload) (w : World) (order : List Txn
       let valid : IsValid cluster.procs cluster.regions s.txn = all_get (λ x. IsValid cluster.procs cluster.regions x.txn) (submissions w) i.valid s h in
       let listed : map (λ a. a.home) s.txn.access ≡ map (λ a. a.home) (map (annotated (opening_table cluster)) (map used_of s.txn.access)) =
       homes_listed cluster s.txn.access (all_put (λ a. a.home ≡ home_of (opening_table cluster) a.key) s.txn.access (entry_home s h)) in
-      let first : map (λ a. a.home) s.txn.access ≡ map (λ a. a.home) (map (annotated (opening_table cluster)) (uses_of cluster.procs s.txn.body)) = listed ∙ ap (λ us. map (λ a. a.home) (map (annotated (opening_table cluster)) us)) valid.uses in
+      let first : map (λ a. a.home) s.txn.access ≡ map (λ a. a.home) (map (annotated (opening_table cluster)) (uses_of cluster.procs s.txn.body)) =
+      listed ∙ ap (λ us. map (λ a. a.home) (map (annotated (opening_table cluster)) us)) valid.uses in
       ap (λ homes. length (set_of (homes ++ targets_of s.txn.body))) first ∙ one_at_first cluster s.txn.body (body_one s h)
 
   part_one : (home : ℕ) (p : Part) → IsPartAt w home p → length p.homes ≡ 1
@@ -114,44 +116,45 @@ module _ (cluster : Cluster) (workload : Workload) (w : World) (order : List Txn
 
   -- each transaction of the logs, and of each region's view, has one home
   pub logs_one : HasOneHomeEach (logs_of w)
-  logs_one = all_from_at (AllIn (λ p. length p.homes ≡ 1)) [] (logs_of w) (λ home. all_put (λ p. length p.homes ≡ 1) (get_or (logs_of w) home []) (λ p h. part_one home p (part_there cluster workload w order i home p h)))
+  logs_one = all_from_at (AllIn (λ p. length p.homes ≡ 1)) [] (logs_of w) (λ home. all_put (λ p. length p.homes ≡ 1) (get_or (logs_of w) home []) (λ p h. part_one home p (part_there i home p h)))
 
   pub view_one : (region : ℕ) → region < cluster.regions → HasOneHomeEach (view_at w region)
-  view_one region lr = one_home_front (view_at w region) (logs_of w) (view_longer cluster workload w order i region lr) logs_one
+  view_one region lr = one_home_front (view_at w region) (logs_of w) (view_longer i region lr) logs_one
 
-module _ (cluster : Cluster) (workload : Workload) (events : List Event) (run : IsLegalRun cluster workload events) (calls : CallsHaveOneHome cluster workload) where
+module _ {cluster : Cluster} {workload : Workload} {events : List Event} (run : IsLegalRun cluster workload events) (calls : CallsHaveOneHome cluster workload) where
   w : World
   w = world_after cluster workload events
 
   i : Inv cluster workload w (order_of events)
   unfolding w
-  i = legal_keeps cluster run.sound workload run.fits events run.legal
+  i = legal_keeps run
 
   rooted : Rooted cluster w (order_of events)
   unfolding w
-  rooted = legal_roots cluster run.sound workload run.fits events run.legal
+  rooted = legal_roots run
 
   -- each class has one member, in the whole logs and in each region's view
   pub class_is_single : (t : TxnId) (ids : List TxnId) → IsClass (logs_of (world_after cluster workload events)) t ids → ids ≡ t ∷ []
   unfolding w
-  class_is_single t ids c = class_single (logs_of w) (full_well_formed cluster workload w (order_of events) i) (logs_one cluster workload w (order_of events) i rooted calls) t ids c
+  class_is_single t ids c = class_single (logs_of w) (full_well_formed i) (logs_one i rooted calls) t ids c
 
   pub class_at_is_single : (region : ℕ) → region < cluster.regions → (t : TxnId) (ids : List TxnId) → IsClass (view_at (world_after cluster workload events) region) t ids → ids ≡ t ∷ []
   unfolding w
   class_at_is_single region lr t ids c =
-      class_single (view_at w region) (view_well_formed cluster workload w (order_of events) i region lr) (view_one cluster workload w (order_of events) i rooted calls region lr) t ids c
+      class_single (view_at w region) (view_well_formed i region lr) (view_one i rooted calls region lr) t ids c
 
   -- so no resolution is legal
   pub no_resolution : (region : ℕ) (ids : List TxnId) → ¬ (IsLegal cluster workload (world_after cluster workload events) (Resolve region ids))
   unfolding w
   no_resolution region ids l =
-      none_resolvable (view_at w region) (view_well_formed cluster workload w (order_of events) i region l.regions) (view_one cluster workload w (order_of events) i rooted calls region l.regions)
+      none_resolvable (view_at w region) (view_well_formed i region l.regions) (view_one i rooted calls region l.regions)
       (node_at w region).here.resolved (done_ids (node_at w region).here) ids l.allowed
 
 -- and none occurs
-pub none_resolved : (cluster : Cluster) (workload : Workload) (events : List Event) → IsLegalRun cluster workload events → CallsHaveOneHome cluster workload → (region : ℕ) (ids : List TxnId) → ¬ (Has events (Resolve region ids))
-none_resolved cluster workload events run calls region ids h =
+pub none_resolved : {cluster : Cluster} {workload : Workload} {events : List Event} → IsLegalRun cluster workload events → CallsHaveOneHome cluster workload
+    → (region : ℕ) (ids : List TxnId) → ¬ (Has events (Resolve region ids))
+none_resolved {cluster = cluster} {workload = workload} {events = events} run calls region ids h =
     let s : Spot events (Resolve region ids) = spot events (Resolve region ids) h in
-    let split : AreLegal cluster workload s.front × AreLegalFrom cluster workload (world_after cluster workload s.front) (Resolve region ids ∷ s.rest) =
-    legal_append cluster workload (opening_world cluster workload) s.front (Resolve region ids ∷ s.rest) (subst (AreLegal cluster workload) s.is run.legal) in
-    no_resolution cluster workload s.front (record { sound = run.sound; fits = run.fits; legal = split.0 }) calls region ids split.1.0
+    let split : IsLegalRun cluster workload s.front × AreLegalFrom cluster workload (world_after cluster workload s.front) (Resolve region ids ∷ s.rest) =
+    run_front s.front (Resolve region ids ∷ s.rest) (subst (IsLegalRun cluster workload) s.is run) in
+    no_resolution split.0 calls region ids split.1.0

@@ -17,7 +17,8 @@ use Rattle.dt_laws.specs.Invariant.{IsSized, Inv}
 use Rattle.dt_laws.proofs.Kept.{Sized, Sound, ids_kept, valid_kept, asked_kept, logs_kept, lengths_kept, view_kept, tables_kept, ordered_kept, sessions_kept}
 use Rattle.dt_laws.proofs.Submissions.{Keeps, txns_same}
 
-module _ (cluster : Cluster) (workload : Workload) (w : World) (order : List TxnId) (region : ℕ) (ids : List TxnId) (lr : region < cluster.regions) (may : MayStep (received_logs w region) (node_at w region).here (Resolve region ids)) (i : Inv cluster workload w order) where
+module _ {cluster : Cluster} {workload : Workload} {w : World} {order : List TxnId} (i : Inv cluster workload w order)
+    (region : ℕ) (ids : List TxnId) (lr : region < cluster.regions) (may : MayStep (received_logs w region) (node_at w region).here (Resolve region ids)) where
   n' : Node
   n' = record (node_at w region) { here = record (node_at w region).here { resolved = (node_at w region).here.resolved ++ ids ∷ [] } }
 

@@ -67,7 +67,7 @@ opening_rooted cluster workload = all_put _ (submissions (opening_world cluster 
 
 -- a new id
 
-module _ (cluster : Cluster) (workload : Workload) (w : World) (order : List TxnId) (i : Inv cluster workload w order) where
+module _ {cluster : Cluster} {workload : Workload} {w : World} {order : List TxnId} (i : Inv cluster workload w order) where
   -- the id of a region's next submission was not submitted
   pub next_unknown : (region : ℕ) → ¬ (IsKnown w (upcoming_id w region))
   next_unknown region k =
@@ -82,7 +82,7 @@ module _ (cluster : Cluster) (workload : Workload) (w : World) (order : List Txn
 
   -- so it has no part in any log
   pub next_absent : (region : ℕ) → ¬ (IsPresent (logs_of w) (upcoming_id w region))
-  next_absent region p = next_unknown region (present_known cluster workload w order i (upcoming_id w region) p)
+  next_absent region p = next_unknown region (present_known i (upcoming_id w region) p)
 
   -- what a region's table has of the moves of a key roots a new id
   front_roots : (t : TxnId) (home : ℕ) (front whole : List Moved) → IsFront front whole → AllIn (λ m. IsClosed (logs_of w) m.by) front → ¬ (IsPresent (logs_of w) t) → HasRoot (logs_of w) t home whole (length front)
@@ -127,10 +127,10 @@ module _ (cluster : Cluster) (workload : Workload) (w : World) (order : List Txn
         same = ap (λ t. moves_of t used.0) table
 
         front : IsFront moves (history_of cluster w order used.0)
-        front = moves_front cluster.procs (Precedes (logs_of w)) (opening_table cluster) (txns_of w order) (history cluster workload w order i rooted) ran used.0 (region_members cluster workload w order i rooted region lr) (region_down cluster workload w order i rooted region lr)
+        front = moves_front cluster.procs (Precedes (logs_of w)) (opening_table cluster) (txns_of w order) (history i rooted) ran used.0 (region_members i rooted region lr) (region_down i rooted region lr)
 
         closed : AllIn (λ m. IsClosed (logs_of w) m.by) moves
-        closed = all_map _ _ moves (λ m h. closed_full cluster workload w order i region m.by lr (executed_closed cluster workload w order i region m.by lr (subst (λ l. Has l m.by) (done_txn_ids cluster workload w order i region lr) h)))
+        closed = all_map _ _ moves (λ m h. closed_full i region m.by lr (executed_closed i region m.by lr (subst (λ l. Has l m.by) (done_txn_ids i region lr) h)))
             (movers_ran cluster.procs ran (opening_table cluster) used.0 (unmoved_at_first cluster used.0))
 
         home : home_after (opening_home here.regions here.homes used.0) (moves_of here used.0) ≡ home_after (opening_home cluster.regions cluster.homes used.0) (take (length (moves_of here used.0)) (history_of cluster w order used.0))

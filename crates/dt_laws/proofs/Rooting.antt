@@ -88,18 +88,18 @@ clash_key : (a b : Bool) → (a && b) ≡ true → a ≡ true
 clash_key true b e = refl
 clash_key false b e = cc
 
-module _ (cluster : Cluster) (workload : Workload) (w : World) (order : List TxnId) (i : Inv cluster workload w order) where
+module _ {cluster : Cluster} {workload : Workload} {w : World} {order : List TxnId} (i : Inv cluster workload w order) where
   -- the ids of the transactions of ids
   pub order_ids : txn_ids (txns_of w order) ≡ order
-  order_ids = looked_ids (txn_of w) (txn_id w) order (order_known cluster workload w order i)
+  order_ids = looked_ids (txn_of w) (txn_id w) order (order_known i)
 
   pub done_txn_ids : (region : ℕ) → region < cluster.regions → txn_ids (txns_of w (done_ids (node_at w region).here)) ≡ done_ids (node_at w region).here
-  done_txn_ids region lt = looked_ids (txn_of w) (txn_id w) (done_ids (node_at w region).here) (done_known cluster workload w order i region lt)
+  done_txn_ids region lt = looked_ids (txn_of w) (txn_id w) (done_ids (node_at w region).here) (done_known i region lt)
 
   -- what a region executed comes, in the whole logs too, after all that precedes it
   pub done_down : (region : ℕ) → region < cluster.regions → IsDown (Precedes (logs_of w)) (done_ids (node_at w region).here)
   done_down region lt =
-      let s : IsSound (logs_of w) (node_at w region).here.resolved (done_ids (node_at w region).here) = sound_longer (view_at w region) (logs_of w) (view_longer cluster workload w order i region lt) (full_well_formed cluster workload w order i) (node_at w region).here.resolved (done_ids (node_at w region).here) (i.sound region lt) in
+      let s : IsSound (logs_of w) (node_at w region).here.resolved (done_ids (node_at w region).here) = sound_longer (view_at w region) (logs_of w) (view_longer i region lt) (full_well_formed i) (node_at w region).here.resolved (done_ids (node_at w region).here) (i.sound region lt) in
       down_of_order (Precedes (logs_of w)) (done_ids (node_at w region).here) s.done_once (precedes_irreflexive (logs_of w)) s.done_downward s.done_in_order
 
   -- a part in the whole logs is that of its transaction
@@ -155,7 +155,7 @@ module _ (cluster : Cluster) (workload : Workload) (w : World) (order : List Txn
     anchored_at x a hx ha = follows a.counter (root_of x a hx ha).root
       where
         closed : IsClosed (logs_of w) x.id
-        closed = order_closed cluster workload w order i x.id (in_order x hx).0
+        closed = order_closed i x.id (in_order x hx).0
 
         there : HasPart (log_at (logs_of w) a.home) x.id
         there = parts_of_closed x.id x a.home closed (in_order x hx).1 (home_of_entry x a ha)
@@ -182,8 +182,8 @@ module _ (cluster : Cluster) (workload : Workload) (w : World) (order : List Txn
     shared x y hx hy ne a b ha hb e c =
         let key : a.key ≡ b.key = key_of_test a.key b.key (clash_key (same_key a.key b.key) _ c) in
         let home : a.home ≡ b.home = (root_of x a hx ha).home ∙ ap₂ (λ k n. home_after (opening_home cluster.regions cluster.homes k) (take n (history_of cluster w order k))) key e ∙ sym (root_of y b hy hb).home in
-        let px : HasPart (log_at (logs_of w) a.home) x.id = parts_of_closed x.id x a.home (order_closed cluster workload w order i x.id (in_order x hx).0) (in_order x hx).1 (home_of_entry x a ha) in
-        let py : HasPart (log_at (logs_of w) a.home) y.id = subst (λ h. HasPart (log_at (logs_of w) h) y.id) (sym home) (parts_of_closed y.id y b.home (order_closed cluster workload w order i y.id (in_order y hy).0) (in_order y hy).1 (home_of_entry y b hb)) in
+        let px : HasPart (log_at (logs_of w) a.home) x.id = parts_of_closed x.id x a.home (order_closed i x.id (in_order x hx).0) (in_order x hx).1 (home_of_entry x a ha) in
+        let py : HasPart (log_at (logs_of w) a.home) y.id = subst (λ h. HasPart (log_at (logs_of w) h) y.id) (sym home) (parts_of_closed y.id y b.home (order_closed i y.id (in_order y hy).0) (in_order y hy).1 (home_of_entry y b hb)) in
         let p : (p : Part) × Has (log_at (logs_of w) a.home) p × (p.id ≡ x.id) = any_get (λ p. p.id ≡ x.id) (log_at (logs_of w) a.home) px in
         let q : (q : Part) × Has (log_at (logs_of w) a.home) q × (q.id ≡ y.id) = any_get (λ q. q.id ≡ y.id) (log_at (logs_of w) a.home) py in
         let left : p.0.keys ≡ (part_of x a.home).keys = part_keys a.home p.0 x p.1 (ap (txn_of w) p.2 ∙ (in_order x hx).1) in

@@ -17,6 +17,7 @@ use Rattle.dt_workload.specs.declared.Workload.{Workload}
 use Rattle.dt_session.specs.World.{World, opening_world}
 use Rattle.dt_session.specs.Step.{IsLegal, next}
 use Rattle.dt_session.specs.Run.{world_from, world_after, AreLegalFrom, AreLegal, executed_id, without, firsts, order_of}
+use Rattle.dt_laws.specs.LegalRun.{IsLegalRun}
 use Rattle.dt_laws.proofs.Ids.{id_of_test, test_of_id}
 
 -- the order after the id of an event, if it executes one: an id that is executed for the first time comes last
@@ -52,6 +53,25 @@ append_legal cluster workload w (x ∷ xs) ys a b = (a.0, append_legal cluster w
 
 pub more_legal : (cluster : Cluster) (workload : Workload) (events : List Event) (event : Event) → AreLegal cluster workload events → IsLegal cluster workload (world_after cluster workload events) event → AreLegal cluster workload (events ++ event ∷ [])
 more_legal cluster workload events event a l = append_legal cluster workload (opening_world cluster workload) events (event ∷ []) a (l, tt)
+
+-- a legal run without its last event, and any front of one
+
+pub run_more : {cluster : Cluster} {workload : Workload} {events : List Event} {event : Event} → IsLegalRun cluster workload (events ++ event ∷ [])
+    → IsLegalRun cluster workload events × IsLegal cluster workload (world_after cluster workload events) event
+run_more {cluster = cluster} {workload = workload} {events = events} {event = event} run =
+    let r : AreLegal cluster workload events × IsLegal cluster workload (world_after cluster workload events) event = legal_more cluster workload events event run.legal in
+    (record { sound = run.sound; fits = run.fits; legal = r.0 }, r.1)
+
+pub run_front : {cluster : Cluster} {workload : Workload} (xs ys : List Event) → IsLegalRun cluster workload (xs ++ ys)
+    → IsLegalRun cluster workload xs × AreLegalFrom cluster workload (world_after cluster workload xs) ys
+run_front {cluster = cluster} {workload = workload} xs ys run =
+    let r : AreLegal cluster workload xs × AreLegalFrom cluster workload (world_after cluster workload xs) ys = legal_append cluster workload (opening_world cluster workload) xs ys run.legal in
+    (record { sound = run.sound; fits = run.fits; legal = r.0 }, r.1)
+
+pub run_longer : {cluster : Cluster} {workload : Workload} {events : List Event} {event : Event} → IsLegalRun cluster workload events
+    → IsLegal cluster workload (world_after cluster workload events) event → IsLegalRun cluster workload (events ++ event ∷ [])
+run_longer {cluster = cluster} {workload = workload} {events = events} {event = event} run l =
+    record { sound = run.sound; fits = run.fits; legal = more_legal cluster workload events event run.legal l }
 
 -- the order
 

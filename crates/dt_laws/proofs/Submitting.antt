@@ -58,28 +58,34 @@ pub record MayGoOn (cluster : Cluster) (w : World) (session : Session) (place : 
   pub to : next_attempt w place.waits ≤ cluster.tries
   pub attempts : attempts_by session.name (node_at w session.region).submitted + 1 ≤ cluster.tries * place.answered + next_attempt w place.waits
 
--- the attempt that a session waits for is found
-pub awaited_attempt : (cluster : Cluster) (workload : Workload) (w : World) (order : List TxnId) → Inv cluster workload w order → (tries region answered : ℕ) (session : Session) (id : TxnId) → (p : IsWaiting tries (node_at w region).submitted session answered id) → submission_of w id ≡ Some p.submission
-awaited_attempt cluster workload w order i tries region answered session id p = subst (λ x. submission_of w x ≡ Some p.submission) p.same (submission_is_found cluster.regions w i.nodes i.ids p.submission (from_region w region p.submission p.there))
+module _ {cluster : Cluster} {workload : Workload} {w : World} {order : List TxnId} (i : Inv cluster workload w order) where
+  -- the attempt that a session waits for is found
+  pub awaited_attempt : (tries region answered : ℕ) (session : Session) (id : TxnId)
+      → (p : IsWaiting tries (node_at w region).submitted session answered id) → submission_of w id ≡ Some p.submission
+  awaited_attempt tries region answered session id p =
+      subst (λ x. submission_of w x ≡ Some p.submission) p.same (submission_is_found cluster.regions w i.nodes i.ids p.submission (from_region w region p.submission p.there))
 
-may_go_on : (cluster : Cluster) → IsValidCluster cluster → (workload : Workload) (w : World) (order : List TxnId) → Inv cluster workload w order → (region : ℕ) (session : Session) (place : Place) → MayTry cluster w region session place.answered place.waits → IsPlaceOf cluster.tries w session place → MayGoOn cluster w session place
-may_go_on cluster valid workload w order i region session place may p = go place.waits may p.placed
-  where
-    tries : 1 ≤ cluster.tries
-    tries = valid.tries
+  may_go_on : IsValidCluster cluster → (region : ℕ) (session : Session) (place : Place)
+      → MayTry cluster w region session place.answered place.waits → IsPlaceOf cluster.tries w session place → MayGoOn cluster w session place
+  may_go_on valid region session place may p = go place.waits may p.placed
+    where
+      tries : 1 ≤ cluster.tries
+      tries = valid.tries
 
-    go : (waits : Option TxnId) → MayTry cluster w region session place.answered waits → IsPlaced cluster.tries (node_at w session.region).submitted session place.answered waits
-        → MayGoOn cluster w session (record { answered = place.answered; waits = waits })
-    go None m q = record { call = m; from = omega arith; to = tries; attempts = omega (arith, q) }
-    go (Some id) m q =
-        let found : attempt_of w id ≡ q.submission.attempt = ap (λ o. unwrap_or (option_map (λ s. s.attempt) o) 0) (awaited_attempt cluster workload w order i cluster.tries session.region place.answered session id q) in
-        let few : attempt_of w id < cluster.tries = m.1 in
-        record { call = q.call; from = omega arith; to = omega arith; attempts = omega (arith, q.attempts) }
+      go : (waits : Option TxnId) → MayTry cluster w region session place.answered waits → IsPlaced cluster.tries (node_at w session.region).submitted session place.answered waits
+          → MayGoOn cluster w session (record { answered = place.answered; waits = waits })
+      go None m q = record { call = m; from = omega arith; to = tries; attempts = omega (arith, q) }
+      go (Some id) m q =
+          let found : attempt_of w id ≡ q.submission.attempt = ap (λ o. unwrap_or (option_map (λ s. s.attempt) o) 0) (awaited_attempt cluster.tries session.region place.answered session id q) in
+          let few : attempt_of w id < cluster.tries = m.1 in
+          record { call = q.call; from = omega arith; to = omega arith; attempts = omega (arith, q.attempts) }
 
-module _ (cluster : Cluster) (ok : IsValidCluster cluster) (workload : Workload) (fits : IsValidWorkload cluster workload) (w : World) (order : List TxnId) (region : ℕ) (session : Session) (place : Place) (call : Wanted)
+module _ {cluster : Cluster} {workload : Workload} {w : World} {order : List TxnId} (i : Inv cluster workload w order)
+    (ok : IsValidCluster cluster) (fits : IsValidWorkload cluster workload)
+    (region : ℕ) (session : Session) (place : Place) (call : Wanted)
     (lr : region < cluster.regions) (member : Has workload.sessions session) (here : session.region ≡ region)
     (found : session_at workload.sessions w.places region session.name ≡ Some (session, place))
-    (wants : slice_get session.calls place.answered ≡ Some call) (on : MayGoOn cluster w session place) (i : Inv cluster workload w order) where
+    (wants : slice_get session.calls place.answered ≡ Some call) (on : MayGoOn cluster w session place) where
   s : Submission
   s = attempt_for cluster w region session place call
 
@@ -330,7 +336,7 @@ module _ (cluster : Cluster) (ok : IsValidCluster cluster) (workload : Workload)
     logs = logs;
     lengths = lengths_kept cluster w v cluster.regions (keeps (λ n. n.here.inserted) refl) (keeps (λ n. n.received) refl) (keeps (λ n. n.log) refl) i.lengths;
     sound = sound_kept cluster w v cluster.regions (λ q lq. view_kept cluster w v logs_same (keeps (λ n. n.here.inserted) refl) (keeps (λ n. n.received) refl) (keeps (λ n. n.log) refl) q) (keeps (λ n. n.here.resolved) refl) (keeps (λ n. n.here.done) refl) i.sound;
-    tables = tables_kept cluster w v (λ q lq. txns_stay w v txns (done_ids (node_at w q).here) (done_known cluster workload w order i q lq)) (keeps (λ n. n.here.done) refl) (keeps (λ n. n.here.table) refl) i.tables;
+    tables = tables_kept cluster w v (λ q lq. txns_stay w v txns (done_ids (node_at w q).here) (done_known i q lq)) (keeps (λ n. n.here.done) refl) (keeps (λ n. n.here.table) refl) i.tables;
     ordered = ordered_kept cluster w v cluster.regions order logs_same (keeps (λ n. n.here.done) refl) i.ordered;
     sessions = sessions;
   }
@@ -348,15 +354,23 @@ pub record Submits (cluster : Cluster) (workload : Workload) (w : World) (region
   pub on : MayGoOn cluster w session place
   pub next : submitted cluster workload w region (session_at workload.sessions w.places region name) ≡ world_submitted workload w region session place (attempt_for cluster w region session place call)
 
-module _ (cluster : Cluster) (ok : IsValidCluster cluster) (workload : Workload) (w : World) (order : List TxnId) (region : ℕ) (name : Bytes) (may : MaySubmit cluster w region (session_at workload.sessions w.places region name)) (i : Inv cluster workload w order) where
-  pub submits : Submits cluster workload w region name
-  submits = go (session_at workload.sessions w.places region name) refl may
+-- what it submits, and the world after that
+abbrev pub attempt_made : {cluster : Cluster} {workload : Workload} {w : World} {region : ℕ} {name : Bytes} → Submits cluster workload w region name → Submission
+attempt_made {cluster = cluster} {w = w} {region = region} r = attempt_for cluster w region r.session r.place r.call
+
+abbrev pub world_made : {cluster : Cluster} {workload : Workload} {w : World} {region : ℕ} {name : Bytes} → Submits cluster workload w region name → World
+world_made {workload = workload} {w = w} {region = region} r = world_submitted workload w region r.session r.place (attempt_made r)
+
+module _ {cluster : Cluster} {workload : Workload} {w : World} {order : List TxnId} (i : Inv cluster workload w order) (ok : IsValidCluster cluster) (region : ℕ) (name : Bytes) where
+  -- where a session may submit, it has a call that comes next
+  pub submits : MaySubmit cluster w region (session_at workload.sessions w.places region name) → Submits cluster workload w region name
+  submits may = go (session_at workload.sessions w.places region name) refl may
     where
       go : (o : Option (Session × Place)) → session_at workload.sessions w.places region name ≡ o → MaySubmit cluster w region o → Submits cluster workload w region name
       go None e m = absurd m
       go (Some (session, place)) e m =
           let r : Has workload.sessions session × (session.name ≡ name) × (session.region ≡ region) × IsPlaceOf cluster.tries w session place = session_found (IsPlaceOf cluster.tries w) workload.sessions w.places region name session place i.sessions.places e in
-          let on : MayGoOn cluster w session place = may_go_on cluster ok workload w order i region session place m r.3 in
+          let on : MayGoOn cluster w session place = may_go_on i ok region session place m r.3 in
           let c : (call : Wanted) × (slice_get session.calls place.answered ≡ Some call) = at_place session.calls place.answered on.call in
           record {
             session = session;
@@ -371,8 +385,22 @@ module _ (cluster : Cluster) (ok : IsValidCluster cluster) (workload : Workload)
             next = ap (submitted cluster workload w region) e ∙ ap (called cluster workload w region session place) c.1;
           }
 
-pub submit_keeps : (cluster : Cluster) → IsValidCluster cluster → (workload : Workload) → IsValidWorkload cluster workload → (w : World) (order : List TxnId) (region : ℕ) (name : Bytes) → region < cluster.regions → MaySubmit cluster w region (session_at workload.sessions w.places region name) → Inv cluster workload w order → Inv cluster workload (submitted cluster workload w region (session_at workload.sessions w.places region name)) order
-submit_keeps cluster ok workload fits w order region name lr may i =
-    let r : Submits cluster workload w region name = submits cluster ok workload w order region name may i in
-    subst (λ x. Inv cluster workload x order) (sym r.next)
-    (submitted_keeps cluster ok workload fits w order region r.session r.place r.call lr r.member r.here (subst (λ n. session_at workload.sessions w.places region n ≡ Some (r.session, r.place)) (sym r.named) r.found) r.wants r.on i)
+  module _ (fits : IsValidWorkload cluster workload) (lr : region < cluster.regions) (r : Submits cluster workload w region name) where
+    found_here : session_at workload.sessions w.places region r.session.name ≡ Some (r.session, r.place)
+    found_here = subst (λ n. session_at workload.sessions w.places region n ≡ Some (r.session, r.place)) (sym r.named) r.found
+
+    pub made_logs : logs_of (world_made r) ≡ logs_of w
+    made_logs = submitted_logs i ok fits region r.session r.place r.call lr r.member r.here found_here r.wants r.on
+
+    pub made_was : (x : Submission) → Has (submissions (world_made r)) x → Has (submissions w) x ⊎ (attempt_made r ≡ x)
+    made_was = submitted_was i ok fits region r.session r.place r.call lr r.member r.here found_here r.wants r.on
+
+    pub made_txns : (id : TxnId) (txn : Txn) → txn_of w id ≡ Some txn → txn_of (world_made r) id ≡ Some txn
+    made_txns = submitted_txns i ok fits region r.session r.place r.call lr r.member r.here found_here r.wants r.on
+
+    pub made_keeps : Inv cluster workload (world_made r) order
+    made_keeps = submitted_keeps i ok fits region r.session r.place r.call lr r.member r.here found_here r.wants r.on
+
+  pub submit_keeps : IsValidWorkload cluster workload → region < cluster.regions → MaySubmit cluster w region (session_at workload.sessions w.places region name)
+      → Inv cluster workload (submitted cluster workload w region (session_at workload.sessions w.places region name)) order
+  submit_keeps fits lr may = let r : Submits cluster workload w region name = submits may in subst (λ x. Inv cluster workload x order) (sym r.next) (made_keeps fits lr r)

@@ -2,4 +2,4 @@ use Rattle.dt_laws.proofs.Agreeing.{legal_agree}
 use Rattle.dt_laws.proofs.laws.agreement.Goals as goal
 
 pub returns : goal.returns
-returns c cluster workload events run = legal_agree cluster run.sound workload run.fits events run.legal
+returns c cluster workload events run = legal_agree run

@@ -3,7 +3,7 @@ use Rattle.dt_laws.proofs.RootedEvents.{legal_roots}
 use Rattle.dt_laws.proofs.laws.invariant_of_legal_worlds.Goals as goal
 
 pub returns-clause-kept : goal.returns-clause-kept
-returns-clause-kept c cluster workload events run = legal_keeps cluster run.sound workload run.fits events run.legal
+returns-clause-kept c cluster workload events run = legal_keeps run
 
 pub returns-clause-rooted : goal.returns-clause-rooted
-returns-clause-rooted c cluster workload events run = legal_roots cluster run.sound workload run.fits events run.legal
+returns-clause-rooted c cluster workload events run = legal_roots run

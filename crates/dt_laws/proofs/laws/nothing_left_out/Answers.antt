@@ -2,7 +2,7 @@ use Rattle.dt_laws.proofs.Accounted.{executed_accounted, answer_accounted}
 use Rattle.dt_laws.proofs.laws.nothing_left_out.Goals as goal
 
 pub returns-clause-executed : goal.returns-clause-executed
-returns-clause-executed c cluster workload events run = executed_accounted cluster workload events run
+returns-clause-executed c cluster workload events run = executed_accounted run
 
 pub returns-clause-answered : goal.returns-clause-answered
-returns-clause-answered c cluster workload first region session last run = answer_accounted cluster workload first region session last run
+returns-clause-answered c cluster workload first region session last run = answer_accounted first region session last run

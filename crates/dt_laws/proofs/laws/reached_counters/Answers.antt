@@ -2,4 +2,4 @@ use Rattle.dt_laws.proofs.Crossing.{legal_counters}
 use Rattle.dt_laws.proofs.laws.reached_counters.Goals as goal
 
 pub returns : goal.returns
-returns c cluster workload events run region id x = legal_counters cluster run.sound workload run.fits events region id x run.legal
+returns c cluster workload events run region id x = legal_counters run region id x
