@@ -1,6 +1,6 @@
 -- A placed request keeps the invariant.
 use Rattle.std.proofs.Common.{◌≡◌, ◌≢◌, ◌<◌, ◌≤◌, ◌+◌, ◌⊎◌, ℕ, Bool, true, false, cond, eqb, List, [], ◌∷◌, ◌++◌, length, map, get_or, set, take, slice_get, Some, refl, sym, ap, ap₂, subst, ◌∙◌, inl, inr, append-nil, arith}
-use Rattle.std.specs.Prelude.{slice_index, option_and_then}
+use Rattle.std.specs.Prelude.{Option, slice_index, option_and_then}
 use Rattle.std.proofs.lemmas.Bool.{false_from_ne_true}
 use Rattle.std.proofs.lemmas.List.{length-set, length_push, map-set, map_push, take_more, get_or-set_same, get_or-set_other}
 use Rattle.std.proofs.lemmas.List.Elements.{filter-append}
@@ -100,7 +100,8 @@ module _ {cluster : Cluster} {workload : Workload} {w : World} {order : List Txn
     sized : Sized cluster.regions v
     unfolding v n'
     sized q lt = each_of_set (λ k n. IsSized cluster.regions n) w.nodes home n' no_node
-        (let s : IsSized cluster.regions (node_at w home) = i.sized home lh in record { asked = s.asked; taken = length-set (node_at w home).here.taken source (taken_of w home source + 1) ∙ s.taken; received = s.received; inserted = s.inserted })
+        (let s : IsSized cluster.regions (node_at w home) = i.sized home lh in
+        record { asked = s.asked; taken = length-set (node_at w home).here.taken source (taken_of w home source + 1) ∙ s.taken; received = s.received; inserted = s.inserted })
         (λ k lk. i.sized k (subst (λ m. k < m) i.nodes lk)) q (subst (λ m. q < m) (sym i.nodes) lt)
 
     -- the requests that are taken
@@ -148,7 +149,14 @@ module _ {cluster : Cluster} {workload : Workload} {w : World} {order : List Txn
 
     parts_now : AllIn (IsPartAt v home) (log_of v home)
     unfolding part
-    parts_now = subst (AllIn (IsPartAt v home)) (sym log_now) (all_more (IsPartAt v home) (log_of w home) (part_of txn home) (parts_kept cluster w v home (λ x t e. txn_same w v (keeps (λ n. n.submitted) refl) x ∙ e) (log_of w home) (i.logs home lh).parts) (txn, txn_same w v (keeps (λ n. n.submitted) refl) txn.id ∙ is, refl))
+    parts_now =
+        subst (AllIn (IsPartAt v home)) (sym log_now)
+        (all_more (IsPartAt v home) (log_of w home) (part_of txn home)
+        (parts_kept cluster w v home (λ x t e. same x ∙ e) (log_of w home) (i.logs home lh).parts)
+        (txn, same txn.id ∙ is, refl))
+      where
+        same : (x : TxnId) → txn_of v x ≡ txn_of w x
+        same x = txn_same w v (keeps (λ n. n.submitted) (unfold n' in refl)) x
 
     logs : Logs cluster.regions v
     unfolding n'
@@ -272,10 +280,15 @@ pub record IsNextRequest (w : World) (home source : ℕ) (txn : Txn) : Type 0 wh
 module _ {cluster : Cluster} {workload : Workload} {w : World} {order : List TxnId} (i : Inv cluster workload w order)
     (home source number : ℕ) (lh : home < cluster.regions) (ls : source < cluster.regions) (more : number < length (asked_of w source home)) where
   -- an append leaves the world, or it places the next request
-  pub append_cases : (next cluster workload w (Append home source number) ≡ w) ⊎ ((txn : Txn) × IsNextRequest w home source txn × (next cluster workload w (Append home source number) ≡ placed w home source (Some txn)))
+  pub append_cases : (next cluster workload w (Append home source number) ≡ w)
+      ⊎ ((txn : Txn) × IsNextRequest w home source txn × (next cluster workload w (Append home source number) ≡ placed w home source (Some txn)))
   append_cases = go (eqb number (taken_of w home source)) refl
     where
-      go : (b : Bool) → eqb number (taken_of w home source) ≡ b → (cond b (placed w home source (option_and_then (txn_of w) (slice_get (asked_of w source home) number))) w ≡ w) ⊎ ((txn : Txn) × IsNextRequest w home source txn × (cond b (placed w home source (option_and_then (txn_of w) (slice_get (asked_of w source home) number))) w ≡ placed w home source (Some txn)))
+      asks : Option Txn
+      asks = option_and_then (txn_of w) (slice_get (asked_of w source home) number)
+
+      go : (b : Bool) → eqb number (taken_of w home source) ≡ b
+          → (cond b (placed w home source asks) w ≡ w) ⊎ ((txn : Txn) × IsNextRequest w home source txn × (cond b (placed w home source asks) w ≡ placed w home source (Some txn)))
       go false e = inl refl
       go true e =
           let at : (id : TxnId) × (slice_get (asked_of w source home) number ≡ Some id) = at_place (asked_of w source home) number more in

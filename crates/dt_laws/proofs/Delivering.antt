@@ -59,25 +59,40 @@ module _ {cluster : Cluster} {workload : Workload} {w : World} {order : List Txn
       sizes : length (node_at w region).received ≡ cluster.regions
       sizes = (i.sized region lr).received
 
-      now : received_of v region other ≡ get_or (set (set (node_at w region).received home last) region (length (log_of v region))) other 0
-      now = ap (λ n. get_or (set n.received region (length (log_of v region))) other 0) node
+      -- the lengths that the region received, its own log aside
+      others : List ℕ
+      others = set (node_at w region).received home last
+
+      own : ℕ
+      own = length (log_of v region)
+
+      within : region < length others
+      within = subst (λ m. region < m) (sym (length-set (node_at w region).received home last ∙ sizes)) lr
+
+      now : received_of v region other ≡ get_or (set others region own) other 0
+      now = ap (λ n. get_or (set n.received region own) other 0) node
 
       before : AreInOrder w region other
       before = i.lengths region other lr lo
 
       by : Either (other ≡ region) → Either (other ≡ home) → (received_of w region other ≤ received_of v region other) × (received_of v region other ≤ length (log_of w other))
       by (inl e) h =
-          let is : received_of v region other ≡ length (log_of w region) = now ∙ ap (λ x. get_or (set (set (node_at w region).received home last) region (length (log_of v region))) x 0) e ∙ get_or-set_same (set (node_at w region).received home last) region (length (log_of v region)) 0 (subst (λ m. region < m) (sym (length-set (node_at w region).received home last ∙ sizes)) lr) ∙ log in
+          let is : received_of v region other ≡ length (log_of w region) =
+          now ∙ ap (λ x. get_or (set others region own) x 0) e ∙ get_or-set_same others region own 0 within ∙ log in
           let same : length (log_of w other) ≡ length (log_of w region) = ap (λ x. length (log_of w x)) e in
           let most : received_of w region other ≤ length (log_of w other) = before.received in
           (omega arith, omega arith)
       by (inr n) (inl e) =
-          let is : received_of v region other ≡ last = now ∙ get_or-set_other (set (node_at w region).received home last) region other (length (log_of v region)) 0 n ∙ ap (λ x. get_or (set (node_at w region).received home last) x 0) e ∙ get_or-set_same (node_at w region).received home last 0 (subst (λ m. home < m) (sym sizes) lh) in
+          let is : received_of v region other ≡ last =
+          now ∙ get_or-set_other others region other own 0 n ∙ ap (λ x. get_or others x 0) e
+          ∙ get_or-set_same (node_at w region).received home last 0 (subst (λ m. home < m) (sym sizes) lh) in
           let same : length (log_of w other) ≡ length (log_of w home) = ap (λ x. length (log_of w x)) e in
           let was : received_of w region other ≡ received_of w region home = ap (λ x. received_of w region x) e in
           (omega arith, omega arith)
       by (inr n) (inr m) =
-          let is : received_of v region other ≡ received_of w region other = now ∙ get_or-set_other (set (node_at w region).received home last) region other (length (log_of v region)) 0 n ∙ get_or-set_other (node_at w region).received home other last 0 m ∙ sym (get_or-set_other (node_at w region).received region other (length (log_of w region)) 0 n) in
+          let is : received_of v region other ≡ received_of w region other =
+          now ∙ get_or-set_other others region other own 0 n ∙ get_or-set_other (node_at w region).received home other last 0 m
+          ∙ sym (get_or-set_other (node_at w region).received region other (length (log_of w region)) 0 n) in
           let most : received_of w region other ≤ length (log_of w other) = before.received in
           (omega arith, omega arith)
 

@@ -108,7 +108,8 @@ module _ {cluster : Cluster} {workload : Workload} {w : World} {order : List Txn
       by (inr n) = subst (λ x. IsRunOf cluster (opening_table cluster) (txns_of v (done_ids x.here)) x.here) (sym (other q n))
           (subst (λ l. IsRunOf cluster (opening_table cluster) l (node_at w q).here) (sym (txns_same w v (keeps (λ n. n.submitted) refl) (done_ids (node_at w q).here))) (i.tables q lq))
       by (inl e) = subst (λ y. IsRunOf cluster (opening_table cluster) (txns_of v (done_ids (node_at v y).here)) (node_at v y).here) (sym e)
-          (subst (λ l. IsRunOf cluster (opening_table cluster) l (node_at v region).here) (sym (txns_same w v (keeps (λ n. n.submitted) refl) (done_ids (node_at v region).here) ∙ ap (txns_of w) done_now ∙ txns_more w (done_ids (node_at w region).here) id txn found))
+          (subst (λ l. IsRunOf cluster (opening_table cluster) l (node_at v region).here)
+          (sym (txns_same w v (keeps (λ n. n.submitted) refl) (done_ids (node_at v region).here) ∙ ap (txns_of w) done_now ∙ txns_more w (done_ids (node_at w region).here) id txn found))
           (subst (λ x. IsRunOf cluster (opening_table cluster) (txns_of w (done_ids (node_at w region).here) ++ txn ∷ []) x.here) (sym node)
           (run_more cluster (opening_table cluster) (txns_of w (done_ids (node_at w region).here)) txn (node_at w region).here (i.tables region lr))))
 
@@ -178,6 +179,7 @@ module _ {cluster : Cluster} {workload : Workload} {w : World} {order : List Txn
 
   -- the region ran one transaction more
   pub executed_txns : txns_of (moved_on cluster w region (Execute region id)) (done_ids (node_at (moved_on cluster w region (Execute region id)) region).here) ≡ txns_of w (done_ids (node_at w region).here) ++ txn ∷ []
+  unfolding n'
   executed_txns = subst (λ x. txns_of x (done_ids (node_at x region).here) ≡ txns_of w (done_ids (node_at w region).here) ++ txn ∷ []) world_is
       (txns_same w v (keeps (λ n. n.submitted) refl) (done_ids (node_at v region).here) ∙ ap (txns_of w) done_now ∙ txns_more w (done_ids (node_at w region).here) id txn found)
 

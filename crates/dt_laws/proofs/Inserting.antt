@@ -63,7 +63,9 @@ module _ {cluster : Cluster} {workload : Workload} {w : World} {order : List Txn
   sized : Sized cluster.regions v
   unfolding v n'
   sized q lt = each_of_set (λ k n. IsSized cluster.regions n) w.nodes region n' no_node
-      (let s : IsSized cluster.regions (node_at w region) = i.sized region lr in record { asked = s.asked; taken = s.taken; received = s.received; inserted = length-set (node_at w region).here.inserted home (slice_index (node_at w region).here.inserted home + 1) ∙ s.inserted })
+      (let s : IsSized cluster.regions (node_at w region) = i.sized region lr in
+      let grown : length ins' ≡ cluster.regions = unfold ins' in length-set (node_at w region).here.inserted home (slice_index (node_at w region).here.inserted home + 1) ∙ s.inserted in
+      record { asked = s.asked; taken = s.taken; received = s.received; inserted = grown })
       (λ k lk. i.sized k (subst (λ m. k < m) i.nodes lk)) q (subst (λ m. q < m) (sym i.nodes) lt)
 
   -- there was more to insert
@@ -79,12 +81,18 @@ module _ {cluster : Cluster} {workload : Workload} {w : World} {order : List Txn
       before : AreInOrder w region other
       before = i.lengths region other lr lo
 
-      by : Either (other ≡ home) → (slice_index (set (node_at w region).here.inserted home (slice_index (node_at w region).here.inserted home + 1)) other ≤ received_of w region other) × (slice_index (node_at w region).here.inserted other ≤ slice_index (set (node_at w region).here.inserted home (slice_index (node_at w region).here.inserted home + 1)) other)
-      by (inl e) = subst (λ x. (slice_index (set (node_at w region).here.inserted home (slice_index (node_at w region).here.inserted home + 1)) x ≤ received_of w region x) × (slice_index (node_at w region).here.inserted x ≤ slice_index (set (node_at w region).here.inserted home (slice_index (node_at w region).here.inserted home + 1)) x)) (sym e)
-          (let now : slice_index (set (node_at w region).here.inserted home (slice_index (node_at w region).here.inserted home + 1)) home ≡ slice_index (node_at w region).here.inserted home + 1 = get_or-set_same (node_at w region).here.inserted home (slice_index (node_at w region).here.inserted home + 1) 0 (subst (λ m. home < m) (sym sizes) lh) in
+      had : List ℕ
+      had = (node_at w region).here.inserted
+
+      has : List ℕ
+      has = set had home (slice_index had home + 1)
+
+      by : Either (other ≡ home) → (slice_index has other ≤ received_of w region other) × (slice_index had other ≤ slice_index has other)
+      by (inl e) = subst (λ x. (slice_index has x ≤ received_of w region x) × (slice_index had x ≤ slice_index has x)) (sym e)
+          (let now : slice_index has home ≡ slice_index had home + 1 = get_or-set_same had home (slice_index had home + 1) 0 (subst (λ m. home < m) (sym sizes) lh) in
           (omega (arith, more), omega arith))
       by (inr n) =
-          let now : slice_index (set (node_at w region).here.inserted home (slice_index (node_at w region).here.inserted home + 1)) other ≡ slice_index (node_at w region).here.inserted other = get_or-set_other (node_at w region).here.inserted home other (slice_index (node_at w region).here.inserted home + 1) 0 n in
+          let now : slice_index has other ≡ slice_index had other = get_or-set_other had home other (slice_index had home + 1) 0 n in
           (omega (arith, before.inserted), omega arith)
 
   received_same : (q other : ℕ) → received_of v q other ≡ received_of w q other
@@ -128,10 +136,14 @@ module _ {cluster : Cluster} {workload : Workload} {w : World} {order : List Txn
           (subst (λ x. IsSound (view_at w q) x.here.resolved (done_ids x.here)) (sym same) before)
       by (inl e) = subst (λ x. IsSound (view_at v x) (node_at v x).here.resolved (done_ids (node_at v x).here)) (sym e) (
           let long : view_at v region ≡ fronts ins' (logs_of w) = view_now region lr ∙ ap (λ x. fronts x.here.inserted (logs_of w)) node in
-          let longer : IsLonger (view_at w region) (fronts ins' (logs_of w)) = subst (λ x. IsLonger x (fronts ins' (logs_of w))) (sym (view_fronts i region lr)) (fronts_more (node_at w region).here.inserted ins' (logs_of w) (λ other lo. (lengths_here other (subst (λ m. other < m) i.nodes (subst (λ m. other < m) (logs_length w) lo))).1)) in
+          let longer : IsLonger (view_at w region) (fronts ins' (logs_of w)) =
+          subst (λ x. IsLonger x (fronts ins' (logs_of w))) (sym (view_fronts i region lr))
+          (fronts_more (node_at w region).here.inserted ins' (logs_of w) (λ other lo. (lengths_here other (subst (λ m. other < m) i.nodes (subst (λ m. other < m) (logs_length w) lo))).1)) in
           subst (λ x. IsSound x (node_at v region).here.resolved (done_ids (node_at v region).here)) (sym long)
           (subst (λ x. IsSound (fronts ins' (logs_of w)) x.here.resolved (done_ids x.here)) (sym node)
-          (sound_longer (view_at w region) (fronts ins' (logs_of w)) longer (well_formed_front (fronts ins' (logs_of w)) (logs_of w) (fronts_longer ins' (logs_of w)) (full_well_formed i)) (node_at w region).here.resolved (done_ids (node_at w region).here) (i.sound region lr))))
+          (sound_longer (view_at w region) (fronts ins' (logs_of w)) longer
+          (well_formed_front (fronts ins' (logs_of w)) (logs_of w) (fronts_longer ins' (logs_of w)) (full_well_formed i))
+          (node_at w region).here.resolved (done_ids (node_at w region).here) (i.sound region lr))))
 
   pub insert_keeps : Inv cluster workload (moved_on cluster w region (Insert region home)) order
   unfolding v n'

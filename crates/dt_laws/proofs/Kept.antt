@@ -61,7 +61,8 @@ module _ (cluster : Cluster) (w v : World) where
   pub parts_kept : (home : ℕ) → ((id : TxnId) (txn : _) → txn_of w id ≡ Some txn → txn_of v id ≡ Some txn) → (log : List Part) → AllIn (IsPartAt w home) log → AllIn (IsPartAt v home) log
   parts_kept home f log a = all_map (IsPartAt w home) (IsPartAt v home) log (λ p x. (x.0, f p.id x.0 x.1, x.2)) a
 
-  pub log_kept : (regions home : ℕ) → (node_at v home).log ≡ (node_at w home).log → (node_at v home).here.taken ≡ (node_at w home).here.taken → Keeps (λ n. n.here.asked) w v → Keeps (λ n. n.submitted) w v → IsLog regions w home → IsLog regions v home
+  pub log_kept : (regions home : ℕ) → (node_at v home).log ≡ (node_at w home).log → (node_at v home).here.taken ≡ (node_at w home).here.taken → Keeps (λ n. n.here.asked) w v
+      → Keeps (λ n. n.submitted) w v → IsLog regions w home → IsLog regions v home
   log_kept regions home kl kt ka e l = record {
     parts = subst (AllIn (IsPartAt v home)) (sym kl) (parts_kept home (λ id txn is. txn_same w v e id ∙ is) (log_of w home) l.parts);
     taken = λ source ls. subst (λ n. n ≤ length (asked_of v source home)) (sym (ap (λ t. get_or t source 0) kt)) (subst (λ n. taken_of w home source ≤ length n) (sym (ap (λ t. get_or t home []) (ka source))) (l.taken source ls));
@@ -83,7 +84,10 @@ module _ (cluster : Cluster) (w v : World) where
       let inserted : slice_index (node_at v region).here.inserted home ≡ slice_index (node_at w region).here.inserted home = ap (λ t. get_or t home 0) (ki region) in
       let log : length (log_of v home) ≡ length (log_of w home) = ap length (kl home) in
       let before : AreInOrder w region home = l region home lr lh in
-      record { inserted = subst (λ n. n ≤ received_of v region home) (sym inserted) (subst (λ n. slice_index (node_at w region).here.inserted home ≤ n) (sym received) before.inserted); received = subst (λ n. n ≤ length (log_of v home)) (sym received) (subst (λ n. received_of w region home ≤ n) (sym log) before.received) }
+      record {
+        inserted = subst (λ n. n ≤ received_of v region home) (sym inserted) (subst (λ n. slice_index (node_at w region).here.inserted home ≤ n) (sym received) before.inserted);
+        received = subst (λ n. n ≤ length (log_of v home)) (sym received) (subst (λ n. received_of w region home ≤ n) (sym log) before.received);
+      }
 
   pub sound_kept : (regions : ℕ) → ((region : ℕ) → region < regions → view_at v region ≡ view_at w region) → Keeps (λ n. n.here.resolved) w v → Keeps (λ n. n.here.done) w v → Sound regions w → Sound regions v
   sound_kept regions e kr kd s region lt =
@@ -91,7 +95,8 @@ module _ (cluster : Cluster) (w v : World) where
       (subst (λ l. IsSound (view_at w region) l (done_ids (node_at v region).here)) (sym (kr region))
       (subst (λ l. IsSound (view_at w region) (node_at w region).here.resolved (map (λ d. d.0) l)) (sym (kd region)) (s region lt)))
 
-  pub tables_kept : ((region : ℕ) → region < cluster.regions → txns_of v (done_ids (node_at w region).here) ≡ txns_of w (done_ids (node_at w region).here)) → Keeps (λ n. n.here.done) w v → Keeps (λ n. n.here.table) w v → Tables cluster w → Tables cluster v
+  pub tables_kept : ((region : ℕ) → region < cluster.regions → txns_of v (done_ids (node_at w region).here) ≡ txns_of w (done_ids (node_at w region).here)) → Keeps (λ n. n.here.done) w v
+      → Keeps (λ n. n.here.table) w v → Tables cluster w → Tables cluster v
   tables_kept e kd kt t region lt =
       let same : txns_of v (done_ids (node_at v region).here) ≡ txns_of w (done_ids (node_at w region).here) = ap (λ l. txns_of v (map (λ d. d.0) l)) (kd region) ∙ e region lt in
       let before : IsRunOf cluster (opening_table cluster) (txns_of w (done_ids (node_at w region).here)) (node_at w region).here = t region lt in

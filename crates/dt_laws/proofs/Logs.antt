@@ -73,7 +73,8 @@ module _ (regions : ℕ) (w : World) (nodes : length w.nodes ≡ regions) where
     pub part_homed : (home : ℕ) (p : Part) → home < regions → Has (log_of w home) p → (p.home ≡ home) × Has p.homes home
     part_homed home p lt h =
         let part : IsPartAt w home p = all_get (IsPartAt w home) (log_of w home) (logs home lt).parts p h in
-        let q : (s : Submission) × Has (node_at w p.id.region).submitted s × (s.txn.id ≡ p.id) × (has_home home s.txn ≡ true) = request_has home (node_at w p.id.region).submitted p.id (id_requested home p.id lt (any_image (λ y. y ≡ p.id) (λ x. x.id) (log_of w home) (any_put _ (log_of w home) p h refl))) in
+        let q : (s : Submission) × Has (node_at w p.id.region).submitted s × (s.txn.id ≡ p.id) × (has_home home s.txn ≡ true) =
+        request_has home (node_at w p.id.region).submitted p.id (id_requested home p.id lt (any_image (λ y. y ≡ p.id) (λ x. x.id) (log_of w home) (any_put _ (log_of w home) p h refl))) in
         let found : txn_of w p.id ≡ Some q.0.txn = subst (λ i. txn_of w i ≡ Some q.0.txn) q.2 (txn_found regions w nodes ids q.0 (from_region w p.id.region q.0 q.1)) in
         let both : Some q.0.txn ≡ Some part.0 = sym found ∙ part.1 in
         let same : q.0.txn ≡ part.0 = cc in
@@ -90,7 +91,8 @@ module _ (regions : ℕ) (w : World) (nodes : length w.nodes ≡ regions) where
         ap (λ x. x.homes) a.2 ∙ ap homes_of same ∙ sym (ap (λ x. x.homes) b.2)
 
     pub logs_well_formed : IsWellFormed (logs_of w)
-    logs_well_formed = record { once = λ home. once home (either_le (suc home) regions); homed = λ home. homed home (either_le (suc home) regions); alike = λ home other. alike home other (either_le (suc home) regions) (either_le (suc other) regions) }
+    logs_well_formed =
+        record { once = λ home. once home (either_le (suc home) regions); homed = λ home. homed home (either_le (suc home) regions); alike = λ home other. alike home other (either_le (suc home) regions) (either_le (suc other) regions) }
       where
         once : (home : ℕ) → Either (home < regions) → Distinct (ids_of (log_at (logs_of w) home))
         once home (inl lt) = subst (λ l. Distinct (ids_of l)) (sym (log_is w home)) (log_once home lt)

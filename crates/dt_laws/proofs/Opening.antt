@@ -74,7 +74,9 @@ module _ (cluster : Cluster) (workload : Workload) where
   of_empties (suc n) (suc q) = of_empties n q
 
   sized : (q : ℕ) → q < cluster.regions → IsSized cluster.regions (node_at w q)
-  sized q lt = subst (IsSized cluster.regions) (sym (node q lt)) (record { asked = length-replicate cluster.regions []; taken = length-replicate cluster.regions 0; received = length-replicate cluster.regions 0; inserted = length-replicate cluster.regions 0 })
+  sized q lt =
+      subst (IsSized cluster.regions) (sym (node q lt))
+      (record { asked = length-replicate cluster.regions []; taken = length-replicate cluster.regions 0; received = length-replicate cluster.regions 0; inserted = length-replicate cluster.regions 0 })
 
   numbered : (q : ℕ) → q < cluster.regions → AreNumbered q (node_at w q).submitted
   numbered q lt = subst (AreNumbered q) (sym (none_submitted q)) (λ j s e. cc)
@@ -113,7 +115,8 @@ module _ (cluster : Cluster) (workload : Workload) where
       subst (IsSound (view_at w q) (node_at w q).here.resolved) (sym (none_done q))
       (subst (λ l. IsSound (view_at w q) l []) (sym (of_any (λ n. n.here.resolved) [] refl refl q))
       (record {
-        well_formed = well_formed_front (view_at w q) (received_logs w q) (fronts_longer (node_at w q).here.inserted (received_logs w q)) (well_formed_front (received_logs w q) (logs_of w) (fronts_longer (received_lengths w q) (logs_of w)) (logs_well_formed cluster.regions w nodes numbered asked logs));
+        well_formed = well_formed_front (view_at w q) (received_logs w q) (fronts_longer (node_at w q).here.inserted (received_logs w q))
+            (well_formed_front (received_logs w q) (logs_of w) (fronts_longer (received_lengths w q) (logs_of w)) (logs_well_formed cluster.regions w nodes numbered asked logs));
         done_once = tt;
         done_closed = tt;
         done_downward = λ u t h p. absurd h;

@@ -12,6 +12,7 @@ use Rattle.dt_access.specs.Clash.{Bytes}
 use Rattle.dt_access.specs.declared.Mode.{Mode}
 use Rattle.dt_access.specs.declared.TxnId.{TxnId}
 use Rattle.dt_access.specs.declared.Access.{Access}
+use Rattle.dt_access.specs.declared.Part.{Part}
 use Rattle.dt_sched.specs.Views.{ids_of, log_at, HasPart, IsLonger, IsClosed, IsWellFormed}
 use Rattle.dt_sched.proofs.Closed.{closed_stays, reaches_back}
 use Rattle.dt_events.specs.declared.Event.{Event}
@@ -101,22 +102,30 @@ module _ {cluster : Cluster} {workload : Workload} {w : World} {order : List Txn
     unfolding u
     log_cases h = by (either_nat h home) (either_le (suc home) (length (logs_of w)))
       where
-        is : log_at (logs_of (placed w home source (Some txn))) h ≡ log_at (set (logs_of w) home (log_at (logs_of w) home ++ part_of txn home ∷ [])) h
+        longer_log : List Part
+        longer_log = log_at (logs_of w) home ++ part_of txn home ∷ []
+
+        is : log_at (logs_of (placed w home source (Some txn))) h ≡ log_at (set (logs_of w) home longer_log) h
         is = ap (λ l. log_at l h) (logs_placed i home source lh ls txn request.number request.request request.found)
 
-        by : Either (h ≡ home) → Either (home < length (logs_of w)) → (log_at (logs_of (placed w home source (Some txn))) h ≡ log_at (logs_of w) h) ⊎ (log_at (logs_of (placed w home source (Some txn))) h ≡ log_at (logs_of w) h ++ part_of txn home ∷ [])
-        by (inr n) l = inl (is ∙ get_or-set_other (logs_of w) home h (log_at (logs_of w) home ++ part_of txn home ∷ []) [] n)
-        by (inl e) (inl lt) = inr (is ∙ ap (λ x. log_at (set (logs_of w) home (log_at (logs_of w) home ++ part_of txn home ∷ [])) x) e ∙ get_or-set_same (logs_of w) home (log_at (logs_of w) home ++ part_of txn home ∷ []) [] lt ∙ ap (λ x. log_at (logs_of w) x ++ part_of txn home ∷ []) (sym e))
-        by (inl e) (inr n) = inl (is ∙ ap (λ l. log_at l h) (set_past (logs_of w) home (log_at (logs_of w) home ++ part_of txn home ∷ []) (omega arith)))
+        by : Either (h ≡ home) → Either (home < length (logs_of w))
+            → (log_at (logs_of (placed w home source (Some txn))) h ≡ log_at (logs_of w) h) ⊎ (log_at (logs_of (placed w home source (Some txn))) h ≡ log_at (logs_of w) h ++ part_of txn home ∷ [])
+        by (inr n) l = inl (is ∙ get_or-set_other (logs_of w) home h longer_log [] n)
+        by (inl e) (inl lt) = inr (
+            is ∙ ap (λ x. log_at (set (logs_of w) home longer_log) x) e ∙ get_or-set_same (logs_of w) home longer_log [] lt
+            ∙ ap (λ x. log_at (logs_of w) x ++ part_of txn home ∷ []) (sym e))
+        by (inl e) (inr n) = inl (is ∙ ap (λ l. log_at l h) (set_past (logs_of w) home longer_log (omega arith)))
 
     -- the mover before an entry's number has its part in the log of the entry's home
-    mover_there : (a : Access) (c : ℕ) (m : Moved) → slice_get (history_of cluster w order a.key) c ≡ Some m → IsClosed (logs_of w) m.by → a.home ≡ home_after (opening_home cluster.regions cluster.homes a.key) (take (suc c) (history_of cluster w order a.key)) → HasPart (log_at (logs_of w) a.home) m.by
+    mover_there : (a : Access) (c : ℕ) (m : Moved) → slice_get (history_of cluster w order a.key) c ≡ Some m → IsClosed (logs_of w) m.by
+        → a.home ≡ home_after (opening_home cluster.regions cluster.homes a.key) (take (suc c) (history_of cluster w order a.key)) → HasPart (log_at (logs_of w) a.home) m.by
     mover_there a c m e closed homed =
         let x : (y : Txn) × (txn_of w m.by ≡ Some y) × (y.body ≡ Move a.key m.target) × IsValid cluster.procs cluster.regions y = maker_found i a.key c m e in
         let target : a.home ≡ m.target = homed ∙ home_after_last (opening_home cluster.regions cluster.homes a.key) (history_of cluster w order a.key) c m e in
         subst (λ h. HasPart (log_at (logs_of w) h) m.by) (sym target) (parts_of_closed i m.by x.0 m.target closed x.1 (home_of_target x.0 a.key m.target x.2))
 
-    stands : (t : TxnId) (h : ℕ) (by : TxnId) → HasPart (log_at (logs_of w) h) by → (HasPart (log_at (logs_of w) h) t → StandsBefore (ids_of (log_at (logs_of w) h)) by t) → HasPart (log_at (logs_of u) h) t → StandsBefore (ids_of (log_at (logs_of u) h)) by t
+    stands : (t : TxnId) (h : ℕ) (by : TxnId) → HasPart (log_at (logs_of w) h) by → (HasPart (log_at (logs_of w) h) t → StandsBefore (ids_of (log_at (logs_of w) h)) by t)
+        → HasPart (log_at (logs_of u) h) t → StandsBefore (ids_of (log_at (logs_of u) h)) by t
     stands t h by there before now = at (log_cases h)
       where
         last : HasPart (part_of txn home ∷ []) t → StandsBefore (ids_of (log_at (logs_of w) h) ++ txn.id ∷ []) by t
@@ -134,7 +143,8 @@ module _ {cluster : Cluster} {workload : Workload} {w : World} {order : List Txn
     root_placed : (t : TxnId) (a : Access) → IsRooted cluster (logs_of w) (history_of cluster w order a.key) t a → IsRooted cluster (logs_of u) (history_of cluster w order a.key) t a
     root_placed t a r = record { home = r.home; root = go a.counter r.home r.root }
       where
-        go : (c : ℕ) → a.home ≡ home_after (opening_home cluster.regions cluster.homes a.key) (take c (history_of cluster w order a.key)) → HasRoot (logs_of w) t a.home (history_of cluster w order a.key) c → HasRoot (logs_of u) t a.home (history_of cluster w order a.key) c
+        go : (c : ℕ) → a.home ≡ home_after (opening_home cluster.regions cluster.homes a.key) (take c (history_of cluster w order a.key)) → HasRoot (logs_of w) t a.home (history_of cluster w order a.key) c
+            → HasRoot (logs_of u) t a.home (history_of cluster w order a.key) c
         go zero e x = tt
         go (suc c) e x = (
           x.0,
@@ -186,10 +196,14 @@ module _ {cluster : Cluster} {workload : Workload} {w : World} {order : List Txn
 
   -- one more id in the order makes the history longer
   more_roots : (id : TxnId) (txn : Txn) → txn_of w id ≡ Some txn → Rooted cluster w (order ++ id ∷ [])
-  more_roots id txn e = all_map _ _ (submissions w) (λ s x. all_map _ _ s.txn.access (λ a y. rooted_longer cluster (logs_of w) (history_of cluster w order a.key) (history_of cluster w (order ++ id ∷ []) a.key) s.txn.id a (front a.key) y) x) rooted
+  more_roots id txn e =
+      all_map _ _ (submissions w)
+      (λ s x. all_map _ _ s.txn.access (λ a y. rooted_longer cluster (logs_of w) (history_of cluster w order a.key) (history_of cluster w (order ++ id ∷ []) a.key) s.txn.id a (front a.key) y) x) rooted
     where
       front : (key : Bytes) → IsFront (history_of cluster w order key) (history_of cluster w (order ++ id ∷ []) key)
-      front key = subst (λ l. IsFront (history_of cluster w order key) (moves_of l key)) (sym (ap (λ l. table_after cluster.procs l (opening_table cluster)) (txns_more w order id txn e) ∙ table_after_append cluster.procs (txns_of w order) (txn ∷ []) (opening_table cluster)))
+      front key =
+          subst (λ l. IsFront (history_of cluster w order key) (moves_of l key))
+          (sym (ap (λ l. table_after cluster.procs l (opening_table cluster)) (txns_more w order id txn e) ∙ table_after_append cluster.procs (txns_of w order) (txn ∷ []) (opening_table cluster)))
           (moves_grow cluster.procs (txn ∷ []) (table_after cluster.procs (txns_of w order) (opening_table cluster)) key)
 
 answer_roots : {cluster : Cluster} {workload : Workload} {w : World} {order : List TxnId} (region : ℕ) (o : Option (Session × Place)) → Rooted cluster w order → Rooted cluster (answered workload w region o) order

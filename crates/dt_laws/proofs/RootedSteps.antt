@@ -31,7 +31,8 @@ use Rattle.dt_laws.proofs.Annotating.{regions_stay, homes_stay, unmoved_at_first
 use Rattle.dt_laws.proofs.Rooting.{done_txn_ids, region_members, region_down, history}
 
 -- where logs and the history of each key stay, so does what roots an entry
-pub entries_kept : (cluster : Cluster) (l k : View) (m n : Bytes → List Moved) → k ≡ l → ((key : Bytes) → n key ≡ m key) → (t : TxnId) (access : List Access) → AllIn (λ a. IsRooted cluster l (m a.key) t a) access → AllIn (λ a. IsRooted cluster k (n a.key) t a) access
+pub entries_kept : (cluster : Cluster) (l k : View) (m n : Bytes → List Moved) → k ≡ l → ((key : Bytes) → n key ≡ m key) → (t : TxnId) (access : List Access)
+    → AllIn (λ a. IsRooted cluster l (m a.key) t a) access → AllIn (λ a. IsRooted cluster k (n a.key) t a) access
 entries_kept cluster l k m n e f t access r = all_map _ _ access (λ a x. subst₂ (λ logs moves. IsRooted cluster logs moves t a) (sym e) (sym (f a.key)) x) r
 
 -- where logs, submissions and the order stay, so does what is rooted

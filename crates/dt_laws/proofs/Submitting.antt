@@ -170,9 +170,19 @@ module _ {cluster : Cluster} {workload : Workload} {w : World} {order : List Txn
 
   valid_one : IsValid cluster.procs cluster.regions s.txn
   unfolding s
-  valid_one = annotated_valid cluster cluster.regions (upcoming_id w region) (body_of call) (node_at w region).here.table
-      (body_fits cluster cluster.regions call (all_get (WantedFits cluster.procs cluster.regions) session.calls (all_get (IsValidSession cluster.procs cluster.regions) workload.sessions fits.sessions session member).calls call (has_place session.calls place.answered call wants)))
-      (λ key. subst (λ t. home_of t key < cluster.regions) (sym (i.tables region lr).table) (home_below cluster ok (txns_of w (done_ids (node_at w region).here)) (txns_valid cluster cluster.regions w i.valid (done_ids (node_at w region).here)) key))
+  valid_one = annotated_valid cluster cluster.regions (upcoming_id w region) (body_of call) (node_at w region).here.table (body_fits cluster cluster.regions call wanted) below
+    where
+      sound : IsValidSession cluster.procs cluster.regions session
+      sound = all_get (IsValidSession cluster.procs cluster.regions) workload.sessions fits.sessions session member
+
+      wanted : WantedFits cluster.procs cluster.regions call
+      wanted = all_get (WantedFits cluster.procs cluster.regions) session.calls sound.calls call (has_place session.calls place.answered call wants)
+
+      ran : List TxnId
+      ran = done_ids (node_at w region).here
+
+      below : (key : Bytes) → home_of (node_at w region).here.table key < cluster.regions
+      below key = subst (λ t. home_of t key < cluster.regions) (sym (i.tables region lr).table) (home_below cluster ok (txns_of w ran) (txns_valid cluster cluster.regions w i.valid ran) key)
 
   valid : Valid cluster cluster.regions v
   valid = all_put (λ x. IsValid cluster.procs cluster.regions x.txn) (submissions v) (λ x h. elim (was x h) [
@@ -187,8 +197,12 @@ module _ {cluster : Cluster} {workload : Workload} {w : World} {order : List Txn
   asked_here home lh = ap (λ n. get_or n.here.asked home []) node ∙ by (cases_Bool (has_home home s.txn))
     where
       by : (has_home home s.txn ≡ true) ⊎ (has_home home s.txn ≡ false) → get_or (ask (homes_of s.txn) s.txn.id (node_at w region).here.asked) home [] ≡ asked_of w region home ++ requests home (s ∷ [])
-      by (inl e) = ask_here (homes_of s.txn) s.txn.id (node_at w region).here.asked home (homes_once s.txn) (home_of_test home s.txn e) (subst (λ m. home < m) (sym (i.sized region lr).asked) lh) ∙ ap (λ l. asked_of w region home ++ l) (sym (requests_here home s e))
-      by (inr e) = ask_other (homes_of s.txn) s.txn.id (node_at w region).here.asked home (λ h. cc (test_of_home home s.txn h)) ∙ sym (append-nil (asked_of w region home)) ∙ ap (λ l. asked_of w region home ++ l) (sym (requests_not home s e))
+      by (inl e) =
+          ask_here (homes_of s.txn) s.txn.id (node_at w region).here.asked home (homes_once s.txn) (home_of_test home s.txn e) (subst (λ m. home < m) (sym (i.sized region lr).asked) lh)
+          ∙ ap (λ l. asked_of w region home ++ l) (sym (requests_here home s e))
+      by (inr e) =
+          ask_other (homes_of s.txn) s.txn.id (node_at w region).here.asked home (λ h. cc (test_of_home home s.txn h)) ∙ sym (append-nil (asked_of w region home))
+          ∙ ap (λ l. asked_of w region home ++ l) (sym (requests_not home s e))
 
   asked : Asked cluster.regions v
   asked q home lq lh = by (either_nat q region)
@@ -244,10 +258,13 @@ module _ {cluster : Cluster} {workload : Workload} {w : World} {order : List Txn
       number = refl;
       attempt_from = on.from;
       attempt_to = on.to;
-      attempts = let e : attempts_by session.name ((node_at w session.region).submitted ++ s ∷ []) ≡ attempts_by session.name (node_at w session.region).submitted + 1 = attempts_own session.name (node_at w session.region).submitted s refl in omega (arith, on.attempts);
+      attempts = let e : attempts_by session.name (before ++ s ∷ []) ≡ attempts_by session.name before + 1 = attempts_own session.name before s refl in omega (arith, on.attempts);
     });
   }
     where
+      before : List Submission
+      before = (node_at w session.region).submitted
+
       now : (node_at v session.region).submitted ≡ (node_at w session.region).submitted ++ s ∷ []
       now = subst (λ r. (node_at v r).submitted ≡ (node_at w r).submitted ++ s ∷ []) (sym here) submitted_here
 
@@ -299,7 +316,8 @@ module _ {cluster : Cluster} {workload : Workload} {w : World} {order : List Txn
 
   sessions : SessionsMatch cluster workload v
   sessions = record {
-    places = unfold v in place_changed (IsPlaceOf cluster.tries w) (IsPlaceOf cluster.tries v) workload.sessions w.places region session.name session place (record place { waits = Some s.txn.id }) fits.names_once place_now place_other i.sessions.places found;
+    places = unfold v in place_changed (IsPlaceOf cluster.tries w) (IsPlaceOf cluster.tries v) workload.sessions w.places region session.name session place (record place { waits = Some s.txn.id })
+        fits.names_once place_now place_other i.sessions.places found;
     known = known;
   }
 
@@ -335,7 +353,9 @@ module _ {cluster : Cluster} {workload : Workload} {w : World} {order : List Txn
     asked = asked;
     logs = logs;
     lengths = lengths_kept cluster w v cluster.regions (keeps (λ n. n.here.inserted) refl) (keeps (λ n. n.received) refl) (keeps (λ n. n.log) refl) i.lengths;
-    sound = sound_kept cluster w v cluster.regions (λ q lq. view_kept cluster w v logs_same (keeps (λ n. n.here.inserted) refl) (keeps (λ n. n.received) refl) (keeps (λ n. n.log) refl) q) (keeps (λ n. n.here.resolved) refl) (keeps (λ n. n.here.done) refl) i.sound;
+    sound = sound_kept cluster w v cluster.regions
+        (λ q lq. view_kept cluster w v logs_same (keeps (λ n. n.here.inserted) refl) (keeps (λ n. n.received) refl) (keeps (λ n. n.log) refl) q)
+        (keeps (λ n. n.here.resolved) refl) (keeps (λ n. n.here.done) refl) i.sound;
     tables = tables_kept cluster w v (λ q lq. txns_stay w v txns (done_ids (node_at w q).here) (done_known i q lq)) (keeps (λ n. n.here.done) refl) (keeps (λ n. n.here.table) refl) i.tables;
     ordered = ordered_kept cluster w v cluster.regions order logs_same (keeps (λ n. n.here.done) refl) i.ordered;
     sessions = sessions;
@@ -369,7 +389,8 @@ module _ {cluster : Cluster} {workload : Workload} {w : World} {order : List Txn
       go : (o : Option (Session × Place)) → session_at workload.sessions w.places region name ≡ o → MaySubmit cluster w region o → Submits cluster workload w region name
       go None e m = absurd m
       go (Some (session, place)) e m =
-          let r : Has workload.sessions session × (session.name ≡ name) × (session.region ≡ region) × IsPlaceOf cluster.tries w session place = session_found (IsPlaceOf cluster.tries w) workload.sessions w.places region name session place i.sessions.places e in
+          let r : Has workload.sessions session × (session.name ≡ name) × (session.region ≡ region) × IsPlaceOf cluster.tries w session place =
+          session_found (IsPlaceOf cluster.tries w) workload.sessions w.places region name session place i.sessions.places e in
           let on : MayGoOn cluster w session place = may_go_on i ok region session place m r.3 in
           let c : (call : Wanted) × (slice_get session.calls place.answered ≡ Some call) = at_place session.calls place.answered on.call in
           record {
