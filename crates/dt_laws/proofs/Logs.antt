@@ -22,7 +22,7 @@ use Rattle.dt_laws.proofs.Submissions.{txn_there, home_region, from_region, txn_
 use Rattle.dt_laws.proofs.Homes.{home_of_test}
 use Rattle.dt_laws.proofs.Requests.{request_has, requests_once}
 use Rattle.dt_laws.proofs.Views.{log_is}
-use Rattle.dt_laws.proofs.Kept.{Numbered, Asked, Logs}
+use Rattle.dt_laws.proofs.InvariantParts.{Numbered, Asked, Logs}
 
 none_filtered : {A : Type 0} (test : A → Bool) (xs : List A) → AllIn (λ x. test x ≡ false) xs → filter test xs ≡ []
 none_filtered test [] a = refl

@@ -33,12 +33,12 @@ use Rattle.dt_session.specs.OneHome.{homes_at_first, HasOneHome, CallsHaveOneHom
 use Rattle.dt_laws.specs.LegalRun.{IsLegalRun}
 use Rattle.dt_laws.specs.Invariant.{IsPartAt, IsSubmissionOf, IsRooted, Rooted, history_of, Inv}
 use Rattle.dt_laws.proofs.Submissions.{home_region, txn_there}
-use Rattle.dt_laws.proofs.Known.{view_longer, view_well_formed, full_well_formed}
-use Rattle.dt_laws.proofs.Annotating.{txns_submitted, unmoved_at_first}
-use Rattle.dt_laws.proofs.Rooting.{part_there}
+use Rattle.dt_laws.proofs.RegionViews.{view_longer, view_well_formed, full_well_formed}
+use Rattle.dt_laws.proofs.Annotations.{txns_submitted, unmoved_at_first}
+use Rattle.dt_laws.proofs.MoveHistory.{part_there}
 use Rattle.dt_laws.proofs.Runs.{run_front}
-use Rattle.dt_laws.proofs.Keeping.{legal_keeps}
-use Rattle.dt_laws.proofs.RootedEvents.{legal_roots}
+use Rattle.dt_laws.proofs.LegalWorlds.{legal_keeps}
+use Rattle.dt_laws.proofs.RootedWorlds.{legal_roots}
 
 -- lists
 

@@ -113,25 +113,32 @@ txn_id w id txn e = let r : (s : Submission) × Has (submissions w) s × (s.txn 
 abbrev pub IsKnown : World → TxnId → Type 0
 IsKnown w id = (txn : Txn) × (txn_of w id ≡ Some txn)
 
--- more submissions, among which no two have one id, leave the transactions of ids as they were
-pub txn_stays : (w v : World) → ((region : ℕ) (s : Submission) → Has (node_at w region).submitted s → Has (node_at v region).submitted s) → AreUnlike (submissions v)
-    → (id : TxnId) (txn : Txn) → txn_of w id ≡ Some txn → txn_of v id ≡ Some txn
-txn_stays w v more one id txn e = go (submission_of w id) refl e
+-- more submissions, among which no two have one id, leave those of ids as they were
+pub submission_stays : (w v : World) → ((region : ℕ) (s : Submission) → Has (node_at w region).submitted s → Has (node_at v region).submitted s) → AreUnlike (submissions v)
+    → (id : TxnId) (s : Submission) → submission_of w id ≡ Some s → submission_of v id ≡ Some s
+submission_stays w v more one id s e =
+    let r : Has (node_at w id.region).submitted s × (s.txn.id ≡ id) = find_has (node_at w id.region).submitted id s e in
+    let found : find_submission (node_at v id.region).submitted s.txn.id ≡ Some s = find_of_has (node_at v id.region).submitted s (unlike_at v one id.region) (more id.region s r.0) in
+    ap (find_submission (node_at v id.region).submitted) (sym r.1) ∙ found
+
+-- and so their transactions
+pub txn_stays : (w v : World) → ((id : TxnId) (s : Submission) → submission_of w id ≡ Some s → submission_of v id ≡ Some s) → (id : TxnId) (txn : Txn) → txn_of w id ≡ Some txn → txn_of v id ≡ Some txn
+txn_stays w v stays id txn e = go (submission_of w id) refl e
   where
     go : (o : Option Submission) → submission_of w id ≡ o → option_map (λ s. s.txn) o ≡ Some txn → txn_of v id ≡ Some txn
     go None is e = cc
-    go (Some s) is e =
-        let r : Has (node_at w id.region).submitted s × (s.txn.id ≡ id) = find_has (node_at w id.region).submitted id s is in
-        let found : find_submission (node_at v id.region).submitted s.txn.id ≡ Some s = find_of_has (node_at v id.region).submitted s (unlike_at v one id.region) (more id.region s r.0) in
-        ap (option_map (λ x. x.txn)) (ap (find_submission (node_at v id.region).submitted) (sym r.1) ∙ found) ∙ e
+    go (Some s) is e = ap (option_map (λ x. x.txn)) (stays id s is) ∙ e
 
 pub txns_stay : (w v : World) → ((id : TxnId) (txn : Txn) → txn_of w id ≡ Some txn → txn_of v id ≡ Some txn) → (ids : List TxnId) → AllIn (IsKnown w) ids → txns_of v ids ≡ txns_of w ids
 txns_stay w v f [] a = refl
 txns_stay w v f (id ∷ ids) a = let before : txn_of w id ≡ Some a.0.0 = a.0.1 in let now : txn_of v id ≡ Some a.0.0 = f id a.0.0 a.0.1 in rw (before, now) (ap (λ l. a.0.0 ∷ l) (txns_stay w v f ids a.1))
 
--- worlds with the same submissions have the same transactions
+-- worlds with the same submissions find the same, and have the same transactions
+pub submission_same : (w v : World) → Keeps (λ n. n.submitted) w v → (id : TxnId) → submission_of v id ≡ submission_of w id
+submission_same w v k id = ap (λ l. find_submission l id) (k id.region)
+
 pub txn_same : (w v : World) → Keeps (λ n. n.submitted) w v → (id : TxnId) → txn_of v id ≡ txn_of w id
-txn_same w v k id = ap (λ l. option_map (λ s. s.txn) (find_submission l id)) (k id.region)
+txn_same w v k id = ap (option_map (λ s. s.txn)) (submission_same w v k id)
 
 pub txns_same : (w v : World) → Keeps (λ n. n.submitted) w v → (ids : List TxnId) → txns_of v ids ≡ txns_of w ids
 txns_same w v k [] = refl

@@ -1,6 +1,6 @@
 pub mod LegalRun
 pub mod Invariant
-pub mod Accounted
+pub mod Reports
 pub use Rattle.dt_serial.specs.Order
 pub use Rattle.dt_session.specs.World
 pub use Rattle.dt_session.specs.Step

@@ -18,7 +18,7 @@ ghost use Rattle.dt_session.specs.Step.{IsLegal, IsStale};
 ghost use Rattle.dt_session.specs.Run.{order_of, serial_outcome, world_after};
 ghost use Rattle.dt_session.specs.Agreement.{Agree};
 ghost use Rattle.dt_session.specs.OneHome.{CallsHaveOneHome};
-ghost use Rattle.dt_laws.specs.Accounted.{IsAccounted, IsAnswered};
+ghost use Rattle.dt_laws.specs.Reports.{IsAccounted, IsAnswered};
 ghost use Rattle.dt_laws.specs.LegalRun.{IsLegalRun};
 ghost use Rattle.dt_laws.specs.Invariant.{Inv, IsExecutedAt, Rooted};
 
@@ -97,11 +97,11 @@ pub fn one_home_each_call()
 {}
 
 /// Nothing is left out of a report: each executed attempt has its submission and its outcome in the serial order, and
-/// each answer ends an attempt that its session awaits and that has both.
+/// each answer ends an attempt of its session's next call, which has both.
 pub fn nothing_left_out()
     ensures executed { (cluster : Cluster) (workload : Workload) (events : List Event) → IsLegalRun cluster workload events →
         (id : TxnId) → Has (order_of events) id → IsAccounted cluster workload events id }
-    ensures answered { (cluster : Cluster) (workload : Workload) (first : List Event) (region : ℕ) (session : Bytes) (last : List Event) →
-        IsLegalRun cluster workload (first ++ Answer region session ∷ last) →
-        IsAnswered cluster workload (first ++ Answer region session ∷ last) first region session }
+    ensures answered { (cluster : Cluster) (workload : Workload) (first : List Event) (region : ℕ) (name : Bytes) (last : List Event) →
+        IsLegalRun cluster workload (first ++ Answer region name ∷ last) →
+        IsAnswered cluster workload (first ++ Answer region name ∷ last) first region name }
 {}

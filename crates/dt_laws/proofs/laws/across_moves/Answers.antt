@@ -1,4 +1,4 @@
-use Rattle.dt_laws.proofs.Crossing.{legal_across, legal_fewer}
+use Rattle.dt_laws.proofs.AcrossMoves.{legal_across, legal_fewer}
 use Rattle.dt_laws.proofs.laws.across_moves.Goals as goal
 
 pub returns-clause-ordered : goal.returns-clause-ordered

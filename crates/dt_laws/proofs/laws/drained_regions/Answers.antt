@@ -1,6 +1,6 @@
-use Rattle.dt_laws.proofs.Agreeing.{drained_done}
-use Rattle.dt_laws.proofs.Keeping.{legal_keeps}
-use Rattle.dt_laws.proofs.RootedEvents.{legal_roots}
+use Rattle.dt_laws.proofs.Agreement.{drained_done}
+use Rattle.dt_laws.proofs.LegalWorlds.{legal_keeps}
+use Rattle.dt_laws.proofs.RootedWorlds.{legal_roots}
 use Rattle.dt_laws.proofs.laws.drained_regions.Goals as goal
 
 pub returns : goal.returns

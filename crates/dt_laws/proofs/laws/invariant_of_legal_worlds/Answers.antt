@@ -1,5 +1,5 @@
-use Rattle.dt_laws.proofs.Keeping.{legal_keeps}
-use Rattle.dt_laws.proofs.RootedEvents.{legal_roots}
+use Rattle.dt_laws.proofs.LegalWorlds.{legal_keeps}
+use Rattle.dt_laws.proofs.RootedWorlds.{legal_roots}
 use Rattle.dt_laws.proofs.laws.invariant_of_legal_worlds.Goals as goal
 
 pub returns-clause-kept : goal.returns-clause-kept

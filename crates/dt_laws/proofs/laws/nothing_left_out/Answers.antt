@@ -1,4 +1,4 @@
-use Rattle.dt_laws.proofs.Accounted.{executed_accounted, answer_accounted}
+use Rattle.dt_laws.proofs.Reports.{executed_accounted, answer_accounted}
 use Rattle.dt_laws.proofs.laws.nothing_left_out.Goals as goal
 
 pub returns-clause-executed : goal.returns-clause-executed

@@ -1,4 +1,4 @@
-use Rattle.dt_laws.proofs.Crossing.{legal_counters}
+use Rattle.dt_laws.proofs.AcrossMoves.{legal_counters}
 use Rattle.dt_laws.proofs.laws.reached_counters.Goals as goal
 
 pub returns : goal.returns

@@ -22,13 +22,13 @@ use Rattle.dt_session.specs.World.{World, Node, Submission, no_node, node_at, as
 use Rattle.dt_session.specs.Step.{placed, next}
 use Rattle.dt_laws.specs.Invariant.{IsSized, IsPartAt, given_by, IsLog, AreInOrder, IsExecutedAt, IsOrder, has_home, Inv}
 use Rattle.dt_laws.proofs.Ids.{equal_of_test, test_of_equal}
-use Rattle.dt_laws.proofs.Kept.{Sized, Numbered, Asked, Logs, Lengths, ids_kept, valid_kept, asked_kept, parts_kept, log_kept, sound_kept, tables_kept, sessions_kept}
+use Rattle.dt_laws.proofs.InvariantParts.{Sized, Numbered, Asked, Logs, Lengths, ids_kept, valid_kept, asked_kept, parts_kept, log_kept, sound_kept, tables_kept, sessions_kept}
 use Rattle.dt_laws.proofs.Submissions.{Keeps, txns_same, txn_same, txn_found, from_region}
 use Rattle.dt_laws.proofs.Requests.{request_has}
 use Rattle.dt_laws.proofs.Homes.{home_of_test}
 use Rattle.dt_laws.proofs.Logs.{logs_well_formed}
 use Rattle.dt_laws.proofs.Views.{view_is, log_is, fronts_grown, grown_longer, received_own, received_other}
-use Rattle.dt_laws.proofs.Known.{view_fronts, order_closed}
+use Rattle.dt_laws.proofs.RegionViews.{view_fronts, order_closed}
 
 -- what a request asks for: a submitted transaction of the source that has a part at the home
 pub record IsRequest (w : World) (home source : ℕ) (id : TxnId) : Type 0 where

@@ -14,7 +14,7 @@ use Rattle.dt_workload.specs.declared.Workload.{Workload}
 use Rattle.dt_session.specs.World.{World, Node, no_node, node_at, logs_of, received_logs, view_at, submissions}
 use Rattle.dt_session.specs.Step.{moved_on}
 use Rattle.dt_laws.specs.Invariant.{IsSized, Inv}
-use Rattle.dt_laws.proofs.Kept.{Sized, Sound, ids_kept, valid_kept, asked_kept, logs_kept, lengths_kept, view_kept, tables_kept, ordered_kept, sessions_kept}
+use Rattle.dt_laws.proofs.InvariantParts.{Sized, Sound, ids_kept, valid_kept, asked_kept, logs_kept, lengths_kept, view_kept, tables_kept, ordered_kept, sessions_kept}
 use Rattle.dt_laws.proofs.Submissions.{Keeps, txns_same}
 
 module _ {cluster : Cluster} {workload : Workload} {w : World} {order : List TxnId} (i : Inv cluster workload w order)

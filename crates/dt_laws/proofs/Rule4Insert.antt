@@ -17,10 +17,10 @@ use Rattle.dt_workload.specs.declared.Workload.{Workload}
 use Rattle.dt_session.specs.World.{World, Node, no_node, node_at, log_of, logs_of, received_of, received_logs, view_at, submissions}
 use Rattle.dt_session.specs.Step.{moved_on}
 use Rattle.dt_laws.specs.Invariant.{IsSized, AreInOrder, Inv}
-use Rattle.dt_laws.proofs.Kept.{Sized, Lengths, Sound, ids_kept, valid_kept, asked_kept, logs_kept, received_kept, tables_kept, ordered_kept, sessions_kept}
+use Rattle.dt_laws.proofs.InvariantParts.{Sized, Lengths, Sound, ids_kept, valid_kept, asked_kept, logs_kept, received_kept, tables_kept, ordered_kept, sessions_kept}
 use Rattle.dt_laws.proofs.Submissions.{Keeps, txns_same}
 use Rattle.dt_laws.proofs.Views.{view_is, logs_length, fronts_more, fronts_longer, received_log}
-use Rattle.dt_laws.proofs.Known.{view_fronts, full_well_formed}
+use Rattle.dt_laws.proofs.RegionViews.{view_fronts, full_well_formed}
 
 module _ {cluster : Cluster} {workload : Workload} {w : World} {order : List TxnId} (i : Inv cluster workload w order)
     (region home : ℕ) (lr : region < cluster.regions) (lh : home < cluster.regions) (may : MayStep (received_logs w region) (node_at w region).here (Insert region home)) where

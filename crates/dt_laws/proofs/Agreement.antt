@@ -41,13 +41,13 @@ use Rattle.dt_laws.specs.Invariant.{IsExecutedAt, Rooted, Inv}
 use Rattle.dt_laws.proofs.Ids.{id_of_test, test_of_id}
 use Rattle.dt_laws.proofs.Submissions.{IsKnown, txn_id}
 use Rattle.dt_laws.proofs.Views.{received_log}
-use Rattle.dt_laws.proofs.Known.{view_fronts, order_known}
-use Rattle.dt_laws.proofs.Annotating.{unmoved_at_first}
+use Rattle.dt_laws.proofs.RegionViews.{view_fronts, order_known}
+use Rattle.dt_laws.proofs.Annotations.{unmoved_at_first}
 use Rattle.dt_laws.proofs.Runs.{with_executed_front, run_front, order_of_more}
-use Rattle.dt_laws.proofs.Keeping.{legal_keeps}
-use Rattle.dt_laws.proofs.Rooting.{order_ids, done_txn_ids, history, region_members, region_down}
-use Rattle.dt_laws.proofs.RootedSteps.{next_unknown}
-use Rattle.dt_laws.proofs.RootedEvents.{legal_roots}
+use Rattle.dt_laws.proofs.LegalWorlds.{legal_keeps}
+use Rattle.dt_laws.proofs.MoveHistory.{order_ids, done_txn_ids, history, region_members, region_down}
+use Rattle.dt_laws.proofs.RootedAnnotations.{next_unknown}
+use Rattle.dt_laws.proofs.RootedWorlds.{legal_roots}
 
 -- outcomes by ids
 

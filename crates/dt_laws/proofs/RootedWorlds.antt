@@ -35,14 +35,14 @@ use Rattle.dt_session.specs.Run.{world_after, order_of, txns_of}
 use Rattle.dt_laws.specs.LegalRun.{IsLegalRun}
 use Rattle.dt_laws.specs.Invariant.{history_of, HasRoot, IsRooted, Rooted, Inv}
 use Rattle.dt_laws.proofs.Submissions.{Keeps, IsKnown, txns_stay, txns_same}
-use Rattle.dt_laws.proofs.Known.{order_known}
-use Rattle.dt_laws.proofs.Submitting.{Submits, world_made, submits, made_logs, made_was, made_txns}
-use Rattle.dt_laws.proofs.Appending.{IsNextRequest, append_cases, logs_placed, submissions_placed, submitted_placed, placed_longer, placed_well_formed}
-use Rattle.dt_laws.proofs.Executing.{executable_known, txns_more}
+use Rattle.dt_laws.proofs.RegionViews.{order_known}
+use Rattle.dt_laws.proofs.Rule1Submit.{Submits, world_made, submits, made_logs, made_was, made_txns}
+use Rattle.dt_laws.proofs.Rule2Append.{IsNextRequest, append_cases, logs_placed, submissions_placed, submitted_placed, placed_longer, placed_well_formed}
+use Rattle.dt_laws.proofs.Rule6Execute.{executable_known, txns_more}
 use Rattle.dt_laws.proofs.Runs.{ordered, world_after_more, run_more, order_of_more}
-use Rattle.dt_laws.proofs.Keeping.{legal_keeps}
-use Rattle.dt_laws.proofs.Rooting.{home_after_last, home_of_target, parts_of_closed, maker_found}
-use Rattle.dt_laws.proofs.RootedSteps.{rooted_kept, entries_kept, rooted_longer, opening_rooted, annotated_rooted}
+use Rattle.dt_laws.proofs.LegalWorlds.{legal_keeps}
+use Rattle.dt_laws.proofs.MoveHistory.{home_after_last, home_of_target, parts_of_closed, maker_found}
+use Rattle.dt_laws.proofs.RootedAnnotations.{rooted_kept, entries_kept, rooted_longer, opening_rooted, annotated_rooted}
 
 module _ {cluster : Cluster} {workload : Workload} {w : World} {order : List TxnId} (i : Inv cluster workload w order) (rooted : Rooted cluster w order) where
   -- a submission: the old entries stay rooted, and the new ones are

@@ -13,10 +13,10 @@ use Rattle.dt_session.specs.World.{World, Node, no_node, node_at, log_of, logs_o
 use Rattle.dt_session.specs.Step.{received, next}
 use Rattle.dt_events.specs.declared.Event.TheVariants.{Deliver}
 use Rattle.dt_laws.specs.Invariant.{IsSized, AreInOrder, Inv}
-use Rattle.dt_laws.proofs.Kept.{Sized, Lengths, ids_kept, valid_kept, asked_kept, logs_kept, sound_kept, tables_kept, ordered_kept, sessions_kept}
+use Rattle.dt_laws.proofs.InvariantParts.{Sized, Lengths, ids_kept, valid_kept, asked_kept, logs_kept, sound_kept, tables_kept, ordered_kept, sessions_kept}
 use Rattle.dt_laws.proofs.Submissions.{Keeps, txns_same}
 use Rattle.dt_laws.proofs.Views.{view_is}
-use Rattle.dt_laws.proofs.Known.{view_fronts}
+use Rattle.dt_laws.proofs.RegionViews.{view_fronts}
 use Rattle.dt_txn.specs.Replica.{fronts, done_ids}
 
 module _ {cluster : Cluster} {workload : Workload} {w : World} {order : List TxnId} (i : Inv cluster workload w order)

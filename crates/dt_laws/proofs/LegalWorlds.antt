@@ -17,14 +17,14 @@ use Rattle.dt_session.specs.Run.{world_after, order_of}
 use Rattle.dt_laws.specs.LegalRun.{IsLegalRun}
 use Rattle.dt_laws.specs.Invariant.{Inv}
 use Rattle.dt_laws.proofs.Submissions.{IsKnown}
-use Rattle.dt_laws.proofs.Opening.{opening_keeps}
-use Rattle.dt_laws.proofs.Submitting.{submit_keeps}
-use Rattle.dt_laws.proofs.Appending.{append_keeps}
-use Rattle.dt_laws.proofs.Delivering.{deliver_keeps}
-use Rattle.dt_laws.proofs.Inserting.{insert_keeps}
-use Rattle.dt_laws.proofs.Resolving.{resolve_keeps}
-use Rattle.dt_laws.proofs.Executing.{execute_again, execute_first, executable_known}
-use Rattle.dt_laws.proofs.Answering.{answer_keeps}
+use Rattle.dt_laws.proofs.OpeningWorld.{opening_keeps}
+use Rattle.dt_laws.proofs.Rule1Submit.{submit_keeps}
+use Rattle.dt_laws.proofs.Rule2Append.{append_keeps}
+use Rattle.dt_laws.proofs.Rule3Deliver.{deliver_keeps}
+use Rattle.dt_laws.proofs.Rule4Insert.{insert_keeps}
+use Rattle.dt_laws.proofs.Rule5Resolve.{resolve_keeps}
+use Rattle.dt_laws.proofs.Rule6Execute.{execute_again, execute_first, executable_known}
+use Rattle.dt_laws.proofs.Rule7Answer.{answer_keeps}
 use Rattle.dt_laws.proofs.Runs.{ordered, world_after_more, run_more, order_of_more}
 
 module _ {cluster : Cluster} {workload : Workload} (ok : IsValidCluster cluster) (fits : IsValidWorkload cluster workload) where

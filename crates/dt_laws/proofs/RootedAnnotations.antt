@@ -25,10 +25,10 @@ use Rattle.dt_session.specs.Step.{upcoming_id}
 use Rattle.dt_session.specs.Run.{txns_of}
 use Rattle.dt_laws.specs.Invariant.{history_of, HasRoot, IsRooted, Rooted, Inv}
 use Rattle.dt_laws.proofs.Submissions.{Keeps, IsKnown, txn_there, numbered, txns_same}
-use Rattle.dt_laws.proofs.Known.{closed_full, present_known, executed_closed}
-use Rattle.dt_laws.proofs.Opening.{opening_submissions}
-use Rattle.dt_laws.proofs.Annotating.{regions_stay, homes_stay, unmoved_at_first}
-use Rattle.dt_laws.proofs.Rooting.{done_txn_ids, region_members, region_down, history}
+use Rattle.dt_laws.proofs.RegionViews.{closed_full, present_known, executed_closed}
+use Rattle.dt_laws.proofs.OpeningWorld.{opening_submissions}
+use Rattle.dt_laws.proofs.Annotations.{regions_stay, homes_stay, unmoved_at_first}
+use Rattle.dt_laws.proofs.MoveHistory.{done_txn_ids, region_members, region_down, history}
 
 -- where logs and the history of each key stay, so does what roots an entry
 pub entries_kept : (cluster : Cluster) (l k : View) (m n : Bytes → List Moved) → k ≡ l → ((key : Bytes) → n key ≡ m key) → (t : TxnId) (access : List Access)

@@ -26,13 +26,13 @@ use Rattle.dt_txn.specs.Asking.{ask}
 use Rattle.dt_session.specs.Step.{MayTry, MaySubmit, body_of, upcoming_id, next_attempt, attempt_for, node_submitted, world_submitted, called, submitted}
 use Rattle.dt_session.specs.Run.{txns_of}
 use Rattle.dt_laws.specs.Invariant.{IsSized, AreNumbered, has_home, requests, given_by, attempts_by, IsSubmissionOf, IsWaiting, IsPlaced, IsPlaceOf, SessionsMatch, Inv}
-use Rattle.dt_laws.proofs.Kept.{Sized, Numbered, Valid, Asked, Logs, parts_kept, lengths_kept, view_kept, sound_kept, tables_kept, ordered_kept}
-use Rattle.dt_laws.proofs.Submissions.{Keeps, AreUnlike, submission_is_found, at_region, from_region, unlike, txn_stays, txns_stay}
+use Rattle.dt_laws.proofs.InvariantParts.{Sized, Numbered, Valid, Asked, Logs, parts_kept, lengths_kept, view_kept, sound_kept, tables_kept, ordered_kept}
+use Rattle.dt_laws.proofs.Submissions.{Keeps, AreUnlike, submission_is_found, at_region, from_region, unlike, submission_stays, txn_stays, txns_stay}
 use Rattle.dt_laws.proofs.Homes.{home_of_test, test_of_home, homes_once, ask_length, ask_here, ask_other}
 use Rattle.dt_laws.proofs.Requests.{requests_append, requests_here, requests_not, numbered_more}
 use Rattle.dt_laws.proofs.Sessions.{key_of_test, test_of_key, session_found, place_changed}
-use Rattle.dt_laws.proofs.Known.{done_known}
-use Rattle.dt_laws.proofs.Annotating.{txns_valid, home_below, body_fits, annotated_valid}
+use Rattle.dt_laws.proofs.RegionViews.{done_known}
+use Rattle.dt_laws.proofs.Annotations.{txns_valid, home_below, body_fits, annotated_valid}
 
 -- how many attempts of a name there are with one more submission
 
@@ -165,8 +165,11 @@ module _ {cluster : Cluster} {workload : Workload} {w : World} {order : List Txn
   one : AreUnlike (submissions v)
   one = unlike cluster.regions v nodes_now ids
 
+  found_still : (id : TxnId) (x : Submission) → submission_of w id ≡ Some x → submission_of v id ≡ Some x
+  found_still = submission_stays w v stays_at one
+
   txns : (id : TxnId) (txn : Txn) → txn_of w id ≡ Some txn → txn_of v id ≡ Some txn
-  txns = txn_stays w v stays_at one
+  txns = txn_stays w v found_still
 
   valid_one : IsValid cluster.procs cluster.regions s.txn
   unfolding s
@@ -339,6 +342,11 @@ module _ {cluster : Cluster} {workload : Workload} {w : World} {order : List Txn
   unfolding v s
   submitted_this = this
 
+  pub submitted_found : (id : TxnId) (x : Submission) → submission_of w id ≡ Some x
+      → submission_of (world_submitted workload w region session place (attempt_for cluster w region session place call)) id ≡ Some x
+  unfolding v s
+  submitted_found = found_still
+
   pub submitted_txns : (id : TxnId) (txn : Txn) → txn_of w id ≡ Some txn → txn_of (world_submitted workload w region session place (attempt_for cluster w region session place call)) id ≡ Some txn
   unfolding v s
   submitted_txns = txns
@@ -415,6 +423,9 @@ module _ {cluster : Cluster} {workload : Workload} {w : World} {order : List Txn
 
     pub made_was : (x : Submission) → Has (submissions (world_made r)) x → Has (submissions w) x ⊎ (attempt_made r ≡ x)
     made_was = submitted_was i ok fits region r.session r.place r.call lr r.member r.here found_here r.wants r.on
+
+    pub made_found : (id : TxnId) (x : Submission) → submission_of w id ≡ Some x → submission_of (world_made r) id ≡ Some x
+    made_found = submitted_found i ok fits region r.session r.place r.call lr r.member r.here found_here r.wants r.on
 
     pub made_txns : (id : TxnId) (txn : Txn) → txn_of w id ≡ Some txn → txn_of (world_made r) id ≡ Some txn
     made_txns = submitted_txns i ok fits region r.session r.place r.call lr r.member r.here found_here r.wants r.on

@@ -31,12 +31,12 @@ use Rattle.dt_session.specs.Run.{world_after, order_of, txns_of, serial_outcomes
 use Rattle.dt_laws.specs.LegalRun.{IsLegalRun}
 use Rattle.dt_laws.specs.Invariant.{Rooted, Inv}
 use Rattle.dt_laws.proofs.Submissions.{txn_id}
-use Rattle.dt_laws.proofs.Executing.{executed_txns}
+use Rattle.dt_laws.proofs.Rule6Execute.{executed_txns}
 use Rattle.dt_laws.proofs.Runs.{world_after_more, run_longer}
-use Rattle.dt_laws.proofs.Keeping.{legal_keeps}
-use Rattle.dt_laws.proofs.Rooting.{history, region_members, region_down}
-use Rattle.dt_laws.proofs.RootedEvents.{legal_roots}
-use Rattle.dt_laws.proofs.Agreeing.{has_lookup, outcomes_in_order, outcome_ids, outcomes_once}
+use Rattle.dt_laws.proofs.LegalWorlds.{legal_keeps}
+use Rattle.dt_laws.proofs.MoveHistory.{history, region_members, region_down}
+use Rattle.dt_laws.proofs.RootedWorlds.{legal_roots}
+use Rattle.dt_laws.proofs.Agreement.{has_lookup, outcomes_in_order, outcome_ids, outcomes_once}
 
 not_stale : (o : Outcome) → ¬ (IsStale (Some o)) → ¬ (serial.IsStale o)
 not_stale (Gave values) n s = s

@@ -25,9 +25,9 @@ use Rattle.dt_session.specs.World.{World, Node, no_node, node_at, with_node, ope
 use Rattle.dt_session.specs.Step.{moved_on}
 use Rattle.dt_session.specs.Run.{txns_of}
 use Rattle.dt_laws.specs.Invariant.{IsSized, IsRunOf, IsExecutedAt, IsOrder, Inv}
-use Rattle.dt_laws.proofs.Kept.{Sized, Sound, Tables, ids_kept, valid_kept, asked_kept, logs_kept, lengths_kept, view_kept, sessions_kept}
+use Rattle.dt_laws.proofs.InvariantParts.{Sized, Sound, Tables, ids_kept, valid_kept, asked_kept, logs_kept, lengths_kept, view_kept, sessions_kept}
 use Rattle.dt_laws.proofs.Submissions.{Keeps, IsKnown, txns_same, txn_id}
-use Rattle.dt_laws.proofs.Known.{closed_full, closed_known, precedes_full}
+use Rattle.dt_laws.proofs.RegionViews.{closed_full, closed_known, precedes_full}
 
 -- the transaction of an id at the end
 pub txns_more : (w : World) (ids : List TxnId) (id : TxnId) (txn : Txn) → txn_of w id ≡ Some txn → txns_of w (ids ++ id ∷ []) ≡ txns_of w ids ++ txn ∷ []

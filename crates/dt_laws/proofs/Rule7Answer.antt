@@ -11,7 +11,7 @@ use Rattle.dt_workload.specs.Valid.{IsValidWorkload}
 use Rattle.dt_session.specs.World.{World, Place, node_at, session_at}
 use Rattle.dt_session.specs.Step.{MayAnswer, MayEnd, answered}
 use Rattle.dt_laws.specs.Invariant.{IsPlaced, IsPlaceOf, Inv}
-use Rattle.dt_laws.proofs.Kept.{logs_kept, lengths_kept, ordered_kept}
+use Rattle.dt_laws.proofs.InvariantParts.{logs_kept, lengths_kept, ordered_kept}
 use Rattle.dt_laws.proofs.Sessions.{session_found, place_changed}
 
 -- a session that is answered has not more answered calls than calls, and made not too many attempts

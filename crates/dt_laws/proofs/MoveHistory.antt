@@ -42,8 +42,8 @@ use Rattle.dt_laws.proofs.Views.{log_is}
 use Rattle.dt_laws.proofs.Homes.{has_set_of}
 use Rattle.dt_laws.proofs.Logs.{logs_past}
 use Rattle.dt_laws.proofs.Sessions.{key_of_test, test_of_key}
-use Rattle.dt_laws.proofs.Known.{view_longer, full_well_formed, done_known, order_closed, order_known}
-use Rattle.dt_laws.proofs.Annotating.{txns_submitted, txns_valid, unmoved_at_first}
+use Rattle.dt_laws.proofs.RegionViews.{view_longer, full_well_formed, done_known, order_closed, order_known}
+use Rattle.dt_laws.proofs.Annotations.{txns_submitted, txns_valid, unmoved_at_first}
 
 -- pairs of a list, by membership and by images
 
