@@ -11,38 +11,32 @@ pub use Rattle.dt_laws.proofs.Agreement.{lookup_has, answered_done}
 pub use Rattle.dt_laws.proofs.WaitingSessions.{WaitsAt}
 pub use Rattle.dt_laws.proofs.Rule1Submit.{Submits}
 pub use Rattle.dt_laws.proofs.Rule2Append.{IsRequest, IsNextRequest}
-use Rattle.std.proofs.Common.{◌≡◌, ◌<◌, ◌≤◌, ◌+◌, ◌⊎◌, ℕ, List, [], ◌∷◌, ◌++◌, length, set, slice_get, Some, None, refl, sym, ap, subst, ◌∙◌}
-use Rattle.std.specs.Prelude.{Option, option_map, unwrap_or, slice_index}
+use Rattle.std.proofs.Common.{◌≡◌, ◌<◌, ◌≤◌, ◌⊎◌, ℕ, List, [], ◌∷◌, ◌++◌, length, set, slice_get, Some, subst}
 use Rattle.dt_lists.specs.Lists.{AllIn, Has, Distinct}
 use Rattle.dt_lists.proofs.Words.{all_get}
-use Rattle.dt_lists.proofs.Places.{place_of}
-use Rattle.dt_lists.proofs.Fronts.{pairwise_length}
 use Rattle.dt_access.specs.Clash.{Bytes}
 use Rattle.dt_access.specs.declared.TxnId.{TxnId}
-use Rattle.dt_access.specs.declared.Part.{Part}
-use Rattle.dt_sched.specs.Views.{ids_of, log_at, IsLonger, IsWellFormed}
+use Rattle.dt_sched.specs.Views.{ids_of, log_at, IsWellFormed}
 use Rattle.dt_events.specs.declared.Event.{Event}
 use Rattle.dt_events.specs.declared.Event.TheVariants.{Append, Execute, Answer}
 use Rattle.dt_txn.specs.declared.Txn.{Txn}
 use Rattle.dt_txn.specs.Transaction.{IsValid, part_of}
-use Rattle.dt_txn.specs.Replica.{MayStep, fronts, done_ids}
+use Rattle.dt_txn.specs.Replica.{MayStep, done_ids}
 use Rattle.dt_cluster.specs.Valid.{IsValidCluster}
 use Rattle.dt_cluster.specs.declared.Cluster.{Cluster}
 use Rattle.dt_workload.specs.Valid.{IsValidWorkload}
 use Rattle.dt_workload.specs.declared.Session.{Session}
 use Rattle.dt_workload.specs.declared.Workload.{Workload}
-use Rattle.dt_session.specs.World.{World, Place, Submission, node_at, asked_of, taken_of, log_of, logs_of, received_of, received_logs, view_at, submissions, submission_of, attempt_of, txn_of, session_at}
-use Rattle.dt_session.specs.Step.{IsLegal, MaySubmit, upcoming_id, placed, next}
+use Rattle.dt_session.specs.World.{World, Place, Submission, node_at, asked_of, taken_of, log_of, logs_of, received_of, received_logs, submissions, txn_of, session_at}
+use Rattle.dt_session.specs.Step.{IsLegal, MaySubmit, placed, next}
 use Rattle.dt_session.specs.Run.{world_after, AreLegal, order_of}
 use Rattle.dt_session.specs.Agreement.{Agree}
 use Rattle.dt_laws.specs.LegalRun.{IsLegalRun}
-use Rattle.dt_laws.specs.Invariant.{IsPartAt, IsWaiting, IsPlaced, IsPlaceOf, Inv}
+use Rattle.dt_laws.specs.Invariant.{IsPlaceOf, Inv}
 use Rattle.dt_laws.specs.Reports.{IsAccounted, IsAnswered}
-use Rattle.dt_laws.proofs.Submissions.{AreUnlike, submission_is_found, txn_found}
-use Rattle.dt_laws.proofs.Logs.{log_once, id_known, part_homed}
-use Rattle.dt_laws.proofs.Requests.{requests_once}
+use Rattle.dt_laws.proofs.Submissions.{AreUnlike, txn_found}
+use Rattle.dt_laws.proofs.Logs.{log_once}
 use Rattle.dt_laws.proofs.RegionViews as views
-use Rattle.dt_laws.proofs.RegionViews.{view_fronts, view_longer, view_well_formed, full_well_formed, order_known}
 use Rattle.dt_laws.proofs.Rule1Submit as rule1
 use Rattle.dt_laws.proofs.WaitingSessions as waiting
 use Rattle.dt_laws.proofs.Rule2Append as rule2
@@ -51,7 +45,6 @@ use Rattle.dt_laws.proofs.LegalWorlds as worlds
 use Rattle.dt_laws.proofs.LaterWorlds as later
 use Rattle.dt_laws.proofs.Agreement as agreement
 use Rattle.dt_laws.proofs.Reports as reports
-use Rattle.dt_laws.proofs.RootedAnnotations.{next_unknown}
 
 -- legal lists
 
@@ -116,25 +109,13 @@ append_cases cluster workload w order home source number lh ls more i = rule2.ap
 -- small facts of a world
 
 module _ (cluster : Cluster) (workload : Workload) (w : World) (order : List TxnId) (i : Inv cluster workload w order) where
-  -- logs
-
   -- the ids in a log are distinct
   pub log_distinct : (home : ℕ) → home < cluster.regions → Distinct (ids_of (log_of w home))
   log_distinct home lt = log_once cluster.regions w i.nodes i.ids i.asked i.logs home lt
 
-  -- each part in a log is that of its submitted transaction
-  pub log_part : (home : ℕ) (p : Part) → home < cluster.regions → Has (log_of w home) p → IsPartAt w home p
-  log_part home p lt h = all_get (IsPartAt w home) (log_of w home) (i.logs home lt).parts p h
-
-  -- and it stands at a home of it
-  pub log_part_homed : (home : ℕ) (p : Part) → home < cluster.regions → Has (log_of w home) p → (p.home ≡ home) × Has p.homes home
-  log_part_homed home p lt h = part_homed cluster.regions w i.nodes i.ids i.asked i.logs home p lt h
-
-  -- what a home has asked for of a region stands there once
-  pub asked_distinct : (region home : ℕ) → region < cluster.regions → home < cluster.regions → Distinct (asked_of w region home)
-  asked_distinct region home lr lh = subst Distinct (sym (i.asked region home lr lh)) (requests_once region home (node_at w region).submitted (i.ids region lr))
-
-  -- ids
+  -- a region received no more of a log than there is
+  pub received_within : (region home : ℕ) → region < cluster.regions → home < cluster.regions → received_of w region home ≤ length (log_of w home)
+  received_within region home lr lh = (i.lengths region home lr lh).received
 
   pub submissions_unlike : AreUnlike (submissions w)
   submissions_unlike = views.submissions_unlike i
@@ -142,10 +123,6 @@ module _ (cluster : Cluster) (workload : Workload) (w : World) (order : List Txn
   -- what a region executed was submitted
   pub done_known : (region : ℕ) → region < cluster.regions → AllIn (IsKnown w) (done_ids (node_at w region).here)
   done_known = views.done_known i
-
-  -- a submission is found by its id
-  pub submission_found : (region : ℕ) (s : Submission) → Has (node_at w region).submitted s → submission_of w s.txn.id ≡ Some s
-  submission_found region s h = submission_is_found cluster.regions w i.nodes i.ids s (from_region w region s h)
 
   pub transaction_found : (region : ℕ) (s : Submission) → Has (node_at w region).submitted s → txn_of w s.txn.id ≡ Some s.txn
   transaction_found region s h = txn_found cluster.regions w i.nodes i.ids s (from_region w region s h)
@@ -158,48 +135,6 @@ module _ (cluster : Cluster) (workload : Workload) (w : World) (order : List Txn
         txn_id w id txn e,
         subst (λ x. x.region < cluster.regions) r.3 (home_region cluster.regions w i.nodes i.ids r.0 r.1).0,
       )
-
-  -- a new id has no transaction, no part in any log, and no region executed it
-  pub new_unknown : (region : ℕ) → txn_of w (upcoming_id w region) ≡ None
-  new_unknown region = go (txn_of w (upcoming_id w region)) refl
-    where
-      go : (o : Option Txn) → txn_of w (upcoming_id w region) ≡ o → txn_of w (upcoming_id w region) ≡ None
-      go None e = e
-      go (Some txn) e = absurd (next_unknown i region (txn, e))
-
-  pub new_not_in_log : (region home : ℕ) → home < cluster.regions → ¬ (Has (ids_of (log_of w home)) (upcoming_id w region))
-  new_not_in_log region home lt h =
-      let id : TxnId = upcoming_id w region in
-      let k : (txn : Txn) × (txn_of w id ≡ Some txn) × (id.region < cluster.regions) = id_known cluster.regions w i.nodes i.ids i.asked i.logs home id lt h in
-      next_unknown i region (k.0, k.1)
-
-  pub new_not_done : (region at : ℕ) → at < cluster.regions → ¬ (Has (done_ids (node_at w at).here) (upcoming_id w region))
-  new_not_done region at lt h = next_unknown i region (all_get (IsKnown w) (done_ids (node_at w at).here) (views.done_known i at lt) (upcoming_id w region) h)
-
-  pub new_not_in_order : (region : ℕ) → ¬ (Has order (upcoming_id w region))
-  new_not_in_order region h = next_unknown i region (all_get (IsKnown w) order (order_known i) (upcoming_id w region) h)
-
-  -- views
-
-  pub inserted_received : (region home : ℕ) → region < cluster.regions → home < cluster.regions → slice_index (node_at w region).here.inserted home ≤ received_of w region home
-  inserted_received region home lr lh = (i.lengths region home lr lh).inserted
-
-  pub received_within : (region home : ℕ) → region < cluster.regions → home < cluster.regions → received_of w region home ≤ length (log_of w home)
-  received_within region home lr lh = (i.lengths region home lr lh).received
-
-  pub view_is_fronts : (region : ℕ) → region < cluster.regions → view_at w region ≡ fronts (node_at w region).here.inserted (logs_of w)
-  view_is_fronts region lr = view_fronts i region lr
-
-  pub view_is_front : (region : ℕ) → region < cluster.regions → IsLonger (view_at w region) (logs_of w)
-  view_is_front region lr = view_longer i region lr
-
-  pub view_formed : (region : ℕ) → region < cluster.regions → IsWellFormed (view_at w region)
-  view_formed region lr = view_well_formed i region lr
-
-  pub logs_formed : IsWellFormed (logs_of w)
-  logs_formed = full_well_formed i
-
-  -- sessions
 
   -- there is a place for each session
   pub places_parallel : length workload.sessions ≡ length w.places
