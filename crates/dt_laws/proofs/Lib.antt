@@ -9,6 +9,7 @@ pub mod InvariantParts
 pub mod RegionViews
 pub mod Annotations
 pub mod OpeningWorld
+pub mod OneRegion
 pub mod Rule1Submit
 pub mod WaitingSessions
 pub mod Rule2Append

@@ -4,7 +4,6 @@ use Rattle.std.specs.Prelude.{slice_index}
 use Rattle.std.proofs.lemmas.List.{length-set, length-take, get_or-set_same, get_or-set_other}
 use Rattle.dt_lists.specs.Lists.{Either}
 use Rattle.dt_lists.proofs.Decided.{either_nat}
-use Rattle.dt_lists.proofs.Places.{field_of_set, map_of_set, flat_map_of_set, each_of_set}
 use Rattle.dt_access.specs.declared.TxnId.{TxnId}
 use Rattle.dt_sched.specs.Views.{log_at, IsLonger}
 use Rattle.dt_sched.specs.Decide.{IsSound}
@@ -14,11 +13,13 @@ use Rattle.dt_events.specs.declared.Event.TheVariants.{Insert}
 use Rattle.dt_txn.specs.Replica.{MayStep, fronts, done_ids}
 use Rattle.dt_cluster.specs.declared.Cluster.{Cluster}
 use Rattle.dt_workload.specs.declared.Workload.{Workload}
-use Rattle.dt_session.specs.World.{World, Node, no_node, node_at, log_of, logs_of, received_of, received_logs, view_at, submissions}
+use Rattle.dt_session.specs.World.{World, Node, node_at, log_of, logs_of, received_of, received_logs, view_at}
 use Rattle.dt_session.specs.Step.{moved_on}
-use Rattle.dt_laws.specs.Invariant.{IsSized, AreInOrder, Inv}
-use Rattle.dt_laws.proofs.InvariantParts.{Sized, Lengths, Sound, ids_kept, valid_kept, asked_kept, logs_kept, received_kept, tables_kept, ordered_kept, sessions_kept}
-use Rattle.dt_laws.proofs.Submissions.{Keeps, txns_same}
+use Rattle.dt_laws.specs.Invariant.{AreInOrder, Inv}
+use Rattle.dt_laws.proofs.InvariantParts.{Lengths, Sound, received_kept, tables_kept, ordered_kept}
+use Rattle.dt_laws.proofs.OneRegion as changed
+use Rattle.dt_laws.proofs.OneRegion.{LeavesRequests}
+use Rattle.dt_laws.proofs.Submissions.{Keeps}
 use Rattle.dt_laws.proofs.Views.{view_is, logs_length, fronts_more, fronts_longer, received_log}
 use Rattle.dt_laws.proofs.RegionViews.{view_fronts, full_well_formed}
 
@@ -37,36 +38,32 @@ module _ {cluster : Cluster} {workload : Workload} {w : World} {order : List Txn
   v : World
   v = moved_on cluster w region (Insert region home)
 
-  logs_same : logs_of v ≡ logs_of w
-  unfolding v n'
-  logs_same = map_of_set (λ n. n.log) w.nodes region n' no_node refl
-
-  subs_same : submissions v ≡ submissions w
-  unfolding v n'
-  subs_same = flat_map_of_set (λ n. n.submitted) w.nodes region n' no_node refl
+  same : LeavesRequests (node_at w region) n'
+  unfolding n'
+  same = record { submitted = refl; log = refl; asked = refl; taken = refl }
 
   keeps : {A : Type 0} (f : Node → A) → f n' ≡ f (node_at w region) → Keeps f w v
   unfolding v n'
-  keeps f e = field_of_set f w.nodes region n' no_node e
+  keeps f e = changed.keeps i region lr n' same f e
+
+  logs_same : logs_of v ≡ logs_of w
+  unfolding v n'
+  logs_same = changed.logs_same i region lr n' same
 
   node : node_at v region ≡ n'
   unfolding v n'
-  node = get_or-set_same w.nodes region n' no_node (subst (λ m. region < m) (sym i.nodes) lr)
+  node = changed.node_now i region lr n' same
+
+  other_same : (q : ℕ) → q ≢ region → node_at v q ≡ node_at w q
+  unfolding v n'
+  other_same q n = changed.others_same i region lr n' same q n
 
   sizes : length (node_at w region).here.inserted ≡ cluster.regions
   sizes = (i.sized region lr).inserted
 
   nodes_now : length v.nodes ≡ cluster.regions
   unfolding v n'
-  nodes_now = length-set w.nodes region n' ∙ i.nodes
-
-  sized : Sized cluster.regions v
-  unfolding v n'
-  sized q lt = each_of_set (λ k n. IsSized cluster.regions n) w.nodes region n' no_node
-      (let s : IsSized cluster.regions (node_at w region) = i.sized region lr in
-      let grown : length ins' ≡ cluster.regions = unfold ins' in length-set (node_at w region).here.inserted home (slice_index (node_at w region).here.inserted home + 1) ∙ s.inserted in
-      record { asked = s.asked; taken = s.taken; received = s.received; inserted = grown })
-      (λ k lk. i.sized k (subst (λ m. k < m) i.nodes lk)) q (subst (λ m. q < m) (sym i.nodes) lt)
+  nodes_now = changed.nodes_now i region lr n' same
 
   -- there was more to insert
   more : slice_index (node_at w region).here.inserted home < received_of w region home
@@ -115,7 +112,7 @@ module _ {cluster : Cluster} {workload : Workload} {w : World} {order : List Txn
           let was : received_of w region other ≤ length (log_of w other) = (i.lengths region other lr lo).received in
           record { inserted = omega (arith, (lengths_here other lo).0, inserted, same); received = omega (arith, log, same, was) })
       by (inr n) =
-          let inserted : slice_index (node_at v q).here.inserted other ≡ slice_index (node_at w q).here.inserted other = unfold v in ap (λ x. slice_index x.here.inserted other) (get_or-set_other w.nodes region q n' no_node n) in
+          let inserted : slice_index (node_at v q).here.inserted other ≡ slice_index (node_at w q).here.inserted other = ap (λ x. slice_index x.here.inserted other) (other_same q n) in
           let same : received_of v q other ≡ received_of w q other = received_same q other in
           record { inserted = omega (arith, before.inserted, inserted, same); received = omega (arith, log, same, before.received) }
 
@@ -131,7 +128,7 @@ module _ {cluster : Cluster} {workload : Workload} {w : World} {order : List Txn
 
       by : Either (q ≡ region) → IsSound (view_at v q) (node_at v q).here.resolved (done_ids (node_at v q).here)
       by (inr n) =
-          let same : node_at v q ≡ node_at w q = unfold v in get_or-set_other w.nodes region q n' no_node n in
+          let same : node_at v q ≡ node_at w q = other_same q n in
           subst (λ x. IsSound x (node_at v q).here.resolved (done_ids (node_at v q).here)) (sym (view_now q lq ∙ ap (λ x. fronts x.here.inserted (logs_of w)) same ∙ sym (view_fronts i q lq)))
           (subst (λ x. IsSound (view_at w q) x.here.resolved (done_ids x.here)) (sym same) before)
       by (inl e) = subst (λ x. IsSound (view_at v x) (node_at v x).here.resolved (done_ids (node_at v x).here)) (sym e) (
@@ -147,16 +144,11 @@ module _ {cluster : Cluster} {workload : Workload} {w : World} {order : List Txn
 
   pub insert_keeps : Inv cluster workload (moved_on cluster w region (Insert region home)) order
   unfolding v n'
-  insert_keeps = record {
-    nodes = length-set w.nodes region n' ∙ i.nodes;
-    sized = sized;
-    ids = ids_kept cluster w v cluster.regions (keeps (λ n. n.submitted) refl) i.ids;
-    valid = valid_kept cluster w v cluster.regions subs_same i.valid;
-    asked = asked_kept cluster w v cluster.regions (keeps (λ n. n.here.asked) refl) (keeps (λ n. n.submitted) refl) i.asked;
-    logs = logs_kept cluster w v cluster.regions (keeps (λ n. n.log) refl) (keeps (λ n. n.here.taken) refl) (keeps (λ n. n.here.asked) refl) (keeps (λ n. n.submitted) refl) i.logs;
+  insert_keeps = changed.change_keeps i region lr n' same order (record {
+    received = (i.sized region lr).received;
+    inserted = unfold ins' in length-set (node_at w region).here.inserted home (slice_index (node_at w region).here.inserted home + 1) ∙ sizes;
     lengths = lengths;
     sound = sound;
-    tables = tables_kept cluster w v (λ q lq. txns_same w v (keeps (λ n. n.submitted) refl) (done_ids (node_at w q).here)) (keeps (λ n. n.here.done) refl) (keeps (λ n. n.here.table) refl) i.tables;
+    tables = tables_kept cluster w v (λ q lq. changed.txns_now i region lr n' same (done_ids (node_at w q).here)) (keeps (λ n. n.here.done) refl) (keeps (λ n. n.here.table) refl) i.tables;
     ordered = ordered_kept cluster w v cluster.regions order logs_same (keeps (λ n. n.here.done) refl) i.ordered;
-    sessions = sessions_kept cluster w v workload (keeps (λ n. n.submitted) refl) refl i.sessions;
-  }
+  })
