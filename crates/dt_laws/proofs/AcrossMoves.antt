@@ -36,7 +36,7 @@ use Rattle.dt_laws.proofs.Runs.{world_after_more, run_longer}
 use Rattle.dt_laws.proofs.LegalWorlds.{legal_keeps}
 use Rattle.dt_laws.proofs.MoveHistory.{history, region_members, region_down}
 use Rattle.dt_laws.proofs.RootedWorlds.{legal_roots}
-use Rattle.dt_laws.proofs.Agreement.{has_lookup, outcomes_in_order, outcome_ids, outcomes_once}
+use Rattle.dt_laws.proofs.AllAgree.{has_lookup, outcomes_in_order, outcome_ids, outcomes_once}
 
 not_stale : (o : Outcome) → ¬ (IsStale (Some o)) → ¬ (serial.IsStale o)
 not_stale (Gave values) n s = s

@@ -7,7 +7,7 @@ pub use Rattle.dt_laws.proofs.Views.{fronts_at, fronts_grown, log_is, logs_lengt
 pub use Rattle.dt_laws.proofs.Sessions.{key_of_test, test_of_key, session_of_test, session_found}
 pub use Rattle.dt_laws.proofs.Runs.{world_from_append, world_after_more, legal_append, legal_more, append_legal, more_legal, with_executed, ordered, order_of_more}
 pub use Rattle.dt_laws.proofs.Annotations.{unmoved_at_first, body_fits}
-pub use Rattle.dt_laws.proofs.Agreement.{lookup_has, answered_done}
+pub use Rattle.dt_laws.proofs.AllAgree.{lookup_has, answered_done}
 pub use Rattle.dt_laws.proofs.WaitingSessions.{WaitsAt}
 pub use Rattle.dt_laws.proofs.Rule1Submit.{Submits}
 pub use Rattle.dt_laws.proofs.Rule2Append.{IsRequest, IsNextRequest}
@@ -43,7 +43,7 @@ use Rattle.dt_laws.proofs.Rule2Append as rule2
 use Rattle.dt_laws.proofs.Rule6Execute as rule6
 use Rattle.dt_laws.proofs.LegalWorlds as worlds
 use Rattle.dt_laws.proofs.LaterWorlds as later
-use Rattle.dt_laws.proofs.Agreement as agreement
+use Rattle.dt_laws.proofs.AllAgree as agreement
 use Rattle.dt_laws.proofs.Reports as reports
 
 -- legal lists

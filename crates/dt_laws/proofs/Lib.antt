@@ -24,7 +24,7 @@ pub mod LaterWorlds
 pub mod MoveHistory
 pub mod RootedAnnotations
 pub mod RootedWorlds
-pub mod Agreement
+pub mod AllAgree
 pub mod AcrossMoves
 pub mod OneHome
 pub mod Reports

@@ -25,7 +25,7 @@ use Rattle.dt_laws.proofs.LegalWorlds.{legal_keeps}
 use Rattle.dt_laws.proofs.LaterWorlds.{later_found}
 use Rattle.dt_laws.proofs.Sessions.{session_found}
 use Rattle.dt_laws.proofs.WaitingSessions.{WaitsAt, waiting_for}
-use Rattle.dt_laws.proofs.Agreement.{order_front, answered_done}
+use Rattle.dt_laws.proofs.AllAgree.{order_front, answered_done}
 use Rattle.dt_laws.proofs.AcrossMoves.{executed_outcome}
 
 -- a known id has a submission

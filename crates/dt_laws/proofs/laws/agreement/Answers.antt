@@ -1,4 +1,4 @@
-use Rattle.dt_laws.proofs.Agreement.{legal_agree}
+use Rattle.dt_laws.proofs.AllAgree.{legal_agree}
 use Rattle.dt_laws.proofs.laws.agreement.Goals as goal
 
 pub returns : goal.returns

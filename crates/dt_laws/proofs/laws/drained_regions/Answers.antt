@@ -1,4 +1,4 @@
-use Rattle.dt_laws.proofs.Agreement.{drained_done}
+use Rattle.dt_laws.proofs.AllAgree.{drained_done}
 use Rattle.dt_laws.proofs.LegalWorlds.{legal_keeps}
 use Rattle.dt_laws.proofs.RootedWorlds.{legal_roots}
 use Rattle.dt_laws.proofs.laws.drained_regions.Goals as goal
