@@ -206,9 +206,9 @@ module _ {cluster : Cluster} {workload : Workload} {w : World} {order : List Txn
           (sym (ap (λ l. table_after cluster.procs l (opening_table cluster)) (txns_more w order id txn e) ∙ table_after_append cluster.procs (txns_of w order) (txn ∷ []) (opening_table cluster)))
           (moves_grow cluster.procs (txn ∷ []) (table_after cluster.procs (txns_of w order) (opening_table cluster)) key)
 
-answer_roots : {cluster : Cluster} {workload : Workload} {w : World} {order : List TxnId} (region : ℕ) (o : Option (Session × Place)) → Rooted cluster w order → Rooted cluster (answered workload w region o) order
-answer_roots region None r = r
-answer_roots region (Some (session, place)) r = r
+answer_roots : (cluster : Cluster) (workload : Workload) (w : World) (order : List TxnId) (region : ℕ) (o : Option (Session × Place)) → Rooted cluster w order → Rooted cluster (answered workload w region o) order
+answer_roots cluster workload w order region None r = r
+answer_roots cluster workload w order region (Some (session, place)) r = r
 
 module _ {cluster : Cluster} {workload : Workload} (ok : IsValidCluster cluster) (fits : IsValidWorkload cluster workload) where
   execute_roots : (w : World) (order : List TxnId) (region : ℕ) (id : TxnId) → region < cluster.regions → MayStep (received_logs w region) (node_at w region).here (Execute region id)
@@ -233,7 +233,7 @@ module _ {cluster : Cluster} {workload : Workload} (ok : IsValidCluster cluster)
   next_roots w order (Insert region home) l i r = step_roots i r region (stepped cluster.procs (txn_of w) (node_at w region).here (Insert region home))
   next_roots w order (Resolve region ids) l i r = step_roots i r region (stepped cluster.procs (txn_of w) (node_at w region).here (Resolve region ids))
   next_roots w order (Execute region id) l i r = execute_roots w order region id l.regions l.allowed i r
-  next_roots w order (Answer region session) l i r = answer_roots region (session_at workload.sessions w.places region session) r
+  next_roots w order (Answer region session) l i r = answer_roots cluster workload w order region (session_at workload.sessions w.places region session) r
 
 -- in a legal world every annotation is rooted
 pub legal_roots : {cluster : Cluster} {workload : Workload} {events : List Event} → IsLegalRun cluster workload events → Rooted cluster (world_after cluster workload events) (order_of events)
