@@ -147,7 +147,7 @@ module _ (cluster : Cluster) (workload : Workload) (w : World) (order : List Txn
         by (inr n) = let a : length (asked_of v s home) ≡ length (asked_of w s home) = ap length (asked_same s) in omega (arith, taken_other s n, before)
 
     parts_now : AllIn (IsPartAt v home) (log_of v home)
-    unfolding part
+    unfolding part n'
     parts_now = subst (AllIn (IsPartAt v home)) (sym log_now) (all_more (IsPartAt v home) (log_of w home) (part_of txn home) (parts_kept cluster w v home (λ x t e. txn_same w v (keeps (λ n. n.submitted) refl) x ∙ e) (log_of w home) (i.logs home lh).parts) (txn, txn_same w v (keeps (λ n. n.submitted) refl) txn.id ∙ is, refl))
 
     logs : Logs cluster.regions v

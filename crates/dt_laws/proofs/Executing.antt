@@ -177,6 +177,7 @@ module _ (cluster : Cluster) (workload : Workload) (w : World) (order : List Txn
 
   -- the region ran one transaction more
   pub executed_txns : txns_of (moved_on cluster w region (Execute region id)) (done_ids (node_at (moved_on cluster w region (Execute region id)) region).here) ≡ txns_of w (done_ids (node_at w region).here) ++ txn ∷ []
+  unfolding n'
   executed_txns = subst (λ x. txns_of x (done_ids (node_at x region).here) ≡ txns_of w (done_ids (node_at w region).here) ++ txn ∷ []) world_is
       (txns_same w v (keeps (λ n. n.submitted) refl) (done_ids (node_at v region).here) ∙ ap (txns_of w) done_now ∙ txns_more w (done_ids (node_at w region).here) id txn found)
 
