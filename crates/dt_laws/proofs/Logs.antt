@@ -15,14 +15,14 @@ use Rattle.dt_access.specs.declared.Part.{Part}
 use Rattle.dt_sched.specs.Views.{ids_of, log_at, IsWellFormed}
 use Rattle.dt_txn.specs.declared.Txn.{Txn}
 use Rattle.dt_txn.specs.Transaction.{homes_of}
-use Rattle.dt_session.specs.World.{World, Submission, no_node, node_at, asked_of, taken_from, logs_of, log_of, submissions, txn_of}
+use Rattle.dt_session.specs.World.{World, Submission, no_node, node_at, asked_of, taken_of, logs_of, log_of, submissions, txn_of}
 use Rattle.dt_laws.specs.Invariant.{has_home, requests, IsPartAt, given_by}
 use Rattle.dt_laws.proofs.Ids.{equal_of_test, test_of_equal}
 use Rattle.dt_laws.proofs.Submissions.{txn_there, home_region, from_region, txn_found}
 use Rattle.dt_laws.proofs.Homes.{home_of_test}
 use Rattle.dt_laws.proofs.Requests.{request_has, requests_once}
 use Rattle.dt_laws.proofs.Views.{log_is}
-use Rattle.dt_laws.proofs.Kept.{Numbered, Asked, Logs}
+use Rattle.dt_laws.proofs.InvariantParts.{Numbered, Asked, Logs}
 
 none_filtered : {A : Type 0} (test : A → Bool) (xs : List A) → AllIn (λ x. test x ≡ false) xs → filter test xs ≡ []
 none_filtered test [] a = refl
@@ -51,15 +51,15 @@ module _ (regions : ℕ) (w : World) (nodes : length w.nodes ≡ regions) where
     id_requested home id lt h =
         let k : (txn : Txn) × (txn_of w id ≡ Some txn) × (id.region < regions) = id_known home id lt h in
         let g : Has (given_by id.region (ids_of (log_of w home))) id = has_filter (λ i. eqb i.region id.region) (ids_of (log_of w home)) id h (test_of_equal id.region id.region refl) in
-        let t : Has (take (taken_from w home id.region) (asked_of w id.region home)) id = subst (λ l. Has l id) ((logs home lt).given id.region k.2) g in
-        subst (λ l. Has l id) (asked id.region home k.2 lt) (any_front _ (take (taken_from w home id.region) (asked_of w id.region home)) (asked_of w id.region home) (front_take (taken_from w home id.region) (asked_of w id.region home)) t)
+        let t : Has (take (taken_of w home id.region) (asked_of w id.region home)) id = subst (λ l. Has l id) ((logs home lt).given id.region k.2) g in
+        subst (λ l. Has l id) (asked id.region home k.2 lt) (any_front _ (take (taken_of w home id.region) (asked_of w id.region home)) (asked_of w id.region home) (front_take (taken_of w home id.region) (asked_of w id.region home)) t)
 
     -- no id stands twice in a log
     pub log_once : (home : ℕ) → home < regions → Distinct (ids_of (log_of w home))
     log_once home lt = distinct_by_key (λ b i. eqb i.region b) (λ i. i.region) (ids_of (log_of w home)) (λ i. test_of_equal i.region i.region refl) (λ b. by b (either_le (suc b) regions))
       where
         by : (b : ℕ) → Either (b < regions) → Distinct (given_by b (ids_of (log_of w home)))
-        by b (inl lb) = subst Distinct (sym ((logs home lt).given b lb)) (each_front _ (take (taken_from w home b) (asked_of w b home)) (asked_of w b home) (front_take (taken_from w home b) (asked_of w b home))
+        by b (inl lb) = subst Distinct (sym ((logs home lt).given b lb)) (each_front _ (take (taken_of w home b) (asked_of w b home)) (asked_of w b home) (front_take (taken_of w home b) (asked_of w b home))
             (subst Distinct (sym (asked b home lb lt)) (requests_once b home (node_at w b).submitted (ids b lb))))
         by b (inr nb) = subst Distinct (sym (none_filtered (λ i. eqb i.region b) (ids_of (log_of w home)) (all_put _ (ids_of (log_of w home)) none))) tt
           where
@@ -73,7 +73,8 @@ module _ (regions : ℕ) (w : World) (nodes : length w.nodes ≡ regions) where
     pub part_homed : (home : ℕ) (p : Part) → home < regions → Has (log_of w home) p → (p.home ≡ home) × Has p.homes home
     part_homed home p lt h =
         let part : IsPartAt w home p = all_get (IsPartAt w home) (log_of w home) (logs home lt).parts p h in
-        let q : (s : Submission) × Has (node_at w p.id.region).submitted s × (s.txn.id ≡ p.id) × (has_home home s.txn ≡ true) = request_has home (node_at w p.id.region).submitted p.id (id_requested home p.id lt (any_image (λ y. y ≡ p.id) (λ x. x.id) (log_of w home) (any_put _ (log_of w home) p h refl))) in
+        let q : (s : Submission) × Has (node_at w p.id.region).submitted s × (s.txn.id ≡ p.id) × (has_home home s.txn ≡ true) =
+        request_has home (node_at w p.id.region).submitted p.id (id_requested home p.id lt (any_image (λ y. y ≡ p.id) (λ x. x.id) (log_of w home) (any_put _ (log_of w home) p h refl))) in
         let found : txn_of w p.id ≡ Some q.0.txn = subst (λ i. txn_of w i ≡ Some q.0.txn) q.2 (txn_found regions w nodes ids q.0 (from_region w p.id.region q.0 q.1)) in
         let both : Some q.0.txn ≡ Some part.0 = sym found ∙ part.1 in
         let same : q.0.txn ≡ part.0 = cc in
@@ -90,7 +91,8 @@ module _ (regions : ℕ) (w : World) (nodes : length w.nodes ≡ regions) where
         ap (λ x. x.homes) a.2 ∙ ap homes_of same ∙ sym (ap (λ x. x.homes) b.2)
 
     pub logs_well_formed : IsWellFormed (logs_of w)
-    logs_well_formed = record { once = λ home. once home (either_le (suc home) regions); homed = λ home. homed home (either_le (suc home) regions); alike = λ home other. alike home other (either_le (suc home) regions) (either_le (suc other) regions) }
+    logs_well_formed =
+        record { once = λ home. once home (either_le (suc home) regions); homed = λ home. homed home (either_le (suc home) regions); alike = λ home other. alike home other (either_le (suc home) regions) (either_le (suc other) regions) }
       where
         once : (home : ℕ) → Either (home < regions) → Distinct (ids_of (log_at (logs_of w) home))
         once home (inl lt) = subst (λ l. Distinct (ids_of l)) (sym (log_is w home)) (log_once home lt)

@@ -17,6 +17,7 @@ use Rattle.dt_workload.specs.declared.Workload.{Workload}
 use Rattle.dt_session.specs.World.{World, opening_world}
 use Rattle.dt_session.specs.Step.{IsLegal, next}
 use Rattle.dt_session.specs.Run.{world_from, world_after, AreLegalFrom, AreLegal, executed_id, without, firsts, order_of}
+use Rattle.dt_laws.specs.LegalRun.{IsLegalRun}
 use Rattle.dt_laws.proofs.Ids.{id_of_test, test_of_id}
 
 -- the order after the id of an event, if it executes one: an id that is executed for the first time comes last
@@ -39,19 +40,45 @@ world_after_more cluster workload events event = world_from_append cluster workl
 
 -- what is legal
 
-pub legal_append : (cluster : Cluster) (workload : Workload) (w : World) (xs ys : List Event) → AreLegalFrom cluster workload w (xs ++ ys) → AreLegalFrom cluster workload w xs × AreLegalFrom cluster workload (world_from cluster workload w xs) ys
+pub legal_append : (cluster : Cluster) (workload : Workload) (w : World) (xs ys : List Event) → AreLegalFrom cluster workload w (xs ++ ys)
+    → AreLegalFrom cluster workload w xs × AreLegalFrom cluster workload (world_from cluster workload w xs) ys
 legal_append cluster workload w [] ys l = (tt, l)
-legal_append cluster workload w (x ∷ xs) ys l = let r : AreLegalFrom cluster workload (next cluster workload w x) xs × AreLegalFrom cluster workload (world_from cluster workload (next cluster workload w x) xs) ys = legal_append cluster workload (next cluster workload w x) xs ys l.1 in ((l.0, r.0), r.1)
+legal_append cluster workload w (x ∷ xs) ys l =
+    let r : AreLegalFrom cluster workload (next cluster workload w x) xs × AreLegalFrom cluster workload (world_from cluster workload (next cluster workload w x) xs) ys =
+    legal_append cluster workload (next cluster workload w x) xs ys l.1 in ((l.0, r.0), r.1)
 
-pub legal_more : (cluster : Cluster) (workload : Workload) (events : List Event) (event : Event) → AreLegal cluster workload (events ++ event ∷ []) → AreLegal cluster workload events × IsLegal cluster workload (world_after cluster workload events) event
-legal_more cluster workload events event l = let r : AreLegal cluster workload events × AreLegalFrom cluster workload (world_after cluster workload events) (event ∷ []) = legal_append cluster workload (opening_world cluster workload) events (event ∷ []) l in (r.0, r.1.0)
+pub legal_more : (cluster : Cluster) (workload : Workload) (events : List Event) (event : Event) → AreLegal cluster workload (events ++ event ∷ [])
+    → AreLegal cluster workload events × IsLegal cluster workload (world_after cluster workload events) event
+legal_more cluster workload events event l =
+    let r : AreLegal cluster workload events × AreLegalFrom cluster workload (world_after cluster workload events) (event ∷ []) = legal_append cluster workload (opening_world cluster workload) events (event ∷ []) l in (r.0, r.1.0)
 
-pub append_legal : (cluster : Cluster) (workload : Workload) (w : World) (xs ys : List Event) → AreLegalFrom cluster workload w xs → AreLegalFrom cluster workload (world_from cluster workload w xs) ys → AreLegalFrom cluster workload w (xs ++ ys)
+pub append_legal : (cluster : Cluster) (workload : Workload) (w : World) (xs ys : List Event) → AreLegalFrom cluster workload w xs
+    → AreLegalFrom cluster workload (world_from cluster workload w xs) ys → AreLegalFrom cluster workload w (xs ++ ys)
 append_legal cluster workload w [] ys a b = b
 append_legal cluster workload w (x ∷ xs) ys a b = (a.0, append_legal cluster workload (next cluster workload w x) xs ys a.1 b)
 
-pub more_legal : (cluster : Cluster) (workload : Workload) (events : List Event) (event : Event) → AreLegal cluster workload events → IsLegal cluster workload (world_after cluster workload events) event → AreLegal cluster workload (events ++ event ∷ [])
+pub more_legal : (cluster : Cluster) (workload : Workload) (events : List Event) (event : Event) → AreLegal cluster workload events
+    → IsLegal cluster workload (world_after cluster workload events) event → AreLegal cluster workload (events ++ event ∷ [])
 more_legal cluster workload events event a l = append_legal cluster workload (opening_world cluster workload) events (event ∷ []) a (l, tt)
+
+-- a legal run without its last event, and any front of one
+
+pub run_more : {cluster : Cluster} {workload : Workload} {events : List Event} {event : Event} → IsLegalRun cluster workload (events ++ event ∷ [])
+    → IsLegalRun cluster workload events × IsLegal cluster workload (world_after cluster workload events) event
+run_more {cluster = cluster} {workload = workload} {events = events} {event = event} run =
+    let r : AreLegal cluster workload events × IsLegal cluster workload (world_after cluster workload events) event = legal_more cluster workload events event run.legal in
+    (record { sound = run.sound; fits = run.fits; legal = r.0 }, r.1)
+
+pub run_front : {cluster : Cluster} {workload : Workload} (xs ys : List Event) → IsLegalRun cluster workload (xs ++ ys)
+    → IsLegalRun cluster workload xs × AreLegalFrom cluster workload (world_after cluster workload xs) ys
+run_front {cluster = cluster} {workload = workload} xs ys run =
+    let r : AreLegal cluster workload xs × AreLegalFrom cluster workload (world_after cluster workload xs) ys = legal_append cluster workload (opening_world cluster workload) xs ys run.legal in
+    (record { sound = run.sound; fits = run.fits; legal = r.0 }, r.1)
+
+pub run_longer : {cluster : Cluster} {workload : Workload} {events : List Event} {event : Event} → IsLegalRun cluster workload events
+    → IsLegal cluster workload (world_after cluster workload events) event → IsLegalRun cluster workload (events ++ event ∷ [])
+run_longer {cluster = cluster} {workload = workload} {events = events} {event = event} run l =
+    record { sound = run.sound; fits = run.fits; legal = more_legal cluster workload events event run.legal l }
 
 -- the order
 
@@ -93,7 +120,8 @@ firsts_more (x ∷ xs) y = go (cases_Bool (is_among (firsts xs) y)) (cases_Bool 
     stays : same_id x y ≡ false → not (same_id x y) ≡ true
     stays n = rw n refl
 
-    go : (is_among (firsts xs) y ≡ true) ⊎ (is_among (firsts xs) y ≡ false) → (same_id x y ≡ true) ⊎ (same_id x y ≡ false) → firsts (xs ++ y ∷ []) ≡ with_executed (firsts xs) (Some y) → firsts ((x ∷ xs) ++ y ∷ []) ≡ with_executed (firsts (x ∷ xs)) (Some y)
+    go : (is_among (firsts xs) y ≡ true) ⊎ (is_among (firsts xs) y ≡ false) → (same_id x y ≡ true) ⊎ (same_id x y ≡ false) → firsts (xs ++ y ∷ []) ≡ with_executed (firsts xs) (Some y)
+        → firsts ((x ∷ xs) ++ y ∷ []) ≡ with_executed (firsts (x ∷ xs)) (Some y)
     go (inl p) (inl q) ih = shorter (firsts xs) (before p ih) ∙ sym (there (inl (id_of_test x y q)))
     go (inl p) (inr q) ih = shorter (firsts xs) (before p ih) ∙ sym (there (inr (has_filter (λ other. not (same_id x other)) (firsts xs) y (has_of_among (firsts xs) y p) (stays q))))
     go (inr n) (inl q) ih = shorter (firsts xs ++ y ∷ []) (after n ih) ∙ ap (λ l. x ∷ l) (joined ∙ ap (λ l. without x (firsts xs) ++ l) (gone_here q) ∙ append-nil (without x (firsts xs))) ∙ sym (there (inl (id_of_test x y q)))

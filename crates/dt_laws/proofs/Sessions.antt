@@ -27,12 +27,14 @@ session_of_test region name s e =
     (key_of_test s.name name r.0, equal_of_test s.region region r.1)
 
 -- the session that is found has the name and the region, and what holds of all sessions with their places holds of it
-pub session_found : (P : Session → Place → Type 0) (sessions : List Session) (places : List Place) (region : ℕ) (name : Bytes) (s : Session) (p : Place) → Pairwise P sessions places → session_at sessions places region name ≡ Some (s, p) → Has sessions s × (s.name ≡ name) × (s.region ≡ region) × P s p
+pub session_found : (P : Session → Place → Type 0) (sessions : List Session) (places : List Place) (region : ℕ) (name : Bytes) (s : Session) (p : Place) → Pairwise P sessions places
+    → session_at sessions places region name ≡ Some (s, p) → Has sessions s × (s.name ≡ name) × (s.region ≡ region) × P s p
 session_found P [] places region name s p a e = cc
 session_found P (t ∷ sessions) [] region name s p a e = absurd a
 session_found P (t ∷ sessions) (x ∷ places) region name s p a e = go (cases_Bool (is_session region name t)) (session_found P sessions places region name s p a.1)
   where
-    go : (is_session region name t ≡ true) ⊎ (is_session region name t ≡ false) → (session_at sessions places region name ≡ Some (s, p) → Has sessions s × (s.name ≡ name) × (s.region ≡ region) × P s p) → Has (t ∷ sessions) s × (s.name ≡ name) × (s.region ≡ region) × P s p
+    go : (is_session region name t ≡ true) ⊎ (is_session region name t ≡ false) → (session_at sessions places region name ≡ Some (s, p) → Has sessions s × (s.name ≡ name) × (s.region ≡ region) × P s p)
+        → Has (t ∷ sessions) s × (s.name ≡ name) × (s.region ≡ region) × P s p
     go (inl q) f =
         let is : ◌≡◌ {A = Option (Session × Place)} (Some (t, x)) (Some (s, p)) = rw q at e in
         let st : t ≡ s = (some_pair_parts t s x p is).0 in
@@ -55,7 +57,9 @@ place_changed P Q (t ∷ sessions) (x ∷ places) region name s p place once q o
     rest (u ∷ us) [] n b = b
     rest (u ∷ us) (y ∷ ys) n b = (others u y (n u (inl refl)) b.0, rest us ys (λ v h. n v (inr h)) b.1)
 
-    go : (is_session region name t ≡ true) ⊎ (is_session region name t ≡ false) → (session_at sessions places region name ≡ Some (s, p) → Pairwise Q sessions (with_place sessions places region name place)) → Pairwise Q (t ∷ sessions) (with_place (t ∷ sessions) (x ∷ places) region name place)
+    go : (is_session region name t ≡ true) ⊎ (is_session region name t ≡ false)
+        → (session_at sessions places region name ≡ Some (s, p) → Pairwise Q sessions (with_place sessions places region name place))
+        → Pairwise Q (t ∷ sessions) (with_place (t ∷ sessions) (x ∷ places) region name place)
     go (inl y) f =
         let is : ◌≡◌ {A = Option (Session × Place)} (Some (t, x)) (Some (s, p)) = rw y at e in
         let st : t ≡ s = (some_pair_parts t s x p is).0 in

@@ -1,6 +1,7 @@
 -- Submissions by their ids: each id has one, and it is found.
-use Rattle.std.proofs.Common.{◌≡◌, ◌≢◌, ◌<◌, ◌+◌, ◌⊎◌, ℕ, true, false, List, [], ◌∷◌, length, slice_get, Some, None, refl, sym, ap, subst, ◌∙◌, inl, inr, arith}
-use Rattle.std.specs.Prelude.{Option, option_map, filter_map}
+use Rattle.std.proofs.Common.{◌≡◌, ◌≢◌, ◌<◌, ◌+◌, ◌⊎◌, ℕ, true, false, List, [], ◌∷◌, length, slice_get, Some, None, refl, sym, ap, ap₂, subst, ◌∙◌, inl, inr, arith}
+use Rattle.std.specs.Prelude.{Option, option_map}
+use Rattle.std.specs.List.{cons_option}
 use Rattle.std.proofs.lemmas.Bool.{cases_Bool}
 use Rattle.dt_lists.specs.Lists.{AllIn, Has}
 use Rattle.dt_lists.proofs.Words.{any_at, any_from_at}
@@ -8,10 +9,14 @@ use Rattle.dt_lists.proofs.Places.{place_of, any_in_joined, any_of_joined}
 use Rattle.dt_access.specs.Ids.{same_id}
 use Rattle.dt_access.specs.declared.TxnId.{TxnId}
 use Rattle.dt_txn.specs.declared.Txn.{Txn}
-use Rattle.dt_session.specs.World.{World, Submission, no_node, node_at, submissions, find_submission, txn_of}
+use Rattle.dt_session.specs.World.{World, Node, Submission, no_node, node_at, submissions, find_submission, submission_of, txn_of}
 use Rattle.dt_session.specs.Run.{txns_of}
 use Rattle.dt_laws.specs.Invariant.{AreNumbered}
 use Rattle.dt_laws.proofs.Ids.{id_of_test, test_of_id, test_of_other}
+
+-- each region has this of its node in the second world as in the first
+abbrev pub Keeps : {A : Type 0} → (Node → A) → World → World → Type 0
+Keeps f w v = (region : ℕ) → f (node_at v region) ≡ f (node_at w region)
 
 -- the first submission of an id
 
@@ -51,6 +56,10 @@ at_region w s h = any_at (λ n. Has n.submitted s) no_node w.nodes (any_in_joine
 pub from_region : (w : World) (r : ℕ) (s : Submission) → Has (node_at w r).submitted s → Has (submissions w) s
 from_region w r s h = any_of_joined (λ x. x ≡ s) (λ n. n.submitted) w.nodes (any_from_at (λ n. Has n.submitted s) no_node w.nodes r (λ e. e) h)
 
+-- then the same goes for the list of each region
+pub unlike_at : (w : World) → AreUnlike (submissions w) → (r : ℕ) → AreUnlike (node_at w r).submitted
+unlike_at w one r a b ha hb = one a b (from_region w r a ha) (from_region w r b hb)
+
 module _ (regions : ℕ) (w : World) (nodes : length w.nodes ≡ regions) (ids : (region : ℕ) → region < regions → AreNumbered region (node_at w region).submitted) where
   -- the region and the place of a submission, by its id
   pub numbered : (s : Submission) → Has (submissions w) s → (r i : ℕ) × (r < regions) × (slice_get (node_at w r).submitted i ≡ Some s) × (s.txn.id ≡ record { seq = i + 1; region = r })
@@ -74,9 +83,6 @@ module _ (regions : ℕ) (w : World) (nodes : length w.nodes ≡ regions) (ids :
           let both : Some a ≡ Some b = sym there ∙ q.3 in
           cc
 
-  pub txn_found : (s : Submission) → Has (submissions w) s → txn_of w s.txn.id ≡ Some s.txn
-  txn_found s h = ap (option_map (λ x. x.txn)) (find_of_has (submissions w) s unlike h)
-
   -- a submission stands with the region of its id
   pub home_region : (s : Submission) → Has (submissions w) s → (s.txn.id.region < regions) × Has (node_at w s.txn.id.region).submitted s
   home_region s h =
@@ -86,12 +92,19 @@ module _ (regions : ℕ) (w : World) (nodes : length w.nodes ≡ regions) (ids :
       let r : s.txn.id.region ≡ a.0 = ap (λ x. x.region) (ids a.0 lt p.0 s p.1) in
       (subst (λ x. x < regions) (sym r) lt, subst (λ x. Has (node_at w x).submitted s) (sym r) a.2)
 
+  -- so it is found there
+  pub submission_is_found : (s : Submission) → Has (submissions w) s → submission_of w s.txn.id ≡ Some s
+  submission_is_found s h = find_of_has (node_at w s.txn.id.region).submitted s (unlike_at w unlike s.txn.id.region) (home_region s h).1
+
+  pub txn_found : (s : Submission) → Has (submissions w) s → txn_of w s.txn.id ≡ Some s.txn
+  txn_found s h = ap (option_map (λ x. x.txn)) (submission_is_found s h)
+
 pub txn_there : (w : World) (id : TxnId) (txn : Txn) → txn_of w id ≡ Some txn → (s : Submission) × Has (submissions w) s × (s.txn ≡ txn) × (s.txn.id ≡ id)
-txn_there w id txn e = go (find_submission (submissions w) id) refl e
+txn_there w id txn e = go (submission_of w id) refl e
   where
-    go : (o : Option Submission) → find_submission (submissions w) id ≡ o → option_map (λ s. s.txn) o ≡ Some txn → (s : Submission) × Has (submissions w) s × (s.txn ≡ txn) × (s.txn.id ≡ id)
+    go : (o : Option Submission) → submission_of w id ≡ o → option_map (λ s. s.txn) o ≡ Some txn → (s : Submission) × Has (submissions w) s × (s.txn ≡ txn) × (s.txn.id ≡ id)
     go None is e = cc
-    go (Some s) is e = let r : Has (submissions w) s × (s.txn.id ≡ id) = find_has (submissions w) id s is in (s, r.0, cc, r.1)
+    go (Some s) is e = let r : Has (node_at w id.region).submitted s × (s.txn.id ≡ id) = find_has (node_at w id.region).submitted id s is in (s, from_region w id.region s r.0, cc, r.1)
 
 pub txn_id : (w : World) (id : TxnId) (txn : Txn) → txn_of w id ≡ Some txn → txn.id ≡ id
 txn_id w id txn e = let r : (s : Submission) × Has (submissions w) s × (s.txn ≡ txn) × (s.txn.id ≡ id) = txn_there w id txn e in ap (λ t. t.id) (sym r.2) ∙ r.3
@@ -100,19 +113,33 @@ txn_id w id txn e = let r : (s : Submission) × Has (submissions w) s × (s.txn 
 abbrev pub IsKnown : World → TxnId → Type 0
 IsKnown w id = (txn : Txn) × (txn_of w id ≡ Some txn)
 
--- more submissions, among which no two have one id, leave the transactions of ids as they were
-pub txn_stays : (w v : World) → ((s : Submission) → Has (submissions w) s → Has (submissions v) s) → AreUnlike (submissions v) → (id : TxnId) (txn : Txn) → txn_of w id ≡ Some txn → txn_of v id ≡ Some txn
-txn_stays w v more one id txn e =
-    let r : (s : Submission) × Has (submissions w) s × (s.txn ≡ txn) × (s.txn.id ≡ id) = txn_there w id txn e in
-    subst (λ i. txn_of v i ≡ Some txn) r.3 (ap (option_map (λ x. x.txn)) (find_of_has (submissions v) r.0 one (more r.0 r.1)) ∙ ap Some r.2)
+-- more submissions, among which no two have one id, leave those of ids as they were
+pub submission_stays : (w v : World) → ((region : ℕ) (s : Submission) → Has (node_at w region).submitted s → Has (node_at v region).submitted s) → AreUnlike (submissions v)
+    → (id : TxnId) (s : Submission) → submission_of w id ≡ Some s → submission_of v id ≡ Some s
+submission_stays w v more one id s e =
+    let r : Has (node_at w id.region).submitted s × (s.txn.id ≡ id) = find_has (node_at w id.region).submitted id s e in
+    let found : find_submission (node_at v id.region).submitted s.txn.id ≡ Some s = find_of_has (node_at v id.region).submitted s (unlike_at v one id.region) (more id.region s r.0) in
+    ap (find_submission (node_at v id.region).submitted) (sym r.1) ∙ found
+
+-- and so their transactions
+pub txn_stays : (w v : World) → ((id : TxnId) (s : Submission) → submission_of w id ≡ Some s → submission_of v id ≡ Some s) → (id : TxnId) (txn : Txn) → txn_of w id ≡ Some txn → txn_of v id ≡ Some txn
+txn_stays w v stays id txn e = go (submission_of w id) refl e
+  where
+    go : (o : Option Submission) → submission_of w id ≡ o → option_map (λ s. s.txn) o ≡ Some txn → txn_of v id ≡ Some txn
+    go None is e = cc
+    go (Some s) is e = ap (option_map (λ x. x.txn)) (stays id s is) ∙ e
 
 pub txns_stay : (w v : World) → ((id : TxnId) (txn : Txn) → txn_of w id ≡ Some txn → txn_of v id ≡ Some txn) → (ids : List TxnId) → AllIn (IsKnown w) ids → txns_of v ids ≡ txns_of w ids
 txns_stay w v f [] a = refl
 txns_stay w v f (id ∷ ids) a = let before : txn_of w id ≡ Some a.0.0 = a.0.1 in let now : txn_of v id ≡ Some a.0.0 = f id a.0.0 a.0.1 in rw (before, now) (ap (λ l. a.0.0 ∷ l) (txns_stay w v f ids a.1))
 
--- worlds with the same submissions have the same transactions
-pub txn_same : (w v : World) → submissions v ≡ submissions w → (id : TxnId) → txn_of v id ≡ txn_of w id
-txn_same w v e id = ap (λ l. option_map (λ s. s.txn) (find_submission l id)) e
+-- worlds with the same submissions find the same, and have the same transactions
+pub submission_same : (w v : World) → Keeps (λ n. n.submitted) w v → (id : TxnId) → submission_of v id ≡ submission_of w id
+submission_same w v k id = ap (λ l. find_submission l id) (k id.region)
 
-pub txns_same : (w v : World) → submissions v ≡ submissions w → (ids : List TxnId) → txns_of v ids ≡ txns_of w ids
-txns_same w v e ids = ap (λ l. filter_map (λ id. option_map (λ s. s.txn) (find_submission l id)) ids) e
+pub txn_same : (w v : World) → Keeps (λ n. n.submitted) w v → (id : TxnId) → txn_of v id ≡ txn_of w id
+txn_same w v k id = ap (option_map (λ s. s.txn)) (submission_same w v k id)
+
+pub txns_same : (w v : World) → Keeps (λ n. n.submitted) w v → (ids : List TxnId) → txns_of v ids ≡ txns_of w ids
+txns_same w v k [] = refl
+txns_same w v k (id ∷ ids) = ap₂ cons_option (txn_same w v k id) (txns_same w v k ids)

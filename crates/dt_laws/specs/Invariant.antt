@@ -1,4 +1,7 @@
--- What every legal world keeps, for any number of regions, homes and moves.
+-- What every legal world keeps, for any number of regions, homes and moves (`Inv`): ids, logs, what regions inserted, resolved
+-- and executed, and where sessions stand. And that each annotation is rooted in one history of moves (`Rooted`), which is what
+-- ties attempts together that use a key under different homes. From the two follows that all regions agree; the laws of
+-- `src/laws.rt` say so.
 use Rattle.std.specs.Prelude.{◌≡◌, ◌<◌, ◌≤◌, ◌↔◌, ◌+◌, ◌*◌, ◌==◌, ℕ, zero, suc, Bool, List, length, map, filter, take, slice_index, slice_get, Option, Some, None}
 use Rattle.std.specs.List.{list_any}
 use Rattle.dt_lists.specs.Lists.{AnyIn, AllIn, Has, Pairwise}
@@ -17,14 +20,16 @@ use Rattle.dt_txn.specs.Replica.{Replica, done_ids}
 use Rattle.dt_serial.specs.Order.{IsDown}
 use Rattle.dt_cluster.specs.declared.Cluster.{Cluster}
 use Rattle.dt_workload.specs.declared.Session.{Session}
+use Rattle.dt_workload.specs.declared.Wanted.{Wanted}
 use Rattle.dt_workload.specs.declared.Workload.{Workload}
-use Rattle.dt_session.specs.World.{World, Node, Place, Submission, opening_table, node_at, asked_of, taken_from, logs_of, log_of, received_of, view_at, submissions, txn_of}
+use Rattle.dt_session.specs.World.{World, Node, Place, Submission, opening_table, node_at, asked_of, taken_of, logs_of, log_of, received_of, view_at, submissions, txn_of}
+use Rattle.dt_session.specs.Step.{body_of}
 use Rattle.dt_session.specs.Run.{txns_of}
 
 -- each of a region's lists that has an entry for each region is as long as there are regions
 pub record IsSized (regions : ℕ) (node : Node) : Type 0 where
-  pub asked : length node.asked ≡ regions
-  pub taken : length node.taken ≡ regions
+  pub asked : length node.here.asked ≡ regions
+  pub taken : length node.here.taken ≡ regions
   pub received : length node.received ≡ regions
   pub inserted : length node.here.inserted ≡ regions
 
@@ -52,8 +57,8 @@ given_by region ids = filter (λ id. id.region == region) ids
 -- the first of that region's requests, as many as were taken
 pub record IsLog (regions : ℕ) (w : World) (home : ℕ) : Type 0 where
   pub parts : AllIn (IsPartAt w home) (log_of w home)
-  pub taken : (source : ℕ) → source < regions → taken_from w home source ≤ length (asked_of w source home)
-  pub given : (source : ℕ) → source < regions → given_by source (ids_of (log_of w home)) ≡ take (taken_from w home source) (asked_of w source home)
+  pub taken : (source : ℕ) → source < regions → taken_of w home source ≤ length (asked_of w source home)
+  pub given : (source : ℕ) → source < regions → given_by source (ids_of (log_of w home)) ≡ take (taken_of w home source) (asked_of w source home)
 
 -- of a home's log a region inserted no more than it received, and received no more than there is
 pub record AreInOrder (w : World) (region home : ℕ) : Type 0 where
@@ -78,12 +83,21 @@ pub record IsOrder (regions : ℕ) (w : World) (order : List TxnId) : Type 0 whe
 abbrev pub attempts_by : Bytes → List Submission → ℕ
 attempts_by name submitted = length (filter (λ s. same_key s.session name) submitted)
 
--- a submission of a session: of one of its calls, and no attempt too many
+-- a submission does what the session's call of its number asks for; `place` is the place of that call in the session
+pub record IsOfCall (s : Submission) (session : Session) : Type 0 where
+  pub place : ℕ
+  pub call : Wanted
+  pub number : s.call ≡ place + 1
+  pub called : slice_get session.calls place ≡ Some call
+  pub body : s.txn.body ≡ body_of call
+
+-- a submission of a session: of one of its calls, which it does, and no attempt too many
 pub record IsSubmissionOf (tries region : ℕ) (s : Submission) (session : Session) : Type 0 where
   pub name : s.session ≡ session.name
   pub here : session.region ≡ region
   pub call_from : 1 ≤ s.call
   pub call_to : s.call ≤ length session.calls
+  pub of_call : IsOfCall s session
   pub attempt_from : 1 ≤ s.attempt
   pub attempt_to : s.attempt ≤ tries
 
@@ -112,7 +126,7 @@ pub record IsPlaceOf (tries : ℕ) (w : World) (session : Session) (place : Plac
   pub placed : IsPlaced tries (node_at w session.region).submitted session place.answered place.waits
 
 -- sessions and their submissions
-pub record AreSessions (cluster : Cluster) (workload : Workload) (w : World) : Type 0 where
+pub record SessionsMatch (cluster : Cluster) (workload : Workload) (w : World) : Type 0 where
   pub places : Pairwise (IsPlaceOf cluster.tries w) workload.sessions w.places
   pub known : (region : ℕ) → region < cluster.regions → AllIn (λ s. AnyIn (IsSubmissionOf cluster.tries region s) workload.sessions) (node_at w region).submitted
 
@@ -140,7 +154,7 @@ pub record Inv (cluster : Cluster) (workload : Workload) (w : World) (order : Li
   -- order: all that was executed, each after all that precedes it
   pub ordered : IsOrder cluster.regions w order
   -- sessions: each waits for an attempt of its next call or for nothing, and has made no attempt too many
-  pub sessions : AreSessions cluster workload w
+  pub sessions : SessionsMatch cluster workload w
 
 -- the moves of a key in the one history: the run of the order on the opening table
 abbrev pub history_of : Cluster → World → List TxnId → Bytes → List Moved

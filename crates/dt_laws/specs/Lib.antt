@@ -1,7 +1,11 @@
+pub mod LegalRun
 pub mod Invariant
+pub mod Reports
 pub use Rattle.dt_serial.specs.Order
 pub use Rattle.dt_session.specs.World
 pub use Rattle.dt_session.specs.Step
 pub use Rattle.dt_session.specs.Run
 pub use Rattle.dt_session.specs.Agreement
-pub use Rattle.dt_session.specs.Course
+pub use Rattle.dt_session.specs.OneHome
+pub use Rattle.dt_session.specs.Eager
+pub use Rattle.dt_session.specs.Finished

@@ -1,9 +1,27 @@
 //! What holds in every legal world, and that all regions agree. There is no code here: `specs/` says what a legal world
 //! keeps, `proofs/` shows that each legal event keeps it and what follows, and the functions below carry the laws.
+//!
+//! How the proof goes, in four steps:
+//!
+//! 1. **The invariant** (`specs/Invariant`, `Inv`). Each region counts its submissions; each home's log has, of each
+//!    region, the first of what that region asked for, once and in order; what a region inserted is a front of the logs,
+//!    what it executed was closed there and came after all that precedes it; its table is that of running what it
+//!    executed, in its order. The opening world has it, and each of the seven rules keeps it: one file of proofs a rule.
+//! 2. **Histories of moves** (`Rooted`). Which log orders a key's uses changes when the key is moved, so two attempts that
+//!    use one key may share no log. What ties them together is that each annotation is rooted: its home is the one after so
+//!    many moves of the one history, and the last of these moves precedes the attempt.
+//! 3. **One outcome** (`dt_serial`). Whatever runs transactions in an order in which each comes after all that precedes it
+//!    gets the same outcome for each of them, given the two facts above: an attempt that is not stale ran between the same
+//!    two moves of each of its keys everywhere, and within that stretch the log of one home orders all that clash.
+//! 4. **Agreement** (`agreement`). The ids in the order of their first execution anywhere are one such order, and what each
+//!    region executed is another, so each region has outcomes and rows of the one serial order.
+//!
+//! Read next: `src/laws.rt`, the laws one by one. What a proof of a crate above may cite stands in `proofs/Callers`.
 #![tactic(auto)]
 
 mod laws;
 
 pub use laws::{
-    across_moves, agreement, drained_regions, invariant_of_legal_worlds, reached_counters,
+    across_moves, agreement, drained_regions, invariant_of_legal_worlds, nothing_left_out,
+    one_home_each_call, reached_counters,
 };

@@ -1,3 +1,6 @@
+-- What all regions agree on after a list of events: outcomes, tables, the order of what was answered before it was asked
+-- for, the causes of failures, and, once they are drained of the same logs, all rows. `Agree` is what the program promises
+-- of each list that it reports; that each legal list has it is the law `agreement`.
 use Rattle.std.specs.Prelude.{◌≡◌, ◌<◌, ℕ, List, [], ◌∷◌, ◌++◌, Option, Some, None}
 use Rattle.dt_lists.specs.Lists.{Has}
 use Rattle.dt_access.specs.Clash.{Bytes}
@@ -16,7 +19,7 @@ use Rattle.dt_cluster.specs.declared.Cluster.{Cluster}
 use Rattle.dt_workload.specs.declared.Workload.{Workload}
 use Rattle.dt_workload.specs.declared.Session.{Session}
 use Rattle.dt_session.specs.World.{World, Place, node_at, txn_of, received_of, received_logs, session_at}
-use Rattle.dt_session.specs.Step.{next_id}
+use Rattle.dt_session.specs.Step.{upcoming_id}
 use Rattle.dt_session.specs.Run.{world_after, order_of, serial_outcome, table_before, region_table}
 
 -- the session that this looks up waits for the id
@@ -60,7 +63,7 @@ pub record Agree (cluster : Cluster) (workload : Workload) (events : List Event)
   pub real_time : (first : List Event) (region : ℕ) (session : Bytes) (middle : List Event) (other : ℕ) (name : Bytes) (last : List Event) (a : TxnId) →
       events ≡ first ++ Answer region session ∷ middle ++ Submit other name ∷ last →
       IsAwaited cluster workload first region session a →
-      let b = next_id (world_after cluster workload (first ++ Answer region session ∷ middle)) other in
+      let b = upcoming_id (world_after cluster workload (first ++ Answer region session ∷ middle)) other in
       Has (order_of events) b → StandsBefore (order_of events) a b
   -- an attempt fails only by its procedure or a named move
   pub causes : (region : ℕ) (id : TxnId) (outcome : Outcome) → region < cluster.regions →

@@ -2,7 +2,9 @@ pub mod World
 pub mod Step
 pub mod Run
 pub mod Agreement
-pub mod Course
+pub mod OneHome
+pub mod Eager
+pub mod Finished
 pub use Rattle.dt_txn.specs.Transaction
 pub use Rattle.dt_txn.specs.Execution
 pub use Rattle.dt_txn.specs.Serial

@@ -1,3 +1,7 @@
+-- The seven rules. One learns here which event is legal in a world (`IsLegal`) and what each does (`next`): a session
+-- submits a call (1), a home places a part in its log (2), a log is delivered on (3), a region inserts a part (4), resolves
+-- a deadlocked group (5) and executes a transaction (6), and a session is answered (7). What a region does to its own state
+-- stands in dt_txn's `Replica`, and here is only what rests on other regions and on sessions. Read `Run` next.
 use Rattle.std.specs.Prelude.{◌≡◌, ◌<◌, ◌≤◌, ◌+◌, ℕ, [], ◌∷◌, ◌++◌, length, set, slice_get, Option, Some, None, option_and_then, if◌then◌else◌, ◌&&◌, ◌==◌, nat_le, nat_lt}
 use Rattle.dt_access.specs.declared.TxnId.{TxnId}
 use Rattle.dt_events.specs.declared.Event.{Event}
@@ -7,15 +11,14 @@ use Rattle.dt_txn.specs.declared.txn.Body.TheVariants.{Call, Move}
 use Rattle.dt_txn.specs.declared.Txn.{Txn}
 use Rattle.dt_txn.specs.declared.Outcome.{Outcome}
 use Rattle.dt_txn.specs.declared.outcome.Outcome.TheVariants.{Gave, Aborted, Stale}
-use Rattle.dt_txn.specs.Transaction.{annotate, homes_of, part_of}
-pub use Rattle.dt_txn.specs.Asking.{ask}
-use Rattle.dt_txn.specs.Replica.{MayStep, stepped}
+use Rattle.dt_txn.specs.Transaction.{part_of}
+use Rattle.dt_txn.specs.Replica.{MayStep, next_id, submission_for, after_asking, after_taking, stepped}
 use Rattle.dt_cluster.specs.declared.Cluster.{Cluster}
 use Rattle.dt_workload.specs.declared.Workload.{Workload}
 use Rattle.dt_workload.specs.declared.Session.{Session}
 use Rattle.dt_workload.specs.declared.Wanted.{Wanted}
 use Rattle.dt_workload.specs.declared.Wanted.TheVariants as wanted
-use Rattle.dt_session.specs.World.{World, Node, Place, Submission, node_at, with_node, asked_of, taken_from, log_of, received_of, received_logs, txn_of, attempt_of, outcome_at, session_at, with_place}
+use Rattle.dt_session.specs.World.{World, Node, Place, Submission, node_at, with_node, asked_of, taken_of, log_of, received_of, received_logs, txn_of, attempt_of, outcome_at, session_at, with_place}
 
 -- the outcome is there, and it is Stale
 abbrev pub IsStale : Option Outcome → Type 0
@@ -103,13 +106,13 @@ next_attempt w None = 1
 next_attempt w (Some id) = attempt_of w id + 1
 
 -- the id of a region's next submission
-abbrev pub next_id : World → ℕ → TxnId
-next_id w region = record { seq = length (node_at w region).submitted + 1; region = region }
+abbrev pub upcoming_id : World → ℕ → TxnId
+upcoming_id w region = next_id region (length (node_at w region).submitted)
 
--- what a session submits: its next call, annotated by its region's table
-abbrev pub submission_for : Cluster → World → ℕ → Session → Place → Wanted → Submission
-submission_for cluster w region session place call = record {
-  txn = annotate cluster.procs (next_id w region) (body_of call) (node_at w region).here.table;
+-- what a session submits: its next call, as its region makes a transaction of it
+abbrev pub attempt_for : Cluster → World → ℕ → Session → Place → Wanted → Submission
+attempt_for cluster w region session place call = record {
+  txn = submission_for cluster.procs region (length (node_at w region).submitted) (node_at w region).here (body_of call);
   session = session.name;
   call = place.answered + 1;
   attempt = next_attempt w place.waits;
@@ -117,10 +120,7 @@ submission_for cluster w region session place call = record {
 
 -- the region after it submitted an attempt: each home of it is asked for its part
 abbrev pub node_submitted : Node → Submission → Node
-node_submitted node s = record node {
-  submitted = node.submitted ++ s ∷ [];
-  asked = ask (homes_of s.txn) s.txn.id node.asked;
-}
+node_submitted node s = record node { submitted = node.submitted ++ s ∷ []; here = after_asking node.here s.txn }
 
 -- the world after a session submitted an attempt, for which it waits
 abbrev pub world_submitted : Workload → World → ℕ → Session → Place → Submission → World
@@ -132,7 +132,7 @@ world_submitted workload w region session place s = record {
 -- the world after a session submits its next call, if there are a session and a call
 abbrev pub called : Cluster → Workload → World → ℕ → Session → Place → Option Wanted → World
 called cluster workload w region session place None = w
-called cluster workload w region session place (Some call) = world_submitted workload w region session place (submission_for cluster w region session place call)
+called cluster workload w region session place (Some call) = world_submitted workload w region session place (attempt_for cluster w region session place call)
 
 abbrev pub submitted : Cluster → Workload → World → ℕ → Option (Session × Place) → World
 submitted cluster workload w region None = w
@@ -143,7 +143,7 @@ abbrev pub placed : World → ℕ → ℕ → Option Txn → World
 placed w home source None = w
 placed w home source (Some txn) = with_node w home (record (node_at w home) {
   log = log_of w home ++ part_of txn home ∷ [];
-  taken = set (node_at w home).taken source (taken_from w home source + 1);
+  here = after_taking (node_at w home).here source;
 })
 
 -- the world after a region received a home's log up to a place
@@ -166,7 +166,7 @@ abbrev pub next : Cluster → Workload → World → Event → World
 next cluster workload w (Submit region session) = submitted cluster workload w region (session_at workload.sessions w.places region session)
 -- a request is placed once, in its turn
 next cluster workload w (Append home source number) =
-    if number == taken_from w home source
+    if number == taken_of w home source
     then placed w home source (option_and_then (txn_of w) (slice_get (asked_of w source home) number))
     else w
 -- only a delivery that joins what was received and goes past it changes anything

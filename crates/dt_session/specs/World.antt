@@ -1,3 +1,7 @@
+-- The world: the state of all regions and of all sessions, as one value. One learns here what a region holds (what it
+-- submitted, its own log, how much it received of the other logs, and its replica: what it asked, placed and made of the
+-- logs) and where a session stands. Each event of `Step` turns one world into the next; `Run` does so for whole lists.
+-- A region's number is its place in `nodes`, and a session's place in `places` is its place in the workload.
 use Rattle.std.specs.Prelude.{ℕ, List, [], ◌∷◌, length, map, flat_map, get_or, set, slice_index, replicate, Option, Some, None, option_map, unwrap_or, if◌then◌else◌, Bool, ◌&&◌, ◌==◌}
 use Rattle.std.specs.Map.{lookup}
 use Rattle.dt_access.specs.Clash.{Bytes, same_key}
@@ -8,7 +12,7 @@ use Rattle.dt_sched.specs.Views.{View}
 use Rattle.dt_table.specs.Table.{Table, opening}
 use Rattle.dt_txn.specs.declared.Txn.{Txn}
 use Rattle.dt_txn.specs.declared.Outcome.{Outcome}
-use Rattle.dt_txn.specs.Replica.{Replica, fronts, view_of}
+use Rattle.dt_txn.specs.Replica.{Replica, opening_replica, taken_from, fronts, view_of}
 use Rattle.dt_cluster.specs.declared.Cluster.{Cluster}
 use Rattle.dt_workload.specs.declared.Workload.{Workload}
 use Rattle.dt_workload.specs.declared.Session.{Session}
@@ -25,15 +29,11 @@ pub record Submission : Type 0 where
 pub record Node : Type 0 where
   -- what it submitted, in order
   pub submitted : List Submission
-  -- of each home, the ids that it asked it to place, in order
-  pub asked : List (List TxnId)
-  -- of each region, how many of that region's requests it has placed in its log
-  pub taken : List ℕ
   -- its own log
   pub log : List Part
   -- of each other home, how long a front of that home's log it received
   pub received : List ℕ
-  -- what it made of the logs
+  -- what it asked, what it placed, and what it made of the logs
   pub here : Replica
 
 -- where a session stands: how many of its calls are answered, and the attempt that it waits for, if it does
@@ -50,11 +50,9 @@ pub record World : Type 0 where
 abbrev pub opening_node : ℕ → Table → Node
 opening_node regions table = record {
   submitted = [];
-  asked = replicate regions [];
-  taken = replicate regions 0;
   log = [];
   received = replicate regions 0;
-  here = record { inserted = replicate regions 0; resolved = []; done = []; table = table };
+  here = opening_replica regions table;
 }
 
 -- the table that every region has at first
@@ -86,11 +84,11 @@ with_node w region node = record w { nodes = set w.nodes region node }
 
 -- the ids that a region asked a home to place, in order
 abbrev pub asked_of : World → ℕ → ℕ → List TxnId
-asked_of w source home = get_or (node_at w source).asked home []
+asked_of w source home = get_or (node_at w source).here.asked home []
 
 -- how many of a region's requests a home has placed
-abbrev pub taken_from : World → ℕ → ℕ → ℕ
-taken_from w home source = slice_index (node_at w home).taken source
+abbrev pub taken_of : World → ℕ → ℕ → ℕ
+taken_of w home source = taken_from (node_at w home).here source
 
 -- the logs of all homes, whole
 abbrev pub logs_of : World → View
@@ -120,13 +118,15 @@ view_at w region = view_of (received_logs w region) (node_at w region).here
 abbrev pub submissions : World → List Submission
 submissions w = flat_map (λ node. node.submitted) w.nodes
 
--- the attempt of an id, if it was submitted
+-- the attempt of an id among these, if it is there
 abbrev pub find_submission : List Submission → TxnId → Option Submission
 find_submission [] id = None
 find_submission (s ∷ rest) id = if same_id s.txn.id id then Some s else find_submission rest id
 
+-- the attempt of an id, if it was submitted: it is looked for where ids of its region are given, so that a region finds
+-- its own attempts in its own list
 abbrev pub submission_of : World → TxnId → Option Submission
-submission_of w id = find_submission (submissions w) id
+submission_of w id = find_submission (node_at w id.region).submitted id
 
 -- the transaction of an id, if it was submitted
 abbrev pub txn_of : World → TxnId → Option Txn

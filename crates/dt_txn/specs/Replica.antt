@@ -1,4 +1,7 @@
-use Rattle.std.specs.Prelude.{◌≡◌, ◌<◌, ◌+◌, ℕ, List, [], ◌∷◌, ◌++◌, take, map, set, slice_index, length, Option, Some, None}
+-- What one region keeps for itself, and the effects of its steps on it: what rules 1 and 2 do to a region's requests, and
+-- what rules 4 to 6 do to what it made of the logs. A region (`dt_region`) and a world of regions (`dt_session`) both
+-- stand on these words, so that they mean the same.
+use Rattle.std.specs.Prelude.{◌≡◌, ◌<◌, ◌+◌, ℕ, List, [], ◌∷◌, ◌++◌, take, map, set, slice_index, length, replicate, Option, Some, None}
 use Rattle.dt_access.specs.declared.TxnId.{TxnId}
 use Rattle.dt_events.specs.declared.Event.{Event}
 use Rattle.dt_events.specs.declared.Event.TheVariants.{Insert, Resolve, Execute}
@@ -9,11 +12,18 @@ use Rattle.dt_proc.specs.Tree.{ProcTree}
 use Rattle.dt_table.specs.Table.{Table}
 use Rattle.dt_txn.specs.declared.txn.Txn.{Txn}
 use Rattle.dt_txn.specs.declared.outcome.Outcome.{Outcome}
+use Rattle.dt_txn.specs.declared.txn.Body.{Body}
+use Rattle.dt_txn.specs.Transaction.{annotate, homes_of}
+use Rattle.dt_txn.specs.Asking.{ask}
 use Rattle.dt_txn.specs.Execution.{one}
 use Rattle.dt_txn.specs.Serial.{after}
 
--- what a region has made of the logs that it received
+-- what one region asked, what it placed, and what it made of the logs that it received
 pub record Replica : Type 0 where
+  -- of each home, the ids that it asked it to place, in order
+  pub asked : List (List TxnId)
+  -- of each region, how many of that region's requests it has placed in its own log
+  pub taken : List ℕ
   -- how many parts of each home's log it inserted
   pub inserted : List ℕ
   -- the deadlocked groups that it resolved, oldest first
@@ -21,6 +31,37 @@ pub record Replica : Type 0 where
   -- what it executed, in order, each with its outcome
   pub done : List (TxnId × Outcome)
   pub table : Table
+
+-- a region with this table before anything happens, in a cluster of so many
+abbrev pub opening_replica : ℕ → Table → Replica
+opening_replica regions table = record {
+  asked = replicate regions [];
+  taken = replicate regions 0;
+  inserted = replicate regions 0;
+  resolved = [];
+  done = [];
+  table = table;
+}
+
+-- the id of a region's next submission, after so many
+abbrev pub next_id : ℕ → ℕ → TxnId
+next_id region submitted = record { seq = submitted + 1; region = region }
+
+-- what a region submits for a body: the transaction of its next id, annotated by its own table
+abbrev pub submission_for : List ProcTree → ℕ → ℕ → Replica → Body → Txn
+submission_for procs region submitted here body = annotate procs (next_id region submitted) body here.table
+
+-- the region after it submitted a transaction: each home of it is asked for its part
+abbrev pub after_asking : Replica → Txn → Replica
+after_asking here txn = record here { asked = ask (homes_of txn) txn.id here.asked }
+
+-- how many requests of a region were placed here
+abbrev pub taken_from : Replica → ℕ → ℕ
+taken_from here source = slice_index here.taken source
+
+-- the region after it placed one more request of a region
+abbrev pub after_taking : Replica → ℕ → Replica
+after_taking here source = record here { taken = set here.taken source (taken_from here source + 1) }
 
 -- the ids that a region has executed, in order
 abbrev pub done_ids : Replica → List TxnId

@@ -1,5 +1,5 @@
-use Rattle.dt_laws.proofs.Agreeing.{legal_agree}
+use Rattle.dt_laws.proofs.AllAgree.{legal_agree}
 use Rattle.dt_laws.proofs.laws.agreement.Goals as goal
 
 pub returns : goal.returns
-returns c cluster workload events ok fits legal = legal_agree cluster ok workload fits events legal
+returns c cluster workload events run = legal_agree run

@@ -14,14 +14,10 @@ use Rattle.dt_serial.specs.Order.{IsDown}
 use Rattle.dt_cluster.specs.declared.Cluster.{Cluster}
 use Rattle.dt_workload.specs.declared.Session.{Session}
 use Rattle.dt_workload.specs.declared.Workload.{Workload}
-use Rattle.dt_session.specs.World.{World, Node, Place, opening_table, node_at, asked_of, taken_from, logs_of, log_of, received_of, view_at, submissions, txn_of}
+use Rattle.dt_session.specs.World.{World, Node, Place, opening_table, node_at, asked_of, taken_of, logs_of, log_of, received_of, view_at, submissions, txn_of}
 use Rattle.dt_session.specs.Run.{txns_of}
-use Rattle.dt_laws.specs.Invariant.{IsSized, AreNumbered, requests, IsPartAt, given_by, IsLog, AreInOrder, IsRunOf, IsExecutedAt, IsOrder, IsPlaced, IsPlaceOf, IsSubmissionOf, AreSessions}
-use Rattle.dt_laws.proofs.Submissions.{txn_same}
-
--- each region has this of its node in the second world as in the first
-abbrev pub Keeps : {A : Type 0} → (Node → A) → World → World → Type 0
-Keeps f w v = (region : ℕ) → f (node_at v region) ≡ f (node_at w region)
+use Rattle.dt_laws.specs.Invariant.{IsSized, AreNumbered, requests, IsPartAt, given_by, IsLog, AreInOrder, IsRunOf, IsExecutedAt, IsOrder, IsPlaced, IsPlaceOf, IsSubmissionOf, SessionsMatch}
+use Rattle.dt_laws.proofs.Submissions.{Keeps, txn_same}
 
 -- the parts of the invariant, each as a statement on a world
 
@@ -59,20 +55,21 @@ module _ (cluster : Cluster) (w v : World) where
   pub valid_kept : (regions : ℕ) → submissions v ≡ submissions w → Valid cluster regions w → Valid cluster regions v
   valid_kept regions e a = subst (AllIn (λ s. IsValid cluster.procs regions s.txn)) (sym e) a
 
-  pub asked_kept : (regions : ℕ) → Keeps (λ n. n.asked) w v → Keeps (λ n. n.submitted) w v → Asked regions w → Asked regions v
+  pub asked_kept : (regions : ℕ) → Keeps (λ n. n.here.asked) w v → Keeps (λ n. n.submitted) w v → Asked regions w → Asked regions v
   asked_kept regions ka ks a region home lr lh = ap (λ l. get_or l home []) (ka region) ∙ a region home lr lh ∙ ap (requests home) (sym (ks region))
 
   pub parts_kept : (home : ℕ) → ((id : TxnId) (txn : _) → txn_of w id ≡ Some txn → txn_of v id ≡ Some txn) → (log : List Part) → AllIn (IsPartAt w home) log → AllIn (IsPartAt v home) log
   parts_kept home f log a = all_map (IsPartAt w home) (IsPartAt v home) log (λ p x. (x.0, f p.id x.0 x.1, x.2)) a
 
-  pub log_kept : (regions home : ℕ) → (node_at v home).log ≡ (node_at w home).log → (node_at v home).taken ≡ (node_at w home).taken → Keeps (λ n. n.asked) w v → submissions v ≡ submissions w → IsLog regions w home → IsLog regions v home
+  pub log_kept : (regions home : ℕ) → (node_at v home).log ≡ (node_at w home).log → (node_at v home).here.taken ≡ (node_at w home).here.taken → Keeps (λ n. n.here.asked) w v
+      → Keeps (λ n. n.submitted) w v → IsLog regions w home → IsLog regions v home
   log_kept regions home kl kt ka e l = record {
     parts = subst (AllIn (IsPartAt v home)) (sym kl) (parts_kept home (λ id txn is. txn_same w v e id ∙ is) (log_of w home) l.parts);
-    taken = λ source ls. subst (λ n. n ≤ length (asked_of v source home)) (sym (ap (λ t. get_or t source 0) kt)) (subst (λ n. taken_from w home source ≤ length n) (sym (ap (λ t. get_or t home []) (ka source))) (l.taken source ls));
+    taken = λ source ls. subst (λ n. n ≤ length (asked_of v source home)) (sym (ap (λ t. get_or t source 0) kt)) (subst (λ n. taken_of w home source ≤ length n) (sym (ap (λ t. get_or t home []) (ka source))) (l.taken source ls));
     given = λ source ls. ap (λ x. given_by source (ids_of x)) kl ∙ l.given source ls ∙ sym (ap₂ take (ap (λ t. get_or t source 0) kt) (ap (λ t. get_or t home []) (ka source)));
   }
 
-  pub logs_kept : (regions : ℕ) → Keeps (λ n. n.log) w v → Keeps (λ n. n.taken) w v → Keeps (λ n. n.asked) w v → submissions v ≡ submissions w → Logs regions w → Logs regions v
+  pub logs_kept : (regions : ℕ) → Keeps (λ n. n.log) w v → Keeps (λ n. n.here.taken) w v → Keeps (λ n. n.here.asked) w v → Keeps (λ n. n.submitted) w v → Logs regions w → Logs regions v
   logs_kept regions kl kt ka e l home lt = log_kept regions home (kl home) (kt home) ka e (l home lt)
 
   pub received_kept : Keeps (λ n. n.received) w v → Keeps (λ n. n.log) w v → (region home : ℕ) → received_of v region home ≡ received_of w region home
@@ -87,7 +84,10 @@ module _ (cluster : Cluster) (w v : World) where
       let inserted : slice_index (node_at v region).here.inserted home ≡ slice_index (node_at w region).here.inserted home = ap (λ t. get_or t home 0) (ki region) in
       let log : length (log_of v home) ≡ length (log_of w home) = ap length (kl home) in
       let before : AreInOrder w region home = l region home lr lh in
-      record { inserted = subst (λ n. n ≤ received_of v region home) (sym inserted) (subst (λ n. slice_index (node_at w region).here.inserted home ≤ n) (sym received) before.inserted); received = subst (λ n. n ≤ length (log_of v home)) (sym received) (subst (λ n. received_of w region home ≤ n) (sym log) before.received) }
+      record {
+        inserted = subst (λ n. n ≤ received_of v region home) (sym inserted) (subst (λ n. slice_index (node_at w region).here.inserted home ≤ n) (sym received) before.inserted);
+        received = subst (λ n. n ≤ length (log_of v home)) (sym received) (subst (λ n. received_of w region home ≤ n) (sym log) before.received);
+      }
 
   pub sound_kept : (regions : ℕ) → ((region : ℕ) → region < regions → view_at v region ≡ view_at w region) → Keeps (λ n. n.here.resolved) w v → Keeps (λ n. n.here.done) w v → Sound regions w → Sound regions v
   sound_kept regions e kr kd s region lt =
@@ -95,7 +95,8 @@ module _ (cluster : Cluster) (w v : World) where
       (subst (λ l. IsSound (view_at w region) l (done_ids (node_at v region).here)) (sym (kr region))
       (subst (λ l. IsSound (view_at w region) (node_at w region).here.resolved (map (λ d. d.0) l)) (sym (kd region)) (s region lt)))
 
-  pub tables_kept : ((region : ℕ) → region < cluster.regions → txns_of v (done_ids (node_at w region).here) ≡ txns_of w (done_ids (node_at w region).here)) → Keeps (λ n. n.here.done) w v → Keeps (λ n. n.here.table) w v → Tables cluster w → Tables cluster v
+  pub tables_kept : ((region : ℕ) → region < cluster.regions → txns_of v (done_ids (node_at w region).here) ≡ txns_of w (done_ids (node_at w region).here)) → Keeps (λ n. n.here.done) w v
+      → Keeps (λ n. n.here.table) w v → Tables cluster w → Tables cluster v
   tables_kept e kd kt t region lt =
       let same : txns_of v (done_ids (node_at v region).here) ≡ txns_of w (done_ids (node_at w region).here) = ap (λ l. txns_of v (map (λ d. d.0) l)) (kd region) ∙ e region lt in
       let before : IsRunOf cluster (opening_table cluster) (txns_of w (done_ids (node_at w region).here)) (node_at w region).here = t region lt in
@@ -130,7 +131,7 @@ module _ (cluster : Cluster) (w v : World) where
       → (region : ℕ) → region < cluster.regions → AllIn (λ s. AnyIn (IsSubmissionOf cluster.tries region s) workload.sessions) (node_at v region).submitted
   known_kept workload k a region lt = subst (AllIn (λ s. AnyIn (IsSubmissionOf cluster.tries region s) workload.sessions)) (sym (k region)) (a region lt)
 
-  pub sessions_kept : (workload : Workload) → Keeps (λ n. n.submitted) w v → v.places ≡ w.places → AreSessions cluster workload w → AreSessions cluster workload v
+  pub sessions_kept : (workload : Workload) → Keeps (λ n. n.submitted) w v → v.places ≡ w.places → SessionsMatch cluster workload w → SessionsMatch cluster workload v
   sessions_kept workload k e s = record {
     places = subst (Pairwise (IsPlaceOf cluster.tries v) workload.sessions) (sym e) (places_kept cluster.tries k workload.sessions w.places s.places);
     known = known_kept workload k s.known;

@@ -1,21 +1,23 @@
-use Rattle.std.specs.Prelude.{◌≡◌, ◌≢◌, ◌<◌, ◌+◌, ◌==◌, ℕ, List, [], ◌∷◌, length, flat_map, filter, Bool, if◌then◌else◌}
+-- Lists of events that waste nothing. One learns here what an eager list is: each event changes the world, and each region
+-- begins by submitting the first call of each of its sessions, in the order of their names. A cluster that runs by itself
+-- makes such a list. What is left undone at the end is no matter here: `Finished` says when all is done.
+use Rattle.std.specs.Prelude.{◌≢◌, ◌<◌, ◌+◌, ◌==◌, ℕ, List, [], ◌∷◌, flat_map, filter, Bool, if◌then◌else◌}
 use Rattle.std.specs.Ordering.{nat_cmp, is_lt}
 use Rattle.std.specs.Cmp.Lexicographic.{slice_cmp}
 use Rattle.std.specs.List.{list_any}
-use Rattle.dt_lists.specs.Lists.{IsFront, AllIn, Has}
+use Rattle.dt_lists.specs.Lists.{IsFront}
 use Rattle.dt_events.specs.Events.{region_of}
 use Rattle.dt_events.specs.declared.Event.{Event}
 use Rattle.dt_events.specs.declared.Event.TheVariants.{Submit, Append}
 use Rattle.dt_table.specs.Table.{Table}
 use Rattle.dt_txn.specs.Transaction.{annotate, homes_of}
-use Rattle.dt_txn.specs.Replica.{done_ids}
+use Rattle.dt_txn.specs.Replica.{next_id}
 use Rattle.dt_cluster.specs.declared.Cluster.{Cluster}
 use Rattle.dt_workload.specs.declared.Workload.{Workload}
 use Rattle.dt_workload.specs.declared.Session.{Session}
 use Rattle.dt_workload.specs.declared.Wanted.{Wanted}
-use Rattle.dt_session.specs.World.{World, Place, opening_table, opening_world, node_at}
+use Rattle.dt_session.specs.World.{World, opening_table, opening_world}
 use Rattle.dt_session.specs.Step.{next, body_of}
-use Rattle.dt_session.specs.Run.{world_after}
 
 -- the sessions with one more, in byte order of names
 abbrev pub with_session : Session → List Session → List Session
@@ -29,7 +31,7 @@ sessions_at region (s ∷ sessions) = if s.region == region then with_session s 
 
 -- whether a session's first call has a key, or its target, at the session's region, before anything was moved
 abbrev pub is_home : Cluster → ℕ → Table → Wanted → Bool
-is_home cluster region t call = list_any (λ home. home == region) (homes_of (annotate cluster.procs (record { seq = 1; region = region }) (body_of call) t))
+is_home cluster region t call = list_any (λ home. home == region) (homes_of (annotate cluster.procs (next_id region 0) (body_of call) t))
 
 -- a session with its first call, if it has one
 abbrev pub with_first_call : Session → List Wanted → List (Session × Wanted)
@@ -59,16 +61,3 @@ pub record IsEager (cluster : Cluster) (workload : Workload) (events : List Even
   pub changing : AllChange cluster workload (opening_world cluster workload) events
   pub begins : (region : ℕ) → region < cluster.regions →
       IsFront (first_events cluster region (opening_table cluster) (first_calls (sessions_at region workload.sessions)) 0) (filter (λ event. region_of event == region) events)
-
--- every call of every session is answered
-abbrev pub AreAnswered : List Session → List Place → Type 0
-AreAnswered [] places = Unit {0}
-AreAnswered (s ∷ sessions) [] = ⊥
-AreAnswered (s ∷ sessions) (p ∷ places) = (p.answered ≡ length s.calls) × AreAnswered sessions places
-
--- every call is answered, and every region has executed every attempt
-pub record IsFinished (cluster : Cluster) (workload : Workload) (events : List Event) : Type 0 where
-  pub answered : AreAnswered workload.sessions (world_after cluster workload events).places
-  pub executed : (region source : ℕ) → region < cluster.regions → source < cluster.regions →
-      AllIn (λ s. Has (done_ids (node_at (world_after cluster workload events) region).here) s.txn.id)
-      (node_at (world_after cluster workload events) source).submitted

@@ -1,6 +1,5 @@
 -- Each legal event keeps every annotation rooted in the one history of moves.
 use Rattle.std.proofs.Common.{◌≡◌, ◌<◌, ◌≤◌, ◌+◌, ℕ, zero, suc, List, [], ◌++◌, length, take, slice_get, Some, refl, sym, ap, ap₂, subst, subst₂, ◌∙◌, inl, inr, arith}
-use Rattle.std.specs.Prelude.{option_map, filter_map}
 use Rattle.std.proofs.lemmas.List.{take_at, take-append-le}
 use Rattle.dt_lists.specs.Lists.{AllIn, Has, IsFront}
 use Rattle.dt_lists.proofs.Words.{any_from_at, all_map, all_get, all_put}
@@ -21,24 +20,28 @@ use Rattle.dt_serial.proofs.Outcome.{moves_front}
 use Rattle.dt_serial.proofs.Runs.{movers_ran}
 use Rattle.dt_cluster.specs.declared.Cluster.{Cluster}
 use Rattle.dt_workload.specs.declared.Workload.{Workload}
-use Rattle.dt_session.specs.World.{World, Submission, node_at, opening_table, opening_world, logs_of, submissions, find_submission}
-use Rattle.dt_session.specs.Step.{next_id}
+use Rattle.dt_session.specs.World.{World, Submission, node_at, opening_table, opening_world, logs_of, submissions}
+use Rattle.dt_session.specs.Step.{upcoming_id}
 use Rattle.dt_session.specs.Run.{txns_of}
 use Rattle.dt_laws.specs.Invariant.{history_of, HasRoot, IsRooted, Rooted, Inv}
-use Rattle.dt_laws.proofs.Submissions.{IsKnown, txn_there, numbered}
-use Rattle.dt_laws.proofs.Known.{closed_full, present_known, executed_closed}
-use Rattle.dt_laws.proofs.Opening.{opening_submissions}
-use Rattle.dt_laws.proofs.Annotating.{regions_stay, homes_stay, unmoved_at_first}
-use Rattle.dt_laws.proofs.Rooting.{done_txn_ids, region_members, region_down, history}
-
--- where logs, submissions and the order stay, so does what is rooted
-pub rooted_kept : (cluster : Cluster) (w v : World) (order : List TxnId) → logs_of v ≡ logs_of w → submissions v ≡ submissions w → Rooted cluster w order → Rooted cluster v order
-rooted_kept cluster w v order e f r =
-    subst₂ (λ logs subs. AllIn (λ s. AllIn (λ a. IsRooted cluster logs (moves_of (table_after cluster.procs (filter_map (λ id. option_map (λ y. y.txn) (find_submission subs id)) order) (opening_table cluster)) a.key) s.txn.id a) s.txn.access) subs) (sym e) (sym f) r
+use Rattle.dt_laws.proofs.Submissions.{Keeps, IsKnown, txn_there, numbered, txns_same}
+use Rattle.dt_laws.proofs.RegionViews.{closed_full, present_known, executed_closed}
+use Rattle.dt_laws.proofs.OpeningWorld.{opening_submissions}
+use Rattle.dt_laws.proofs.Annotations.{regions_stay, homes_stay, unmoved_at_first}
+use Rattle.dt_laws.proofs.MoveHistory.{done_txn_ids, region_members, region_down, history}
 
 -- where logs and the history of each key stay, so does what roots an entry
-pub entries_kept : (cluster : Cluster) (l k : View) (m n : Bytes → List Moved) → k ≡ l → ((key : Bytes) → n key ≡ m key) → (t : TxnId) (access : List Access) → AllIn (λ a. IsRooted cluster l (m a.key) t a) access → AllIn (λ a. IsRooted cluster k (n a.key) t a) access
+pub entries_kept : (cluster : Cluster) (l k : View) (m n : Bytes → List Moved) → k ≡ l → ((key : Bytes) → n key ≡ m key) → (t : TxnId) (access : List Access)
+    → AllIn (λ a. IsRooted cluster l (m a.key) t a) access → AllIn (λ a. IsRooted cluster k (n a.key) t a) access
 entries_kept cluster l k m n e f t access r = all_map _ _ access (λ a x. subst₂ (λ logs moves. IsRooted cluster logs moves t a) (sym e) (sym (f a.key)) x) r
+
+-- where logs, submissions and the order stay, so does what is rooted
+pub rooted_kept : (cluster : Cluster) (w v : World) (order : List TxnId) → logs_of v ≡ logs_of w → submissions v ≡ submissions w → Keeps (λ n. n.submitted) w v → Rooted cluster w order → Rooted cluster v order
+rooted_kept cluster w v order e f k r = subst (AllIn (λ s. AllIn (λ a. IsRooted cluster (logs_of v) (history_of cluster v order a.key) s.txn.id a) s.txn.access)) (sym f)
+    (all_map _ _ (submissions w) (λ s x. entries_kept cluster (logs_of w) (logs_of v) (history_of cluster w order) (history_of cluster v order) e histories s.txn.id s.txn.access x) r)
+  where
+    histories : (key : Bytes) → history_of cluster v order key ≡ history_of cluster w order key
+    histories key = ap (λ l. moves_of (table_after cluster.procs l (opening_table cluster)) key) (txns_same w v k order)
 
 -- a longer history roots what a shorter one roots
 
@@ -65,13 +68,13 @@ opening_rooted cluster workload = all_put _ (submissions (opening_world cluster 
 
 -- a new id
 
-module _ (cluster : Cluster) (workload : Workload) (w : World) (order : List TxnId) (i : Inv cluster workload w order) where
+module _ {cluster : Cluster} {workload : Workload} {w : World} {order : List TxnId} (i : Inv cluster workload w order) where
   -- the id of a region's next submission was not submitted
-  pub next_unknown : (region : ℕ) → ¬ (IsKnown w (next_id w region))
+  pub next_unknown : (region : ℕ) → ¬ (IsKnown w (upcoming_id w region))
   next_unknown region k =
-      let r : (s : Submission) × Has (submissions w) s × (s.txn ≡ k.0) × (s.txn.id ≡ next_id w region) = txn_there w (next_id w region) k.0 k.1 in
+      let r : (s : Submission) × Has (submissions w) s × (s.txn ≡ k.0) × (s.txn.id ≡ upcoming_id w region) = txn_there w (upcoming_id w region) k.0 k.1 in
       let p : (q j : ℕ) × (q < cluster.regions) × (slice_get (node_at w q).submitted j ≡ Some r.0) × (r.0.txn.id ≡ record { seq = j + 1; region = q }) = numbered cluster.regions w i.nodes i.ids r.0 r.1 in
-      let same : next_id w region ≡ record { seq = p.1 + 1; region = p.0 } = sym r.3 ∙ p.4 in
+      let same : upcoming_id w region ≡ record { seq = p.1 + 1; region = p.0 } = sym r.3 ∙ p.4 in
       let seq : length (node_at w region).submitted + 1 ≡ p.1 + 1 = ap (λ x. x.seq) same in
       let home : region ≡ p.0 = ap (λ x. x.region) same in
       let lt : p.1 < length (node_at w p.0).submitted = place_within (node_at w p.0).submitted p.1 r.0 p.3 in
@@ -79,8 +82,8 @@ module _ (cluster : Cluster) (workload : Workload) (w : World) (order : List Txn
       omega arith
 
   -- so it has no part in any log
-  pub next_absent : (region : ℕ) → ¬ (IsPresent (logs_of w) (next_id w region))
-  next_absent region p = next_unknown region (present_known cluster workload w order i (next_id w region) p)
+  pub next_absent : (region : ℕ) → ¬ (IsPresent (logs_of w) (upcoming_id w region))
+  next_absent region p = next_unknown region (present_known i (upcoming_id w region) p)
 
   -- what a region's table has of the moves of a key roots a new id
   front_roots : (t : TxnId) (home : ℕ) (front whole : List Moved) → IsFront front whole → AllIn (λ m. IsClosed (logs_of w) m.by) front → ¬ (IsPresent (logs_of w) t) → HasRoot (logs_of w) t home whole (length front)
@@ -106,7 +109,7 @@ module _ (cluster : Cluster) (workload : Workload) (w : World) (order : List Txn
 
   module _ (rooted : Rooted cluster w order) where
     -- what a region annotates is rooted
-    pub annotated_rooted : (region : ℕ) → region < cluster.regions → (used : Bytes × Mode) → IsRooted cluster (logs_of w) (history_of cluster w order used.0) (next_id w region) (annotated (node_at w region).here.table used)
+    pub annotated_rooted : (region : ℕ) → region < cluster.regions → (used : Bytes × Mode) → IsRooted cluster (logs_of w) (history_of cluster w order used.0) (upcoming_id w region) (annotated (node_at w region).here.table used)
     annotated_rooted region lr used = record { home = home; root = root }
       where
         here : Table
@@ -125,16 +128,16 @@ module _ (cluster : Cluster) (workload : Workload) (w : World) (order : List Txn
         same = ap (λ t. moves_of t used.0) table
 
         front : IsFront moves (history_of cluster w order used.0)
-        front = moves_front cluster.procs (Precedes (logs_of w)) (opening_table cluster) (txns_of w order) (history cluster workload w order i rooted) ran used.0 (region_members cluster workload w order i rooted region lr) (region_down cluster workload w order i rooted region lr)
+        front = moves_front cluster.procs (Precedes (logs_of w)) (opening_table cluster) (txns_of w order) (history i rooted) ran used.0 (region_members i rooted region lr) (region_down i rooted region lr)
 
         closed : AllIn (λ m. IsClosed (logs_of w) m.by) moves
-        closed = all_map _ _ moves (λ m h. closed_full cluster workload w order i region m.by lr (executed_closed cluster workload w order i region m.by lr (subst (λ l. Has l m.by) (done_txn_ids cluster workload w order i region lr) h)))
+        closed = all_map _ _ moves (λ m h. closed_full i region m.by lr (executed_closed i region m.by lr (subst (λ l. Has l m.by) (done_txn_ids i region lr) h)))
             (movers_ran cluster.procs ran (opening_table cluster) used.0 (unmoved_at_first cluster used.0))
 
         home : home_after (opening_home here.regions here.homes used.0) (moves_of here used.0) ≡ home_after (opening_home cluster.regions cluster.homes used.0) (take (length (moves_of here used.0)) (history_of cluster w order used.0))
         home = ap₂ home_after (ap₂ (λ r h. opening_home r h used.0) (ap (λ t. t.regions) table ∙ regions_stay cluster ran (opening_table cluster)) (ap (λ t. t.homes) table ∙ homes_stay cluster ran (opening_table cluster)))
             (same ∙ sym (ap₂ take (ap length same) (sym front.1) ∙ take_at moves front.0 (length moves) refl))
 
-        root : HasRoot (logs_of w) (next_id w region) (home_after (opening_home here.regions here.homes used.0) (moves_of here used.0)) (history_of cluster w order used.0) (length (moves_of here used.0))
-        root = subst (HasRoot (logs_of w) (next_id w region) (home_after (opening_home here.regions here.homes used.0) (moves_of here used.0)) (history_of cluster w order used.0)) (sym (ap length same))
-            (front_roots (next_id w region) (home_after (opening_home here.regions here.homes used.0) (moves_of here used.0)) moves (history_of cluster w order used.0) front closed (next_absent region))
+        root : HasRoot (logs_of w) (upcoming_id w region) (home_after (opening_home here.regions here.homes used.0) (moves_of here used.0)) (history_of cluster w order used.0) (length (moves_of here used.0))
+        root = subst (HasRoot (logs_of w) (upcoming_id w region) (home_after (opening_home here.regions here.homes used.0) (moves_of here used.0)) (history_of cluster w order used.0)) (sym (ap length same))
+            (front_roots (upcoming_id w region) (home_after (opening_home here.regions here.homes used.0) (moves_of here used.0)) moves (history_of cluster w order used.0) front closed (next_absent region))

@@ -4,7 +4,7 @@ use Rattle.std.specs.Prelude.{Option, slice_index, unwrap_or, filter_map}
 use Rattle.std.specs.Map.{lookup}
 use Rattle.std.proofs.lemmas.Option.{same_Some}
 use Rattle.std.specs.List.{cons_option}
-use Rattle.dt_lists.specs.Lists.{AllIn, Has}
+use Rattle.dt_lists.specs.Lists.{AnyIn, AllIn, Has}
 use Rattle.dt_lists.proofs.Words.{any_get, any_append, any_of_image, all_get, all_put}
 use Rattle.dt_lists.proofs.Places.{place_of}
 use Rattle.dt_access.specs.Clash.{Bytes, same_key}
@@ -52,7 +52,9 @@ txns_submitted w ids x h =
     (t.0, t.1, t.2)
 
 pub txns_valid : (cluster : Cluster) (regions : ℕ) (w : World) → AllIn (λ s. IsValid cluster.procs regions s.txn) (submissions w) → (ids : List TxnId) → AllIn (IsValid cluster.procs regions) (txns_of w ids)
-txns_valid cluster regions w a ids = all_put (IsValid cluster.procs regions) (txns_of w ids) (λ x h. let r : (s : Submission) × Has (submissions w) s × (s.txn ≡ x) = txns_submitted w ids x h in subst (IsValid cluster.procs regions) r.2 (all_get (λ s. IsValid cluster.procs regions s.txn) (submissions w) a r.0 r.1))
+txns_valid cluster regions w a ids =
+    all_put (IsValid cluster.procs regions) (txns_of w ids)
+    (λ x h. let r : (s : Submission) × Has (submissions w) s × (s.txn ≡ x) = txns_submitted w ids x h in subst (IsValid cluster.procs regions) r.2 (all_get (λ s. IsValid cluster.procs regions s.txn) (submissions w) a r.0 r.1))
 
 -- homes
 
@@ -99,10 +101,17 @@ targets_below cluster txns a key = all_put _ (moves_of (table_after cluster.proc
         subst (λ x. x < cluster.regions) (sym (ap (λ x. x.target) same)) fits
 
 -- the home of a key after valid transactions is a region
-pub home_below : (cluster : Cluster) → IsValidCluster cluster → (txns : List Txn) → AllIn (IsValid cluster.procs cluster.regions) txns → (key : Bytes) → home_of (table_after cluster.procs txns (opening_table cluster)) key < cluster.regions
+pub home_below : (cluster : Cluster) → IsValidCluster cluster → (txns : List Txn) → AllIn (IsValid cluster.procs cluster.regions) txns → (key : Bytes)
+    → home_of (table_after cluster.procs txns (opening_table cluster)) key < cluster.regions
 home_below cluster valid txns a key =
-    subst (λ h. home_after h (moves_of (table_after cluster.procs txns (opening_table cluster)) key) < cluster.regions) (sym (ap₂ (λ r h. opening_home r h key) (regions_stay cluster txns (opening_table cluster)) (homes_stay cluster txns (opening_table cluster))))
-    (home_after_below cluster.regions (opening_home cluster.regions cluster.homes key) (moves_of (table_after cluster.procs txns (opening_table cluster)) key) (opening_home_below cluster valid key) (targets_below cluster txns a key))
+    subst (λ h. home_after h (moves_of t key) < cluster.regions) (sym at_first)
+    (home_after_below cluster.regions (opening_home cluster.regions cluster.homes key) (moves_of t key) (opening_home_below cluster valid key) (targets_below cluster txns a key))
+  where
+    t : Table
+    t = table_after cluster.procs txns (opening_table cluster)
+
+    at_first : opening_home t.regions t.homes key ≡ opening_home cluster.regions cluster.homes key
+    at_first = ap₂ (λ r h. opening_home r h key) (regions_stay cluster txns (opening_table cluster)) (homes_stay cluster txns (opening_table cluster))
 
 -- annotated transactions
 
@@ -119,7 +128,8 @@ target_below cluster regions (Call proc args) f x h = absurd h
 target_below cluster regions (Move key target) f x (inl e) = subst (λ y. y < regions) e f
 target_below cluster regions (Move key target) f x (inr h) = absurd h
 
-pub annotated_valid : (cluster : Cluster) (regions : ℕ) (id : TxnId) (body : Body) (t : Table) → BodyFits cluster.procs regions body → ((key : Bytes) → home_of t key < regions) → IsValid cluster.procs regions (annotate cluster.procs id body t)
+pub annotated_valid : (cluster : Cluster) (regions : ℕ) (id : TxnId) (body : Body) (t : Table) → BodyFits cluster.procs regions body → ((key : Bytes) → home_of t key < regions)
+    → IsValid cluster.procs regions (annotate cluster.procs id body t)
 annotated_valid cluster regions id body t fits below = record {
   body = fits;
   uses = annotated_uses t (uses_of cluster.procs body);
@@ -127,7 +137,16 @@ annotated_valid cluster regions id body t fits below = record {
 }
   where
     home : (x : ℕ) → Has (homes_of (annotate cluster.procs id body t)) x → x < regions
-    home x h = elim (any_append (λ y. y ≡ x) (map (λ a. a.home) (map (annotated t) (uses_of cluster.procs body))) (targets_of body) (set_of_has (map (λ a. a.home) (map (annotated t) (uses_of cluster.procs body)) ++ targets_of body) x h)) [
-      | inl l ↦ (let r : (u : Bytes × Mode) × Has (uses_of cluster.procs body) u × (home_of t u.0 ≡ x) = any_get (λ u. home_of t u.0 ≡ x) (uses_of cluster.procs body) (any_of_image (λ a. a.home ≡ x) (annotated t) (uses_of cluster.procs body) (any_of_image (λ y. y ≡ x) (λ a. a.home) (map (annotated t) (uses_of cluster.procs body)) l)) in subst (λ y. y < regions) r.2 (below r.0.0))
+    home x h = elim (any_append (λ y. y ≡ x) homes (targets_of body) (set_of_has (homes ++ targets_of body) x h)) [
+      | inl l ↦ (let r : (u : Bytes × Mode) × Has uses u × (home_of t u.0 ≡ x) = any_get (λ u. home_of t u.0 ≡ x) uses (used l) in subst (λ y. y < regions) r.2 (below r.0.0))
       | inr k ↦ target_below cluster regions body fits x k
     ]
+      where
+        uses : List (Bytes × Mode)
+        uses = uses_of cluster.procs body
+
+        homes : List ℕ
+        homes = map (λ a. a.home) (map (annotated t) uses)
+
+        used : Has homes x → AnyIn (λ u. home_of t u.0 ≡ x) uses
+        used l = any_of_image (λ a. a.home ≡ x) (annotated t) uses (any_of_image (λ y. y ≡ x) (λ a. a.home) (map (annotated t) uses) l)

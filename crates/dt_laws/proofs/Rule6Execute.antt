@@ -1,11 +1,11 @@
 -- An execution keeps the invariant; one of an id that no region has executed puts it at the end of the order.
 use Rattle.std.proofs.Common.{◌≡◌, ◌≢◌, ◌<◌, ◌⊎◌, ℕ, List, [], ◌∷◌, ◌++◌, Some, refl, sym, ap, ap₂, subst, ◌∙◌, inl, inr}
 use Rattle.std.specs.Prelude.{Option, filter_map}
-use Rattle.std.proofs.lemmas.List.{length-set, get_or-set_same, get_or-set_other, map_push}
+use Rattle.std.proofs.lemmas.List.{map_push}
 use Rattle.std.proofs.lemmas.List.Elements.{filter_map-append}
 use Rattle.dt_lists.specs.Lists.{Has, Either}
 use Rattle.dt_lists.proofs.Decided.{either_nat}
-use Rattle.dt_lists.proofs.Places.{field_of_set, map_of_set, flat_map_of_set, each_of_set, has_more, has_last, has_longer}
+use Rattle.dt_lists.proofs.Places.{has_more, has_last, has_longer}
 use Rattle.dt_access.specs.declared.TxnId.{TxnId}
 use Rattle.dt_sched.specs.Views.{Precedes}
 use Rattle.dt_sched.specs.Decide.{IsSound}
@@ -21,13 +21,15 @@ use Rattle.dt_serial.proofs.Runs.{outcomes_append, table_after_append}
 use Rattle.dt_serial.proofs.Past.{down_push}
 use Rattle.dt_cluster.specs.declared.Cluster.{Cluster}
 use Rattle.dt_workload.specs.declared.Workload.{Workload}
-use Rattle.dt_session.specs.World.{World, Node, no_node, node_at, with_node, opening_table, logs_of, received_logs, view_at, submissions, txn_of}
+use Rattle.dt_session.specs.World.{World, Node, node_at, with_node, opening_table, logs_of, received_logs, view_at, txn_of}
 use Rattle.dt_session.specs.Step.{moved_on}
 use Rattle.dt_session.specs.Run.{txns_of}
-use Rattle.dt_laws.specs.Invariant.{IsSized, IsRunOf, IsExecutedAt, IsOrder, Inv}
-use Rattle.dt_laws.proofs.Kept.{Keeps, Sized, Sound, Tables, ids_kept, valid_kept, asked_kept, logs_kept, lengths_kept, view_kept, sessions_kept}
-use Rattle.dt_laws.proofs.Submissions.{IsKnown, txns_same, txn_id}
-use Rattle.dt_laws.proofs.Known.{closed_full, closed_known, precedes_full}
+use Rattle.dt_laws.specs.Invariant.{IsRunOf, IsExecutedAt, IsOrder, Inv}
+use Rattle.dt_laws.proofs.InvariantParts.{Sound, Tables, lengths_kept, view_kept}
+use Rattle.dt_laws.proofs.OneRegion as changed
+use Rattle.dt_laws.proofs.OneRegion.{LeavesRequests}
+use Rattle.dt_laws.proofs.Submissions.{Keeps, IsKnown, txn_id}
+use Rattle.dt_laws.proofs.RegionViews.{closed_full, closed_known, precedes_full}
 
 -- the transaction of an id at the end
 pub txns_more : (w : World) (ids : List TxnId) (id : TxnId) (txn : Txn) → txn_of w id ≡ Some txn → txns_of w (ids ++ id ∷ []) ≡ txns_of w ids ++ txn ∷ []
@@ -43,7 +45,8 @@ run_more cluster start txns txn here r = record {
   table = ap (after cluster.procs txn) r.table ∙ sym (table_after_append cluster.procs txns (txn ∷ []) start);
 }
 
-module _ (cluster : Cluster) (workload : Workload) (w : World) (order : List TxnId) (region : ℕ) (id : TxnId) (lr : region < cluster.regions) (may : MayStep (received_logs w region) (node_at w region).here (Execute region id)) (txn : Txn) (found : txn_of w id ≡ Some txn) (i : Inv cluster workload w order) where
+module _ {cluster : Cluster} {workload : Workload} {w : World} {order : List TxnId} (i : Inv cluster workload w order)
+    (region : ℕ) (id : TxnId) (lr : region < cluster.regions) (may : MayStep (received_logs w region) (node_at w region).here (Execute region id)) (txn : Txn) (found : txn_of w id ≡ Some txn) where
   n' : Node
   n' = record (node_at w region) { here = executed cluster.procs (node_at w region).here (Some txn) }
 
@@ -53,31 +56,29 @@ module _ (cluster : Cluster) (workload : Workload) (w : World) (order : List Txn
   same_id : txn.id ≡ id
   same_id = txn_id w id txn found
 
-  logs_same : logs_of v ≡ logs_of w
-  unfolding v n'
-  logs_same = map_of_set (λ n. n.log) w.nodes region n' no_node refl
-
-  subs_same : submissions v ≡ submissions w
-  unfolding v n'
-  subs_same = flat_map_of_set (λ n. n.submitted) w.nodes region n' no_node refl
+  same : LeavesRequests (node_at w region) n'
+  unfolding n'
+  same = record { submitted = refl; log = refl; asked = refl; taken = refl }
 
   keeps : {A : Type 0} (f : Node → A) → f n' ≡ f (node_at w region) → Keeps f w v
   unfolding v n'
-  keeps f e = field_of_set f w.nodes region n' no_node e
+  keeps f e = changed.keeps i region lr n' same f e
+
+  logs_same : logs_of v ≡ logs_of w
+  unfolding v n'
+  logs_same = changed.logs_same i region lr n' same
 
   node : node_at v region ≡ n'
   unfolding v n'
-  node = get_or-set_same w.nodes region n' no_node (subst (λ m. region < m) (sym i.nodes) lr)
+  node = changed.node_now i region lr n' same
 
   other : (q : ℕ) → q ≢ region → node_at v q ≡ node_at w q
   unfolding v n'
-  other q n = get_or-set_other w.nodes region q n' no_node n
+  other q n = changed.others_same i region lr n' same q n
 
-  sized : Sized cluster.regions v
+  txns_now : (ids : List TxnId) → txns_of v ids ≡ txns_of w ids
   unfolding v n'
-  sized q lt = each_of_set (λ k n. IsSized cluster.regions n) w.nodes region n' no_node
-      (let s : IsSized cluster.regions (node_at w region) = i.sized region lr in record { asked = s.asked; taken = s.taken; received = s.received; inserted = s.inserted })
-      (λ k lk. i.sized k (subst (λ m. k < m) i.nodes lk)) q (subst (λ m. q < m) (sym i.nodes) lt)
+  txns_now ids = changed.txns_now i region lr n' same ids
 
   view_same : (q : ℕ) → view_at v q ≡ view_at w q
   unfolding n'
@@ -105,9 +106,10 @@ module _ (cluster : Cluster) (workload : Workload) (w : World) (order : List Txn
     where
       by : Either (q ≡ region) → IsRunOf cluster (opening_table cluster) (txns_of v (done_ids (node_at v q).here)) (node_at v q).here
       by (inr n) = subst (λ x. IsRunOf cluster (opening_table cluster) (txns_of v (done_ids x.here)) x.here) (sym (other q n))
-          (subst (λ l. IsRunOf cluster (opening_table cluster) l (node_at w q).here) (sym (txns_same w v subs_same (done_ids (node_at w q).here))) (i.tables q lq))
+          (subst (λ l. IsRunOf cluster (opening_table cluster) l (node_at w q).here) (sym (txns_now (done_ids (node_at w q).here))) (i.tables q lq))
       by (inl e) = subst (λ y. IsRunOf cluster (opening_table cluster) (txns_of v (done_ids (node_at v y).here)) (node_at v y).here) (sym e)
-          (subst (λ l. IsRunOf cluster (opening_table cluster) l (node_at v region).here) (sym (txns_same w v subs_same (done_ids (node_at v region).here) ∙ ap (txns_of w) done_now ∙ txns_more w (done_ids (node_at w region).here) id txn found))
+          (subst (λ l. IsRunOf cluster (opening_table cluster) l (node_at v region).here)
+          (sym (txns_now (done_ids (node_at v region).here) ∙ ap (txns_of w) done_now ∙ txns_more w (done_ids (node_at w region).here) id txn found))
           (subst (λ x. IsRunOf cluster (opening_table cluster) (txns_of w (done_ids (node_at w region).here) ++ txn ∷ []) x.here) (sym node)
           (run_more cluster (opening_table cluster) (txns_of w (done_ids (node_at w region).here)) txn (node_at w region).here (i.tables region lr))))
 
@@ -152,24 +154,19 @@ module _ (cluster : Cluster) (workload : Workload) (w : World) (order : List Txn
       λ r. elim (was r.0 x r.2) [ inl k ↦ has_longer order (id ∷ []) x ((i.ordered.executed x).1 (r.0, r.1, k)) | inr e ↦ subst (Has (order ++ id ∷ [])) e (has_last order id) ],
     );
     down = subst (λ l. IsDown (Precedes l) (order ++ id ∷ [])) (sym logs_same) (down_push (Precedes (logs_of w)) order id i.ordered.down new
-        (λ u p. (i.ordered.executed u).1 (region, lr, may.preceders u ((precedes_full cluster workload w order i region u id lr may.closed).1 p))));
+        (λ u p. (i.ordered.executed u).1 (region, lr, may.preceders u ((precedes_full i region u id lr may.closed).1 p))));
   }
 
   with_order : (later : List TxnId) → IsOrder cluster.regions v later → Inv cluster workload v later
   unfolding v n'
-  with_order later o = record {
-    nodes = length-set w.nodes region n' ∙ i.nodes;
-    sized = sized;
-    ids = ids_kept cluster w v cluster.regions (keeps (λ n. n.submitted) refl) i.ids;
-    valid = valid_kept cluster w v cluster.regions subs_same i.valid;
-    asked = asked_kept cluster w v cluster.regions (keeps (λ n. n.asked) refl) (keeps (λ n. n.submitted) refl) i.asked;
-    logs = logs_kept cluster w v cluster.regions (keeps (λ n. n.log) refl) (keeps (λ n. n.taken) refl) (keeps (λ n. n.asked) refl) subs_same i.logs;
+  with_order later o = changed.change_keeps i region lr n' same later (record {
+    received = (i.sized region lr).received;
+    inserted = (i.sized region lr).inserted;
     lengths = lengths_kept cluster w v cluster.regions (keeps (λ n. n.here.inserted) refl) (keeps (λ n. n.received) refl) (keeps (λ n. n.log) refl) i.lengths;
     sound = sound;
     tables = tables;
     ordered = o;
-    sessions = sessions_kept cluster w v workload (keeps (λ n. n.submitted) refl) refl i.sessions;
-  }
+  })
 
   world_is : v ≡ moved_on cluster w region (Execute region id)
   unfolding v
@@ -178,7 +175,7 @@ module _ (cluster : Cluster) (workload : Workload) (w : World) (order : List Txn
   -- the region ran one transaction more
   pub executed_txns : txns_of (moved_on cluster w region (Execute region id)) (done_ids (node_at (moved_on cluster w region (Execute region id)) region).here) ≡ txns_of w (done_ids (node_at w region).here) ++ txn ∷ []
   executed_txns = subst (λ x. txns_of x (done_ids (node_at x region).here) ≡ txns_of w (done_ids (node_at w region).here) ++ txn ∷ []) world_is
-      (txns_same w v subs_same (done_ids (node_at v region).here) ∙ ap (txns_of w) done_now ∙ txns_more w (done_ids (node_at w region).here) id txn found)
+      (txns_now (done_ids (node_at v region).here) ∙ ap (txns_of w) done_now ∙ txns_more w (done_ids (node_at w region).here) id txn found)
 
   pub execute_again : Has order id → Inv cluster workload (moved_on cluster w region (Execute region id)) order
   execute_again known = subst (λ x. Inv cluster workload x order) world_is (with_order order (ordered_again known))
@@ -187,5 +184,6 @@ module _ (cluster : Cluster) (workload : Workload) (w : World) (order : List Txn
   execute_first new = subst (λ x. Inv cluster workload x (order ++ id ∷ [])) world_is (with_order (order ++ id ∷ []) (ordered_first new))
 
 -- an executable id was submitted
-pub executable_known : (cluster : Cluster) (workload : Workload) (w : World) (order : List TxnId) (region : ℕ) (id : TxnId) → region < cluster.regions → MayStep (received_logs w region) (node_at w region).here (Execute region id) → Inv cluster workload w order → IsKnown w id
-executable_known cluster workload w order region id lr may i = closed_known cluster workload w order i id (closed_full cluster workload w order i region id lr may.closed)
+pub executable_known : {cluster : Cluster} {workload : Workload} {w : World} {order : List TxnId} → Inv cluster workload w order
+    → (region : ℕ) (id : TxnId) → region < cluster.regions → MayStep (received_logs w region) (node_at w region).here (Execute region id) → IsKnown w id
+executable_known i region id lr may = closed_known i id (closed_full i region id lr may.closed)

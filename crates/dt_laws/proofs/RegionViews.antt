@@ -17,7 +17,7 @@ use Rattle.dt_laws.proofs.Submissions.{IsKnown, AreUnlike, unlike}
 use Rattle.dt_laws.proofs.Views.{view_is, fronts_longer, log_is, logs_length}
 use Rattle.dt_laws.proofs.Logs.{id_known, logs_well_formed}
 
-module _ (cluster : Cluster) (workload : Workload) (w : World) (order : List TxnId) (i : Inv cluster workload w order) where
+module _ {cluster : Cluster} {workload : Workload} {w : World} {order : List TxnId} (i : Inv cluster workload w order) where
   -- the view of a region is a front of each log, as long as it inserted
   pub view_fronts : (region : ℕ) → region < cluster.regions → view_at w region ≡ fronts (node_at w region).here.inserted (logs_of w)
   view_fronts region lt = view_is w region (λ home lh. (i.lengths region home lt (subst (λ n. home < n) i.nodes lh)).inserted)

@@ -11,22 +11,26 @@ use Rattle.dt_workload.specs.Valid.{IsValidWorkload}
 use Rattle.dt_session.specs.World.{World, Place, node_at, session_at}
 use Rattle.dt_session.specs.Step.{MayAnswer, MayEnd, answered}
 use Rattle.dt_laws.specs.Invariant.{IsPlaced, IsPlaceOf, Inv}
-use Rattle.dt_laws.proofs.Kept.{logs_kept, lengths_kept, ordered_kept}
+use Rattle.dt_laws.proofs.InvariantParts.{logs_kept, lengths_kept, ordered_kept}
 use Rattle.dt_laws.proofs.Sessions.{session_found, place_changed}
 
 -- a session that is answered has not more answered calls than calls, and made not too many attempts
-placed_answered : (tries : ℕ) (cluster : Cluster) (w : World) (region : ℕ) (session : Session) (place : Place) → MayEnd cluster w region place.waits → IsPlaceOf tries w session place → IsPlaceOf tries w session (record { answered = place.answered + 1; waits = None })
+placed_answered : (tries : ℕ) (cluster : Cluster) (w : World) (region : ℕ) (session : Session) (place : Place) → MayEnd cluster w region place.waits
+    → IsPlaceOf tries w session place → IsPlaceOf tries w session (record { answered = place.answered + 1; waits = None })
 placed_answered tries cluster w region session place may p = go place.waits may p.placed
   where
-    go : (waits : Option TxnId) → MayEnd cluster w region waits → IsPlaced tries (node_at w session.region).submitted session place.answered waits → IsPlaceOf tries w session (record { answered = place.answered + 1; waits = None })
+    go : (waits : Option TxnId) → MayEnd cluster w region waits → IsPlaced tries (node_at w session.region).submitted session place.answered waits
+        → IsPlaceOf tries w session (record { answered = place.answered + 1; waits = None })
     go None m q = absurd m
     go (Some id) m q =
         let call : place.answered < length session.calls = q.call in
         let attempt : q.submission.attempt ≤ tries = q.attempt_to in
         record { answered = omega arith; placed = omega (arith, q.attempts) }
 
-pub answer_keeps : (cluster : Cluster) (workload : Workload) → IsValidWorkload cluster workload → (w : World) (order : List TxnId) (region : ℕ) (name : Bytes) → MayAnswer cluster w region (session_at workload.sessions w.places region name) → Inv cluster workload w order → Inv cluster workload (answered workload w region (session_at workload.sessions w.places region name)) order
-answer_keeps cluster workload valid w order region name may i = go (session_at workload.sessions w.places region name) refl may
+pub answer_keeps : {cluster : Cluster} {workload : Workload} {w : World} {order : List TxnId} → Inv cluster workload w order → IsValidWorkload cluster workload
+    → (region : ℕ) (name : Bytes) → MayAnswer cluster w region (session_at workload.sessions w.places region name)
+    → Inv cluster workload (answered workload w region (session_at workload.sessions w.places region name)) order
+answer_keeps {cluster = cluster} {workload = workload} {w = w} {order = order} i valid region name may = go (session_at workload.sessions w.places region name) refl may
   where
     go : (o : Option (Session × Place)) → session_at workload.sessions w.places region name ≡ o → MayAnswer cluster w region o → Inv cluster workload (answered workload w region o) order
     go None e m = absurd m
@@ -36,7 +40,7 @@ answer_keeps cluster workload valid w order region name may i = go (session_at w
       ids = i.ids;
       valid = i.valid;
       asked = i.asked;
-      logs = logs_kept cluster w v cluster.regions (λ r. refl) (λ r. refl) (λ r. refl) refl i.logs;
+      logs = logs_kept cluster w v cluster.regions (λ r. refl) (λ r. refl) (λ r. refl) (λ r. refl) i.logs;
       lengths = lengths_kept cluster w v cluster.regions (λ r. refl) (λ r. refl) (λ r. refl) i.lengths;
       sound = i.sound;
       tables = i.tables;

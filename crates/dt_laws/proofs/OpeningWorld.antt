@@ -12,9 +12,9 @@ use Rattle.dt_txn.specs.Replica.{done_ids}
 use Rattle.dt_cluster.specs.declared.Cluster.{Cluster}
 use Rattle.dt_workload.specs.declared.Session.{Session}
 use Rattle.dt_workload.specs.declared.Workload.{Workload}
-use Rattle.dt_session.specs.World.{World, Node, no_node, opening_node, opening_table, opening_world, idle_place, node_at, asked_of, taken_from, log_of, logs_of, received_of, received_lengths, received_logs, view_at, submissions}
+use Rattle.dt_session.specs.World.{World, Node, no_node, opening_node, opening_table, opening_world, idle_place, node_at, asked_of, taken_of, log_of, logs_of, received_of, received_lengths, received_logs, view_at, submissions}
 use Rattle.dt_session.specs.Run.{txns_of}
-use Rattle.dt_laws.specs.Invariant.{IsSized, AreNumbered, IsPartAt, given_by, requests, IsLog, AreInOrder, IsRunOf, IsOrder, IsPlaced, IsPlaceOf, AreSessions, Inv}
+use Rattle.dt_laws.specs.Invariant.{IsSized, AreNumbered, IsPartAt, given_by, requests, IsLog, AreInOrder, IsRunOf, IsOrder, IsPlaced, IsPlaceOf, SessionsMatch, Inv}
 use Rattle.dt_laws.proofs.Views.{fronts_longer, received_own, received_other}
 use Rattle.dt_laws.proofs.Logs.{logs_well_formed}
 
@@ -74,16 +74,18 @@ module _ (cluster : Cluster) (workload : Workload) where
   of_empties (suc n) (suc q) = of_empties n q
 
   sized : (q : ℕ) → q < cluster.regions → IsSized cluster.regions (node_at w q)
-  sized q lt = subst (IsSized cluster.regions) (sym (node q lt)) (record { asked = length-replicate cluster.regions []; taken = length-replicate cluster.regions 0; received = length-replicate cluster.regions 0; inserted = length-replicate cluster.regions 0 })
+  sized q lt =
+      subst (IsSized cluster.regions) (sym (node q lt))
+      (record { asked = length-replicate cluster.regions []; taken = length-replicate cluster.regions 0; received = length-replicate cluster.regions 0; inserted = length-replicate cluster.regions 0 })
 
   numbered : (q : ℕ) → q < cluster.regions → AreNumbered q (node_at w q).submitted
   numbered q lt = subst (AreNumbered q) (sym (none_submitted q)) (λ j s e. cc)
 
   none_asked : (q home : ℕ) → asked_of w q home ≡ []
-  none_asked q home = of_any (λ n. get_or n.asked home []) [] (of_empties cluster.regions home) (of_empties 0 home) q
+  none_asked q home = of_any (λ n. get_or n.here.asked home []) [] (of_empties cluster.regions home) (of_empties 0 home) q
 
-  none_taken : (home q : ℕ) → taken_from w home q ≡ 0
-  none_taken home q = of_any (λ n. slice_index n.taken q) 0 (of_zeros cluster.regions q) (of_zeros 0 q) home
+  none_taken : (home q : ℕ) → taken_of w home q ≡ 0
+  none_taken home q = of_any (λ n. slice_index n.here.taken q) 0 (of_zeros cluster.regions q) (of_zeros 0 q) home
 
   none_inserted : (q home : ℕ) → slice_index (node_at w q).here.inserted home ≡ 0
   none_inserted q home = of_any (λ n. slice_index n.here.inserted home) 0 (of_zeros cluster.regions home) (of_zeros 0 home) q
@@ -101,7 +103,7 @@ module _ (cluster : Cluster) (workload : Workload) where
   logs : (home : ℕ) → home < cluster.regions → IsLog cluster.regions w home
   logs home lh = record {
     parts = subst (AllIn (IsPartAt w home)) (sym (no_log home)) tt;
-    taken = λ source ls. let n : taken_from w home source ≡ 0 = none_taken home source in omega arith;
+    taken = λ source ls. let n : taken_of w home source ≡ 0 = none_taken home source in omega arith;
     given = λ source ls. ap (λ l. given_by source (ids_of l)) (no_log home) ∙ sym (ap (λ n. take n (asked_of w source home)) (none_taken home source));
   }
 
@@ -113,7 +115,8 @@ module _ (cluster : Cluster) (workload : Workload) where
       subst (IsSound (view_at w q) (node_at w q).here.resolved) (sym (none_done q))
       (subst (λ l. IsSound (view_at w q) l []) (sym (of_any (λ n. n.here.resolved) [] refl refl q))
       (record {
-        well_formed = well_formed_front (view_at w q) (received_logs w q) (fronts_longer (node_at w q).here.inserted (received_logs w q)) (well_formed_front (received_logs w q) (logs_of w) (fronts_longer (received_lengths w q) (logs_of w)) (logs_well_formed cluster.regions w nodes numbered asked logs));
+        well_formed = well_formed_front (view_at w q) (received_logs w q) (fronts_longer (node_at w q).here.inserted (received_logs w q))
+            (well_formed_front (received_logs w q) (logs_of w) (fronts_longer (received_lengths w q) (logs_of w)) (logs_well_formed cluster.regions w nodes numbered asked logs));
         done_once = tt;
         done_closed = tt;
         done_downward = λ u t h p. absurd h;
@@ -137,7 +140,7 @@ module _ (cluster : Cluster) (workload : Workload) where
   places_idle [] = tt
   places_idle (s ∷ sessions) = (record { answered = omega arith; placed = subst (λ l. IsPlaced cluster.tries l s 0 None) (sym (none_submitted s.region)) (omega arith) }, places_idle sessions)
 
-  sessions : AreSessions cluster workload w
+  sessions : SessionsMatch cluster workload w
   unfolding w
   sessions = record {
     places = places_idle workload.sessions;

@@ -4,7 +4,7 @@ use Rattle.std.specs.Prelude.{filter}
 use Rattle.std.proofs.lemmas.Option.{same_Some}
 use Rattle.dt_lists.specs.Lists.{AnyIn, AllIn, SomeThen, Has, Either}
 use Rattle.dt_lists.proofs.Decided.{either_le}
-use Rattle.dt_lists.proofs.Words.{any_get, any_put, any_append_left, any_append_right, all_get, all_put, has_map, any_of_image}
+use Rattle.dt_lists.proofs.Words.{any_get, any_put, any_append_left, any_append_right, all_get, all_map, all_put, has_map, any_of_image}
 use Rattle.dt_lists.proofs.Filters.{has_filter}
 use Rattle.dt_access.specs.Clash.{Bytes, same_key, uses_clash, clash}
 use Rattle.dt_access.specs.declared.Mode.{Mode}
@@ -42,8 +42,8 @@ use Rattle.dt_laws.proofs.Views.{log_is}
 use Rattle.dt_laws.proofs.Homes.{has_set_of}
 use Rattle.dt_laws.proofs.Logs.{logs_past}
 use Rattle.dt_laws.proofs.Sessions.{key_of_test, test_of_key}
-use Rattle.dt_laws.proofs.Known.{view_longer, full_well_formed, done_known, order_closed, order_known}
-use Rattle.dt_laws.proofs.Annotating.{txns_submitted, txns_valid, unmoved_at_first}
+use Rattle.dt_laws.proofs.RegionViews.{view_longer, full_well_formed, done_known, order_closed, order_known}
+use Rattle.dt_laws.proofs.Annotations.{txns_submitted, txns_valid, unmoved_at_first}
 
 -- pairs of a list, by membership and by images
 
@@ -73,7 +73,9 @@ pub home_of_entry : (x : Txn) (a : Access) → Has x.access a → Has (homes_of 
 home_of_entry x a h = has_set_of (map (λ b. b.home) x.access ++ targets_of x.body) a.home (any_append_left (λ y. y ≡ a.home) (map (λ b. b.home) x.access) (targets_of x.body) (has_map (λ b. b.home) x.access a h))
 
 pub home_of_target : (x : Txn) (key : Bytes) (target : ℕ) → x.body ≡ Move key target → Has (homes_of x) target
-home_of_target x key target e = has_set_of (map (λ b. b.home) x.access ++ targets_of x.body) target (any_append_right (λ y. y ≡ target) (map (λ b. b.home) x.access) (targets_of x.body) (subst (λ b. Has (targets_of b) target) (sym e) (inl refl)))
+home_of_target x key target e =
+    has_set_of (map (λ b. b.home) x.access ++ targets_of x.body) target
+    (any_append_right (λ y. y ≡ target) (map (λ b. b.home) x.access) (targets_of x.body) (subst (λ b. Has (targets_of b) target) (sym e) (inl refl)))
 
 -- the last of the first moves gives the home
 pub home_after_last : (home : ℕ) (moves : List Moved) (c : ℕ) (m : Moved) → slice_get moves c ≡ Some m → home_after home (take (suc c) moves) ≡ m.target
@@ -88,18 +90,19 @@ clash_key : (a b : Bool) → (a && b) ≡ true → a ≡ true
 clash_key true b e = refl
 clash_key false b e = cc
 
-module _ (cluster : Cluster) (workload : Workload) (w : World) (order : List TxnId) (i : Inv cluster workload w order) where
+module _ {cluster : Cluster} {workload : Workload} {w : World} {order : List TxnId} (i : Inv cluster workload w order) where
   -- the ids of the transactions of ids
   pub order_ids : txn_ids (txns_of w order) ≡ order
-  order_ids = looked_ids (txn_of w) (txn_id w) order (order_known cluster workload w order i)
+  order_ids = looked_ids (txn_of w) (txn_id w) order (order_known i)
 
   pub done_txn_ids : (region : ℕ) → region < cluster.regions → txn_ids (txns_of w (done_ids (node_at w region).here)) ≡ done_ids (node_at w region).here
-  done_txn_ids region lt = looked_ids (txn_of w) (txn_id w) (done_ids (node_at w region).here) (done_known cluster workload w order i region lt)
+  done_txn_ids region lt = looked_ids (txn_of w) (txn_id w) (done_ids (node_at w region).here) (done_known i region lt)
 
   -- what a region executed comes, in the whole logs too, after all that precedes it
   pub done_down : (region : ℕ) → region < cluster.regions → IsDown (Precedes (logs_of w)) (done_ids (node_at w region).here)
   done_down region lt =
-      let s : IsSound (logs_of w) (node_at w region).here.resolved (done_ids (node_at w region).here) = sound_longer (view_at w region) (logs_of w) (view_longer cluster workload w order i region lt) (full_well_formed cluster workload w order i) (node_at w region).here.resolved (done_ids (node_at w region).here) (i.sound region lt) in
+      let s : IsSound (logs_of w) (node_at w region).here.resolved (done_ids (node_at w region).here) =
+      sound_longer (view_at w region) (logs_of w) (view_longer i region lt) (full_well_formed i) (node_at w region).here.resolved (done_ids (node_at w region).here) (i.sound region lt) in
       down_of_order (Precedes (logs_of w)) (done_ids (node_at w region).here) s.done_once (precedes_irreflexive (logs_of w)) s.done_downward s.done_in_order
 
   -- a part in the whole logs is that of its transaction
@@ -137,14 +140,17 @@ module _ (cluster : Cluster) (workload : Workload) (w : World) (order : List Txn
       let both : Some m ≡ Some (record { target = made.target; by = m.by }) = sym e ∙ made.number in
       let same : m ≡ record { target = made.target; by = m.by } = same_Some m (record { target = made.target; by = m.by }) both in
       let target : made.target ≡ m.target = sym (ap (λ x. x.target) same) in
-      (made.mover, subst (λ id. txn_of w id ≡ Some made.mover) made.id from.1, made.body ∙ ap (Move key) target, all_get (IsValid cluster.procs cluster.regions) (txns_of w order) (txns_valid cluster cluster.regions w i.valid order) made.mover made.there)
+      let found : txn_of w m.by ≡ Some made.mover = subst (λ id. txn_of w id ≡ Some made.mover) made.id from.1 in
+      let valid : IsValid cluster.procs cluster.regions made.mover = all_get (IsValid cluster.procs cluster.regions) (txns_of w order) (txns_valid cluster cluster.regions w i.valid order) made.mover made.there in
+      (made.mover, found, made.body ∙ ap (Move key) target, valid)
 
   module _ (rooted : Rooted cluster w order) where
     -- an entry of a transaction of the order is rooted
     pub root_of : (x : Txn) (a : Access) → Has (txns_of w order) x → Has x.access a → IsRooted cluster (logs_of w) (history_of cluster w order a.key) x.id a
     root_of x a hx ha =
         let r : (s : Submission) × Has (submissions w) s × (s.txn ≡ x) = txns_submitted w order x hx in
-        let all : AllIn (λ b. IsRooted cluster (logs_of w) (history_of cluster w order b.key) r.0.txn.id b) r.0.txn.access = all_get (λ s. AllIn (λ b. IsRooted cluster (logs_of w) (history_of cluster w order b.key) s.txn.id b) s.txn.access) (submissions w) rooted r.0 r.1 in
+        let all : AllIn (λ b. IsRooted cluster (logs_of w) (history_of cluster w order b.key) r.0.txn.id b) r.0.txn.access =
+        all_get (λ s. AllIn (λ b. IsRooted cluster (logs_of w) (history_of cluster w order b.key) s.txn.id b) s.txn.access) (submissions w) rooted r.0 r.1 in
         all_get (λ b. IsRooted cluster (logs_of w) (history_of cluster w order b.key) x.id b) x.access (subst (λ t. AllIn (λ b. IsRooted cluster (logs_of w) (history_of cluster w order b.key) t.id b) t.access) r.2 all) a ha
 
     in_order : (x : Txn) → Has (txns_of w order) x → Has order x.id × (txn_of w x.id ≡ Some x)
@@ -155,7 +161,7 @@ module _ (cluster : Cluster) (workload : Workload) (w : World) (order : List Txn
     anchored_at x a hx ha = follows a.counter (root_of x a hx ha).root
       where
         closed : IsClosed (logs_of w) x.id
-        closed = order_closed cluster workload w order i x.id (in_order x hx).0
+        closed = order_closed i x.id (in_order x hx).0
 
         there : HasPart (log_at (logs_of w) a.home) x.id
         there = parts_of_closed x.id x a.home closed (in_order x hx).1 (home_of_entry x a ha)
@@ -172,18 +178,22 @@ module _ (cluster : Cluster) (workload : Workload) (w : World) (order : List Txn
                 let m : (y : Txn) × (txn_of w r.0.by ≡ Some y) × (y.body ≡ Move a.key r.0.target) × IsValid cluster.procs cluster.regions y = maker_found a.key c r.0 r.1 in
                 let left : p.keys ≡ (a.key, Write) ∷ [] = part_keys a.home p m.0 hp (ap (txn_of w) e.0 ∙ m.1) ∙ listed_of_move cluster cluster.regions m.0 a.key r.0.target a.home m.3 m.2 in
                 let right : q.keys ≡ (part_of x a.home).keys = part_keys a.home q x hq (ap (txn_of w) e.1 ∙ (in_order x hx).1) in
-                (e.0, e.1, subst₂ (λ k l. clash k l ≡ true) (sym left) (sym right) (clash_of_uses ((a.key, Write) ∷ []) (part_of x a.home).keys (inl (any_put (λ b. uses_clash (a.key, Write) b ≡ true) (part_of x a.home).keys (used_of a) (listed x.body a.home x.access a ha refl) (writes_clash a.key a.key a.mode refl)))))
+                let written : AnyIn (λ b. uses_clash (a.key, Write) b ≡ true) (part_of x a.home).keys =
+                any_put (λ b. uses_clash (a.key, Write) b ≡ true) (part_of x a.home).keys (used_of a) (listed x.body a.home x.access a ha refl) (writes_clash a.key a.key a.mode refl) in
+                (e.0, e.1, subst₂ (λ k l. clash k l ≡ true) (sym left) (sym right) (clash_of_uses ((a.key, Write) ∷ []) (part_of x a.home).keys (inl written)))
 
             edge : Edge (logs_of w) r.0.by x.id
-            edge = edge_at_home (logs_of w) a.home r.0.by x.id ne (some_map_in _ (AreClashing r.0.by x.id) (log_at (logs_of w) a.home) clashing (some_of_image (λ u t. (u ≡ r.0.by) × (t ≡ x.id)) (λ p. p.id) (log_at (logs_of w) a.home) (r.4 there)))
+            edge =
+                edge_at_home (logs_of w) a.home r.0.by x.id ne
+                (some_map_in _ (AreClashing r.0.by x.id) (log_at (logs_of w) a.home) clashing (some_of_image (λ u t. (u ≡ r.0.by) × (t ≡ x.id)) (λ p. p.id) (log_at (logs_of w) a.home) (r.4 there)))
 
     -- transactions with clashing entries of one number share a log
     shared : IsShared (Precedes (logs_of w)) (txns_of w order)
     shared x y hx hy ne a b ha hb e c =
         let key : a.key ≡ b.key = key_of_test a.key b.key (clash_key (same_key a.key b.key) _ c) in
         let home : a.home ≡ b.home = (root_of x a hx ha).home ∙ ap₂ (λ k n. home_after (opening_home cluster.regions cluster.homes k) (take n (history_of cluster w order k))) key e ∙ sym (root_of y b hy hb).home in
-        let px : HasPart (log_at (logs_of w) a.home) x.id = parts_of_closed x.id x a.home (order_closed cluster workload w order i x.id (in_order x hx).0) (in_order x hx).1 (home_of_entry x a ha) in
-        let py : HasPart (log_at (logs_of w) a.home) y.id = subst (λ h. HasPart (log_at (logs_of w) h) y.id) (sym home) (parts_of_closed y.id y b.home (order_closed cluster workload w order i y.id (in_order y hy).0) (in_order y hy).1 (home_of_entry y b hb)) in
+        let px : HasPart (log_at (logs_of w) a.home) x.id = parts_of_closed x.id x a.home (order_closed i x.id (in_order x hx).0) (in_order x hx).1 (home_of_entry x a ha) in
+        let py : HasPart (log_at (logs_of w) a.home) y.id = subst (λ h. HasPart (log_at (logs_of w) h) y.id) (sym home) (parts_of_closed y.id y b.home (order_closed i y.id (in_order y hy).0) (in_order y hy).1 (home_of_entry y b hb)) in
         let p : (p : Part) × Has (log_at (logs_of w) a.home) p × (p.id ≡ x.id) = any_get (λ p. p.id ≡ x.id) (log_at (logs_of w) a.home) px in
         let q : (q : Part) × Has (log_at (logs_of w) a.home) q × (q.id ≡ y.id) = any_get (λ q. q.id ≡ y.id) (log_at (logs_of w) a.home) py in
         let left : p.0.keys ≡ (part_of x a.home).keys = part_keys a.home p.0 x p.1 (ap (txn_of w) p.2 ∙ (in_order x hx).1) in
@@ -199,7 +209,7 @@ module _ (cluster : Cluster) (workload : Workload) (w : World) (order : List Txn
     history = record {
       transitive = precedes_transitive (logs_of w);
       unmoved = unmoved_at_first cluster;
-      keys = all_put (KeepsToKeys cluster.procs) (txns_of w order) (λ x h. valid_keeps cluster.procs cluster.regions x (all_get (IsValid cluster.procs cluster.regions) (txns_of w order) (txns_valid cluster cluster.regions w i.valid order) x h));
+      keys = all_map (IsValid cluster.procs cluster.regions) (KeepsToKeys cluster.procs) (txns_of w order) (valid_keeps cluster.procs cluster.regions) (txns_valid cluster cluster.regions w i.valid order);
       down = subst (IsDown (Precedes (logs_of w))) (sym order_ids) i.ordered.down;
       anchored = all_put _ (txns_of w order) (λ x hx. all_put (λ a. FollowsMove (Precedes (logs_of w)) (history_of cluster w order a.key) a.counter x.id) x.access (λ a ha. anchored_at x a hx ha));
       shared = shared;
