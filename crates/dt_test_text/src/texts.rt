@@ -9,7 +9,7 @@ use std::alloc::Global;
 use std::test::Fail;
 
 /// More bytes than a test reads.
-const MANY: usize = 100000;
+const MANY: usize = 1000000;
 
 /// What a test reads bytes as.
 #[derive(Clone, Copy)]
