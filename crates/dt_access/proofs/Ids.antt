@@ -3,9 +3,7 @@ use Rattle.std.proofs.Common.{◌≡◌, ◌≢◌, ◌⊎◌, true, false, List
 use Rattle.std.proofs.lemmas.Bool.{and_parts, and_from, false_from_ne_true}
 use Rattle.std.proofs.lemmas.Bool.Decides.{nat_tests}
 use Rattle.dt_lists.specs.Lists.{Has, Either}
-use Rattle.dt_lists.proofs.Words.{any_map}
-use Rattle.dt_lists.proofs.Tests.{any_of_test, test_of_any}
-use Rattle.dt_lists.proofs.Decided.{either_nat, either_and, either_same}
+use Rattle.dt_lists.proofs.Callers.{any_map, any_of_test, test_of_any, either_nat, either_and, either_same}
 use Rattle.dt_access.specs.Ids.{Before, same_id, is_among}
 use Rattle.dt_access.specs.declared.id.TxnId.{TxnId}
 

@@ -9,8 +9,7 @@ use Rattle.std.specs.declared.cmp.Ordering.{Ordering}
 use Rattle.std.specs.declared.cmp.Ordering.TheVariants.{Less, Equal, Greater}
 use Rattle.std.specs.Cmp.Lexicographic.{slice_cmp, bytes_decides, texts_ties, nat_list_cmp_total}
 use Rattle.dt_lists.specs.Lists.{AnyIn, AllIn, Pairwise}
-use Rattle.dt_lists.proofs.Places.{place_within}
-use Rattle.dt_lists.proofs.Words.{all_map}
+use Rattle.dt_lists.proofs.Callers.{place_within, all_map}
 use Rattle.dt_text.specs.declared.Value.{Value}
 use Rattle.dt_access.specs.Clash.{Bytes}
 use Rattle.dt_access.specs.Orders.{KeyBefore, HasAscendingKeys}

@@ -11,7 +11,7 @@ use Rattle.std.proofs.lemmas.List.Folds.{list_all-append, list_all_at}
 use Rattle.std.proofs.lemmas.List.Quantifiers.{position-Some}
 use Rattle.std.proofs.lemmas.Str.Parse.{digit_from_value}
 use Rattle.dt_text.specs.Texts.{IsStr, is_text_byte, first_outside}
-use Rattle.dt_text.proofs.Numerals.{decimal_digits}
+use Rattle.dt_text.proofs.Callers.{decimal_digits}
 
 not_true : (b : Bool) → not b ≡ true → b ≡ false
 not_true false e = refl

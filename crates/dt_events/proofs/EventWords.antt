@@ -5,11 +5,11 @@ use Rattle.std.specs.List.{join_with_byte}
 use Rattle.std.proofs.lemmas.Grind.{common_steps}
 use Rattle.std.proofs.lemmas.Option.{same_Some}
 use Rattle.dt_lists.specs.Lists.{Pairwise}
-use Rattle.dt_lists.proofs.Changes.{same_head, same_tail}
+use Rattle.dt_lists.proofs.Callers.{same_head, same_tail}
 use Rattle.dt_text.specs.Reading.{words_of}
 use Rattle.dt_text.specs.Lines.{FileLine}
 use Rattle.dt_text.specs.declared.Word.{Word}
-use Rattle.dt_text.proofs.ReadingLaws.{exact}
+use Rattle.dt_text.proofs.Callers.{exact}
 use Rattle.dt_access.specs.declared.TxnId.{TxnId}
 use Rattle.dt_access.specs.Ids.{IsCounted, id_text}
 use Rattle.dt_events.specs.declared.event.Event.{Event}

@@ -18,14 +18,13 @@ use Rattle.dt_text.specs.declared.Word.{Word}
 use Rattle.dt_text.specs.declared.Word.TheVariants.{Bare}
 use Rattle.dt_access.specs.declared.TxnId.{TxnId}
 use Rattle.dt_access.specs.Ids.{IsCounted, id_text}
-use Rattle.dt_access.proofs.IdTexts.{id_text-injective}
+use Rattle.dt_access.proofs.Callers.{id_text-injective}
 use Rattle.dt_events.specs.declared.event.Event.{Event}
 use Rattle.dt_events.specs.declared.event.Event.TheVariants.{Submit, Append, Deliver, Insert, Resolve, Execute, Answer}
 use Rattle.dt_events.specs.Events.{region_of, kind_word, argument_words, event_words, IsWritten, IsRegion, bare_bytes, AreBareWords, IsEventLine, IsNumberedEvent, AreEvents, event_text, event_line}
 use Rattle.dt_events.specs.Laws.{LinesAreOneEvent, PrintedEventsReadBack}
-use Rattle.dt_text.proofs.Spaced.{spaced, join_spaced}
-use Rattle.dt_text.proofs.Numerals.{same_number}
-use Rattle.dt_lists.proofs.Changes.{same_head, same_tail}
+use Rattle.dt_text.proofs.Callers.{spaced, join_spaced, same_number}
+use Rattle.dt_lists.proofs.Callers.{same_head, same_tail}
 use Rattle.dt_events.proofs.EventWords.{one_line}
 
 -- ---- each word of an event is a bare word

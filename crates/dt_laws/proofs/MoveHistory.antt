@@ -14,11 +14,8 @@ use Rattle.dt_access.specs.declared.Access.{Access}
 use Rattle.dt_access.specs.declared.Part.{Part}
 use Rattle.dt_sched.specs.Views.{log_at, HasPart, HasParts, AreClashing, Edge, here, Reaches, IsClosed, Precedes}
 use Rattle.dt_sched.specs.Decide.{IsSound}
-use Rattle.dt_sched.proofs.Clash.{clash_of_uses}
-use Rattle.dt_sched.proofs.Chains.{chain_step}
-use Rattle.dt_sched.proofs.Closed.{part_of_complete, edge_at_home, complete_of_closed}
-use Rattle.dt_sched.proofs.Precedence.{precedes_irreflexive, precedes_transitive, comparable_in_log}
-use Rattle.dt_sched.proofs.Sound.{sound_longer}
+use Rattle.dt_sched.proofs.Callers.{clash_of_uses, part_of_complete, edge_at_home, complete_of_closed, precedes_irreflexive, precedes_transitive}
+use Rattle.dt_sched.proofs.Callers.{comparable_in_log, sound_longer}
 use Rattle.dt_table.specs.Table.{Moved, opening_home, home_after}
 use Rattle.dt_txn.specs.declared.Body.{Body}
 use Rattle.dt_txn.specs.declared.txn.Body.TheVariants.{Call, Move}

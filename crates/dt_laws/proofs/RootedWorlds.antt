@@ -14,7 +14,7 @@ use Rattle.dt_access.specs.declared.TxnId.{TxnId}
 use Rattle.dt_access.specs.declared.Access.{Access}
 use Rattle.dt_access.specs.declared.Part.{Part}
 use Rattle.dt_sched.specs.Views.{ids_of, log_at, HasPart, IsLonger, IsClosed, IsWellFormed}
-use Rattle.dt_sched.proofs.Closed.{closed_stays, reaches_back}
+use Rattle.dt_sched.proofs.Callers.{closed_stays, reaches_back}
 use Rattle.dt_events.specs.declared.Event.{Event}
 use Rattle.dt_events.specs.declared.Event.TheVariants.{Submit, Append, Deliver, Insert, Resolve, Execute, Answer}
 use Rattle.dt_table.specs.Table.{Moved, moves_of, opening_home, home_after}

@@ -7,8 +7,7 @@ use Rattle.dt_lists.proofs.Decided.{either_nat}
 use Rattle.dt_access.specs.declared.TxnId.{TxnId}
 use Rattle.dt_sched.specs.Views.{log_at, IsLonger}
 use Rattle.dt_sched.specs.Decide.{IsSound}
-use Rattle.dt_sched.proofs.Longer.{well_formed_front}
-use Rattle.dt_sched.proofs.Sound.{sound_longer}
+use Rattle.dt_sched.proofs.Callers.{well_formed_front, sound_longer}
 use Rattle.dt_events.specs.declared.Event.TheVariants.{Insert}
 use Rattle.dt_txn.specs.Replica.{MayStep, fronts, done_ids}
 use Rattle.dt_cluster.specs.declared.Cluster.{Cluster}

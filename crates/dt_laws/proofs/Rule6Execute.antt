@@ -9,7 +9,7 @@ use Rattle.dt_lists.proofs.Places.{has_more, has_last, has_longer}
 use Rattle.dt_access.specs.declared.TxnId.{TxnId}
 use Rattle.dt_sched.specs.Views.{Precedes}
 use Rattle.dt_sched.specs.Decide.{IsSound}
-use Rattle.dt_sched.proofs.Sound.{sound_execute}
+use Rattle.dt_sched.proofs.Callers.{sound_execute}
 use Rattle.dt_events.specs.declared.Event.TheVariants.{Execute}
 use Rattle.dt_table.specs.Table.{Table}
 use Rattle.dt_txn.specs.declared.Txn.{Txn}

@@ -9,7 +9,7 @@ use Rattle.std.proofs.lemmas.Bool.Decides.{nat_tests}
 use Rattle.std.proofs.lemmas.Int.{ints}
 use Rattle.std.proofs.lemmas.Str.Parse.{digit_at}
 use Rattle.dt_text.specs.Numbers.{ReadsSignedNumber}
-use Rattle.dt_text.proofs.Numerals.{one_spelling, digit_value_is}
+use Rattle.dt_text.proofs.Callers.{one_spelling, digit_value_is}
 use Rattle.dt_proc.specs.declared.token.Token.TheVariants.{Int}
 use Rattle.dt_proc.specs.Tokens.{is_digit, whole_number}
 
