@@ -1,8 +1,8 @@
 -- Attempts that clash are ordered across moves, and no attempt runs before the moves that it was annotated with.
 use Rattle.std.proofs.Common.{◌≡◌, ◌≢◌, ◌<◌, ◌≤◌, ℕ, true, List, [], ◌∷◌, ◌++◌, map, Some, sym, subst, subst₂, ◌∙◌}
 use Rattle.dt_lists.specs.Lists.{AnyIn, AllIn, Has}
-use Rattle.dt_lists.proofs.Words.{any_get, any_of_image}
-use Rattle.dt_lists.proofs.Before.{Spot, spot}
+use Rattle.dt_lists.proofs.Callers.{any_get, any_of_image}
+use Rattle.dt_lists.proofs.Callers.{Spot, spot}
 use Rattle.dt_access.specs.Clash.{clash}
 use Rattle.dt_access.specs.declared.TxnId.{TxnId}
 use Rattle.dt_access.specs.declared.Access.{Access}
@@ -18,11 +18,11 @@ use Rattle.dt_txn.specs.Serial.{table_after}
 use Rattle.dt_txn.specs.Replica.{done_ids}
 use Rattle.dt_serial.specs.Order as serial
 use Rattle.dt_serial.specs.Order.{IsLive, IsDown, IsHistory, Ordered, txn_ids, uses_in}
-use Rattle.dt_serial.proofs.One.{live_of_outcome}
-use Rattle.dt_serial.proofs.Runs.{outcome_at}
-use Rattle.dt_serial.proofs.History.{across_fewer}
-use Rattle.dt_serial.proofs.Outcome.{across_moves, single_outcome, counters_reached}
-use Rattle.dt_serial.proofs.Lookups.{looked_has}
+use Rattle.dt_serial.proofs.Callers.{live_of_outcome}
+use Rattle.dt_serial.proofs.Callers.{outcome_at}
+use Rattle.dt_serial.proofs.Callers.{across_fewer}
+use Rattle.dt_serial.proofs.Callers.{across_moves, single_outcome, counters_reached}
+use Rattle.dt_serial.proofs.Callers.{looked_has}
 use Rattle.dt_cluster.specs.declared.Cluster.{Cluster}
 use Rattle.dt_workload.specs.declared.Workload.{Workload}
 use Rattle.dt_session.specs.World.{World, opening_table, node_at, logs_of, txn_of, outcome_in}

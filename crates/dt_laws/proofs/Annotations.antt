@@ -5,8 +5,8 @@ use Rattle.std.specs.Map.{lookup}
 use Rattle.std.proofs.lemmas.Option.{same_Some}
 use Rattle.std.specs.List.{cons_option}
 use Rattle.dt_lists.specs.Lists.{AnyIn, AllIn, Has}
-use Rattle.dt_lists.proofs.Words.{any_get, any_append, any_of_image, all_get, all_put}
-use Rattle.dt_lists.proofs.Places.{place_of}
+use Rattle.dt_lists.proofs.Callers.{any_get, any_append, any_of_image, all_get, all_put}
+use Rattle.dt_lists.proofs.Callers.{place_of}
 use Rattle.dt_access.specs.Clash.{Bytes, same_key}
 use Rattle.dt_access.specs.declared.Mode.{Mode}
 use Rattle.dt_access.specs.declared.TxnId.{TxnId}
@@ -19,7 +19,7 @@ use Rattle.dt_txn.specs.Transaction.{uses_of, annotated, annotate, targets_of, h
 use Rattle.dt_txn.specs.Serial.{after, table_after}
 use Rattle.dt_serial.specs.Evidence.{MadeMove}
 use Rattle.dt_serial.proofs.Rows.{apply_regions, apply_homes, opening_unmoved}
-use Rattle.dt_serial.proofs.Causes.{move_made}
+use Rattle.dt_serial.proofs.Callers.{move_made}
 use Rattle.dt_cluster.specs.declared.Cluster.{Cluster}
 use Rattle.dt_cluster.specs.Valid.{IsValidCluster}
 use Rattle.dt_workload.specs.declared.Wanted.{Wanted}

@@ -13,7 +13,7 @@ pub use Rattle.dt_laws.proofs.Rule1Submit.{Submits}
 pub use Rattle.dt_laws.proofs.Rule2Append.{IsRequest, IsNextRequest}
 use Rattle.std.proofs.Common.{◌≡◌, ◌<◌, ◌≤◌, ◌⊎◌, ℕ, List, [], ◌∷◌, ◌++◌, length, set, slice_get, Some, subst}
 use Rattle.dt_lists.specs.Lists.{AllIn, Has, Distinct}
-use Rattle.dt_lists.proofs.Words.{all_get}
+use Rattle.dt_lists.proofs.Callers.{all_get}
 use Rattle.dt_access.specs.Clash.{Bytes}
 use Rattle.dt_access.specs.declared.TxnId.{TxnId}
 use Rattle.dt_sched.specs.Views.{ids_of, log_at, IsWellFormed}

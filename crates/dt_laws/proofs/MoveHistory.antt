@@ -3,9 +3,9 @@ use Rattle.std.proofs.Common.{◌≡◌, ◌≢◌, ◌<◌, ℕ, zero, suc, Boo
 use Rattle.std.specs.Prelude.{filter}
 use Rattle.std.proofs.lemmas.Option.{same_Some}
 use Rattle.dt_lists.specs.Lists.{AnyIn, AllIn, SomeThen, Has, Either}
-use Rattle.dt_lists.proofs.Decided.{either_le}
-use Rattle.dt_lists.proofs.Words.{any_get, any_put, any_append_left, any_append_right, all_get, all_map, all_put, has_map, any_of_image}
-use Rattle.dt_lists.proofs.Filters.{has_filter}
+use Rattle.dt_lists.proofs.Callers.{either_le}
+use Rattle.dt_lists.proofs.Callers.{any_get, any_put, any_append_left, any_append_right, all_get, all_map, all_put, has_map, any_of_image}
+use Rattle.dt_lists.proofs.Callers.{has_filter}
 use Rattle.dt_access.specs.Clash.{Bytes, same_key, uses_clash, clash}
 use Rattle.dt_access.specs.declared.Mode.{Mode}
 use Rattle.dt_access.specs.declared.Mode.TheVariants.{Write}
@@ -24,10 +24,10 @@ use Rattle.dt_txn.specs.Transaction.{uses_of, targets_of, homes_of, entries_at, 
 use Rattle.dt_txn.specs.Replica.{done_ids}
 use Rattle.dt_serial.specs.Order.{Ordered, IsDown, FollowsMove, IsShared, IsHistory, txn_ids, KeepsToKeys}
 use Rattle.dt_serial.specs.Evidence.{MadeMove}
-use Rattle.dt_serial.proofs.Causes.{move_made}
-use Rattle.dt_serial.proofs.Past.{down_of_order}
-use Rattle.dt_serial.proofs.Lookups.{looked_ids, looked_from, looked_members}
-use Rattle.dt_serial.proofs.Valid.{valid_keeps}
+use Rattle.dt_serial.proofs.Callers.{move_made}
+use Rattle.dt_serial.proofs.Callers.{down_of_order}
+use Rattle.dt_serial.proofs.Callers.{looked_ids, looked_from, looked_members}
+use Rattle.dt_serial.proofs.Callers.{valid_keeps}
 use Rattle.dt_cluster.specs.declared.Cluster.{Cluster}
 use Rattle.dt_workload.specs.declared.Workload.{Workload}
 use Rattle.dt_session.specs.World.{World, Submission, node_at, opening_table, logs_of, log_of, view_at, submissions, txn_of}

@@ -2,10 +2,10 @@
 -- deadlock: the history of moves is empty, so that every annotation has the opening home of its key.
 use Rattle.std.proofs.Common.{◌≡◌, ◌<◌, ℕ, zero, suc, List, [], ◌∷◌, ◌++◌, length, get_or, map, take, slice_get, Some, refl, sym, ap, ap₂, subst, ◌∙◌}
 use Rattle.dt_lists.specs.Lists.{AnyIn, AllIn, Has}
-use Rattle.dt_lists.proofs.Words.{any_get, all_get, all_put, any_image}
-use Rattle.dt_lists.proofs.Places.{has_place}
-use Rattle.dt_lists.proofs.Before.{Spot, spot}
-use Rattle.dt_lists.proofs.Fronts.{all_front}
+use Rattle.dt_lists.proofs.Callers.{any_get, all_get, all_put, any_image}
+use Rattle.dt_lists.proofs.Callers.{has_place}
+use Rattle.dt_lists.proofs.Callers.{Spot, spot}
+use Rattle.dt_lists.proofs.Callers.{all_front}
 use Rattle.dt_access.specs.Clash.{Bytes}
 use Rattle.dt_access.specs.declared.TxnId.{TxnId}
 use Rattle.dt_access.specs.declared.Access.{Access}
@@ -21,7 +21,7 @@ use Rattle.dt_txn.specs.declared.Txn.{Txn}
 use Rattle.dt_txn.specs.Transaction.{set_of, targets_of, homes_of, used_of, annotated, uses_of, part_of, IsValid}
 use Rattle.dt_txn.specs.Replica.{done_ids}
 use Rattle.dt_serial.specs.Evidence.{MadeMove}
-use Rattle.dt_serial.proofs.Causes.{move_made}
+use Rattle.dt_serial.proofs.Callers.{move_made}
 use Rattle.dt_cluster.specs.declared.Cluster.{Cluster}
 use Rattle.dt_workload.specs.declared.Session.{Session}
 use Rattle.dt_workload.specs.declared.Wanted.{Wanted}

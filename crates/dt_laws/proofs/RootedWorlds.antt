@@ -3,10 +3,10 @@ use Rattle.std.proofs.Common.{◌≡◌, ◌<◌, ◌⊎◌, ℕ, zero, suc, Boo
 use Rattle.std.specs.Prelude.{Option}
 use Rattle.std.proofs.lemmas.List.{map_push, get_or-set_same, get_or-set_other, set_past}
 use Rattle.dt_lists.specs.Lists.{AllIn, Has, IsFront, Either}
-use Rattle.dt_lists.proofs.Words.{any_append, any_image, some_append_left, all_map, all_get, all_put, all_image}
-use Rattle.dt_lists.proofs.Decided.{either_nat, either_le}
-use Rattle.dt_lists.proofs.Before.{has_before}
-use Rattle.dt_lists.proofs.Places.{from_right, field_of_set, map_of_set, flat_map_of_set}
+use Rattle.dt_lists.proofs.Callers.{any_append, any_image, some_append_left, all_map, all_get, all_put, all_image}
+use Rattle.dt_lists.proofs.Callers.{either_nat, either_le}
+use Rattle.dt_lists.proofs.Callers.{has_before}
+use Rattle.dt_lists.proofs.Callers.{from_right, field_of_set, map_of_set, flat_map_of_set}
 use Rattle.dt_access.specs.Ids.{is_among, StandsBefore}
 use Rattle.dt_access.specs.Clash.{Bytes}
 use Rattle.dt_access.specs.declared.Mode.{Mode}
@@ -23,7 +23,7 @@ use Rattle.dt_txn.specs.declared.Txn.{Txn}
 use Rattle.dt_txn.specs.Transaction.{uses_of, annotated, part_of, IsValid}
 use Rattle.dt_txn.specs.Serial.{table_after}
 use Rattle.dt_txn.specs.Replica.{Replica, MayStep, stepped}
-use Rattle.dt_serial.proofs.Runs.{moves_grow, table_after_append}
+use Rattle.dt_serial.proofs.Callers.{moves_grow, table_after_append}
 use Rattle.dt_cluster.specs.declared.Cluster.{Cluster}
 use Rattle.dt_cluster.specs.Valid.{IsValidCluster}
 use Rattle.dt_workload.specs.declared.Workload.{Workload}

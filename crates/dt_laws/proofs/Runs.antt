@@ -9,7 +9,7 @@ use Rattle.dt_lists.proofs.Callers.{has_of_filtered, has_filter, front_refl, fro
 use Rattle.dt_access.specs.Ids.{same_id, is_among}
 use Rattle.dt_access.specs.declared.TxnId.{TxnId}
 use Rattle.dt_events.specs.declared.Event.{Event}
-use Rattle.dt_serial.proofs.Past.{has_of_among, among_of_has, not_among}
+use Rattle.dt_serial.proofs.Callers.{has_of_among, among_of_has, not_among}
 use Rattle.dt_cluster.specs.declared.Cluster.{Cluster}
 use Rattle.dt_workload.specs.declared.Workload.{Workload}
 use Rattle.dt_session.specs.World.{World, opening_world}

@@ -1,6 +1,6 @@
 -- What may be inserted.
 use Rattle.std.proofs.Common.{◌<◌, length}
-use Rattle.dt_lists.proofs.Words.{all_get}
+use Rattle.dt_lists.proofs.Callers.{all_get}
 use Rattle.dt_access.specs.declared.Part.{Part}
 use Rattle.dt_sched.specs.Views.{View}
 use Rattle.dt_sched.specs.Sched.{CanInsert}

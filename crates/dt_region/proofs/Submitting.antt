@@ -10,7 +10,7 @@ use Rattle.dt_proc.specs.Tree.{ProcTree}
 use Rattle.dt_txn.specs.Transaction.{homes_of, BodyFits}
 use Rattle.dt_region.specs.State.{State, find_txn, held}
 use Rattle.dt_region.specs.Rules.{next_id, submission_for, after_submit}
-use Rattle.dt_txn.proofs.Formed.{formed}
+use Rattle.dt_txn.proofs.Callers.{formed}
 use Rattle.dt_region.specs.Sound.{AreCounted, IsSoundRegion, IsHeldPart}
 use Rattle.dt_region.proofs.Asked.{ask_length}
 use Rattle.dt_region.proofs.Find.{found_or_none, find_left, find_right, find_only, counted_at, apart}

@@ -9,10 +9,10 @@ use Rattle.dt_access.specs.declared.TxnId.{TxnId}
 use Rattle.dt_sched.specs.Views.{log_at, HasPart}
 use Rattle.dt_sched.specs.Sched.{parts_in}
 use Rattle.dt_table.specs.Table.{Moved, opening}
-use Rattle.dt_table.proofs.TableLaws.{moves_of-opening}
+use Rattle.dt_table.proofs.Callers.{moves_of-opening}
 use Rattle.dt_txn.specs.declared.txn.Txn.{Txn}
 use Rattle.dt_txn.specs.Transaction.{homes_of, part_of}
-use Rattle.dt_txn.proofs.Formed.{formed}
+use Rattle.dt_txn.proofs.Callers.{formed}
 use Rattle.dt_region.specs.State.{State, held}
 use Rattle.dt_region.specs.Rules.{taken_from}
 use Rattle.dt_region.specs.Conditions.{IsTableFor, Agrees, CanAppend}

@@ -9,4 +9,5 @@ pub use Rattle.dt_sched.proofs.Classes.{class_of_member, class_unique, in_own_cl
 pub use Rattle.dt_sched.proofs.Decisions.{has_id_decided}
 pub use Rattle.dt_sched.proofs.NothingToDo.{done_where_closed}
 pub use Rattle.dt_sched.proofs.Growing.{log_with_part, put_log}
-pub use Rattle.dt_sched.proofs.Sound.{sound_execute, sound_longer, sound_resolve}
+pub use Rattle.dt_sched.proofs.Sound.{sound_at_first, sound_execute, sound_insert, sound_longer, sound_resolve}
+pub use Rattle.dt_sched.proofs.OneHome.{class_single, none_resolvable}

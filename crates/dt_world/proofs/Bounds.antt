@@ -21,10 +21,11 @@ use Rattle.dt_session.specs.World.{World, Node, Place, idle_place, is_session, n
 use Rattle.dt_session.specs.Step.{IsLegal, MayAnswer, answered, next, node_submitted, placed, received, submission_for}
 use Rattle.dt_session.specs.Run.{AreLegal, order_of, world_after}
 use Rattle.dt_laws.specs.Invariant.{Inv}
-use Rattle.dt_laws.proofs.Appending.{append_cases, logs_placed}
+use Rattle.dt_laws.proofs.Callers.{append_cases}
+use Rattle.dt_laws.proofs.Appending.{logs_placed}
 use Rattle.dt_laws.proofs.Keeping.{legal_keeps}
-use Rattle.dt_laws.proofs.Runs.{legal_more, world_after_more}
-use Rattle.dt_laws.proofs.Submitting.{Submits, submits}
+use Rattle.dt_laws.proofs.Callers.{legal_more, world_after_more}
+use Rattle.dt_laws.proofs.Callers.{Submits, submits}
 use Rattle.dt_world.proofs.Listing.{parts_set}
 
 -- a world whose lists are that short

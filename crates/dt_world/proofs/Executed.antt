@@ -23,13 +23,14 @@ use Rattle.dt_session.specs.World.{World, Submission, no_node, node_at, outcome_
 use Rattle.dt_session.specs.Step.{IsLegal, next}
 use Rattle.dt_session.specs.Run.{AreLegal, executed_id, order_of, serial_outcome, world_after}
 use Rattle.dt_laws.specs.Invariant.{Inv, IsExecutedAt}
-use Rattle.dt_laws.proofs.Agreeing.{lookup_has, legal_agree}
-use Rattle.dt_laws.proofs.Executing.{executable_known}
-use Rattle.dt_laws.proofs.Ids.{test_of_id}
+use Rattle.dt_laws.proofs.Callers.{lookup_has}
+use Rattle.dt_laws.proofs.Agreeing.{legal_agree}
+use Rattle.dt_laws.proofs.Callers.{executable_known}
+use Rattle.dt_laws.proofs.Callers.{test_of_id}
 use Rattle.dt_laws.proofs.Keeping.{legal_keeps}
 use Rattle.dt_laws.proofs.Known.{done_known, submissions_unlike}
-use Rattle.dt_laws.proofs.Runs.{with_executed, order_of_more, world_after_more}
-use Rattle.dt_laws.proofs.Submissions.{IsKnown, find_of_has, numbered, txn_id, txn_there}
+use Rattle.dt_laws.proofs.Callers.{with_executed, order_of_more, world_after_more}
+use Rattle.dt_laws.proofs.Callers.{IsKnown, find_of_has, numbered, txn_id, txn_there}
 use Rattle.dt_world.specs.declared.site.Origin.{Origin}
 use Rattle.dt_world.specs.Seated.{Seated}
 use Rattle.dt_world.specs.Posted.{Posted, attempt, attempts, world_of}

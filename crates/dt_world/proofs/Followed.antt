@@ -23,14 +23,16 @@ use Rattle.dt_session.specs.Step.{IsLegal, MayAnswer, MayEnd, MaySubmit, answere
 use Rattle.dt_session.specs.Run.{AreLegal, AreLegalFrom, order_of, serial_outcome, world_after, world_from}
 use Rattle.dt_session.specs.Agreement.{WaitsFor}
 use Rattle.dt_laws.specs.Invariant.{Inv, IsExecutedAt, IsPlaceOf}
-use Rattle.dt_laws.proofs.Agreeing.{answered_done, lookup_has, legal_agree}
-use Rattle.dt_laws.proofs.Facts.{WaitsAt, places_parallel, waiting_for}
+use Rattle.dt_laws.proofs.Callers.{answered_done, lookup_has}
+use Rattle.dt_laws.proofs.Agreeing.{legal_agree}
+use Rattle.dt_laws.proofs.Callers.{WaitsAt}
+use Rattle.dt_laws.proofs.Facts.{places_parallel, waiting_for}
 use Rattle.dt_laws.proofs.Keeping.{legal_keeps}
 use Rattle.dt_laws.proofs.Known.{submissions_unlike}
-use Rattle.dt_laws.proofs.Runs.{legal_append, world_after_more}
-use Rattle.dt_laws.proofs.Sessions.{session_found, session_of_test}
-use Rattle.dt_laws.proofs.Submissions.{find_has, find_of_has, from_region}
-use Rattle.dt_laws.proofs.Submitting.{Submits, submits}
+use Rattle.dt_laws.proofs.Callers.{legal_append, world_after_more}
+use Rattle.dt_laws.proofs.Callers.{session_found, session_of_test}
+use Rattle.dt_laws.proofs.Callers.{find_has, find_of_has, from_region}
+use Rattle.dt_laws.proofs.Callers.{Submits, submits}
 use Rattle.dt_world.specs.Seated.{no_session}
 use Rattle.dt_world.specs.Coursed.{IsReply, after_reply, after_submission, course_of, count_at, wait_at}
 use Rattle.dt_world.specs.Reported.{IsReplyOf, answered_session, replies_from, reply_for, reply_to}

@@ -21,8 +21,8 @@ use Rattle.dt_session.specs.World.{Submission, idle_place, is_session, no_node, 
 use Rattle.dt_session.specs.Step.{IsLegal, MayAnswer, MaySubmit, answered, body_of, called, next, next_attempt, next_id, node_submitted, submission_for, submitted, world_submitted}
 use Rattle.dt_laws.proofs.Facts.{places_parallel, transaction_found}
 use Rattle.dt_laws.proofs.Keeping.{next_keeps}
-use Rattle.dt_laws.proofs.Runs.{ordered}
-use Rattle.dt_laws.proofs.Sessions.{session_of_test}
+use Rattle.dt_laws.proofs.Callers.{ordered}
+use Rattle.dt_laws.proofs.Callers.{session_of_test}
 use Rattle.dt_world.specs.declared.site.Origin.{Origin}
 use Rattle.dt_world.specs.Seated.{Seated, after_answer, after_wait, no_session, session_of, stand_of}
 use Rattle.dt_world.specs.Posted.{Posted, attempt, node_of, posted, world_of}

@@ -26,7 +26,7 @@ use Rattle.dt_session.specs.Run.{AreLegal, executed_id, order_of, region_table, 
 use Rattle.dt_laws.specs.Invariant.{IsExecutedAt}
 use Rattle.dt_laws.proofs.Agreeing.{legal_agree}
 use Rattle.dt_laws.proofs.Keeping.{legal_keeps}
-use Rattle.dt_laws.proofs.Runs.{world_after_more}
+use Rattle.dt_laws.proofs.Callers.{world_after_more}
 use Rattle.dt_world.specs.Kept.{Kept}
 use Rattle.dt_world.specs.Posted.{Posted, node_of}
 use Rattle.dt_world.specs.Coursed.{Coursed, IsReply, LedTo, after_reply, after_submission, count_at, course_at, course_of, ran_at, rans_at, replies_at, wait_at}

@@ -20,8 +20,8 @@ use Rattle.dt_session.specs.Run.{order_of}
 use Rattle.dt_laws.specs.Invariant.{Inv}
 use Rattle.dt_laws.proofs.Growth.{next_txns}
 use Rattle.dt_laws.proofs.Keeping.{legal_keeps}
-use Rattle.dt_laws.proofs.Runs.{world_after_more, more_legal}
-use Rattle.dt_laws.proofs.Views.{fronts_at}
+use Rattle.dt_laws.proofs.Callers.{world_after_more, more_legal}
+use Rattle.dt_laws.proofs.Callers.{fronts_at}
 use Rattle.dt_world.specs.Seated.{Seated}
 use Rattle.dt_world.specs.Posted.{Posted, node_of, world_of, no_post, in_state}
 use Rattle.dt_world.specs.Sited.{post_at, with_state}

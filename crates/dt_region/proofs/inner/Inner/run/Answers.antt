@@ -1,5 +1,5 @@
 use Rattle.std.proofs.Common.{sym}
-use Rattle.dt_txn.proofs.Formed.{can_run}
+use Rattle.dt_txn.proofs.Callers.{can_run}
 use Rattle.dt_region.proofs.inner.Inner.run.Goals as goal
 
 pub execute-requires-clause-body : goal.execute-requires-clause-body
