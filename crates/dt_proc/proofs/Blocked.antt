@@ -2,9 +2,8 @@
 use Rattle.std.proofs.Common.{◌≡◌, ◌⊎◌, inl, inr, ℕ, ◌<◌, ◌≤◌, List, [], ◌∷◌, ◌++◌, length, take, get_or, Bool, true, false, cond, Ok, Err, refl, sym, ap, ◌∙◌, subst, arith, append_assoc, append-nil, length-append}
 use Rattle.std.proofs.lemmas.List.{take-append-le}
 use Rattle.std.proofs.Math.Seq.{take-length}
-use Rattle.dt_proc.specs.declared.token.Token.{Token}
-use Rattle.dt_proc.specs.declared.token.Token.TheVariants as tok
-use Rattle.dt_proc.specs.declared.token.Placed.{Placed}
+use Rattle.dt_syntax.specs.declared.token.Token.TheVariants as tok
+use Rattle.dt_syntax.specs.declared.token.Placed.{Placed}
 use Rattle.dt_proc.specs.declared.tree.Sort.{Sort}
 use Rattle.dt_proc.specs.declared.error.ProcError.{ProcError}
 use Rattle.dt_proc.specs.declared.error.ProcError.TheVariants as fault
@@ -13,10 +12,10 @@ use Rattle.dt_proc.specs.Tree.{Formula, Gift, Step, Block, done, then, joined}
 use Rattle.dt_proc.specs.Names.{Scope, meaning}
 use Rattle.dt_proc.specs.Checked.{Told, Typed, after_ok, with_variable, as_new, as_written, needs, same_sort, check, check_all_items, check_block, check_statement}
 use Rattle.dt_proc.specs.declared.tree.Sort.TheVariants as sort
-use Rattle.dt_proc.specs.Walked.{Answers, NoElse, EndsBlock}
-use Rattle.dt_proc.specs.Syntax.{at, Statement, let_new, set_key, clear_key, when, choose, abort, give, Statements, nothing, first, statement_tokens, statements_tokens, IsStatement, AreStatements, Syntax, syntax_tokens, IsLevel, Item, IsItem, items_tokens}
-use Rattle.dt_lists.specs.Lists.{AllIn}
-use Rattle.dt_proc.proofs.Walks.{head_is, tail_is, left_of, cut_first}
+use Rattle.dt_proc.specs.Walked.{Answers}
+use Rattle.dt_syntax.specs.FrontsInner.{NoElse, EndsBlock}
+use Rattle.dt_syntax.specs.Grammar.{at, Statement, let_new, set_key, clear_key, when, choose, abort, give, Statements, nothing, first, statement_tokens, statements_tokens, IsStatement, AreStatements}
+use Rattle.dt_syntax.proofs.Callers.{head_is, begins_other, no_else}
 
 -- what was visible is visible still, before anything new
 pub record Grown (old new : Scope) : Type 0 where
@@ -59,16 +58,6 @@ pub record IsStep (scope : Scope) (told : Told Block) (block : Block) (left : Li
   pub cut : statement_tokens step ++ (statements_tokens more ++ at e tok.End ∷ rest) ≡ left
   pub told_as : told ≡ after_ok (after_ok (check_statement scope step) (λ r. after_ok (check_block r.0 more) (λ b. Ok (then r.1 b)))) (λ b. Ok (joined block b))
 
-pub no_else : (ss : Statements) (e : ℕ) (rest : List Placed) → NoElse (statements_tokens ss ++ at e tok.End ∷ rest)
-no_else nothing e rest = λ h. cc
-no_else (first (let_new p q n i x f) ss) e rest = λ h. cc
-no_else (first (set_key p q n i x f) ss) e rest = λ h. cc
-no_else (first (clear_key p q n f) ss) e rest = λ h. cc
-no_else (first (when p x b ts f) ss) e rest = λ h. cc
-no_else (first (choose p x b ts f w c rs g) ss) e rest = λ h. cc
-no_else (first (abort p q t f) ss) e rest = λ h. cc
-no_else (first (give p i more f) ss) e rest = λ h. cc
-
 pub step_next : (outer scope : Scope) (told : Told Block) (block : Block) (t : Placed) (ts : List Placed) (e : ℕ) (rest : List Placed) →
     ¬ (t.token ≡ tok.End) → StepsLeft outer scope told block (t ∷ ts) e rest → IsStep scope told block (t ∷ ts) e rest
 step_next outer scope told block t ts e rest other (nothing, good, cut, is, grown) =
@@ -82,15 +71,6 @@ step_next outer scope told block t ts e rest other (first s ss, good, cut, is, g
   cut = sym (append_assoc (statement_tokens s) (statements_tokens ss) (at e tok.End ∷ rest)) ∙ cut;
   told_as = is;
 }
-
-pub begins_other : (s : Statement) (us : List Placed) (t : Placed) (ts : List Placed) → statement_tokens s ++ us ≡ t ∷ ts → ¬ (t.token ≡ tok.End)
-begins_other (let_new p q n i x f) us t ts e = λ h. let a = ap (λ v. v.token) (head_is _ _ _ _ e) in cc
-begins_other (set_key p q n i x f) us t ts e = λ h. let a = ap (λ v. v.token) (head_is _ _ _ _ e) in cc
-begins_other (clear_key p q n f) us t ts e = λ h. let a = ap (λ v. v.token) (head_is _ _ _ _ e) in cc
-begins_other (when p x b ss f) us t ts e = λ h. let a = ap (λ v. v.token) (head_is _ _ _ _ e) in cc
-begins_other (choose p x b ss f w c rs g) us t ts e = λ h. let a = ap (λ v. v.token) (head_is _ _ _ _ e) in cc
-begins_other (abort p q x f) us t ts e = λ h. let a = ap (λ v. v.token) (head_is _ _ _ _ e) in cc
-begins_other (give p i more f) us t ts e = λ h. let a = ap (λ v. v.token) (head_is _ _ _ _ e) in cc
 
 -- a `}` comes first
 pub steps_end : (outer scope : Scope) (told : Told Block) (block : Block) (t : Placed) (ts : List Placed) (e : ℕ) (rest : List Placed) →
@@ -176,107 +156,6 @@ left_as_before outer scope g =
     let cut : take (length outer.variables) scope.variables ≡ outer.variables =
     ap (take (length outer.variables)) g.variables.1 ∙ take-append-le (length outer.variables) outer.variables g.variables.0 (omega arith) ∙ take-length outer.variables in
     λ i. record { variables = cut i; keys = g.keys i }
-
--- what the first token of a statement says of it
-abbrev pub StepShape : Token → ℕ → List Placed → Statement → List Placed → Type 0
-StepShape tok.Let p ts s rest =
-    (q : ℕ) × (n : List ℕ) × (i : ℕ) × (x : Syntax) × (e : ℕ) × (s ≡ let_new p q n i x e) × IsLevel 0 x
-    × (at q (tok.Name n) ∷ at i tok.Is ∷ (syntax_tokens x ++ at e tok.Semicolon ∷ rest) ≡ ts)
-StepShape tok.Set p ts s rest =
-    (q : ℕ) × (n : List ℕ) × (i : ℕ) × (x : Syntax) × (e : ℕ) × (s ≡ set_key p q n i x e) × IsLevel 0 x
-    × (at q (tok.Name n) ∷ at i tok.Is ∷ (syntax_tokens x ++ at e tok.Semicolon ∷ rest) ≡ ts)
-StepShape tok.Clear p ts s rest =
-    (q : ℕ) × (n : List ℕ) × (e : ℕ) × (s ≡ clear_key p q n e) × (at q (tok.Name n) ∷ at e tok.Semicolon ∷ rest ≡ ts)
-StepShape tok.If p ts s rest =
-    ((x : Syntax) × (b : ℕ) × (ss : Statements) × (e : ℕ) × (s ≡ when p x b ss e) × IsLevel 0 x × AreStatements ss
-    × (syntax_tokens x ++ at b tok.Begin ∷ (statements_tokens ss ++ at e tok.End ∷ rest) ≡ ts))
-    ⊎ ((x : Syntax) × (b : ℕ) × (ss : Statements) × (e : ℕ) × (w : ℕ) × (o : ℕ) × (rs : Statements) × (f : ℕ) × (s ≡ choose p x b ss e w o rs f)
-    × IsLevel 0 x × AreStatements ss × AreStatements rs
-    × (syntax_tokens x ++ at b tok.Begin ∷ (statements_tokens ss ++ at e tok.End ∷ at w tok.Else ∷ at o tok.Begin ∷ (statements_tokens rs ++ at f tok.End ∷ rest)) ≡ ts))
-StepShape tok.Abort p ts s rest =
-    (q : ℕ) × (t : List ℕ) × (e : ℕ) × (s ≡ abort p q t e) × (at q (tok.Text t) ∷ at e tok.Semicolon ∷ rest ≡ ts)
-StepShape tok.Give p ts s rest =
-    (i : Item) × (more : List (ℕ × Item)) × (e : ℕ) × (s ≡ give p i more e) × IsItem i × AllIn (λ m. IsItem m.1) more
-    × (items_tokens i more ++ at e tok.Semicolon ∷ rest ≡ ts)
-StepShape t p ts s rest = ⊥
-
-shape_at : (t u : Placed) (ts us : List Placed) (s : Statement) (rest : List Placed) → t ∷ ts ≡ u ∷ us →
-    StepShape t.token t.place ts s rest → StepShape u.token u.place us s rest
-shape_at t u ts us s rest e h =
-    subst (λ v. StepShape u.token u.place v s rest) (tail_is t u ts us e)
-    (subst (λ v. StepShape v.token v.place ts s rest) (head_is t u ts us e) h)
-
-inner : (xs : List Placed) (y : Placed) (us : List Placed) → xs ++ y ∷ us ≡ (xs ++ y ∷ []) ++ us
-inner xs y us = sym (append_assoc xs (y ∷ []) us)
-
-pub step_shape : (s : Statement) (rest : List Placed) (t : Placed) (ts : List Placed) → IsStatement s → statement_tokens s ++ rest ≡ t ∷ ts →
-    StepShape t.token t.place ts s rest
-step_shape (let_new p q n i x e) rest t ts h is =
-    shape_at (at p tok.Let) t _ ts (let_new p q n i x e) rest is
-    (q, n, i, x, e, refl, h, ap (λ v. at q (tok.Name n) ∷ at i tok.Is ∷ v) (inner (syntax_tokens x) (at e tok.Semicolon) rest))
-step_shape (set_key p q n i x e) rest t ts h is =
-    shape_at (at p tok.Set) t _ ts (set_key p q n i x e) rest is
-    (q, n, i, x, e, refl, h, ap (λ v. at q (tok.Name n) ∷ at i tok.Is ∷ v) (inner (syntax_tokens x) (at e tok.Semicolon) rest))
-step_shape (clear_key p q n e) rest t ts h is = shape_at (at p tok.Clear) t _ ts (clear_key p q n e) rest is (q, n, e, refl, refl)
-step_shape (when p x b ss e) rest t ts h is =
-    shape_at (at p tok.If) t _ ts (when p x b ss e) rest is
-    (inl (
-      x,
-      b,
-      ss,
-      e,
-      refl,
-      h.0,
-      h.1,
-      ap (λ v. syntax_tokens x ++ at b tok.Begin ∷ v) (inner (statements_tokens ss) (at e tok.End) rest)
-          ∙ sym (append_assoc (syntax_tokens x) (at b tok.Begin ∷ (statements_tokens ss ++ at e tok.End ∷ [])) rest),
-    ))
-step_shape (choose p x b ss e w o rs f) rest t ts h is =
-    shape_at (at p tok.If) t _ ts (choose p x b ss e w o rs f) rest is
-    (inr (
-      x,
-      b,
-      ss,
-      e,
-      w,
-      o,
-      rs,
-      f,
-      refl,
-      h.0,
-      h.1,
-      h.2,
-      ap (λ v. syntax_tokens x ++ at b tok.Begin ∷ (statements_tokens ss ++ at e tok.End ∷ at w tok.Else ∷ at o tok.Begin ∷ v)) (inner (statements_tokens rs) (at f tok.End) rest)
-          ∙ ap (λ v. syntax_tokens x ++ at b tok.Begin ∷ v) (sym (append_assoc (statements_tokens ss) (at e tok.End ∷ at w tok.Else ∷ at o tok.Begin ∷ (statements_tokens rs ++ at f tok.End ∷ [])) rest))
-          ∙ sym (append_assoc (syntax_tokens x) (at b tok.Begin ∷ (statements_tokens ss ++ at e tok.End ∷ at w tok.Else ∷ at o tok.Begin ∷ (statements_tokens rs ++ at f tok.End ∷ []))) rest),
-    ))
-step_shape (abort p q x e) rest t ts h is = shape_at (at p tok.Abort) t _ ts (abort p q x e) rest is (q, x, e, refl, refl)
-step_shape (give p i more e) rest t ts h is =
-    shape_at (at p tok.Give) t _ ts (give p i more e) rest is (i, more, e, refl, h.0, h.1, inner (items_tokens i more) (at e tok.Semicolon) rest)
-
-pub step_when : (s : Statement) (rest ts : List Placed) (one : Placed) (k : Token) → IsStatement s → 1 ≤ length ts → one ≡ get_or ts 0 one →
-    statement_tokens s ++ rest ≡ ts → one.token ≡ k → StepShape k one.place (left_of ts) s rest
-step_when s rest ts one k h some is e same =
-    subst (λ t. StepShape t one.place (left_of ts) s rest) same (step_shape s rest one (left_of ts) h (e ∙ cut_first ts one some is))
-
-pub some_statement : (s : Statement) (rest ts : List Placed) → length ts < 1 → statement_tokens s ++ rest ≡ ts → ⊥
-some_statement (let_new p q n i x e) rest ts none is = omega (arith, ap length is)
-some_statement (set_key p q n i x e) rest ts none is = omega (arith, ap length is)
-some_statement (clear_key p q n e) rest ts none is = omega (arith, ap length is)
-some_statement (when p x b ss e) rest ts none is = omega (arith, ap length is)
-some_statement (choose p x b ss e w o rs f) rest ts none is = omega (arith, ap length is)
-some_statement (abort p q x e) rest ts none is = omega (arith, ap length is)
-some_statement (give p i more e) rest ts none is = omega (arith, ap length is)
-
-pub no_statement : (k : Token) (p : ℕ) (ts : List Placed) (s : Statement) (rest : List Placed) →
-    ¬ (k ≡ tok.Let) → ¬ (k ≡ tok.Set) → ¬ (k ≡ tok.Clear) → ¬ (k ≡ tok.If) → ¬ (k ≡ tok.Abort) → ¬ (k ≡ tok.Give) → ¬ (StepShape k p ts s rest)
-no_statement tok.Let p ts s rest a b c d e f h = a refl
-no_statement tok.Set p ts s rest a b c d e f h = b refl
-no_statement tok.Clear p ts s rest a b c d e f h = c refl
-no_statement tok.If p ts s rest a b c d e f h = d refl
-no_statement tok.Abort p ts s rest a b c d e f h = e refl
-no_statement tok.Give p ts s rest a b c d e f h = f refl
-no_statement t p ts s rest a b c d e f h = h
 
 pub not_ended : (outer scope : Scope) (told : Told Block) (block : Block) (left : List Placed) (e : ℕ) (rest : List Placed) →
     EndsBlock left false → StepsLeft outer scope told block left e rest → IsStep scope told block left e rest

@@ -6,7 +6,7 @@ use Rattle.dt_proc.specs.declared.tree.KeyDecl.{KeyDecl}
 use Rattle.dt_proc.specs.declared.tree.KeyItem.TheVariants as item
 use Rattle.dt_proc.specs.declared.tree.Sort.{Sort}
 use Rattle.dt_proc.specs.declared.tree.Sort.TheVariants as sort
-use Rattle.dt_proc.specs.declared.tree.Op.{Op}
+use Rattle.dt_syntax.specs.declared.operator.Op.{Op}
 use Rattle.dt_proc.specs.declared.scope.Meaning.{Meaning}
 use Rattle.dt_proc.specs.declared.scope.Meaning.TheVariants.{Variable, Key, Unknown}
 use Rattle.dt_proc.specs.declared.error.ProcError.{ProcError}
@@ -14,9 +14,9 @@ use Rattle.dt_proc.specs.declared.error.ProcError.TheVariants as fault
 use Rattle.dt_proc.specs.Names.{Scope, meaning}
 use Rattle.dt_proc.specs.Sound.{given_by, sort_of}
 use Rattle.dt_proc.specs.Tree as tree
-use Rattle.dt_proc.specs.Tree.{Formula, Gift, Step, Block, ProcTree}
-use Rattle.dt_proc.specs.Syntax.{Syntax, chain, minus, denial, int, text, truth, name, parens, of_key, made, Links, no_link, link, Maker, makes_length, makes_text, Param, Params, no_param, params, KeyPart, text_part, name_part, show_part, KeySyntax, Item, row_item, value_item, Statement, let_new, set_key, clear_key, when, choose, abort, give, Statements, nothing, first, ProcSyntax}
-use Rattle.dt_proc.specs.Checked.{Told, Typed, after_ok, same_sort, needs, needs_stored, fits_both, combined, as_variable, as_key, as_written, is_unknown, as_new, as_param, key_of, read_by, made_by, check, check_links, front_place, check_item, check_items, check_all_items, with_variable, with_key, one_block, two_blocks, check_block, check_statement, check_part, check_parts, check_key, check_keys, check_param, check_more_params, check_params, param_kinds, check_proc, check_procs}
+use Rattle.dt_proc.specs.Tree.{Formula, Step, Block, ProcTree}
+use Rattle.dt_syntax.specs.Grammar.{Syntax, chain, minus, denial, int, text, truth, name, parens, of_key, made, Links, no_link, link, Maker, makes_length, makes_text, Param, Params, no_param, params, KeyPart, text_part, name_part, show_part, KeySyntax, Item, row_item, value_item, Statement, let_new, set_key, clear_key, when, choose, abort, give, Statements, nothing, first, ProcSyntax, front_place, param_kinds}
+use Rattle.dt_proc.specs.Checked.{Told, Typed, after_ok, same_sort, needs, needs_stored, fits_both, combined, as_variable, as_key, as_written, is_unknown, as_new, as_param, key_of, read_by, made_by, check, check_links, check_item, check_items, check_all_items, with_variable, with_key, one_block, two_blocks, check_block, check_statement, check_part, check_parts, check_key, check_keys, check_param, check_more_params, check_params, check_proc, check_procs}
 
 -- a fault of the second pass
 abbrev pub IsLate : ProcError → Type 0

@@ -5,16 +5,17 @@ use Rattle.std.proofs.lemmas.List.{map-append}
 use Rattle.dt_lists.specs.Lists.{AllIn}
 use Rattle.dt_proc.specs.declared.tree.Sort.{Sort}
 use Rattle.dt_proc.specs.declared.tree.Sort.TheVariants as sort
-use Rattle.dt_proc.specs.declared.token.Token.TheVariants as tok
-use Rattle.dt_proc.specs.declared.token.Placed.{Placed}
+use Rattle.dt_syntax.specs.declared.token.Token.TheVariants as tok
+use Rattle.dt_syntax.specs.declared.token.Placed.{Placed}
 use Rattle.dt_proc.specs.Names.{Scope, meaning}
 use Rattle.dt_proc.specs.Sound.{HasSort, IsSoundGift, AreSound}
 use Rattle.dt_proc.specs.Tree as tree
 use Rattle.dt_proc.specs.Tree.{Formula, Gift, Step, Block, done, then}
-use Rattle.dt_proc.specs.Checked.{Typed, after_ok, needs, needs_stored, as_written, as_new, key_of, check, front_place, check_item, check_items, check_all_items, with_variable, one_block, two_blocks, check_block, check_statement}
-use Rattle.dt_proc.specs.Syntax.{at, syntax_tokens, Item, row_item, value_item, item_tokens, items_tokens, Statement, let_new, set_key, clear_key, when, choose, abort, give, Statements, nothing, first, statement_tokens, statements_tokens}
-use Rattle.dt_proc.specs.Walked.{AllSound}
-use Rattle.dt_proc.proofs.Sorted.{sound_left, sound_right, Holds, holds_ok, holds_after, sorts, writes, means, Fits, key_fits, written_fits, needs_fits, stored_fits, check_fits}
+use Rattle.dt_proc.specs.Checked.{Typed, after_ok, needs, needs_stored, as_written, as_new, key_of, check, check_item, check_items, check_all_items, with_variable, one_block, two_blocks, check_block, check_statement}
+use Rattle.dt_syntax.specs.Grammar.{front_place, at, syntax_tokens, Item, row_item, value_item, item_tokens, items_tokens, Statement, let_new, set_key, clear_key, when, choose, abort, give, Statements, nothing, first, statement_tokens, statements_tokens}
+use Rattle.dt_syntax.specs.Limits.{AllSound}
+use Rattle.dt_proc.proofs.Sorted.{Holds, holds_ok, holds_after, sorts, writes, means, Fits, key_fits, written_fits, needs_fits, stored_fits, check_fits}
+use Rattle.dt_syntax.proofs.Callers.{sound_left, sound_right}
 
 abbrev FitsGift : Scope → Gift → Type 0
 FitsGift scope g = IsSoundGift (sorts scope) (length (writes scope)) g

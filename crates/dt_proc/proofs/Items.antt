@@ -1,34 +1,16 @@
 -- The items of a `give`, as the walk over them finds them.
 use Rattle.std.proofs.Common.{◌≡◌, inl, inr, ℕ, List, [], ◌∷◌, ◌++◌, Ok, Err, refl, sym, ap, ◌∙◌, append_assoc, append-nil}
 use Rattle.std.specs.List.{flat_map}
-use Rattle.dt_lists.specs.Lists.{AllIn}
-use Rattle.dt_proc.specs.declared.token.Token.TheVariants as tok
-use Rattle.dt_proc.specs.declared.token.Placed.{Placed}
-use Rattle.dt_proc.specs.declared.tree.Op.TheVariants as op
+use Rattle.dt_syntax.specs.declared.token.Token.TheVariants as tok
+use Rattle.dt_syntax.specs.declared.token.Placed.{Placed}
 use Rattle.dt_proc.specs.declared.error.ProcError.{ProcError}
 use Rattle.dt_proc.specs.Tree as tree
 use Rattle.dt_proc.specs.Tree.{Gift}
 use Rattle.dt_proc.specs.Names.{Scope}
-use Rattle.dt_proc.specs.Checked.{Told, after_ok, check, key_of, needs_stored, front_place, check_item, check_items, check_all_items}
-use Rattle.dt_proc.specs.Walked.{FrontStops, Answers}
-use Rattle.dt_proc.specs.Syntax.{at, Bracketed, bracketed_tokens, Syntax, chain, minus, denial, int, text, truth, name, parens, of_key, made, syntax_tokens, links_tokens, IsLevel, reads_int, reads_text, reads_presence, makes_length, makes_text, Item, row_item, value_item, item_tokens, items_tokens, IsItem}
-use Rattle.dt_proc.proofs.Walks.{head_is, tail_is}
-
--- an expression begins with a token that is no `row`
-pub front_token : (x : Syntax) → (u : Placed) × (us : List Placed) × (syntax_tokens x ≡ u ∷ us) × (u.place ≡ front_place x) × ¬ (u.token ≡ tok.Row)
-front_token (chain head links) = let f = front_token head in (f.0, f.1 ++ links_tokens links, ap (λ v. v ++ links_tokens links) f.2, f.3, f.4)
-front_token (minus p x) = (at p (tok.Op op.Sub), syntax_tokens x, refl, refl, λ e. cc)
-front_token (denial p x) = (at p tok.Not, syntax_tokens x, refl, refl, λ e. cc)
-front_token (int p z) = (at p (tok.Int z), [], refl, refl, λ e. cc)
-front_token (text p z) = (at p (tok.Text z), [], refl, refl, λ e. cc)
-front_token (truth p z) = (at p (tok.Truth z), [], refl, refl, λ e. cc)
-front_token (name p z) = (at p (tok.Name z), [], refl, refl, λ e. cc)
-front_token (parens p x q) = (at p tok.Open, syntax_tokens x ++ at q tok.Close ∷ [], refl, refl, λ e. cc)
-front_token (of_key p reads_int b) = (at p tok.IntWord, bracketed_tokens b, refl, refl, λ e. cc)
-front_token (of_key p reads_text b) = (at p tok.TextWord, bracketed_tokens b, refl, refl, λ e. cc)
-front_token (of_key p reads_presence b) = (at p tok.Has, bracketed_tokens b, refl, refl, λ e. cc)
-front_token (made p makes_length o x q) = (at p tok.Len, at o tok.Open ∷ (syntax_tokens x ++ at q tok.Close ∷ []), refl, refl, λ e. cc)
-front_token (made p makes_text o x q) = (at p tok.Show, at o tok.Open ∷ (syntax_tokens x ++ at q tok.Close ∷ []), refl, refl, λ e. cc)
+use Rattle.dt_proc.specs.Checked.{Told, after_ok, check, key_of, needs_stored, check_item, check_items, check_all_items}
+use Rattle.dt_syntax.specs.Grammar.{front_place, at, Bracketed, bracketed_tokens, Syntax, syntax_tokens, IsLevel, Item, row_item, value_item, item_tokens, IsItem}
+use Rattle.dt_proc.specs.Walked.{Answers}
+use Rattle.dt_syntax.proofs.Callers.{head_is, tail_is, AreItems, front_token, next_item}
 
 -- an item that begins with `row`
 pub item_row : (scope : Scope) (i : Item) (rest : List Placed) (t : Placed) (ts : List Placed) → item_tokens i ++ rest ≡ t ∷ ts → t.token ≡ tok.Row →
@@ -51,25 +33,11 @@ item_value scope (value_item x) rest t ts e h other =
     let place : front_place x ≡ t.place = sym f.3 ∙ ap (λ v. v.place) same in
     (x, h, ap (λ p. after_ok (check scope x) (λ a. needs_stored p a (tree.value a.0))) place, e)
 
-abbrev pub next_item : ℕ × Item → List Placed
-next_item m = at m.0 tok.Comma ∷ item_tokens m.1
-
-abbrev pub AreItems : List (ℕ × Item) → Type 0
-AreItems more = AllIn (λ m. IsItem m.1) more
-
 -- what is left of the items, and what they add to those that were told
 abbrev pub ItemsLeft : Scope → Told (List Gift) → List Gift → List Placed → ℕ → List Placed → Type 0
 ItemsLeft scope told gifts left e rest =
     (more : List (ℕ × Item)) × AreItems more × (flat_map next_item more ++ at e tok.Semicolon ∷ rest ≡ left)
     × (told ≡ after_ok (check_items scope more) (λ gs. Ok (gifts ++ gs)))
-
-pub items_stop : (more : List (ℕ × Item)) (e : ℕ) (us : List Placed) → FrontStops 0 (flat_map next_item more ++ at e tok.Semicolon ∷ us)
-items_stop [] e us = tt
-items_stop (m ∷ more) e us = tt
-
-pub items_cut : (i : Item) (more : List (ℕ × Item)) (e : ℕ) (rest ts : List Placed) → items_tokens i more ++ at e tok.Semicolon ∷ rest ≡ ts →
-    item_tokens i ++ (flat_map next_item more ++ at e tok.Semicolon ∷ rest) ≡ ts
-items_cut i more e rest ts h = sym (append_assoc (item_tokens i) (flat_map next_item more) (at e tok.Semicolon ∷ rest)) ∙ h
 
 pub items_start : (scope : Scope) (i : Item) (more : List (ℕ × Item)) (g : Gift) (gifts : List Gift) → check_item scope i ≡ Ok g → gifts ≡ g ∷ [] →
     check_all_items scope i more ≡ after_ok (check_items scope more) (λ gs. Ok (gifts ++ gs))

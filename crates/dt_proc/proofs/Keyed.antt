@@ -3,23 +3,25 @@ use Rattle.std.proofs.Common.{◌≡◌, ℕ, zero, suc, Bool, List, [], ◌∷�
 use Rattle.std.specs.List.{flat_map}
 use Rattle.std.proofs.lemmas.List.{map-append}
 use Rattle.dt_lists.specs.Lists.{AllIn}
-use Rattle.dt_proc.specs.declared.tree.Kind.{Kind}
-use Rattle.dt_proc.specs.declared.tree.Kind.TheVariants as kind
+use Rattle.dt_syntax.specs.declared.kinds.Kind.{Kind}
+use Rattle.dt_syntax.specs.declared.kinds.Kind.TheVariants as kind
 use Rattle.dt_proc.specs.declared.tree.Sort.{Sort}
 use Rattle.dt_proc.specs.declared.tree.Sort.TheVariants as sort
 use Rattle.dt_proc.specs.declared.tree.KeyItem.{KeyItem}
 use Rattle.dt_proc.specs.declared.tree.KeyItem.TheVariants as item
 use Rattle.dt_proc.specs.declared.tree.KeyDecl.{KeyDecl}
-use Rattle.dt_proc.specs.declared.token.Token.TheVariants as tok
+use Rattle.dt_syntax.specs.declared.token.Token.TheVariants as tok
 use Rattle.dt_proc.specs.declared.scope.Meaning.{Meaning}
 use Rattle.dt_proc.specs.declared.scope.Meaning.TheVariants.{Variable, Key, Unknown}
 use Rattle.dt_proc.specs.declared.error.ProcError.TheVariants as fault
 use Rattle.dt_proc.specs.Names.{Scope, meaning}
 use Rattle.dt_proc.specs.Sound.{IsSoundItem, sort_of}
-use Rattle.dt_proc.specs.Checked.{after_ok, same_sort, as_new, as_param, with_variable, with_key, check_part, check_parts, check_key, check_keys, check_param, check_more_params, check_params, param_kinds}
-use Rattle.dt_proc.specs.Syntax.{at, Param, Params, no_param, params, KeyPart, text_part, name_part, show_part, part_tokens, KeySyntax, key_tokens}
-use Rattle.dt_proc.proofs.Sorted.{sound_left, sound_right, Holds, holds_ok, holds_after, holds_cond, sorts, writes, Means, means, same_is}
-use Rattle.dt_proc.specs.Walked.{AllSound, joined_part}
+use Rattle.dt_proc.specs.Checked.{after_ok, same_sort, as_new, as_param, with_variable, with_key, check_part, check_parts, check_key, check_keys, check_param, check_more_params, check_params}
+use Rattle.dt_syntax.specs.Grammar.{param_kinds, at, Param, Params, no_param, params, KeyPart, text_part, name_part, show_part, part_tokens, KeySyntax, key_tokens}
+use Rattle.dt_proc.proofs.Sorted.{Holds, holds_ok, holds_after, holds_cond, sorts, writes, Means, means, same_is}
+use Rattle.dt_syntax.proofs.Callers.{sound_left, sound_right}
+use Rattle.dt_syntax.specs.Limits.{AllSound}
+use Rattle.dt_syntax.specs.FrontsInner.{joined_part}
 
 -- what is visible is these parameters, and keys
 abbrev pub HasParams : List Kind → Scope → Type 0

@@ -2,61 +2,18 @@
 use Rattle.std.proofs.Common.{◌≡◌, inl, inr, ℕ, List, [], ◌∷◌, ◌++◌, map, Bool, true, false, Result, Ok, Err, OnOk, MatchResult, refl, sym, ap, ◌∙◌, append_assoc, append-nil}
 use Rattle.std.specs.List.{flat_map}
 use Rattle.std.specs.Borrow.{Bor}
-use Rattle.dt_proc.specs.declared.token.Token.{Token}
-use Rattle.dt_proc.specs.declared.token.Token.TheVariants as tok
-use Rattle.dt_proc.specs.declared.token.Placed.{Placed}
-use Rattle.dt_proc.specs.declared.tree.Op.TheVariants as op
-use Rattle.dt_proc.specs.declared.tree.Kind.{Kind}
+use Rattle.dt_syntax.specs.declared.token.Token.TheVariants as tok
+use Rattle.dt_syntax.specs.declared.token.Placed.{Placed}
+use Rattle.dt_syntax.specs.declared.kinds.Kind.{Kind}
 use Rattle.dt_proc.specs.declared.tree.KeyItem.{KeyItem}
 use Rattle.dt_proc.specs.declared.tree.KeyDecl.{KeyDecl}
 use Rattle.dt_proc.specs.declared.error.ProcError.{ProcError}
 use Rattle.dt_proc.specs.Names.{Scope}
 use Rattle.dt_proc.specs.Checked.{Told, after_ok, check_param, check_more_params, check_part, check_parts, check_key, check_keys, with_key}
-use Rattle.dt_proc.specs.Walked.{Answers, left_with, comma_param, joined_part, key_told, keys_told, params_told}
-use Rattle.dt_proc.specs.Syntax.{at, Bracketed, bracketed_tokens, Param, param_tokens, KeyPart, text_part, name_part, show_part, part_tokens, KeySyntax, key_tokens, mode_token, Params, no_param, params, params_tokens}
-use Rattle.dt_proc.proofs.Walks.{head_is, tail_is}
-
--- a part that begins with `show`
-pub part_show : (i : KeyPart) (rest : List Placed) (t : Placed) (ts : List Placed) → part_tokens i ++ rest ≡ t ∷ ts → t.token ≡ tok.Show →
-    (p : ℕ) × (b : Bracketed) × (i ≡ show_part p b) × (bracketed_tokens b ++ rest ≡ ts)
-part_show (text_part p t) rest u ts e is = let h = ap (λ v. v.token) (head_is _ _ _ _ e) in absurd cc
-part_show (name_part p n) rest u ts e is = let h = ap (λ v. v.token) (head_is _ _ _ _ e) in absurd cc
-part_show (show_part p b) rest u ts e is = (p, b, refl, tail_is _ _ _ _ e)
-
--- one more of a list, after the token that joins it to the others
-pub record IsMore {A : Type 0} (joint : Token) (spelled : A → List Placed) (all : List (ℕ × A)) (last after : List Placed) : Type 0 where
-  pub one : A
-  pub joined_at : ℕ
-  pub more : List (ℕ × A)
-  pub is : all ≡ (joined_at, one) ∷ more
-  pub cut : spelled one ++ (flat_map (λ m. at m.0 joint ∷ spelled m.1) more ++ last) ≡ after
-
-pub more_next : {A : Type 0} (joint : Token) (spelled : A → List Placed) (all : List (ℕ × A)) (q : ℕ) (end : Token) (rest : List Placed) (p : ℕ) (after left : List Placed) →
-    ¬ (joint ≡ end) → flat_map (λ m. at m.0 joint ∷ spelled m.1) all ++ at q end ∷ rest ≡ left → at p joint ∷ after ≡ left →
-    IsMore joint spelled all (at q end ∷ rest) after
-more_next joint spelled [] q end rest p after left differ e f =
-    absurd (differ (ap (λ v. v.token) (head_is (at p joint) (at q end) after rest (f ∙ sym e))))
-more_next joint spelled (m ∷ more) q end rest p after left differ e f = record {
-  one = m.1;
-  joined_at = m.0;
-  more = more;
-  is = refl;
-  cut = sym (append_assoc (spelled m.1) (flat_map (λ m. at m.0 joint ∷ spelled m.1) more) (at q end ∷ rest))
-      ∙ tail_is (at m.0 joint) (at p joint) ((spelled m.1 ++ flat_map (λ m. at m.0 joint ∷ spelled m.1) more) ++ at q end ∷ rest) after (e ∙ sym f);
-}
-
-pub more_end : {A : Type 0} (joint : Token) (spelled : A → List Placed) (all : List (ℕ × A)) (q : ℕ) (end : Token) (rest left : List Placed) →
-    flat_map (λ m. at m.0 joint ∷ spelled m.1) all ++ at q end ∷ rest ≡ left → ((p : ℕ) (us : List Placed) → ¬ (at p joint ∷ us ≡ left)) →
-    (all ≡ []) × (at q end ∷ rest ≡ left)
-more_end joint spelled [] q end rest left e none = (refl, e)
-more_end joint spelled (m ∷ more) q end rest left e none =
-    absurd (none m.0 ((spelled m.1 ++ flat_map (λ m. at m.0 joint ∷ spelled m.1) more) ++ at q end ∷ rest) e)
-
-pub no_comma_close : ¬ (tok.Comma ≡ tok.Close)
-no_comma_close e = cc
-
-pub no_join_semicolon : ¬ (tok.Op op.Join ≡ tok.Semicolon)
-no_join_semicolon e = cc
+use Rattle.dt_proc.specs.Walked.{Answers, left_with, key_told, keys_told, params_told}
+use Rattle.dt_syntax.specs.FrontsInner.{comma_param}
+use Rattle.dt_syntax.specs.Grammar.{at, Param, param_tokens, KeyPart, KeySyntax, Params, no_param, params, params_tokens}
+use Rattle.dt_syntax.proofs.Callers.{head_is, tail_is}
 
 abbrev pub Left : Type 0
 Left = Result (Bor (List Placed)) ProcError
@@ -113,60 +70,6 @@ pub parts_none : (scope : Scope) (items : List KeyItem) (all : List (ℕ × KeyP
     MatchResult r (λ b. b.now ≡ rest) (λ e. ⊥) → Answers (PartsTold scope all items) rest (left_with items r)
 parts_none scope items all rest (Ok b) is h = (ap (λ a. PartsTold scope a items) is ∙ ap Ok (append-nil items), h)
 parts_none scope items all rest (Err e) is h = absurd h
-
--- a key comes first, or none
-pub record IsKey (all : List KeySyntax) (w : Bool) (p : ℕ) (last after : List Placed) : Type 0 where
-  pub key : KeySyntax
-  pub more : List KeySyntax
-  pub is : all ≡ key ∷ more
-  pub mode : key.write ≡ w
-  pub cut : at key.name_at (tok.Name key.name) ∷ at key.is_at tok.Is ∷ (part_tokens key.first ++ (flat_map joined_part key.more ++ at key.end_at tok.Semicolon ∷
-      (flat_map key_tokens more ++ last))) ≡ after
-
-pub key_cut : (k : KeySyntax) (us : List Placed) →
-    key_tokens k ++ us ≡ at k.word_at (mode_token k.write) ∷ at k.name_at (tok.Name k.name) ∷ at k.is_at tok.Is
-    ∷ (part_tokens k.first ++ (flat_map joined_part k.more ++ at k.end_at tok.Semicolon ∷ us))
-key_cut k us =
-    ap (λ v. at k.word_at (mode_token k.write) ∷ at k.name_at (tok.Name k.name) ∷ at k.is_at tok.Is ∷ v)
-    (append_assoc (part_tokens k.first) (flat_map joined_part k.more ++ at k.end_at tok.Semicolon ∷ []) us
-    ∙ ap (λ v. part_tokens k.first ++ v) (append_assoc (flat_map joined_part k.more) (at k.end_at tok.Semicolon ∷ []) us))
-
-pub mode_is : (v w : Bool) → mode_token v ≡ mode_token w → v ≡ w
-mode_is true true e = refl
-mode_is false false e = refl
-mode_is true false e = absurd cc
-mode_is false true e = absurd cc
-
-pub mode_begin : (w : Bool) → ¬ (tok.Begin ≡ mode_token w)
-mode_begin true e = cc
-mode_begin false e = cc
-
-pub key_first : (all : List KeySyntax) (b : ℕ) (rest : List Placed) (t : Placed) (ts : List Placed) (w : Bool) → t.token ≡ mode_token w →
-    flat_map key_tokens all ++ at b tok.Begin ∷ rest ≡ t ∷ ts → IsKey all w t.place (at b tok.Begin ∷ rest) ts
-key_first [] b rest t ts w is e = absurd (mode_begin w (ap (λ v. v.token) (head_is _ _ _ _ e) ∙ is))
-key_first (k ∷ ks) b rest t ts w is e =
-    let whole = sym (key_cut k (flat_map key_tokens ks ++ at b tok.Begin ∷ rest))
-    ∙ sym (append_assoc (key_tokens k) (flat_map key_tokens ks) (at b tok.Begin ∷ rest)) ∙ e in
-    record {
-      key = k;
-      more = ks;
-      is = refl;
-      mode = mode_is k.write w (ap (λ v. v.token) (head_is _ _ _ _ whole) ∙ is);
-      cut = tail_is _ _ _ _ whole;
-    }
-
-pub key_none : (all : List KeySyntax) (b : ℕ) (rest : List Placed) (t : Placed) (ts : List Placed) → ¬ (t.token ≡ tok.Read) → ¬ (t.token ≡ tok.Write) →
-    flat_map key_tokens all ++ at b tok.Begin ∷ rest ≡ t ∷ ts → (all ≡ []) × (ts ≡ rest)
-key_none [] b rest t ts r w e = (refl, sym (tail_is _ _ _ _ e))
-key_none (k ∷ ks) b rest t ts r w e = absurd (neither k.write (ap (λ v. v.token) (head_is _ _ _ _ whole)))
-  where
-    whole : at k.word_at (mode_token k.write) ∷ at k.name_at (tok.Name k.name) ∷ at k.is_at tok.Is
-        ∷ (part_tokens k.first ++ (flat_map joined_part k.more ++ at k.end_at tok.Semicolon ∷ (flat_map key_tokens ks ++ at b tok.Begin ∷ rest))) ≡ t ∷ ts
-    whole = sym (key_cut k (flat_map key_tokens ks ++ at b tok.Begin ∷ rest)) ∙ sym (append_assoc (key_tokens k) (flat_map key_tokens ks) (at b tok.Begin ∷ rest)) ∙ e
-
-    neither : (v : Bool) → mode_token v ≡ t.token → ⊥
-    neither true h = w (sym h)
-    neither false h = r (sym h)
 
 pair_ok : (s : Scope) (a b : List KeyDecl) → a ≡ b → ◌≡◌ {A = Told (Scope × List KeyDecl)} (Ok (s, a)) (Ok (s, b))
 pair_ok s a b e = λ i. Ok (s, e i)

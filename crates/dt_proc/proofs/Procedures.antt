@@ -4,42 +4,23 @@ use Rattle.std.specs.List.{flat_map, list_any}
 use Rattle.std.specs.Cmp.Lexicographic.{pointwise}
 use Rattle.std.proofs.lemmas.List.{length-append}
 use Rattle.dt_text.specs.Texts.{IsName}
-use Rattle.dt_proc.specs.declared.tree.Kind.{Kind}
+use Rattle.dt_syntax.specs.declared.kinds.Kind.{Kind}
 use Rattle.dt_proc.specs.declared.tree.KeyDecl.{KeyDecl}
-use Rattle.dt_proc.specs.declared.token.Token.TheVariants as tok
-use Rattle.dt_proc.specs.declared.token.Placed.{Placed}
+use Rattle.dt_syntax.specs.declared.token.Token.TheVariants as tok
+use Rattle.dt_syntax.specs.declared.token.Placed.{Placed}
 use Rattle.dt_proc.specs.declared.error.ProcError.{ProcError}
 use Rattle.dt_proc.specs.declared.error.ProcError.TheVariants as fault
 use Rattle.dt_proc.specs.Names.{Scope}
 use Rattle.dt_proc.specs.Tree.{Block, ProcTree}
 use Rattle.dt_proc.specs.Sound.{IsSound, AreSound, sort_of}
-use Rattle.dt_proc.specs.Checked.{Told, after_ok, check_params, param_kinds, check_keys, check_block, check_proc}
-use Rattle.dt_proc.specs.Walked.{Answers, AllSound, IsSmall, params_told, keys_told}
-use Rattle.dt_proc.specs.Syntax.{at, params_tokens, key_tokens, KeySyntax, statements_tokens, ProcSyntax, proc_tokens}
-use Rattle.dt_proc.proofs.Sorted.{sound_left, sound_right, holds_ok, holds_after, sorts, writes}
+use Rattle.dt_proc.specs.Checked.{Told, after_ok, check_params, check_keys, check_block, check_proc}
+use Rattle.dt_syntax.specs.Grammar.{param_kinds, at, params_tokens, key_tokens, KeySyntax, statements_tokens, ProcSyntax, proc_tokens}
+use Rattle.dt_proc.specs.Walked.{Answers, params_told, keys_told}
+use Rattle.dt_syntax.specs.Limits.{AllSound, IsSmall}
+use Rattle.dt_proc.proofs.Sorted.{holds_ok, holds_after, sorts, writes}
+use Rattle.dt_syntax.proofs.Callers.{sound_left, sound_right}
 use Rattle.dt_proc.proofs.Keyed.{HasParams, KeysMade, keys_make, ParamsMade, params_make}
 use Rattle.dt_proc.proofs.Fitted.{block_fits}
-
-pub proc_cut : (p : ProcSyntax) (rest ts : List Placed) → proc_tokens p ++ rest ≡ ts →
-    at p.word_at tok.Proc ∷ at p.name_at (tok.Name p.name) ∷ at p.open_at tok.Open ∷ (params_tokens p.params ++ at p.close_at tok.Close
-    ∷ (flat_map key_tokens (p.key ∷ p.more_keys) ++ at p.begin_at tok.Begin ∷ (statements_tokens p.body ++ at p.end_at tok.End ∷ rest))) ≡ ts
-proc_cut p rest ts e =
-    let start : List Placed → List Placed = λ v. at p.word_at tok.Proc ∷ at p.name_at (tok.Name p.name) ∷ at p.open_at tok.Open ∷ v in
-    let spelled = params_tokens p.params in
-    let key = key_tokens p.key in
-    let keys = flat_map key_tokens p.more_keys in
-    let body = statements_tokens p.body in
-    let end : (body ++ at p.end_at tok.End ∷ []) ++ rest ≡ body ++ at p.end_at tok.End ∷ rest = append_assoc body (at p.end_at tok.End ∷ []) rest in
-    let one : (key ++ (keys ++ at p.begin_at tok.Begin ∷ (body ++ at p.end_at tok.End ∷ []))) ++ rest
-    ≡ (key ++ keys) ++ at p.begin_at tok.Begin ∷ (body ++ at p.end_at tok.End ∷ rest) =
-    append_assoc key (keys ++ at p.begin_at tok.Begin ∷ (body ++ at p.end_at tok.End ∷ [])) rest
-    ∙ ap (λ v. key ++ v) (append_assoc keys (at p.begin_at tok.Begin ∷ (body ++ at p.end_at tok.End ∷ [])) rest ∙ ap (λ v. keys ++ at p.begin_at tok.Begin ∷ v) end)
-    ∙ sym (append_assoc key keys (at p.begin_at tok.Begin ∷ (body ++ at p.end_at tok.End ∷ rest))) in
-    ap start (sym (append_assoc spelled (at p.close_at tok.Close ∷ (key ++ (keys ++ at p.begin_at tok.Begin ∷ (body ++ at p.end_at tok.End ∷ [])))) rest
-    ∙ ap (λ v. spelled ++ at p.close_at tok.Close ∷ v) one)) ∙ e
-
-pub proc_longer : (p : ProcSyntax) (rest ts : List Placed) → proc_tokens p ++ rest ≡ ts → length rest < length ts
-proc_longer p rest ts e = omega (arith, ap length e, length-append (proc_tokens p) rest)
 
 -- what the walk tells, part after part
 abbrev pub walked_proc : ProcSyntax → Told ProcTree

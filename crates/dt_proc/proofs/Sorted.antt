@@ -5,10 +5,9 @@ use Rattle.std.specs.Cmp.Lexicographic.{pointwise}
 use Rattle.std.proofs.lemmas.Option.{slice_get_within}
 use Rattle.dt_proc.specs.declared.tree.Sort.{Sort}
 use Rattle.dt_proc.specs.declared.tree.Sort.TheVariants as sort
-use Rattle.dt_proc.specs.declared.tree.Op.{Op}
-use Rattle.dt_proc.specs.declared.tree.Op.TheVariants as op
-use Rattle.dt_proc.specs.declared.token.Token.TheVariants as tok
-use Rattle.dt_proc.specs.declared.token.Placed.{Placed}
+use Rattle.dt_syntax.specs.declared.operator.Op.{Op}
+use Rattle.dt_syntax.specs.declared.operator.Op.TheVariants as op
+use Rattle.dt_syntax.specs.declared.token.Token.TheVariants as tok
 use Rattle.dt_proc.specs.declared.scope.Meaning.{Meaning}
 use Rattle.dt_proc.specs.declared.scope.Meaning.TheVariants.{Variable, Key, Unknown}
 use Rattle.dt_proc.specs.declared.error.ProcError.{ProcError}
@@ -16,18 +15,10 @@ use Rattle.dt_proc.specs.declared.error.ProcError.TheVariants as fault
 use Rattle.dt_proc.specs.Names.{Scope, entry_of, meaning, as_entry, as_key_entry}
 use Rattle.dt_proc.specs.Sound.{Takes, given_by, HasSort, IsStored}
 use Rattle.dt_proc.specs.Tree as tree
-use Rattle.dt_proc.specs.Tree.{Formula, Gift, Step, Block, done, then}
 use Rattle.dt_proc.specs.Checked.{Told, Typed, after_ok, same_sort, needs, needs_stored, fits_both, combined, as_variable, as_key, as_written, key_of, read_by, made_by, check, check_links}
-use Rattle.dt_proc.specs.Syntax.{at, Syntax, chain, minus, denial, int, text, truth, name, parens, of_key, made, Links, no_link, link, syntax_tokens, links_tokens, Reader, reads_int, reads_text, reads_presence, Maker, makes_length, makes_text}
-use Rattle.dt_proc.specs.Walked.{AllSound}
-
-pub sound_left : (xs ys : List Placed) → AllSound (xs ++ ys) → AllSound xs
-sound_left [] ys h = tt
-sound_left (x ∷ xs) ys h = (h.0, sound_left xs ys h.1)
-
-pub sound_right : (xs ys : List Placed) → AllSound (xs ++ ys) → AllSound ys
-sound_right [] ys h = h
-sound_right (x ∷ xs) ys h = sound_right xs ys h.1
+use Rattle.dt_syntax.specs.Grammar.{at, Syntax, chain, minus, denial, int, text, truth, name, parens, of_key, made, Links, no_link, link, syntax_tokens, links_tokens, Reader, reads_int, reads_text, reads_presence, Maker, makes_length, makes_text}
+use Rattle.dt_syntax.specs.Limits.{AllSound}
+use Rattle.dt_syntax.proofs.Callers.{sound_left, sound_right}
 
 -- what is told has P
 abbrev pub Holds : {A : Type 0} → (A → Type 0) → Told A → Type 0

@@ -13,16 +13,14 @@ use Rattle.dt_proc.specs.Names.{Scope}
 use Rattle.dt_proc.specs.Tree.{ProcTree}
 use Rattle.dt_proc.specs.Sound.{IsSound, AreProcs}
 use Rattle.dt_proc.specs.Builtin.{put, note, get, del, add, div, sum, xfer, builtin_procs}
-use Rattle.dt_proc.specs.Checked.{after_ok, check_params, param_kinds, check_keys, check_block, check_proc, check_procs}
-use Rattle.dt_proc.specs.Walked.{AllSound, IsSmall}
-use Rattle.dt_proc.specs.Syntax.{ProcSyntax, proc_tokens, procs_tokens}
-use Rattle.dt_proc.specs.Passes.{AreFew}
+use Rattle.dt_proc.specs.Checked.{after_ok, check_params, check_keys, check_block, check_proc, check_procs}
+use Rattle.dt_syntax.specs.Grammar.{param_kinds, ProcSyntax, proc_tokens, procs_tokens}
+use Rattle.dt_syntax.specs.Limits.{AllSound, IsSmall}
+use Rattle.dt_syntax.specs.FirstPass.{AreFew}
 use Rattle.dt_proc.specs.Outcome.{Outcome}
-use Rattle.dt_proc.proofs.Sorted.{sound_left, sound_right, Holds, holds_ok, holds_after, holds_cond}
+use Rattle.dt_proc.proofs.Sorted.{Holds, holds_ok, holds_after, holds_cond}
+use Rattle.dt_syntax.proofs.Callers.{sound_left, sound_right, text_sound, procs_small, both_left, both_right}
 use Rattle.dt_proc.proofs.Procedures.{proc_sound}
-use Rattle.dt_proc.proofs.Counting.{procs_small}
-use Rattle.dt_proc.proofs.Numbers.{left_of, right_of}
-use Rattle.dt_proc.proofs.Soundness.{text_sound}
 
 abbrev is_named : List ProcTree → List ℕ → Bool
 is_named procs name = list_any (λ (q : ProcTree). pointwise nat_eq q.name name) procs
@@ -102,12 +100,12 @@ differ n m e is = clash (pointwise nat_eq n m) e ((bytes_decides n m).1 is)
 
 other_names : (n : List ℕ) (ns : List (List ℕ)) → list_all (λ m. not (pointwise nat_eq n m)) ns ≡ true → AllIn (λ m. ¬ (n ≡ m)) ns
 other_names n [] e = tt
-other_names n (m ∷ ns) e = (differ n m (left_of _ _ e), other_names n ns (right_of (not (pointwise nat_eq n m)) _ e))
+other_names n (m ∷ ns) e = (differ n m (both_left _ _ e), other_names n ns (both_right (not (pointwise nat_eq n m)) _ e))
 
 apart_distinct : (ns : List (List ℕ)) → are_apart ns ≡ true → Distinct ns
 unfolding are_apart
 apart_distinct [] e = tt
-apart_distinct (n ∷ ns) e = (other_names n ns (left_of _ _ e), apart_distinct ns (right_of (list_all (λ m. not (pointwise nat_eq n m)) ns) _ e))
+apart_distinct (n ∷ ns) e = (other_names n ns (both_left _ _ e), apart_distinct ns (both_right (list_all (λ m. not (pointwise nat_eq n m)) ns) _ e))
 
 put_sound : IsSound put
 put_sound = record {

@@ -5,23 +5,25 @@ use Rattle.std.specs.Cmp.Lexicographic.{pointwise, bytes_decides}
 use Rattle.std.proofs.lemmas.List.{length-append, map-append}
 use Rattle.dt_lists.specs.Lists.{AllIn, Has, Distinct}
 use Rattle.dt_lists.proofs.Distinct.{distinct_push}
-use Rattle.dt_proc.specs.declared.token.Placed.{Placed}
+use Rattle.dt_syntax.specs.declared.token.Placed.{Placed}
 use Rattle.dt_proc.specs.declared.error.ProcError.{ProcError}
 use Rattle.dt_proc.specs.declared.error.ProcError.TheVariants as fault
 use Rattle.dt_proc.specs.declared.tree.KeyDecl.{KeyDecl}
 use Rattle.dt_proc.specs.Names.{Scope}
 use Rattle.dt_proc.specs.Tree.{ProcTree}
 use Rattle.dt_proc.specs.Sound.{IsSound, AreProcs as AreSoundProcs}
-use Rattle.dt_proc.specs.Checked.{Told, after_ok, check_params, param_kinds, check_keys, check_block, check_proc, check_procs}
-use Rattle.dt_proc.specs.Walked.{Answers, Gives, AllSound, IsSmall, StartsProc, AreFewProcs}
-use Rattle.dt_proc.specs.Syntax.{ProcSyntax, proc_tokens, procs_tokens, IsProc, AreProcs}
+use Rattle.dt_proc.specs.Checked.{Told, after_ok, check_params, check_keys, check_block, check_proc, check_procs}
+use Rattle.dt_syntax.specs.Grammar.{param_kinds, ProcSyntax, proc_tokens, procs_tokens, IsProc, AreProcs}
+use Rattle.dt_proc.specs.Walked.{Answers, Gives, StartsProc, AreFewProcs}
+use Rattle.dt_syntax.specs.Limits.{AllSound, IsSmall}
 use Rattle.std.proofs.lemmas.Bool.Decides.{nat_tests}
-use Rattle.dt_proc.specs.Passes.{PassesFirst, AreFew, FirstFault}
-use Rattle.dt_proc.specs.Outcome.{Outcome, SecondTells}
-use Rattle.dt_proc.proofs.Sorted.{sound_left, sound_right, Holds, holds_ok, holds_after, holds_cond}
+use Rattle.dt_syntax.specs.FirstPass.{PassesFirst, AreFew, FirstFault}
+use Rattle.dt_syntax.specs.declared.error.SyntaxError.{SyntaxError}
+use Rattle.dt_syntax.specs.declared.error.SyntaxError.TheVariants as syntax
+use Rattle.dt_proc.specs.Outcome.{Outcome, SecondTells, told_first}
+use Rattle.dt_proc.proofs.Sorted.{Holds, holds_ok, holds_after, holds_cond}
+use Rattle.dt_syntax.proofs.Callers.{sound_left, sound_right, text_sound, procs_small}
 use Rattle.dt_proc.proofs.Procedures.{Free}
-use Rattle.dt_proc.proofs.Counting.{procs_small}
-use Rattle.dt_proc.proofs.Soundness.{text_sound}
 use Rattle.dt_proc.proofs.Faults.{IsLate, late_procs}
 
 -- a procedure that is told has a new name, the one that is spelled
@@ -247,10 +249,8 @@ none_left [] e = refl
 none_left (t ∷ ts) e = let none : length (t ∷ ts) ≡ 0 = grind (arith, nat_tests) in absurd (omega (arith, none))
 
 -- the first fault is the outcome
-pub outcome_first : (text : List ℕ) (e : ProcError) → FirstFault text e → (◌≡◌ {A = Told (List ProcTree)} (Err e) (Err fault.NoMemory)) ⊎ Outcome text (Err e)
-outcome_first text (fault.Syntax p) h = inr h
-outcome_first text (fault.TooMany p) h = inr h
-outcome_first text fault.NoMemory h = inl refl
-outcome_first text (fault.Twice p) h = absurd h
-outcome_first text (fault.Unknown p) h = absurd h
-outcome_first text (fault.Kind p) h = absurd h
+pub outcome_first : (text : List ℕ) (s : SyntaxError) → FirstFault text s →
+    (◌≡◌ {A = Told (List ProcTree)} (Err (told_first s)) (Err fault.NoMemory)) ⊎ Outcome text (Err (told_first s))
+outcome_first text (syntax.Syntax p) h = inr h
+outcome_first text (syntax.TooMany p) h = inr h
+outcome_first text syntax.NoMemory h = inl refl

@@ -1,11 +1,11 @@
 -- What a walk over tokens answers, put together from its parts.
 use Rattle.std.proofs.Common.{◌≡◌, inl, inr, ℕ, suc, ◌+◌, ◌<◌, ◌≤◌, List, [], ◌∷◌, ◌++◌, Ok, Err, refl, sym, ap, ◌∙◌, subst, arith, append_assoc, take, drop, get_or, length, length-append, add-one, Bool, true, false, ℤ, ◌-◌}
 use Rattle.std.proofs.Math.Seq.{take-length}
-use Rattle.dt_proc.specs.declared.token.Token.{Token}
-use Rattle.dt_proc.specs.declared.token.Token.TheVariants as tok
-use Rattle.dt_proc.specs.declared.token.Placed.{Placed}
-use Rattle.dt_proc.specs.declared.tree.Op.{Op}
-use Rattle.dt_proc.specs.declared.tree.Op.TheVariants as op
+use Rattle.dt_syntax.specs.declared.token.Token.{Token}
+use Rattle.dt_syntax.specs.declared.token.Token.TheVariants as tok
+use Rattle.dt_syntax.specs.declared.token.Placed.{Placed}
+use Rattle.dt_syntax.specs.declared.operator.Op.{Op}
+use Rattle.dt_syntax.specs.declared.operator.Op.TheVariants as op
 use Rattle.dt_proc.specs.declared.tree.Sort.TheVariants as sort
 use Rattle.dt_proc.specs.declared.error.ProcError.{ProcError}
 use Rattle.dt_proc.specs.declared.error.ProcError.TheVariants as fault
@@ -13,8 +13,9 @@ use Rattle.dt_proc.specs.Sound.{given_by}
 use Rattle.dt_proc.specs.Tree as tree
 use Rattle.dt_proc.specs.Names.{Scope, meaning}
 use Rattle.dt_proc.specs.Checked.{Told, Typed, after_ok, check, check_links, as_variable, key_of, made_by, fits_both}
-use Rattle.dt_proc.specs.Walked.{Stops, FrontStops, Answers}
-use Rattle.dt_proc.specs.Syntax.{at, Bracketed, bracketed_tokens, Syntax, chain, minus, denial, int, text, truth, name, parens, of_key, made, Links, no_link, link, syntax_tokens, links_tokens, level_of, IsLevel, AreLinks, reads_int, reads_text, reads_presence, makes_length, makes_text}
+use Rattle.dt_proc.specs.Walked.{Answers}
+use Rattle.dt_syntax.specs.Grammar.{at, Bracketed, bracketed_tokens, Syntax, chain, minus, denial, int, text, truth, name, parens, of_key, made, Links, no_link, link, syntax_tokens, links_tokens, level_of, IsLevel, AreLinks, reads_int, reads_text, reads_presence, makes_length, makes_text}
+use Rattle.dt_syntax.proofs.Callers.{cut_first, head_is, inner, left_of, tail_is}
 
 pub ok_then : {A B : Type 0} (told : Told A) (a : A) (next : A → Told B) (rest : List Placed) (r : Told (B × List Placed)) →
     told ≡ Ok a → Answers (next a) rest r → Answers (after_ok told next) rest r
@@ -24,47 +25,6 @@ pub err_then : {A B : Type 0} (told : Told A) (next : A → Told B) (before rest
     Answers told before (Err e) → Answers (after_ok told next) rest (Err e)
 err_then told next before rest e (inl m) = inl m
 err_then told next before rest e (inr s) = inr (ap (λ t. after_ok t next) s)
-
-pub up : (n : ℕ) (x : Syntax) → IsLevel (suc n) x → IsLevel (n + 1) x
-up n x h = subst (λ m. IsLevel m x) (sym (add-one n)) h
-
--- an expression of a level below 5 is a first operand, and what follows it
-pub record IsChain (n : ℕ) (x : Syntax) : Type 0 where
-  pub head : Syntax
-  pub links : Links
-  pub is : x ≡ chain head links
-  pub level : IsLevel (n + 1) head
-  pub good : AreLinks n links
-
-pub chain_shape : (x : Syntax) (n : ℕ) → n < 5 → IsLevel n x → IsChain n x
-chain_shape (chain head links) n lt h = record { head = head; links = links; is = refl; level = up n head h.1; good = h.2 }
-chain_shape (minus p x) n lt h = absurd (omega (arith, h.0))
-chain_shape (denial p x) n lt h = absurd (omega (arith, h.0))
-chain_shape (int p z) n lt h = absurd (omega (arith, h))
-chain_shape (text p t) n lt h = absurd (omega (arith, h))
-chain_shape (truth p b) n lt h = absurd (omega (arith, h))
-chain_shape (name p b) n lt h = absurd (omega (arith, h))
-chain_shape (parens p x q) n lt h = absurd (omega (arith, h.0))
-chain_shape (of_key p r b) n lt h = absurd (omega (arith, h))
-chain_shape (made p m o x q) n lt h = absurd (omega (arith, h.0))
-
-stops_more : (n : ℕ) (t : Token) → Stops n t → Stops (suc n) t
-stops_more n (tok.Op o) h = omega arith
-stops_more n t h = tt
-
-stops_after : (n : ℕ) (t : Token) → Stops n t → Stops (n + 1) t
-stops_after n (tok.Op o) h = omega arith
-stops_after n t h = tt
-
-pub links_stop : (links : Links) (n : ℕ) (us : List Placed) → AreLinks n links → FrontStops n us → FrontStops (n + 1) (links_tokens links ++ us)
-links_stop no_link n [] h stop = stop
-links_stop no_link n (t ∷ ts) h stop = stops_after n t.token stop
-links_stop (link p o x more) n us h stop = let is = h.0 in omega arith
-
--- the tokens of a chain, cut after the first operand
-pub chain_cut : (head : Syntax) (links : Links) (rest ts : List Placed) → syntax_tokens (chain head links) ++ rest ≡ ts →
-    syntax_tokens head ++ (links_tokens links ++ rest) ≡ ts
-chain_cut head links rest ts e = sym (append_assoc (syntax_tokens head) (links_tokens links) rest) ∙ e
 
 -- what the first token of an operand says of it, of what follows the token, and of what follows the operand
 abbrev pub Shape : ℕ → Scope → Token → ℕ → List Placed → Syntax → List Placed → Type 0
@@ -92,21 +52,12 @@ Shape n scope (tok.Op o) p ts x rest =
     (y : Syntax) × (check scope x ≡ check scope (minus p y)) × IsLevel 6 y × (n ≡ 5) × (syntax_tokens y ++ rest ≡ ts)
 Shape n scope t p ts x rest = ⊥
 
-pub head_is : (t u : Placed) (ts us : List Placed) → t ∷ ts ≡ u ∷ us → t ≡ u
-head_is t u ts us e = cc
-
-pub tail_is : (t u : Placed) (ts us : List Placed) → t ∷ ts ≡ u ∷ us → ts ≡ us
-tail_is t u ts us e = cc
-
 -- a shape that is known at one token holds at the equal one
 shape_at : (n : ℕ) (scope : Scope) (t u : Placed) (ts us : List Placed) (x : Syntax) (rest : List Placed) → t ∷ ts ≡ u ∷ us →
     Shape n scope t.token t.place ts x rest → Shape n scope u.token u.place us x rest
 shape_at n scope t u ts us x rest e h =
     subst (λ v. Shape n scope u.token u.place v x rest) (tail_is t u ts us e)
     (subst (λ v. Shape n scope v.token v.place ts x rest) (head_is t u ts us e) h)
-
-inner : (xs : List Placed) (y : Placed) (us : List Placed) → xs ++ y ∷ us ≡ (xs ++ y ∷ []) ++ us
-inner xs y us = sym (append_assoc xs (y ∷ []) us)
 
 pub operand_shape : (n : ℕ) (scope : Scope) (x : Syntax) (rest : List Placed) (t : Placed) (ts : List Placed) → 5 ≤ n → IsLevel n x →
     syntax_tokens x ++ rest ≡ t ∷ ts → Shape n scope t.token t.place ts x rest
@@ -135,38 +86,11 @@ operand_shape n scope (made p makes_text o x q) rest t ts le h e =
     shape_at n scope (at p tok.Show) t (at o tok.Open ∷ ((syntax_tokens x ++ at q tok.Close ∷ []) ++ rest)) ts (made p makes_text o x q) rest e
     (o, x, q, refl, h.1, ap (λ v. at o tok.Open ∷ v) (inner (syntax_tokens x) (at q tok.Close) rest))
 
--- what is left after the first token, as a slice has it
-abbrev pub left_of : List Placed → List Placed
-left_of ts = take (length ts - 1) (drop 1 ts)
-
-pub left_is : (t : Placed) (ts : List Placed) → left_of (t ∷ ts) ≡ ts
-left_is t ts = ap (λ n. take n ts) (let e : suc (length ts) - 1 ≡ length ts = omega arith in e) ∙ take-length ts
-
--- the first token of some, and the others
-pub cut_first : (ts : List Placed) (first : Placed) → 1 ≤ length ts → first ≡ get_or ts 0 first → ts ≡ first ∷ left_of ts
-cut_first [] first some is = absurd (omega arith)
-cut_first (t ∷ ts) first some is = ap (λ v. v ∷ ts) (sym is) ∙ ap (λ v. first ∷ v) (sym (left_is t ts))
-
 pub operand_when : (n : ℕ) (scope : Scope) (x : Syntax) (rest ts : List Placed) (first : Placed) (k : Token) → 5 ≤ n → IsLevel n x →
     1 ≤ length ts → first ≡ get_or ts 0 first → syntax_tokens x ++ rest ≡ ts → first.token ≡ k → Shape n scope k first.place (left_of ts) x rest
 operand_when n scope x rest ts first k low h some is e same =
     subst (λ t. Shape n scope t first.place (left_of ts) x rest) same
     (operand_shape n scope x rest first (left_of ts) low h (e ∙ cut_first ts first some is))
-
-pub some_tokens : (x : Syntax) → 0 < length (syntax_tokens x)
-some_tokens (chain head links) = omega (arith, some_tokens head, length-append (syntax_tokens head) (links_tokens links))
-some_tokens (minus p x) = omega arith
-some_tokens (denial p x) = omega arith
-some_tokens (int p z) = omega arith
-some_tokens (text p z) = omega arith
-some_tokens (truth p z) = omega arith
-some_tokens (name p z) = omega arith
-some_tokens (parens p x q) = omega arith
-some_tokens (of_key p r b) = omega arith
-some_tokens (made p m o x q) = omega arith
-
-pub not_empty : (x : Syntax) (rest ts : List Placed) → length ts < 1 → syntax_tokens x ++ rest ≡ ts → ⊥
-not_empty x rest ts none e = omega (arith, some_tokens x, length-append (syntax_tokens x) rest, ap length e)
 
 pub told_is : {A : Type 0} (told other : Told A) (left rest : List Placed) (r : Told (A × List Placed)) → told ≡ other → left ≡ rest →
     Answers other left r → Answers told rest r
@@ -198,48 +122,6 @@ pub no_links : (scope : Scope) (a : Typed) (ls : Links) (n : ℕ) (rest ts : Lis
     ((p : ℕ) (o : Op) (us : List Placed) → at p (tok.Op o) ∷ us ≡ ts → ¬ (level_of o ≡ n)) → (check_links scope a ls ≡ Ok a) × (ts ≡ rest)
 no_links scope a no_link n rest ts h e none = (refl, sym e)
 no_links scope a (link p o x more) n rest ts h e none = absurd (none p o ((syntax_tokens x ++ links_tokens more) ++ rest) e h.0)
-
--- where one does, it is the first
-pub record IsLinked (n : ℕ) (p : ℕ) (o : Op) (after : List Placed) (ls : Links) (rest : List Placed) : Type 0 where
-  pub x : Syntax
-  pub more : Links
-  pub is : ls ≡ link p o x more
-  pub level : IsLevel (n + 1) x
-  pub good : AreLinks n more
-  pub cut : syntax_tokens x ++ (links_tokens more ++ rest) ≡ after
-
-pub placed_is : (p q : ℕ) (s t : Token) → at p s ≡ at q t → (p ≡ q) × (s ≡ t)
-placed_is p q s t e = (ap (λ v. v.place) e, ap (λ v. v.token) e)
-
-operator_is : (o u : Op) → tok.Op o ≡ tok.Op u → o ≡ u
-operator_is o u e = cc
-
-pub link_first : (n p : ℕ) (o : Op) (after : List Placed) (ls : Links) (rest ts : List Placed) → AreLinks n ls → FrontStops n rest →
-    level_of o ≡ n → at p (tok.Op o) ∷ after ≡ ts → links_tokens ls ++ rest ≡ ts → IsLinked n p o after ls rest
-link_first n p o after no_link [] ts h stop is e f = absurd stop
-link_first n p o after no_link (t ∷ rest) ts h stop is e f =
-    let same : at p (tok.Op o) ≡ t = head_is _ _ _ _ (e ∙ sym f) in
-    let lower : level_of o < n = subst (λ v. Stops n v.token) (sym same) stop in
-    absurd (omega arith)
-link_first n p o after (link q u x more) rest ts h stop is e f =
-    let joined = f ∙ sym e in
-    let same = placed_is q p (tok.Op u) (tok.Op o) (head_is _ _ _ _ joined) in
-    let operator = operator_is u o same.1 in
-    record {
-      x = x;
-      more = more;
-      is = ap (λ v. link v u x more) same.0 ∙ ap (λ v. link p v x more) operator;
-      level = up n x h.1;
-      good = h.3;
-      cut = sym (append_assoc (syntax_tokens x) (links_tokens more) rest) ∙ tail_is _ _ _ _ joined;
-    }
-
-pub six_stop : (us : List Placed) (n : ℕ) → n ≡ 5 → FrontStops n us → FrontStops 6 us
-six_stop us n e stop = next us (subst (λ m. FrontStops m us) e stop)
-  where
-    next : (us : List Placed) → FrontStops 5 us → FrontStops 6 us
-    next [] h = h
-    next (t ∷ ts) h = stops_more 5 t.token h
 
 pub link_misfit : (scope : Scope) (a b : Typed) (p : ℕ) (o : Op) (x : Syntax) (more ls : Links) → ls ≡ link p o x more → check scope x ≡ Ok b →
     fits_both o a.1 b.1 ≡ false → check_links scope a ls ≡ Err (fault.Kind p)

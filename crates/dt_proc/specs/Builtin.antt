@@ -1,7 +1,7 @@
 -- The built-in procedures, as trees. Beside each stands its text.
 use Rattle.std.specs.Prelude.{ℕ, true, false, List, [], ◌∷◌, codes}
-use Rattle.dt_proc.specs.declared.tree.Kind.TheVariants.{Int, Text}
-use Rattle.dt_proc.specs.declared.tree.Op.TheVariants.{Less, Add, Sub, Div}
+use Rattle.dt_syntax.specs.declared.kinds.Kind.TheVariants.{Int, Text}
+use Rattle.dt_syntax.specs.declared.operator.Op.TheVariants.{Less, Add, Sub, Div}
 use Rattle.dt_proc.specs.declared.tree.KeyItem.TheVariants.{Param}
 use Rattle.dt_proc.specs.declared.tree.KeyDecl.{KeyDecl}
 use Rattle.dt_proc.specs.Tree.{variable, number_of, has_value, binary, row, value, Step, set_row, clear_row, choose, abort_with, give_all, Block, done, then, ProcTree}

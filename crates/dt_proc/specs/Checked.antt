@@ -3,11 +3,10 @@
 use Rattle.std.specs.Prelude.{ℕ, Bool, true, false, if◌then◌else◌, ◌&&◌, ◌||◌, ◌==◌, not, nat_le, nat_lt, nat_eq, List, [], ◌∷◌, ◌++◌, map, Result, Ok, Err}
 use Rattle.std.specs.List.{list_any}
 use Rattle.std.specs.Cmp.Lexicographic.{pointwise}
-use Rattle.dt_proc.specs.declared.tree.Kind.{Kind}
+use Rattle.dt_syntax.specs.declared.kinds.Kind.{Kind}
 use Rattle.dt_proc.specs.declared.tree.Sort.{Sort}
 use Rattle.dt_proc.specs.declared.tree.Sort.TheVariants as sort
-use Rattle.dt_proc.specs.declared.tree.Op.{Op}
-use Rattle.dt_proc.specs.declared.tree.Op.TheVariants as op
+use Rattle.dt_syntax.specs.declared.operator.Op.{Op}
 use Rattle.dt_proc.specs.declared.tree.KeyItem.{KeyItem}
 use Rattle.dt_proc.specs.declared.tree.KeyItem.TheVariants as item
 use Rattle.dt_proc.specs.declared.tree.KeyDecl.{KeyDecl}
@@ -19,7 +18,7 @@ use Rattle.dt_proc.specs.Names.{Scope, meaning}
 use Rattle.dt_proc.specs.Sound.{given_by, sort_of}
 use Rattle.dt_proc.specs.Tree as tree
 use Rattle.dt_proc.specs.Tree.{Formula, Gift, Step, Block, done, ProcTree}
-use Rattle.dt_proc.specs.Syntax.{Syntax, chain, minus, denial, int, text, truth, name, parens, of_key, made, Links, no_link, link, level_of, Reader, reads_int, reads_text, reads_presence, Maker, makes_length, makes_text, Bracketed, Param, Params, no_param, params, KeyPart, text_part, name_part, show_part, KeySyntax, Item, row_item, value_item, Statement, let_new, set_key, clear_key, when, choose, abort, give, Statements, nothing, first, ProcSyntax}
+use Rattle.dt_syntax.specs.Grammar.{Syntax, chain, minus, denial, int, text, truth, name, parens, of_key, made, Links, no_link, link, level_of, Reader, reads_int, reads_text, reads_presence, Maker, makes_length, makes_text, Bracketed, Param, Params, no_param, params, KeyPart, text_part, name_part, show_part, KeySyntax, Item, row_item, value_item, Statement, let_new, set_key, clear_key, when, choose, abort, give, Statements, nothing, first, ProcSyntax, front_place, param_kinds}
 
 -- a value, or the first fault
 abbrev pub Told : Type 0 → Type 0
@@ -53,10 +52,6 @@ is_comparison o = level_of o == 2
 
 abbrev pub is_logical : Op → Bool
 is_logical o = nat_lt (level_of o) 2
-
-abbrev pub is_join : Op → Bool
-is_join op.Join = true
-is_join _ = false
 
 abbrev pub is_arithmetic : Op → Bool
 is_arithmetic o = nat_le 3 (level_of o) && not (is_join o)
@@ -127,19 +122,6 @@ abbrev mutual
   pub check_links : Scope → Typed → Links → Told Typed
   check_links scope a no_link = Ok a
   check_links scope a (link p o x more) = after_ok (check scope x) (λ b. after_ok (combined p o a b) (λ c. check_links scope c more))
-
--- the place of the first token of an expression
-abbrev pub front_place : Syntax → ℕ
-front_place (chain head links) = front_place head
-front_place (minus p x) = p
-front_place (denial p x) = p
-front_place (int p z) = p
-front_place (text p t) = p
-front_place (truth p b) = p
-front_place (name p n) = p
-front_place (parens p x q) = p
-front_place (of_key p r b) = p
-front_place (made p m o x q) = p
 
 -- an item of `give`
 abbrev pub check_item : Scope → Item → Told Gift
@@ -230,10 +212,6 @@ check_more_params scope (m ∷ more) = after_ok (check_param scope m.1) (λ s. c
 abbrev pub check_params : Params → Told Scope
 check_params no_param = Ok (record { variables = []; keys = [] })
 check_params (params p more) = after_ok (check_param (record { variables = []; keys = [] }) p) (λ s. check_more_params s more)
-
-abbrev pub param_kinds : Params → List Kind
-param_kinds no_param = []
-param_kinds (params p more) = p.kind ∷ map (λ m. m.1.kind) more
 
 -- a procedure, after others
 abbrev pub check_proc : List ProcTree → ProcSyntax → Told ProcTree

@@ -3,10 +3,10 @@ use Rattle.std.specs.Prelude.{◌≡◌, ℕ, List, refl}
 use Rattle.std.proofs.Common.{ap, arith}
 use Rattle.std.specs.Coded.{Coded, code_by, coded×, coded_ℕ, coded_ℤ, coded_bool, coded_list}
 use base.Stored.{Gv, gnil, gnum, gcons}
-use Rattle.dt_proc.specs.contracts.tree.Op as op
-use Rattle.dt_proc.specs.contracts.tree.Kind as kind
+use Rattle.dt_syntax.specs.contracts.operator.Op as op
+use Rattle.dt_syntax.specs.contracts.kinds.Kind as kind
 use Rattle.dt_proc.specs.contracts.tree.KeyDecl as key
-use Rattle.dt_proc.specs.declared.tree.Kind.{Kind}
+use Rattle.dt_syntax.specs.declared.kinds.Kind.{Kind}
 use Rattle.dt_proc.specs.declared.tree.KeyDecl.{KeyDecl}
 use Rattle.dt_proc.specs.Tree.{Formula, number, text, truth, variable, number_of, text_of, has_value, length_of, shown, negative, opposite, binary, Gift, row, value, Step, let_new, set_row, clear_row, choose, abort_with, give_all, Block, done, then, ProcTree}
 

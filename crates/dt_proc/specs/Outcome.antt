@@ -1,11 +1,20 @@
 -- What a text of procedures gives: the procedures that it means, or the first fault in it.
 use Rattle.std.specs.Prelude.{◌≡◌, ℕ, List, [], Ok, Err}
-use Rattle.dt_proc.specs.declared.token.Placed.{Placed}
+use Rattle.dt_syntax.specs.declared.token.Placed.{Placed}
+use Rattle.dt_syntax.specs.declared.error.SyntaxError.{SyntaxError}
+use Rattle.dt_syntax.specs.declared.error.SyntaxError.TheVariants as syntax
+use Rattle.dt_proc.specs.declared.error.ProcError.{ProcError}
 use Rattle.dt_proc.specs.declared.error.ProcError.TheVariants as fault
-use Rattle.dt_proc.specs.Syntax.{ProcSyntax, AreProcs, procs_tokens}
+use Rattle.dt_syntax.specs.Grammar.{ProcSyntax, AreProcs, procs_tokens}
 use Rattle.dt_proc.specs.Tree.{ProcTree}
 use Rattle.dt_proc.specs.Checked.{Told, check_procs}
-use Rattle.dt_proc.specs.Passes.{PassesFirst, IsSyntaxFault, IsTooMany}
+use Rattle.dt_syntax.specs.FirstPass.{PassesFirst, IsSyntaxFault, IsTooMany}
+
+-- a fault of the first pass, as the outcome tells it
+abbrev pub told_first : SyntaxError → ProcError
+told_first (syntax.Syntax place) = fault.Syntax place
+told_first (syntax.TooMany place) = fault.TooMany place
+told_first syntax.NoMemory = fault.NoMemory
 
 -- the text is without fault in the first pass, it spells these procedures of the grammar, and this is what the second pass
 -- tells of them

@@ -1,7 +1,6 @@
 -- What the trees in memory stand for.
 use Rattle.std.specs.Prelude.{ℕ, ◌+◌, List, [], ◌∷◌, map}
-use Rattle.dt_proc.specs.declared.tree.Expr.{Expr}
-use Rattle.dt_proc.specs.declared.tree.Expr.{Int, Text, Bool, Var, IntOf, TextOf, Has, Len', Show', Neg', Not', Binary'}
+use Rattle.dt_proc.specs.declared.tree.Expr.{Expr, Int, Text, Bool, Var, IntOf, TextOf, Has, Len', Show', Neg', Not', Binary'}
 use Rattle.dt_proc.specs.declared.tree.Give.{Give}
 use Rattle.dt_proc.specs.declared.tree.Give.TheVariants.{Row, Value}
 use Rattle.dt_proc.specs.declared.tree.Stmt.{Stmt}

@@ -1,8 +1,8 @@
 -- What procedures are: trees of statements and expressions, without a word on where they lie in memory.
 use Rattle.std.specs.Prelude.{ℕ, ℤ, Bool, List}
-use Rattle.dt_proc.specs.declared.tree.Kind.{Kind}
+use Rattle.dt_syntax.specs.declared.kinds.Kind.{Kind}
 use Rattle.dt_proc.specs.declared.tree.KeyDecl.{KeyDecl}
-use Rattle.dt_proc.specs.declared.tree.Op.{Op}
+use Rattle.dt_syntax.specs.declared.operator.Op.{Op}
 
 -- an expression
 pub data Formula : Type 0 where

@@ -1,8 +1,8 @@
 -- What a walk over tokens answers, in terms of the syntax trees that the tokens spell.
 use Rattle.std.specs.Prelude.{◌≡◌, ◌⊎◌, ℕ, ◌<◌, ◌≤◌, length, FitsSigned, List, [], ◌∷◌, ◌++◌, Bool, true, MatchBool, map, Result, Ok, Err, Option, Some, None}
-use Rattle.dt_proc.specs.declared.token.Token.{Token}
-use Rattle.dt_proc.specs.declared.token.Token.TheVariants as tok
-use Rattle.dt_proc.specs.declared.token.Placed.{Placed}
+use Rattle.dt_syntax.specs.declared.token.Token.{Token}
+use Rattle.dt_syntax.specs.declared.token.Token.TheVariants as tok
+use Rattle.dt_syntax.specs.declared.token.Placed.{Placed}
 use Rattle.dt_proc.specs.declared.tree.Expr.{Expr}
 use Rattle.dt_proc.specs.declared.tree.Sort.{Sort}
 use Rattle.dt_proc.specs.declared.error.ProcError.{ProcError}
@@ -10,30 +10,18 @@ use Rattle.dt_proc.specs.declared.error.ProcError.TheVariants as fault
 use Rattle.dt_proc.specs.declared.tree.Give.{Give}
 use Rattle.dt_proc.specs.declared.tree.Stmt.{Stmt}
 use Rattle.dt_proc.specs.Names.{Scope}
-use Rattle.dt_proc.specs.Tree.{Gift, Step, Block, ProcTree}
+use Rattle.dt_proc.specs.Tree.{Gift, Step, Block, ProcTree, variable}
 use Rattle.dt_lists.specs.Lists.{AllIn}
-use Rattle.dt_text.specs.Texts.{IsStr, IsName}
 use Rattle.dt_proc.specs.Shown.{formula_of, gift_of, step_of}
 use Rattle.dt_proc.specs.declared.tree.KeyDecl.{KeyDecl}
-use Rattle.dt_proc.specs.Checked.{Told, Typed, after_ok, check_key, check_keys, with_key, check_params, param_kinds}
-use Rattle.dt_proc.specs.declared.tree.Kind.{Kind}
+use Rattle.dt_proc.specs.Checked.{Told, Typed, after_ok, check_key, check_keys, with_key, check_params}
+use Rattle.dt_syntax.specs.Grammar.{param_kinds, at, level_of, KeySyntax, Params, ProcSyntax, IsProc, proc_tokens, AreProcs, procs_tokens}
+use Rattle.dt_syntax.specs.declared.kinds.Kind.{Kind}
 use Rattle.std.specs.Borrow.{Bor}
 use Rattle.std.specs.Int.{w64}
-use Rattle.dt_proc.specs.declared.tree.Op.{Op}
-use Rattle.dt_proc.specs.Tree.{variable}
+use Rattle.dt_syntax.specs.declared.operator.Op.{Op}
 use Rattle.dt_proc.specs.declared.tree.KeyItem.{KeyItem}
-use Rattle.dt_proc.specs.declared.tree.Op.TheVariants as op
-use Rattle.dt_proc.specs.Syntax.{at, level_of, Param, param_tokens, KeyPart, part_tokens, KeySyntax, Params, ProcSyntax, IsProc, proc_tokens, AreProcs, procs_tokens}
-
--- an expression of the level does not go on with this token
-abbrev pub Stops : ℕ → Token → Type 0
-Stops n (tok.Op o) = level_of o < n
-Stops n _ = Unit {0}
-
--- nor with what comes first of these
-abbrev pub FrontStops : ℕ → List Placed → Type 0
-FrontStops n [] = ⊥
-FrontStops n (t ∷ ts) = Stops n t.token
+use Rattle.dt_syntax.specs.Limits.{AllSound, IsSmall}
 
 -- the walk's answer is what is told, with the tokens that follow, or the fault that is told; or memory ran out
 abbrev pub Answers : {A : Type 0} → Told A → List Placed → Told (A × List Placed) → Type 0
@@ -79,11 +67,6 @@ abbrev pub step_shown : Scope → Result (Stmt × Bor (List Placed)) ProcError �
 step_shown scope (Ok r) = Ok ((scope, step_of r.0), r.1.now)
 step_shown scope (Err e) = Err e
 
--- no `else` comes first
-abbrev pub NoElse : List Placed → Type 0
-NoElse [] = Unit {0}
-NoElse (t ∷ ts) = ¬ (t.token ≡ tok.Else)
-
 -- what follows the token, where it comes first; and none where it does not
 abbrev pub Follows : Token → List Placed → Option (List Placed) → Type 0
 Follows t ts None = (p : ℕ) (rest : List Placed) → ¬ (at p t ∷ rest ≡ ts)
@@ -93,11 +76,6 @@ abbrev pub left_shown : Option (Bor (List Placed)) → Option (List Placed)
 left_shown None = None
 left_shown (Some r) = Some r.now
 
--- whether a `}` comes first, or nothing
-abbrev pub EndsBlock : List Placed → Bool → Type 0
-EndsBlock [] ends = ends ≡ true
-EndsBlock (t ∷ ts) ends = MatchBool ends (t.token ≡ tok.End) (¬ (t.token ≡ tok.End))
-
 -- what is left, with what was made on the way
 abbrev pub left_with : {A : Type 0} → A → Result (Bor (List Placed)) ProcError → Told (A × List Placed)
 left_with a (Ok r) = Ok (a, r.now)
@@ -106,13 +84,6 @@ left_with a (Err e) = Err e
 abbrev pub part_shown : Result (KeyItem × Bor (List Placed)) ProcError → Told (KeyItem × List Placed)
 part_shown (Ok r) = Ok (r.0, r.1.now)
 part_shown (Err e) = Err e
-
--- a parameter after a `,`, and a part of a key expression after a `++`
-abbrev pub comma_param : ℕ × Param → List Placed
-comma_param m = at m.0 tok.Comma ∷ param_tokens m.1
-
-abbrev pub joined_part : ℕ × KeyPart → List Placed
-joined_part m = at m.0 (tok.Op op.Join) ∷ part_tokens m.1
 
 abbrev pub left_with_both : {A B : Type 0} → A → B → Result (Bor (List Placed)) ProcError → Told ((A × B) × List Placed)
 left_with_both a b (Ok r) = Ok ((a, b), r.now)
@@ -137,20 +108,6 @@ params_shown (Err e) = Err e
 abbrev pub proc_shown : Result (ProcTree × Bor (List Placed)) ProcError → Told (ProcTree × List Placed)
 proc_shown (Ok r) = Ok (r.0, r.1.now)
 proc_shown (Err e) = Err e
-
--- the value of a token is in range
-abbrev pub IsSoundToken : Token → Type 0
-IsSoundToken (tok.Int z) = FitsSigned w64 z
-IsSoundToken (tok.Text t) = IsStr t
-IsSoundToken (tok.Name n) = IsName n
-IsSoundToken _ = Unit {0}
-
-abbrev pub AllSound : List Placed → Type 0
-AllSound ts = AllIn (λ t. IsSoundToken t.token) ts
-
--- a procedure of few parameters and keys
-abbrev pub IsSmall : ProcSyntax → Type 0
-IsSmall p = (length (param_kinds p.params) ≤ 16) × (length (p.key ∷ p.more_keys) ≤ 16)
 
 -- a procedure of the grammar comes first
 pub record StartsProc (ts : List Placed) : Type 0 where

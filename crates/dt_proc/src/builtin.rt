@@ -7,7 +7,8 @@ ghost use Rattle.dt_proc.specs.Tree.{binary};
 
 use crate::procs::{Proc, Procs};
 use crate::tree::{Expr, Give, Gives, KeyDecl, KeyItem, KeyItems, Kind, Op, Stmt, Stmts};
-use dt_text::{Listed, Name, NoMemory, Str};
+use dt_syntax::{named, text};
+use dt_text::{Listed, NoMemory};
 use std::alloc::Global;
 
 /// The built-in procedures: `put`, `note`, `get`, `del`, `add`, `div`, `sum` and `xfer`.
@@ -155,28 +156,6 @@ fn transfer(alloc: Global) -> Result<Stmts, NoMemory>
     gives.push(Give::Value(Expr::IntOf(1)))?;
     body.push(Stmt::Give(gives))?;
     Ok(body)
-}
-
-/// A name of these bytes.
-pub(crate) fn named(alloc: Global, bytes: &[u8]) -> Result<Name, NoMemory>
-    requires { IsName bytes.now }
-    ensures { IfOk result (λ name. name ≡ bytes.now) }
-{
-    match Name::read(alloc, bytes) {
-        Ok(name) => Ok(name),
-        Err(_) => Err(NoMemory),
-    }
-}
-
-/// A text of these bytes.
-pub(crate) fn text(alloc: Global, bytes: &[u8]) -> Result<Str, NoMemory>
-    requires { IsStr bytes.now }
-    ensures { IfOk result (λ text. text ≡ bytes.now) }
-{
-    match Str::read(alloc, bytes) {
-        Ok(text) => Ok(text),
-        Err(_) => Err(NoMemory),
-    }
 }
 
 /// These kinds.

@@ -2,14 +2,14 @@
 
 ghost use Rattle.std.specs.Prelude.{◌≡◌, ◌<◌, ◌≤◌, ℕ, List, [], ◌∷◌, ◌++◌, length, map, IfOk, IfSome, OnOk, Ok, MatchResult};
 ghost use Rattle.std.specs.List.{flat_map};
-ghost use Rattle.dt_proc.specs.declared.token.Placed.{Placed};
-ghost use Rattle.dt_proc.specs.declared.token.Token.TheVariants as tok;
-ghost use Rattle.dt_proc.specs.declared.tree.Op.TheVariants as op;
-ghost use Rattle.dt_proc.specs.Syntax as syn;
-ghost use Rattle.dt_proc.specs.Syntax.{at, Bracketed, bracketed_tokens};
+ghost use Rattle.dt_syntax.specs.declared.token.Placed.{Placed};
+ghost use Rattle.dt_syntax.specs.declared.token.Token.TheVariants as tok;
+ghost use Rattle.dt_syntax.specs.declared.operator.Op.TheVariants as op;
+ghost use Rattle.dt_syntax.specs.Grammar as syn;
+ghost use Rattle.dt_syntax.specs.Grammar.{at, Bracketed, bracketed_tokens};
 ghost use Rattle.dt_proc.specs.Names.{meaning};
 ghost use Rattle.dt_proc.specs.Sound.{sort_of};
-ghost use Rattle.dt_proc.specs.declared.tree.Kind.{Kind};
+ghost use Rattle.dt_syntax.specs.declared.kinds.Kind.{Kind};
 ghost use Rattle.dt_proc.specs.Checked.{after_ok};
 ghost use Rattle.dt_proc.specs.Checked as checked;
 ghost use Rattle.dt_proc.specs.Walked as walked;
@@ -17,9 +17,9 @@ ghost use Rattle.dt_proc.specs.Walked as walked;
 use crate::error::ProcError;
 use crate::scope::{Meaning, Scope};
 use crate::steps::{after_comma, is_new};
-use crate::token::{Placed, Token};
 use crate::tree::{KeyDecl, KeyItem, KeyItems, Kind, Op, Sort};
 use crate::walk::{BROKEN, after_one, bracketed, named};
+use dt_syntax::{Placed, Token};
 use dt_text::{Listed, Name};
 use std::alloc::Global;
 

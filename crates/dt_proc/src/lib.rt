@@ -3,18 +3,13 @@
 
 mod builtin;
 mod copies;
-mod counts;
 mod error;
-mod first_pass;
 mod heads;
 mod laws;
-mod lexer;
-mod machine;
 mod procs;
 mod reader;
 mod scope;
 mod steps;
-mod token;
 mod tree;
 mod walk;
 

@@ -3,20 +3,19 @@
 ghost use Rattle.std.specs.Prelude.{◌≡◌, ◌⊎◌, ◌<◌, ◌^◌, List, [], ◌++◌, length, nat_eq, IfOk, Err};
 ghost use Rattle.std.specs.List.{list_any};
 ghost use Rattle.std.specs.Cmp.Lexicographic.{pointwise};
-ghost use Rattle.dt_proc.specs.declared.token.Placed.{Placed};
-ghost use Rattle.dt_proc.specs.Syntax as syn;
+ghost use Rattle.dt_syntax.specs.declared.token.Placed.{Placed};
+ghost use Rattle.dt_syntax.specs.Grammar as syn;
 ghost use Rattle.dt_proc.specs.Checked as checked;
 ghost use Rattle.dt_proc.specs.Walked as walked;
 ghost use Rattle.dt_proc.specs.Sound as sound;
 ghost use Rattle.dt_proc.specs.Outcome.{Outcome};
 
 use crate::error::ProcError;
-use crate::first_pass::first_pass;
 use crate::heads::{more_keys, params};
 use crate::procs::{Proc, Procs, is_named};
 use crate::steps::block;
-use crate::token::Placed;
 use crate::walk::{after_one, named};
+use dt_syntax::{Placed, read_tokens};
 use dt_text::{Listed, Name};
 use std::alloc::Global;
 
@@ -77,6 +76,6 @@ pub fn read_procs(alloc: Global, text: &[u8]) -> Result<Procs, ProcError>
     ensures outcome { (result ≡ Err ProcError.NoMemory) ⊎ Outcome text.now result }
     ensures sound { IfOk result sound.AreProcs }
 {
-    let tokens = first_pass(alloc, text)?;
+    let tokens = read_tokens(alloc, text)?;
     procs(alloc, tokens.as_slice())
 }

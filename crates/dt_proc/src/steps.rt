@@ -2,10 +2,10 @@
 
 ghost use Rattle.std.specs.Prelude.{◌≡◌, ◌<◌, ◌≤◌, ℕ, List, [], ◌∷◌, ◌++◌, length, map, IfOk, IfSome, OnOk, Ok};
 ghost use Rattle.dt_lists.specs.Lists.{AllIn};
-ghost use Rattle.dt_proc.specs.declared.token.Placed.{Placed};
-ghost use Rattle.dt_proc.specs.declared.token.Token.TheVariants as tok;
-ghost use Rattle.dt_proc.specs.Syntax as syn;
-ghost use Rattle.dt_proc.specs.Syntax.{at, Bracketed, bracketed_tokens, Syntax, syntax_tokens, IsLevel};
+ghost use Rattle.dt_syntax.specs.declared.token.Placed.{Placed};
+ghost use Rattle.dt_syntax.specs.declared.token.Token.TheVariants as tok;
+ghost use Rattle.dt_syntax.specs.Grammar as syn;
+ghost use Rattle.dt_syntax.specs.Grammar.{at, Bracketed, bracketed_tokens, Syntax, syntax_tokens, IsLevel};
 ghost use Rattle.dt_proc.specs.Names.{meaning};
 ghost use Rattle.dt_proc.specs.Names as names;
 ghost use Rattle.dt_proc.specs.Checked.{after_ok};
@@ -16,9 +16,9 @@ ghost use Rattle.dt_proc.specs.Shown.{formula_of};
 
 use crate::error::ProcError;
 use crate::scope::{Meaning, Scope};
-use crate::token::{Placed, Token};
 use crate::tree::{Expr, Give, Gives, Sort, Stmt, Stmts};
 use crate::walk::{BROKEN, after_one, expression, key_in_brackets, named};
+use dt_syntax::{Placed, Token};
 use dt_text::Name;
 use std::alloc::Global;
 

@@ -2,18 +2,10 @@ ghost use Rattle.std.specs.Prelude.{◌≡◌, [], ◌∷◌, ◌++◌, length, 
 ghost use Rattle.dt_proc.specs.Tree.{done, then, joined};
 ghost use Rattle.dt_proc.specs.Shown.{step_of, block_of};
 
+pub use dt_syntax::{Kind, Op};
 use dt_text::{Listed, NoMemory, Str};
 use std::alloc::Global;
 use std::marker::Model;
-
-/// The kind of a parameter.
-#[derive(Clone, Copy, Debug, PartialEq, Eq)]
-pub enum Kind {
-    /// A number of 64 bits with a sign.
-    Int,
-    /// A text.
-    Text,
-}
 
 /// What an expression gives.
 #[derive(Clone, Copy, Debug, PartialEq, Eq)]
@@ -24,39 +16,6 @@ pub enum Sort {
     Text,
     /// A truth.
     Bool,
-}
-
-/// An operator between two operands.
-#[derive(Clone, Copy, Debug, PartialEq, Eq)]
-pub enum Op {
-    /// `or`
-    Or,
-    /// `and`
-    And,
-    /// `==`
-    Equal,
-    /// `!=`
-    Differ,
-    /// `<`
-    Less,
-    /// `<=`
-    AtMost,
-    /// `>`
-    More,
-    /// `>=`
-    AtLeast,
-    /// `+`
-    Add,
-    /// `-`
-    Sub,
-    /// `++`
-    Join,
-    /// `*`
-    Mul,
-    /// `/`
-    Div,
-    /// `%`
-    Rem,
 }
 
 /// An expression.

@@ -1,11 +1,11 @@
 //! The second pass: from tokens that are in the grammar to what they mean, or to the first fault.
 
 ghost use Rattle.std.specs.Prelude.{◌≡◌, ◌<◌, ◌≤◌, ℕ, List, [], ◌∷◌, ◌++◌, length, MatchResult, IfOk, IfSome};
-ghost use Rattle.dt_proc.specs.declared.token.Placed.{Placed};
-ghost use Rattle.dt_proc.specs.declared.token.Token.TheVariants as tok;
-ghost use Rattle.dt_proc.specs.Syntax.{at, Bracketed, bracketed_tokens, Syntax, syntax_tokens, Links, links_tokens, IsLevel, AreLinks, level_of, minus, denial, makes_length, makes_text};
+ghost use Rattle.dt_syntax.specs.declared.token.Placed.{Placed};
+ghost use Rattle.dt_syntax.specs.declared.token.Token.TheVariants as tok;
+ghost use Rattle.dt_syntax.specs.Grammar.{at, Bracketed, bracketed_tokens, Syntax, syntax_tokens, Links, links_tokens, IsLevel, AreLinks, level_of, minus, denial, makes_length, makes_text};
 ghost use Rattle.dt_proc.specs.Names.{meaning};
-ghost use Rattle.dt_proc.specs.Sound.{given_by};
+ghost use Rattle.dt_proc.specs.Sound as sound;
 ghost use Rattle.dt_proc.specs.Checked.{after_ok};
 ghost use Rattle.dt_proc.specs.Checked as checked;
 ghost use Rattle.dt_proc.specs.Walked as walked;
@@ -15,8 +15,8 @@ ghost use Rattle.dt_proc.specs.Tree as tree;
 use crate::builtin::binary;
 use crate::error::ProcError;
 use crate::scope::{Meaning, Scope};
-use crate::token::{Placed, Token};
 use crate::tree::{Expr, Op, Sort};
+use dt_syntax::{Placed, Token};
 use dt_text::Name;
 use std::alloc::Global;
 
@@ -115,14 +115,14 @@ fn links<'a>(
         return Ok((left, sort, tokens));
     };
     let (right, other, rest) = expression(alloc, scope, after, level + 1)?;
-    if !op.fits(sort, other) {
+    if !fits(op, sort, other) {
         return Err(ProcError::Kind(place));
     }
     links(
         alloc,
         scope,
         binary(alloc, op, left, right)?,
-        op.gives(),
+        given_by(op),
         rest,
         level,
     )
@@ -335,68 +335,37 @@ fn negative<'a>(
     }
 }
 
-impl Op {
-    /// The level of the operator: 0 for `or`, 1 for `and`, 2 where it compares, 3 and 4 for the others.
-    pub(crate) fn level(self) -> u8
-        ensures { result ≡ level_of self }
-    {
-        match self {
-            Op::Or => 0,
-            Op::And => 1,
-            Op::Equal => 2,
-            Op::Differ => 2,
-            Op::Less => 2,
-            Op::AtMost => 2,
-            Op::More => 2,
-            Op::AtLeast => 2,
-            Op::Add => 3,
-            Op::Sub => 3,
-            Op::Join => 3,
-            Op::Mul => 4,
-            Op::Div => 4,
-            Op::Rem => 4,
-        }
+/// What an operator gives.
+fn given_by(op: Op) -> Sort
+    ensures { result ≡ sound.given_by op }
+{
+    match op {
+        Op::Join => Sort::Text,
+        Op::Add => Sort::Int,
+        Op::Sub => Sort::Int,
+        Op::Mul => Sort::Int,
+        Op::Div => Sort::Int,
+        Op::Rem => Sort::Int,
+        Op::Or => Sort::Bool,
+        Op::And => Sort::Bool,
+        Op::Equal => Sort::Bool,
+        Op::Differ => Sort::Bool,
+        Op::Less => Sort::Bool,
+        Op::AtMost => Sort::Bool,
+        Op::More => Sort::Bool,
+        Op::AtLeast => Sort::Bool,
     }
+}
 
-    /// What the operator gives.
-    fn gives(self) -> Sort
-        ensures { result ≡ given_by self }
-    {
-        match self {
-            Op::Join => Sort::Text,
-            Op::Add => Sort::Int,
-            Op::Sub => Sort::Int,
-            Op::Mul => Sort::Int,
-            Op::Div => Sort::Int,
-            Op::Rem => Sort::Int,
-            Op::Or => Sort::Bool,
-            Op::And => Sort::Bool,
-            Op::Equal => Sort::Bool,
-            Op::Differ => Sort::Bool,
-            Op::Less => Sort::Bool,
-            Op::AtMost => Sort::Bool,
-            Op::More => Sort::Bool,
-            Op::AtLeast => Sort::Bool,
-        }
-    }
-
-    /// Whether the operator joins texts.
-    pub(crate) fn is_join(self) -> bool
-        ensures { result ≡ checked.is_join self }
-    {
-        matches!(self, Op::Join)
-    }
-
-    /// Whether the operator may stand between operands that give these.
-    fn fits(self, left: Sort, right: Sort) -> bool
-        ensures { result ≡ checked.fits_both self left right }
-    {
-        let level = self.level();
-        match (left, right) {
-            (Sort::Int, Sort::Int) => level >= 3 && !self.is_join() || level == 2,
-            (Sort::Text, Sort::Text) => self.is_join() || level == 2,
-            (Sort::Bool, Sort::Bool) => level < 2,
-            _ => false,
-        }
+/// Whether an operator may stand between operands that give these.
+fn fits(op: Op, left: Sort, right: Sort) -> bool
+    ensures { result ≡ checked.fits_both op left right }
+{
+    let level = op.level();
+    match (left, right) {
+        (Sort::Int, Sort::Int) => level >= 3 && !op.is_join() || level == 2,
+        (Sort::Text, Sort::Text) => op.is_join() || level == 2,
+        (Sort::Bool, Sort::Bool) => level < 2,
+        _ => false,
     }
 }

@@ -1,10 +1,11 @@
 use Rattle.std.proofs.Common.{◌∷◌, ◌++◌, sym}
 use Rattle.std.specs.List.{flat_map}
 use Rattle.std.proofs.lemmas.Result.{err_from_is_err_and}
-use Rattle.dt_proc.specs.declared.token.Token.TheVariants as tok
-use Rattle.dt_proc.specs.Syntax.{at, param_tokens}
-use Rattle.dt_proc.specs.Walked.{comma_param}
-use Rattle.dt_proc.proofs.Listing.{more_next, more_end, no_comma_close, more_params_told, params_fault, params_none}
+use Rattle.dt_syntax.specs.declared.token.Token.TheVariants as tok
+use Rattle.dt_syntax.specs.Grammar.{at, param_tokens}
+use Rattle.dt_syntax.specs.FrontsInner.{comma_param}
+use Rattle.dt_proc.proofs.Listing.{more_params_told, params_fault, params_none}
+use Rattle.dt_syntax.proofs.Callers.{more_next, more_end, no_comma_close}
 use Rattle.dt_proc.proofs.heads.+more_params.Goals as goal
 
 pub returns-in_err-rest-in-Some-clause-right : goal.returns-in_err-rest-in-Some-clause-right

@@ -1,12 +1,13 @@
 use Rattle.std.proofs.Common.{◌∷◌, ◌++◌, sym}
 use Rattle.std.specs.List.{flat_map}
 use Rattle.std.proofs.lemmas.Result.{err_from_is_err_and}
-use Rattle.dt_proc.specs.declared.token.Token.TheVariants as tok
-use Rattle.dt_proc.specs.declared.tree.Op.TheVariants as op
-use Rattle.dt_proc.specs.Syntax.{at, part_tokens}
-use Rattle.dt_proc.specs.Walked.{joined_part}
+use Rattle.dt_syntax.specs.declared.token.Token.TheVariants as tok
+use Rattle.dt_syntax.specs.declared.operator.Op.TheVariants as op
+use Rattle.dt_syntax.specs.Grammar.{at, part_tokens}
+use Rattle.dt_syntax.specs.FrontsInner.{joined_part}
 use Rattle.dt_proc.proofs.Walks.{told_right}
-use Rattle.dt_proc.proofs.Listing.{more_next, more_end, no_join_semicolon, parts_told, parts_fault, parts_none}
+use Rattle.dt_proc.proofs.Listing.{parts_told, parts_fault, parts_none}
+use Rattle.dt_syntax.proofs.Callers.{more_next, more_end, no_join_semicolon}
 use Rattle.dt_proc.proofs.heads.+more_parts.Goals as goal
 
 pub returns-in_err-item-in-Some-clause-right : goal.returns-in_err-item-in-Some-clause-right

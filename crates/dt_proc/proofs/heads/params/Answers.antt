@@ -1,10 +1,11 @@
 use Rattle.std.proofs.Common.{[], ◌∷◌, ◌++◌, ap, sym, ◌∙◌, Err, subst}
 use Rattle.std.specs.List.{flat_map}
 use Rattle.std.proofs.lemmas.Result.{err_from_is_err_and}
-use Rattle.dt_proc.specs.declared.token.Token.TheVariants as tok
-use Rattle.dt_proc.specs.Syntax.{at}
+use Rattle.dt_syntax.specs.declared.token.Token.TheVariants as tok
+use Rattle.dt_syntax.specs.Grammar.{at}
 use Rattle.dt_proc.specs.Checked.{check_param}
-use Rattle.dt_proc.specs.Walked.{comma_param, Answers}
+use Rattle.dt_proc.specs.Walked.{Answers}
+use Rattle.dt_syntax.specs.FrontsInner.{comma_param}
 use Rattle.dt_proc.proofs.Listing.{params_first, params_first_fault, params_more_fault, params_told_is}
 use Rattle.dt_proc.proofs.heads.params.Goals as goal
 

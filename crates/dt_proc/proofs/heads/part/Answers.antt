@@ -1,7 +1,7 @@
 use Rattle.std.proofs.Common.{◌∙◌, ap}
 use Rattle.dt_proc.specs.Checked.{check_part}
-use Rattle.dt_proc.proofs.Walks.{cut_first, told_right}
-use Rattle.dt_proc.proofs.Listing.{part_show}
+use Rattle.dt_proc.proofs.Walks.{told_right}
+use Rattle.dt_syntax.proofs.Callers.{cut_first, part_show}
 use Rattle.dt_proc.proofs.heads.part.Goals as goal
 
 pub returns-in-Show-clause-right : goal.returns-in-Show-clause-right

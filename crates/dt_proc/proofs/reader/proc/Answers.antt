@@ -3,11 +3,12 @@ use Rattle.std.specs.List.{flat_map, list_any}
 use Rattle.std.specs.Cmp.Lexicographic.{pointwise}
 use Rattle.std.proofs.lemmas.Result.{err_from_is_err_and}
 use Rattle.dt_text.specs.Texts.{IsName}
-use Rattle.dt_proc.specs.declared.token.Token.TheVariants as tok
+use Rattle.dt_syntax.specs.declared.token.Token.TheVariants as tok
 use Rattle.dt_proc.specs.Tree.{ProcTree}
-use Rattle.dt_proc.specs.Syntax.{at, params_tokens, key_tokens, statements_tokens}
+use Rattle.dt_syntax.specs.Grammar.{at, params_tokens, key_tokens, statements_tokens}
 use Rattle.dt_proc.specs.Walked.{Answers, keys_told}
-use Rattle.dt_proc.proofs.Procedures.{Free, proc_cut, proc_longer, proc_twice, proc_sound, params_first_fault, keys_first_fault, body_first_fault, proc_told}
+use Rattle.dt_proc.proofs.Procedures.{Free, proc_twice, proc_sound, params_first_fault, keys_first_fault, body_first_fault, proc_told}
+use Rattle.dt_syntax.proofs.Callers.{proc_cut, proc_longer}
 use Rattle.dt_proc.proofs.reader.proc.Goals as goal
 
 pub returns-then-is_taken-clause-right : goal.returns-then-is_taken-clause-right

@@ -1,11 +1,12 @@
 use Rattle.std.proofs.Common.{◌∷◌, ◌++◌, ap, sym, ◌∙◌, refl, arith, Ok, ⊎_elim, take}
 use Rattle.std.proofs.lemmas.Result.{err_from_is_err_and}
-use Rattle.dt_proc.specs.declared.token.Token.TheVariants as tok
+use Rattle.dt_syntax.specs.declared.token.Token.TheVariants as tok
 use Rattle.dt_proc.specs.Checked.{check_statement, check_block}
 use Rattle.dt_proc.specs.Shown.{step_of}
-use Rattle.dt_proc.specs.Syntax.{at, statements_tokens}
+use Rattle.dt_syntax.specs.Grammar.{at, statements_tokens}
 use Rattle.dt_proc.proofs.Walks.{told_right}
-use Rattle.dt_proc.proofs.Blocked.{step_when, some_statement, no_statement, not_ended, ended, step_told, step_fault, left_as_before}
+use Rattle.dt_proc.proofs.Blocked.{not_ended, ended, step_told, step_fault, left_as_before}
+use Rattle.dt_syntax.proofs.Callers.{step_when, some_statement, no_statement}
 use Rattle.dt_proc.proofs.steps.+steps.Goals as goal
 
 pub step-returns-in-Let-clause-right : goal.step-returns-in-Let-clause-right

@@ -1,5 +1,6 @@
 use Rattle.std.proofs.Common.{◌∙◌, sym}
-use Rattle.dt_proc.proofs.Walks.{cut_first, told_right}
+use Rattle.dt_proc.proofs.Walks.{told_right}
+use Rattle.dt_syntax.proofs.Callers.{cut_first}
 use Rattle.dt_proc.proofs.Items.{item_row, item_value}
 use Rattle.dt_proc.proofs.steps.item.Goals as goal
 

@@ -2,12 +2,13 @@ use Rattle.std.proofs.Common.{[], ◌∷◌, ◌++◌, ap, sym, ◌∙◌, map, 
 use Rattle.std.specs.List.{flat_map}
 use Rattle.std.proofs.lemmas.Result.{err_from_is_err_and}
 use Rattle.std.proofs.lemmas.List.{map-append}
-use Rattle.dt_proc.specs.declared.token.Token.TheVariants as tok
+use Rattle.dt_syntax.specs.declared.token.Token.TheVariants as tok
 use Rattle.dt_proc.specs.Shown.{gift_of}
-use Rattle.dt_proc.specs.Syntax.{at}
+use Rattle.dt_syntax.specs.Grammar.{at}
 use Rattle.dt_proc.specs.Checked.{check_item, check_items, check_all_items, after_ok}
 use Rattle.dt_proc.proofs.Walks.{err_then}
-use Rattle.dt_proc.proofs.Items.{next_item, items_stop, items_cut, items_start, after_comma_next, told_next, told_fault, items_end}
+use Rattle.dt_proc.proofs.Items.{items_start, after_comma_next, told_next, told_fault, items_end}
+use Rattle.dt_syntax.proofs.Callers.{next_item, items_stop, items_cut}
 use Rattle.dt_proc.proofs.steps.items.Goals as goal
 
 pub loop-after-init : goal.loop-after-init

@@ -1,10 +1,11 @@
 use Rattle.std.proofs.Common.{◌≡◌, ℕ, ◌<◌, List, ◌∷◌, ◌++◌, map, length}
-use Rattle.dt_proc.specs.declared.token.Placed.{Placed}
-use Rattle.dt_proc.specs.declared.token.Token.TheVariants as tok
+use Rattle.dt_syntax.specs.declared.token.Placed.{Placed}
+use Rattle.dt_syntax.specs.declared.token.Token.TheVariants as tok
 use Rattle.dt_proc.specs.Shown.{gift_of}
 use Rattle.dt_proc.specs.Checked.{check_all_items}
-use Rattle.dt_proc.specs.Syntax.{at, Item, IsItem, items_tokens}
-use Rattle.dt_proc.proofs.Items.{AreItems, ItemsLeft}
+use Rattle.dt_syntax.specs.Grammar.{at, Item, IsItem, items_tokens}
+use Rattle.dt_proc.proofs.Items.{ItemsLeft}
+use Rattle.dt_syntax.proofs.Callers.{AreItems}
 use Rattle.dt_proc.proofs.steps.items.Given as goal
 
 abbrev pub invariant-loop-after : goal.invariant-loop-after

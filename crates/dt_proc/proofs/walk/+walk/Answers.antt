@@ -1,12 +1,13 @@
 use Rattle.std.proofs.Common.{inr, ap, sym, ◌∙◌, arith, Ok, refl, ◌++◌, rules}
 use Rattle.std.proofs.lemmas.Result.{err_from_is_err_and}
-use Rattle.dt_proc.specs.declared.token.Token.TheVariants as tok
-use Rattle.dt_proc.specs.Syntax.{syntax_tokens, links_tokens}
+use Rattle.dt_syntax.specs.declared.token.Token.TheVariants as tok
+use Rattle.dt_syntax.specs.Grammar.{syntax_tokens, links_tokens}
 use Rattle.dt_proc.specs.Checked.{check, check_links}
 use Rattle.dt_proc.specs.Tree as tree
 use Rattle.dt_proc.specs.declared.tree.Sort.TheVariants as sort
 use Rattle.dt_proc.specs.Shown.{formula_of}
-use Rattle.dt_proc.proofs.Walks.{ok_then, err_then, chain_shape, links_stop, chain_cut, operand_when, not_empty, told_is, told_right, no_operand, no_links, link_first, six_stop, link_misfit, link_fits}
+use Rattle.dt_proc.proofs.Walks.{ok_then, err_then, operand_when, told_is, told_right, no_operand, no_links, link_misfit, link_fits}
+use Rattle.dt_syntax.proofs.Callers.{chain_shape, links_stop, chain_cut, not_empty, link_first, six_stop}
 use Rattle.dt_proc.proofs.walk.+walk.Goals as goal
 
 pub expression-returns-in_err-first-clause-right : goal.expression-returns-in_err-first-clause-right
