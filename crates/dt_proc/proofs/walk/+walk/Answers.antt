@@ -126,6 +126,6 @@ links-returns-clause-right t c = λ ls rest h stop e.
     let k = link_first c.args.level c.in-Some.place c.in-Some.op c.in-Some.after.now ls rest c.args.tokens.now h stop found.1 found.0 e in
     let right = c.in_ok-right.ensures.right k.x (links_tokens k.more ++ rest) k.level (links_stop k.more c.args.level rest k.good stop) k.cut in
     told_right _ _ rest _
-    (link_fits c.args.scope.now (formula_of c.args.left, c.args.sort) (formula_of c.in_ok-right.right, c.in_ok-right.other) (formula_of c.in_ok-binary.field-0, c.gives.result)
-    c.in-Some.place c.in-Some.op k.x k.more ls k.is right.0 (sym c.if-not-fits.ensures) (λ i. (c.in_ok-binary.ensures i, c.gives.ensures i)))
+    (link_fits c.args.scope.now (formula_of c.args.left, c.args.sort) (formula_of c.in_ok-right.right, c.in_ok-right.other) (formula_of c.in_ok-binary.field-0, c.given_by.result)
+    c.in-Some.place c.in-Some.op k.x k.more ls k.is right.0 (sym c.if-not-fits.ensures) (λ i. (c.in_ok-binary.ensures i, c.given_by.ensures i)))
     (c.links.ensures.right k.more rest k.good stop (sym right.1))
