@@ -7,12 +7,12 @@ ghost use Rattle.dt_syntax.specs.declared.token.Token.TheVariants as tok;
 ghost use Rattle.dt_syntax.specs.declared.operator.Op.TheVariants as op;
 ghost use Rattle.dt_syntax.specs.Grammar as syn;
 ghost use Rattle.dt_syntax.specs.Grammar.{at, Bracketed, bracketed_tokens};
-ghost use Rattle.dt_proc.specs.Names.{meaning};
+ghost use Rattle.dt_proc.specs.Names.{meaning_in};
 ghost use Rattle.dt_proc.specs.Sound.{sort_of};
 ghost use Rattle.dt_syntax.specs.declared.kinds.Kind.{Kind};
-ghost use Rattle.dt_proc.specs.Checked.{after_ok};
-ghost use Rattle.dt_proc.specs.Checked as checked;
-ghost use Rattle.dt_proc.specs.Walked as walked;
+ghost use Rattle.dt_proc.specs.SecondPass.{after_ok};
+ghost use Rattle.dt_proc.specs.SecondPass as checked;
+ghost use Rattle.dt_proc.specs.WalkInner as walked;
 
 use crate::error::ProcError;
 use crate::scope::{Meaning, Scope};
@@ -58,7 +58,7 @@ fn param<'a>(
 ) -> Result<&'a [Placed], ProcError>
     ensures shorter { IfOk result (λ r. length r.now < length tokens.now) }
     ensures right { (p : syn.Param) (rest : List Placed) → syn.param_tokens p ++ rest ≡ tokens.now
-        → walked.Answers (checked.check_param scope.old p) rest (walked.left_with scope.new result) × OnOk result (kinds.new ≡ kinds.old ++ p.kind ∷ []) }
+        → walked.WalkAnswers (checked.check_param scope.old p) rest (walked.left_with scope.new result) × OnOk result (kinds.new ≡ kinds.old ++ p.kind ∷ []) }
 {
     let (place, name, rest) = named(tokens)?;
     if !is_new(scope, name) {
@@ -79,7 +79,7 @@ fn more_params<'a>(
 ) -> Result<&'a [Placed], ProcError>
     ensures shorter { IfOk result (λ r. length r.now < length tokens.now) }
     ensures right { (more : List (ℕ × syn.Param)) (q : ℕ) (rest : List Placed) → flat_map walked.comma_param more ++ at q tok.Close ∷ rest ≡ tokens.now
-        → walked.Answers (checked.check_more_params scope.old more) rest (walked.left_with scope.new result)
+        → walked.WalkAnswers (checked.check_more_params scope.old more) rest (walked.left_with scope.new result)
         × OnOk result (kinds.new ≡ kinds.old ++ map (λ m. m.1.kind) more) }
 {
     match after_comma(tokens) {
@@ -93,7 +93,7 @@ fn more_params<'a>(
 
 /// The parameter of kind text that a name means.
 fn text_param(scope: &Scope, place: u32, name: &Name) -> Result<u32, ProcError>
-    ensures { result ≡ checked.as_param place Sort.Text (meaning scope.now name.now) }
+    ensures { result ≡ checked.as_param place Sort.Text (meaning_in scope.now name.now) }
 {
     match scope.meaning(name) {
         Meaning::Variable(number, Sort::Text) => Ok(number),
@@ -106,7 +106,7 @@ fn text_param(scope: &Scope, place: u32, name: &Name) -> Result<u32, ProcError>
 
 /// The parameter of kind int that a name means.
 fn int_param(scope: &Scope, place: u32, name: &Name) -> Result<u32, ProcError>
-    ensures { result ≡ checked.as_param place Sort.Int (meaning scope.now name.now) }
+    ensures { result ≡ checked.as_param place Sort.Int (meaning_in scope.now name.now) }
 {
     match scope.meaning(name) {
         Meaning::Variable(number, Sort::Int) => Ok(number),
@@ -121,7 +121,7 @@ fn int_param(scope: &Scope, place: u32, name: &Name) -> Result<u32, ProcError>
 fn shown_part<'a>(scope: &Scope, tokens: &'a [Placed]) -> Result<(KeyItem, &'a [Placed]), ProcError>
     ensures shorter { IfOk result (λ r. length r.1.now < length tokens.now) }
     ensures right { (p : ℕ) (b : Bracketed) (rest : List Placed) → bracketed_tokens b ++ rest ≡ tokens.now
-        → walked.Answers (checked.check_part scope.now (syn.show_part p b)) rest (walked.part_shown result) }
+        → walked.WalkAnswers (checked.check_part scope.now (syn.show_part p b)) rest (walked.part_shown result) }
 {
     let (place, name, rest) = bracketed(tokens)?;
     match int_param(scope, place, name) {
@@ -138,7 +138,7 @@ fn part<'a>(
 ) -> Result<(KeyItem, &'a [Placed]), ProcError>
     ensures shorter { IfOk result (λ r. length r.1.now < length tokens.now) }
     ensures right { (i : syn.KeyPart) (rest : List Placed) → syn.part_tokens i ++ rest ≡ tokens.now
-        → walked.Answers (checked.check_part scope.now i) rest (walked.part_shown result) }
+        → walked.WalkAnswers (checked.check_part scope.now i) rest (walked.part_shown result) }
 {
     let [first, rest @ ..] = tokens else {
         return Err(BROKEN);
@@ -157,7 +157,7 @@ fn part<'a>(
 /// What follows a `++`, if one comes first.
 fn after_join(tokens: &[Placed]) -> Option<&[Placed]>
     ensures shorter { IfSome result (λ r. length r.now < length tokens.now) }
-    ensures right { walked.Follows (tok.Op op.Join) tokens.now (walked.left_shown result) }
+    ensures right { walked.FollowsToken (tok.Op op.Join) tokens.now (walked.left_shown result) }
 {
     match tokens {
         [first, rest @ ..] => match &first.token {
@@ -177,7 +177,7 @@ fn more_parts<'a>(
 ) -> Result<&'a [Placed], ProcError>
     ensures shorter { IfOk result (λ r. length r.now < length tokens.now) }
     ensures right { (more : List (ℕ × syn.KeyPart)) (e : ℕ) (rest : List Placed) → flat_map walked.joined_part more ++ at e tok.Semicolon ∷ rest ≡ tokens.now
-        → walked.Answers (after_ok (checked.check_parts scope.now more) (λ is. Ok (items.old ++ is))) rest (walked.left_with items.new result) }
+        → walked.WalkAnswers (after_ok (checked.check_parts scope.now more) (λ is. Ok (items.old ++ is))) rest (walked.left_with items.new result) }
 {
     match after_join(tokens) {
         Some(rest) => {
@@ -200,7 +200,7 @@ fn key<'a>(
     ensures shorter { IfOk result (λ r. length r.now < length tokens.now) }
     ensures right { (k : syn.KeySyntax) (rest : List Placed) → k.write ≡ write
         → at k.name_at (tok.Name k.name) ∷ at k.is_at tok.Is ∷ (syn.part_tokens k.first ++ (flat_map walked.joined_part k.more ++ at k.end_at tok.Semicolon ∷ rest)) ≡ tokens.now
-        → walked.Answers (walked.key_told scope.old keys.old k) rest (walked.left_with_both scope.new keys.new result) }
+        → walked.WalkAnswers (walked.key_told scope.old keys.old k) rest (walked.left_with_both scope.new keys.new result) }
 {
     let (place, name, rest) = named(tokens)?;
     if !is_new(scope, name) {
@@ -218,7 +218,7 @@ fn key<'a>(
 /// What follows a `)`, if one comes first.
 fn after_close(tokens: &[Placed]) -> Option<&[Placed]>
     ensures shorter { IfSome result (λ r. length r.now < length tokens.now) }
-    ensures right { walked.Follows tok.Close tokens.now (walked.left_shown result) }
+    ensures right { walked.FollowsToken tok.Close tokens.now (walked.left_shown result) }
 {
     match tokens {
         [first, rest @ ..] => match &first.token {
@@ -235,7 +235,7 @@ pub(crate) fn params(
     tokens: &[Placed],
 ) -> Result<(Scope, Listed<Kind>, &[Placed]), ProcError>
     ensures { (ps : syn.Params) (q : ℕ) (rest : List Placed) → syn.params_tokens ps ++ at q tok.Close ∷ rest ≡ tokens.now
-        → walked.Answers (walked.params_told ps) rest (walked.params_shown result) }
+        → walked.WalkAnswers (walked.params_told ps) rest (walked.params_shown result) }
 {
     let mut scope = Scope::new(alloc);
     let mut kinds = Listed::new(alloc);
@@ -255,7 +255,7 @@ pub(crate) fn more_keys<'a>(
     tokens: &'a [Placed],
 ) -> Result<&'a [Placed], ProcError>
     ensures { (ks : List syn.KeySyntax) (b : ℕ) (rest : List Placed) → flat_map syn.key_tokens ks ++ at b tok.Begin ∷ rest ≡ tokens.now
-        → walked.Answers (walked.keys_told scope.old keys.old ks) rest (walked.left_with_both scope.new keys.new result) }
+        → walked.WalkAnswers (walked.keys_told scope.old keys.old ks) rest (walked.left_with_both scope.new keys.new result) }
 {
     let [first, rest @ ..] = tokens else {
         return Err(BROKEN);

@@ -2,8 +2,8 @@ ghost use Rattle.std.specs.Prelude.{◌≡◌, ◌-◌, ℕ, List, ◌<◌, ◌�
 ghost use Rattle.std.specs.Ordering.{nat_cmp};
 ghost use Rattle.std.specs.Cmp.Lexicographic.{pointwise, slice_cmp};
 ghost use Rattle.std.specs.BTreeMap.{get};
-ghost use Rattle.dt_proc.specs.Names.{entry_of, meaning};
-ghost use Rattle.dt_proc.specs.Numbered.{AreNumbers, is_number};
+ghost use Rattle.dt_proc.specs.Names.{entry_of, meaning_in};
+ghost use Rattle.dt_proc.specs.NumbersInner.{AreNumbers, is_number};
 ghost use Rattle.dt_proc.specs.declared.tree.Sort.{Sort};
 
 use crate::tree::Sort;
@@ -37,7 +37,7 @@ pub(crate) struct Scope {
 impl Model for Scope {
     ghost use Rattle.dt_proc.specs.Names as names;
     ghost use Rattle.std.specs.Prelude.{◌<◌, ◌^◌, length};
-    ghost use Rattle.dt_proc.specs.Numbered.{AreNumbers};
+    ghost use Rattle.dt_proc.specs.NumbersInner.{AreNumbers};
 
     ghost Value = { names.Scope };
 
@@ -61,7 +61,7 @@ impl Scope {
 
     /// What a name means.
     pub(crate) fn meaning(&self, name: &Name) -> Meaning
-        ensures { result ≡ meaning self.now name.now }
+        ensures { result ≡ meaning_in self.now name.now }
     {
         if let Some((number, sort)) = self.numbers.get(name) {
             return Meaning::Variable(*number, *sort);

@@ -6,13 +6,13 @@ ghost use Rattle.dt_syntax.specs.declared.token.Placed.{Placed};
 ghost use Rattle.dt_syntax.specs.declared.token.Token.TheVariants as tok;
 ghost use Rattle.dt_syntax.specs.Grammar as syn;
 ghost use Rattle.dt_syntax.specs.Grammar.{at, Bracketed, bracketed_tokens, Syntax, syntax_tokens, IsLevel};
-ghost use Rattle.dt_proc.specs.Names.{meaning};
+ghost use Rattle.dt_proc.specs.Names.{meaning_in};
 ghost use Rattle.dt_proc.specs.Names as names;
-ghost use Rattle.dt_proc.specs.Checked.{after_ok};
-ghost use Rattle.dt_proc.specs.Checked as checked;
-ghost use Rattle.dt_proc.specs.Walked as walked;
+ghost use Rattle.dt_proc.specs.SecondPass.{after_ok};
+ghost use Rattle.dt_proc.specs.SecondPass as checked;
+ghost use Rattle.dt_proc.specs.WalkInner as walked;
 ghost use Rattle.dt_proc.specs.Tree as tree;
-ghost use Rattle.dt_proc.specs.Shown.{formula_of};
+ghost use Rattle.dt_proc.specs.TreeViews.{expr_tree};
 
 use crate::error::ProcError;
 use crate::scope::{Meaning, Scope};
@@ -25,7 +25,7 @@ use std::alloc::Global;
 /// What follows a `,`, if one comes first.
 pub(crate) fn after_comma(tokens: &[Placed]) -> Option<&[Placed]>
     ensures shorter { IfSome result (λ r. length r.now < length tokens.now) }
-    ensures right { walked.Follows tok.Comma tokens.now (walked.left_shown result) }
+    ensures right { walked.FollowsToken tok.Comma tokens.now (walked.left_shown result) }
 {
     match tokens {
         [first, rest @ ..] => match &first.token {
@@ -39,7 +39,7 @@ pub(crate) fn after_comma(tokens: &[Placed]) -> Option<&[Placed]>
 /// What follows an `else`, if one comes first.
 fn after_else(tokens: &[Placed]) -> Option<&[Placed]>
     ensures shorter { IfSome result (λ r. length r.now < length tokens.now) }
-    ensures right { walked.Follows tok.Else tokens.now (walked.left_shown result) }
+    ensures right { walked.FollowsToken tok.Else tokens.now (walked.left_shown result) }
 {
     match tokens {
         [first, rest @ ..] => match &first.token {
@@ -53,7 +53,7 @@ fn after_else(tokens: &[Placed]) -> Option<&[Placed]>
 /// What follows a `}`, if one comes first.
 fn after_end(tokens: &[Placed]) -> Option<&[Placed]>
     ensures shorter { IfSome result (λ r. length r.now < length tokens.now) }
-    ensures right { walked.Follows tok.End tokens.now (walked.left_shown result) }
+    ensures right { walked.FollowsToken tok.End tokens.now (walked.left_shown result) }
 {
     match tokens {
         [first, rest @ ..] => match &first.token {
@@ -68,7 +68,7 @@ fn after_end(tokens: &[Placed]) -> Option<&[Placed]>
 fn row_of<'a>(scope: &Scope, tokens: &'a [Placed]) -> Result<(Give, &'a [Placed]), ProcError>
     ensures shorter { IfOk result (λ r. length r.1.now < length tokens.now) }
     ensures right { (b : Bracketed) (rest : List Placed) → bracketed_tokens b ++ rest ≡ tokens.now
-        → walked.Answers (after_ok (checked.key_of scope.now b) (λ k. Ok (tree.row k))) rest (walked.gift_shown result) }
+        → walked.WalkAnswers (after_ok (checked.key_of scope.now b) (λ k. Ok (tree.row k))) rest (walked.gift_shown result) }
 {
     match key_in_brackets(scope, tokens) {
         Ok((key, rest)) => Ok((Give::Row(key), rest)),
@@ -85,7 +85,7 @@ fn value_of<'a>(
 ) -> Result<(Give, &'a [Placed]), ProcError>
     ensures shorter { IfOk result (λ r. length r.1.now < length tokens.now) }
     ensures right { (x : Syntax) (rest : List Placed) → IsLevel 0 x → walked.FrontStops 0 rest → syntax_tokens x ++ rest ≡ tokens.now
-        → walked.Answers (after_ok (checked.check scope.now x) (λ a. checked.needs_stored place a (tree.value a.0))) rest (walked.gift_shown result) }
+        → walked.WalkAnswers (after_ok (checked.check scope.now x) (λ a. checked.needs_stored place a (tree.value a.0))) rest (walked.gift_shown result) }
 {
     match expression(alloc, scope, tokens, 0) {
         Ok((value, Sort::Int, rest)) => Ok((Give::Value(value), rest)),
@@ -103,7 +103,7 @@ fn item<'a>(
 ) -> Result<(Give, &'a [Placed]), ProcError>
     ensures shorter { IfOk result (λ r. length r.1.now < length tokens.now) }
     ensures right { (i : syn.Item) (rest : List Placed) → syn.IsItem i → walked.FrontStops 0 rest → syn.item_tokens i ++ rest ≡ tokens.now
-        → walked.Answers (checked.check_item scope.now i) rest (walked.gift_shown result) }
+        → walked.WalkAnswers (checked.check_item scope.now i) rest (walked.gift_shown result) }
 {
     let [first, rest @ ..] = tokens else {
         return Err(BROKEN);
@@ -123,7 +123,7 @@ fn items<'a>(
     ensures shorter { IfOk result (λ r. length r.1.now < length tokens.now) }
     ensures right { (i : syn.Item) (more : List (ℕ × syn.Item)) (e : ℕ) (rest : List Placed) → syn.IsItem i → AllIn (λ m. syn.IsItem m.1) more
         → syn.items_tokens i more ++ at e tok.Semicolon ∷ rest ≡ tokens.now
-        → walked.Answers (checked.check_all_items scope.now i more) rest (walked.gifts_shown result) }
+        → walked.WalkAnswers (checked.check_all_items scope.now i more) rest (walked.gifts_shown result) }
 {
     let mut gives = Gives::new(alloc);
     let (give, mut rest) = item(alloc, scope, tokens)?;
@@ -145,7 +145,7 @@ fn let_step<'a>(
     ensures shorter { IfOk result (λ r. length r.1.now < length tokens.now) }
     ensures right { (p q : ℕ) (n : List ℕ) (i : ℕ) (x : Syntax) (e : ℕ) (rest : List Placed) → IsLevel 0 x
         → at q (tok.Name n) ∷ at i tok.Is ∷ (syntax_tokens x ++ at e tok.Semicolon ∷ rest) ≡ tokens.now
-        → walked.Answers (checked.check_statement scope.old (syn.let_new p q n i x e)) rest (walked.step_shown scope.new result) }
+        → walked.WalkAnswers (checked.check_statement scope.old (syn.let_new p q n i x e)) rest (walked.step_shown scope.new result) }
 {
     let (place, name, rest) = named(tokens)?;
     if !is_new(scope, name) {
@@ -158,14 +158,14 @@ fn let_step<'a>(
 
 /// Whether a name is not visible.
 pub(crate) fn is_new(scope: &Scope, name: &Name) -> bool
-    ensures { result ≡ checked.is_unknown (meaning scope.now name.now) }
+    ensures { result ≡ checked.is_unknown (meaning_in scope.now name.now) }
 {
     matches!(scope.meaning(name), Meaning::Unknown)
 }
 
 /// The number of the key that a name means, which may be written.
 fn written(scope: &Scope, place: u32, name: &Name) -> Result<u32, ProcError>
-    ensures { result ≡ checked.as_written place (meaning scope.now name.now) }
+    ensures { result ≡ checked.as_written place (meaning_in scope.now name.now) }
 {
     match scope.meaning(name) {
         Meaning::Key(number, write) => {
@@ -190,7 +190,7 @@ fn set_step<'a>(
     ensures shorter { IfOk result (λ r. length r.1.now < length tokens.now) }
     ensures right { (q : ℕ) (n : List ℕ) (i : ℕ) (x : Syntax) (e : ℕ) (rest : List Placed) → IsLevel 0 x
         → at q (tok.Name n) ∷ at i tok.Is ∷ (syntax_tokens x ++ at e tok.Semicolon ∷ rest) ≡ tokens.now
-        → walked.Answers (checked.check_statement scope.now (syn.set_key word q n i x e)) rest (walked.step_shown scope.now result) }
+        → walked.WalkAnswers (checked.check_statement scope.now (syn.set_key word q n i x e)) rest (walked.step_shown scope.now result) }
 {
     let (place, name, rest) = named(tokens)?;
     let key = written(scope, place, name)?;
@@ -206,7 +206,7 @@ fn set_step<'a>(
 fn clear_step<'a>(scope: &Scope, tokens: &'a [Placed]) -> Result<(Stmt, &'a [Placed]), ProcError>
     ensures shorter { IfOk result (λ r. length r.1.now < length tokens.now) }
     ensures right { (p q : ℕ) (n : List ℕ) (e : ℕ) (rest : List Placed) → at q (tok.Name n) ∷ at e tok.Semicolon ∷ rest ≡ tokens.now
-        → walked.Answers (checked.check_statement scope.now (syn.clear_key p q n e)) rest (walked.step_shown scope.now result) }
+        → walked.WalkAnswers (checked.check_statement scope.now (syn.clear_key p q n e)) rest (walked.step_shown scope.now result) }
 {
     let (place, name, rest) = named(tokens)?;
     let key = written(scope, place, name)?;
@@ -217,7 +217,7 @@ fn clear_step<'a>(scope: &Scope, tokens: &'a [Placed]) -> Result<(Stmt, &'a [Pla
 fn abort_step<'a>(alloc: Global, tokens: &'a [Placed]) -> Result<(Stmt, &'a [Placed]), ProcError>
     ensures shorter { IfOk result (λ r. length r.1.now < length tokens.now) }
     ensures right { (s : names.Scope) (p q : ℕ) (t : List ℕ) (e : ℕ) (rest : List Placed) → at q (tok.Text t) ∷ at e tok.Semicolon ∷ rest ≡ tokens.now
-        → walked.Answers (checked.check_statement s (syn.abort p q t e)) rest (walked.step_shown s result) }
+        → walked.WalkAnswers (checked.check_statement s (syn.abort p q t e)) rest (walked.step_shown s result) }
 {
     match tokens {
         [first, rest @ ..] => match &first.token {
@@ -240,7 +240,7 @@ fn give_step<'a>(
     ensures shorter { IfOk result (λ r. length r.1.now < length tokens.now) }
     ensures right { (p : ℕ) (i : syn.Item) (more : List (ℕ × syn.Item)) (e : ℕ) (rest : List Placed) → syn.IsItem i → AllIn (λ m. syn.IsItem m.1) more
         → syn.items_tokens i more ++ at e tok.Semicolon ∷ rest ≡ tokens.now
-        → walked.Answers (checked.check_statement scope.now (syn.give p i more e)) rest (walked.step_shown scope.now result) }
+        → walked.WalkAnswers (checked.check_statement scope.now (syn.give p i more e)) rest (walked.step_shown scope.now result) }
 {
     match items(alloc, scope, tokens) {
         Ok((gives, rest)) => Ok((Stmt::Give(gives), rest)),
@@ -258,7 +258,7 @@ pub(crate) fn block<'a>(
     ensures shorter { IfOk result (λ r. length r.1.now < length tokens.now) }
     ensures right { (ss : syn.Statements) (e : ℕ) (rest : List Placed) → syn.AreStatements ss
         → syn.statements_tokens ss ++ at e tok.End ∷ rest ≡ tokens.now
-        → walked.Answers (checked.check_block scope.old ss) rest (walked.block_shown result) × OnOk result (scope.new ≡ scope.old) }
+        → walked.WalkAnswers (checked.check_block scope.old ss) rest (walked.block_shown result) × OnOk result (scope.new ≡ scope.old) }
 {
     let outer = scope.variables();
     let mut stmts = Stmts::new(alloc);
@@ -291,7 +291,7 @@ fn step<'a>(
 ) -> Result<(Stmt, &'a [Placed]), ProcError>
     ensures shorter { IfOk result (λ r. length r.1.now < length tokens.now) }
     ensures right { (s : syn.Statement) (rest : List Placed) → syn.IsStatement s → walked.NoElse rest → syn.statement_tokens s ++ rest ≡ tokens.now
-        → walked.Answers (checked.check_statement scope.old s) rest (walked.step_shown scope.new result) }
+        → walked.WalkAnswers (checked.check_statement scope.old s) rest (walked.step_shown scope.new result) }
 {
     let [first, rest @ ..] = tokens else {
         return Err(BROKEN);
@@ -318,12 +318,12 @@ fn if_step<'a>(
     ensures shorter { IfOk result (λ r. length r.1.now < length tokens.now) }
     ensures one { (x : Syntax) (b : ℕ) (ss : syn.Statements) (e : ℕ) (rest : List Placed) → IsLevel 0 x → syn.AreStatements ss → walked.NoElse rest
         → syntax_tokens x ++ at b tok.Begin ∷ (syn.statements_tokens ss ++ at e tok.End ∷ rest) ≡ tokens.now
-        → walked.Answers (checked.check_statement scope.old (syn.when word x b ss e)) rest (walked.step_shown scope.new result) }
+        → walked.WalkAnswers (checked.check_statement scope.old (syn.when word x b ss e)) rest (walked.step_shown scope.new result) }
     ensures two { (x : Syntax) (b : ℕ) (ss : syn.Statements) (e w o : ℕ) (rs : syn.Statements) (f : ℕ) (rest : List Placed) → IsLevel 0 x
         → syn.AreStatements ss → syn.AreStatements rs
         → syntax_tokens x ++ at b tok.Begin ∷ (syn.statements_tokens ss ++ at e tok.End ∷ at w tok.Else ∷ at o tok.Begin
         ∷ (syn.statements_tokens rs ++ at f tok.End ∷ rest)) ≡ tokens.now
-        → walked.Answers (checked.check_statement scope.old (syn.choose word x b ss e w o rs f)) rest (walked.step_shown scope.new result) }
+        → walked.WalkAnswers (checked.check_statement scope.old (syn.choose word x b ss e w o rs f)) rest (walked.step_shown scope.new result) }
 {
     let (test, sort, rest) = expression(alloc, scope, tokens, 0)?;
     match sort {
@@ -344,10 +344,10 @@ fn branches<'a>(
     ensures shorter { IfOk result (λ r. length r.1.now < length tokens.now) }
     ensures one { (ss : syn.Statements) (e : ℕ) (rest : List Placed) → syn.AreStatements ss → walked.NoElse rest
         → syn.statements_tokens ss ++ at e tok.End ∷ rest ≡ tokens.now
-        → walked.Answers (checked.one_block scope.old (formula_of test) (checked.check_block scope.old ss)) rest (walked.step_shown scope.new result) }
+        → walked.WalkAnswers (checked.one_block scope.old (expr_tree test) (checked.check_block scope.old ss)) rest (walked.step_shown scope.new result) }
     ensures two { (ss : syn.Statements) (e w o : ℕ) (rs : syn.Statements) (f : ℕ) (rest : List Placed) → syn.AreStatements ss → syn.AreStatements rs
         → syn.statements_tokens ss ++ at e tok.End ∷ at w tok.Else ∷ at o tok.Begin ∷ (syn.statements_tokens rs ++ at f tok.End ∷ rest) ≡ tokens.now
-        → walked.Answers (checked.two_blocks scope.old (formula_of test) (checked.check_block scope.old ss) (checked.check_block scope.old rs)) rest (walked.step_shown scope.new result) }
+        → walked.WalkAnswers (checked.two_blocks scope.old (expr_tree test) (checked.check_block scope.old ss) (checked.check_block scope.old rs)) rest (walked.step_shown scope.new result) }
 {
     let (then, rest) = block(alloc, scope, tokens)?;
     match after_else(rest) {

@@ -4,12 +4,12 @@ ghost use Rattle.std.specs.Prelude.{◌≡◌, ◌<◌, ◌≤◌, ℕ, List, []
 ghost use Rattle.dt_syntax.specs.declared.token.Placed.{Placed};
 ghost use Rattle.dt_syntax.specs.declared.token.Token.TheVariants as tok;
 ghost use Rattle.dt_syntax.specs.Grammar.{at, Bracketed, bracketed_tokens, Syntax, syntax_tokens, Links, links_tokens, IsLevel, AreLinks, level_of, minus, denial, makes_length, makes_text};
-ghost use Rattle.dt_proc.specs.Names.{meaning};
+ghost use Rattle.dt_proc.specs.Names.{meaning_in};
 ghost use Rattle.dt_proc.specs.Sound as sound;
-ghost use Rattle.dt_proc.specs.Checked.{after_ok};
-ghost use Rattle.dt_proc.specs.Checked as checked;
-ghost use Rattle.dt_proc.specs.Walked as walked;
-ghost use Rattle.dt_proc.specs.Shown.{formula_of};
+ghost use Rattle.dt_proc.specs.SecondPass.{after_ok};
+ghost use Rattle.dt_proc.specs.SecondPass as checked;
+ghost use Rattle.dt_proc.specs.WalkInner as walked;
+ghost use Rattle.dt_proc.specs.TreeViews.{expr_tree};
 ghost use Rattle.dt_proc.specs.Tree as tree;
 
 use crate::builtin::binary;
@@ -66,7 +66,7 @@ pub(crate) fn key_in_brackets<'a>(
 ) -> Result<(u32, &'a [Placed]), ProcError>
     ensures shorter { IfOk result (λ r. length r.1.now < length tokens.now) }
     ensures right { (b : Bracketed) (rest : List Placed) → bracketed_tokens b ++ rest ≡ tokens.now
-        → walked.Answers (checked.key_of scope.now b) rest (walked.number_shown result) }
+        → walked.WalkAnswers (checked.key_of scope.now b) rest (walked.number_shown result) }
 {
     let (place, name, rest) = bracketed(tokens)?;
     match scope.meaning(name) {
@@ -87,7 +87,7 @@ pub(crate) fn expression<'a>(
     requires { level ≤ 6 }
     ensures shorter { IfOk result (λ r. length r.2.now < length tokens.now) }
     ensures right { (x : Syntax) (rest : List Placed) → IsLevel level x → walked.FrontStops level rest → syntax_tokens x ++ rest ≡ tokens.now
-        → walked.Answers (checked.check scope.now x) rest (walked.shown result) }
+        → walked.WalkAnswers (checked.check scope.now x) rest (walked.expr_shown result) }
 {
     if level >= 5 {
         return operand(alloc, scope, tokens, level);
@@ -109,7 +109,7 @@ fn links<'a>(
     requires { level < 5 }
     ensures shorter { IfOk result (λ r. length r.2.now ≤ length tokens.now) }
     ensures right { (ls : Links) (rest : List Placed) → AreLinks level ls → walked.FrontStops level rest → links_tokens ls ++ rest ≡ tokens.now
-        → walked.Answers (checked.check_links scope.now (formula_of left, sort) ls) rest (walked.shown result) }
+        → walked.WalkAnswers (checked.check_links scope.now (expr_tree left, sort) ls) rest (walked.expr_shown result) }
 {
     let Some((place, op, after)) = operator(tokens, level) else {
         return Ok((left, sort, tokens));
@@ -160,7 +160,7 @@ fn operand<'a>(
     requires high { level ≤ 6 }
     ensures shorter { IfOk result (λ r. length r.2.now < length tokens.now) }
     ensures right { (x : Syntax) (rest : List Placed) → IsLevel level x → walked.FrontStops level rest → syntax_tokens x ++ rest ≡ tokens.now
-        → walked.Answers (checked.check scope.now x) rest (walked.shown result) }
+        → walked.WalkAnswers (checked.check scope.now x) rest (walked.expr_shown result) }
 {
     let [first, rest @ ..] = tokens else {
         return Err(BROKEN);
@@ -190,7 +190,7 @@ fn variable<'a>(
     rest: &'a [Placed],
 ) -> Result<(Expr, Sort, &'a [Placed]), ProcError>
     ensures shorter { IfOk result (λ r. length r.2.now ≤ length rest.now) }
-    ensures right { walked.Answers (checked.as_variable place (meaning scope.now name.now)) rest.now (walked.shown result) }
+    ensures right { walked.WalkAnswers (checked.as_variable place (meaning_in scope.now name.now)) rest.now (walked.expr_shown result) }
 {
     match scope.meaning(name) {
         Meaning::Variable(number, sort) => Ok((Expr::Var(number), sort, rest)),
@@ -203,7 +203,7 @@ fn variable<'a>(
 fn int_of<'a>(scope: &Scope, tokens: &'a [Placed]) -> Result<(Expr, Sort, &'a [Placed]), ProcError>
     ensures shorter { IfOk result (λ r. length r.2.now < length tokens.now) }
     ensures right { (b : Bracketed) (rest : List Placed) → bracketed_tokens b ++ rest ≡ tokens.now
-        → walked.Answers (after_ok (checked.key_of scope.now b) (λ k. Ok (tree.number_of k, Sort.Int))) rest (walked.shown result) }
+        → walked.WalkAnswers (after_ok (checked.key_of scope.now b) (λ k. Ok (tree.number_of k, Sort.Int))) rest (walked.expr_shown result) }
 {
     match key_in_brackets(scope, tokens) {
         Ok((key, rest)) => Ok((Expr::IntOf(key), Sort::Int, rest)),
@@ -215,7 +215,7 @@ fn int_of<'a>(scope: &Scope, tokens: &'a [Placed]) -> Result<(Expr, Sort, &'a [P
 fn text_of<'a>(scope: &Scope, tokens: &'a [Placed]) -> Result<(Expr, Sort, &'a [Placed]), ProcError>
     ensures shorter { IfOk result (λ r. length r.2.now < length tokens.now) }
     ensures right { (b : Bracketed) (rest : List Placed) → bracketed_tokens b ++ rest ≡ tokens.now
-        → walked.Answers (after_ok (checked.key_of scope.now b) (λ k. Ok (tree.text_of k, Sort.Text))) rest (walked.shown result) }
+        → walked.WalkAnswers (after_ok (checked.key_of scope.now b) (λ k. Ok (tree.text_of k, Sort.Text))) rest (walked.expr_shown result) }
 {
     match key_in_brackets(scope, tokens) {
         Ok((key, rest)) => Ok((Expr::TextOf(key), Sort::Text, rest)),
@@ -230,7 +230,7 @@ fn presence_of<'a>(
 ) -> Result<(Expr, Sort, &'a [Placed]), ProcError>
     ensures shorter { IfOk result (λ r. length r.2.now < length tokens.now) }
     ensures right { (b : Bracketed) (rest : List Placed) → bracketed_tokens b ++ rest ≡ tokens.now
-        → walked.Answers (after_ok (checked.key_of scope.now b) (λ k. Ok (tree.has_value k, Sort.Bool))) rest (walked.shown result) }
+        → walked.WalkAnswers (after_ok (checked.key_of scope.now b) (λ k. Ok (tree.has_value k, Sort.Bool))) rest (walked.expr_shown result) }
 {
     match key_in_brackets(scope, tokens) {
         Ok((key, rest)) => Ok((Expr::Has(key), Sort::Bool, rest)),
@@ -247,7 +247,7 @@ fn inside<'a>(
 ) -> Result<(Expr, Sort, &'a [Placed]), ProcError>
     ensures shorter { IfOk result (λ r. length r.2.now < length tokens.now) }
     ensures right { (x : Syntax) (q : ℕ) (rest : List Placed) → IsLevel 0 x → syntax_tokens x ++ at q tok.Close ∷ rest ≡ tokens.now
-        → walked.Answers (checked.check scope.now x) rest (walked.shown result) }
+        → walked.WalkAnswers (checked.check scope.now x) rest (walked.expr_shown result) }
 {
     let (expr, sort, rest) = expression(alloc, scope, tokens, 0)?;
     Ok((expr, sort, after_one(rest)?))
@@ -264,7 +264,7 @@ fn length_of<'a>(
     ensures shorter { IfOk result (λ r. length r.2.now < length tokens.now) }
     ensures right { (o : ℕ) (x : Syntax) (q : ℕ) (rest : List Placed) → IsLevel 0 x
         → at o tok.Open ∷ (syntax_tokens x ++ at q tok.Close ∷ rest) ≡ tokens.now
-        → walked.Answers (after_ok (checked.check scope.now x) (checked.made_by makes_length place)) rest (walked.shown result) }
+        → walked.WalkAnswers (after_ok (checked.check scope.now x) (checked.made_by makes_length place)) rest (walked.expr_shown result) }
 {
     let (expr, sort, rest) = inside(alloc, scope, after_one(tokens)?)?;
     match sort {
@@ -285,7 +285,7 @@ fn shown<'a>(
     ensures shorter { IfOk result (λ r. length r.2.now < length tokens.now) }
     ensures right { (o : ℕ) (x : Syntax) (q : ℕ) (rest : List Placed) → IsLevel 0 x
         → at o tok.Open ∷ (syntax_tokens x ++ at q tok.Close ∷ rest) ≡ tokens.now
-        → walked.Answers (after_ok (checked.check scope.now x) (checked.made_by makes_text place)) rest (walked.shown result) }
+        → walked.WalkAnswers (after_ok (checked.check scope.now x) (checked.made_by makes_text place)) rest (walked.expr_shown result) }
 {
     let (expr, sort, rest) = inside(alloc, scope, after_one(tokens)?)?;
     match sort {
@@ -305,7 +305,7 @@ fn opposite<'a>(
 ) -> Result<(Expr, Sort, &'a [Placed]), ProcError>
     ensures shorter { IfOk result (λ r. length r.2.now < length tokens.now) }
     ensures right { (x : Syntax) (rest : List Placed) → IsLevel 6 x → walked.FrontStops 6 rest → syntax_tokens x ++ rest ≡ tokens.now
-        → walked.Answers (checked.check scope.now (denial place x)) rest (walked.shown result) }
+        → walked.WalkAnswers (checked.check scope.now (denial place x)) rest (walked.expr_shown result) }
 {
     let (expr, sort, rest) = expression(alloc, scope, tokens, 6)?;
     match sort {
@@ -325,7 +325,7 @@ fn negative<'a>(
 ) -> Result<(Expr, Sort, &'a [Placed]), ProcError>
     ensures shorter { IfOk result (λ r. length r.2.now < length tokens.now) }
     ensures right { (x : Syntax) (rest : List Placed) → IsLevel 6 x → walked.FrontStops 6 rest → syntax_tokens x ++ rest ≡ tokens.now
-        → walked.Answers (checked.check scope.now (minus place x)) rest (walked.shown result) }
+        → walked.WalkAnswers (checked.check scope.now (minus place x)) rest (walked.expr_shown result) }
 {
     let (expr, sort, rest) = expression(alloc, scope, tokens, 6)?;
     match sort {
@@ -337,7 +337,7 @@ fn negative<'a>(
 
 /// What an operator gives.
 fn given_by(op: Op) -> Sort
-    ensures { result ≡ sound.given_by op }
+    ensures { result ≡ sound.sort_given op }
 {
     match op {
         Op::Join => Sort::Text,

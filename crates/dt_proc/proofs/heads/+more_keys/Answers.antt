@@ -3,9 +3,9 @@ use Rattle.std.specs.List.{flat_map}
 use Rattle.std.proofs.lemmas.Result.{err_from_is_err_and}
 use Rattle.dt_syntax.specs.declared.token.Token.TheVariants as tok
 use Rattle.dt_syntax.specs.Grammar.{at, key_tokens}
-use Rattle.dt_proc.proofs.Walks.{told_right}
+use Rattle.dt_proc.proofs.ExprWalk.{told_right}
 use Rattle.dt_syntax.proofs.Callers.{cut_first, key_first, key_none}
-use Rattle.dt_proc.proofs.Listing.{keys_next, keys_fault, keys_end}
+use Rattle.dt_proc.proofs.HeadWalk.{keys_next, keys_fault, keys_end}
 use Rattle.dt_proc.proofs.heads.+more_keys.Goals as goal
 
 pub returns-in_err-rest-in-Read : goal.returns-in_err-rest-in-Read

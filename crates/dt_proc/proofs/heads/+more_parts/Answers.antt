@@ -5,8 +5,8 @@ use Rattle.dt_syntax.specs.declared.token.Token.TheVariants as tok
 use Rattle.dt_syntax.specs.declared.operator.Op.TheVariants as op
 use Rattle.dt_syntax.specs.Grammar.{at, part_tokens}
 use Rattle.dt_syntax.specs.FrontsInner.{joined_part}
-use Rattle.dt_proc.proofs.Walks.{told_right}
-use Rattle.dt_proc.proofs.Listing.{parts_told, parts_fault, parts_none}
+use Rattle.dt_proc.proofs.ExprWalk.{told_right}
+use Rattle.dt_proc.proofs.HeadWalk.{parts_told, parts_fault, parts_none}
 use Rattle.dt_syntax.proofs.Callers.{more_next, more_end, no_join_semicolon}
 use Rattle.dt_proc.proofs.heads.+more_parts.Goals as goal
 

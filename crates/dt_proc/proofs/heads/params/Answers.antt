@@ -3,10 +3,10 @@ use Rattle.std.specs.List.{flat_map}
 use Rattle.std.proofs.lemmas.Result.{err_from_is_err_and}
 use Rattle.dt_syntax.specs.declared.token.Token.TheVariants as tok
 use Rattle.dt_syntax.specs.Grammar.{at}
-use Rattle.dt_proc.specs.Checked.{check_param}
-use Rattle.dt_proc.specs.Walked.{Answers}
+use Rattle.dt_proc.specs.SecondPass.{check_param}
+use Rattle.dt_proc.specs.WalkInner.{WalkAnswers}
 use Rattle.dt_syntax.specs.FrontsInner.{comma_param}
-use Rattle.dt_proc.proofs.Listing.{params_first, params_first_fault, params_more_fault, params_told_is}
+use Rattle.dt_proc.proofs.HeadWalk.{params_first, params_first_fault, params_more_fault, params_told_is}
 use Rattle.dt_proc.proofs.heads.params.Goals as goal
 
 pub returns-in_err-rest : goal.returns-in_err-rest
@@ -15,7 +15,7 @@ returns-in_err-rest c = λ ps q rest e.
     let k = params_first ps q rest c.args.tokens.now e c.in_default.ensures.right in
     let told = c.in_err-rest.ensures.right k.one (flat_map comma_param k.more ++ at q tok.Close ∷ rest) k.cut in
     rw (p.1, p.2) (params_first_fault ps k.one k.more (flat_map comma_param k.more ++ at q tok.Close ∷ rest) rest _ k.is
-    (subst (λ s. Answers (check_param s k.one) (flat_map comma_param k.more ++ at q tok.Close ∷ rest) (Err c.in_err-rest.field-0.0)) c.new-scope.ensures told.0))
+    (subst (λ s. WalkAnswers (check_param s k.one) (flat_map comma_param k.more ++ at q tok.Close ∷ rest) (Err c.in_err-rest.field-0.0)) c.new-scope.ensures told.0))
 
 pub returns-in_err-rest-2 : goal.returns-in_err-rest-2
 returns-in_err-rest-2 c = λ ps q rest e.

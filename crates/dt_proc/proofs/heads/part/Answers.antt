@@ -1,6 +1,6 @@
 use Rattle.std.proofs.Common.{◌∙◌, ap}
-use Rattle.dt_proc.specs.Checked.{check_part}
-use Rattle.dt_proc.proofs.Walks.{told_right}
+use Rattle.dt_proc.specs.SecondPass.{check_part}
+use Rattle.dt_proc.proofs.ExprWalk.{told_right}
 use Rattle.dt_syntax.proofs.Callers.{cut_first, part_show}
 use Rattle.dt_proc.proofs.heads.part.Goals as goal
 

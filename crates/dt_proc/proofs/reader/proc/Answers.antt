@@ -6,8 +6,8 @@ use Rattle.dt_text.specs.Texts.{IsName}
 use Rattle.dt_syntax.specs.declared.token.Token.TheVariants as tok
 use Rattle.dt_proc.specs.Tree.{ProcTree}
 use Rattle.dt_syntax.specs.Grammar.{at, params_tokens, key_tokens, statements_tokens}
-use Rattle.dt_proc.specs.Walked.{Answers, keys_told}
-use Rattle.dt_proc.proofs.Procedures.{Free, proc_twice, proc_sound, params_first_fault, keys_first_fault, body_first_fault, proc_told}
+use Rattle.dt_proc.specs.WalkInner.{WalkAnswers, keys_told}
+use Rattle.dt_proc.proofs.ProcWalk.{Free, proc_twice, proc_sound, params_first_fault, keys_first_fault, body_first_fault, proc_told}
 use Rattle.dt_syntax.proofs.Callers.{proc_cut, proc_longer}
 use Rattle.dt_proc.proofs.reader.proc.Goals as goal
 
@@ -42,7 +42,7 @@ returns-in_err-rest-clause-right c = λ p rest h e.
     let ps = c.in_ok-scope.ensures p.params p.close_at keyed (sym opened) in
     let inside = statements_tokens p.body ++ at p.end_at tok.End ∷ rest in
     let ks = c.in_err-rest.ensures (p.key ∷ p.more_keys) p.begin_at inside (sym ps.1) in
-    let empty = subst (λ v. Answers (keys_told c.in_ok-scope.scope v (p.key ∷ p.more_keys)) inside (Err c.in_err-rest.field-0.0)) c.new-keys.ensures ks in
+    let empty = subst (λ v. WalkAnswers (keys_told c.in_ok-scope.scope v (p.key ∷ p.more_keys)) inside (Err c.in_err-rest.field-0.0)) c.new-keys.ensures ks in
     rw (r.1, r.2) (keys_first_fault c.args.before.now p (c.in_ok-scope.scope, c.in_ok-scope.kinds) inside rest _ free ps.0 empty)
 
 pub returns-in_err-body-clause-right : goal.returns-in_err-body-clause-right

@@ -1,6 +1,6 @@
 use Rattle.std.proofs.Common.{ap, sym, ◌∙◌, Ok, Err, length, subst}
 use Rattle.std.proofs.lemmas.Result.{err_from_is_err_and}
-use Rattle.dt_proc.proofs.Together.{Going, Right, starts, some_left, none_left, going_next, going_fault, going_end}
+use Rattle.dt_proc.proofs.ProcsWalk.{Going, Right, starts, some_left, none_left, going_next, going_fault, going_end}
 use Rattle.dt_proc.proofs.reader.procs.Goals as goal
 
 pub proc-requires : goal.proc-requires

@@ -1,5 +1,5 @@
 use Rattle.std.proofs.Common.{length}
-use Rattle.dt_proc.proofs.Together.{Going}
+use Rattle.dt_proc.proofs.ProcsWalk.{Going}
 use Rattle.dt_proc.proofs.reader.procs.Given as goal
 
 abbrev pub invariant-loop-rest : goal.invariant-loop-rest

@@ -1,6 +1,6 @@
 use Rattle.std.proofs.Common.{sym, subst}
-use Rattle.dt_proc.specs.Walked.{AreFewProcs}
-use Rattle.dt_proc.proofs.Together.{GivesAll, passed_few, outcome_second}
+use Rattle.dt_proc.specs.WalkInner.{AreFewProcs}
+use Rattle.dt_proc.proofs.ProcsWalk.{GivesAll, passed_few, outcome_second}
 use Rattle.dt_proc.proofs.reader.read_procs.Goals as goal
 
 pub procs-requires : goal.procs-requires

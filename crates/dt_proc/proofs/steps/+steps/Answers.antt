@@ -1,11 +1,11 @@
 use Rattle.std.proofs.Common.{◌∷◌, ◌++◌, ap, sym, ◌∙◌, refl, arith, Ok, ⊎_elim, take}
 use Rattle.std.proofs.lemmas.Result.{err_from_is_err_and}
 use Rattle.dt_syntax.specs.declared.token.Token.TheVariants as tok
-use Rattle.dt_proc.specs.Checked.{check_statement, check_block}
-use Rattle.dt_proc.specs.Shown.{step_of}
+use Rattle.dt_proc.specs.SecondPass.{check_statement, check_block}
+use Rattle.dt_proc.specs.TreeViews.{stmt_tree}
 use Rattle.dt_syntax.specs.Grammar.{at, statements_tokens}
-use Rattle.dt_proc.proofs.Walks.{told_right}
-use Rattle.dt_proc.proofs.Blocked.{not_ended, ended, step_told, step_fault, left_as_before}
+use Rattle.dt_proc.proofs.ExprWalk.{told_right}
+use Rattle.dt_proc.proofs.StatementWalk.{not_ended, ended, step_told, step_fault, left_as_before}
 use Rattle.dt_syntax.proofs.Callers.{step_when, some_statement, no_statement}
 use Rattle.dt_proc.proofs.steps.+steps.Goals as goal
 
@@ -63,7 +63,7 @@ block-steps-preserved t c = record {
       let n = not_ended c.args.scope.now c.steps.scope (check_block c.args.scope.now ss) c.steps.stmts c.steps.rest.now e rest c.steps-test.ensures before in
       let told = c.in_ok-stmt.ensures.right n.step (statements_tokens n.more ++ at e tok.End ∷ rest) n.good n.follows n.cut in
       step_told c.args.scope.now c.steps.scope c.step.new.scope (check_block c.args.scope.now ss) c.steps.stmts c.push.new.self c.steps.rest.now e rest
-      (step_of c.in_ok-stmt.stmt) c.in_ok-stmt.after.now before.4 n told.0 c.in_ok-push.ensures.added told.1;
+      (stmt_tree c.in_ok-stmt.stmt) c.in_ok-stmt.after.now before.4 n told.0 c.in_ok-push.ensures.added told.1;
 }
 
 pub block-returns-in_err-stmt-clause-right : goal.block-returns-in_err-stmt-clause-right

@@ -1,9 +1,9 @@
 use Rattle.std.proofs.Common.{◌≡◌, ℕ, ◌+◌, ◌*◌, ◌≤◌, List, ◌∷◌, ◌++◌, length}
 use Rattle.dt_syntax.specs.declared.token.Placed.{Placed}
 use Rattle.dt_syntax.specs.declared.token.Token.TheVariants as tok
-use Rattle.dt_proc.specs.Checked.{check_block}
+use Rattle.dt_proc.specs.SecondPass.{check_block}
 use Rattle.dt_syntax.specs.Grammar.{at, Statements, statements_tokens, AreStatements}
-use Rattle.dt_proc.proofs.Blocked.{StepsLeft}
+use Rattle.dt_proc.proofs.StatementWalk.{StepsLeft}
 use Rattle.dt_proc.proofs.steps.+steps.Given as goal
 
 abbrev pub decreases-block : goal.decreases-block

@@ -1,7 +1,7 @@
 use Rattle.std.proofs.Common.{◌∙◌, sym}
-use Rattle.dt_proc.proofs.Walks.{told_right}
+use Rattle.dt_proc.proofs.ExprWalk.{told_right}
 use Rattle.dt_syntax.proofs.Callers.{cut_first}
-use Rattle.dt_proc.proofs.Items.{item_row, item_value}
+use Rattle.dt_proc.proofs.ItemWalk.{item_row, item_value}
 use Rattle.dt_proc.proofs.steps.item.Goals as goal
 
 pub returns-in-Row-clause-right : goal.returns-in-Row-clause-right

@@ -1,10 +1,10 @@
 use Rattle.std.proofs.Common.{◌≡◌, ℕ, ◌<◌, List, ◌∷◌, ◌++◌, map, length}
 use Rattle.dt_syntax.specs.declared.token.Placed.{Placed}
 use Rattle.dt_syntax.specs.declared.token.Token.TheVariants as tok
-use Rattle.dt_proc.specs.Shown.{gift_of}
-use Rattle.dt_proc.specs.Checked.{check_all_items}
+use Rattle.dt_proc.specs.TreeViews.{give_tree}
+use Rattle.dt_proc.specs.SecondPass.{check_all_items}
 use Rattle.dt_syntax.specs.Grammar.{at, Item, IsItem, items_tokens}
-use Rattle.dt_proc.proofs.Items.{ItemsLeft}
+use Rattle.dt_proc.proofs.ItemWalk.{ItemsLeft}
 use Rattle.dt_syntax.proofs.Callers.{AreItems}
 use Rattle.dt_proc.proofs.steps.items.Given as goal
 
@@ -13,7 +13,7 @@ invariant-loop-after l = record {
   shorter : length l.rest < length l.tokens;
   right : (i : Item) (more : List (ℕ × Item)) (e : ℕ) (rest : List Placed) → IsItem i → AreItems more →
       items_tokens i more ++ at e tok.Semicolon ∷ rest ≡ l.tokens →
-      ItemsLeft l.scope (check_all_items l.scope i more) (map gift_of l.gives) l.rest e rest;
+      ItemsLeft l.scope (check_all_items l.scope i more) (map give_tree l.gives) l.rest e rest;
 }
 
 abbrev pub decreases-loop-after : goal.decreases-loop-after

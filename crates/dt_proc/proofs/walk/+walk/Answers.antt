@@ -2,11 +2,11 @@ use Rattle.std.proofs.Common.{inr, ap, sym, ◌∙◌, arith, Ok, refl, ◌++◌
 use Rattle.std.proofs.lemmas.Result.{err_from_is_err_and}
 use Rattle.dt_syntax.specs.declared.token.Token.TheVariants as tok
 use Rattle.dt_syntax.specs.Grammar.{syntax_tokens, links_tokens}
-use Rattle.dt_proc.specs.Checked.{check, check_links}
+use Rattle.dt_proc.specs.SecondPass.{check, check_links}
 use Rattle.dt_proc.specs.Tree as tree
 use Rattle.dt_proc.specs.declared.tree.Sort.TheVariants as sort
-use Rattle.dt_proc.specs.Shown.{formula_of}
-use Rattle.dt_proc.proofs.Walks.{ok_then, err_then, operand_when, told_is, told_right, no_operand, no_links, link_misfit, link_fits}
+use Rattle.dt_proc.specs.TreeViews.{expr_tree}
+use Rattle.dt_proc.proofs.ExprWalk.{ok_then, err_then, operand_when, told_is, told_right, no_operand, no_links, link_misfit, link_fits}
 use Rattle.dt_syntax.proofs.Callers.{chain_shape, links_stop, chain_cut, not_empty, link_first, six_stop}
 use Rattle.dt_proc.proofs.walk.+walk.Goals as goal
 
@@ -28,7 +28,7 @@ expression-returns-clause-right t c = λ x rest h stop e.
 
 pub links-returns-in_default-clause-right : goal.links-returns-in_default-clause-right
 links-returns-in_default-clause-right t c = λ ls rest h stop e.
-    no_links c.args.scope.now (formula_of c.args.left, c.args.sort) ls c.args.level rest c.args.tokens.now h e c.in_default.ensures.right
+    no_links c.args.scope.now (expr_tree c.args.left, c.args.sort) ls c.args.level rest c.args.tokens.now h e c.in_default.ensures.right
 
 pub operand-returns-in-Int-clause-right : goal.operand-returns-in-Int-clause-right
 operand-returns-in-Int-clause-right t c = λ x rest h stop e.
@@ -118,7 +118,7 @@ links-returns-then-not-fits-clause-right t c = λ ls rest h stop e.
     let found = c.in-Some.ensures.right in
     let k = link_first c.args.level c.in-Some.place c.in-Some.op c.in-Some.after.now ls rest c.args.tokens.now h stop found.1 found.0 e in
     let right = c.in_ok-right.ensures.right k.x (links_tokens k.more ++ rest) k.level (links_stop k.more c.args.level rest k.good stop) k.cut in
-    inr (link_misfit c.args.scope.now (formula_of c.args.left, c.args.sort) (formula_of c.in_ok-right.right, c.in_ok-right.other) c.in-Some.place c.in-Some.op k.x k.more ls k.is right.0 (sym c.if-not-fits.ensures))
+    inr (link_misfit c.args.scope.now (expr_tree c.args.left, c.args.sort) (expr_tree c.in_ok-right.right, c.in_ok-right.other) c.in-Some.place c.in-Some.op k.x k.more ls k.is right.0 (sym c.if-not-fits.ensures))
 
 pub links-returns-clause-right : goal.links-returns-clause-right
 links-returns-clause-right t c = λ ls rest h stop e.
@@ -126,6 +126,6 @@ links-returns-clause-right t c = λ ls rest h stop e.
     let k = link_first c.args.level c.in-Some.place c.in-Some.op c.in-Some.after.now ls rest c.args.tokens.now h stop found.1 found.0 e in
     let right = c.in_ok-right.ensures.right k.x (links_tokens k.more ++ rest) k.level (links_stop k.more c.args.level rest k.good stop) k.cut in
     told_right _ _ rest _
-    (link_fits c.args.scope.now (formula_of c.args.left, c.args.sort) (formula_of c.in_ok-right.right, c.in_ok-right.other) (formula_of c.in_ok-binary.field-0, c.gives.result)
+    (link_fits c.args.scope.now (expr_tree c.args.left, c.args.sort) (expr_tree c.in_ok-right.right, c.in_ok-right.other) (expr_tree c.in_ok-binary.field-0, c.gives.result)
     c.in-Some.place c.in-Some.op k.x k.more ls k.is right.0 (sym c.if-not-fits.ensures) (λ i. (c.in_ok-binary.ensures i, c.gives.ensures i)))
     (c.links.ensures.right k.more rest k.good stop (sym right.1))

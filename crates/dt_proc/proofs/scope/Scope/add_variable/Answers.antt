@@ -1,5 +1,5 @@
 use Rattle.std.proofs.Common.{◌≡◌, [], ◌∷◌, ◌++◌, length, length-append, ap, sym, ◌∙◌, subst, arith}
-use Rattle.dt_proc.specs.Numbered.{AreNumbers}
+use Rattle.dt_proc.specs.NumbersInner.{AreNumbers}
 use Rattle.dt_proc.proofs.scope.Scope.add_variable.Goals as goal
 
 pub invariant_of-self-2 : goal.invariant_of-self-2

@@ -8,7 +8,7 @@ use Rattle.dt_syntax.specs.contracts.kinds.Kind as kind
 use Rattle.dt_proc.specs.contracts.tree.KeyDecl as key
 use Rattle.dt_syntax.specs.declared.kinds.Kind.{Kind}
 use Rattle.dt_proc.specs.declared.tree.KeyDecl.{KeyDecl}
-use Rattle.dt_proc.specs.Tree.{Formula, number, text, truth, variable, number_of, text_of, has_value, length_of, shown, negative, opposite, binary, Gift, row, value, Step, let_new, set_row, clear_row, choose, abort_with, give_all, Block, done, then, ProcTree}
+use Rattle.dt_proc.specs.Tree.{ExprTree, number, text, truth, variable, number_of, text_of, has_value, length_of, shown, negative, opposite, binary, GiveTree, row, value, StmtTree, let_new, set_row, clear_row, choose, abort_with, give_all, BlockTree, done, then, ProcTree}
 
 abbrev tag : Gv → ℕ
 tag (gcons (gnum n) g) = n
@@ -25,7 +25,7 @@ front _ = gnil
 abbrev coded_bytes : Coded (List ℕ)
 coded_bytes = coded_list coded_ℕ
 
-abbrev formula_code : Formula → Gv
+abbrev formula_code : ExprTree → Gv
 formula_code (number z) = gcons (gnum 0) (coded_ℤ.code z)
 formula_code (text t) = gcons (gnum 1) (coded_bytes.code t)
 formula_code (truth b) = gcons (gnum 2) (coded_bool.code b)
@@ -39,7 +39,7 @@ formula_code (negative f) = gcons (gnum 9) (formula_code f)
 formula_code (opposite f) = gcons (gnum 10) (formula_code f)
 formula_code (binary o f g) = gcons (gnum 11) (gcons (op.the_row.coded.code o) (gcons (formula_code f) (formula_code g)))
 
-pub formula_inj : (x y : Formula) → formula_code x ≡ formula_code y → x ≡ y
+pub formula_inj : (x y : ExprTree) → formula_code x ≡ formula_code y → x ≡ y
 formula_inj (number z) (number w) e = ap number (coded_ℤ.inj z w (ap rest e))
 formula_inj (text t) (text u) e = ap text (coded_bytes.inj t u (ap rest e))
 formula_inj (truth b) (truth c) e = ap truth (coded_bool.inj b c (ap rest e))
@@ -56,23 +56,23 @@ formula_inj (binary o f g) (binary p h k) e =
     (formula_inj f h (ap (λ v. front (rest (rest v))) e) i) (formula_inj g k (ap (λ v. rest (rest (rest v))) e) i)
 formula_inj x y e = absurd (omega (arith, ap tag e))
 
-abbrev pub coded_formula : Coded Formula
+abbrev pub coded_formula : Coded ExprTree
 coded_formula = record { code = formula_code; inj = formula_inj }
 
-abbrev gift_code : Gift → Gv
+abbrev gift_code : GiveTree → Gv
 gift_code (row n) = gcons (gnum 0) (gnum n)
 gift_code (value f) = gcons (gnum 1) (formula_code f)
 
-pub gift_inj : (x y : Gift) → gift_code x ≡ gift_code y → x ≡ y
+pub gift_inj : (x y : GiveTree) → gift_code x ≡ gift_code y → x ≡ y
 gift_inj (row n) (row m) e = ap row (coded_ℕ.inj n m (ap rest e))
 gift_inj (value f) (value g) e = ap value (formula_inj f g (ap rest e))
 gift_inj x y e = absurd (omega (arith, ap tag e))
 
-abbrev coded_gifts : Coded (List Gift)
+abbrev coded_gifts : Coded (List GiveTree)
 coded_gifts = coded_list (record { code = gift_code; inj = gift_inj })
 
 abbrev mutual
-  step_code : Step → Gv
+  step_code : StmtTree → Gv
   step_code (let_new f) = gcons (gnum 0) (formula_code f)
   step_code (set_row n f) = gcons (gnum 1) (gcons (gnum n) (formula_code f))
   step_code (clear_row n) = gcons (gnum 2) (gnum n)
@@ -80,12 +80,12 @@ abbrev mutual
   step_code (abort_with t) = gcons (gnum 4) (coded_bytes.code t)
   step_code (give_all gs) = gcons (gnum 5) (coded_gifts.code gs)
 
-  block_code : Block → Gv
+  block_code : BlockTree → Gv
   block_code done = gcons (gnum 0) gnil
   block_code (then s b) = gcons (gnum 1) (gcons (step_code s) (block_code b))
 
 mutual
-  pub step_inj : (x y : Step) → step_code x ≡ step_code y → x ≡ y
+  pub step_inj : (x y : StmtTree) → step_code x ≡ step_code y → x ≡ y
   step_inj (let_new f) (let_new g) e = ap let_new (formula_inj f g (ap rest e))
   step_inj (set_row n f) (set_row m g) e =
       λ i. set_row (coded_ℕ.inj n m (ap (λ v. front (rest v)) e) i) (formula_inj f g (ap (λ v. rest (rest v)) e) i)
@@ -97,19 +97,19 @@ mutual
   step_inj (give_all gs) (give_all hs) e = ap give_all (coded_gifts.inj gs hs (ap rest e))
   step_inj x y e = absurd (omega (arith, ap tag e))
 
-  pub block_inj : (x y : Block) → block_code x ≡ block_code y → x ≡ y
+  pub block_inj : (x y : BlockTree) → block_code x ≡ block_code y → x ≡ y
   block_inj done done e = refl
   block_inj (then s a) (then t b) e =
       λ i. then (step_inj s t (ap (λ v. front (rest v)) e) i) (block_inj a b (ap (λ v. rest (rest v)) e) i)
   block_inj x y e = absurd (omega (arith, ap tag e))
 
-abbrev pub coded_block : Coded Block
+abbrev pub coded_block : Coded BlockTree
 coded_block = record { code = block_code; inj = block_inj }
 
 -- a procedure is stored as its fields
 abbrev pub coded_proc : Coded ProcTree
 coded_proc =
-    code_by (List ℕ × (List Kind × (List KeyDecl × Block)))
+    code_by (List ℕ × (List Kind × (List KeyDecl × BlockTree)))
     (coded× coded_bytes (coded× (coded_list kind.the_row.coded) (coded× (coded_list key.the_row.coded) coded_block)))
     (λ p. (p.name, (p.params, (p.keys, p.body))))
     (λ p. record { name = p.0; params = p.1.0; keys = p.1.1.0; body = p.1.1.1 }) (λ _. refl)

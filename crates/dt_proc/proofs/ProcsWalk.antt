@@ -11,19 +11,19 @@ use Rattle.dt_proc.specs.declared.error.ProcError.TheVariants as fault
 use Rattle.dt_proc.specs.declared.tree.KeyDecl.{KeyDecl}
 use Rattle.dt_proc.specs.Names.{Scope}
 use Rattle.dt_proc.specs.Tree.{ProcTree}
-use Rattle.dt_proc.specs.Sound.{IsSound, AreProcs as AreSoundProcs}
-use Rattle.dt_proc.specs.Checked.{Told, after_ok, check_params, check_keys, check_block, check_proc, check_procs}
-use Rattle.dt_syntax.specs.Grammar.{param_kinds, ProcSyntax, proc_tokens, procs_tokens, IsProc, AreProcs}
-use Rattle.dt_proc.specs.Walked.{Answers, Gives, StartsProc, AreFewProcs}
+use Rattle.dt_proc.specs.Sound.{IsSoundProc, AreProcs as AreSoundProcs}
+use Rattle.dt_proc.specs.SecondPass.{Checked, after_ok, check_params, check_keys, check_block, check_proc, check_procs}
+use Rattle.dt_syntax.specs.Grammar.{param_kinds, ProcSyntax, proc_tokens, procs_tokens, IsProc, AreProcSyntaxes}
+use Rattle.dt_proc.specs.WalkInner.{WalkAnswers, PassGives, StartsProc, AreFewProcs}
 use Rattle.dt_syntax.specs.Limits.{AllSound, IsSmall}
 use Rattle.std.proofs.lemmas.Bool.Decides.{nat_tests}
-use Rattle.dt_syntax.specs.FirstPass.{PassesFirst, AreFew, FirstFault}
+use Rattle.dt_syntax.specs.FirstPass.{PassesFirst, NoneTooMany, FirstFault}
 use Rattle.dt_syntax.specs.declared.error.SyntaxError.{SyntaxError}
 use Rattle.dt_syntax.specs.declared.error.SyntaxError.TheVariants as syntax
 use Rattle.dt_proc.specs.Outcome.{Outcome, SecondTells, told_first}
-use Rattle.dt_proc.proofs.Sorted.{Holds, holds_ok, holds_after, holds_cond}
+use Rattle.dt_proc.proofs.ExprSorts.{Holds, holds_ok, holds_after, holds_cond}
 use Rattle.dt_syntax.proofs.Callers.{sound_left, sound_right, text_sound, procs_small}
-use Rattle.dt_proc.proofs.Procedures.{Free}
+use Rattle.dt_proc.proofs.ProcWalk.{Free}
 use Rattle.dt_proc.proofs.Faults.{IsLate, late_procs}
 
 -- a procedure that is told has a new name, the one that is spelled
@@ -57,7 +57,7 @@ not_named (q ∷ before) n free (inr h) = not_named before n (rest (pointwise na
 -- what is left of the procedures: few enough, and each of the grammar
 pub record Left (made : ℕ) (ts : List Placed) : Type 0 where
   pub all : List ProcSyntax
-  pub good : AreProcs all
+  pub good : AreProcSyntaxes all
   pub small : AllIn IsSmall all
   pub few : made + length all ≤ 64
   pub sound : AllSound ts
@@ -66,16 +66,16 @@ pub record Left (made : ℕ) (ts : List Placed) : Type 0 where
 -- what is told of all, in terms of what was made and what is left
 abbrev pub ToldSoFar : List Placed → List ProcTree → List Placed → Type 0
 ToldSoFar tokens items rest =
-    (ps : List ProcSyntax) → AreProcs ps → procs_tokens ps ≡ tokens →
-    (qs : List ProcSyntax) × AreProcs qs × (procs_tokens qs ≡ rest) × (check_procs [] ps ≡ after_ok (check_procs items qs) (λ r. Ok (items ++ r)))
+    (ps : List ProcSyntax) → AreProcSyntaxes ps → procs_tokens ps ≡ tokens →
+    (qs : List ProcSyntax) × AreProcSyntaxes qs × (procs_tokens qs ≡ rest) × (check_procs [] ps ≡ after_ok (check_procs items qs) (λ r. Ok (items ++ r)))
 
 pub record Going (tokens : List Placed) (items : List ProcTree) (rest : List Placed) : Type 0 where
-  pub sound : AllIn IsSound items
+  pub sound : AllIn IsSoundProc items
   pub distinct : Distinct (map (λ p. p.name) items)
   pub left : Left (length items) rest
   pub told : ToldSoFar tokens items rest
 
-same_told : (t : Told (List ProcTree)) → t ≡ after_ok t (λ r. Ok ([] ++ r))
+same_told : (t : Checked (List ProcTree)) → t ≡ after_ok t (λ r. Ok ([] ++ r))
 same_told (Ok r) = refl
 same_told (Err e) = refl
 
@@ -91,21 +91,21 @@ going_start tokens h = record {
 pub starts : (made : ℕ) (ts : List Placed) → ¬ (ts ≡ []) → Left made ts → StartsProc ts
 starts made ts some l = first l.all l.good l.small l.cut
   where
-    first : (all : List ProcSyntax) → AreProcs all → AllIn IsSmall all → procs_tokens all ≡ ts → StartsProc ts
+    first : (all : List ProcSyntax) → AreProcSyntaxes all → AllIn IsSmall all → procs_tokens all ≡ ts → StartsProc ts
     first [] good small cut = absurd (some (sym cut))
     first (p ∷ ps) good small cut =
         record { one = p; rest = procs_tokens ps; good = good.0; small = small.0; sound = sound_left (proc_tokens p) (procs_tokens ps) (subst AllSound (sym cut) l.sound); cut = cut }
 
 -- the code's answer about the procedure that comes first
-abbrev pub Right : List ProcTree → List Placed → Told (ProcTree × List Placed) → Type 0
-Right before ts r = (p : ProcSyntax) (rest : List Placed) → IsProc p → proc_tokens p ++ rest ≡ ts → Answers (check_proc before p) rest r
+abbrev pub Right : List ProcTree → List Placed → Checked (ProcTree × List Placed) → Type 0
+Right before ts r = (p : ProcSyntax) (rest : List Placed) → IsProc p → proc_tokens p ++ rest ≡ ts → WalkAnswers (check_proc before p) rest r
 
 -- what is left after one more procedure
 next_left : (before : List ProcTree) (item : ProcTree) (ts after : List Placed) → ¬ (ts ≡ []) → Left (length before) ts → Right before ts (Ok (item, after)) →
     Left (length (before ++ item ∷ [])) after
 next_left before item ts after some l right = first l.all l.good l.small l.few l.cut
   where
-    first : (all : List ProcSyntax) → AreProcs all → AllIn IsSmall all → length before + length all ≤ 64 → procs_tokens all ≡ ts → Left (length (before ++ item ∷ [])) after
+    first : (all : List ProcSyntax) → AreProcSyntaxes all → AllIn IsSmall all → length before + length all ≤ 64 → procs_tokens all ≡ ts → Left (length (before ++ item ∷ [])) after
     first [] good small few cut = absurd (some (sym cut))
     first (p ∷ ps) good small few cut =
         let told = right p (procs_tokens ps) good.0 cut in
@@ -118,7 +118,7 @@ next_left before item ts after some l right = first l.all l.good l.small l.few l
           cut = sym told.1;
         }
 
-one_more : (t : Told (List ProcTree)) (before : List ProcTree) (item : ProcTree) →
+one_more : (t : Checked (List ProcTree)) (before : List ProcTree) (item : ProcTree) →
     after_ok (after_ok t (λ qs. Ok (item ∷ qs))) (λ r. Ok (before ++ r)) ≡ after_ok t (λ r. Ok ((before ++ item ∷ []) ++ r))
 one_more (Ok qs) before item = ap Ok (sym (append_assoc before (item ∷ []) qs))
 one_more (Err e) before item = refl
@@ -127,8 +127,8 @@ next_told : (tokens : List Placed) (before : List ProcTree) (item : ProcTree) (t
     ToldSoFar tokens (before ++ item ∷ []) after
 next_told tokens before item ts after some so right ps good cut = first (so ps good cut).0 (so ps good cut).1 (so ps good cut).2 (so ps good cut).3
   where
-    first : (qs : List ProcSyntax) → AreProcs qs → procs_tokens qs ≡ ts → check_procs [] ps ≡ after_ok (check_procs before qs) (λ r. Ok (before ++ r)) →
-        (us : List ProcSyntax) × AreProcs us × (procs_tokens us ≡ after) × (check_procs [] ps ≡ after_ok (check_procs (before ++ item ∷ []) us) (λ r. Ok ((before ++ item ∷ []) ++ r)))
+    first : (qs : List ProcSyntax) → AreProcSyntaxes qs → procs_tokens qs ≡ ts → check_procs [] ps ≡ after_ok (check_procs before qs) (λ r. Ok (before ++ r)) →
+        (us : List ProcSyntax) × AreProcSyntaxes us × (procs_tokens us ≡ after) × (check_procs [] ps ≡ after_ok (check_procs (before ++ item ∷ []) us) (λ r. Ok ((before ++ item ∷ []) ++ r)))
     first [] g c is = absurd (some (sym c))
     first (q ∷ qs) g c is =
         let told = right q (procs_tokens qs) g.0 c in (
@@ -139,7 +139,7 @@ next_told tokens before item ts after some so right ps good cut = first (so ps g
               ∙ one_more (check_procs (before ++ item ∷ []) qs) before item,
         )
 
-all_more : (xs : List ProcTree) (x : ProcTree) → AllIn IsSound xs → IsSound x → AllIn IsSound (xs ++ x ∷ [])
+all_more : (xs : List ProcTree) (x : ProcTree) → AllIn IsSoundProc xs → IsSoundProc x → AllIn IsSoundProc (xs ++ x ∷ [])
 all_more [] x h k = (k, tt)
 all_more (y ∷ xs) x h k = (h.0, all_more xs x h.1 k)
 
@@ -148,14 +148,14 @@ next_distinct : (before : List ProcTree) (item : ProcTree) (ts after : List Plac
 unfolding names
 next_distinct before item ts after some l d right = first l.all l.good l.cut
   where
-    first : (all : List ProcSyntax) → AreProcs all → procs_tokens all ≡ ts → Distinct (map (λ p. p.name) (before ++ item ∷ []))
+    first : (all : List ProcSyntax) → AreProcSyntaxes all → procs_tokens all ≡ ts → Distinct (map (λ p. p.name) (before ++ item ∷ []))
     first [] good cut = absurd (some (sym cut))
     first (p ∷ ps) good cut =
         let new = proc_new before p item (right p (procs_tokens ps) good.0 cut).0 in
         let other : ¬ (Has (names before) item.name) = subst (λ n. ¬ (Has (names before) n)) (sym new.1) (not_named before p.name new.0) in
         subst Distinct (sym (map-append (λ (p : ProcTree). p.name) before (item ∷ []))) (distinct_push (names before) item.name d other)
 
-pub going_next : (tokens : List Placed) (before : List ProcTree) (item : ProcTree) (ts after : List Placed) → ¬ (ts ≡ []) → Going tokens before ts → IsSound item →
+pub going_next : (tokens : List Placed) (before : List ProcTree) (item : ProcTree) (ts after : List Placed) → ¬ (ts ≡ []) → Going tokens before ts → IsSoundProc item →
     Right before ts (Ok (item, after)) → Going tokens (before ++ item ∷ []) after
 going_next tokens before item ts after some g fits right = record {
   sound = all_more before item g.sound fits;
@@ -166,7 +166,7 @@ going_next tokens before item ts after some g fits right = record {
 
 -- a fault of the procedure that comes first is the first fault of all
 pub going_fault : (tokens : List Placed) (before : List ProcTree) (ts : List Placed) (e : ProcError) → ¬ (ts ≡ []) → ToldSoFar tokens before ts → Right before ts (Err e) →
-    (ps : List ProcSyntax) → AreProcs ps → procs_tokens ps ≡ tokens → (e ≡ fault.NoMemory) ⊎ (check_procs [] ps ≡ Err e)
+    (ps : List ProcSyntax) → AreProcSyntaxes ps → procs_tokens ps ≡ tokens → (e ≡ fault.NoMemory) ⊎ (check_procs [] ps ≡ Err e)
 going_fault tokens before ts e some so right ps good cut = first (so ps good cut).0 (so ps good cut).1 (so ps good cut).2 (so ps good cut).3
   where
     told : (q : ProcSyntax) (qs : List ProcSyntax) → check_procs [] ps ≡ after_ok (check_procs before (q ∷ qs)) (λ r. Ok (before ++ r)) →
@@ -174,7 +174,7 @@ going_fault tokens before ts e some so right ps good cut = first (so ps good cut
     told q qs is (inl m) = inl m
     told q qs is (inr f) = inr (is ∙ ap (λ t. after_ok (after_ok t (λ i. after_ok (check_procs (before ++ i ∷ []) qs) (λ r. Ok (i ∷ r)))) (λ r. Ok (before ++ r))) f)
 
-    first : (qs : List ProcSyntax) → AreProcs qs → procs_tokens qs ≡ ts → check_procs [] ps ≡ after_ok (check_procs before qs) (λ r. Ok (before ++ r)) →
+    first : (qs : List ProcSyntax) → AreProcSyntaxes qs → procs_tokens qs ≡ ts → check_procs [] ps ≡ after_ok (check_procs before qs) (λ r. Ok (before ++ r)) →
         (e ≡ fault.NoMemory) ⊎ (check_procs [] ps ≡ Err e)
     first [] g c is = absurd (some (sym c))
     first (q ∷ qs) g c is = told q qs is (right q (procs_tokens qs) g.0 c)
@@ -183,7 +183,7 @@ no_proc : (p : ProcSyntax) (ts : List Placed) → proc_tokens p ++ ts ≡ [] →
 no_proc p ts e = cc
 
 pub going_end : (tokens : List Placed) (items : List ProcTree) (ts : List Placed) → ts ≡ [] → ToldSoFar tokens items ts →
-    (ps : List ProcSyntax) → AreProcs ps → procs_tokens ps ≡ tokens → check_procs [] ps ≡ Ok items
+    (ps : List ProcSyntax) → AreProcSyntaxes ps → procs_tokens ps ≡ tokens → check_procs [] ps ≡ Ok items
 going_end tokens items ts none so ps good cut = first (so ps good cut).0 (so ps good cut).2 (so ps good cut).3
   where
     first : (qs : List ProcSyntax) → procs_tokens qs ≡ ts → check_procs [] ps ≡ after_ok (check_procs items qs) (λ r. Ok (items ++ r)) → check_procs [] ps ≡ Ok items
@@ -197,7 +197,7 @@ going_sound tokens items ts g = record { few = omega (arith, g.left.few); distin
 pub passed_few : (text : List ℕ) (tokens : List Placed) → PassesFirst text tokens → AreFewProcs tokens
 passed_few text tokens h =
     let ps = h.grammar.0 in
-    let small = procs_small ps (subst (AreFew []) (sym h.grammar.2) h.few) in
+    let small = procs_small ps (subst (NoneTooMany []) (sym h.grammar.2) h.few) in
     record {
       all = ps;
       good = h.grammar.1;
@@ -207,7 +207,7 @@ passed_few text tokens h =
       cut = h.grammar.2;
     }
 
-tells : (text : List ℕ) (tokens : List Placed) (told : Told (List ProcTree)) → PassesFirst text tokens → ((ps : List ProcSyntax) → AreProcs ps → procs_tokens ps ≡ tokens → check_procs [] ps ≡ told) →
+tells : (text : List ℕ) (tokens : List Placed) (told : Checked (List ProcTree)) → PassesFirst text tokens → ((ps : List ProcSyntax) → AreProcSyntaxes ps → procs_tokens ps ≡ tokens → check_procs [] ps ≡ told) →
     SecondTells text told
 tells text tokens told h is = record {
   tokens = tokens;
@@ -226,15 +226,15 @@ second_outcome text (fault.Syntax p) h s = absurd h
 second_outcome text (fault.TooMany p) h s = absurd h
 second_outcome text fault.NoMemory h s = absurd h
 
-abbrev pub GivesAll : List Placed → Told (List ProcTree) → Type 0
-GivesAll tokens r = (ps : List ProcSyntax) → AreProcs ps → procs_tokens ps ≡ tokens → Gives (check_procs [] ps) r
+abbrev pub GivesAll : List Placed → Checked (List ProcTree) → Type 0
+GivesAll tokens r = (ps : List ProcSyntax) → AreProcSyntaxes ps → procs_tokens ps ≡ tokens → PassGives (check_procs [] ps) r
 
 -- what the second pass gives is the outcome of a text that the first pass lets through
-pub outcome_second : (text : List ℕ) (tokens : List Placed) (r : Told (List ProcTree)) → PassesFirst text tokens → GivesAll tokens r → (r ≡ Err fault.NoMemory) ⊎ Outcome text r
+pub outcome_second : (text : List ℕ) (tokens : List Placed) (r : Checked (List ProcTree)) → PassesFirst text tokens → GivesAll tokens r → (r ≡ Err fault.NoMemory) ⊎ Outcome text r
 outcome_second text tokens (Ok procs) h g = inr (tells text tokens (Ok procs) h g)
 outcome_second text tokens (Err e) h g = chosen (g h.grammar.0 h.grammar.1 h.grammar.2)
   where
-    chosen : (e ≡ fault.NoMemory) ⊎ (check_procs [] h.grammar.0 ≡ Err e) → (◌≡◌ {A = Told (List ProcTree)} (Err e) (Err fault.NoMemory)) ⊎ Outcome text (Err e)
+    chosen : (e ≡ fault.NoMemory) ⊎ (check_procs [] h.grammar.0 ≡ Err e) → (◌≡◌ {A = Checked (List ProcTree)} (Err e) (Err fault.NoMemory)) ⊎ Outcome text (Err e)
     chosen (inl m) = inl (ap Err m)
     chosen (inr is) =
         inr (second_outcome text e (late_procs [] h.grammar.0 e is)
@@ -250,7 +250,7 @@ none_left (t ∷ ts) e = let none : length (t ∷ ts) ≡ 0 = grind (arith, nat_
 
 -- the first fault is the outcome
 pub outcome_first : (text : List ℕ) (s : SyntaxError) → FirstFault text s →
-    (◌≡◌ {A = Told (List ProcTree)} (Err (told_first s)) (Err fault.NoMemory)) ⊎ Outcome text (Err (told_first s))
+    (◌≡◌ {A = Checked (List ProcTree)} (Err (told_first s)) (Err fault.NoMemory)) ⊎ Outcome text (Err (told_first s))
 outcome_first text (syntax.Syntax p) h = inr h
 outcome_first text (syntax.TooMany p) h = inr h
 outcome_first text syntax.NoMemory h = inl refl

@@ -8,7 +8,7 @@ use Rattle.std.specs.BTreeMap.{BTreeMap, get, is_at, Updates, UpdatesBy}
 use Rattle.std.proofs.lemmas.Bool.Decides.{nat_tests}
 use Rattle.dt_proc.specs.declared.tree.Sort.{Sort}
 use Rattle.dt_proc.specs.Names.{entry_of}
-use Rattle.dt_proc.specs.Numbered.{AreNumbers, is_number}
+use Rattle.dt_proc.specs.NumbersInner.{AreNumbers, is_number}
 
 abbrev Variables : Type 0
 Variables = List (List ℕ × Sort)

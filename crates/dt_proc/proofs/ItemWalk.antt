@@ -5,11 +5,11 @@ use Rattle.dt_syntax.specs.declared.token.Token.TheVariants as tok
 use Rattle.dt_syntax.specs.declared.token.Placed.{Placed}
 use Rattle.dt_proc.specs.declared.error.ProcError.{ProcError}
 use Rattle.dt_proc.specs.Tree as tree
-use Rattle.dt_proc.specs.Tree.{Gift}
+use Rattle.dt_proc.specs.Tree.{GiveTree}
 use Rattle.dt_proc.specs.Names.{Scope}
-use Rattle.dt_proc.specs.Checked.{Told, after_ok, check, key_of, needs_stored, check_item, check_items, check_all_items}
+use Rattle.dt_proc.specs.SecondPass.{Checked, after_ok, check, key_of, needs_stored, check_item, check_items, check_all_items}
 use Rattle.dt_syntax.specs.Grammar.{front_place, at, Bracketed, bracketed_tokens, Syntax, syntax_tokens, IsLevel, Item, row_item, value_item, item_tokens, IsItem}
-use Rattle.dt_proc.specs.Walked.{Answers}
+use Rattle.dt_proc.specs.WalkInner.{WalkAnswers}
 use Rattle.dt_syntax.proofs.Callers.{head_is, tail_is, AreItems, front_token, next_item}
 
 -- an item that begins with `row`
@@ -34,22 +34,22 @@ item_value scope (value_item x) rest t ts e h other =
     (x, h, ap (λ p. after_ok (check scope x) (λ a. needs_stored p a (tree.value a.0))) place, e)
 
 -- what is left of the items, and what they add to those that were told
-abbrev pub ItemsLeft : Scope → Told (List Gift) → List Gift → List Placed → ℕ → List Placed → Type 0
+abbrev pub ItemsLeft : Scope → Checked (List GiveTree) → List GiveTree → List Placed → ℕ → List Placed → Type 0
 ItemsLeft scope told gifts left e rest =
     (more : List (ℕ × Item)) × AreItems more × (flat_map next_item more ++ at e tok.Semicolon ∷ rest ≡ left)
     × (told ≡ after_ok (check_items scope more) (λ gs. Ok (gifts ++ gs)))
 
-pub items_start : (scope : Scope) (i : Item) (more : List (ℕ × Item)) (g : Gift) (gifts : List Gift) → check_item scope i ≡ Ok g → gifts ≡ g ∷ [] →
+pub items_start : (scope : Scope) (i : Item) (more : List (ℕ × Item)) (g : GiveTree) (gifts : List GiveTree) → check_item scope i ≡ Ok g → gifts ≡ g ∷ [] →
     check_all_items scope i more ≡ after_ok (check_items scope more) (λ gs. Ok (gifts ++ gs))
 items_start scope i more g gifts told is = rw (told, is) refl
 
 -- one item more
-one_more : (told : Told (List Gift)) (gifts : List Gift) (g : Gift) →
+one_more : (told : Checked (List GiveTree)) (gifts : List GiveTree) (g : GiveTree) →
     after_ok (after_ok told (λ gs. Ok (g ∷ gs))) (λ gs. Ok (gifts ++ gs)) ≡ after_ok told (λ gs. Ok ((gifts ++ g ∷ []) ++ gs))
 one_more (Ok gs) gifts g = ap Ok (sym (append_assoc gifts (g ∷ []) gs))
 one_more (Err e) gifts g = refl
 
-pub record IsNext (scope : Scope) (told : Told (List Gift)) (gifts : List Gift) (after : List Placed) (e : ℕ) (rest : List Placed) : Type 0 where
+pub record IsNext (scope : Scope) (told : Checked (List GiveTree)) (gifts : List GiveTree) (after : List Placed) (e : ℕ) (rest : List Placed) : Type 0 where
   pub item : Item
   pub more : List (ℕ × Item)
   pub good : IsItem item
@@ -57,7 +57,7 @@ pub record IsNext (scope : Scope) (told : Told (List Gift)) (gifts : List Gift) 
   pub cut : item_tokens item ++ (flat_map next_item more ++ at e tok.Semicolon ∷ rest) ≡ after
   pub told_as : told ≡ after_ok (after_ok (check_item scope item) (λ g. after_ok (check_items scope more) (λ gs. Ok (g ∷ gs)))) (λ gs. Ok (gifts ++ gs))
 
-pub after_comma_next : (scope : Scope) (told : Told (List Gift)) (gifts : List Gift) (left : List Placed) (e : ℕ) (rest : List Placed) (p : ℕ) (after : List Placed) →
+pub after_comma_next : (scope : Scope) (told : Checked (List GiveTree)) (gifts : List GiveTree) (left : List Placed) (e : ℕ) (rest : List Placed) (p : ℕ) (after : List Placed) →
     at p tok.Comma ∷ after ≡ left → ItemsLeft scope told gifts left e rest → IsNext scope told gifts after e rest
 after_comma_next scope told gifts left e rest p after comma ([], good, cut, is) =
     absurd (differ (ap (λ v. v.token) (head_is _ _ _ _ (comma ∙ sym cut))))
@@ -75,21 +75,21 @@ after_comma_next scope told gifts left e rest p after comma (m ∷ more, good, c
       told_as = is;
     }
 
-pub told_next : (scope : Scope) (told : Told (List Gift)) (gifts : List Gift) (after : List Placed) (e : ℕ) (rest : List Placed) →
-    (n : IsNext scope told gifts after e rest) → (g : Gift) → check_item scope n.item ≡ Ok g →
+pub told_next : (scope : Scope) (told : Checked (List GiveTree)) (gifts : List GiveTree) (after : List Placed) (e : ℕ) (rest : List Placed) →
+    (n : IsNext scope told gifts after e rest) → (g : GiveTree) → check_item scope n.item ≡ Ok g →
     told ≡ after_ok (check_items scope n.more) (λ gs. Ok ((gifts ++ g ∷ []) ++ gs))
 told_next scope told gifts after e rest n g is =
     n.told_as ∙ ap (λ t. after_ok (after_ok t (λ v. after_ok (check_items scope n.more) (λ gs. Ok (v ∷ gs)))) (λ gs. Ok (gifts ++ gs))) is
     ∙ one_more (check_items scope n.more) gifts g
 
-pub told_fault : (scope : Scope) (told : Told (List Gift)) (gifts : List Gift) (after : List Placed) (e : ℕ) (rest left : List Placed) (f : ProcError) →
-    (n : IsNext scope told gifts after e rest) → Answers (check_item scope n.item) left (Err f) → Answers told rest (Err f)
+pub told_fault : (scope : Scope) (told : Checked (List GiveTree)) (gifts : List GiveTree) (after : List Placed) (e : ℕ) (rest left : List Placed) (f : ProcError) →
+    (n : IsNext scope told gifts after e rest) → WalkAnswers (check_item scope n.item) left (Err f) → WalkAnswers told rest (Err f)
 told_fault scope told gifts after e rest left f n (inl m) = inl m
 told_fault scope told gifts after e rest left f n (inr s) =
     inr (n.told_as ∙ ap (λ t. after_ok (after_ok t (λ v. after_ok (check_items scope n.more) (λ gs. Ok (v ∷ gs)))) (λ gs. Ok (gifts ++ gs))) s)
 
 -- where no comma comes first, no item is left
-pub items_end : (scope : Scope) (told : Told (List Gift)) (gifts : List Gift) (left : List Placed) (e : ℕ) (rest : List Placed) →
+pub items_end : (scope : Scope) (told : Checked (List GiveTree)) (gifts : List GiveTree) (left : List Placed) (e : ℕ) (rest : List Placed) →
     ((p : ℕ) (us : List Placed) → ¬ (at p tok.Comma ∷ us ≡ left)) → ItemsLeft scope told gifts left e rest →
     (told ≡ Ok gifts) × (at e tok.Semicolon ∷ rest ≡ left)
 items_end scope told gifts left e rest none ([], good, cut, is) = (is ∙ ap Ok (append-nil gifts), cut)

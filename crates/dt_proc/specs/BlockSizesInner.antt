@@ -5,9 +5,9 @@ use denote.Param.Weighed.{most}
 use Rattle.dt_proc.specs.declared.tree.Stmts.TheDeep.{deep-Stmt}
 use Rattle.dt_proc.specs.declared.tree.Stmt.{Stmt}
 use Rattle.dt_proc.specs.declared.tree.Stmt.TheVariants.{Let, Set, Clear, If, Abort, Give}
-use Rattle.dt_proc.specs.Shown.{step_of, block_of, step_size, block_size}
+use Rattle.dt_proc.specs.TreeViews.{stmt_tree, block_tree, step_size, block_size}
 
-pub deep_step : (s : Stmt) → deep-Stmt s ≤ step_size (step_of s)
+pub deep_step : (s : Stmt) → deep-Stmt s ≤ step_size (stmt_tree s)
 deep_step (Let e) = omega arith
 deep_step (Set k e) = omega arith
 deep_step (Clear k) = omega arith
@@ -15,6 +15,6 @@ deep_step (If e a b) = omega arith
 deep_step (Abort t) = omega arith
 deep_step (Give gs) = omega arith
 
-pub deep_block : (ss : List Stmt) → most deep-Stmt ss ≤ block_size (block_of ss)
+pub deep_block : (ss : List Stmt) → most deep-Stmt ss ≤ block_size (block_tree ss)
 deep_block [] = omega arith
 deep_block (s ∷ ss) = omega (arith, deep_step s, deep_block ss)

@@ -14,11 +14,11 @@ use Rattle.dt_syntax.specs.declared.token.Token.TheVariants as tok
 use Rattle.dt_proc.specs.declared.scope.Meaning.{Meaning}
 use Rattle.dt_proc.specs.declared.scope.Meaning.TheVariants.{Variable, Key, Unknown}
 use Rattle.dt_proc.specs.declared.error.ProcError.TheVariants as fault
-use Rattle.dt_proc.specs.Names.{Scope, meaning}
+use Rattle.dt_proc.specs.Names.{Scope, meaning_in}
 use Rattle.dt_proc.specs.Sound.{IsSoundItem, sort_of}
-use Rattle.dt_proc.specs.Checked.{after_ok, same_sort, as_new, as_param, with_variable, with_key, check_part, check_parts, check_key, check_keys, check_param, check_more_params, check_params}
+use Rattle.dt_proc.specs.SecondPass.{after_ok, same_sort, as_new, as_param, with_new_variable, with_new_key, check_part, check_parts, check_key, check_keys, check_param, check_more_params, check_params}
 use Rattle.dt_syntax.specs.Grammar.{param_kinds, at, Param, Params, no_param, params, KeyPart, text_part, name_part, show_part, part_tokens, KeySyntax, key_tokens}
-use Rattle.dt_proc.proofs.Sorted.{Holds, holds_ok, holds_after, holds_cond, sorts, writes, Means, means, same_is}
+use Rattle.dt_proc.proofs.ExprSorts.{Holds, holds_ok, holds_after, holds_cond, sorts, writes, Means, means, same_is}
 use Rattle.dt_syntax.proofs.Callers.{sound_left, sound_right}
 use Rattle.dt_syntax.specs.Limits.{AllSound}
 use Rattle.dt_syntax.specs.FrontsInner.{joined_part}
@@ -56,11 +56,11 @@ param_fits kinds scope p s k Unknown own only h = λ a e. absurd cc
 part_fits : (kinds : List Kind) (scope : Scope) (i : KeyPart) → HasParams kinds scope → AllSound (part_tokens i) → Holds (IsSoundItem kinds) (check_part scope i)
 part_fits kinds scope (text_part p t) own h = holds_ok (IsSoundItem kinds) (item.Text t) h.0
 part_fits kinds scope (name_part p n) own h =
-    holds_after (IsSoundItem kinds) (as_param p sort.Text (meaning scope n)) (λ k. Ok (item.Param k))
-    (λ k e. holds_ok (IsSoundItem kinds) (item.Param k) (param_fits kinds scope p sort.Text kind.Text (meaning scope n) own text_kind (means scope n) k e))
+    holds_after (IsSoundItem kinds) (as_param p sort.Text (meaning_in scope n)) (λ k. Ok (item.Param k))
+    (λ k e. holds_ok (IsSoundItem kinds) (item.Param k) (param_fits kinds scope p sort.Text kind.Text (meaning_in scope n) own text_kind (means scope n) k e))
 part_fits kinds scope (show_part p b) own h =
-    holds_after (IsSoundItem kinds) (as_param b.name_at sort.Int (meaning scope b.name)) (λ k. Ok (item.Show k))
-    (λ k e. holds_ok (IsSoundItem kinds) (item.Show k) (param_fits kinds scope b.name_at sort.Int kind.Int (meaning scope b.name) own int_kind (means scope b.name) k e))
+    holds_after (IsSoundItem kinds) (as_param b.name_at sort.Int (meaning_in scope b.name)) (λ k. Ok (item.Show k))
+    (λ k e. holds_ok (IsSoundItem kinds) (item.Show k) (param_fits kinds scope b.name_at sort.Int kind.Int (meaning_in scope b.name) own int_kind (means scope b.name) k e))
 
 abbrev FitItems : List Kind → List KeyItem → Type 0
 FitItems kinds is = AllIn (IsSoundItem kinds) is
@@ -86,7 +86,7 @@ key_makes : (kinds : List Kind) (scope : Scope) (k : KeySyntax) → HasParams ki
 key_makes kinds scope k own h =
     let parts = h.1.1.1 in
     let more = sound_right (part_tokens k.first) (flat_map joined_part k.more ++ at k.end_at tok.Semicolon ∷ []) parts in
-    holds_after {A = Unit {0}} (KeyMade kinds k) (as_new k.name_at (meaning scope k.name)) (λ _. after_ok (check_part scope k.first) (λ i.
+    holds_after {A = Unit {0}} (KeyMade kinds k) (as_new k.name_at (meaning_in scope k.name)) (λ _. after_ok (check_part scope k.first) (λ i.
     after_ok (check_parts scope k.more) (λ is. Ok (record { write = k.write; items = i ∷ is }))))
     (λ u g. holds_after (KeyMade kinds k) (check_part scope k.first) (λ i. after_ok (check_parts scope k.more) (λ is. Ok (record { write = k.write; items = i ∷ is })))
     (λ i e. holds_after (KeyMade kinds k) (check_parts scope k.more) (λ is. Ok (record { write = k.write; items = i ∷ is }))
@@ -106,7 +106,7 @@ KeysMade kinds scope n r =
 keys_none : (xs : List Bool) → xs ≡ xs ++ []
 keys_none xs = sym (append-nil xs)
 
-key_more : (scope : Scope) (k : KeySyntax) (d : KeyDecl) (ws after : List Bool) → d.write ≡ k.write → after ≡ writes (with_key scope k.name k.write) ++ ws → after ≡ writes scope ++ d.write ∷ ws
+key_more : (scope : Scope) (k : KeySyntax) (d : KeyDecl) (ws after : List Bool) → d.write ≡ k.write → after ≡ writes (with_new_key scope k.name k.write) ++ ws → after ≡ writes scope ++ d.write ∷ ws
 key_more scope k d ws after mode is =
     is ∙ ap (λ v. v ++ ws) (map-append (λ (e : List ℕ × Bool). e.1) scope.keys ((k.name, k.write) ∷ []))
     ∙ append_assoc (writes scope) (k.write ∷ []) ws ∙ ap (λ w. writes scope ++ w ∷ ws) (sym mode)
@@ -114,11 +114,11 @@ key_more scope k d ws after mode is =
 pub keys_make : (kinds : List Kind) (scope : Scope) (ks : List KeySyntax) → HasParams kinds scope → AllSound (flat_map key_tokens ks) → Holds (KeysMade kinds scope (length ks)) (check_keys scope ks)
 keys_make kinds scope [] own h = holds_ok (KeysMade kinds scope 0) ([], scope) (tt, keys_none (writes scope), own, refl)
 keys_make kinds scope (k ∷ ks) own h =
-    holds_after (KeysMade kinds scope (length (k ∷ ks))) (check_key scope k) (λ d. after_ok (check_keys (with_key scope k.name k.write) ks) (λ r. Ok (d ∷ r.0, r.1)))
-    (λ d e. holds_after (KeysMade kinds scope (length (k ∷ ks))) (check_keys (with_key scope k.name k.write) ks) (λ r. Ok (d ∷ r.0, r.1))
+    holds_after (KeysMade kinds scope (length (k ∷ ks))) (check_key scope k) (λ d. after_ok (check_keys (with_new_key scope k.name k.write) ks) (λ r. Ok (d ∷ r.0, r.1)))
+    (λ d e. holds_after (KeysMade kinds scope (length (k ∷ ks))) (check_keys (with_new_key scope k.name k.write) ks) (λ r. Ok (d ∷ r.0, r.1))
     (λ r f.
     let one = key_makes kinds scope k own (sound_left (key_tokens k) (flat_map key_tokens ks) h) d e in
-    let others = keys_make kinds (with_key scope k.name k.write) ks own (sound_right (key_tokens k) (flat_map key_tokens ks) h) r f in
+    let others = keys_make kinds (with_new_key scope k.name k.write) ks own (sound_right (key_tokens k) (flat_map key_tokens ks) h) r f in
     holds_ok (KeysMade kinds scope (length (k ∷ ks))) (d ∷ r.0, r.1)
     ((one.0, others.0), key_more scope k d (map (λ d. d.write) r.0) (writes r.1) one.1 others.1, others.2, ap suc others.3)))
 
@@ -128,8 +128,8 @@ ParamsMade kinds scope s = (sorts s ≡ sorts scope ++ map sort_of kinds) × (s.
 
 param_makes : (scope : Scope) (p : Param) → Holds (ParamsMade (p.kind ∷ []) scope) (check_param scope p)
 param_makes scope p =
-    holds_after {A = Unit {0}} (ParamsMade (p.kind ∷ []) scope) (as_new p.name_at (meaning scope p.name)) (λ _. Ok (with_variable scope p.name (sort_of p.kind)))
-    (λ u e. holds_ok (ParamsMade (p.kind ∷ []) scope) (with_variable scope p.name (sort_of p.kind))
+    holds_after {A = Unit {0}} (ParamsMade (p.kind ∷ []) scope) (as_new p.name_at (meaning_in scope p.name)) (λ _. Ok (with_new_variable scope p.name (sort_of p.kind)))
+    (λ u e. holds_ok (ParamsMade (p.kind ∷ []) scope) (with_new_variable scope p.name (sort_of p.kind))
     (map-append (λ (v : List ℕ × Sort). v.1) scope.variables ((p.name, sort_of p.kind) ∷ []), refl))
 
 params_join : (scope one last : Scope) (k : Kind) (kinds : List Kind) → ParamsMade (k ∷ []) scope one → ParamsMade kinds one last → ParamsMade (k ∷ kinds) scope last

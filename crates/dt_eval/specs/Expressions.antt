@@ -9,12 +9,12 @@ use Rattle.dt_text.specs.declared.Value.{Value}
 use Rattle.dt_text.specs.declared.Value.TheVariants as val
 use Rattle.dt_proc.specs.declared.tree.Op.{Op}
 use Rattle.dt_proc.specs.declared.tree.Op.TheVariants.{Or, And, Equal, Differ, Less, AtMost, More, AtLeast, Add, Sub, Join, Mul, Div, Rem}
-use Rattle.dt_proc.specs.Tree.{Formula, number, text, truth, variable, number_of, text_of, has_value, length_of, shown, negative, opposite, binary}
+use Rattle.dt_proc.specs.Tree.{ExprTree, number, text, truth, variable, number_of, text_of, has_value, length_of, shown, negative, opposite, binary}
 use Rattle.dt_eval.specs.declared.finish.Cause.{Cause}
 use Rattle.dt_eval.specs.declared.finish.Cause.TheVariants as cause
 use Rattle.dt_eval.specs.declared.state.Datum.{Datum}
 use Rattle.dt_eval.specs.declared.state.Datum.TheVariants.{Int, Text, Bool as Truth}
-use Rattle.dt_eval.specs.Data.{next}
+use Rattle.dt_eval.specs.Data.{unless_aborted}
 
 -- whether a number has 64 bits with a sign
 abbrev pub is_small : ℤ → Bool
@@ -113,9 +113,9 @@ byte_count (Text t) = Ok (Int (pos (length t)))
 byte_count _ = Err cause.Kind
 
 -- the printed form of a number
-abbrev pub printed : Datum → Result Datum Cause
-printed (Int z) = Ok (Text (signed_decimal z))
-printed _ = Err cause.Kind
+abbrev pub printed_datum : Datum → Result Datum Cause
+printed_datum (Int z) = Ok (Text (signed_decimal z))
+printed_datum _ = Err cause.Kind
 
 -- the number with the other sign
 abbrev pub negated : Datum → Result Datum Cause
@@ -129,17 +129,17 @@ other_truth _ = Err cause.Kind
 
 -- what an expression gives, or the cause of its abort, where these are the variables and `row` tells the value of the row of
 -- each declared key. Operands are evaluated from the left, and the right one only where the left one does not decide.
-abbrev pub value_of : List Datum → (ℕ → Option Value) → Formula → Result Datum Cause
-value_of variables row (number z) = Ok (Int z)
-value_of variables row (text t) = Ok (Text t)
-value_of variables row (truth b) = Ok (Truth b)
-value_of variables row (variable n) = variable_in (slice_get variables n)
-value_of variables row (number_of k) = number_in (row k)
-value_of variables row (text_of k) = text_in (row k)
-value_of variables row (has_value k) = Ok (Truth (is_some (row k)))
-value_of variables row (length_of f) = next (value_of variables row f) byte_count
-value_of variables row (shown f) = next (value_of variables row f) printed
-value_of variables row (negative f) = next (value_of variables row f) negated
-value_of variables row (opposite f) = next (value_of variables row f) other_truth
-value_of variables row (binary o f g) =
-    next (value_of variables row f) (λ a. cond (decides o a) (Ok a) (next (value_of variables row g) (operate o a)))
+abbrev pub evaluated : List Datum → (ℕ → Option Value) → ExprTree → Result Datum Cause
+evaluated variables row (number z) = Ok (Int z)
+evaluated variables row (text t) = Ok (Text t)
+evaluated variables row (truth b) = Ok (Truth b)
+evaluated variables row (variable n) = variable_in (slice_get variables n)
+evaluated variables row (number_of k) = number_in (row k)
+evaluated variables row (text_of k) = text_in (row k)
+evaluated variables row (has_value k) = Ok (Truth (is_some (row k)))
+evaluated variables row (length_of f) = unless_aborted (evaluated variables row f) byte_count
+evaluated variables row (shown f) = unless_aborted (evaluated variables row f) printed_datum
+evaluated variables row (negative f) = unless_aborted (evaluated variables row f) negated
+evaluated variables row (opposite f) = unless_aborted (evaluated variables row f) other_truth
+evaluated variables row (binary o f g) =
+    unless_aborted (evaluated variables row f) (λ a. cond (decides o a) (Ok a) (unless_aborted (evaluated variables row g) (operate o a)))

@@ -12,19 +12,19 @@ use Rattle.dt_proc.specs.declared.scope.Meaning.{Meaning}
 use Rattle.dt_proc.specs.declared.scope.Meaning.TheVariants.{Variable, Key, Unknown}
 use Rattle.dt_proc.specs.declared.error.ProcError.{ProcError}
 use Rattle.dt_proc.specs.declared.error.ProcError.TheVariants as fault
-use Rattle.dt_proc.specs.Names.{Scope, entry_of, meaning, as_entry, as_key_entry}
-use Rattle.dt_proc.specs.Sound.{Takes, given_by, HasSort, IsStored}
+use Rattle.dt_proc.specs.Names.{Scope, entry_of, meaning_in, as_entry, as_key_entry}
+use Rattle.dt_proc.specs.Sound.{TakesSort, sort_given, HasSort, IsStoredSort}
 use Rattle.dt_proc.specs.Tree as tree
-use Rattle.dt_proc.specs.Checked.{Told, Typed, after_ok, same_sort, needs, needs_stored, fits_both, combined, as_variable, as_key, as_written, key_of, read_by, made_by, check, check_links}
+use Rattle.dt_proc.specs.SecondPass.{Checked, Typed, after_ok, same_sort, needs, needs_stored, fits_both, combined, as_variable, as_key, as_written, key_of, read_by, made_by, check, check_links}
 use Rattle.dt_syntax.specs.Grammar.{at, Syntax, chain, minus, denial, int, text, truth, name, parens, of_key, made, Links, no_link, link, syntax_tokens, links_tokens, Reader, reads_int, reads_text, reads_presence, Maker, makes_length, makes_text}
 use Rattle.dt_syntax.specs.Limits.{AllSound}
 use Rattle.dt_syntax.proofs.Callers.{sound_left, sound_right}
 
 -- what is told has P
-abbrev pub Holds : {A : Type 0} → (A → Type 0) → Told A → Type 0
+abbrev pub Holds : {A : Type 0} → (A → Type 0) → Checked A → Type 0
 Holds {A} P told = (a : A) → told ≡ Ok a → P a
 
-value_of : {A : Type 0} → A → Told A → A
+value_of : {A : Type 0} → A → Checked A → A
 value_of other (Ok a) = a
 value_of other (Err e) = other
 
@@ -32,14 +32,14 @@ pub holds_ok : {A : Type 0} (P : A → Type 0) (a : A) → P a → Holds P (Ok a
 unfolding value_of
 holds_ok P a h b e = subst P (ap (value_of a) e) h
 
-pub holds_err : {A : Type 0} (P : A → Type 0) (told : Told A) (f : ProcError) → told ≡ Err f → Holds P told
+pub holds_err : {A : Type 0} (P : A → Type 0) (told : Checked A) (f : ProcError) → told ≡ Err f → Holds P told
 holds_err P told f e a is = absurd cc
 
-pub holds_after : {A B : Type 0} (P : B → Type 0) (told : Told A) (next : A → Told B) → ((a : A) → told ≡ Ok a → Holds P (next a)) → Holds P (after_ok told next)
+pub holds_after : {A B : Type 0} (P : B → Type 0) (told : Checked A) (next : A → Checked B) → ((a : A) → told ≡ Ok a → Holds P (next a)) → Holds P (after_ok told next)
 holds_after P (Ok a) next h = h a refl
 holds_after P (Err e) next h = λ b is. absurd cc
 
-pub holds_cond : {A : Type 0} (P : A → Type 0) (b : Bool) (t f : Told A) → (b ≡ true → Holds P t) → (b ≡ false → Holds P f) → Holds P (cond b t f)
+pub holds_cond : {A : Type 0} (P : A → Type 0) (b : Bool) (t f : Checked A) → (b ≡ true → Holds P t) → (b ≡ false → Holds P f) → Holds P (cond b t f)
 holds_cond P true t f h k = h refl
 holds_cond P false t f h k = k refl
 
@@ -78,7 +78,7 @@ Means scope (Variable n s) = slice_get (sorts scope) n ≡ Some s
 Means scope (Key k w) = slice_get (writes scope) k ≡ Some w
 Means scope Unknown = Unit {0}
 
-fits_sort : (o : Op) (s t : Sort) → fits_both o s t ≡ true → Takes o s × (t ≡ s)
+fits_sort : (o : Op) (s t : Sort) → fits_both o s t ≡ true → TakesSort o s × (t ≡ s)
 fits_sort op.Or sort.Int sort.Int e = absurd cc
 fits_sort op.Or sort.Text sort.Text e = absurd cc
 fits_sort op.Or sort.Bool sort.Bool e = (refl, refl)
@@ -136,7 +136,7 @@ entry_means : (scope : Scope) (o : Option (ℕ × Sort)) (m : Meaning) → ((r :
 entry_means scope None m h k = k
 entry_means scope (Some r) m h k = h r refl
 
-pub means : (scope : Scope) (n : List ℕ) → Means scope (meaning scope n)
+pub means : (scope : Scope) (n : List ℕ) → Means scope (meaning_in scope n)
 means scope n =
     entry_means scope (entry_of scope.variables n) (as_key_entry (entry_of scope.keys n)) (λ r e. entry_place scope.variables n r e)
     (key_means scope (entry_of scope.keys n) (λ r e. entry_place scope.keys n r e))
@@ -152,7 +152,7 @@ same_is sort.Text sort.Bool e = absurd cc
 same_is sort.Bool sort.Int e = absurd cc
 same_is sort.Bool sort.Text e = absurd cc
 
-pub not_truth : (s : Sort) → same_sort s sort.Bool ≡ false → IsStored s
+pub not_truth : (s : Sort) → same_sort s sort.Bool ≡ false → IsStoredSort s
 not_truth sort.Int e = inl refl
 not_truth sort.Text e = inr refl
 not_truth sort.Bool e = absurd cc
@@ -185,7 +185,7 @@ reader_fits scope reads_presence k h = (refl, h)
 pub needs_fits : {A : Type 0} (P : A → Type 0) (p : ℕ) (s : Sort) (a : Typed) (r : A) → (a.1 ≡ s → P r) → Holds P (needs p s a r)
 needs_fits P p s a r h = holds_cond P (same_sort a.1 s) (Ok r) (Err (fault.Kind p)) (λ e. holds_ok P r (h (same_is a.1 s e))) (λ e b is. absurd cc)
 
-pub stored_fits : {A : Type 0} (P : A → Type 0) (p : ℕ) (a : Typed) (r : A) → (IsStored a.1 → P r) → Holds P (needs_stored p a r)
+pub stored_fits : {A : Type 0} (P : A → Type 0) (p : ℕ) (a : Typed) (r : A) → (IsStoredSort a.1 → P r) → Holds P (needs_stored p a r)
 stored_fits P p a r h = holds_cond P (same_sort a.1 sort.Bool) (Err (fault.Kind p)) (Ok r) (λ e b is. absurd cc) (λ e. holds_ok P r (h (not_truth a.1 e)))
 
 maker_fits : (scope : Scope) (m : Maker) (p : ℕ) (a : Typed) → Fits scope a → Holds (Fits scope) (made_by m p a)
@@ -196,8 +196,8 @@ maker_fits scope makes_text p a h =
 
 combined_fits : (scope : Scope) (p : ℕ) (o : Op) (a b : Typed) → Fits scope a → Fits scope b → Holds (Fits scope) (combined p o a b)
 combined_fits scope p o a b h k =
-    holds_cond (Fits scope) (fits_both o a.1 b.1) (Ok (tree.binary o a.0 b.0, given_by o)) (Err (fault.Kind p))
-    (λ e. let f = fits_sort o a.1 b.1 e in holds_ok (Fits scope) (tree.binary o a.0 b.0, given_by o)
+    holds_cond (Fits scope) (fits_both o a.1 b.1) (Ok (tree.binary o a.0 b.0, sort_given o)) (Err (fault.Kind p))
+    (λ e. let f = fits_sort o a.1 b.1 e in holds_ok (Fits scope) (tree.binary o a.0 b.0, sort_given o)
     (a.1, f.0, h, subst (λ s. HasSort (sorts scope) (length (writes scope)) b.0 s) f.1 k, refl))
     (λ e c is. absurd cc)
 
@@ -217,11 +217,11 @@ mutual
   check_fits scope (int p z) h = holds_ok (Fits scope) (tree.number z, sort.Int) (refl, h.0)
   check_fits scope (text p t) h = holds_ok (Fits scope) (tree.text t, sort.Text) (refl, h.0)
   check_fits scope (truth p b) h = holds_ok (Fits scope) (tree.truth b, sort.Bool) refl
-  check_fits scope (name p n) h = variable_fits scope p (meaning scope n) (means scope n)
+  check_fits scope (name p n) h = variable_fits scope p (meaning_in scope n) (means scope n)
   check_fits scope (parens p x q) h = check_fits scope x (sound_left (syntax_tokens x) (at q tok.Close ∷ []) h.1)
   check_fits scope (of_key p r b) h =
       holds_after (Fits scope) (key_of scope b) (λ k. Ok (read_by r k))
-      (λ k e. holds_ok (Fits scope) (read_by r k) (reader_fits scope r k (key_fits scope b.name_at (meaning scope b.name) (means scope b.name) k e)))
+      (λ k e. holds_ok (Fits scope) (read_by r k) (reader_fits scope r k (key_fits scope b.name_at (meaning_in scope b.name) (means scope b.name) k e)))
   check_fits scope (made p m o x q) h =
       holds_after (Fits scope) (check scope x) (made_by m p)
       (λ a e. maker_fits scope m p a (check_fits scope x (sound_left (syntax_tokens x) (at q tok.Close ∷ []) h.1.1) a e))

@@ -9,20 +9,20 @@ use Rattle.dt_syntax.specs.declared.operator.Op.TheVariants as op
 use Rattle.dt_proc.specs.declared.tree.Sort.TheVariants as sort
 use Rattle.dt_proc.specs.declared.error.ProcError.{ProcError}
 use Rattle.dt_proc.specs.declared.error.ProcError.TheVariants as fault
-use Rattle.dt_proc.specs.Sound.{given_by}
+use Rattle.dt_proc.specs.Sound.{sort_given}
 use Rattle.dt_proc.specs.Tree as tree
-use Rattle.dt_proc.specs.Names.{Scope, meaning}
-use Rattle.dt_proc.specs.Checked.{Told, Typed, after_ok, check, check_links, as_variable, key_of, made_by, fits_both}
-use Rattle.dt_proc.specs.Walked.{Answers}
+use Rattle.dt_proc.specs.Names.{Scope, meaning_in}
+use Rattle.dt_proc.specs.SecondPass.{Checked, Typed, after_ok, check, check_links, as_variable, key_of, made_by, fits_both}
+use Rattle.dt_proc.specs.WalkInner.{WalkAnswers}
 use Rattle.dt_syntax.specs.Grammar.{at, Bracketed, bracketed_tokens, Syntax, chain, minus, denial, int, text, truth, name, parens, of_key, made, Links, no_link, link, syntax_tokens, links_tokens, level_of, IsLevel, AreLinks, reads_int, reads_text, reads_presence, makes_length, makes_text}
 use Rattle.dt_syntax.proofs.Callers.{cut_first, head_is, inner, left_of, tail_is}
 
-pub ok_then : {A B : Type 0} (told : Told A) (a : A) (next : A → Told B) (rest : List Placed) (r : Told (B × List Placed)) →
-    told ≡ Ok a → Answers (next a) rest r → Answers (after_ok told next) rest r
-ok_then told a next rest r e h = subst (λ t. Answers (after_ok t next) rest r) (sym e) h
+pub ok_then : {A B : Type 0} (told : Checked A) (a : A) (next : A → Checked B) (rest : List Placed) (r : Checked (B × List Placed)) →
+    told ≡ Ok a → WalkAnswers (next a) rest r → WalkAnswers (after_ok told next) rest r
+ok_then told a next rest r e h = subst (λ t. WalkAnswers (after_ok t next) rest r) (sym e) h
 
-pub err_then : {A B : Type 0} (told : Told A) (next : A → Told B) (before rest : List Placed) (e : ProcError) →
-    Answers told before (Err e) → Answers (after_ok told next) rest (Err e)
+pub err_then : {A B : Type 0} (told : Checked A) (next : A → Checked B) (before rest : List Placed) (e : ProcError) →
+    WalkAnswers told before (Err e) → WalkAnswers (after_ok told next) rest (Err e)
 err_then told next before rest e (inl m) = inl m
 err_then told next before rest e (inr s) = inr (ap (λ t. after_ok t next) s)
 
@@ -31,7 +31,7 @@ abbrev pub Shape : ℕ → Scope → Token → ℕ → List Placed → Syntax �
 Shape n scope (tok.Int z) p ts x rest = (check scope x ≡ Ok (tree.number z, sort.Int)) × (ts ≡ rest)
 Shape n scope (tok.Text t) p ts x rest = (check scope x ≡ Ok (tree.text t, sort.Text)) × (ts ≡ rest)
 Shape n scope (tok.Truth b) p ts x rest = (check scope x ≡ Ok (tree.truth b, sort.Bool)) × (ts ≡ rest)
-Shape n scope (tok.Name m) p ts x rest = (check scope x ≡ as_variable p (meaning scope m)) × (ts ≡ rest)
+Shape n scope (tok.Name m) p ts x rest = (check scope x ≡ as_variable p (meaning_in scope m)) × (ts ≡ rest)
 Shape n scope tok.IntWord p ts x rest =
     (b : Bracketed) × (check scope x ≡ after_ok (key_of scope b) (λ k. Ok (tree.number_of k, sort.Int))) × (bracketed_tokens b ++ rest ≡ ts)
 Shape n scope tok.TextWord p ts x rest =
@@ -92,12 +92,12 @@ operand_when n scope x rest ts first k low h some is e same =
     subst (λ t. Shape n scope t first.place (left_of ts) x rest) same
     (operand_shape n scope x rest first (left_of ts) low h (e ∙ cut_first ts first some is))
 
-pub told_is : {A : Type 0} (told other : Told A) (left rest : List Placed) (r : Told (A × List Placed)) → told ≡ other → left ≡ rest →
-    Answers other left r → Answers told rest r
-told_is told other left rest r same is h = subst (λ v. Answers told v r) is (subst (λ v. Answers v left r) (sym same) h)
+pub told_is : {A : Type 0} (told other : Checked A) (left rest : List Placed) (r : Checked (A × List Placed)) → told ≡ other → left ≡ rest →
+    WalkAnswers other left r → WalkAnswers told rest r
+told_is told other left rest r same is h = subst (λ v. WalkAnswers told v r) is (subst (λ v. WalkAnswers v left r) (sym same) h)
 
-pub told_right : {A : Type 0} (told other : Told A) (rest : List Placed) (r : Told (A × List Placed)) → told ≡ other → Answers other rest r → Answers told rest r
-told_right told other rest r same h = subst (λ v. Answers v rest r) (sym same) h
+pub told_right : {A : Type 0} (told other : Checked A) (rest : List Placed) (r : Checked (A × List Placed)) → told ≡ other → WalkAnswers other rest r → WalkAnswers told rest r
+told_right told other rest r same h = subst (λ v. WalkAnswers v rest r) (sym same) h
 
 pub no_operand : (n : ℕ) (scope : Scope) (k : Token) (p : ℕ) (ts : List Placed) (x : Syntax) (rest : List Placed) →
     ((v : List ℕ) → ¬ (k ≡ tok.Name v)) → ((v : ℤ) → ¬ (k ≡ tok.Int v)) → ((v : List ℕ) → ¬ (k ≡ tok.Text v)) → ((v : Op) → ¬ (k ≡ tok.Op v)) →
@@ -128,5 +128,5 @@ pub link_misfit : (scope : Scope) (a b : Typed) (p : ℕ) (o : Op) (x : Syntax) 
 link_misfit scope a b p o x more ls is told misfit = rw (is, told, misfit) refl
 
 pub link_fits : (scope : Scope) (a b c : Typed) (p : ℕ) (o : Op) (x : Syntax) (more ls : Links) → ls ≡ link p o x more → check scope x ≡ Ok b →
-    fits_both o a.1 b.1 ≡ true → c ≡ (tree.binary o a.0 b.0, given_by o) → check_links scope a ls ≡ check_links scope c more
+    fits_both o a.1 b.1 ≡ true → c ≡ (tree.binary o a.0 b.0, sort_given o) → check_links scope a ls ≡ check_links scope c more
 link_fits scope a b c p o x more ls is told fits same = rw (is, told, fits) (ap (λ v. check_links scope v more) (sym same))
