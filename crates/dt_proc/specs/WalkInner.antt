@@ -1,5 +1,5 @@
 -- What a walk over tokens answers, in terms of the syntax trees that the tokens spell.
-use Rattle.std.specs.Prelude.{◌≡◌, ◌⊎◌, ℕ, ◌<◌, ◌≤◌, length, FitsSigned, List, [], ◌∷◌, ◌++◌, Bool, true, MatchBool, map, Result, Ok, Err, Option, Some, None}
+use Rattle.std.specs.Prelude.{◌≡◌, ◌⊎◌, ℕ, ◌+◌, ◌<◌, ◌≤◌, ◌^◌, length, FitsSigned, List, [], ◌∷◌, ◌++◌, Bool, true, MatchBool, map, Result, Ok, Err, Option, Some, None}
 use Rattle.dt_syntax.specs.declared.token.Token.{Token}
 use Rattle.dt_syntax.specs.declared.token.Token.TheVariants as tok
 use Rattle.dt_syntax.specs.declared.token.Placed.{Placed}
@@ -131,3 +131,12 @@ pub record AreFewProcs (ts : List Placed) : Type 0 where
 abbrev pub PassGives : {A : Type 0} → Checked A → Checked A → Type 0
 PassGives told (Ok a) = told ≡ Ok a
 PassGives told (Err e) = (e ≡ fault.NoMemory) ⊎ (told ≡ Err e)
+
+-- what is visible and the tokens that are left are few enough together: each name that a token makes visible has its number in 32 bits
+abbrev pub HasRoom : Scope → List Placed → Type 0
+HasRoom scope tokens = length scope.variables + length scope.keys + length tokens < 2 ^ 32
+
+-- as much room is left
+abbrev pub KeepsRoom : Scope → List Placed → Scope → List Placed → Type 0
+KeepsRoom old before new after =
+    length new.variables + length new.keys + length after ≤ length old.variables + length old.keys + length before

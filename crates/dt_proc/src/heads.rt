@@ -1,6 +1,6 @@
 //! The second pass over parameters and keys.
 
-ghost use Rattle.std.specs.Prelude.{◌≡◌, ◌<◌, ◌≤◌, ℕ, List, [], ◌∷◌, ◌++◌, length, map, IfOk, IfSome, OnOk, Ok, MatchResult};
+ghost use Rattle.std.specs.Prelude.{◌≡◌, ◌<◌, ◌≤◌, ◌^◌, ℕ, List, [], ◌∷◌, ◌++◌, length, map, IfOk, IfSome, OnOk, Ok, MatchResult};
 ghost use Rattle.std.specs.List.{flat_map};
 ghost use Rattle.dt_syntax.specs.declared.token.Placed.{Placed};
 ghost use Rattle.dt_syntax.specs.declared.token.Token.TheVariants as tok;
@@ -56,7 +56,9 @@ fn param<'a>(
     kinds: &mut Listed<Kind>,
     tokens: &'a [Placed],
 ) -> Result<&'a [Placed], ProcError>
+    requires room { walked.HasRoom scope.old tokens.now }
     ensures shorter { IfOk result (λ r. length r.now < length tokens.now) }
+    ensures room { IfOk result (λ r. walked.KeepsRoom scope.old tokens.now scope.new r.now) }
     ensures right { (p : syn.Param) (rest : List Placed) → syn.param_tokens p ++ rest ≡ tokens.now
         → walked.WalkAnswers (checked.check_param scope.old p) rest (walked.left_with scope.new result) × OnOk result (kinds.new ≡ kinds.old ++ p.kind ∷ []) }
 {
@@ -77,7 +79,9 @@ fn more_params<'a>(
     kinds: &mut Listed<Kind>,
     tokens: &'a [Placed],
 ) -> Result<&'a [Placed], ProcError>
+    requires room { walked.HasRoom scope.old tokens.now }
     ensures shorter { IfOk result (λ r. length r.now < length tokens.now) }
+    ensures room { IfOk result (λ r. walked.KeepsRoom scope.old tokens.now scope.new r.now) }
     ensures right { (more : List (ℕ × syn.Param)) (q : ℕ) (rest : List Placed) → flat_map walked.comma_param more ++ at q tok.Close ∷ rest ≡ tokens.now
         → walked.WalkAnswers (checked.check_more_params scope.old more) rest (walked.left_with scope.new result)
         × OnOk result (kinds.new ≡ kinds.old ++ map (λ m. m.1.kind) more) }
@@ -197,7 +201,9 @@ fn key<'a>(
     write: bool,
     tokens: &'a [Placed],
 ) -> Result<&'a [Placed], ProcError>
+    requires room { walked.HasRoom scope.old tokens.now }
     ensures shorter { IfOk result (λ r. length r.now < length tokens.now) }
+    ensures room { IfOk result (λ r. walked.KeepsRoom scope.old tokens.now scope.new r.now) }
     ensures right { (k : syn.KeySyntax) (rest : List Placed) → k.write ≡ write
         → at k.name_at (tok.Name k.name) ∷ at k.is_at tok.Is ∷ (syn.part_tokens k.first ++ (flat_map walked.joined_part k.more ++ at k.end_at tok.Semicolon ∷ rest)) ≡ tokens.now
         → walked.WalkAnswers (walked.key_told scope.old keys.old k) rest (walked.left_with_both scope.new keys.new result) }
@@ -234,7 +240,9 @@ pub(crate) fn params(
     alloc: Global,
     tokens: &[Placed],
 ) -> Result<(Scope, Listed<Kind>, &[Placed]), ProcError>
-    ensures { (ps : syn.Params) (q : ℕ) (rest : List Placed) → syn.params_tokens ps ++ at q tok.Close ∷ rest ≡ tokens.now
+    requires short { length tokens.now < 2 ^ 32 }
+    ensures room { IfOk result (λ r. walked.KeepsRoom (record { variables = []; keys = [] }) tokens.now r.0 r.2.now) }
+    ensures right { (ps : syn.Params) (q : ℕ) (rest : List Placed) → syn.params_tokens ps ++ at q tok.Close ∷ rest ≡ tokens.now
         → walked.WalkAnswers (walked.params_told ps) rest (walked.params_shown result) }
 {
     let mut scope = Scope::new(alloc);
@@ -254,7 +262,9 @@ pub(crate) fn more_keys<'a>(
     keys: &mut Listed<KeyDecl>,
     tokens: &'a [Placed],
 ) -> Result<&'a [Placed], ProcError>
-    ensures { (ks : List syn.KeySyntax) (b : ℕ) (rest : List Placed) → flat_map syn.key_tokens ks ++ at b tok.Begin ∷ rest ≡ tokens.now
+    requires room { walked.HasRoom scope.old tokens.now }
+    ensures room { IfOk result (λ r. walked.KeepsRoom scope.old tokens.now scope.new r.now) }
+    ensures right { (ks : List syn.KeySyntax) (b : ℕ) (rest : List Placed) → flat_map syn.key_tokens ks ++ at b tok.Begin ∷ rest ≡ tokens.now
         → walked.WalkAnswers (walked.keys_told scope.old keys.old ks) rest (walked.left_with_both scope.new keys.new result) }
 {
     let [first, rest @ ..] = tokens else {

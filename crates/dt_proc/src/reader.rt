@@ -32,7 +32,8 @@ fn proc<'a>(
     before: &[Proc],
     tokens: &'a [Placed],
 ) -> Result<(Proc, &'a [Placed]), ProcError>
-    requires { walked.StartsProc tokens.now }
+    requires starts { walked.StartsProc tokens.now }
+    requires short { length tokens.now < 2 ^ 32 }
     ensures shorter { IfOk result (λ r. length r.1.now < length tokens.now) }
     ensures fits { IfOk result (λ r. sound.IsSoundProc r.0) }
     ensures right { (p : syn.ProcSyntax) (rest : List Placed) → syn.IsProc p → syn.proc_tokens p ++ rest ≡ tokens.now
@@ -51,7 +52,8 @@ fn proc<'a>(
 
 /// The procedures that all tokens spell.
 fn procs(alloc: Global, tokens: &[Placed]) -> Result<Procs, ProcError>
-    requires { walked.AreFewProcs tokens.now }
+    requires few { walked.AreFewProcs tokens.now }
+    requires short { length tokens.now < 2 ^ 32 }
     ensures right { (ps : List syn.ProcSyntax) → syn.AreProcSyntaxes ps → syn.procs_tokens ps ≡ tokens.now
         → walked.PassGives (checked.check_procs [] ps) result }
     ensures sound { IfOk result sound.AreProcs }

@@ -1,4 +1,4 @@
-ghost use Rattle.std.specs.Prelude.{◌≡◌, ◌-◌, ℕ, List, ◌<◌, ◌≤◌, ◌^◌, [], ◌∷◌, ◌++◌, length, take, nat_eq, OnOk, OnErr, IfOk};
+ghost use Rattle.std.specs.Prelude.{◌≡◌, ◌+◌, ◌-◌, ℕ, List, ◌<◌, ◌≤◌, ◌^◌, [], ◌∷◌, ◌++◌, length, take, nat_eq, OnOk, OnErr, IfOk};
 ghost use Rattle.std.specs.Ordering.{nat_cmp};
 ghost use Rattle.std.specs.Cmp.Lexicographic.{pointwise, slice_cmp};
 ghost use Rattle.std.specs.BTreeMap.{get};
@@ -86,11 +86,9 @@ impl Scope {
         name: &Name,
         sort: Sort,
     ) -> Result<(), NoMemory>
+        requires room { length self.old.variables + 1 < 2 ^ 32 }
         ensures { OnOk result (self.new ≡ record self.old { variables = self.old.variables ++ (name.now, sort) ∷ [] }) }
     {
-        if self.variables.len() >= u32::MAX as usize {
-            return Err(NoMemory);
-        }
         let number = self.variables.len() as u32;
         let entry = (name.copy(alloc)?, sort);
         self.variables.reserve(1)?;
@@ -108,11 +106,9 @@ impl Scope {
         name: &Name,
         write: bool,
     ) -> Result<(), NoMemory>
+        requires room { length self.old.keys + 1 < 2 ^ 32 }
         ensures { OnOk result (self.new ≡ record self.old { keys = self.old.keys ++ (name.now, write) ∷ [] }) }
     {
-        if self.keys.len() >= u32::MAX as usize {
-            return Err(NoMemory);
-        }
         self.keys.push((name.copy(alloc)?, write))?;
         Ok(())
     }

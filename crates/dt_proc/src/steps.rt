@@ -50,20 +50,6 @@ fn after_else(tokens: &[Placed]) -> Option<&[Placed]>
     }
 }
 
-/// What follows a `}`, if one comes first.
-fn after_end(tokens: &[Placed]) -> Option<&[Placed]>
-    ensures shorter { IfSome result (λ r. length r.now < length tokens.now) }
-    ensures right { walked.FollowsToken tok.End tokens.now (walked.left_shown result) }
-{
-    match tokens {
-        [first, rest @ ..] => match &first.token {
-            Token::End => Some(rest),
-            _ => None,
-        },
-        [] => None,
-    }
-}
-
 /// The row of the key in brackets, as an item of `give`.
 fn row_of<'a>(scope: &Scope, tokens: &'a [Placed]) -> Result<(Give, &'a [Placed]), ProcError>
     ensures shorter { IfOk result (λ r. length r.1.now < length tokens.now) }
@@ -142,7 +128,9 @@ fn let_step<'a>(
     scope: &mut Scope,
     tokens: &'a [Placed],
 ) -> Result<(Stmt, &'a [Placed]), ProcError>
+    requires room { walked.HasRoom scope.old tokens.now }
     ensures shorter { IfOk result (λ r. length r.1.now < length tokens.now) }
+    ensures room { IfOk result (λ r. walked.KeepsRoom scope.old tokens.now scope.new r.1.now) }
     ensures right { (p q : ℕ) (n : List ℕ) (i : ℕ) (x : Syntax) (e : ℕ) (rest : List Placed) → IsLevel 0 x
         → at q (tok.Name n) ∷ at i tok.Is ∷ (syntax_tokens x ++ at e tok.Semicolon ∷ rest) ≡ tokens.now
         → walked.WalkAnswers (checked.check_statement scope.old (syn.let_new p q n i x e)) rest (walked.step_shown scope.new result) }
@@ -255,7 +243,9 @@ pub(crate) fn block<'a>(
     scope: &mut Scope,
     tokens: &'a [Placed],
 ) -> Result<(Stmts, &'a [Placed]), ProcError>
+    requires room { walked.HasRoom scope.old tokens.now }
     ensures shorter { IfOk result (λ r. length r.1.now < length tokens.now) }
+    ensures room { IfOk result (λ r. walked.KeepsRoom scope.old tokens.now scope.new r.1.now) }
     ensures right { (ss : syn.Statements) (e : ℕ) (rest : List Placed) → syn.AreStatements ss
         → syn.statements_tokens ss ++ at e tok.End ∷ rest ≡ tokens.now
         → walked.WalkAnswers (checked.check_block scope.old ss) rest (walked.block_shown result) × OnOk result (scope.new ≡ scope.old) }
@@ -289,7 +279,9 @@ fn step<'a>(
     scope: &mut Scope,
     tokens: &'a [Placed],
 ) -> Result<(Stmt, &'a [Placed]), ProcError>
+    requires room { walked.HasRoom scope.old tokens.now }
     ensures shorter { IfOk result (λ r. length r.1.now < length tokens.now) }
+    ensures room { IfOk result (λ r. walked.KeepsRoom scope.old tokens.now scope.new r.1.now) }
     ensures right { (s : syn.Statement) (rest : List Placed) → syn.IsStatement s → walked.NoElse rest → syn.statement_tokens s ++ rest ≡ tokens.now
         → walked.WalkAnswers (checked.check_statement scope.old s) rest (walked.step_shown scope.new result) }
 {
@@ -315,7 +307,9 @@ fn if_step<'a>(
     word: u32,
     tokens: &'a [Placed],
 ) -> Result<(Stmt, &'a [Placed]), ProcError>
+    requires room { walked.HasRoom scope.old tokens.now }
     ensures shorter { IfOk result (λ r. length r.1.now < length tokens.now) }
+    ensures room { IfOk result (λ r. walked.KeepsRoom scope.old tokens.now scope.new r.1.now) }
     ensures one { (x : Syntax) (b : ℕ) (ss : syn.Statements) (e : ℕ) (rest : List Placed) → IsLevel 0 x → syn.AreStatements ss → walked.NoElse rest
         → syntax_tokens x ++ at b tok.Begin ∷ (syn.statements_tokens ss ++ at e tok.End ∷ rest) ≡ tokens.now
         → walked.WalkAnswers (checked.check_statement scope.old (syn.when word x b ss e)) rest (walked.step_shown scope.new result) }
@@ -341,7 +335,9 @@ fn branches<'a>(
     test: Expr,
     tokens: &'a [Placed],
 ) -> Result<(Stmt, &'a [Placed]), ProcError>
+    requires room { walked.HasRoom scope.old tokens.now }
     ensures shorter { IfOk result (λ r. length r.1.now < length tokens.now) }
+    ensures room { IfOk result (λ r. walked.KeepsRoom scope.old tokens.now scope.new r.1.now) }
     ensures one { (ss : syn.Statements) (e : ℕ) (rest : List Placed) → syn.AreStatements ss → walked.NoElse rest
         → syn.statements_tokens ss ++ at e tok.End ∷ rest ≡ tokens.now
         → walked.WalkAnswers (checked.one_block scope.old (expr_tree test) (checked.check_block scope.old ss)) rest (walked.step_shown scope.new result) }

@@ -57,6 +57,7 @@ step-returns-in-If-clause-right t c = λ s rest h no e.
 pub block-steps-preserved : goal.block-steps-preserved
 block-steps-preserved t c = record {
   shorter = omega (arith, c.in_ok-stmt.ensures.shorter, c.steps.invariant.shorter);
+  room = omega (arith, c.in_ok-stmt.ensures.room, c.steps.invariant.room);
   outer = c.steps.invariant.outer;
   right = λ ss e rest h is.
       let before = c.steps.invariant.right ss e rest h is in

@@ -3,6 +3,7 @@ use Rattle.dt_syntax.specs.declared.token.Placed.{Placed}
 use Rattle.dt_syntax.specs.declared.token.Token.TheVariants as tok
 use Rattle.dt_proc.specs.SecondPass.{check_block}
 use Rattle.dt_syntax.specs.Grammar.{at, Statements, statements_tokens, AreStatements}
+use Rattle.dt_proc.specs.WalkInner.{KeepsRoom}
 use Rattle.dt_proc.proofs.StatementWalk.{StepsLeft}
 use Rattle.dt_proc.proofs.steps.+steps.Given as goal
 
@@ -21,6 +22,7 @@ decreases-branches l = 4 * length l.tokens.now + 4
 abbrev pub invariant-block-steps : goal.invariant-block-steps
 invariant-block-steps l = record {
   shorter : length l.rest ≤ length l.tokens;
+  room : KeepsRoom l.initial.scope l.tokens l.scope l.rest;
   outer : l.outer ≡ length l.initial.scope.variables;
   right : (ss : Statements) (e : ℕ) (rest : List Placed) → AreStatements ss → statements_tokens ss ++ at e tok.End ∷ rest ≡ l.tokens →
       StepsLeft l.initial.scope l.scope (check_block l.initial.scope ss) l.stmts l.rest e rest;
