@@ -11,10 +11,11 @@ ghost use Rattle.dt_proc.specs.Sound as sound;
 ghost use Rattle.dt_proc.specs.Outcome.{Outcome};
 
 use crate::error::ProcError;
-use crate::heads::{more_keys, params};
+use crate::fronts::{after_one, named};
+use crate::keys::more_keys;
+use crate::parameters::params;
 use crate::procs::{Proc, Procs, is_named};
-use crate::steps::block;
-use crate::walk::{after_one, named};
+use crate::statements::block;
 use dt_syntax::{Placed, read_tokens};
 use dt_text::{Listed, Name};
 use std::alloc::Global;

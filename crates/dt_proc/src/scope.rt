@@ -3,6 +3,7 @@ ghost use Rattle.std.specs.Ordering.{nat_cmp};
 ghost use Rattle.std.specs.Cmp.Lexicographic.{pointwise, slice_cmp};
 ghost use Rattle.std.specs.BTreeMap.{get};
 ghost use Rattle.dt_proc.specs.Names.{entry_of, meaning_in};
+ghost use Rattle.dt_proc.specs.SecondPass.{is_unknown};
 ghost use Rattle.dt_proc.specs.NumbersInner.{AreNumbers, is_number};
 ghost use Rattle.dt_proc.specs.declared.tree.Sort.{Sort};
 
@@ -133,6 +134,13 @@ impl Scope {
             self.numbers.remove(&name);
         }
     }
+}
+
+/// Whether a name is not visible.
+pub(crate) fn is_new(scope: &Scope, name: &Name) -> bool
+    ensures { result ≡ is_unknown (meaning_in scope.now name.now) }
+{
+    matches!(scope.meaning(name), Meaning::Unknown)
 }
 
 /// Notes the number of a variable, where none before it has its name.

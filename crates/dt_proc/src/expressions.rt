@@ -1,9 +1,9 @@
-//! The second pass: from tokens that are in the grammar to what they mean, or to the first fault.
+//! The second pass over expressions.
 
-ghost use Rattle.std.specs.Prelude.{◌≡◌, ◌<◌, ◌≤◌, ℕ, List, [], ◌∷◌, ◌++◌, length, MatchResult, IfOk, IfSome};
+ghost use Rattle.std.specs.Prelude.{◌≡◌, ◌<◌, ◌≤◌, ℕ, List, ◌∷◌, ◌++◌, length, IfOk, IfSome};
 ghost use Rattle.dt_syntax.specs.declared.token.Placed.{Placed};
 ghost use Rattle.dt_syntax.specs.declared.token.Token.TheVariants as tok;
-ghost use Rattle.dt_syntax.specs.Grammar.{at, Bracketed, bracketed_tokens, Syntax, syntax_tokens, Links, links_tokens, IsLevel, AreLinks, level_of, minus, denial, makes_length, makes_text};
+ghost use Rattle.dt_syntax.specs.Grammar.{at, Bracketed, bracketed_tokens, Syntax, syntax_tokens, Links, links_tokens, IsLevel, AreLinks, minus, denial, makes_length, makes_text};
 ghost use Rattle.dt_proc.specs.Names.{meaning_in};
 ghost use Rattle.dt_proc.specs.Sound as sound;
 ghost use Rattle.dt_proc.specs.SecondPass.{after_ok};
@@ -14,50 +14,12 @@ ghost use Rattle.dt_proc.specs.Tree as tree;
 
 use crate::builtin::binary;
 use crate::error::ProcError;
+use crate::fronts::{BROKEN, after_one, bracketed};
 use crate::scope::{Meaning, Scope};
 use crate::tree::{Expr, Op, Sort};
 use dt_syntax::{Placed, Token};
 use dt_text::Name;
 use std::alloc::Global;
-
-/// The answer where tokens are not in the grammar, which the first pass rules out.
-pub(crate) const BROKEN: ProcError = ProcError::Syntax(0);
-
-/// What follows the first token.
-pub(crate) fn after_one(tokens: &[Placed]) -> Result<&[Placed], ProcError>
-    ensures shorter { IfOk result (λ r. length r.now < length tokens.now) }
-    ensures right { (t : Placed) (rest : List Placed) → t ∷ rest ≡ tokens.now → MatchResult result (λ r. r.now ≡ rest) (λ e. ⊥) }
-{
-    match tokens {
-        [_, rest @ ..] => Ok(rest),
-        [] => Err(BROKEN),
-    }
-}
-
-/// The name that comes first, with its place, and what follows it.
-pub(crate) fn named(tokens: &[Placed]) -> Result<(u32, &Name, &[Placed]), ProcError>
-    ensures shorter { IfOk result (λ r. length r.2.now < length tokens.now) }
-    ensures right { (p : ℕ) (n : List ℕ) (rest : List Placed) → at p (tok.Name n) ∷ rest ≡ tokens.now
-        → MatchResult result (λ r. (r.0 ≡ p) × (r.1.now ≡ n) × (r.2.now ≡ rest)) (λ e. ⊥) }
-{
-    match tokens {
-        [first, rest @ ..] => match &first.token {
-            Token::Name(name) => Ok((first.place, name, rest)),
-            _ => Err(BROKEN),
-        },
-        [] => Err(BROKEN),
-    }
-}
-
-/// The name in brackets that comes first, with its place, and what follows the brackets.
-pub(crate) fn bracketed(tokens: &[Placed]) -> Result<(u32, &Name, &[Placed]), ProcError>
-    ensures shorter { IfOk result (λ r. length r.2.now < length tokens.now) }
-    ensures right { (b : Bracketed) (rest : List Placed) → bracketed_tokens b ++ rest ≡ tokens.now
-        → MatchResult result (λ r. (r.0 ≡ b.name_at) × (r.1.now ≡ b.name) × (r.2.now ≡ rest)) (λ e. ⊥) }
-{
-    let (place, name, rest) = named(after_one(tokens)?)?;
-    Ok((place, name, after_one(rest)?))
-}
 
 /// The number of the key that the name in brackets means, and what follows the brackets.
 pub(crate) fn key_in_brackets<'a>(
@@ -77,7 +39,7 @@ pub(crate) fn key_in_brackets<'a>(
 }
 
 /// An expression of the level: operands of the next one with operators between, which group from the left.
-#[cycle(walk)]
+#[cycle(levels)]
 pub(crate) fn expression<'a>(
     alloc: Global,
     scope: &Scope,
@@ -97,7 +59,7 @@ pub(crate) fn expression<'a>(
 }
 
 /// What follows an operand of the next level: operators of the level, each with an operand.
-#[cycle(walk)]
+#[cycle(levels)]
 fn links<'a>(
     alloc: Global,
     scope: &Scope,
@@ -149,7 +111,7 @@ fn operator(tokens: &[Placed], level: u8) -> Option<(u32, Op, &[Placed])>
 }
 
 /// An operand: an atom, or at level 5 one with `-` or `not` before it.
-#[cycle(walk)]
+#[cycle(levels)]
 fn operand<'a>(
     alloc: Global,
     scope: &Scope,
@@ -239,7 +201,7 @@ fn presence_of<'a>(
 }
 
 /// An expression, after the `(` before it, with the `)` after it.
-#[cycle(walk)]
+#[cycle(levels)]
 fn inside<'a>(
     alloc: Global,
     scope: &Scope,
@@ -254,7 +216,7 @@ fn inside<'a>(
 }
 
 /// The length of the text in brackets.
-#[cycle(walk)]
+#[cycle(levels)]
 fn length_of<'a>(
     alloc: Global,
     scope: &Scope,
@@ -275,7 +237,7 @@ fn length_of<'a>(
 }
 
 /// The printed form of the number in brackets.
-#[cycle(walk)]
+#[cycle(levels)]
 fn shown<'a>(
     alloc: Global,
     scope: &Scope,
@@ -296,7 +258,7 @@ fn shown<'a>(
 }
 
 /// The atom after a `not`, turned round.
-#[cycle(walk)]
+#[cycle(levels)]
 fn opposite<'a>(
     alloc: Global,
     scope: &Scope,
@@ -316,7 +278,7 @@ fn opposite<'a>(
 }
 
 /// The atom after a `-`, with the other sign.
-#[cycle(walk)]
+#[cycle(levels)]
 fn negative<'a>(
     alloc: Global,
     scope: &Scope,

@@ -2,7 +2,7 @@ use Rattle.std.proofs.Common.{◌∙◌, ap}
 use Rattle.dt_proc.specs.SecondPass.{check_part}
 use Rattle.dt_proc.proofs.ExprWalk.{told_right}
 use Rattle.dt_syntax.proofs.Callers.{cut_first, part_show}
-use Rattle.dt_proc.proofs.heads.part.Goals as goal
+use Rattle.dt_proc.proofs.keys.part.Goals as goal
 
 pub returns-in-Show-clause-right : goal.returns-in-Show-clause-right
 returns-in-Show-clause-right c = λ i rest e.

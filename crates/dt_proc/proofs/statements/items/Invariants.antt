@@ -6,7 +6,7 @@ use Rattle.dt_proc.specs.SecondPass.{check_all_items}
 use Rattle.dt_syntax.specs.Grammar.{at, Item, IsItem, items_tokens}
 use Rattle.dt_proc.proofs.ItemWalk.{ItemsLeft}
 use Rattle.dt_syntax.proofs.Callers.{AreItems}
-use Rattle.dt_proc.proofs.steps.items.Given as goal
+use Rattle.dt_proc.proofs.statements.items.Given as goal
 
 abbrev pub invariant-loop-after : goal.invariant-loop-after
 invariant-loop-after l = record {

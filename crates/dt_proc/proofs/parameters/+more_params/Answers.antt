@@ -6,7 +6,7 @@ use Rattle.dt_syntax.specs.Grammar.{at, param_tokens}
 use Rattle.dt_syntax.specs.FrontsInner.{comma_param}
 use Rattle.dt_proc.proofs.HeadWalk.{more_params_told, params_fault, params_none}
 use Rattle.dt_syntax.proofs.Callers.{more_next, more_end, no_comma_close}
-use Rattle.dt_proc.proofs.heads.+more_params.Goals as goal
+use Rattle.dt_proc.proofs.parameters.+more_params.Goals as goal
 
 pub returns-in_err-rest-in-Some-clause-right : goal.returns-in_err-rest-in-Some-clause-right
 returns-in_err-rest-in-Some-clause-right t c = λ more q rest e.

@@ -8,7 +8,7 @@ use Rattle.dt_syntax.specs.FrontsInner.{joined_part}
 use Rattle.dt_proc.proofs.ExprWalk.{told_right}
 use Rattle.dt_proc.proofs.HeadWalk.{parts_told, parts_fault, parts_none}
 use Rattle.dt_syntax.proofs.Callers.{more_next, more_end, no_join_semicolon}
-use Rattle.dt_proc.proofs.heads.+more_parts.Goals as goal
+use Rattle.dt_proc.proofs.keys.+more_parts.Goals as goal
 
 pub returns-in_err-item-in-Some-clause-right : goal.returns-in_err-item-in-Some-clause-right
 returns-in_err-item-in-Some-clause-right t c = λ more q rest e.

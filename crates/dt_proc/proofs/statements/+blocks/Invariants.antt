@@ -5,7 +5,7 @@ use Rattle.dt_proc.specs.SecondPass.{check_block}
 use Rattle.dt_syntax.specs.Grammar.{at, Statements, statements_tokens, AreStatements}
 use Rattle.dt_proc.specs.WalkInner.{KeepsRoom}
 use Rattle.dt_proc.proofs.StatementWalk.{StepsLeft}
-use Rattle.dt_proc.proofs.steps.+steps.Given as goal
+use Rattle.dt_proc.proofs.statements.+blocks.Given as goal
 
 abbrev pub decreases-block : goal.decreases-block
 decreases-block l = 4 * length l.tokens.now + 3

@@ -7,7 +7,7 @@ use Rattle.dt_proc.specs.SecondPass.{check_param}
 use Rattle.dt_proc.specs.WalkInner.{WalkAnswers}
 use Rattle.dt_syntax.specs.FrontsInner.{comma_param}
 use Rattle.dt_proc.proofs.HeadWalk.{params_first, params_first_fault, params_more_fault, params_told_is}
-use Rattle.dt_proc.proofs.heads.params.Goals as goal
+use Rattle.dt_proc.proofs.parameters.params.Goals as goal
 
 pub returns-in_err-rest-clause-right : goal.returns-in_err-rest-clause-right
 returns-in_err-rest-clause-right c = λ ps q rest e.

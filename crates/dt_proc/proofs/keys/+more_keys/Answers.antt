@@ -6,7 +6,7 @@ use Rattle.dt_syntax.specs.Grammar.{at, key_tokens}
 use Rattle.dt_proc.proofs.ExprWalk.{told_right}
 use Rattle.dt_syntax.proofs.Callers.{cut_first, key_first, key_none}
 use Rattle.dt_proc.proofs.HeadWalk.{keys_next, keys_fault, keys_end}
-use Rattle.dt_proc.proofs.heads.+more_keys.Goals as goal
+use Rattle.dt_proc.proofs.keys.+more_keys.Goals as goal
 
 pub returns-in_err-rest-in-Read-clause-right : goal.returns-in_err-rest-in-Read-clause-right
 returns-in_err-rest-in-Read-clause-right t c = λ ks b rest e.

@@ -1,6 +1,6 @@
 //! The second pass over statements.
 
-ghost use Rattle.std.specs.Prelude.{◌≡◌, ◌<◌, ◌≤◌, ℕ, List, [], ◌∷◌, ◌++◌, length, map, IfOk, IfSome, OnOk, Ok};
+ghost use Rattle.std.specs.Prelude.{◌≡◌, ◌<◌, ℕ, List, [], ◌∷◌, ◌++◌, length, IfOk, OnOk, Ok};
 ghost use Rattle.dt_lists.specs.Lists.{AllIn};
 ghost use Rattle.dt_syntax.specs.declared.token.Placed.{Placed};
 ghost use Rattle.dt_syntax.specs.declared.token.Token.TheVariants as tok;
@@ -15,40 +15,13 @@ ghost use Rattle.dt_proc.specs.Tree as tree;
 ghost use Rattle.dt_proc.specs.TreeViews.{expr_tree};
 
 use crate::error::ProcError;
-use crate::scope::{Meaning, Scope};
+use crate::expressions::{expression, key_in_brackets};
+use crate::fronts::{BROKEN, after_comma, after_else, after_one, named};
+use crate::scope::{Meaning, Scope, is_new};
 use crate::tree::{Expr, Give, Gives, Sort, Stmt, Stmts};
-use crate::walk::{BROKEN, after_one, expression, key_in_brackets, named};
 use dt_syntax::{Placed, Token};
 use dt_text::Name;
 use std::alloc::Global;
-
-/// What follows a `,`, if one comes first.
-pub(crate) fn after_comma(tokens: &[Placed]) -> Option<&[Placed]>
-    ensures shorter { IfSome result (λ r. length r.now < length tokens.now) }
-    ensures right { walked.FollowsToken tok.Comma tokens.now (walked.left_shown result) }
-{
-    match tokens {
-        [first, rest @ ..] => match &first.token {
-            Token::Comma => Some(rest),
-            _ => None,
-        },
-        [] => None,
-    }
-}
-
-/// What follows an `else`, if one comes first.
-fn after_else(tokens: &[Placed]) -> Option<&[Placed]>
-    ensures shorter { IfSome result (λ r. length r.now < length tokens.now) }
-    ensures right { walked.FollowsToken tok.Else tokens.now (walked.left_shown result) }
-{
-    match tokens {
-        [first, rest @ ..] => match &first.token {
-            Token::Else => Some(rest),
-            _ => None,
-        },
-        [] => None,
-    }
-}
 
 /// The row of the key in brackets, as an item of `give`.
 fn row_of<'a>(scope: &Scope, tokens: &'a [Placed]) -> Result<(Give, &'a [Placed]), ProcError>
@@ -144,13 +117,6 @@ fn let_step<'a>(
     Ok((Stmt::Let(value), after_one(rest)?))
 }
 
-/// Whether a name is not visible.
-pub(crate) fn is_new(scope: &Scope, name: &Name) -> bool
-    ensures { result ≡ checked.is_unknown (meaning_in scope.now name.now) }
-{
-    matches!(scope.meaning(name), Meaning::Unknown)
-}
-
 /// The number of the key that a name means, which may be written.
 fn written(scope: &Scope, place: u32, name: &Name) -> Result<u32, ProcError>
     ensures { result ≡ checked.as_written place (meaning_in scope.now name.now) }
@@ -237,7 +203,7 @@ fn give_step<'a>(
 }
 
 /// Statements up to and with the `}` that closes them. What they let is no longer visible after it.
-#[cycle(steps)]
+#[cycle(blocks)]
 pub(crate) fn block<'a>(
     alloc: Global,
     scope: &mut Scope,
@@ -273,7 +239,7 @@ fn is_end(tokens: &[Placed]) -> bool
 }
 
 /// A statement.
-#[cycle(steps)]
+#[cycle(blocks)]
 fn step<'a>(
     alloc: Global,
     scope: &mut Scope,
@@ -300,7 +266,7 @@ fn step<'a>(
 }
 
 /// An `if`, after its word, which stands at the place.
-#[cycle(steps)]
+#[cycle(blocks)]
 fn if_step<'a>(
     alloc: Global,
     scope: &mut Scope,
@@ -328,7 +294,7 @@ fn if_step<'a>(
 }
 
 /// The blocks of an `if`, after the first `{`.
-#[cycle(steps)]
+#[cycle(blocks)]
 fn branches<'a>(
     alloc: Global,
     scope: &mut Scope,

@@ -2,7 +2,7 @@ use Rattle.std.proofs.Common.{◌∙◌, sym}
 use Rattle.dt_proc.proofs.ExprWalk.{told_right}
 use Rattle.dt_syntax.proofs.Callers.{cut_first}
 use Rattle.dt_proc.proofs.ItemWalk.{item_row, item_value}
-use Rattle.dt_proc.proofs.steps.item.Goals as goal
+use Rattle.dt_proc.proofs.statements.item.Goals as goal
 
 pub returns-in-Row-clause-right : goal.returns-in-Row-clause-right
 returns-in-Row-clause-right c = λ i rest h stop e.

@@ -9,7 +9,7 @@ use Rattle.dt_proc.specs.SecondPass.{check_item, check_items, check_all_items, a
 use Rattle.dt_proc.proofs.ExprWalk.{err_then}
 use Rattle.dt_proc.proofs.ItemWalk.{items_start, after_comma_next, told_next, told_fault, items_end}
 use Rattle.dt_syntax.proofs.Callers.{next_item, items_stop, items_cut}
-use Rattle.dt_proc.proofs.steps.items.Goals as goal
+use Rattle.dt_proc.proofs.statements.items.Goals as goal
 
 pub loop-after-init : goal.loop-after-init
 loop-after-init c = record {

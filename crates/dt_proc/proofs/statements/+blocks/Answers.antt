@@ -7,7 +7,7 @@ use Rattle.dt_syntax.specs.Grammar.{at, statements_tokens}
 use Rattle.dt_proc.proofs.ExprWalk.{told_right}
 use Rattle.dt_proc.proofs.StatementWalk.{not_ended, ended, step_told, step_fault, left_as_before}
 use Rattle.dt_syntax.proofs.Callers.{step_when, some_statement, no_statement}
-use Rattle.dt_proc.proofs.steps.+steps.Goals as goal
+use Rattle.dt_proc.proofs.statements.+blocks.Goals as goal
 
 pub step-returns-in-Let-clause-right : goal.step-returns-in-Let-clause-right
 step-returns-in-Let-clause-right t c = λ s rest h no e.

@@ -1,5 +1,5 @@
 use Rattle.std.proofs.Common.{◌+◌, ◌-◌, ◌*◌, length}
-use Rattle.dt_proc.proofs.walk.+walk.Given as goal
+use Rattle.dt_proc.proofs.expressions.+levels.Given as goal
 
 abbrev pub decreases-expression : goal.decreases-expression
 decreases-expression l = 16 * length l.tokens.now + (7 - l.level)
