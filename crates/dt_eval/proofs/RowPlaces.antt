@@ -10,7 +10,7 @@ use Rattle.dt_text.specs.declared.Value.{Value}
 use Rattle.dt_access.specs.Clash.{Bytes, same_key}
 use Rattle.dt_access.specs.Orders.{KeyBefore}
 use Rattle.dt_eval.specs.declared.state.Row.{Row}
-use Rattle.dt_eval.specs.Data.{name_of, value_in, changed, with_value}
+use Rattle.dt_eval.specs.Data.{declared_key, value_in, changed, with_value}
 use Rattle.dt_eval.specs.Data.{keys_in, names_at}
 
 pub same_itself : (key : Bytes) → same_key key key ≡ true
@@ -65,15 +65,15 @@ module _ (rows : List Row) (places : List ℕ) (k p : ℕ) (d : Row) (all : AllI
   pub place_in_rows : p < length rows
   place_in_rows = subst (λ q. q < length rows) (sym is) (place_below (length rows) places k p all in_places)
 
-  pub name_at_place : name_of (names_at places rows) k ≡ get_or (keys_in rows) p []
+  pub name_at_place : declared_key (names_at places rows) k ≡ get_or (keys_in rows) p []
   name_at_place = get_or-map (λ q. get_or (keys_in rows) q []) places k p [] in_places ∙ ap (λ q. get_or (keys_in rows) q []) (sym is)
 
   -- the value of the row that the declaration names
-  pub value_is : value_in rows (name_of (names_at places rows) k) ≡ (get_or rows p d).value
+  pub value_is : value_in rows (declared_key (names_at places rows) k) ≡ (get_or rows p d).value
   value_is = ap (value_in rows) name_at_place ∙ value_at rows p d place_in_rows each
 
   -- the rows after that row was changed
-  pub change_is : (v : Option Value) → with_value (name_of (names_at places rows) k) v rows ≡ set rows p (changed v (get_or rows p d))
+  pub change_is : (v : Option Value) → with_value (declared_key (names_at places rows) k) v rows ≡ set rows p (changed v (get_or rows p d))
   change_is v = ap (λ n. with_value n v rows) name_at_place ∙ with_value_at rows p d v place_in_rows each
 
   pub keys_after : (v : Option Value) → keys_in (set rows p (changed v (get_or rows p d))) ≡ keys_in rows
@@ -91,8 +91,8 @@ module _ (rows : List Row) (places : List ℕ) (k p : ℕ) (d : Row) (v : Option
   row_invariant = (subst (λ n. AllIn (λ q. q < n) places) (sym (length-set rows p (changed v d))) all, subst (EachThen KeyBefore) (sym set_keys) each)
 
   -- the names stay, and the row of the named key is changed
-  pub row_changed : ◌≡◌ {A = List Bytes × List Row} (names_at places (set rows p (changed v d)), set rows p (changed v d)) (names_at places rows, with_value (name_of (names_at places rows) k) v rows)
+  pub row_changed : ◌≡◌ {A = List Bytes × List Row} (names_at places (set rows p (changed v d)), set rows p (changed v d)) (names_at places rows, with_value (declared_key (names_at places rows) k) v rows)
   row_changed =
       let names : names_at places (set rows p (changed v d)) ≡ names_at places rows = ap (λ keys. map (λ q. get_or keys q []) places) set_keys in
-      let items : set rows p (changed v d) ≡ with_value (name_of (names_at places rows) k) v rows = set_is ∙ sym (change_is rows places k p d all each below is v) in
+      let items : set rows p (changed v d) ≡ with_value (declared_key (names_at places rows) k) v rows = set_is ∙ sym (change_is rows places k p d all each below is v) in
       λ i. (names i, items i)

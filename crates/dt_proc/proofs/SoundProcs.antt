@@ -11,16 +11,16 @@ use Rattle.dt_proc.specs.declared.tree.KeyDecl.{KeyDecl}
 use Rattle.dt_proc.specs.declared.tree.Sort.TheVariants as sort
 use Rattle.dt_proc.specs.Names.{Scope}
 use Rattle.dt_proc.specs.Tree.{ProcTree}
-use Rattle.dt_proc.specs.Sound.{IsSound, AreProcs}
+use Rattle.dt_proc.specs.Sound.{IsSoundProc, AreProcs}
 use Rattle.dt_proc.specs.Builtin.{put, note, get, del, add, div, sum, xfer, builtin_procs}
-use Rattle.dt_proc.specs.Checked.{after_ok, check_params, check_keys, check_block, check_proc, check_procs}
+use Rattle.dt_proc.specs.SecondPass.{after_ok, check_params, check_keys, check_block, check_proc, check_procs}
 use Rattle.dt_syntax.specs.Grammar.{param_kinds, ProcSyntax, proc_tokens, procs_tokens}
 use Rattle.dt_syntax.specs.Limits.{AllSound, IsSmall}
-use Rattle.dt_syntax.specs.FirstPass.{AreFew}
+use Rattle.dt_syntax.specs.FirstPass.{NoneTooMany}
 use Rattle.dt_proc.specs.Outcome.{Outcome}
-use Rattle.dt_proc.proofs.Sorted.{Holds, holds_ok, holds_after, holds_cond}
+use Rattle.dt_proc.proofs.ExprSorts.{Holds, holds_ok, holds_after, holds_cond}
 use Rattle.dt_syntax.proofs.Callers.{sound_left, sound_right, text_sound, procs_small, both_left, both_right}
-use Rattle.dt_proc.proofs.Procedures.{proc_sound}
+use Rattle.dt_proc.proofs.ProcWalk.{proc_sound}
 
 abbrev is_named : List ProcTree → List ℕ → Bool
 is_named procs name = list_any (λ (q : ProcTree). pointwise nat_eq q.name name) procs
@@ -30,7 +30,7 @@ names procs = map (λ (p : ProcTree). p.name) procs
 
 -- a procedure that is told fits, and its name is new
 abbrev IsNext : List ProcTree → ProcTree → Type 0
-IsNext before q = IsSound q × (is_named before q.name ≡ false)
+IsNext before q = IsSoundProc q × (is_named before q.name ≡ false)
 
 next_fits : (before : List ProcTree) (p : ProcSyntax) → AllSound (proc_tokens p) → IsSmall p → Holds (IsNext before) (check_proc before p)
 next_fits before p sound small =
@@ -60,7 +60,7 @@ named_within (q ∷ procs) name (inr h) = right (pointwise nat_eq q.name name) (
 
 -- procedures that are told after others are as many as are spelled, and fit, and their names are new
 abbrev AreNext : List ProcTree → List ProcSyntax → List ProcTree → Type 0
-AreNext before ps qs = (length qs ≡ length ps) × AllIn IsSound qs × Distinct (names (before ++ qs))
+AreNext before ps qs = (length qs ≡ length ps) × AllIn IsSoundProc qs × Distinct (names (before ++ qs))
 
 all_fit : (before : List ProcTree) (ps : List ProcSyntax) → AllIn IsSmall ps → AllSound (procs_tokens ps) → Distinct (names before)
     → Holds (AreNext before ps) (check_procs before ps)
@@ -79,7 +79,7 @@ all_fit before (p ∷ ps) small sound distinct =
 -- the procedures that a text means are sound
 pub outcome_sound : (text : List ℕ) (procs : List ProcTree) → Outcome text (Ok procs) → AreProcs procs
 outcome_sound text procs h =
-    let small = procs_small h.spelled (subst (AreFew []) (sym h.spells) h.passes.few) in
+    let small = procs_small h.spelled (subst (NoneTooMany []) (sym h.spells) h.passes.few) in
     let sound : AllSound (procs_tokens h.spelled) = subst AllSound (ap (λ l. l.tokens) h.passes.whole ∙ sym h.spells) (text_sound text) in
     let fit = all_fit [] h.spelled small.1 sound tt procs h.tells in
     record { few = subst (λ n. n ≤ 64) (sym fit.0) small.0; distinct = fit.2; sound = fit.1 }
@@ -107,7 +107,7 @@ unfolding are_apart
 apart_distinct [] e = tt
 apart_distinct (n ∷ ns) e = (other_names n ns (both_left _ _ e), apart_distinct ns (both_right (list_all (λ m. not (pointwise nat_eq n m)) ns) _ e))
 
-put_sound : IsSound put
+put_sound : IsSoundProc put
 put_sound = record {
   name = (omega arith, omega arith, refl);
   few_params = omega arith;
@@ -117,7 +117,7 @@ put_sound = record {
   body = (refl, (sort.Int, inl refl, refl), tt);
 }
 
-note_sound : IsSound note
+note_sound : IsSoundProc note
 note_sound = record {
   name = (omega arith, omega arith, refl);
   few_params = omega arith;
@@ -127,7 +127,7 @@ note_sound = record {
   body = (refl, (sort.Text, inr refl, refl), tt);
 }
 
-get_sound : IsSound get
+get_sound : IsSoundProc get
 get_sound = record {
   name = (omega arith, omega arith, refl);
   few_params = omega arith;
@@ -137,7 +137,7 @@ get_sound = record {
   body = ((omega arith, tt), tt);
 }
 
-del_sound : IsSound del
+del_sound : IsSoundProc del
 del_sound = record {
   name = (omega arith, omega arith, refl);
   few_params = omega arith;
@@ -147,7 +147,7 @@ del_sound = record {
   body = (refl, tt);
 }
 
-add_sound : IsSound add
+add_sound : IsSoundProc add
 add_sound = record {
   name = (omega arith, omega arith, refl);
   few_params = omega arith;
@@ -157,7 +157,7 @@ add_sound = record {
   body = ((refl, omega arith), (refl, (sort.Int, inl refl, (sort.Int, refl, (refl, omega arith), refl, refl)), tt), (refl, (sort.Int, inl refl, refl), tt), (((sort.Int, inl refl, (refl, omega arith)), tt), tt));
 }
 
-div_sound : IsSound div
+div_sound : IsSoundProc div
 div_sound = record {
   name = (omega arith, omega arith, refl);
   few_params = omega arith;
@@ -167,7 +167,7 @@ div_sound = record {
   body = (((sort.Int, inl refl, (sort.Int, refl, (refl, omega arith), refl, refl)), tt), tt);
 }
 
-sum_sound : IsSound sum
+sum_sound : IsSoundProc sum
 sum_sound = record {
   name = (omega arith, omega arith, refl);
   few_params = omega arith;
@@ -177,7 +177,7 @@ sum_sound = record {
   body = (((sort.Int, inl refl, (sort.Int, refl, (refl, omega arith), (refl, omega arith), refl)), tt), tt);
 }
 
-xfer_sound : IsSound xfer
+xfer_sound : IsSoundProc xfer
 xfer_sound = record {
   name = (omega arith, omega arith, refl);
   few_params = omega arith;

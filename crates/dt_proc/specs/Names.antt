@@ -30,5 +30,5 @@ as_entry None other = other
 as_entry (Some e) other = Variable e.0 e.1
 
 -- what a name means
-abbrev pub meaning : Scope → List ℕ → Meaning
-meaning scope name = as_entry (entry_of scope.variables name) (as_key_entry (entry_of scope.keys name))
+abbrev pub meaning_in : Scope → List ℕ → Meaning
+meaning_in scope name = as_entry (entry_of scope.variables name) (as_key_entry (entry_of scope.keys name))

@@ -2,7 +2,7 @@ ghost use Rattle.std.specs.Prelude.{◌≡◌, ◌<◌, ◌^◌, ℕ, [], ◌∷
 ghost use Rattle.dt_text.specs.Texts.{IsName, IsStr};
 ghost use Rattle.dt_proc.specs.Builtin as builtin;
 ghost use Rattle.dt_proc.specs.Tree.{done, then, joined};
-ghost use Rattle.dt_proc.specs.Shown.{block_of, formula_of, gift_of, step_of};
+ghost use Rattle.dt_proc.specs.TreeViews.{block_tree, expr_tree, give_tree, stmt_tree};
 ghost use Rattle.dt_proc.specs.Tree.{binary};
 
 use crate::procs::{Proc, Procs};
@@ -195,7 +195,7 @@ fn two_keys(alloc: Global, write: bool) -> Result<Listed<KeyDecl>, NoMemory>
 
 /// One statement.
 fn one(alloc: Global, stmt: Stmt) -> Result<Stmts, NoMemory>
-    ensures { IfOk result (λ stmts. stmts ≡ then (step_of stmt) done) }
+    ensures { IfOk result (λ stmts. stmts ≡ then (stmt_tree stmt) done) }
 {
     let mut stmts = Stmts::new(alloc);
     stmts.push(stmt)?;
@@ -204,7 +204,7 @@ fn one(alloc: Global, stmt: Stmt) -> Result<Stmts, NoMemory>
 
 /// One gift.
 fn gift(alloc: Global, give: Give) -> Result<Gives, NoMemory>
-    ensures { IfOk result (λ gives. map gift_of gives ≡ gift_of give ∷ []) }
+    ensures { IfOk result (λ gives. map give_tree gives ≡ give_tree give ∷ []) }
 {
     let mut gives = Gives::new(alloc);
     gives.push(give)?;
@@ -213,7 +213,7 @@ fn gift(alloc: Global, give: Give) -> Result<Gives, NoMemory>
 
 /// An operator between two operands.
 pub(crate) fn binary(alloc: Global, op: Op, left: Expr, right: Expr) -> Result<Expr, NoMemory>
-    ensures { IfOk result (λ expr. formula_of expr ≡ binary op (formula_of left) (formula_of right)) }
+    ensures { IfOk result (λ expr. expr_tree expr ≡ binary op (expr_tree left) (expr_tree right)) }
 {
     Ok(Expr::Binary(op, Box::new(alloc, left)?, Box::new(alloc, right)?))
 }

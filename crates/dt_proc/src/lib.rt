@@ -4,14 +4,16 @@
 mod builtin;
 mod copies;
 mod error;
-mod heads;
+mod expressions;
+mod fronts;
+mod keys;
 mod laws;
+mod parameters;
 mod procs;
 mod reader;
 mod scope;
-mod steps;
+mod statements;
 mod tree;
-mod walk;
 
 pub use builtin::builtin_procs;
 pub use error::ProcError;

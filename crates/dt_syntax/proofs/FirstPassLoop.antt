@@ -11,7 +11,7 @@ use Rattle.dt_syntax.specs.declared.counts.Counts.{Counts}
 use Rattle.dt_syntax.specs.Tokens.{tokens_of, tokens_from, Lexed, with_front, front_token, front_word, word_token, text_after, text_found, items_of, sign_before, single_sign, double_sign, first_of, Sized, BeginsToken}
 use Rattle.dt_syntax.specs.Grammar.{at}
 use Rattle.dt_syntax.specs.MachineInner.{advance, onward, run}
-use Rattle.dt_syntax.specs.FirstPass.{is_proc, is_mode, is_comma, is_close, is_opening, is_closing, is_of_expression, is_too_many, AreFew, StartsWell, PassesFirst, IsSyntaxFault, IsTooMany, backwards}
+use Rattle.dt_syntax.specs.FirstPass.{is_proc, is_mode, is_comma, is_close, is_opening, is_closing, is_of_expression, is_too_many, NoneTooMany, StartsWell, PassesFirst, IsSyntaxFault, IsTooMany, backwards}
 use Rattle.dt_syntax.specs.CountsInner.{counts_of, AreAtMost}
 use Rattle.dt_syntax.proofs.MachineComplete.{grammar_read, beginning_read, run_joined}
 use Rattle.dt_syntax.proofs.MachineSound.{read_begins, read_whole}
@@ -78,7 +78,7 @@ pub record Reading (text : List ℕ) (tokens : List Placed) (stack : List Sym) (
   pub starts : BeginsToken (drop place text)
   pub lexed : tokens_of text ≡ before tokens (tokens_from 0 place (drop place text))
   pub read : run (expect.Procs ∷ []) tokens ≡ Some stack
-  pub few : AreFew [] tokens
+  pub few : NoneTooMany [] tokens
   pub counted : counts ≡ counts_of (backwards tokens [])
   pub short : length tokens ≤ place
 
@@ -137,7 +137,7 @@ front_within text place t n lt is =
     let fits : Fits (length (drop place text)) (Some (t, n)) = subst (Fits (length (drop place text))) is (front_fits (drop place text)) in
     (fits.0, omega (arith, fits.1, length-drop place text))
 
-few_more : (earlier ts : List Placed) (t : Placed) → AreFew earlier ts → is_too_many (backwards ts earlier) t.token ≡ false → AreFew earlier (ts ++ t ∷ [])
+few_more : (earlier ts : List Placed) (t : Placed) → NoneTooMany earlier ts → is_too_many (backwards ts earlier) t.token ≡ false → NoneTooMany earlier (ts ++ t ∷ [])
 few_more earlier [] t few is = (is, tt)
 few_more earlier (u ∷ ts) t few is = (few.0, few_more (u ∷ earlier) ts t few.1 is)
 

@@ -12,13 +12,13 @@ use Rattle.dt_syntax.specs.declared.token.Placed.{Placed}
 use Rattle.dt_syntax.specs.Grammar.{param_kinds, at, Syntax, chain, minus, denial, int, text, truth, name, parens, of_key, made, Links, no_link, link, syntax_tokens, links_tokens, Reader, reads_int, reads_text, reads_presence, reader_token, Maker, makes_length, makes_text, maker_token, Bracketed, bracketed_tokens, kind_token, Param, param_tokens, Params, no_param, params, params_tokens, KeyPart, text_part, name_part, show_part, part_tokens, mode_token, KeySyntax, key_tokens, Item, row_item, value_item, item_tokens, items_tokens, Statement, let_new, set_key, clear_key, when, choose, abort, give, Statements, nothing, first, statement_tokens, statements_tokens, ProcSyntax, proc_tokens, procs_tokens}
 use Rattle.dt_syntax.specs.FrontsInner.{comma_param, joined_part}
 use Rattle.dt_syntax.specs.Limits.{IsSmall}
-use Rattle.dt_syntax.specs.FirstPass.{is_proc, is_mode, is_comma, is_close, procs_begun, in_proc, is_proc_too_many, is_param_too_many, is_key_too_many, is_token_too_many, is_bracket_too_many, is_too_many, AreFew, backwards}
+use Rattle.dt_syntax.specs.FirstPass.{is_proc, is_mode, is_comma, is_close, procs_begun, in_proc, is_proc_too_many, is_param_too_many, is_key_too_many, is_token_too_many, is_bracket_too_many, is_too_many, NoneTooMany, backwards}
 
-few_left : (e xs ys : List Placed) → AreFew e (xs ++ ys) → AreFew e xs
+few_left : (e xs ys : List Placed) → NoneTooMany e (xs ++ ys) → NoneTooMany e xs
 few_left e [] ys h = tt
 few_left e (x ∷ xs) ys h = (h.0, few_left (x ∷ e) xs ys h.1)
 
-few_right : (e xs ys : List Placed) → AreFew e (xs ++ ys) → AreFew (backwards xs e) ys
+few_right : (e xs ys : List Placed) → NoneTooMany e (xs ++ ys) → NoneTooMany (backwards xs e) ys
 few_right e [] ys h = h
 few_right e (x ∷ xs) ys h = few_right (x ∷ e) xs ys h.1
 
@@ -186,7 +186,7 @@ key_modes : (e : List Placed) (p q : ℕ) (w : Bool) (n : List ℕ) → in_proc 
 key_modes e p q true n = refl
 key_modes e p q false n = refl
 
-keys_few : (e : List Placed) (j : ℕ) (ks : List KeySyntax) → in_proc is_mode e ≡ j → j ≤ 16 → AreFew e (flat_map key_tokens ks) → j + length ks ≤ 16
+keys_few : (e : List Placed) (j : ℕ) (ks : List KeySyntax) → in_proc is_mode e ≡ j → j ≤ 16 → NoneTooMany e (flat_map key_tokens ks) → j + length ks ≤ 16
 keys_few e j [] is low h = omega arith
 keys_few e j (k ∷ ks) is low h =
     let one = few_left e (key_tokens k) (flat_map key_tokens ks) h in
@@ -217,7 +217,7 @@ kind_counts e j p kind.Text is = is
 param_counts : (e : List Placed) (j : ℕ) (p : Param) → InParams e j → InParams (backwards (param_tokens p) e) j
 param_counts e j p is = kind_counts (at p.colon_at tok.Colon ∷ at p.name_at (tok.Name p.name) ∷ e) j p.kind_at p.kind is
 
-more_params_few : (e : List Placed) (j : ℕ) (more : List (ℕ × Param)) → InParams e j → j ≤ 15 → AreFew e (flat_map comma_param more) → j + length more ≤ 15
+more_params_few : (e : List Placed) (j : ℕ) (more : List (ℕ × Param)) → InParams e j → j ≤ 15 → NoneTooMany e (flat_map comma_param more) → j + length more ≤ 15
 more_params_few e j [] is low h = omega arith
 more_params_few e j (m ∷ more) is low h =
     let after = at m.0 tok.Comma ∷ e in
@@ -229,7 +229,7 @@ more_params_few e j (m ∷ more) is low h =
     (few_right after (param_tokens m.1) (flat_map comma_param more) h.1) in
     omega arith
 
-params_few : (e : List Placed) (ps : Params) → InParams e 0 → AreFew e (params_tokens ps) → length (param_kinds ps) ≤ 16
+params_few : (e : List Placed) (ps : Params) → InParams e 0 → NoneTooMany e (params_tokens ps) → length (param_kinds ps) ≤ 16
 params_few e no_param is h = omega arith
 params_few e (params p more) is h =
     let few : 0 + length more ≤ 15 =
@@ -252,15 +252,15 @@ proc_rest_plain p =
           (refl, join NoProc (statements_tokens p.body) (at p.end_at tok.End ∷ []) (no_procs (statements_tokens p.body) (statements_quiet p.body)) (refl, tt))),
     )
 
-proc_small : (e : List Placed) (p : ProcSyntax) → AreFew e (proc_tokens p) → IsSmall p
+proc_small : (e : List Placed) (p : ProcSyntax) → NoneTooMany e (proc_tokens p) → IsSmall p
 proc_small e p h =
     let start = at p.open_at tok.Open ∷ at p.name_at (tok.Name p.name) ∷ at p.word_at tok.Proc ∷ e in
     let keys = flat_map key_tokens (p.key ∷ p.more_keys) in
     let body = at p.begin_at tok.Begin ∷ (statements_tokens p.body ++ at p.end_at tok.End ∷ []) in
-    let inside : AreFew start (params_tokens p.params ++ at p.close_at tok.Close ∷ (key_tokens p.key ++ (flat_map key_tokens p.more_keys ++ body))) = h.1.1.1 in
+    let inside : NoneTooMany start (params_tokens p.params ++ at p.close_at tok.Close ∷ (key_tokens p.key ++ (flat_map key_tokens p.more_keys ++ body))) = h.1.1.1 in
     let heads = few_right start (params_tokens p.params) (at p.close_at tok.Close ∷ (key_tokens p.key ++ (flat_map key_tokens p.more_keys ++ body))) inside in
     let closed = at p.close_at tok.Close ∷ backwards (params_tokens p.params) start in
-    let joined : AreFew closed (keys ++ body) = subst (AreFew closed) (sym (append_assoc (key_tokens p.key) (flat_map key_tokens p.more_keys) body)) heads.1 in
+    let joined : NoneTooMany closed (keys ++ body) = subst (NoneTooMany closed) (sym (append_assoc (key_tokens p.key) (flat_map key_tokens p.more_keys) body)) heads.1 in
     let modes : in_proc is_mode closed ≡ 0 = modes_same (params_tokens p.params) start (params_quiet p.params) in (
       params_few start p.params (refl, refl) (few_left start (params_tokens p.params) _ inside),
       (let few : 0 + length (p.key ∷ p.more_keys) ≤ 16 = keys_few closed 0 (p.key ∷ p.more_keys) modes (omega arith) (few_left closed keys body joined) in omega arith),
@@ -269,7 +269,7 @@ proc_small e p h =
 name_few : (e : List Placed) (p : ℕ) (n : List ℕ) → is_too_many (at p tok.Proc ∷ e) (tok.Name n) ≡ false → procs_begun e + 1 ≤ 64
 name_few e p n h = let f : nat_lt 64 (procs_begun e + 1) ≡ false = (few_of (at p tok.Proc ∷ e) (tok.Name n) h).0 in grind (arith, nat_tests)
 
-procs_few : (e : List Placed) (j : ℕ) (ps : List ProcSyntax) → procs_begun e ≡ j → j ≤ 64 → AreFew e (procs_tokens ps) → (j + length ps ≤ 64) × AllIn IsSmall ps
+procs_few : (e : List Placed) (j : ℕ) (ps : List ProcSyntax) → procs_begun e ≡ j → j ≤ 64 → NoneTooMany e (procs_tokens ps) → (j + length ps ≤ 64) × AllIn IsSmall ps
 procs_few e j [] is low h = (omega arith, tt)
 procs_few e j (p ∷ ps) is low h =
     let one = few_left e (proc_tokens p) (procs_tokens ps) h in
@@ -282,5 +282,5 @@ procs_few e j (p ∷ ps) is low h =
     (omega arith, (proc_small e p one, rest.1))
 
 -- where none of the tokens is one too many, there are at most 64 procedures, and each is small
-pub procs_small : (ps : List ProcSyntax) → AreFew [] (procs_tokens ps) → (length ps ≤ 64) × AllIn IsSmall ps
+pub procs_small : (ps : List ProcSyntax) → NoneTooMany [] (procs_tokens ps) → (length ps ≤ 64) × AllIn IsSmall ps
 procs_small ps h = let r = procs_few [] 0 ps refl (omega arith) h in let few = r.0 in (omega arith, r.1)

@@ -12,8 +12,8 @@ use Rattle.dt_syntax.specs.declared.token.Token.TheVariants as tok
 use Rattle.dt_syntax.specs.declared.token.Placed.{Placed}
 use Rattle.dt_syntax.specs.declared.machine.Sym.{Sym}
 use Rattle.dt_syntax.specs.declared.machine.Sym.TheVariants as expect
-use Rattle.dt_syntax.specs.MachineInner.{passes, tails, operator, turned, advance, onward, run}
-use Rattle.dt_syntax.specs.Grammar.{at, Syntax, chain, minus, denial, int, text, truth, name, parens, of_key, made, Links, no_link, link, syntax_tokens, links_tokens, level_of, IsLevel, AreLinks, reads_int, reads_text, reads_presence, makes_length, makes_text, Param, param_tokens, kind_token, Params, no_param, params, params_tokens, KeyPart, text_part, name_part, show_part, part_tokens, KeySyntax, key_tokens, mode_token, Item, row_item, value_item, item_tokens, items_tokens, Statement, let_new, set_key, clear_key, when, choose, abort, give, Statements, nothing, first, statement_tokens, statements_tokens, IsItem, IsStatement, AreStatements, ProcSyntax, proc_tokens, procs_tokens, IsProc, AreProcs, InGrammar, Begins}
+use Rattle.dt_syntax.specs.MachineInner.{passes, tails, operator, after_turn, advance, onward, run}
+use Rattle.dt_syntax.specs.Grammar.{at, Syntax, chain, minus, denial, int, text, truth, name, parens, of_key, made, Links, no_link, link, syntax_tokens, links_tokens, level_of, IsLevel, AreLinks, reads_int, reads_text, reads_presence, makes_length, makes_text, Param, param_tokens, kind_token, Params, no_param, params, params_tokens, KeyPart, text_part, name_part, show_part, part_tokens, KeySyntax, key_tokens, mode_token, Item, row_item, value_item, item_tokens, items_tokens, Statement, let_new, set_key, clear_key, when, choose, abort, give, Statements, nothing, first, statement_tokens, statements_tokens, IsItem, IsStatement, AreStatements, ProcSyntax, proc_tokens, procs_tokens, IsProc, AreProcSyntaxes, InGrammar, Begins}
 
 -- an expression of the level does not go on with this token
 abbrev pub Stops : ℕ → Token → Type 0
@@ -70,7 +70,7 @@ abbrev under : ℕ → List Sym
 under n = cond (n == 2) [] (expect.Tail n ∷ [])
 
 taken : (o : Op) (st : List Sym) (passed : Option (List Sym)) →
-    turned (operator (level_of o) (tok.Op o)) st passed ≡ Some (expect.Level (suc (level_of o)) ∷ (under (level_of o) ++ st))
+    after_turn (operator (level_of o) (tok.Op o)) st passed ≡ Some (expect.Level (suc (level_of o)) ∷ (under (level_of o) ++ st))
 taken op.Or st passed = refl
 taken op.And st passed = refl
 taken op.Equal st passed = refl
@@ -87,9 +87,9 @@ taken op.Div st passed = refl
 taken op.Rem st passed = refl
 
 taken_at : (n : ℕ) (o : Op) (st : List Sym) (passed : Option (List Sym)) → level_of o ≡ n →
-    turned (operator n (tok.Op o)) st passed ≡ Some (expect.Level (suc n) ∷ (under n ++ st))
+    after_turn (operator n (tok.Op o)) st passed ≡ Some (expect.Level (suc n) ∷ (under n ++ st))
 taken_at n o st passed e =
-    subst (λ m. turned (operator m (tok.Op o)) st passed ≡ Some (expect.Level (suc m) ∷ (under m ++ st))) e (taken o st passed)
+    subst (λ m. after_turn (operator m (tok.Op o)) st passed ≡ Some (expect.Level (suc m) ∷ (under m ++ st))) e (taken o st passed)
 
 links_front : (links : Links) (n : ℕ) (us : List Placed) → AreLinks n links → FrontStops n us → FrontStops (suc n) (links_tokens links ++ us)
 links_front no_link n [] h stop = stop
@@ -149,7 +149,7 @@ mutual
       run (expect.Tail n ∷ st) (links_tokens links ++ us) ≡ run st us
   sound_links no_link n st [] lt h stop = absurd stop
   sound_links no_link n st (t ∷ ts) lt h stop =
-      ap (λ u. onward (turned u st (advance st t.token)) (λ s. run s ts)) (tail_passes n t.token stop)
+      ap (λ u. onward (after_turn u st (advance st t.token)) (λ s. run s ts)) (tail_passes n t.token stop)
   sound_links (link p o x more) n st us lt h stop =
       ap (λ u. onward u (λ s. run s ((syntax_tokens x ++ links_tokens more) ++ us))) (taken_at n o st (advance st (tok.Op o)) h.0)
       ∙ ap (run (expect.Level (suc n) ∷ (under n ++ st))) (append_assoc (syntax_tokens x) (links_tokens more) us)
@@ -354,7 +354,7 @@ proc_read p st us h =
     ∙ more_keys_read p.more_keys p.begin_at (expect.Procs ∷ st) (statements_tokens p.body ++ at p.end_at tok.End ∷ us)
     ∙ statements_read p.body p.end_at (expect.Procs ∷ st) us h
 
-procs_read : (ps : List ProcSyntax) (us : List Placed) → AreProcs ps →
+procs_read : (ps : List ProcSyntax) (us : List Placed) → AreProcSyntaxes ps →
     run (expect.Procs ∷ []) (procs_tokens ps ++ us) ≡ run (expect.Procs ∷ []) us
 procs_read [] us h = refl
 procs_read (p ∷ ps) us h =

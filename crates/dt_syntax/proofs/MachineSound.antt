@@ -12,8 +12,8 @@ use Rattle.dt_syntax.specs.declared.token.Token.TheVariants as tok
 use Rattle.dt_syntax.specs.declared.token.Placed.{Placed}
 use Rattle.dt_syntax.specs.declared.machine.Sym.{Sym}
 use Rattle.dt_syntax.specs.declared.machine.Sym.TheVariants as expect
-use Rattle.dt_syntax.specs.MachineInner.{Turn, takes, passes, refuses, tails, after_operator, operand, operator, statement, turn, turned, advance, onward, run}
-use Rattle.dt_syntax.specs.Grammar.{at, Syntax, chain, minus, denial, int, text, truth, name, parens, of_key, made, Links, no_link, link, syntax_tokens, links_tokens, level_of, IsLevel, AreLinks, reads_int, reads_text, reads_presence, makes_length, makes_text, Param, param_tokens, kind_token, Params, no_param, params, params_tokens, KeyPart, text_part, name_part, show_part, part_tokens, KeySyntax, key_tokens, Item, row_item, value_item, item_tokens, let_new, set_key, clear_key, when, choose, abort, give, Statements, nothing, first, statements_tokens, IsItem, AreStatements, ProcSyntax, procs_tokens, AreProcs, InGrammar, Begins}
+use Rattle.dt_syntax.specs.MachineInner.{Turn, takes, passes, refuses, tails, after_operator, operand, operator, statement, turn, after_turn, advance, onward, run}
+use Rattle.dt_syntax.specs.Grammar.{at, Syntax, chain, minus, denial, int, text, truth, name, parens, of_key, made, Links, no_link, link, syntax_tokens, links_tokens, level_of, IsLevel, AreLinks, reads_int, reads_text, reads_presence, makes_length, makes_text, Param, param_tokens, kind_token, Params, no_param, params, params_tokens, KeyPart, text_part, name_part, show_part, part_tokens, KeySyntax, key_tokens, Item, row_item, value_item, item_tokens, let_new, set_key, clear_key, when, choose, abort, give, Statements, nothing, first, statements_tokens, IsItem, AreStatements, ProcSyntax, procs_tokens, AreProcSyntaxes, InGrammar, Begins}
 
 -- what stands from the keys of a procedure on
 record Rest : Type 0 where
@@ -53,7 +53,7 @@ otherwises_tokens (Some o) = otherwise_tokens o
 
 -- a text of each part of the grammar that may be expected
 abbrev Tree : Sym → Type 0
-Tree expect.Procs = (ps : List ProcSyntax) × AreProcs ps
+Tree expect.Procs = (ps : List ProcSyntax) × AreProcSyntaxes ps
 Tree expect.Name = ℕ × List ℕ
 Tree expect.Text = ℕ × List ℕ
 Tree expect.Open = ℕ
@@ -390,7 +390,7 @@ some_trees : (st : List Sym) → Trees st
 some_trees [] = tt
 some_trees (s ∷ st) = (some_tree s, some_trees st)
 
-back_turn : (u : Turn) (s : Sym) (t : Placed) (below after : List Sym) → Back s t u → turned u below (advance below t.token) ≡ Some after →
+back_turn : (u : Turn) (s : Sym) (t : Placed) (below after : List Sym) → Back s t u → after_turn u below (advance below t.token) ≡ Some after →
     ((tree : Trees after) → advance below t.token ≡ Some after → (whole : Trees below) × (all_spelled below whole ≡ t ∷ all_spelled after tree)) →
     (tree : Trees after) → (whole : Trees (s ∷ below)) × (all_spelled (s ∷ below) whole ≡ t ∷ all_spelled after tree)
 back_turn (takes now) s t below after back e deeper =

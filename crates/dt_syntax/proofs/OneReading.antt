@@ -8,7 +8,7 @@ use Rattle.dt_syntax.specs.declared.kinds.Kind.{Kind}
 use Rattle.dt_syntax.specs.declared.kinds.Kind.TheVariants as kind
 use Rattle.dt_syntax.specs.declared.operator.Op.TheVariants as op
 use Rattle.dt_syntax.specs.FrontsInner.{comma_param, joined_part}
-use Rattle.dt_syntax.specs.Grammar.{at, bracketed_tokens, Param, kind_token, param_tokens, Params, no_param, params, params_tokens, KeyPart, text_part, name_part, show_part, part_tokens, KeySyntax, mode_token, key_tokens, statements_tokens, ProcSyntax, proc_tokens, procs_tokens, IsProc, AreProcs}
+use Rattle.dt_syntax.specs.Grammar.{at, bracketed_tokens, Param, kind_token, param_tokens, Params, no_param, params, params_tokens, KeyPart, text_part, name_part, show_part, part_tokens, KeySyntax, mode_token, key_tokens, statements_tokens, ProcSyntax, proc_tokens, procs_tokens, IsProc, AreProcSyntaxes}
 use Rattle.dt_syntax.proofs.Shapes.{key_cut, mode_is, mode_begin, no_comma_close, no_join_semicolon, proc_cut}
 use Rattle.dt_syntax.proofs.OneSyntax.{front_place_is, front_token_is, after_front, same_name, same_text, one_bracketed, one_list, one_statements}
 
@@ -169,7 +169,7 @@ none_spelled : (p : ProcSyntax) (ts : List Placed) → [] ≡ proc_tokens p ++ t
 none_spelled p ts e = cc
 
 -- the same tokens are spelled by the same procedures
-pub one_reading : (ps qs : List ProcSyntax) → AreProcs ps → AreProcs qs → procs_tokens ps ≡ procs_tokens qs → ps ≡ qs
+pub one_reading : (ps qs : List ProcSyntax) → AreProcSyntaxes ps → AreProcSyntaxes qs → procs_tokens ps ≡ procs_tokens qs → ps ≡ qs
 one_reading [] [] h k e = refl
 one_reading [] (q ∷ qs) h k e = absurd (none_spelled q (procs_tokens qs) e)
 one_reading (p ∷ ps) [] h k e = absurd (none_spelled p (procs_tokens ps) (sym e))

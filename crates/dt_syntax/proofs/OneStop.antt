@@ -3,7 +3,7 @@ use Rattle.std.proofs.Common.{◌≡◌, ◌⊎◌, inl, inr, ℕ, Bool, true, f
 use Rattle.dt_syntax.specs.declared.token.Placed.{Placed}
 use Rattle.dt_syntax.specs.Tokens.{tokens_of}
 use Rattle.dt_syntax.specs.Grammar.{InGrammar, Begins}
-use Rattle.dt_syntax.specs.FirstPass.{is_too_many, AreFew, backwards, StartsWell, FaultAfter}
+use Rattle.dt_syntax.specs.FirstPass.{is_too_many, NoneTooMany, backwards, StartsWell, FaultAfter}
 
 -- where a text stops being read, and why: with the front of its tokens that was read, and the rest
 pub data Stop : Type 0 where
@@ -57,12 +57,12 @@ here text before (t ∷ ts) end b h k = absurd h
 begins_front : (ts us : List Placed) → Begins (ts ++ us) → Begins ts
 begins_front ts us b = (us ++ b.0, subst InGrammar (append_assoc ts us b.0) b.1)
 
-few_at : (earlier xs : List Placed) (t : Placed) (ys : List Placed) → AreFew earlier (xs ++ t ∷ ys) → is_too_many (backwards xs earlier) t.token ≡ false
+few_at : (earlier xs : List Placed) (t : Placed) (ys : List Placed) → NoneTooMany earlier (xs ++ t ∷ ys) → is_too_many (backwards xs earlier) t.token ≡ false
 few_at earlier [] t ys h = h.0
 few_at earlier (x ∷ xs) t ys h = few_at (x ∷ earlier) xs t ys h.1
 
 -- what is read beyond a place does not stop there
-beyond : (text : List ℕ) (before : List Placed) (t : Placed) (ts more : List Placed) (a : Stop) → Stops text before (t ∷ ts) a → Begins (before ++ t ∷ more) → AreFew [] (before ++ t ∷ more) → ⊥
+beyond : (text : List ℕ) (before : List Placed) (t : Placed) (ts more : List Placed) (a : Stop) → Stops text before (t ∷ ts) a → Begins (before ++ t ∷ more) → NoneTooMany [] (before ++ t ∷ more) → ⊥
 beyond text before t ts more (wrong p) h b few = h.1 (begins_front (before ++ t ∷ []) more (subst Begins (sym (append_assoc before (t ∷ []) more)) b))
 beyond text before t ts more (many p) h b few = true_false (is_too_many (backwards before []) t.token) h.1 (few_at [] before t more few)
 beyond text before t ts more end h b few = h
@@ -109,9 +109,9 @@ one_stop text a b r s = chosen (cuts r.before r.after s.before s.after (sym r.we
     chosen : Cuts r.before r.after s.before s.after → a ≡ b
     chosen (inl (e, f)) = here text r.before r.after a b r.stops (subst (λ v. Stops text v r.after b) (sym e) (subst (λ v. Stops text s.before v b) (sym f) s.stops))
     chosen (inr (inl (t, more, e, f))) =
-        absurd (beyond text r.before t (more ++ s.after) more a (subst (λ v. Stops text r.before v a) f r.stops) (subst Begins e s.well.begins) (subst (AreFew []) e s.well.few))
+        absurd (beyond text r.before t (more ++ s.after) more a (subst (λ v. Stops text r.before v a) f r.stops) (subst Begins e s.well.begins) (subst (NoneTooMany []) e s.well.few))
     chosen (inr (inr (t, more, e, f))) =
-        absurd (beyond text s.before t (more ++ r.after) more b (subst (λ v. Stops text s.before v b) f s.stops) (subst Begins e r.well.begins) (subst (AreFew []) e r.well.few))
+        absurd (beyond text s.before t (more ++ r.after) more b (subst (λ v. Stops text s.before v b) f s.stops) (subst Begins e r.well.begins) (subst (NoneTooMany []) e r.well.few))
 
 place_of : Stop → ℕ
 place_of (wrong p) = p

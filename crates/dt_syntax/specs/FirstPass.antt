@@ -120,15 +120,15 @@ is_too_many earlier t =
     || is_bracket_too_many earlier t
 
 -- none of some tokens, which come after others, is one too many
-abbrev pub AreFew : List Placed → List Placed → Type 0
-AreFew earlier [] = Unit {0}
-AreFew earlier (t ∷ ts) = (is_too_many earlier t.token ≡ false) × AreFew (t ∷ earlier) ts
+abbrev pub NoneTooMany : List Placed → List Placed → Type 0
+NoneTooMany earlier [] = Unit {0}
+NoneTooMany earlier (t ∷ ts) = (is_too_many earlier t.token ≡ false) × NoneTooMany (t ∷ earlier) ts
 
 -- the text has these tokens from its front on, some procedures begin with them, and none is one too many
 pub record StartsWell (text : List ℕ) (before after : List Placed) : Type 0 where
   pub tokens : (tokens_of text).tokens ≡ before ++ after
   pub begins : Begins before
-  pub few : AreFew [] before
+  pub few : NoneTooMany [] before
 
 -- the tokens, from the last to the first
 abbrev pub backwards : List Placed → List Placed → List Placed
@@ -139,7 +139,7 @@ backwards (t ∷ ts) earlier = backwards ts (t ∷ earlier)
 pub record PassesFirst (text : List ℕ) (tokens : List Placed) : Type 0 where
   pub whole : tokens_of text ≡ record { tokens = tokens; bad = None }
   pub grammar : InGrammar tokens
-  pub few : AreFew [] tokens
+  pub few : NoneTooMany [] tokens
 
 -- what comes after some tokens is a fault of syntax at the place: a token such that no procedures begin with the tokens up to it,
 -- or a place where no token begins, or the end of the text although the tokens are not all those of some procedures

@@ -297,12 +297,12 @@ IsProc p = AreStatements p.body
 abbrev pub procs_tokens : List ProcSyntax → List Placed
 procs_tokens procs = flat_map proc_tokens procs
 
-abbrev pub AreProcs : List ProcSyntax → Type 0
-AreProcs procs = AllIn IsProc procs
+abbrev pub AreProcSyntaxes : List ProcSyntax → Type 0
+AreProcSyntaxes procs = AllIn IsProc procs
 
 -- these are all the tokens of some procedures
 abbrev pub InGrammar : List Placed → Type 0
-InGrammar ts = (procs : List ProcSyntax) × AreProcs procs × (procs_tokens procs ≡ ts)
+InGrammar ts = (procs : List ProcSyntax) × AreProcSyntaxes procs × (procs_tokens procs ≡ ts)
 
 -- some procedures begin with these tokens
 abbrev pub Begins : List Placed → Type 0

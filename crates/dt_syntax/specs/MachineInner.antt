@@ -131,15 +131,15 @@ turn sym.MoreItems _ = refuses
 turn (sym.Level n) t = operand n t
 turn (sym.Tail n) t = operator n t
 
-abbrev pub turned : Turn → List Sym → Option (List Sym) → Option (List Sym)
-turned (takes expected) below passed = Some (expected ++ below)
-turned passes below passed = passed
-turned refuses below passed = None
+abbrev pub after_turn : Turn → List Sym → Option (List Sym) → Option (List Sym)
+after_turn (takes expected) below passed = Some (expected ++ below)
+after_turn passes below passed = passed
+after_turn refuses below passed = None
 
 -- the stack after a token, if the machine goes on
 abbrev pub advance : List Sym → Token → Option (List Sym)
 advance [] t = None
-advance (s ∷ below) t = turned (turn s t) below (advance below t)
+advance (s ∷ below) t = after_turn (turn s t) below (advance below t)
 
 -- the stack after some tokens, if the machine goes on
 abbrev pub onward : Option (List Sym) → (List Sym → Option (List Sym)) → Option (List Sym)
@@ -162,29 +162,29 @@ Advances old t new true = advance old t ≡ Some new
 Advances old t new false = advance old t ≡ None
 
 -- one token is expected
-abbrev pub IsSingle : Sym → Type 0
-IsSingle sym.Name = Unit {0}
-IsSingle sym.Text = Unit {0}
-IsSingle sym.Open = Unit {0}
-IsSingle sym.Close = Unit {0}
-IsSingle sym.Begin = Unit {0}
-IsSingle sym.Colon = Unit {0}
-IsSingle sym.Is = Unit {0}
-IsSingle sym.Semicolon = Unit {0}
-IsSingle _ = ⊥
+abbrev pub IsSingleSym : Sym → Type 0
+IsSingleSym sym.Name = Unit {0}
+IsSingleSym sym.Text = Unit {0}
+IsSingleSym sym.Open = Unit {0}
+IsSingleSym sym.Close = Unit {0}
+IsSingleSym sym.Begin = Unit {0}
+IsSingleSym sym.Colon = Unit {0}
+IsSingleSym sym.Is = Unit {0}
+IsSingleSym sym.Semicolon = Unit {0}
+IsSingleSym _ = ⊥
 
-abbrev pub IsPart : Sym → Type 0
-IsPart sym.Part = Unit {0}
-IsPart sym.MoreParts = Unit {0}
-IsPart _ = ⊥
+abbrev pub IsKeyPartSym : Sym → Type 0
+IsKeyPartSym sym.Part = Unit {0}
+IsKeyPartSym sym.MoreParts = Unit {0}
+IsKeyPartSym _ = ⊥
 
-abbrev pub IsHead : Sym → Type 0
-IsHead sym.Procs = Unit {0}
-IsHead sym.Params = Unit {0}
-IsHead sym.MoreParams = Unit {0}
-IsHead sym.Kind = Unit {0}
-IsHead sym.Keys = Unit {0}
-IsHead sym.MoreKeys = Unit {0}
-IsHead sym.Part = Unit {0}
-IsHead sym.MoreParts = Unit {0}
-IsHead _ = ⊥
+abbrev pub IsHeadSym : Sym → Type 0
+IsHeadSym sym.Procs = Unit {0}
+IsHeadSym sym.Params = Unit {0}
+IsHeadSym sym.MoreParams = Unit {0}
+IsHeadSym sym.Kind = Unit {0}
+IsHeadSym sym.Keys = Unit {0}
+IsHeadSym sym.MoreKeys = Unit {0}
+IsHeadSym sym.Part = Unit {0}
+IsHeadSym sym.MoreParts = Unit {0}
+IsHeadSym _ = ⊥

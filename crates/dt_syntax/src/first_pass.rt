@@ -1,6 +1,6 @@
 //! The first pass: tokens, syntax, and what is one too many.
 
-ghost use Rattle.std.specs.Prelude.{◌≡◌, ◌≢◌, ◌<◌, ◌^◌, [], ◌∷◌, length, IfOk, IfErr, MatchBool};
+ghost use Rattle.std.specs.Prelude.{◌≡◌, ◌≢◌, ◌<◌, ◌≤◌, ◌^◌, [], ◌∷◌, length, IfOk, IfErr, MatchBool};
 ghost use Rattle.dt_syntax.specs.declared.machine.Sym.TheVariants as sym;
 ghost use Rattle.dt_syntax.specs.FirstPass.{FirstFault, PassesFirst};
 
@@ -16,6 +16,7 @@ use std::alloc::Global;
 pub fn read_tokens(alloc: Global, text: &[u8]) -> Result<Vec<Placed>, SyntaxError>
     requires { length text.now < 2 ^ 32 }
     ensures ok { IfOk result (λ tokens. PassesFirst text.now tokens.items) }
+    ensures short { IfOk result (λ tokens. length tokens.items ≤ length text.now) }
     ensures fault { IfErr result (FirstFault text.now) }
 {
     let mut tokens = Vec::new(alloc);

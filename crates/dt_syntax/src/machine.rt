@@ -199,7 +199,7 @@ const KEY: &[Sym] = &[Sym::Name, Sym::Is, Sym::Part, Sym::MoreParts, Sym::MoreKe
 
 /// What a token does in the head of a procedure.
 fn head(sym: Sym, token: &Token) -> Step<'static>
-    requires { machine.IsHead sym }
+    requires { machine.IsHeadSym sym }
     ensures { machine.turn_of result ≡ machine.turn sym token.now }
 {
     match sym {
@@ -245,7 +245,7 @@ fn head(sym: Sym, token: &Token) -> Step<'static>
 
 /// What a token does in a key expression.
 fn part(sym: Sym, token: &Token) -> Step<'static>
-    requires { machine.IsPart sym }
+    requires { machine.IsKeyPartSym sym }
     ensures { machine.turn_of result ≡ machine.turn sym token.now }
 {
     match sym {
@@ -269,7 +269,7 @@ fn part(sym: Sym, token: &Token) -> Step<'static>
 
 /// What a token does where one token is expected.
 fn single(sym: Sym, token: &Token) -> Step<'static>
-    requires { machine.IsSingle sym }
+    requires { machine.IsSingleSym sym }
     ensures { machine.turn_of result ≡ machine.turn sym token.now }
 {
     match sym {

@@ -69,3 +69,6 @@ pub returns-else-is_whole-clause-fault : goal.returns-else-is_whole-clause-fault
 returns-else-is_whole-clause-fault c =
     too_early c.args.text.now c.loop-at.tokens.items (reverse c.loop-at.stack.items) c.loop-at.counts c.loop-at.at c.loop-at.invariant c.loop-at-test.false
     (λ e. c.if-is_whole.ensures (c.as_slice.ensures.value ∙ sym (reverse-reverse c.loop-at.stack.items) ∙ ap reverse e))
+
+pub returns-then-is_whole-clause-short : goal.returns-then-is_whole-clause-short
+returns-then-is_whole-clause-short c = omega (arith, c.loop-at.invariant.short, c.loop-at.invariant.within)
