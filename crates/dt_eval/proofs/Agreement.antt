@@ -12,7 +12,7 @@ use Rattle.dt_proc.specs.declared.tree.Op.{Op}
 use Rattle.dt_proc.specs.declared.tree.Sort.{Sort}
 use Rattle.dt_proc.specs.declared.tree.Sort.TheVariants as sort
 use Rattle.dt_proc.specs.Tree.{ExprTree, number, text, truth, variable, number_of, text_of, has_value, length_of, shown, negative, opposite, binary, GiveTree, row, value, StmtTree, let_new, set_row, clear_row, choose, abort_with, give_all, BlockTree, done, then, ProcTree}
-use Rattle.dt_proc.specs.Sound.{HasSort, IsStoredSort, IsSoundGift, AreSound, IsSoundProc, TakesSort, sort_given, sort_of}
+use Rattle.dt_proc.specs.Sound.{HasSort, IsStoredSort, IsSoundGift, AreSound, IsSoundProc, TakesSort}
 use Rattle.dt_eval.specs.declared.finish.Cause.{Cause}
 use Rattle.dt_eval.specs.declared.finish.Cause.TheVariants as cause
 use Rattle.dt_eval.specs.declared.finish.Finish.{Finish}
@@ -21,8 +21,8 @@ use Rattle.dt_eval.specs.declared.state.Datum.{Datum}
 use Rattle.dt_eval.specs.declared.state.Datum.TheVariants.{Int, Text, Bool as Truth}
 use Rattle.dt_eval.specs.Data.{RunState, unless_aborted, datum_of, sort_of_datum, stored, row_at, with_variable, with_row_value, with_given, leaving}
 use Rattle.dt_eval.specs.Expressions.{in_range, operate, decides, variable_in, number_in, text_in, byte_count, printed_datum, negated, other_truth, evaluated}
-use Rattle.dt_eval.specs.Statements.{value_now, gift_value, after_gift, after_gifts, chosen, after_step, after_block}
-use Rattle.dt_eval.specs.Meaning.{Fits, names_of, run_opening, finish_of, meaning, writes_of}
+use Rattle.dt_eval.specs.Statements.{value_now, after_gifts, chosen, after_step, after_block}
+use Rattle.dt_eval.specs.Meaning.{Fits, names_of, run_opening, finish_of, meaning}
 use Rattle.dt_eval.specs.Cases as cases
 use Rattle.dt_eval.specs.Cases.{GivesDatum, a_number, a_text, a_truth, a_variable, a_row_number, no_row_number, a_row_text, no_row_text, a_value, no_value, a_length, no_length, a_printed, no_printed, a_negative, no_negative, an_opposite, no_opposite, left_aborts, left_decides, right_aborts, of_both}
 use Rattle.dt_eval.specs.Cases.{GivesNow, Hands, nothing, a_row, an_item, no_item, Does, lets, no_let, sets, no_set, clears, first_block, second_block, no_choice, aborts, gives, Runs, at_end, goes_on, stops, Means}

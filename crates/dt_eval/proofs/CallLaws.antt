@@ -14,12 +14,12 @@ use Rattle.dt_proc.specs.Tree.{ProcTree}
 use Rattle.dt_proc.specs.Sound.{IsSoundProc, sort_of}
 use Rattle.dt_eval.specs.declared.finish.Cause.{Cause}
 use Rattle.dt_eval.specs.declared.state.Row.{Row}
-use Rattle.dt_eval.specs.Data.{RunState, with_value, declared_key}
+use Rattle.dt_eval.specs.Data.{RunState, declared_key}
 use Rattle.dt_eval.specs.Statements.{after_block}
-use Rattle.dt_eval.specs.Meaning.{HasKeys, keys_of, names_of, meaning, finish_of, run_opening, unchanged, writes_in, writes_of}
+use Rattle.dt_eval.specs.Meaning.{keys_of, names_of, meaning, finish_of, run_opening, writes_in}
 use Rattle.dt_eval.specs.Calls.{CallFits, keys_if, meaning_if, call_keys, call_meaning}
 use Rattle.dt_eval.proofs.KeyLaws.{keys_ascend, keys_all, keys_write, written_use}
-use Rattle.dt_eval.proofs.RowLaws.{SetsOnly, Keeps, IsWrittenIn, sets_any, sets_sound, block_keeps, with_value_keys, with_value_written, opening_written, opening_keys, writes_written, writes_ascend}
+use Rattle.dt_eval.proofs.RowLaws.{Keeps, IsWrittenIn, sets_any, sets_sound, block_keeps, with_value_keys, with_value_written, opening_written, opening_keys, writes_written, writes_ascend}
 
 -- of one procedure
 

@@ -7,7 +7,6 @@ use Rattle.dt_lists.specs.Lists.{AllIn, IsFront}
 use Rattle.dt_lists.proofs.Fronts.{front_refl, front_trans, front_append}
 use Rattle.dt_lists.proofs.Places.{place_within}
 use Rattle.dt_access.specs.Clash.{Bytes}
-use Rattle.dt_text.specs.declared.Value.{Value}
 use Rattle.dt_proc.specs.declared.tree.Sort.{Sort}
 use Rattle.dt_proc.specs.declared.tree.Sort.TheVariants as sort
 use Rattle.dt_proc.specs.declared.tree.Stmt.{Stmt}
@@ -16,7 +15,7 @@ use Rattle.dt_proc.specs.Tree.{ExprTree, GiveTree, StmtTree, let_new, set_row, c
 use Rattle.dt_proc.specs.Sound.{HasSort, IsStoredSort, IsSoundGift, AreSound}
 use Rattle.dt_eval.specs.declared.finish.Cause.{Cause}
 use Rattle.dt_eval.specs.declared.state.Datum.{Datum}
-use Rattle.dt_eval.specs.declared.state.Datum.TheVariants.{Int, Text, Bool as Truth}
+use Rattle.dt_eval.specs.declared.state.Datum.TheVariants.{Bool as Truth}
 use Rattle.dt_eval.specs.declared.frame.Frame.{Frame}
 use Rattle.dt_eval.specs.Data.{RunState, unless_aborted, sort_of_datum, stored, row_at, with_variable, with_row_value, with_given, leaving}
 use Rattle.dt_eval.specs.Statements.{value_now, gift_value, after_gift, after_gifts, chosen, after_step, after_block}

@@ -1,5 +1,6 @@
 pub mod Agreement
 pub mod CallLaws
+pub mod Callers
 pub mod FrameLaws
 pub mod KeyLaws
 pub mod OperandLaws

@@ -10,11 +10,8 @@ use Rattle.std.specs.Cmp.Lexicographic.{slice_cmp, bytes_decides, nat_list_cmp_t
 use Rattle.std.proofs.lemmas.Bool.{true≢false}
 use Rattle.std.proofs.lemmas.Bool.Decides.{Decides-int_eq, Decides-ltb, Decides-like, Decides-not, leb_tells}
 use Rattle.std.proofs.lemmas.Option.{slice_get-map}
-use Rattle.dt_lists.specs.Lists.{AllIn}
 use Rattle.dt_access.specs.Clash.{Bytes, same_key}
 use Rattle.dt_access.specs.Orders.{KeyBefore}
-use Rattle.dt_text.specs.declared.Value.{Value}
-use Rattle.dt_text.specs.declared.Value.TheVariants as val
 use Rattle.dt_proc.specs.declared.tree.Op.{Op}
 use Rattle.dt_proc.specs.declared.tree.Op.TheVariants.{Or, And, Equal, Differ, Less, AtMost, More, AtLeast, Add, Sub, Join, Mul, Div, Rem}
 use Rattle.dt_proc.specs.declared.tree.Sort.{Sort}
@@ -25,7 +22,7 @@ use Rattle.dt_eval.specs.declared.finish.Cause.TheVariants as cause
 use Rattle.dt_eval.specs.declared.state.Datum.{Datum}
 use Rattle.dt_eval.specs.declared.state.Datum.TheVariants.{Int, Text, Bool as Truth}
 use Rattle.dt_eval.specs.Data.{sort_of_datum}
-use Rattle.dt_eval.specs.Expressions.{is_small, in_range, is_zero, quotient, remainder, joining, text_order, of_numbers, of_texts, of_truths, operate, decides}
+use Rattle.dt_eval.specs.Expressions.{is_small, in_range, is_zero, text_order, of_numbers, of_texts, of_truths, operate, decides}
 use Rattle.dt_eval.specs.Cases as cases
 use Rattle.dt_eval.specs.Cases.{TellsTruth, GivesIf, IsInRange, UnlessZero, OfNumbers, OfTexts, Operates}
 

@@ -12,13 +12,13 @@ use Rattle.dt_access.specs.Clash.{Bytes, same_key}
 use Rattle.dt_access.specs.Orders.{KeyBefore, HasAscendingKeys, HasDistinctKeys}
 use Rattle.dt_text.specs.declared.Value.{Value}
 use Rattle.dt_proc.specs.declared.tree.Sort.{Sort}
-use Rattle.dt_proc.specs.Tree.{ExprTree, GiveTree, row, value, StmtTree, let_new, set_row, clear_row, choose, abort_with, give_all, BlockTree, done, then}
+use Rattle.dt_proc.specs.Tree.{GiveTree, value, let_new, set_row, clear_row, choose, abort_with, give_all, BlockTree, done, then}
 use Rattle.dt_proc.specs.Sound.{AreSound}
 use Rattle.dt_eval.specs.declared.finish.Cause.{Cause}
 use Rattle.dt_eval.specs.declared.state.Datum.{Datum}
 use Rattle.dt_eval.specs.declared.state.Datum.TheVariants.{Int, Text, Bool as Truth}
 use Rattle.dt_eval.specs.declared.state.Row.{Row}
-use Rattle.dt_eval.specs.Data.{RunState, unless_aborted, stored, declared_key, changed, with_value, row_at, with_variable, with_row_value, with_given, leaving}
+use Rattle.dt_eval.specs.Data.{RunState, unless_aborted, stored, declared_key, changed, with_value, with_variable, with_row_value, with_given, leaving}
 use Rattle.dt_eval.specs.Statements.{value_now, gift_value, after_gift, after_gifts, chosen, after_step, after_block}
 use Rattle.dt_eval.specs.Meaning.{unchanged, writes_of}
 

@@ -1,4 +1,5 @@
--- Calls, which name their procedure by its number in a list of procedures.
+-- Calls, which name their procedure by its number in a list of procedures. What a call needs before it may run, which keys it
+-- uses, and how it ends; the parts of each are said by Keys and Meaning.
 use Rattle.std.specs.Prelude.{◌≡◌, ℕ, List, [], slice_get, Option, Some, None}
 use Rattle.dt_text.specs.declared.Value.{Value}
 use Rattle.dt_access.specs.Clash.{Bytes}

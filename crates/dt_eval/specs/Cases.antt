@@ -1,5 +1,6 @@
--- The meaning of procedures by cases. Each line says when an expression gives a value or aborts, and what a statement does
--- with the variables, the rows and the values given so far. `Meaning` says the same by a function; both agree.
+-- The meaning of procedures by cases, to be read aloud: each line says when an expression gives a value or aborts, and what a
+-- statement does with the variables, the rows and the values given so far. Meaning says the same by a function, which proofs
+-- compute with; that both agree is a law.
 use Rattle.std.specs.Prelude.{◌≡◌, ◌≢◌, ◌⊎◌, ℕ, ℤ, pos, neg_ℤ, ◌+ℤ◌, ◌-ℤ◌, ◌*ℤ◌, ◌<ℤ◌, ◌≤ℤ◌, int_div, int_rem, ◌<◌, ◌≤◌, Bool, true, false, not, ◌&&◌, ◌||◌, List, [], ◌∷◌, ◌++◌, length, slice_get, Option, Some, None, Result, Ok, Err, FitsSigned}
 use Rattle.std.specs.Int.{w64}
 use Rattle.std.specs.Fmt.{signed_decimal}

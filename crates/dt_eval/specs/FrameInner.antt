@@ -1,11 +1,11 @@
--- What the code keeps of a run, as the state of the run.
+-- Scaffolding: what the code keeps of a run, as the state of the run.
 use Rattle.std.specs.Prelude.{◌≡◌, ◌<◌, ℕ, ℤ, Bool, List, map, length, slice_index_or, [], Option, Some, None, Result, Ok, Err}
 use Rattle.dt_proc.specs.declared.tree.KeyItem.{KeyItem}
 use Rattle.dt_proc.specs.declared.tree.KeyItem.TheVariants as item
 use Rattle.dt_proc.specs.declared.tree.Op.{Op}
 use Rattle.dt_proc.specs.declared.tree.Sort.{Sort}
-use Rattle.dt_proc.specs.Sound.{TakesSort, HasSort, AreSound, IsSoundGift}
-use Rattle.dt_proc.specs.Tree.{ExprTree, GiveTree, StmtTree, BlockTree, then, done}
+use Rattle.dt_proc.specs.Sound.{TakesSort, HasSort, AreSound}
+use Rattle.dt_proc.specs.Tree.{ExprTree, StmtTree, BlockTree, then, done}
 use Rattle.dt_eval.specs.Data.{RunState, sort_of_datum}
 use Rattle.dt_lists.specs.Lists.{AllIn}
 use Rattle.dt_access.specs.Clash.{Bytes}

@@ -1,4 +1,5 @@
--- What statements do, as a function.
+-- What statements do, as a function on the state of a run: a block ends at the first abort, and its lets with it. Cases says the
+-- same line by line.
 use Rattle.std.specs.Prelude.{ℕ, true, false, List, [], ◌∷◌, Option, Result, Ok, Err}
 use Rattle.dt_access.specs.Clash.{Bytes}
 use Rattle.dt_text.specs.declared.Value.{Value}

@@ -1,4 +1,5 @@
 pub mod BlockJoin
+pub mod Callers
 pub mod Entries
 pub mod ExprSorts
 pub mod ExprWalk

@@ -1,4 +1,4 @@
--- Statements within a statement are smaller than it: what lets a walk down the statements end.
+-- Scaffolding: statements within a statement are smaller than it, which lets a walk down the statements end.
 use Rattle.std.specs.Prelude.{◌≤◌, List, [], ◌∷◌}
 use Rattle.std.proofs.Common.{arith}
 use denote.Param.Weighed.{most}

@@ -1,4 +1,5 @@
--- The built-in procedures, as trees. Beside each stands its text.
+-- The built-in procedures, as trees. Each cluster has them unless its file names others, so their meaning is fixed here and not
+-- by a text that is read. Beside each stands its text; that the text means the tree is tested.
 use Rattle.std.specs.Prelude.{ℕ, true, false, List, [], ◌∷◌, codes}
 use Rattle.dt_syntax.specs.declared.kinds.Kind.TheVariants.{Int, Text}
 use Rattle.dt_syntax.specs.declared.operator.Op.TheVariants.{Less, Add, Sub, Div}

@@ -1,4 +1,4 @@
--- Variables that are found by a map from their names.
+-- Scaffolding: variables that are found by a map from their names, since there may be very many of them.
 use Rattle.std.specs.Prelude.{◌≡◌, ◌==◌, ℕ, Bool, false, List, Option, Some, None}
 use Rattle.std.specs.Ordering.{nat_cmp}
 use Rattle.std.specs.Cmp.Lexicographic.{slice_cmp}

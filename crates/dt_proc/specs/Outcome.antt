@@ -1,4 +1,5 @@
--- What a text of procedures gives: the procedures that it means, or the first fault in it.
+-- What a text of procedures gives: the procedures that it means, or the first fault in it. The first pass speaks first, and the
+-- second where the first has no fault. A text has at most one outcome, which is a law.
 use Rattle.std.specs.Prelude.{◌≡◌, ℕ, List, [], Ok, Err}
 use Rattle.dt_syntax.specs.declared.token.Placed.{Placed}
 use Rattle.dt_syntax.specs.declared.error.SyntaxError.{SyntaxError}

@@ -1,5 +1,6 @@
--- The second pass: what procedures mean whose syntax is right, or the first fault in them. Procedures are walked in order,
--- and the tokens of each in order; an operator is tested after its operands.
+-- The second pass: what procedures mean whose syntax is right, or the first fault in their names and kinds. Procedures are walked
+-- in order, and the tokens of each in order; an operator is tested after its operands. Names says what is visible where, Tree what
+-- is made, and Outcome puts both passes together.
 use Rattle.std.specs.Prelude.{ℕ, Bool, true, false, if◌then◌else◌, ◌&&◌, ◌||◌, ◌==◌, not, nat_le, nat_lt, nat_eq, List, [], ◌∷◌, ◌++◌, map, Result, Ok, Err}
 use Rattle.std.specs.List.{list_any}
 use Rattle.std.specs.Cmp.Lexicographic.{pointwise}

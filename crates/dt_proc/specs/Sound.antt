@@ -1,4 +1,5 @@
 -- What holds of every procedure, so that a run of it has no case that cannot come: kinds fit, and what is named is there.
+-- Procedures that a text means are sound, and so are the built-in ones; a run needs nothing else of them.
 use Rattle.std.specs.Prelude.{◌≡◌, ◌⊎◌, ℕ, ◌<◌, ◌≤◌, Bool, true, List, [], ◌∷◌, ◌++◌, length, map, slice_get, Some, FitsSigned}
 use Rattle.std.specs.Int.{w64}
 use Rattle.dt_lists.specs.Lists.{AllIn, Distinct}

@@ -1,4 +1,4 @@
--- The codes by which proofs tell trees apart.
+-- Scaffolding: the codes by which proofs tell trees apart.
 use Rattle.std.specs.Prelude.{◌≡◌, ℕ, List, refl}
 use Rattle.std.proofs.Common.{ap, arith}
 use Rattle.std.specs.Coded.{Coded, code_by, coded×, coded_ℕ, coded_ℤ, coded_bool, coded_list}

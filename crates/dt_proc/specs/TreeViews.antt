@@ -1,4 +1,5 @@
--- What the trees in memory stand for.
+-- What the trees in memory stand for: each expression, item and block of the code as a tree of Tree, without boxes and lists.
+-- Contracts speak of these trees alone.
 use Rattle.std.specs.Prelude.{ℕ, ◌+◌, List, [], ◌∷◌, map}
 use Rattle.dt_proc.specs.declared.tree.Expr.{Expr, Int, Text, Bool, Var, IntOf, TextOf, Has, Len', Show', Neg', Not', Binary'}
 use Rattle.dt_proc.specs.declared.tree.Give.{Give}

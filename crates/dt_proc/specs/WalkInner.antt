@@ -1,4 +1,5 @@
--- What a walk over tokens answers, in terms of the syntax trees that the tokens spell.
+-- Scaffolding of the second pass: what a walk over tokens answers, in terms of the syntax trees that the tokens spell, and what
+-- it needs of the tokens. No public statement speaks of it.
 use Rattle.std.specs.Prelude.{◌≡◌, ◌⊎◌, ℕ, ◌+◌, ◌<◌, ◌≤◌, ◌^◌, length, FitsSigned, List, [], ◌∷◌, ◌++◌, Bool, true, MatchBool, map, Result, Ok, Err, Option, Some, None}
 use Rattle.dt_syntax.specs.declared.token.Token.{Token}
 use Rattle.dt_syntax.specs.declared.token.Token.TheVariants as tok

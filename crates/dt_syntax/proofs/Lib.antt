@@ -9,4 +9,5 @@ pub mod OneReading
 pub mod OneStop
 pub mod OneSyntax
 pub mod Shapes
+pub mod TextWordTokens
 pub mod TokenRanges

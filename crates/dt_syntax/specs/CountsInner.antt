@@ -1,4 +1,5 @@
--- What is counted of the tokens so far, as the first pass keeps it.
+-- Scaffolding of the first pass: what is counted of the tokens so far, as the code keeps it. What one too many means is said by
+-- FirstPass, which counts the tokens anew at each place.
 use Rattle.std.specs.Prelude.{ℕ, ◌≤◌, List}
 use Rattle.dt_syntax.specs.declared.token.Placed.{Placed}
 use Rattle.dt_syntax.specs.declared.counts.Counts.{Counts}

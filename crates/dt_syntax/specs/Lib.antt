@@ -4,4 +4,5 @@ pub mod FrontsInner
 pub mod Grammar
 pub mod Limits
 pub mod MachineInner
+pub mod TextTokens
 pub mod Tokens

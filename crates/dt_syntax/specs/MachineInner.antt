@@ -1,5 +1,5 @@
--- A machine that reads tokens from the front, with a stack of what is expected, the next first. That it goes on exactly
--- where some procedures begin with the tokens so far is proved.
+-- Scaffolding of the first pass: a machine that reads tokens from the front, with a stack of what is expected, the next first.
+-- That it goes on exactly where some procedures begin with the tokens so far is proved, so no public statement speaks of it.
 use Rattle.std.specs.Prelude.{ℕ, zero, suc, Bool, true, false, if◌then◌else◌, ◌==◌, nat_le, ◌≡◌, List, [], ◌∷◌, ◌++◌, Option, Some, None}
 use Rattle.dt_syntax.specs.declared.operator.Op.{Op}
 use Rattle.dt_syntax.specs.declared.operator.Op.TheVariants as op

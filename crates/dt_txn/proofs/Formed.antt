@@ -7,7 +7,7 @@ use Rattle.dt_access.specs.Orders.{HasAscendingKeys}
 use Rattle.dt_access.specs.declared.Mode.{Mode}
 use Rattle.dt_proc.specs.Tree.{ProcTree}
 use Rattle.dt_eval.specs.Meaning.{IsFirstBadKey}
-use Rattle.dt_eval.proofs.CallLaws.{call_keys_ascend}
+use Rattle.dt_eval.proofs.Callers.{call_keys_ascend}
 use Rattle.dt_txn.specs.declared.txn.Body.{Body}
 use Rattle.dt_txn.specs.declared.txn.Body.TheVariants.{Call, Move}
 use Rattle.dt_txn.specs.declared.txn.Txn.{Txn}

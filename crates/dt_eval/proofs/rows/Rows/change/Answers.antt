@@ -1,12 +1,6 @@
 use Rattle.std.proofs.Common.{◌≡◌, ◌<◌, ℕ, true, List, length, set, get_or, sym, ap, ap₂, subst, ◌∙◌, length-set}
 use Rattle.std.specs.Prelude.{Option}
-use Rattle.dt_lists.specs.Lists.{AllIn, EachThen}
-use Rattle.dt_access.specs.Clash.{Bytes}
-use Rattle.dt_access.specs.Orders.{KeyBefore}
-use Rattle.dt_text.specs.declared.Value.{Value}
-use Rattle.dt_eval.specs.declared.state.Row.{Row}
 use Rattle.dt_eval.specs.Data.{declared_key, with_value}
-use Rattle.dt_eval.specs.Data.{names_at, keys_in}
 use Rattle.dt_eval.proofs.RowPlaces.{row_invariant, row_changed}
 use Rattle.dt_eval.proofs.rows.Rows.change.Goals as goal
 
