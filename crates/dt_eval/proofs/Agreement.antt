@@ -11,7 +11,8 @@ use Rattle.dt_proc.specs.declared.tree.KeyDecl.{KeyDecl}
 use Rattle.dt_proc.specs.declared.tree.Op.{Op}
 use Rattle.dt_proc.specs.declared.tree.Sort.{Sort}
 use Rattle.dt_proc.specs.declared.tree.Sort.TheVariants as sort
-use Rattle.dt_proc.specs.Tree.{ExprTree, number, text, truth, variable, number_of, text_of, has_value, length_of, shown, negative, opposite, binary, GiveTree, row, value, StmtTree, let_new, set_row, clear_row, choose, abort_with, give_all, BlockTree, done, then, ProcTree}
+use Rattle.dt_proc.specs.Tree.{ExprTree, number, text, truth, variable, number_of, text_of, has_value, length_of, shown, negative, opposite, binary, GiveTree}
+use Rattle.dt_proc.specs.Tree.{row, value, StmtTree, let_new, set_row, clear_row, choose, abort_with, give_all, BlockTree, done, then, ProcTree}
 use Rattle.dt_proc.specs.Sound.{HasSort, IsStoredSort, IsSoundGift, AreSound, IsSoundProc, TakesSort}
 use Rattle.dt_eval.specs.declared.finish.Cause.{Cause}
 use Rattle.dt_eval.specs.declared.finish.Cause.TheVariants as cause
@@ -24,8 +25,11 @@ use Rattle.dt_eval.specs.Expressions.{in_range, operate, decides, variable_in, n
 use Rattle.dt_eval.specs.Statements.{value_now, after_gifts, chosen, after_step, after_block}
 use Rattle.dt_eval.specs.Meaning.{Fits, names_of, run_opening, finish_of, meaning}
 use Rattle.dt_eval.specs.Cases as cases
-use Rattle.dt_eval.specs.Cases.{GivesDatum, a_number, a_text, a_truth, a_variable, a_row_number, no_row_number, a_row_text, no_row_text, a_value, no_value, a_length, no_length, a_printed, no_printed, a_negative, no_negative, an_opposite, no_opposite, left_aborts, left_decides, right_aborts, of_both}
-use Rattle.dt_eval.specs.Cases.{GivesNow, Hands, nothing, a_row, an_item, no_item, Does, lets, no_let, sets, no_set, clears, first_block, second_block, no_choice, aborts, gives, Runs, at_end, goes_on, stops, Means}
+use Rattle.dt_eval.specs.Cases.{GivesDatum, a_number, a_text, a_truth, a_variable, a_row_number, no_row_number, a_row_text, no_row_text, a_value, no_value}
+use Rattle.dt_eval.specs.Cases.{a_length, no_length, a_printed, no_printed, a_negative, no_negative, an_opposite, no_opposite, left_aborts, left_decides}
+use Rattle.dt_eval.specs.Cases.{right_aborts, of_both}
+use Rattle.dt_eval.specs.Cases.{GivesNow, Hands, nothing, a_row, an_item, no_item, Does, lets, no_let, sets, no_set, clears, first_block, second_block}
+use Rattle.dt_eval.specs.Cases.{no_choice, aborts, gives, Runs, at_end, goes_on, stops, Means}
 use Rattle.dt_eval.specs.FrameInner.{GivesSort}
 use Rattle.dt_eval.proofs.FrameLaws.{Leads, follow}
 use Rattle.dt_eval.proofs.OperandLaws.{ranged, operate_is, is_operate, decides_is, is_decides}
@@ -229,7 +233,8 @@ module _ (names : List Bytes) where
   at_choice s f a b x y h k (Ok (Text t)) g q = cc
   at_choice s f a b x y h k (Err c) g q = no_choice s f a b c g
 
-  at_step : (s : RunState) (st : StmtTree) (rest : BlockTree) (r : Result RunState Cause) → Does names s st r → ((t : RunState) → r ≡ Ok t → Runs names t rest (after_block names rest t)) → Runs names s (then st rest) (unless_aborted r (after_block names rest))
+  at_step : (s : RunState) (st : StmtTree) (rest : BlockTree) (r : Result RunState Cause) → Does names s st r →
+      ((t : RunState) → r ≡ Ok t → Runs names t rest (after_block names rest t)) → Runs names s (then st rest) (unless_aborted r (after_block names rest))
   at_step s st rest (Ok t) h k = goes_on s t st rest _ h (k t refl)
   at_step s st rest (Err c) h k = stops s st rest c h
 

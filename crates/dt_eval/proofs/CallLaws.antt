@@ -33,7 +33,8 @@ writes_declared proc args reads sound = ended (after_block (names_of proc args) 
         (λ k v rows yes all. with_value_written _ (declared_key (names_of proc args) k) v rows (keys_write (declared_key (names_of proc args) k) proc args (written_use args proc.keys k yes)) all)
         proc.body (sets_sound (map sort_of proc.params) (map (λ (d : KeyDecl). d.write) proc.keys) proc.body sound.body) (run_opening args reads) (opening_written _ reads)
 
-    ended : (r : Result RunState Cause) → Keeps (AllIn (IsWrittenIn (λ key. AnyIn (λ u. (u.0 ≡ key) × (u.1 ≡ Write)) (keys_of proc args)))) r → AllIn (λ w. AnyIn (λ u. (u.0 ≡ w.0) × (u.1 ≡ Write)) (keys_of proc args)) (writes_in (finish_of r))
+    ended : (r : Result RunState Cause) → Keeps (AllIn (IsWrittenIn (λ key. AnyIn (λ u. (u.0 ≡ key) × (u.1 ≡ Write)) (keys_of proc args)))) r →
+        AllIn (λ w. AnyIn (λ u. (u.0 ≡ w.0) × (u.1 ≡ Write)) (keys_of proc args)) (writes_in (finish_of r))
     ended (Ok s) all = writes_written (λ key. AnyIn (λ u. (u.0 ≡ key) × (u.1 ≡ Write)) (keys_of proc args)) s.rows all
     ended (Err c) all = tt
 

@@ -1,5 +1,6 @@
 -- Sound statements in a frame: what each needs, and that what follows stays sound; a block keeps the variables before it.
-use Rattle.std.proofs.Common.{◌≡◌, ◌<◌, ◌+◌, ℕ, suc, Bool, true, false, cond, drop, get_or, add-one, List, [], ◌∷◌, ◌++◌, length, map, take, Some, Ok, Err, refl, sym, ap, ap₂, subst, ◌∙◌, append_assoc}
+use Rattle.std.proofs.Common.{◌≡◌, ◌<◌, ◌+◌, ℕ, suc, Bool, true, false, cond, drop, get_or, add-one, List, [], ◌∷◌, ◌++◌, length, map, take, Some, Ok, Err}
+use Rattle.std.proofs.Common.{refl, sym, ap, ap₂, subst, ◌∙◌, append_assoc}
 use Rattle.std.specs.Prelude.{Option, None, Result}
 use Rattle.std.proofs.lemmas.List.{map-append}
 use Rattle.std.proofs.Math.Seq.{take-append_seam, drop-cons}
@@ -86,10 +87,12 @@ gifts_lead Q names (g ∷ gs) s q =
     after_state (λ t. Q t.variables) (after_gift names g s) (after_gifts names gs) (after_value (λ t. Q t.variables) (gift_value names g s) (λ v. Ok (with_given v s)) (λ v e. q)) (gifts_lead Q names gs)
 
 -- what follows a sound statement is sound where it leads
-pub follow : (names : List Bytes) (writes : List Bool) (st : StmtTree) (rest : BlockTree) (s : RunState) → AreSound (map sort_of_datum s.variables) writes (then st rest) → Leads (λ t. AreSound (map sort_of_datum t.variables) writes rest) (after_step names st s)
+pub follow : (names : List Bytes) (writes : List Bool) (st : StmtTree) (rest : BlockTree) (s : RunState) → AreSound (map sort_of_datum s.variables) writes (then st rest) →
+    Leads (λ t. AreSound (map sort_of_datum t.variables) writes rest) (after_step names st s)
 follow names writes (let_new f) rest s h =
     after_value (λ t. AreSound (map sort_of_datum t.variables) writes rest) (value_now names s f) (λ d. Ok (with_variable d s))
-    (λ d e. subst (λ vs. AreSound vs writes rest) (sym (map-append sort_of_datum s.variables (d ∷ []) ∙ ap (λ x. map sort_of_datum s.variables ++ x ∷ []) (subst (GivesSort h.0) e (sort_kept s.variables (row_at names s) (length writes) f h.0 h.1)))) h.2)
+    (λ d e. subst (λ vs. AreSound vs writes rest) (sym (map-append sort_of_datum s.variables (d ∷ [])
+    ∙ ap (λ x. map sort_of_datum s.variables ++ x ∷ []) (subst (GivesSort h.0) e (sort_kept s.variables (row_at names s) (length writes) f h.0 h.1)))) h.2)
 follow names writes (set_row k f) rest s h = after_value (λ t. AreSound (map sort_of_datum t.variables) writes rest) (value_now names s f) (λ d. Ok (with_row_value names k (stored d) s)) (λ d e. h.2)
 follow names writes (clear_row k) rest s h = h.1
 follow names writes (choose f a b) rest s h =
@@ -127,7 +130,8 @@ pub block_take : (names : List Bytes) (b : BlockTree) (s t : RunState) → after
 block_take names b s t e = of_front s.variables t.variables (subst (Leads (λ t. IsFront s.variables t.variables)) e (block_front names b s.variables s (front_refl s.variables)))
 
 -- a block within a statement
-pub block_left : (names : List Bytes) (b : BlockTree) (s t : RunState) (vs : List Datum) → after_block names b s ≡ Ok t → vs ≡ take (length s.variables) t.variables → leaving s.variables (after_block names b s) ≡ Ok (record { variables = vs; rows = t.rows; given = t.given })
+pub block_left : (names : List Bytes) (b : BlockTree) (s t : RunState) (vs : List Datum) → after_block names b s ≡ Ok t → vs ≡ take (length s.variables) t.variables →
+    leaving s.variables (after_block names b s) ≡ Ok (record { variables = vs; rows = t.rows; given = t.given })
 block_left names b s t vs e v = ap (leaving s.variables) e ∙ ap (λ x. Ok (record { variables = x; rows = t.rows; given = t.given })) (sym (v ∙ block_take names b s t e))
 
 -- the statement at a place, and what follows it

@@ -1,6 +1,7 @@
 -- The list of the keys of a call: it ascends, and holds each key that a declaration gives, with Write if any declaration of
 -- it is.
-use Rattle.std.proofs.Common.{◌≡◌, ◌<◌, ◌≤◌, ◌+◌, ◌⊎◌, ℕ, length, take, drop, set, ◌++◌, ap₂, add-one, append_assoc, arith, zero, suc, Bool, true, List, [], ◌∷◌, map, get_or, slice_get, Some, refl, sym, ap, subst, ◌∙◌, inl, inr}
+use Rattle.std.proofs.Common.{◌≡◌, ◌<◌, ◌≤◌, ◌+◌, ◌⊎◌, ℕ, length, take, drop, set, ◌++◌, ap₂, add-one, append_assoc, arith, zero, suc, Bool, true, List, []}
+use Rattle.std.proofs.Common.{◌∷◌, map, get_or, slice_get, Some, refl, sym, ap, subst, ◌∙◌, inl, inr}
 use Rattle.std.specs.List.{fold}
 use Rattle.std.proofs.Math.Seq.{drop-cons}
 use Rattle.std.proofs.lemmas.List.{take_all, drop_all}
@@ -127,7 +128,8 @@ pub keys_there : (key : Bytes) (proc : ProcTree) (args : List Value) → AnyIn (
 keys_there key proc args = keys_any (λ u. u.0 ≡ key) (λ k m n q. q) (λ k m n q. q) proc args
 
 -- the declaration of a number, where it is one with `write`
-pub written_use : (args : List Value) (ds : List KeyDecl) (k : ℕ) → slice_get (map (λ (d : KeyDecl). d.write) ds) k ≡ Some true → AnyIn (λ u. (u.0 ≡ get_or (map (λ (d : KeyDecl). key_text args d.items) ds) k []) × (u.1 ≡ Write)) (map (use_of args) ds)
+pub written_use : (args : List Value) (ds : List KeyDecl) (k : ℕ) → slice_get (map (λ (d : KeyDecl). d.write) ds) k ≡ Some true →
+    AnyIn (λ u. (u.0 ≡ get_or (map (λ (d : KeyDecl). key_text args d.items) ds) k []) × (u.1 ≡ Write)) (map (use_of args) ds)
 written_use args [] k e = cc
 written_use args (d ∷ ds) zero e = let yes : d.write ≡ true = cc in inl (refl, ap mode_of yes)
 written_use args (d ∷ ds) (suc k) e = inr (written_use args ds k e)
@@ -213,7 +215,8 @@ gathers_none proc args declarations uses sound fits same none = record {
   first = λ j h. subst (λ n. IsFirstBadKey (names_of proc args) n) (sym (zero_add j)) (subst (λ ds. IsFirstBadKey (names_given args ds) j) same h);
 }
 
-module _ (proc : ProcTree) (args : List Value) (declarations : List KeyDecl) (number : ℕ) (uses : List (Bytes × Mode)) (d : KeyDecl) (below : number < length declarations) (is : d ≡ get_or declarations number d) (known : Gathers proc args declarations number uses) where
+module _ (proc : ProcTree) (args : List Value) (declarations : List KeyDecl) (number : ℕ) (uses : List (Bytes × Mode)) (d : KeyDecl)
+    (below : number < length declarations) (is : d ≡ get_or declarations number d) (known : Gathers proc args declarations number uses) where
   declared : drop number declarations ≡ d ∷ drop (number + 1) declarations
   declared = drop-cons declarations number d below ∙ ap (λ x. x ∷ drop (suc number) declarations) (sym is) ∙ ap (λ j. d ∷ drop j declarations) (sym (add-one number))
 

@@ -1,6 +1,7 @@
 -- The meaning by cases and the function agree: what the cases lead to is what the function gives, and on what fits the
 -- cases lead to what the function gives.
-use Rattle.std.proofs.Common.{◌≡◌, ◌≢◌, ◌⊎◌, ◌<◌, ◌≤◌, ◌^◌, ℕ, ℤ, pos, negsuc, neg_ℤ, nat_le, nat_lt, Bool, true, false, not, cond, zero, suc, List, [], ◌∷◌, ◌++◌, length, map, Some, Ok, Err, FitsSigned, w64, refl, sym, ap, ap₂, subst, ◌∙◌, inl, inr, arith}
+use Rattle.std.proofs.Common.{◌≡◌, ◌≢◌, ◌⊎◌, ◌<◌, ◌≤◌, ◌^◌, ℕ, ℤ, pos, negsuc, neg_ℤ, nat_le, nat_lt, Bool, true, false, not, cond, zero, suc, List, [], ◌∷◌}
+use Rattle.std.proofs.Common.{◌++◌, length, map, Some, Ok, Err, FitsSigned, w64, refl, sym, ap, ap₂, subst, ◌∙◌, inl, inr, arith}
 use Rattle.std.specs.Prelude.{◌↔◌, ◌+ℤ◌, ◌-ℤ◌, ◌*ℤ◌, ◌<ℤ◌, ◌≤ℤ◌, int_lt, int_le, int_div, int_rem, T, Option, None, Result, slice_get, option_map, is_some}
 use Rattle.std.specs.Bool.{Decides}
 use Rattle.std.specs.Ordering.{nat_cmp, int_eq, is_lt, is_le, is_gt, is_ge, ordering_reverse}

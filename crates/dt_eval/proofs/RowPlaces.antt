@@ -79,7 +79,8 @@ module _ (rows : List Row) (places : List ℕ) (k p : ℕ) (d : Row) (all : AllI
   pub keys_after : (v : Option Value) → keys_in (set rows p (changed v (get_or rows p d))) ≡ keys_in rows
   keys_after v = map_of_set (λ (r : Row). r.key) rows p (changed v (get_or rows p d)) d refl
 
-module _ (rows : List Row) (places : List ℕ) (k p : ℕ) (d : Row) (v : Option Value) (all : AllIn (λ q. q < length rows) places) (each : EachThen KeyBefore (keys_in rows)) (below : k < length (names_at places rows)) (is : p ≡ get_or places k p) (item : d ≡ get_or rows p d) where
+module _ (rows : List Row) (places : List ℕ) (k p : ℕ) (d : Row) (v : Option Value)
+    (all : AllIn (λ q. q < length rows) places) (each : EachThen KeyBefore (keys_in rows)) (below : k < length (names_at places rows)) (is : p ≡ get_or places k p) (item : d ≡ get_or rows p d) where
   set_is : set rows p (changed v d) ≡ set rows p (changed v (get_or rows p d))
   set_is = ap (λ x. set rows p (changed v x)) item
 

@@ -1,5 +1,6 @@
 -- A run before its first statement: the places of its keys, and that its statements are sound.
-use Rattle.std.proofs.Common.{◌≡◌, ◌<◌, ◌+◌, cond, ℕ, suc, zero, Bool, true, false, List, [], ◌∷◌, ◌++◌, map, length, get_or, take, drop, add-one, append_assoc, Some, refl, sym, ap, ap₂, subst, ◌∙◌, inl, inr, arith}
+use Rattle.std.proofs.Common.{◌≡◌, ◌<◌, ◌+◌, cond, ℕ, suc, zero, Bool, true, false, List, [], ◌∷◌, ◌++◌, map, length, get_or, take, drop, add-one, append_assoc}
+use Rattle.std.proofs.Common.{Some, refl, sym, ap, ap₂, subst, ◌∙◌, inl, inr, arith}
 use Rattle.std.specs.Prelude.{Option, None}
 use Rattle.std.specs.List.{position, position_from}
 use Rattle.std.proofs.lemmas.Iterator.Adapters.{position_from-zero}
@@ -72,17 +73,20 @@ names_read proc args reads same = all_put (λ name. AnyIn (λ r. r.0 ≡ name) r
 
 -- the rows of a run
 
-pub rows_named : (proc : ProcTree) (args : List Value) (reads : List (Bytes × Option Value)) (places : List ℕ) (rows : List Row) → rows ≡ map unchanged reads → ArePlaces (names_given args proc.keys) (map (λ (r : Bytes × Option Value). r.0) reads) places →
+pub rows_named : (proc : ProcTree) (args : List Value) (reads : List (Bytes × Option Value)) (places : List ℕ) (rows : List Row) → rows ≡ map unchanged reads →
+    ArePlaces (names_given args proc.keys) (map (λ (r : Bytes × Option Value). r.0) reads) places →
     ◌≡◌ {A = List Bytes × List Row} (names_at places rows, rows) (names_of proc args, map unchanged reads)
 rows_named proc args reads places rows e are =
     let names : names_at places rows ≡ names_of proc args = ap (names_at places) e ∙ ap (λ keys. map (λ p. get_or keys p []) places) (opening_keys reads) ∙ are.1 in
     λ i. (names i, e i)
 
-pub rows_below : (names : List Bytes) (reads : List (Bytes × Option Value)) (places : List ℕ) (rows : List Row) → rows ≡ map unchanged reads → ArePlaces names (map (λ (r : Bytes × Option Value). r.0) reads) places → AllIn (λ p. p < length rows) places
+pub rows_below : (names : List Bytes) (reads : List (Bytes × Option Value)) (places : List ℕ) (rows : List Row) → rows ≡ map unchanged reads →
+    ArePlaces names (map (λ (r : Bytes × Option Value). r.0) reads) places → AllIn (λ p. p < length rows) places
 rows_below names reads places rows e are =
     subst (λ n. AllIn (λ p. p < n) places) (length-map reads (λ (r : Bytes × Option Value). r.0) ∙ sym (length-map reads unchanged) ∙ ap length (sym e)) are.0
 
-pub rows_ascend : (proc : ProcTree) (args : List Value) (reads : List (Bytes × Option Value)) (rows : List Row) → rows ≡ map unchanged reads → map (λ (r : Bytes × Option Value). r.0) reads ≡ map (λ (u : Bytes × Mode). u.0) (keys_of proc args) → EachThen KeyBefore (keys_in rows)
+pub rows_ascend : (proc : ProcTree) (args : List Value) (reads : List (Bytes × Option Value)) (rows : List Row) → rows ≡ map unchanged reads →
+    map (λ (r : Bytes × Option Value). r.0) reads ≡ map (λ (u : Bytes × Mode). u.0) (keys_of proc args) → EachThen KeyBefore (keys_in rows)
 rows_ascend proc args reads rows e same =
     subst (EachThen KeyBefore) (sym (ap keys_in e ∙ opening_keys reads ∙ same)) (each_image KeyBefore (λ (u : Bytes × Mode). u.0) (keys_of proc args) (keys_ascend proc args))
 
@@ -111,7 +115,8 @@ pub record Placing (args : List Value) (declarations : List KeyDecl) (reads : Li
   pub below : AllIn (λ p. p < length (map (λ (r : Bytes × Option Value). r.0) reads)) places
   pub named : map (λ p. get_or (map (λ (r : Bytes × Option Value). r.0) reads) p []) places ++ names_given args (drop index declarations) ≡ names_given args declarations
 
-module _ (args : List Value) (declarations : List KeyDecl) (reads : List (Bytes × Option Value)) (index : ℕ) (places : List ℕ) (d : KeyDecl) (inside : index < length declarations) (is : d ≡ get_or declarations index d) (known : Placing args declarations reads index places) where
+module _ (args : List Value) (declarations : List KeyDecl) (reads : List (Bytes × Option Value)) (index : ℕ) (places : List ℕ) (d : KeyDecl)
+    (inside : index < length declarations) (is : d ≡ get_or declarations index d) (known : Placing args declarations reads index places) where
   cut : drop index declarations ≡ d ∷ drop (index + 1) declarations
   cut = drop-cons declarations index d inside ∙ ap (λ x. x ∷ drop (suc index) declarations) (sym is) ∙ ap (λ j. d ∷ drop j declarations) (sym (add-one index))
 

@@ -17,7 +17,8 @@ use Rattle.dt_eval.specs.declared.finish.Cause.TheVariants as cause
 use Rattle.dt_eval.specs.declared.state.Datum.{Datum}
 use Rattle.dt_eval.specs.declared.state.Datum.TheVariants.{Int, Text, Bool as Truth}
 use Rattle.dt_eval.specs.Data.{unless_aborted, sort_of_datum}
-use Rattle.dt_eval.specs.Expressions.{in_range, is_small, is_zero, of_numbers, of_texts, of_truths, operate, decides, variable_in, number_in, text_in, byte_count, printed_datum, negated, other_truth, evaluated}
+use Rattle.dt_eval.specs.Expressions.{in_range, is_small, is_zero, of_numbers, of_texts, of_truths, operate, decides, variable_in, number_in, text_in}
+use Rattle.dt_eval.specs.Expressions.{byte_count, printed_datum, negated, other_truth, evaluated}
 use Rattle.dt_eval.specs.declared.stop.Stop.{Stop}
 use Rattle.dt_eval.specs.FrameInner.{EvalAnswers, GivesSort}
 

@@ -1,5 +1,6 @@
 -- What a walk over tokens answers, put together from its parts.
-use Rattle.std.proofs.Common.{◌≡◌, inl, inr, ℕ, suc, ◌+◌, ◌<◌, ◌≤◌, List, [], ◌∷◌, ◌++◌, Ok, Err, refl, sym, ap, ◌∙◌, subst, arith, append_assoc, take, drop, get_or, length, length-append, add-one, Bool, true, false, ℤ, ◌-◌}
+use Rattle.std.proofs.Common.{◌≡◌, inl, inr, ℕ, suc, ◌+◌, ◌<◌, ◌≤◌, List, [], ◌∷◌, ◌++◌, Ok, Err, refl, sym, ap, ◌∙◌, subst, arith, append_assoc, take, drop}
+use Rattle.std.proofs.Common.{get_or, length, length-append, add-one, Bool, true, false, ℤ, ◌-◌}
 use Rattle.std.proofs.Math.Seq.{take-length}
 use Rattle.dt_syntax.specs.declared.token.Token.{Token}
 use Rattle.dt_syntax.specs.declared.token.Token.TheVariants as tok
@@ -14,7 +15,9 @@ use Rattle.dt_proc.specs.Tree as tree
 use Rattle.dt_proc.specs.Names.{Scope, meaning_in}
 use Rattle.dt_proc.specs.SecondPass.{Checked, Typed, after_ok, check, check_links, as_variable, key_of, made_by, fits_both}
 use Rattle.dt_proc.specs.WalkInner.{WalkAnswers}
-use Rattle.dt_syntax.specs.Grammar.{at, Bracketed, bracketed_tokens, Syntax, chain, minus, denial, int, text, truth, name, parens, of_key, made, Links, no_link, link, syntax_tokens, links_tokens, level_of, IsLevel, AreLinks, reads_int, reads_text, reads_presence, makes_length, makes_text}
+use Rattle.dt_syntax.specs.Grammar.{at, Bracketed, bracketed_tokens, Syntax, chain, minus, denial, int, text, truth, name, parens, of_key, made, Links, no_link}
+use Rattle.dt_syntax.specs.Grammar.{link, syntax_tokens, links_tokens, level_of, IsLevel, AreLinks, reads_int, reads_text, reads_presence, makes_length}
+use Rattle.dt_syntax.specs.Grammar.{makes_text}
 use Rattle.dt_syntax.proofs.Callers.{cut_first, head_is, inner, left_of, tail_is}
 
 pub ok_then : {A B : Type 0} (told : Checked A) (a : A) (next : A → Checked B) (rest : List Placed) (r : Checked (B × List Placed)) →

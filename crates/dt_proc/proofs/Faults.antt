@@ -15,8 +15,14 @@ use Rattle.dt_proc.specs.Names.{Scope, meaning_in}
 use Rattle.dt_proc.specs.Sound.{sort_given, sort_of}
 use Rattle.dt_proc.specs.Tree as tree
 use Rattle.dt_proc.specs.Tree.{ExprTree, StmtTree, BlockTree, ProcTree}
-use Rattle.dt_syntax.specs.Grammar.{Syntax, chain, minus, denial, int, text, truth, name, parens, of_key, made, Links, no_link, link, Maker, makes_length, makes_text, Param, Params, no_param, params, KeyPart, text_part, name_part, show_part, KeySyntax, Item, row_item, value_item, Statement, let_new, set_key, clear_key, when, choose, abort, give, Statements, nothing, first, ProcSyntax, front_place, param_kinds}
-use Rattle.dt_proc.specs.SecondPass.{Checked, Typed, after_ok, same_sort, needs, needs_stored, fits_both, combined, as_variable, as_key, as_written, is_unknown, as_new, as_param, key_of, read_by, made_by, check, check_links, check_item, check_items, check_all_items, with_new_variable, with_new_key, one_block, two_blocks, check_block, check_statement, check_part, check_parts, check_key, check_keys, check_param, check_more_params, check_params, check_proc, check_procs}
+use Rattle.dt_syntax.specs.Grammar.{Syntax, chain, minus, denial, int, text, truth, name, parens, of_key, made, Links, no_link, link, Maker, makes_length}
+use Rattle.dt_syntax.specs.Grammar.{makes_text, Param, Params, no_param, params, KeyPart, text_part, name_part, show_part, KeySyntax, Item, row_item}
+use Rattle.dt_syntax.specs.Grammar.{value_item, Statement, let_new, set_key, clear_key, when, choose, abort, give, Statements, nothing, first, ProcSyntax}
+use Rattle.dt_syntax.specs.Grammar.{front_place, param_kinds}
+use Rattle.dt_proc.specs.SecondPass.{Checked, Typed, after_ok, same_sort, needs, needs_stored, fits_both, combined, as_variable, as_key, as_written, is_unknown}
+use Rattle.dt_proc.specs.SecondPass.{as_new, as_param, key_of, read_by, made_by, check, check_links, check_item, check_items, check_all_items}
+use Rattle.dt_proc.specs.SecondPass.{with_new_variable, with_new_key, one_block, two_blocks, check_block, check_statement, check_part, check_parts, check_key}
+use Rattle.dt_proc.specs.SecondPass.{check_keys, check_param, check_more_params, check_params, check_proc, check_procs}
 
 -- a fault of the second pass
 abbrev pub IsLate : ProcError → Type 0

@@ -75,7 +75,9 @@ pair_ok : (s : Scope) (a b : List KeyDecl) → a ≡ b → ◌≡◌ {A = Checke
 pair_ok s a b e = λ i. Ok (s, e i)
 
 keys_one : (t : Checked (List KeyDecl × Scope)) (keys : List KeyDecl) (d : KeyDecl) →
-    after_ok {A = List KeyDecl × Scope} {B = Scope × List KeyDecl} (after_ok {A = List KeyDecl × Scope} {B = List KeyDecl × Scope} t (λ r. Ok (d ∷ r.0, r.1))) (λ r. Ok (r.1, keys ++ r.0)) ≡ after_ok {A = List KeyDecl × Scope} {B = Scope × List KeyDecl} t (λ r. Ok (r.1, (keys ++ d ∷ []) ++ r.0))
+    after_ok {A = List KeyDecl × Scope} {B = Scope × List KeyDecl}
+    (after_ok {A = List KeyDecl × Scope} {B = List KeyDecl × Scope} t (λ r. Ok (d ∷ r.0, r.1))) (λ r. Ok (r.1, keys ++ r.0))
+    ≡ after_ok {A = List KeyDecl × Scope} {B = Scope × List KeyDecl} t (λ r. Ok (r.1, (keys ++ d ∷ []) ++ r.0))
 keys_one (Ok r) keys d = pair_ok r.1 (keys ++ d ∷ r.0) ((keys ++ d ∷ []) ++ r.0) (sym (append_assoc keys (d ∷ []) r.0))
 keys_one (Err e) keys d = refl
 
@@ -88,7 +90,9 @@ keys_after : (scope : Scope) (keys : List KeyDecl) (k : KeySyntax) (more : List 
     after_ok {A = KeyDecl} {B = Scope × List KeyDecl} t (λ d. Ok (with_new_key scope k.name k.write, keys ++ d ∷ [])) ≡ Ok (one, made) → keys_told scope keys (k ∷ more) ≡ keys_told one made more
 keys_after scope keys k more (Err e) one made is told = absurd cc
 keys_after scope keys k more (Ok d) one made is told =
-    ap (λ t. after_ok {A = List KeyDecl × Scope} {B = Scope × List KeyDecl} (after_ok {A = KeyDecl} {B = List KeyDecl × Scope} t (λ d. after_ok {A = List KeyDecl × Scope} {B = List KeyDecl × Scope} (check_keys (with_new_key scope k.name k.write) more) (λ r. Ok (d ∷ r.0, r.1)))) (λ r. Ok (r.1, keys ++ r.0))) is
+    ap (λ t. after_ok {A = List KeyDecl × Scope} {B = Scope × List KeyDecl} (after_ok {A = KeyDecl} {B = List KeyDecl × Scope} t
+    (λ d. after_ok {A = List KeyDecl × Scope} {B = List KeyDecl × Scope} (check_keys (with_new_key scope k.name k.write) more)
+    (λ r. Ok (d ∷ r.0, r.1)))) (λ r. Ok (r.1, keys ++ r.0))) is
     ∙ keys_one (check_keys (with_new_key scope k.name k.write) more) keys d
     ∙ ap (λ (v : Scope × List KeyDecl). keys_told v.0 v.1 more) (ap (value_of {A = Scope × List KeyDecl} (with_new_key scope k.name k.write, keys ++ d ∷ [])) told)
 
@@ -101,7 +105,9 @@ key_err : (scope : Scope) (keys : List KeyDecl) (k : KeySyntax) (more : List Key
     ◌≡◌ {A = Checked (Scope × List KeyDecl)} (after_ok {A = KeyDecl} {B = Scope × List KeyDecl} t (λ d. Ok (with_new_key scope k.name k.write, keys ++ d ∷ []))) (Err e) → keys_told scope keys (k ∷ more) ≡ Err e
 key_err scope keys k more (Ok d) e is told = absurd cc
 key_err scope keys k more (Err f) e is told =
-    ap (λ t. after_ok {A = List KeyDecl × Scope} {B = Scope × List KeyDecl} (after_ok {A = KeyDecl} {B = List KeyDecl × Scope} t (λ d. after_ok {A = List KeyDecl × Scope} {B = List KeyDecl × Scope} (check_keys (with_new_key scope k.name k.write) more) (λ r. Ok (d ∷ r.0, r.1)))) (λ r. Ok (r.1, keys ++ r.0))) is
+    ap (λ t. after_ok {A = List KeyDecl × Scope} {B = Scope × List KeyDecl} (after_ok {A = KeyDecl} {B = List KeyDecl × Scope} t
+    (λ d. after_ok {A = List KeyDecl × Scope} {B = List KeyDecl × Scope} (check_keys (with_new_key scope k.name k.write) more)
+    (λ r. Ok (d ∷ r.0, r.1)))) (λ r. Ok (r.1, keys ++ r.0))) is
     ∙ ap Err (fault_of told)
   where
     fault_of : ◌≡◌ {A = Checked (Scope × List KeyDecl)} (Err f) (Err e) → f ≡ e

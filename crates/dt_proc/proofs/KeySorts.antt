@@ -16,7 +16,8 @@ use Rattle.dt_proc.specs.declared.scope.Meaning.TheVariants.{Variable, Key, Unkn
 use Rattle.dt_proc.specs.declared.error.ProcError.TheVariants as fault
 use Rattle.dt_proc.specs.Names.{Scope, meaning_in}
 use Rattle.dt_proc.specs.Sound.{IsSoundItem, sort_of}
-use Rattle.dt_proc.specs.SecondPass.{after_ok, same_sort, as_new, as_param, with_new_variable, with_new_key, check_part, check_parts, check_key, check_keys, check_param, check_more_params, check_params}
+use Rattle.dt_proc.specs.SecondPass.{after_ok, same_sort, as_new, as_param, with_new_variable, with_new_key, check_part, check_parts, check_key, check_keys}
+use Rattle.dt_proc.specs.SecondPass.{check_param, check_more_params, check_params}
 use Rattle.dt_syntax.specs.Grammar.{param_kinds, at, Param, Params, no_param, params, KeyPart, text_part, name_part, show_part, part_tokens, KeySyntax, key_tokens}
 use Rattle.dt_proc.proofs.ExprSorts.{Holds, holds_ok, holds_after, holds_cond, sorts, writes, Means, means, same_is}
 use Rattle.dt_syntax.proofs.Callers.{sound_left, sound_right}

@@ -1,5 +1,6 @@
 -- The procedures that a text means are sound, and so are the built-in ones.
-use Rattle.std.proofs.Common.{◌≡◌, inl, inr, ℕ, suc, ◌≤◌, Bool, true, false, ◌||◌, ◌&&◌, not, List, [], ◌∷◌, ◌++◌, map, length, append_assoc, append-nil, Ok, Err, refl, sym, ap, ◌∙◌, subst, arith, nat_eq}
+use Rattle.std.proofs.Common.{◌≡◌, inl, inr, ℕ, suc, ◌≤◌, Bool, true, false, ◌||◌, ◌&&◌, not, List, [], ◌∷◌, ◌++◌, map, length, append_assoc, append-nil, Ok}
+use Rattle.std.proofs.Common.{Err, refl, sym, ap, ◌∙◌, subst, arith, nat_eq}
 use Rattle.std.specs.List.{list_any, list_all}
 use Rattle.std.specs.Cmp.Lexicographic.{pointwise, bytes_decides}
 use Rattle.std.proofs.lemmas.Bool.{false≢true}
@@ -184,7 +185,20 @@ xfer_sound = record {
   some_key = omega arith;
   few_keys = omega arith;
   items = ((refl, tt), ((refl, tt), tt));
-  body = ((sort.Int, inl refl, (refl, omega arith), refl, refl), ((omega arith, refl), tt), tt, (refl, (sort.Int, inl refl, (sort.Int, refl, (refl, omega arith), refl, refl)), (refl, (sort.Int, inl refl, (sort.Int, refl, (refl, omega arith), refl, refl)), (((sort.Int, inl refl, (refl, omega arith)), ((sort.Int, inl refl, (refl, omega arith)), tt)), tt))));
+  body = (
+    (sort.Int, inl refl, (refl, omega arith), refl, refl),
+    ((omega arith, refl), tt),
+    tt,
+    (
+      refl,
+      (sort.Int, inl refl, (sort.Int, refl, (refl, omega arith), refl, refl)),
+      (
+        refl,
+        (sort.Int, inl refl, (sort.Int, refl, (refl, omega arith), refl, refl)),
+        (((sort.Int, inl refl, (refl, omega arith)), ((sort.Int, inl refl, (refl, omega arith)), tt)), tt),
+      ),
+    ),
+  );
 }
 
 -- the built-in procedures are sound

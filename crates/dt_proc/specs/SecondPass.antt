@@ -19,7 +19,10 @@ use Rattle.dt_proc.specs.Names.{Scope, meaning_in}
 use Rattle.dt_proc.specs.Sound.{sort_given, sort_of}
 use Rattle.dt_proc.specs.Tree as tree
 use Rattle.dt_proc.specs.Tree.{ExprTree, GiveTree, StmtTree, BlockTree, done, ProcTree}
-use Rattle.dt_syntax.specs.Grammar.{Syntax, chain, minus, denial, int, text, truth, name, parens, of_key, made, Links, no_link, link, level_of, Reader, reads_int, reads_text, reads_presence, Maker, makes_length, makes_text, Bracketed, Param, Params, no_param, params, KeyPart, text_part, name_part, show_part, KeySyntax, Item, row_item, value_item, Statement, let_new, set_key, clear_key, when, choose, abort, give, Statements, nothing, first, ProcSyntax, front_place, param_kinds}
+use Rattle.dt_syntax.specs.Grammar.{Syntax, chain, minus, denial, int, text, truth, name, parens, of_key, made, Links, no_link, link, level_of, Reader}
+use Rattle.dt_syntax.specs.Grammar.{reads_int, reads_text, reads_presence, Maker, makes_length, makes_text, Bracketed, Param, Params, no_param, params, KeyPart}
+use Rattle.dt_syntax.specs.Grammar.{text_part, name_part, show_part, KeySyntax, Item, row_item, value_item, Statement, let_new, set_key, clear_key, when}
+use Rattle.dt_syntax.specs.Grammar.{choose, abort, give, Statements, nothing, first, ProcSyntax, front_place, param_kinds}
 
 -- a value, or the first fault
 abbrev pub Checked : Type 0 → Type 0

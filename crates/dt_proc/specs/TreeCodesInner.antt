@@ -8,7 +8,8 @@ use Rattle.dt_syntax.specs.contracts.kinds.Kind as kind
 use Rattle.dt_proc.specs.contracts.tree.KeyDecl as key
 use Rattle.dt_syntax.specs.declared.kinds.Kind.{Kind}
 use Rattle.dt_proc.specs.declared.tree.KeyDecl.{KeyDecl}
-use Rattle.dt_proc.specs.Tree.{ExprTree, number, text, truth, variable, number_of, text_of, has_value, length_of, shown, negative, opposite, binary, GiveTree, row, value, StmtTree, let_new, set_row, clear_row, choose, abort_with, give_all, BlockTree, done, then, ProcTree}
+use Rattle.dt_proc.specs.Tree.{ExprTree, number, text, truth, variable, number_of, text_of, has_value, length_of, shown, negative, opposite, binary, GiveTree}
+use Rattle.dt_proc.specs.Tree.{row, value, StmtTree, let_new, set_row, clear_row, choose, abort_with, give_all, BlockTree, done, then, ProcTree}
 
 abbrev tag : Gv → ℕ
 tag (gcons (gnum n) g) = n

@@ -1,5 +1,6 @@
 -- How the first pass goes on over a text.
-use Rattle.std.proofs.Common.{◌≡◌, inl, inr, ℕ, zero, suc, ◌+◌, ◌-◌, ◌<◌, ◌≤◌, ◌^◌, Bool, true, false, cond, ◌==◌, List, [], ◌∷◌, ◌++◌, length, drop, take_while, Option, Some, None, refl, sym, ap, ◌∙◌, subst, arith, get_or, append_assoc, append-nil, length-append, length-drop}
+use Rattle.std.proofs.Common.{◌≡◌, inl, inr, ℕ, zero, suc, ◌+◌, ◌-◌, ◌<◌, ◌≤◌, ◌^◌, Bool, true, false, cond, ◌==◌, List, [], ◌∷◌, ◌++◌, length, drop}
+use Rattle.std.proofs.Common.{take_while, Option, Some, None, refl, sym, ap, ◌∙◌, subst, arith, get_or, append_assoc, append-nil, length-append, length-drop}
 use Rattle.std.specs.Option.{option_map}
 use Rattle.std.proofs.lemmas.List.{drop_more, drop_all, drop-drop}
 use Rattle.dt_text.specs.Texts.{is_name_byte}
@@ -8,10 +9,12 @@ use Rattle.dt_syntax.specs.declared.token.Placed.{Placed}
 use Rattle.dt_syntax.specs.declared.machine.Sym.{Sym}
 use Rattle.dt_syntax.specs.declared.machine.Sym.TheVariants as expect
 use Rattle.dt_syntax.specs.declared.counts.Counts.{Counts}
-use Rattle.dt_syntax.specs.Tokens.{tokens_of, tokens_from, Lexed, with_front, front_token, front_word, word_token, text_after, text_found, items_of, sign_before, single_sign, double_sign, first_of, Sized, BeginsToken}
+use Rattle.dt_syntax.specs.Tokens.{tokens_of, tokens_from, Lexed, with_front, front_token, front_word, word_token, text_after, text_found, items_of}
+use Rattle.dt_syntax.specs.Tokens.{sign_before, single_sign, double_sign, first_of, Sized, BeginsToken}
 use Rattle.dt_syntax.specs.Grammar.{at}
 use Rattle.dt_syntax.specs.MachineInner.{advance, onward, run}
-use Rattle.dt_syntax.specs.FirstPass.{is_proc, is_mode, is_comma, is_close, is_opening, is_closing, is_of_expression, is_too_many, NoneTooMany, StartsWell, PassesFirst, IsSyntaxFault, IsTooMany, backwards}
+use Rattle.dt_syntax.specs.FirstPass.{is_proc, is_mode, is_comma, is_close, is_opening, is_closing, is_of_expression, is_too_many, NoneTooMany, StartsWell}
+use Rattle.dt_syntax.specs.FirstPass.{PassesFirst, IsSyntaxFault, IsTooMany, backwards}
 use Rattle.dt_syntax.specs.CountsInner.{counts_of, AreAtMost}
 use Rattle.dt_syntax.proofs.MachineComplete.{grammar_read, beginning_read, run_joined}
 use Rattle.dt_syntax.proofs.MachineSound.{read_begins, read_whole}

@@ -9,10 +9,16 @@ use Rattle.dt_syntax.specs.declared.kinds.Kind.TheVariants as kind
 use Rattle.dt_syntax.specs.declared.token.Token.{Token}
 use Rattle.dt_syntax.specs.declared.token.Token.TheVariants as tok
 use Rattle.dt_syntax.specs.declared.token.Placed.{Placed}
-use Rattle.dt_syntax.specs.Grammar.{param_kinds, at, Syntax, chain, minus, denial, int, text, truth, name, parens, of_key, made, Links, no_link, link, syntax_tokens, links_tokens, Reader, reads_int, reads_text, reads_presence, reader_token, Maker, makes_length, makes_text, maker_token, Bracketed, bracketed_tokens, kind_token, Param, param_tokens, Params, no_param, params, params_tokens, KeyPart, text_part, name_part, show_part, part_tokens, mode_token, KeySyntax, key_tokens, Item, row_item, value_item, item_tokens, items_tokens, Statement, let_new, set_key, clear_key, when, choose, abort, give, Statements, nothing, first, statement_tokens, statements_tokens, ProcSyntax, proc_tokens, procs_tokens}
+use Rattle.dt_syntax.specs.Grammar.{param_kinds, at, Syntax, chain, minus, denial, int, text, truth, name, parens, of_key, made, Links, no_link, link}
+use Rattle.dt_syntax.specs.Grammar.{syntax_tokens, links_tokens, Reader, reads_int, reads_text, reads_presence, reader_token, Maker, makes_length, makes_text}
+use Rattle.dt_syntax.specs.Grammar.{maker_token, Bracketed, bracketed_tokens, kind_token, Param, param_tokens, Params, no_param, params, params_tokens, KeyPart}
+use Rattle.dt_syntax.specs.Grammar.{text_part, name_part, show_part, part_tokens, mode_token, KeySyntax, key_tokens, Item, row_item, value_item, item_tokens}
+use Rattle.dt_syntax.specs.Grammar.{items_tokens, Statement, let_new, set_key, clear_key, when, choose, abort, give, Statements, nothing, first}
+use Rattle.dt_syntax.specs.Grammar.{statement_tokens, statements_tokens, ProcSyntax, proc_tokens, procs_tokens}
 use Rattle.dt_syntax.specs.FrontsInner.{comma_param, joined_part}
 use Rattle.dt_syntax.specs.Limits.{IsSmall}
-use Rattle.dt_syntax.specs.FirstPass.{is_proc, is_mode, is_comma, is_close, procs_begun, in_proc, is_proc_too_many, is_param_too_many, is_key_too_many, is_token_too_many, is_bracket_too_many, is_too_many, NoneTooMany, backwards}
+use Rattle.dt_syntax.specs.FirstPass.{is_proc, is_mode, is_comma, is_close, procs_begun, in_proc, is_proc_too_many, is_param_too_many, is_key_too_many}
+use Rattle.dt_syntax.specs.FirstPass.{is_token_too_many, is_bracket_too_many, is_too_many, NoneTooMany, backwards}
 
 few_left : (e xs ys : List Placed) → NoneTooMany e (xs ++ ys) → NoneTooMany e xs
 few_left e [] ys h = tt

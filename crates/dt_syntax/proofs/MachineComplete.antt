@@ -1,5 +1,6 @@
 -- Every beginning of the tokens of some procedures is read by the machine.
-use Rattle.std.proofs.Common.{◌≡◌, ℕ, zero, suc, ◌<◌, ◌≤◌, Bool, true, false, cond, ◌==◌, List, [], ◌∷◌, ◌++◌, length, Option, Some, None, refl, sym, ap, ◌∙◌, subst, arith, append_assoc, append-nil, length-append}
+use Rattle.std.proofs.Common.{◌≡◌, ℕ, zero, suc, ◌<◌, ◌≤◌, Bool, true, false, cond, ◌==◌, List, [], ◌∷◌, ◌++◌, length, Option, Some, None, refl, sym, ap, ◌∙◌}
+use Rattle.std.proofs.Common.{subst, arith, append_assoc, append-nil, length-append}
 use Rattle.std.specs.List.{flat_map}
 use Rattle.std.proofs.lemmas.Bool.Decides.{nat_tests}
 use Rattle.dt_lists.specs.Lists.{AllIn}
@@ -13,7 +14,12 @@ use Rattle.dt_syntax.specs.declared.token.Placed.{Placed}
 use Rattle.dt_syntax.specs.declared.machine.Sym.{Sym}
 use Rattle.dt_syntax.specs.declared.machine.Sym.TheVariants as expect
 use Rattle.dt_syntax.specs.MachineInner.{passes, tails, operator, after_turn, advance, onward, run}
-use Rattle.dt_syntax.specs.Grammar.{at, Syntax, chain, minus, denial, int, text, truth, name, parens, of_key, made, Links, no_link, link, syntax_tokens, links_tokens, level_of, IsLevel, AreLinks, reads_int, reads_text, reads_presence, makes_length, makes_text, Param, param_tokens, kind_token, Params, no_param, params, params_tokens, KeyPart, text_part, name_part, show_part, part_tokens, KeySyntax, key_tokens, mode_token, Item, row_item, value_item, item_tokens, items_tokens, Statement, let_new, set_key, clear_key, when, choose, abort, give, Statements, nothing, first, statement_tokens, statements_tokens, IsItem, IsStatement, AreStatements, ProcSyntax, proc_tokens, procs_tokens, IsProc, AreProcSyntaxes, InGrammar, Begins}
+use Rattle.dt_syntax.specs.Grammar.{at, Syntax, chain, minus, denial, int, text, truth, name, parens, of_key, made, Links, no_link, link, syntax_tokens}
+use Rattle.dt_syntax.specs.Grammar.{links_tokens, level_of, IsLevel, AreLinks, reads_int, reads_text, reads_presence, makes_length, makes_text, Param}
+use Rattle.dt_syntax.specs.Grammar.{param_tokens, kind_token, Params, no_param, params, params_tokens, KeyPart, text_part, name_part, show_part, part_tokens}
+use Rattle.dt_syntax.specs.Grammar.{KeySyntax, key_tokens, mode_token, Item, row_item, value_item, item_tokens, items_tokens, Statement, let_new, set_key}
+use Rattle.dt_syntax.specs.Grammar.{clear_key, when, choose, abort, give, Statements, nothing, first, statement_tokens, statements_tokens, IsItem, IsStatement}
+use Rattle.dt_syntax.specs.Grammar.{AreStatements, ProcSyntax, proc_tokens, procs_tokens, IsProc, AreProcSyntaxes, InGrammar, Begins}
 
 -- an expression of the level does not go on with this token
 abbrev pub Stops : ℕ → Token → Type 0

@@ -13,7 +13,12 @@ use Rattle.dt_syntax.specs.declared.token.Placed.{Placed}
 use Rattle.dt_syntax.specs.declared.machine.Sym.{Sym}
 use Rattle.dt_syntax.specs.declared.machine.Sym.TheVariants as expect
 use Rattle.dt_syntax.specs.MachineInner.{Turn, takes, passes, refuses, tails, after_operator, operand, operator, statement, turn, after_turn, advance, onward, run}
-use Rattle.dt_syntax.specs.Grammar.{at, Syntax, chain, minus, denial, int, text, truth, name, parens, of_key, made, Links, no_link, link, syntax_tokens, links_tokens, level_of, IsLevel, AreLinks, reads_int, reads_text, reads_presence, makes_length, makes_text, Param, param_tokens, kind_token, Params, no_param, params, params_tokens, KeyPart, text_part, name_part, show_part, part_tokens, KeySyntax, key_tokens, Item, row_item, value_item, item_tokens, let_new, set_key, clear_key, when, choose, abort, give, Statements, nothing, first, statements_tokens, IsItem, AreStatements, ProcSyntax, procs_tokens, AreProcSyntaxes, InGrammar, Begins}
+use Rattle.dt_syntax.specs.Grammar.{at, Syntax, chain, minus, denial, int, text, truth, name, parens, of_key, made, Links, no_link, link, syntax_tokens}
+use Rattle.dt_syntax.specs.Grammar.{links_tokens, level_of, IsLevel, AreLinks, reads_int, reads_text, reads_presence, makes_length, makes_text, Param}
+use Rattle.dt_syntax.specs.Grammar.{param_tokens, kind_token, Params, no_param, params, params_tokens, KeyPart, text_part, name_part, show_part, part_tokens}
+use Rattle.dt_syntax.specs.Grammar.{KeySyntax, key_tokens, Item, row_item, value_item, item_tokens, let_new, set_key, clear_key, when, choose, abort, give}
+use Rattle.dt_syntax.specs.Grammar.{Statements, nothing, first, statements_tokens, IsItem, AreStatements, ProcSyntax, procs_tokens, AreProcSyntaxes, InGrammar}
+use Rattle.dt_syntax.specs.Grammar.{Begins}
 
 -- what stands from the keys of a procedure on
 record Rest : Type 0 where
@@ -316,9 +321,11 @@ back expect.Keys tok.Read p = λ st (m, (i, (part, (more, (r, rest))))). ((recor
 back expect.Keys tok.Write p = λ st (m, (i, (part, (more, (r, rest))))). ((record { word_at = p; write = true; name_at = m.0; name = m.1; is_at = i; first = part; more = more.0; end_at = more.1 }, r), rest, simp append_assoc)
 back expect.Keys t p = tt
 back expect.MoreKeys tok.Read p = λ st (m, (i, (part, (more, (r, rest))))).
-    (record { more_keys = record { word_at = p; write = false; name_at = m.0; name = m.1; is_at = i; first = part; more = more.0; end_at = more.1 } ∷ r.more_keys; begin_at = r.begin_at; body = r.body; end_at = r.end_at; good = r.good }, rest, simp append_assoc)
+    let key : KeySyntax = record { word_at = p; write = false; name_at = m.0; name = m.1; is_at = i; first = part; more = more.0; end_at = more.1 } in
+    (record { more_keys = key ∷ r.more_keys; begin_at = r.begin_at; body = r.body; end_at = r.end_at; good = r.good }, rest, simp append_assoc)
 back expect.MoreKeys tok.Write p = λ st (m, (i, (part, (more, (r, rest))))).
-    (record { more_keys = record { word_at = p; write = true; name_at = m.0; name = m.1; is_at = i; first = part; more = more.0; end_at = more.1 } ∷ r.more_keys; begin_at = r.begin_at; body = r.body; end_at = r.end_at; good = r.good }, rest, simp append_assoc)
+    let key : KeySyntax = record { word_at = p; write = true; name_at = m.0; name = m.1; is_at = i; first = part; more = more.0; end_at = more.1 } in
+    (record { more_keys = key ∷ r.more_keys; begin_at = r.begin_at; body = r.body; end_at = r.end_at; good = r.good }, rest, simp append_assoc)
 back expect.MoreKeys tok.Begin p = λ st (c, rest).
     (record { more_keys = []; begin_at = p; body = c.body; end_at = c.end_at; good = c.good }, rest, refl)
 back expect.MoreKeys t p = tt

@@ -8,7 +8,9 @@ use Rattle.dt_syntax.specs.declared.kinds.Kind.{Kind}
 use Rattle.dt_syntax.specs.declared.kinds.Kind.TheVariants as kind
 use Rattle.dt_syntax.specs.declared.operator.Op.TheVariants as op
 use Rattle.dt_syntax.specs.FrontsInner.{comma_param, joined_part}
-use Rattle.dt_syntax.specs.Grammar.{at, bracketed_tokens, Param, kind_token, param_tokens, Params, no_param, params, params_tokens, KeyPart, text_part, name_part, show_part, part_tokens, KeySyntax, mode_token, key_tokens, statements_tokens, ProcSyntax, proc_tokens, procs_tokens, IsProc, AreProcSyntaxes}
+use Rattle.dt_syntax.specs.Grammar.{at, bracketed_tokens, Param, kind_token, param_tokens, Params, no_param, params, params_tokens, KeyPart, text_part}
+use Rattle.dt_syntax.specs.Grammar.{name_part, show_part, part_tokens, KeySyntax, mode_token, key_tokens, statements_tokens, ProcSyntax, proc_tokens}
+use Rattle.dt_syntax.specs.Grammar.{procs_tokens, IsProc, AreProcSyntaxes}
 use Rattle.dt_syntax.proofs.Shapes.{key_cut, mode_is, mode_begin, no_comma_close, no_join_semicolon, proc_cut}
 use Rattle.dt_syntax.proofs.OneSyntax.{front_place_is, front_token_is, after_front, same_name, same_text, one_bracketed, one_list, one_statements}
 

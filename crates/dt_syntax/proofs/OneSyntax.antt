@@ -8,8 +8,12 @@ use Rattle.dt_syntax.specs.declared.token.Placed.{Placed}
 use Rattle.dt_syntax.specs.declared.operator.Op.{Op}
 use Rattle.dt_syntax.specs.declared.operator.Op.TheVariants as op
 use Rattle.dt_syntax.specs.FrontsInner.{FrontStops, NoElse}
-use Rattle.dt_syntax.specs.Grammar.{at, Bracketed, bracketed_tokens, Syntax, chain, minus, denial, int, text, truth, name, parens, of_key, made, Links, no_link, link, syntax_tokens, links_tokens, level_of, IsLevel, AreLinks, reads_int, reads_text, reads_presence, makes_length, makes_text, Item, row_item, value_item, item_tokens, items_tokens, IsItem, Statement, let_new, set_key, clear_key, when, choose, abort, give, Statements, nothing, first, statement_tokens, statements_tokens, IsStatement, AreStatements}
-use Rattle.dt_syntax.proofs.Shapes.{inner, up, chain_shape, links_stop, head_is, tail_is, placed_is, six_stop, front_token, next_item, AreItems, items_stop, items_cut, StepShape, step_shape, no_else, begins_other}
+use Rattle.dt_syntax.specs.Grammar.{at, Bracketed, bracketed_tokens, Syntax, chain, minus, denial, int, text, truth, name, parens, of_key, made, Links, no_link}
+use Rattle.dt_syntax.specs.Grammar.{link, syntax_tokens, links_tokens, level_of, IsLevel, AreLinks, reads_int, reads_text, reads_presence, makes_length}
+use Rattle.dt_syntax.specs.Grammar.{makes_text, Item, row_item, value_item, item_tokens, items_tokens, IsItem, Statement, let_new, set_key, clear_key, when}
+use Rattle.dt_syntax.specs.Grammar.{choose, abort, give, Statements, nothing, first, statement_tokens, statements_tokens, IsStatement, AreStatements}
+use Rattle.dt_syntax.proofs.Shapes.{inner, up, chain_shape, links_stop, head_is, tail_is, placed_is, six_stop, front_token, next_item, AreItems, items_stop}
+use Rattle.dt_syntax.proofs.Shapes.{items_cut, StepShape, step_shape, no_else, begins_other}
 
 -- two tokens in front are the same one
 pub front_place_is : (p q : ℕ) (s t : Token) (us vs : List Placed) → at p s ∷ us ≡ at q t ∷ vs → p ≡ q

@@ -1,12 +1,17 @@
 -- What the first token of a part of the grammar says of the part, and where a part ends.
-use Rattle.std.proofs.Common.{◌≡◌, inl, inr, ℕ, suc, ◌+◌, ◌<◌, ◌≤◌, List, [], ◌∷◌, ◌++◌, Ok, Err, refl, sym, ap, ◌∙◌, subst, arith, append_assoc, take, drop, get_or, length, length-append, add-one, Bool, true, false, ℤ, ◌-◌, append-nil, map, Result, OnOk, MatchResult, cond, nat_eq, ◌⊎◌}
+use Rattle.std.proofs.Common.{◌≡◌, inl, inr, ℕ, suc, ◌+◌, ◌<◌, ◌≤◌, List, [], ◌∷◌, ◌++◌, Ok, Err, refl, sym, ap, ◌∙◌, subst, arith, append_assoc, take, drop}
+use Rattle.std.proofs.Common.{get_or, length, length-append, add-one, Bool, true, false, ℤ, ◌-◌, append-nil, map, Result, OnOk, MatchResult, cond, nat_eq, ◌⊎◌}
 use Rattle.std.proofs.Math.Seq.{take-length}
 use Rattle.dt_syntax.specs.declared.token.Token.{Token}
 use Rattle.dt_syntax.specs.declared.token.Token.TheVariants as tok
 use Rattle.dt_syntax.specs.declared.token.Placed.{Placed}
 use Rattle.dt_syntax.specs.declared.operator.Op.{Op}
 use Rattle.dt_syntax.specs.declared.operator.Op.TheVariants as op
-use Rattle.dt_syntax.specs.Grammar.{front_place, at, Bracketed, bracketed_tokens, Syntax, chain, minus, denial, int, text, truth, name, parens, of_key, made, Links, no_link, link, syntax_tokens, links_tokens, level_of, IsLevel, AreLinks, reads_int, reads_text, reads_presence, makes_length, makes_text, Item, item_tokens, items_tokens, IsItem, KeyPart, text_part, name_part, show_part, part_tokens, KeySyntax, key_tokens, mode_token, params, params_tokens, statements_tokens, ProcSyntax, proc_tokens, Statement, let_new, set_key, clear_key, when, choose, abort, give, Statements, nothing, first, statement_tokens, IsStatement, AreStatements}
+use Rattle.dt_syntax.specs.Grammar.{front_place, at, Bracketed, bracketed_tokens, Syntax, chain, minus, denial, int, text, truth, name, parens, of_key, made}
+use Rattle.dt_syntax.specs.Grammar.{Links, no_link, link, syntax_tokens, links_tokens, level_of, IsLevel, AreLinks, reads_int, reads_text, reads_presence}
+use Rattle.dt_syntax.specs.Grammar.{makes_length, makes_text, Item, item_tokens, items_tokens, IsItem, KeyPart, text_part, name_part, show_part, part_tokens}
+use Rattle.dt_syntax.specs.Grammar.{KeySyntax, key_tokens, mode_token, params, params_tokens, statements_tokens, ProcSyntax, proc_tokens, Statement, let_new}
+use Rattle.dt_syntax.specs.Grammar.{set_key, clear_key, when, choose, abort, give, Statements, nothing, first, statement_tokens, IsStatement, AreStatements}
 use Rattle.dt_syntax.specs.FrontsInner.{Stops, FrontStops, joined_part, NoElse}
 use Rattle.std.specs.List.{flat_map, list_any}
 use Rattle.dt_lists.specs.Lists.{AllIn}
@@ -69,9 +74,9 @@ pub left_is : (t : Placed) (ts : List Placed) → left_of (t ∷ ts) ≡ ts
 left_is t ts = ap (λ n. take n ts) (let e : suc (length ts) - 1 ≡ length ts = omega arith in e) ∙ take-length ts
 
 -- the first token of some, and the others
-pub cut_first : (ts : List Placed) (first : Placed) → 1 ≤ length ts → first ≡ get_or ts 0 first → ts ≡ first ∷ left_of ts
-cut_first [] first some is = absurd (omega arith)
-cut_first (t ∷ ts) first some is = ap (λ v. v ∷ ts) (sym is) ∙ ap (λ v. first ∷ v) (sym (left_is t ts))
+pub cut_first : (ts : List Placed) (one : Placed) → 1 ≤ length ts → one ≡ get_or ts 0 one → ts ≡ one ∷ left_of ts
+cut_first [] one some is = absurd (omega arith)
+cut_first (t ∷ ts) one some is = ap (λ v. v ∷ ts) (sym is) ∙ ap (λ v. one ∷ v) (sym (left_is t ts))
 
 pub some_tokens : (x : Syntax) → 0 < length (syntax_tokens x)
 some_tokens (chain head links) = omega (arith, some_tokens head, length-append (syntax_tokens head) (links_tokens links))

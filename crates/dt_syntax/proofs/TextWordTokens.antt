@@ -1,5 +1,6 @@
 -- A text that the lexer finds is a text word of lines.
-use Rattle.std.proofs.Common.{◌≡◌, ◌↔◌, ℕ, ◌+◌, ◌-◌, ◌≤◌, Bool, true, false, cond, ◌&&◌, ◌||◌, ◌==◌, nat_le, List, [], ◌∷◌, ◌++◌, length, Option, Some, None, IsTrue, refl, sym, ap, ◌∙◌, subst, arith, append_assoc}
+use Rattle.std.proofs.Common.{◌≡◌, ◌↔◌, ℕ, ◌+◌, ◌-◌, ◌≤◌, Bool, true, false, cond, ◌&&◌, ◌||◌, ◌==◌, nat_le, List, [], ◌∷◌, ◌++◌, length, Option, Some, None}
+use Rattle.std.proofs.Common.{IsTrue, refl, sym, ap, ◌∙◌, subst, arith, append_assoc}
 use Rattle.std.specs.List.{list_all}
 use Rattle.std.proofs.lemmas.Bool.Decides.{nat_tests}
 use Rattle.std.proofs.lemmas.List.{length-append}
@@ -40,9 +41,10 @@ both a b p q = cc
 -- one item more
 one_more : (b : ℕ) (item bs u t rest : List ℕ) → is_text_byte b ≡ true → text_item b ≡ item → t ≡ b ∷ u → ArePrinted bs u rest → ArePrinted (item ++ bs) t rest
 one_more b item bs u t rest allowed is front (all, cut) =
-    subst (λ v. ArePrinted (item ++ bs) v rest) (sym front)
-    (both (is_text_byte b) (list_all is_text_byte u) allowed all,
-    ap (λ v. item ++ v) cut ∙ sym (append_assoc item (text_items u) (34 ∷ rest)) ∙ ap (λ v. (v ++ text_items u) ++ 34 ∷ rest) (sym is))
+    subst (λ v. ArePrinted (item ++ bs) v rest) (sym front) (
+      both (is_text_byte b) (list_all is_text_byte u) allowed all,
+      ap (λ v. item ++ v) cut ∙ sym (append_assoc item (text_items u) (34 ∷ rest)) ∙ ap (λ v. (v ++ text_items u) ++ 34 ∷ rest) (sym is),
+    )
 
 quote_or_slash : (b : ℕ) → (b == 34 || b == 92) ≡ true → is_text_byte b ≡ true
 quote_or_slash b e = split (b == 34) (b == 92) refl refl e
@@ -52,38 +54,51 @@ quote_or_slash b e = split (b == 34) (b == 92) refl refl e
     split false true is other h = let same : b ≡ 92 = grind (arith, nat_tests) in subst (λ n. is_text_byte n ≡ true) (sym same) refl
     split false false is other h = absurd cc
 
+abbrev Found : Type 0
+Found = Option (List ℕ × List ℕ)
+
+-- what the first byte says of what is found, where it is known of the bytes after it
+first_found : (b : ℕ) (bs t rest : List ℕ) → ((u : List ℕ) → items_of bs ≡ Some (u, rest) → ArePrinted bs u rest) →
+    (escaped bs ≡ Some (t, rest) → ArePrinted (92 ∷ bs) t rest) → items_of (b ∷ bs) ≡ Some (t, rest) → ArePrinted (b ∷ bs) t rest
+first_found b bs t rest after after_slash e = split (b == 34) (b == 92) (is_text_byte b) refl refl refl e
+  where
+    split : (p q r : Bool) → (b == 34) ≡ p → (b == 92) ≡ q → is_text_byte b ≡ r →
+        cond {A = Found} p (Some ([], bs)) (cond {A = Found} q (escaped bs) (cond {A = Found} r (with_item b (items_of bs)) None)) ≡ Some (t, rest) →
+        ArePrinted (b ∷ bs) t rest
+    split true q r is other allowed h =
+        let same : b ≡ 34 = grind (arith, nat_tests) in
+        let p = same_pair ([], bs) (t, rest) h in
+        let none : [] ≡ t = ap (λ (q : List ℕ × List ℕ). q.0) p in
+        let left : bs ≡ rest = ap (λ (q : List ℕ × List ℕ). q.1) p in
+        subst (λ v. ArePrinted (b ∷ bs) v rest) none (refl, λ i. same i ∷ left i)
+    split false true r is other allowed h =
+        let same : b ≡ 92 = grind (arith, nat_tests) in
+        subst (λ n. ArePrinted (n ∷ bs) t rest) (sym same) (after_slash h)
+    split false false true is other allowed h =
+        let w = with_is b (items_of bs) t rest h in
+        let alone : text_item b ≡ b ∷ [] = rw (is, other) refl in
+        one_more b (b ∷ []) bs w.others t rest allowed alone w.is (after w.others w.found)
+    split false false false is other allowed h = absurd cc
+
+second_found : (b : ℕ) (bs t rest : List ℕ) → ((u : List ℕ) → items_of bs ≡ Some (u, rest) → ArePrinted bs u rest) →
+    escaped (b ∷ bs) ≡ Some (t, rest) → ArePrinted (92 ∷ b ∷ bs) t rest
+second_found b bs t rest after e = split (b == 34 || b == 92) refl e
+  where
+    split : (p : Bool) → (b == 34 || b == 92) ≡ p → cond {A = Found} p (with_item b (items_of bs)) None ≡ Some (t, rest) → ArePrinted (92 ∷ b ∷ bs) t rest
+    split true is h =
+        let w = with_is b (items_of bs) t rest h in
+        let two : text_item b ≡ 92 ∷ b ∷ [] = rw is refl in
+        one_more b (92 ∷ b ∷ []) bs w.others t rest (quote_or_slash b is) two w.is (after w.others w.found)
+    split false is h = absurd cc
+
 mutual
   found : (bs t rest : List ℕ) → items_of bs ≡ Some (t, rest) → ArePrinted bs t rest
   found [] t rest e = absurd cc
-  found (b ∷ bs) t rest e = split (b == 34) (b == 92) (is_text_byte b) refl refl refl e
-    where
-      split : (p q r : Bool) → (b == 34) ≡ p → (b == 92) ≡ q → is_text_byte b ≡ r →
-          cond p (Some ([], bs)) (cond q (escaped bs) (cond r (with_item b (items_of bs)) None)) ≡ Some (t, rest) → ArePrinted (b ∷ bs) t rest
-      split true q r is other allowed h =
-          let same : b ≡ 34 = grind (arith, nat_tests) in
-          let p = same_pair ([], bs) (t, rest) h in
-          let none : [] ≡ t = ap (λ (q : List ℕ × List ℕ). q.0) p in
-          let left : bs ≡ rest = ap (λ (q : List ℕ × List ℕ). q.1) p in
-          subst (λ v. ArePrinted (b ∷ bs) v rest) none (refl, λ i. same i ∷ left i)
-      split false true r is other allowed h =
-          let same : b ≡ 92 = grind (arith, nat_tests) in
-          subst (λ n. ArePrinted (n ∷ bs) t rest) (sym same) (found_escaped bs t rest h)
-      split false false true is other allowed h =
-          let w = with_is b (items_of bs) t rest h in
-          let alone : text_item b ≡ b ∷ [] = rw (is, other) refl in
-          one_more b (b ∷ []) bs w.others t rest allowed alone w.is (found bs w.others rest w.found)
-      split false false false is other allowed h = absurd cc
+  found (b ∷ bs) t rest e = first_found b bs t rest (λ u h. found bs u rest h) (λ h. found_escaped bs t rest h) e
 
   found_escaped : (bs t rest : List ℕ) → escaped bs ≡ Some (t, rest) → ArePrinted (92 ∷ bs) t rest
   found_escaped [] t rest e = absurd cc
-  found_escaped (b ∷ bs) t rest e = split (b == 34 || b == 92) refl e
-    where
-      split : (p : Bool) → (b == 34 || b == 92) ≡ p → cond p (with_item b (items_of bs)) None ≡ Some (t, rest) → ArePrinted (92 ∷ b ∷ bs) t rest
-      split true is h =
-          let w = with_is b (items_of bs) t rest h in
-          let two : text_item b ≡ 92 ∷ b ∷ [] = rw is refl in
-          one_more b (92 ∷ b ∷ []) bs w.others t rest (quote_or_slash b is) two w.is (found bs w.others rest w.found)
-      split false is h = absurd cc
+  found_escaped (b ∷ bs) t rest e = second_found b bs t rest (λ u h. found bs u rest h) e
 
 -- what stands as an item is found as one
 item_found : (b : ℕ) (more : List ℕ) → is_text_byte b ≡ true → items_of (text_item b ++ more) ≡ with_item b (items_of more)
@@ -92,7 +107,10 @@ item_found b more allowed = split (b == 34) (b == 92) refl refl
     split : (p q : Bool) → (b == 34) ≡ p → (b == 92) ≡ q → items_of (text_item b ++ more) ≡ with_item b (items_of more)
     split true q is other = rw is refl
     split false true is other = rw (is, other) refl
-    split false false is other = rw (is, other, allowed) refl
+    split false false is other =
+        let alone : (b == 34 || b == 92) ≡ false = λ i. is i || other i in
+        ap (λ v. items_of (cond v (92 ∷ b ∷ []) (b ∷ []) ++ more)) alone
+        ∙ (λ i. cond {A = Found} (is i) (Some ([], more)) (cond {A = Found} (other i) (escaped more) (cond {A = Found} (allowed i) (with_item b (items_of more)) None)))
 
 left_true : (a b : Bool) → (a && b) ≡ true → a ≡ true
 left_true true b e = refl
@@ -129,7 +147,7 @@ unfolding text_of sized_or
 sized bs t n None e = absurd cc
 sized bs t n (Some (u, rest)) e = split (nat_le (length u) 256) refl e
   where
-    split : (p : Bool) → nat_le (length u) 256 ≡ p → cond p (Some (Text u, length bs - length rest + 1)) None ≡ Some (Text t, n) → IsSized bs t n (Some (u, rest))
+    split : (p : Bool) → nat_le (length u) 256 ≡ p → cond {A = Option Sized} p (Some (Text u, length bs - length rest + 1)) None ≡ Some (Text t, n) → IsSized bs t n (Some (u, rest))
     split false is h = absurd cc
     split true is h =
         let pair : (Text u, length bs - length rest + 1) ≡ (Text t, n) = ap sized_or h in
@@ -165,5 +183,5 @@ text_tokens_are_text_words bs t n = (λ e. forth (sized bs t n (items_of bs) e),
         tail_of 34 34 bs ((text_items t ++ 34 ∷ []) ++ w.rest) w.cut ∙ append_assoc (text_items t) (34 ∷ []) w.rest in
         let is : items_of bs ≡ Some (t, w.rest) = ap items_of cut ∙ printed t w.rest w.text.1 in
         let few : nat_le (length t) 256 ≡ true = grind (arith, nat_tests, w.text.0) in
-        ap (text_found bs) is ∙ ap (λ b. cond b (Some (Text t, length bs - length w.rest + 1)) None) few
+        ap (text_found bs) is ∙ ap (λ b. cond {A = Option Sized} b (Some (Text t, length bs - length w.rest + 1)) None) few
         ∙ ap (λ (m : ℕ). Some (Text t, m)) (size_is bs t w.rest cut ∙ sym w.counted)

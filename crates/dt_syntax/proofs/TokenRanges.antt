@@ -1,5 +1,6 @@
 -- The tokens of a text are sound: their numbers are in range, and their texts and names are such.
-use Rattle.std.proofs.Common.{◌≡◌, ℕ, zero, suc, ◌+◌, ◌-◌, ◌<◌, ◌≤◌, Bool, true, false, cond, ◌&&◌, ◌||◌, ◌==◌, nat_le, nat_eq, pos, List, [], ◌∷◌, length, get_or, take_while, Option, Some, None, refl, arith}
+use Rattle.std.proofs.Common.{◌≡◌, ℕ, zero, suc, ◌+◌, ◌-◌, ◌<◌, ◌≤◌, Bool, true, false, cond, ◌&&◌, ◌||◌, ◌==◌, nat_le, nat_eq, pos, List, [], ◌∷◌, ◌++◌}
+use Rattle.std.proofs.Common.{length, get_or, take_while, Option, Some, None, refl, arith}
 use Rattle.std.specs.Option.{option_map}
 use Rattle.std.specs.List.{list_all}
 use Rattle.std.specs.Cmp.Lexicographic.{pointwise}
@@ -7,8 +8,11 @@ use Rattle.std.proofs.lemmas.Bool.Decides.{nat_tests}
 use Rattle.dt_lists.specs.Lists.{AllIn}
 use Rattle.dt_text.specs.Texts.{is_name_byte, is_text_byte}
 use Rattle.dt_syntax.specs.declared.token.Token.{Token}
+use Rattle.dt_syntax.specs.declared.token.Placed.{Placed}
 use Rattle.dt_syntax.specs.declared.token.Token.TheVariants as tok
-use Rattle.dt_syntax.specs.Tokens.{tokens_of, tokens_from, Lexed, with_front, front_token, front_word, word_token, word_in, statement_words, expression_words, plain_word, whole_number, is_digit, is_letter, text_after, text_found, items_of, escaped, with_item, sign_before, single_sign, double_sign, first_of, Sized, is_blank, is_no_line_end}
+use Rattle.dt_syntax.specs.Tokens.{tokens_of, tokens_from, Lexed, with_front, front_token, front_word, word_token, word_in, statement_words, expression_words}
+use Rattle.dt_syntax.specs.Tokens.{plain_word, whole_number, is_digit, is_letter, text_after, text_found, items_of, escaped, with_item, sign_before}
+use Rattle.dt_syntax.specs.Tokens.{single_sign, double_sign, first_of, Sized, is_blank, is_no_line_end}
 use Rattle.dt_syntax.specs.Limits.{IsSoundToken, AllSound}
 use Rattle.dt_syntax.proofs.LexerLemmas.{all_taken}
 use Rattle.dt_syntax.proofs.NumberTokens.{whole_small, both_left, both_right}

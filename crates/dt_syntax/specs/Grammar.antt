@@ -9,7 +9,9 @@ use Rattle.dt_syntax.specs.declared.kinds.Kind.TheVariants as kind
 use Rattle.dt_syntax.specs.declared.operator.Op.{Op}
 use Rattle.dt_syntax.specs.declared.operator.Op.TheVariants as op
 use Rattle.dt_syntax.specs.declared.token.Token.{Token}
-use Rattle.dt_syntax.specs.declared.token.Token.TheVariants.{Name, Int, Text, Op as OpToken, Proc, Read, Write, Let, Set, Clear, If, Else, Abort, Give, Row, IntWord, TextWord, Has, Len, Show, Not, Truth, Open, Close, Begin, End, Comma, Semicolon, Colon, Is}
+use Rattle.dt_syntax.specs.declared.token.Token.TheVariants.{Name, Int, Text, Op as OpToken, Proc, Read, Write, Let, Set, Clear, If, Else, Abort, Give, Row}
+use Rattle.dt_syntax.specs.declared.token.Token.TheVariants.{IntWord, TextWord, Has, Len, Show, Not, Truth, Open, Close, Begin, End, Comma, Semicolon, Colon}
+use Rattle.dt_syntax.specs.declared.token.Token.TheVariants.{Is}
 use Rattle.dt_syntax.specs.declared.token.Placed.{Placed}
 
 -- a token at a place

@@ -1,7 +1,8 @@
 -- A text of procedures is cut into tokens, and nothing else of its bytes counts: words, numbers, texts and symbols, with blanks
 -- and comments between them. Each token is the longest that begins at its place, so a text has one list of tokens. That texts are
 -- written as in lines is said by TextTokens; what tokens spell is said by Grammar.
-use Rattle.std.specs.Prelude.{ℕ, zero, suc, ◌+◌, ◌-◌, ◌^◌, pos, Bool, true, false, if◌then◌else◌, ◌==◌, ◌&&◌, ◌||◌, not, nat_le, nat_lt, nat_eq, List, [], ◌∷◌, length, take_while, slice_index, Option, Some, None, IsTrue, codes, ◌≡◌, ◌≤◌}
+use Rattle.std.specs.Prelude.{ℕ, zero, suc, ◌+◌, ◌-◌, ◌^◌, pos, Bool, true, false, if◌then◌else◌, ◌==◌, ◌&&◌, ◌||◌, not, nat_le, nat_lt, nat_eq, List, [], ◌∷◌}
+use Rattle.std.specs.Prelude.{length, take_while, slice_index, Option, Some, None, IsTrue, codes, ◌≡◌, ◌≤◌}
 use Rattle.std.specs.Option.{option_map}
 use Rattle.std.specs.List.{list_all}
 use Rattle.std.specs.Str.Parse.{digits_value}
@@ -9,7 +10,8 @@ use Rattle.std.specs.Cmp.Lexicographic.{pointwise}
 use Rattle.dt_text.specs.Texts.{is_name_byte, is_text_byte}
 use Rattle.dt_syntax.specs.declared.operator.Op.TheVariants as op
 use Rattle.dt_syntax.specs.declared.token.Token.{Token}
-use Rattle.dt_syntax.specs.declared.token.Token.TheVariants.{Name, Int, Text, Op, Proc, Read, Write, Let, Set, Clear, If, Else, Abort, Give, Row, IntWord, TextWord, Has, Len, Show, Not, Truth, Open, Close, Begin, End, Comma, Semicolon, Colon, Is}
+use Rattle.dt_syntax.specs.declared.token.Token.TheVariants.{Name, Int, Text, Op, Proc, Read, Write, Let, Set, Clear, If, Else, Abort, Give, Row, IntWord}
+use Rattle.dt_syntax.specs.declared.token.Token.TheVariants.{TextWord, Has, Len, Show, Not, Truth, Open, Close, Begin, End, Comma, Semicolon, Colon, Is}
 use Rattle.dt_syntax.specs.declared.token.Placed.{Placed}
 
 -- the keywords of procedures and statements, each with its token

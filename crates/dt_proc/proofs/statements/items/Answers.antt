@@ -48,7 +48,8 @@ pub returns-in_err-give-2-clause-right : goal.returns-in_err-give-2-clause-right
 returns-in_err-give-2-clause-right c = λ i more e rest h hs is.
     let p = err_from_is_err_and c.from_residual-in_err-give-2.result c.from_residual-in_err-give-2.ensures.1 in
     let comma = c.in-Some.ensures.right in
-    let n = after_comma_next c.args.scope.now (check_all_items c.args.scope.now i more) (map give_tree c.loop-after.gives) c.loop-after.rest.now e rest comma.0 c.in-Some.after.now comma.1 (c.loop-after.invariant.right i more e rest h hs is) in
+    let n = after_comma_next c.args.scope.now (check_all_items c.args.scope.now i more) (map give_tree c.loop-after.gives) c.loop-after.rest.now e rest
+    comma.0 c.in-Some.after.now comma.1 (c.loop-after.invariant.right i more e rest h hs is) in
     rw (p.1, p.2) (told_fault c.args.scope.now (check_all_items c.args.scope.now i more) (map give_tree c.loop-after.gives) c.in-Some.after.now e rest
     (flat_map next_item n.more ++ at e tok.Semicolon ∷ rest) _ n
     (c.in_err-give-2.ensures.right n.item (flat_map next_item n.more ++ at e tok.Semicolon ∷ rest) n.good (items_stop n.more e rest) n.cut))
