@@ -1,29 +1,14 @@
 -- Two ascending lists of keys clash where a walk along both finds it.
 use Rattle.std.proofs.Common.{◌≡◌, Bool, true, false, ◌&&◌, ◌||◌, List, [], ◌∷◌, refl, ap, sym, ◌∙◌, subst, length, arith}
-use Rattle.std.specs.Ordering.{nat_cmp, is_eq, ordering_reverse}
+use Rattle.std.specs.Ordering.{nat_cmp}
 use Rattle.std.specs.declared.cmp.Ordering.TheVariants.{Less, Equal, Greater}
-use Rattle.std.specs.Cmp.Lexicographic.{slice_cmp, texts_ties, nat_list_cmp_total, bytes_decides}
+use Rattle.std.specs.Cmp.Lexicographic.{slice_cmp, nat_list_cmp_total, bytes_decides}
 use Rattle.std.specs.List.{list_any}
 use Rattle.dt_lists.specs.Lists.{AllIn}
 use Rattle.dt_access.specs.declared.access.Mode.{Mode}
 use Rattle.dt_access.specs.Clash.{Bytes, same_key, is_write, uses_clash, clash}
 use Rattle.dt_access.specs.Orders.{KeyBefore, HasAscendingKeys}
-
--- keys of which one is less are not the same
-same_key-before : (a b : Bytes) → KeyBefore a b → same_key a b ≡ false
-same_key-before a b h = texts_ties a b ∙ ap is_eq h
-
-same_key-after : (a b : Bytes) → KeyBefore b a → same_key a b ≡ false
-same_key-after a b h =
-    texts_ties a b ∙ ap is_eq (nat_list_cmp_total.antisymm a b ∙ ap ordering_reverse h)
-
--- keys that compare as equal are the same
-same_key-equal : (a b : Bytes) → slice_cmp nat_cmp a b ≡ Equal → same_key a b ≡ true
-same_key-equal a b h = texts_ties a b ∙ ap is_eq h
-
--- what compares as greater is after
-KeyBefore-flip : (a b : Bytes) → slice_cmp nat_cmp a b ≡ Greater → KeyBefore b a
-KeyBefore-flip a b h = nat_list_cmp_total.antisymm b a ∙ ap ordering_reverse h
+use Rattle.dt_access.proofs.Keys.{same_key_before, same_key_after, same_key_equal, key_before_flip}
 
 -- what is less than a key is less than all that are greater than the key
 AllIn-before : (a b : Bytes) (bs : List (Bytes × Mode)) → KeyBefore a b → AllIn (λ y. KeyBefore b y.0) bs → AllIn (λ y. KeyBefore a y.0) bs
@@ -35,13 +20,13 @@ AllIn-before a b (y ∷ ys) h all =
 none-before : (a : Bytes × Mode) (bs : List (Bytes × Mode)) → AllIn (λ y. KeyBefore a.0 y.0) bs → list_any (uses_clash a) bs ≡ false
 none-before a [] all = refl
 none-before a (y ∷ ys) all =
-    ap (λ t. t && (is_write a.1 || is_write y.1) || list_any (uses_clash a) ys) (same_key-before a.0 y.0 all.0) ∙ none-before a ys all.1
+    ap (λ t. t && (is_write a.1 || is_write y.1) || list_any (uses_clash a) ys) (same_key_before a.0 y.0 all.0) ∙ none-before a ys all.1
 
 -- a use of a key that is less than all keys of the other list makes no clash
 skip-right : (b : Bytes × Mode) (xs bs : List (Bytes × Mode)) → AllIn (λ x. KeyBefore b.0 x.0) xs → clash xs (b ∷ bs) ≡ clash xs bs
 skip-right b [] bs all = refl
 skip-right b (x ∷ xs) bs all =
-    ap (λ t. t && (is_write x.1 || is_write b.1) || list_any (uses_clash x) bs || clash xs (b ∷ bs)) (same_key-after x.0 b.0 all.0) ∙ ap (λ t. list_any (uses_clash x) bs || t) (skip-right b xs bs all.1)
+    ap (λ t. t && (is_write x.1 || is_write b.1) || list_any (uses_clash x) bs || clash xs (b ∷ bs)) (same_key_after x.0 b.0 all.0) ∙ ap (λ t. list_any (uses_clash x) bs || t) (skip-right b xs bs all.1)
 
 -- what is left of the first pair of uses, where their keys are the same and the first one clashes with no later one
 or-heads : (same w later c d : Bool) → same ≡ true → later ≡ false → d ≡ c → (((same && w) || later) || d) ≡ (w || c)
@@ -67,14 +52,14 @@ module _ (l r ls rs : List (Bytes × Mode)) (a b : Bytes × Mode) (el : l ≡ a 
   -- and in the right list past a key that is less than the first one of the left
   pub clash-greater : slice_cmp nat_cmp a.0 b.0 ≡ Greater → HasAscendingKeys l × HasAscendingKeys rs × (clash l rs ≡ clash l r)
   clash-greater h =
-      let after : KeyBefore b.0 a.0 = KeyBefore-flip a.0 b.0 h in
+      let after : KeyBefore b.0 a.0 = key_before_flip a.0 b.0 h in
       let step : clash (a ∷ ls) (b ∷ rs) ≡ clash (a ∷ ls) rs = skip-right b (a ∷ ls) rs (after, AllIn-before b.0 a.0 ls after al.0) in
       (asl, ar.1, ap (λ t. clash t rs) el ∙ sym step ∙ sym (ap (λ t. clash t (b ∷ rs)) el) ∙ sym (ap (clash l) er))
 
   -- where the first keys are the same, their modes clash or the rests do
   clash-heads : slice_cmp nat_cmp a.0 b.0 ≡ Equal → clash l r ≡ ((is_write a.1 || is_write b.1) || clash ls rs)
   clash-heads h =
-      let k : same_key a.0 b.0 ≡ true = same_key-equal a.0 b.0 h in
+      let k : same_key a.0 b.0 ≡ true = same_key_equal a.0 b.0 h in
       let e : a.0 ≡ b.0 = (bytes_decides a.0 b.0).0 k in
       let later : list_any (uses_clash a) rs ≡ false = none-before a rs (subst (λ q. AllIn (λ (y : Bytes × Mode). KeyBefore q y.0) rs) (sym e) ar.0) in
       let rest : clash ls (b ∷ rs) ≡ clash ls rs = skip-right b ls rs (subst (λ q. AllIn (λ (y : Bytes × Mode). KeyBefore q y.0) ls) e al.0) in

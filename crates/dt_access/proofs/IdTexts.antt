@@ -6,6 +6,7 @@ use Rattle.std.specs.Char.{digit_value}
 use Rattle.std.specs.Result.{OkIff, result_ok}
 use Rattle.std.proofs.lemmas.Fmt.{decimal_is_IsNumeral, decimal_injective}
 use Rattle.std.proofs.lemmas.List.Elements.{Contains-append_right}
+use Rattle.dt_lists.proofs.Changes.{same_head, same_tail}
 use Rattle.dt_access.specs.declared.id.TxnId.{TxnId}
 use Rattle.dt_access.specs.Ids.{id_text, IsCounted}
 
@@ -16,12 +17,6 @@ no_dot (d ∷ ds) all (zero, lt, e) =
     let low : digit_value d < 10 = all.0 in absurd (omega (arith, subst (λ x. digit_value x < 10) e low))
 no_dot (d ∷ ds) all (suc k, lt, e) = no_dot ds all.1 (k, omega arith, e)
 
-head-is : {x y : ℕ} {xs ys : List ℕ} → x ∷ xs ≡ y ∷ ys → x ≡ y
-head-is e = cc
-
-tail-is : {x y : ℕ} {xs ys : List ℕ} → x ∷ xs ≡ y ∷ ys → xs ≡ ys
-tail-is e = cc
-
 -- what a list lacks, its rest lacks
 Contains-rest : (x : ℕ) (xs : List ℕ) → ¬ Contains (x ∷ xs) 46 → ¬ Contains xs 46
 Contains-rest x xs none (k, lt, e) = none (suc k, omega arith, e)
@@ -31,12 +26,12 @@ Contains-head x xs none e = none (0, omega arith, e)
 
 -- two lists are cut at their first dot into the same parts
 cut_once : (f g b d : List ℕ) → ¬ Contains f 46 → ¬ Contains g 46 → f ++ 46 ∷ b ≡ g ++ 46 ∷ d → (f ≡ g) × (b ≡ d)
-cut_once [] [] b d nf ng e = (refl, tail-is e)
-cut_once [] (y ∷ g) b d nf ng e = absurd (Contains-head y g ng (sym (head-is e)))
-cut_once (x ∷ f) [] b d nf ng e = absurd (Contains-head x f nf (head-is e))
+cut_once [] [] b d nf ng e = (refl, same_tail e)
+cut_once [] (y ∷ g) b d nf ng e = absurd (Contains-head y g ng (sym (same_head e)))
+cut_once (x ∷ f) [] b d nf ng e = absurd (Contains-head x f nf (same_head e))
 cut_once (x ∷ f) (y ∷ g) b d nf ng e =
-    let rest = cut_once f g b d (Contains-rest x f nf) (Contains-rest y g ng) (tail-is e) in
-    ((λ i. head-is e i ∷ rest.0 i), rest.1)
+    let rest = cut_once f g b d (Contains-rest x f nf) (Contains-rest y g ng) (same_tail e) in
+    ((λ i. same_head e i ∷ rest.0 i), rest.1)
 
 -- what is cut at its first dot and is the printed form of an id is cut into the id's two numbers
 pub id_parts : (word f b : List ℕ) → word ≡ f ++ 46 ∷ b → ¬ Contains f 46 → (id : TxnId) → IsCounted id → word ≡ id_text id → (f ≡ decimal id.seq) × (b ≡ decimal id.region)

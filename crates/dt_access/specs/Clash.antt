@@ -1,12 +1,12 @@
-use Rattle.std.specs.Prelude.{ℕ, Bool, true, false, ◌&&◌, ◌||◌, nat_eq, List}
+-- When two uses of rows clash. Of two transactions that use one row, where one of them may write it, the order matters;
+-- of all others it does not. So a graph of what has to wait for what has its edges just where parts clash.
+-- Which keys a transaction uses stands in its access list; the order of keys in Orders.antt.
+use Rattle.std.specs.Prelude.{Bool, true, false, ◌&&◌, ◌||◌, nat_eq, List}
 use Rattle.std.specs.List.{list_any}
 use Rattle.std.specs.Cmp.Lexicographic.{pointwise}
+pub use Rattle.dt_text.specs.Texts.{Bytes}
 use Rattle.dt_access.specs.declared.access.Mode.{Mode}
 use Rattle.dt_access.specs.declared.access.Mode.TheVariants.{Read, Write}
-
--- a key by its bytes
-abbrev pub Bytes : Type 0
-Bytes = List ℕ
 
 -- whether two keys are the same
 abbrev pub same_key : Bytes → Bytes → Bool

@@ -14,6 +14,8 @@ pub struct TxnId {
 
 impl TxnId {
     /// Whether this id comes before the other: by sequence number, then by region.
+    ///
+    /// The derived `Ord` is the same order; this call says it in the word `Before` that the definitions use.
     pub fn before(&self, other: &TxnId) -> bool
         ensures { IsTrue result ↔ Before self.now other.now }
     {

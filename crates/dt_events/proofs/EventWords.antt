@@ -2,10 +2,12 @@
 use Rattle.std.proofs.Common.{◌≡◌, ◌≢◌, ℕ, zero, suc, ◌+◌, ◌<◌, ◌≤◌, ◌^◌, Bool, true, false, not, cond, List, [], ◌∷◌, ◌++◌, length, map, get_or, drop, ◌==◌, Option, Some, None, MatchOption, Bor, refl, ap, sym, ◌∙◌, subst, arith, append_assoc, append-nil}
 use Rattle.std.specs.List.{join_with_byte, onto_first}
 use Rattle.std.proofs.lemmas.Grind.{common_steps}
-use Rattle.dt_lists.specs.Lists.{AllIn, Pairwise}
+use Rattle.std.proofs.lemmas.Option.{same_Some}
+use Rattle.dt_lists.specs.Lists.{Pairwise}
+use Rattle.dt_lists.proofs.Changes.{same_head, same_tail}
 use Rattle.dt_text.specs.Texts.{IsName, is_name_byte, first_outside}
 use Rattle.dt_text.specs.Reading.{words_of}
-use Rattle.dt_text.specs.Lines.{FileLine, lines_of, cut_lines, kept_lines, is_skipped}
+use Rattle.dt_text.specs.Lines.{FileLine}
 use Rattle.dt_text.specs.declared.Word.{Word}
 use Rattle.dt_text.proofs.Allowed.{outside_where}
 use Rattle.dt_text.proofs.ReadingLaws.{exact}
@@ -14,15 +16,6 @@ use Rattle.dt_access.specs.Ids.{IsCounted, id_text}
 use Rattle.dt_events.specs.declared.event.Event.{Event}
 use Rattle.dt_events.specs.Events.{event_words, bare_bytes, AreBareWords, IsEventLine, IsNumberedEvent}
 use Rattle.dt_events.specs.Reading.{spelled, AreShort, AreIds, ReadsEvent}
-
-pub head-is : {A : Type 0} {x y : A} {xs ys : List A} → x ∷ xs ≡ y ∷ ys → x ≡ y
-head-is e = cc
-
-pub tail-is : {A : Type 0} {x y : A} {xs ys : List A} → x ∷ xs ≡ y ∷ ys → xs ≡ ys
-tail-is e = cc
-
-pub some-is : {A : Type 0} {x y : A} → Some x ≡ Some y → x ≡ y
-some-is e = cc
 
 -- a byte that no name has stands in no name
 outside_cases : (a r : Bool) (n m : ℕ) → a ≡ not r → cond a (Some n) None ≡ Some m → r ≡ true → ⊥
@@ -45,8 +38,8 @@ short_at (w ∷ ws) (suc i) d short within = short_at ws i d short.1 (omega arit
 pub no_ids : (words : List (Bor (List ℕ))) (i : ℕ) (d : Bor (List ℕ)) → i < length words → ((id : TxnId) → IsCounted id → (get_or words i d).now ≢ id_text id) → (ids : List TxnId) → AreIds ids → spelled words ≢ map id_text ids
 no_ids [] i d within none ids counted same = absurd (omega arith)
 no_ids (w ∷ ws) i d within none [] counted same = cc
-no_ids (w ∷ ws) zero d within none (id ∷ ids) counted same = none id counted.0 (head-is same)
-no_ids (w ∷ ws) (suc i) d within none (id ∷ ids) counted same = no_ids ws i d (omega arith) none ids counted.1 (tail-is same)
+no_ids (w ∷ ws) zero d within none (id ∷ ids) counted same = none id counted.0 (same_head same)
+no_ids (w ∷ ws) (suc i) d within none (id ∷ ids) counted same = no_ids ws i d (omega arith) none ids counted.1 (same_tail same)
 
 -- ---- bare words
 
@@ -54,8 +47,8 @@ no_ids (w ∷ ws) (suc i) d within none (id ∷ ids) counted same = no_ids ws i 
 pub no_bares : (line : List ℕ) (words : List Word) (i : ℕ) (d : Word) → i < length words → bare_bytes line (get_or words i d) ≡ None → (bares : List (List ℕ)) → map (bare_bytes line) words ≢ map (λ w. Some w) bares
 no_bares line [] i d within none bares same = absurd (omega arith)
 no_bares line (w ∷ ws) i d within none [] same = cc
-no_bares line (w ∷ ws) zero d within none (b ∷ bares) same = let h = head-is same in cc
-no_bares line (w ∷ ws) (suc i) d within none (b ∷ bares) same = no_bares line ws i d (omega arith) none bares (tail-is same)
+no_bares line (w ∷ ws) zero d within none (b ∷ bares) same = let h = same_head same in cc
+no_bares line (w ∷ ws) (suc i) d within none (b ∷ bares) same = no_bares line ws i d (omega arith) none bares (same_tail same)
 
 -- a line that is not made of words is not made of bare words
 pub no_words : (line : List ℕ) → words_of line ≡ None → (bares : List (List ℕ)) → ¬ AreBareWords line bares
@@ -64,7 +57,7 @@ no_words line none bares (words, are, same) = let h = (exact line words).1 are i
 -- the words of a line are the only ones
 pub no_bare_words : (line : List ℕ) (words : List Word) → words_of line ≡ Some words → ((bares : List (List ℕ)) → map (bare_bytes line) words ≢ map (λ w. Some w) bares) → (bares : List (List ℕ)) → ¬ AreBareWords line bares
 no_bare_words line words found none bares (others, are, same) =
-    let one : words ≡ others = some-is (sym found ∙ (exact line others).1 are) in
+    let one : words ≡ others = same_Some _ _ (sym found ∙ (exact line others).1 are) in
     none bares (ap (map (bare_bytes line)) one ∙ same)
 
 pub are_bare_words : (line : List ℕ) (words : List Word) (bares : List (List ℕ)) → words_of line ≡ Some words → map (bare_bytes line) words ≡ map (λ w. Some w) bares → AreBareWords line bares
@@ -79,12 +72,12 @@ same-from-somes : (xs ys : List (List ℕ)) → map (λ w. Some w) xs ≡ map (�
 same-from-somes [] [] e = refl
 same-from-somes [] (y ∷ ys) e = cc
 same-from-somes (x ∷ xs) [] e = cc
-same-from-somes (x ∷ xs) (y ∷ ys) e = λ i. some-is (head-is e) i ∷ same-from-somes xs ys (tail-is e) i
+same-from-somes (x ∷ xs) (y ∷ ys) e = λ i. same_Some _ _ (same_head e) i ∷ same-from-somes xs ys (same_tail e) i
 
 -- a line is made of one list of bare words
 pub one_line : (line : List ℕ) (xs ys : List (List ℕ)) → AreBareWords line xs → AreBareWords line ys → xs ≡ ys
 one_line line xs ys (words, are, same) (words', are', same') =
-    let e : words ≡ words' = some-is (sym ((exact line words).1 are) ∙ (exact line words').1 are') in
+    let e : words ≡ words' = same_Some _ _ (sym ((exact line words).1 are) ∙ (exact line words').1 are') in
     same-from-somes xs ys (sym same ∙ ap (map (bare_bytes line)) e ∙ same')
 
 -- the event that the bare words of a line spell is the line's
@@ -112,38 +105,6 @@ ids_put_all text kind region ids k past so_far =
     sym (append-nil text) ∙ ap (λ t. text ++ spaced_ids t) (sym none) ∙ so_far ∙ append_assoc kind (32 ∷ region) (spaced_ids ids) ∙ ap (λ t. kind ++ 32 ∷ t) (sym (join-ids region ids))
 
 -- ---- lines of a file
-
--- a line of a file is no longer than the file
-abbrev pub IsLineWithin : ℕ → FileLine → Type 0
-IsLineWithin most line = length line.bytes ≤ most
-
-within-weaker : (n : ℕ) (ls : List (List ℕ)) → AllIn (λ l. length l ≤ n) ls → AllIn (λ l. length l ≤ suc n) ls
-within-weaker n [] all = tt
-within-weaker n (l ∷ ls) all = (omega (arith, all.0), within-weaker n ls all.1)
-
-within-onto : (b n : ℕ) (ls : List (List ℕ)) → AllIn (λ l. length l ≤ n) ls → AllIn (λ l. length l ≤ suc n) (onto_first b ls)
-within-onto b n [] all = (omega arith, tt)
-within-onto b n (l ∷ ls) all = (omega (arith, all.0), within-weaker n ls all.1)
-
-within-cut : (ends : Bool) (b n : ℕ) (ls : List (List ℕ)) → AllIn (λ l. length l ≤ n) ls → AllIn (λ l. length l ≤ suc n) (cond ends ([] ∷ ls) (onto_first b ls))
-within-cut true b n ls all = (omega arith, within-weaker n ls all)
-within-cut false b n ls all = within-onto b n ls all
-
-cut_lines-within : (bs : List ℕ) → AllIn (λ l. length l ≤ length bs) (cut_lines bs)
-cut_lines-within [] = tt
-cut_lines-within (b ∷ bs) = within-cut (b == 10) b (length bs) (cut_lines bs) (cut_lines-within bs)
-
-within-kept : (most number : ℕ) (l : List ℕ) (kept : List FileLine) (skipped : Bool) → length l ≤ most → AllIn (IsLineWithin most) kept → AllIn (IsLineWithin most) (cond skipped kept (record { number = number; bytes = l } ∷ kept))
-within-kept most number l kept true within all = all
-within-kept most number l kept false within all = (within, all)
-
-kept-within : (most number : ℕ) (ls : List (List ℕ)) → AllIn (λ l. length l ≤ most) ls → AllIn (IsLineWithin most) (kept_lines number ls)
-kept-within most number [] all = tt
-kept-within most number (l ∷ ls) all =
-    within-kept most number l (kept_lines (number + 1) ls) (is_skipped l) all.0 (kept-within most (number + 1) ls all.1)
-
-pub lines_of-within : (file : List ℕ) → AllIn (IsLineWithin (length file)) (lines_of file)
-lines_of-within file = kept-within (length file) 1 (cut_lines file) (cut_lines-within file)
 
 -- nothing is left of the lines: what was read is all
 pub all_read : (lines all : List FileLine) (events : List (ℕ × Event)) → lines ≡ [] → ((rest : List (ℕ × Event)) → Pairwise IsNumberedEvent lines rest → Pairwise IsNumberedEvent all (events ++ rest)) → Pairwise IsNumberedEvent all events

@@ -23,7 +23,10 @@ use Rattle.dt_events.specs.declared.event.Event.{Event}
 use Rattle.dt_events.specs.declared.event.Event.TheVariants.{Submit, Append, Deliver, Insert, Resolve, Execute, Answer}
 use Rattle.dt_events.specs.Events.{region_of, kind_word, argument_words, event_words, IsWritten, IsRegion, bare_bytes, AreBareWords, IsEventLine, IsNumberedEvent, AreEvents, event_text, event_line}
 use Rattle.dt_events.specs.Laws.{LinesAreOneEvent, PrintedEventsReadBack}
-use Rattle.dt_events.proofs.EventWords.{head-is, tail-is, one_line}
+use Rattle.dt_text.proofs.Spaced.{spaced, join_spaced}
+use Rattle.dt_text.proofs.Numerals.{same_number}
+use Rattle.dt_lists.proofs.Changes.{same_head, same_tail}
+use Rattle.dt_events.proofs.EventWords.{one_line}
 
 -- ---- each word of an event is a bare word
 
@@ -94,15 +97,6 @@ bare_words (Answer region session) w =
 
 -- ---- words with spaces between them are these words
 
--- words, each with a space before it
-abbrev spaced : List (List ℕ) → List ℕ
-spaced [] = []
-spaced (w ∷ ws) = 32 ∷ (w ++ spaced ws)
-
-join-spaced : (w : List ℕ) (ws : List (List ℕ)) → join_with_byte 32 (w ∷ ws) ≡ w ++ spaced ws
-join-spaced w [] = grind (arith, common_steps)
-join-spaced w (v ∷ ws) = ap (λ t. w ++ 32 ∷ t) (join-spaced v ws)
-
 -- where they stand, after a place with a space
 abbrev placed : ℕ → List (List ℕ) → List Word
 placed at [] = []
@@ -145,15 +139,12 @@ joined_bare w ws bare all =
 text_is_event : (e : Event) → IsWritten e → IsEventLine (event_text e) e
 text_is_event e written =
     let bare = bare_words e written in
-    (written, subst (λ t. AreBareWords t (event_words e)) (sym (join-spaced (kind_word e) (decimal (region_of e) ∷ argument_words e))) (joined_bare (kind_word e) (decimal (region_of e) ∷ argument_words e) bare.0 bare.1))
+    (written, subst (λ t. AreBareWords t (event_words e)) (sym (join_spaced (kind_word e) (decimal (region_of e) ∷ argument_words e))) (joined_bare (kind_word e) (decimal (region_of e) ∷ argument_words e) bare.0 bare.1))
 
 -- ---- a line is one event
 
 differ : (a b : List ℕ) → pointwise nat_eq a b ≡ false → a ≢ b
 differ a b apart e = false≢true (sym apart ∙ (bytes_decides a b).1 e)
-
-same_number : (m n : ℕ) → m < 2 ^ 32 → n < 2 ^ 32 → decimal m ≡ decimal n → m ≡ n
-same_number m n small_m small_n e = decimal_injective m n (omega arith) (omega arith) e
 
 same_region : (m n : ℕ) → IsRegion m → IsRegion n → decimal m ≡ decimal n → m ≡ n
 same_region m n small_m small_n e = same_number m n (omega arith) (omega arith) e
@@ -163,42 +154,42 @@ same_ids [] [] all_x all_y e = refl
 same_ids [] (y ∷ ys) all_x all_y e = cc
 same_ids (x ∷ xs) [] all_x all_y e = cc
 same_ids (x ∷ xs) (y ∷ ys) all_x all_y e =
-    λ i. id_text-injective x y all_x.0 all_y.0 (head-is e) i ∷ same_ids xs ys all_x.1 all_y.1 (tail-is e) i
+    λ i. id_text-injective x y all_x.0 all_y.0 (same_head e) i ∷ same_ids xs ys all_x.1 all_y.1 (same_tail e) i
 
 same_event : (d e : Event) → IsWritten d → IsWritten e → event_words d ≡ event_words e → d ≡ e
 same_event (Submit r s) (Submit r' s') w w' same =
-    let args = tail-is same in
-    let region = same_region r r' w.0 w'.0 (head-is args) in
-    let session : s ≡ s' = head-is (tail-is args) in λ i. Submit (region i) (session i)
+    let args = same_tail same in
+    let region = same_region r r' w.0 w'.0 (same_head args) in
+    let session : s ≡ s' = same_head (same_tail args) in λ i. Submit (region i) (session i)
 same_event (Append h s n) (Append h' s' n') w w' same =
-    let args = tail-is same in
-    let home = same_region h h' w.0 w'.0 (head-is args) in
-    let source = same_region s s' w.1 w'.1 (head-is (tail-is args)) in
-    let number = same_number n n' w.2 w'.2 (head-is (tail-is (tail-is args))) in λ i. Append (home i) (source i) (number i)
+    let args = same_tail same in
+    let home = same_region h h' w.0 w'.0 (same_head args) in
+    let source = same_region s s' w.1 w'.1 (same_head (same_tail args)) in
+    let number = same_number n n' w.2 w'.2 (same_head (same_tail (same_tail args))) in λ i. Append (home i) (source i) (number i)
 same_event (Deliver r h a b) (Deliver r' h' a' b') w w' same =
-    let args = tail-is same in
-    let region = same_region r r' w.0 w'.0 (head-is args) in
-    let home = same_region h h' w.1 w'.1 (head-is (tail-is args)) in
-    let first = same_number a a' w.2 w'.2 (head-is (tail-is (tail-is args))) in
-    let last = same_number b b' w.3 w'.3 (head-is (tail-is (tail-is (tail-is args)))) in
+    let args = same_tail same in
+    let region = same_region r r' w.0 w'.0 (same_head args) in
+    let home = same_region h h' w.1 w'.1 (same_head (same_tail args)) in
+    let first = same_number a a' w.2 w'.2 (same_head (same_tail (same_tail args))) in
+    let last = same_number b b' w.3 w'.3 (same_head (same_tail (same_tail (same_tail args)))) in
     λ i. Deliver (region i) (home i) (first i) (last i)
 same_event (Insert r h) (Insert r' h') w w' same =
-    let args = tail-is same in
-    let region = same_region r r' w.0 w'.0 (head-is args) in
-    let home = same_region h h' w.1 w'.1 (head-is (tail-is args)) in λ i. Insert (region i) (home i)
+    let args = same_tail same in
+    let region = same_region r r' w.0 w'.0 (same_head args) in
+    let home = same_region h h' w.1 w'.1 (same_head (same_tail args)) in λ i. Insert (region i) (home i)
 same_event (Resolve r ids) (Resolve r' ids') w w' same =
-    let args = tail-is same in
-    let region = same_region r r' w.0 w'.0 (head-is args) in
-    let group = same_ids ids ids' w.2 w'.2 (tail-is args) in λ i. Resolve (region i) (group i)
+    let args = same_tail same in
+    let region = same_region r r' w.0 w'.0 (same_head args) in
+    let group = same_ids ids ids' w.2 w'.2 (same_tail args) in λ i. Resolve (region i) (group i)
 same_event (Execute r id) (Execute r' id') w w' same =
-    let args = tail-is same in
-    let region = same_region r r' w.0 w'.0 (head-is args) in
-    let one = id_text-injective id id' w.1 w'.1 (head-is (tail-is args)) in λ i. Execute (region i) (one i)
+    let args = same_tail same in
+    let region = same_region r r' w.0 w'.0 (same_head args) in
+    let one = id_text-injective id id' w.1 w'.1 (same_head (same_tail args)) in λ i. Execute (region i) (one i)
 same_event (Answer r s) (Answer r' s') w w' same =
-    let args = tail-is same in
-    let region = same_region r r' w.0 w'.0 (head-is args) in
-    let session : s ≡ s' = head-is (tail-is args) in λ i. Answer (region i) (session i)
-same_event d e w w' same = absurd (differ (kind_word d) (kind_word e) refl (head-is same))
+    let args = same_tail same in
+    let region = same_region r r' w.0 w'.0 (same_head args) in
+    let session : s ≡ s' = same_head (same_tail args) in λ i. Answer (region i) (session i)
+same_event d e w w' same = absurd (differ (kind_word d) (kind_word e) refl (same_head same))
 
 pub one_event : LinesAreOneEvent
 one_event line d e is_d is_e =
@@ -227,7 +218,7 @@ text_within : (e : Event) → IsWritten e → list_all within_line (event_text e
 text_within e written =
     let bare = bare_words e written in
     let words = decimal (region_of e) ∷ argument_words e in
-    ap (list_all within_line) (join-spaced (kind_word e) words) ∙ list_all-append within_line (kind_word e) (spaced words) ∙ and_from _ _ (word_within (kind_word e) bare.0.2) (spaced_within words bare.1)
+    ap (list_all within_line) (join_spaced (kind_word e) words) ∙ list_all-append within_line (kind_word e) (spaced words) ∙ and_from _ _ (word_within (kind_word e) bare.0.2) (spaced_within words bare.1)
 
 -- a line is cut off before the byte that ends it
 cut_off : (bs rest : List ℕ) → list_all within_line bs ≡ true → cut_lines (bs ++ 10 ∷ rest) ≡ bs ∷ cut_lines rest

@@ -1,4 +1,5 @@
--- What holds of the text of events.
+-- Why a file of events is as good as the events: a line is one event at most, and what was printed is read back as the
+-- same events, in order. So a run that was told is the run that is played.
 use Rattle.std.specs.Prelude.{◌≡◌, ℕ, ◌↔◌, List}
 use Rattle.std.specs.List.{flat_map, enumerate_from}
 use Rattle.dt_lists.specs.Lists.{AllIn}

@@ -1,4 +1,5 @@
--- What the parts of the reader of events find in a list of words.
+-- Only for the functions that the reader of events is made of: what each of them finds in a list of words. The contracts
+-- of the public calls say what a line and a file are by Events.antt.
 use Rattle.std.specs.Prelude.{◌≡◌, ◌≢◌, ℕ, ◌<◌, ◌^◌, List, length, map, Option, MatchOption}
 use Rattle.std.specs.Borrow.{Bor}
 use Rattle.dt_lists.specs.Lists.{AllIn}

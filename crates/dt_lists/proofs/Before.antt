@@ -70,7 +70,8 @@ if_passes test (Some x) = cond (test x) (Some x) None
 abbrev pub PassesAtFront : {A : Type 0} → (A → Bool) → List A → Type 0
 PassesAtFront test xs = EachThen (λ a b. test b ≡ true → test a ≡ true) xs
 
-filter_none : {A : Type 0} (test : A → Bool) (xs : List A) → AllIn (λ x. test x ≡ false) xs → filter test xs ≡ []
+-- where no item passes, nothing is kept
+pub filter_none : {A : Type 0} (test : A → Bool) (xs : List A) → AllIn (λ x. test x ≡ false) xs → filter test xs ≡ []
 filter_none test [] all = refl
 filter_none test (x ∷ xs) all = rw all.0 (filter_none test xs all.1)
 

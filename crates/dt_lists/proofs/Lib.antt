@@ -9,3 +9,6 @@ pub mod Ascending
 pub mod Before
 pub mod Filters
 pub mod Places
+pub mod Chains
+pub mod Changes
+pub mod Callers

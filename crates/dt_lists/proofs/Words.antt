@@ -80,6 +80,13 @@ some_of_two R (z ∷ zs) x y (inl ex) (inr hy) ne r s = inl (inl (any_put _ zs y
 some_of_two R (z ∷ zs) x y (inr hx) (inl ey) ne r s = inr (inl (any_put _ zs x hx (ey, refl, subst (λ c. R c x) (sym ey) s)))
 some_of_two R (z ∷ zs) x y (inr hx) (inr hy) ne r s = elim (some_of_two R zs x y hx hy ne r s) [ inl l ↦ inl (inr l) | inr m ↦ inr (inr m) ]
 
+-- an item and one of the list that follows
+pub some_across : {A : Type 0} (R : A → A → Type 0) (xs ys : List A) (x y : A) → Has xs x → Has ys y → R x y → SomeThen R (xs ++ ys)
+some_across R [] ys x y hx hy r = absurd hx
+some_across R (z ∷ zs) ys x y (inl e) hy r =
+    inl (any_put (R z) (zs ++ ys) y (any_append_right (λ c. c ≡ y) zs ys hy) (subst (λ c. R c y) (sym e) r))
+some_across R (z ∷ zs) ys x y (inr h) hy r = inr (some_across R zs ys x y h hy r)
+
 -- each item
 
 pub all_map : {A : Type 0} (P Q : A → Type 0) (xs : List A) → ((x : A) → P x → Q x) → AllIn P xs → AllIn Q xs

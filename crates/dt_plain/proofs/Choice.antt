@@ -8,10 +8,10 @@ use Rattle.dt_sched.specs.Views.{View, here, IsComplete, IsClass}
 use Rattle.dt_sched.specs.Decide.{IsExecutable, IsResolvable}
 use Rattle.dt_sched.proofs.Decisions.{has_id_decided}
 use Rattle.dt_sched.proofs.Classes.{class_unique, in_own_class}
+use Rattle.dt_sched.proofs.Reach.{present_of_complete}
 use Rattle.dt_plain.proofs.Same.{no_id}
 use Rattle.dt_plain.proofs.Scan.{refuted}
-use Rattle.dt_plain.proofs.Present.{present_of_complete}
-use Rattle.dt_plain.specs.Graphs.{ArePresent}
+use Rattle.dt_sched.specs.Surroundings.{ArePresent}
 
 -- one more id of the list has P
 all_more : (P : TxnId → Type 0) (ids : List TxnId) (i : ℕ) → i < length ids → AllIn P (take i ids) → P (get_or ids i no_id) → AllIn P (take (i + 1) ids)

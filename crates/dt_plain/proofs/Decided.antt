@@ -8,15 +8,15 @@ use Rattle.dt_access.specs.Ids.{Before}
 use Rattle.dt_access.specs.declared.TxnId.{TxnId}
 use Rattle.dt_sched.specs.Views.{View, IsComplete, Precedes, IsClass}
 use Rattle.dt_sched.specs.Decide.{IsExecutable, IsResolvable}
-use Rattle.dt_sched.proofs.Chains.{chain_join}
-use Rattle.dt_sched.proofs.Ids.{either_id, before_decided}
+use Rattle.dt_lists.proofs.Chains.{chain_join}
+use Rattle.dt_access.proofs.Ids.{either_id, before_decided}
 use Rattle.dt_sched.proofs.Decisions.{has_id_decided}
 use Rattle.dt_sched.proofs.Classes.{class_unique, class_of_member}
 use Rattle.dt_plain.proofs.Scan.{refuted}
 use Rattle.dt_plain.proofs.Same.{no_id}
 use Rattle.dt_plain.proofs.Walk.{has_at}
-use Rattle.dt_plain.specs.Graphs.{AreBehind, AreAhead}
-use Rattle.dt_plain.specs.Deciding.{IsNoObstacle, IsClear, AreCommon, AreCandidates, IsUnhindered}
+use Rattle.dt_sched.specs.Surroundings.{AreBehind, AreAhead, IsNoObstacle, IsClear, AreCandidates, IsUnhindered}
+use Rattle.dt_sched.specs.IdLists.{AreCommon}
 
 -- a class is what is behind and ahead
 pub class_from : (view : View) (t : TxnId) (behind ahead ids : List TxnId) → AreBehind view t behind → AreAhead view t ahead → AreCommon behind ahead ids → IsClass view t ids

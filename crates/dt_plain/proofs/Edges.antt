@@ -7,9 +7,10 @@ use Rattle.dt_lists.proofs.Words.{any_append, any_append_left, any_append_right,
 use Rattle.dt_access.specs.declared.TxnId.{TxnId}
 use Rattle.dt_access.specs.declared.Part.{Part}
 use Rattle.dt_sched.specs.Views.{View, Chain, here, onward, AreClashing, Edge}
-use Rattle.dt_sched.proofs.Chains.{chain_before, chain_map}
+use Rattle.dt_lists.proofs.Chains.{chain_before, chain_map}
 use Rattle.dt_plain.specs.Links.{IsLinked, AreReached}
-use Rattle.dt_plain.specs.Graphs.{MakesEdge, EdgeInto, EdgeWithin, Gains, AreEdges, AreTurned, turned, AreBehind, AreAhead}
+use Rattle.dt_sched.specs.Surroundings.{MakesEdge, EdgeInto, EdgeWithin, AreBehind, AreAhead}
+use Rattle.dt_plain.specs.Graphs.{Gains, AreEdges, AreTurned, turned_link}
 use Rattle.dt_plain.specs.declared.search.Link.{Link}
 
 -- gaining
@@ -120,13 +121,13 @@ edges_more view log old new a g =
 
 -- turned round
 
-pub edges_turned : (view : View) (links : List Link) → AreEdges view links → AreTurned view (map turned links)
+pub edges_turned : (view : View) (links : List Link) → AreEdges view links → AreTurned view (map turned_link links)
 edges_turned view links a =
     record {
       members =
           λ u t. (
-            λ k. (a.members t u).0 (any_map _ _ links (λ l p. (p.1, p.0)) (any_of_image (λ l. (l.from ≡ u) × (l.to ≡ t)) turned links k)),
-            λ e. any_image (λ l. (l.from ≡ u) × (l.to ≡ t)) turned links (any_map _ _ links (λ l p. (p.1, p.0)) ((a.members t u).1 e)),
+            λ k. (a.members t u).0 (any_map _ _ links (λ l p. (p.1, p.0)) (any_of_image (λ l. (l.from ≡ u) × (l.to ≡ t)) turned_link links k)),
+            λ e. any_image (λ l. (l.from ≡ u) × (l.to ≡ t)) turned_link links (any_map _ _ links (λ l p. (p.1, p.0)) ((a.members t u).1 e)),
           );
     }
 

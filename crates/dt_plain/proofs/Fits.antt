@@ -6,7 +6,7 @@ use Rattle.dt_lists.proofs.Words.{all_get}
 use Rattle.dt_access.specs.declared.Part.{Part}
 use Rattle.dt_sched.specs.Views.{View}
 use Rattle.dt_sched.specs.Sched.{parts_in, CanInsert}
-use Rattle.dt_plain.specs.Fitting.{IsShort}
+use Rattle.dt_plain.specs.TestFitting.{IsShort}
 
 -- few short logs have few parts
 pub few_parts : (view : View) → AllIn IsShort view → parts_in view ≤ 100 * length view

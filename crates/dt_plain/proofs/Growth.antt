@@ -6,7 +6,7 @@ use Rattle.dt_lists.proofs.Words.{any_append, any_append_left, any_append_right,
 use Rattle.dt_lists.proofs.Fronts.{front_refl, front_trans, front_append}
 use Rattle.dt_access.specs.declared.TxnId.{TxnId}
 use Rattle.dt_plain.proofs.Same.{no_id}
-use Rattle.dt_plain.specs.Grown.{AddsOnce}
+use Rattle.dt_sched.specs.IdLists.{AddsOnce}
 use Rattle.dt_plain.specs.Links.{Follows}
 use Rattle.dt_plain.specs.declared.search.Link.{Link}
 

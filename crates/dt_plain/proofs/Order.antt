@@ -8,15 +8,15 @@ use Rattle.std.specs.List.{IsDistinct, list_any}
 use Rattle.std.specs.Cmp.Lexicographic.{pointwise}
 use Rattle.std.proofs.lemmas.Map.Keys.{IsDistinct-IsPermutation}
 use Rattle.std.proofs.lemmas.List.Sorted.{list_any-IsPermutation}
-use Rattle.std.proofs.lemmas.Bool.Decides.{nat_tests}
+use Rattle.std.proofs.lemmas.Bool.{and_parts}
 use Rattle.dt_lists.specs.Lists.{AllIn, Has, Distinct}
 use Rattle.dt_lists.proofs.Words.{any_map, all_map}
 use Rattle.dt_lists.proofs.Tests.{any_of_test, test_of_any}
 use Rattle.dt_access.specs.Ids.{Before, AreAscending, same_id}
 use Rattle.dt_access.specs.declared.TxnId.{TxnId}
-use Rattle.dt_sched.proofs.Ids.{before_total, before_transitive}
+use Rattle.dt_access.proofs.Ids.{before_total, before_transitive, test_of_id, test_of_other, same_id_turned}
 use Rattle.dt_plain.proofs.Same.{ids_same, ids_differ}
-use Rattle.dt_plain.specs.Deciding.{IsOrderOf}
+use Rattle.dt_sched.specs.IdLists.{IsOrderOf}
 
 -- the order in which a sort compares ids
 abbrev pub by_parts : TxnId → TxnId → Ordering
@@ -32,26 +32,9 @@ before_less : (a b : TxnId) → Before a b → is_lt (by_parts a b) ≡ true
 before_less a b (inl h) = rw (less a.seq b.seq h) refl
 before_less a b (inr h) = rw (h.0, same_number b.seq, less a.region b.region h.1) refl
 
--- a test that is passed just by one id
-same_to_self : (a : TxnId) → same_id a a ≡ true
-same_to_self a = grind (arith, nat_tests)
-
-pub test_same : (a b : TxnId) → a ≡ b → same_id a b ≡ true
-test_same a b e = subst (λ c. same_id a c ≡ true) e (same_to_self a)
-
-test_differs : (a b : TxnId) → ¬ (a ≡ b) → same_id a b ≡ false
-test_differs a b n = at (same_id a b) refl
-  where
-    at : (t : Bool) → t ≡ same_id a b → same_id a b ≡ false
-    at true e = absurd (n (ids_same a b (same_id a b) refl (sym e)))
-    at false e = sym e
-
-same_flips : (a b : TxnId) → same_id a b ≡ same_id b a
-same_flips a b = grind (arith, nat_tests)
-
 -- a permutation has the same ids, each as often
 has_listed : (xs : List TxnId) (u : TxnId) → Has xs u → list_any (λ x. same_id x u) xs ≡ true
-has_listed xs u h = test_of_any (λ x. same_id x u) xs (any_map _ _ xs (λ x e. test_same x u e) h)
+has_listed xs u h = test_of_any (λ x. same_id x u) xs (any_map _ _ xs (λ x e. test_of_id x u e) h)
 
 listed_has : (xs : List TxnId) (u : TxnId) → list_any (λ x. same_id x u) xs ≡ true → Has xs u
 listed_has xs u t = any_map _ _ xs (λ x e. ids_same x u _ refl e) (any_of_test (λ x. same_id x u) xs t)
@@ -68,7 +51,7 @@ std_distinct (x ∷ xs) d = (each_differs xs d.0, std_distinct xs d.1)
   where
     each_differs : (ys : List TxnId) → AllIn (λ y. ¬ (x ≡ y)) ys → Rattle.std.specs.List.AllByRecursion (λ y. same_id x y ≡ false) ys
     each_differs [] a = tt
-    each_differs (y ∷ ys) a = (test_differs x y a.0, each_differs ys a.1)
+    each_differs (y ∷ ys) a = (test_of_other x y a.0, each_differs ys a.1)
 
 own_distinct : (xs : List TxnId) → IsDistinct same_id xs → Distinct xs
 unfolding IsDistinct
@@ -80,7 +63,7 @@ own_distinct (x ∷ xs) d = (each_apart xs d.0, own_distinct xs d.1)
     each_apart (y ∷ ys) a = ((λ e. ids_differ x y _ refl a.0 e), each_apart ys a.1)
 
 permuted_distinct : (xs ys : List TxnId) → IsPermutation xs ys → Distinct xs → Distinct ys
-permuted_distinct xs ys p d = own_distinct ys (IsDistinct-IsPermutation same_id same_flips xs ys p (std_distinct xs d))
+permuted_distinct xs ys p d = own_distinct ys (IsDistinct-IsPermutation same_id same_id_turned xs ys p (std_distinct xs d))
 
 -- each is not above the next
 sorted_tail : (x : TxnId) (xs : List TxnId) → IsSorted by_parts (x ∷ xs) → IsSorted by_parts xs
@@ -107,24 +90,19 @@ pub order_of_sorted : (xs ys : List TxnId) → Distinct xs → IsPermutation xs 
 order_of_sorted xs ys d p s = record { ascending = sorted_ascends ys s (permuted_distinct xs ys p d); members = permuted_has xs ys p }
 
 -- lists that are equal item by item
-both_true : (a b : Bool) → (a && b) ≡ true → (a ≡ true) × (b ≡ true)
-both_true true true t = (refl, refl)
-both_true true false t = cc
-both_true false b t = cc
-
 pub pointwise_same : (xs ys : List TxnId) → pointwise same_id xs ys ≡ true → xs ≡ ys
 pointwise_same [] [] e = refl
 pointwise_same [] (y ∷ ys) e = cc
 pointwise_same (x ∷ xs) [] e = cc
 pointwise_same (x ∷ xs) (y ∷ ys) e =
-    let t : (same_id x y ≡ true) × (pointwise same_id xs ys ≡ true) = both_true (same_id x y) (pointwise same_id xs ys) e in
+    let t : (same_id x y ≡ true) × (pointwise same_id xs ys ≡ true) = and_parts (same_id x y) (pointwise same_id xs ys) e in
     let h : x ≡ y = ids_same x y _ refl t.0 in
     let r : xs ≡ ys = pointwise_same xs ys t.1 in
     cc
 
 pointwise_self : (xs : List TxnId) → pointwise same_id xs xs ≡ true
 pointwise_self [] = refl
-pointwise_self (x ∷ xs) = rw (same_to_self x, pointwise_self xs) refl
+pointwise_self (x ∷ xs) = rw (test_of_id x x refl, pointwise_self xs) refl
 
 pub pointwise_tells : (xs ys : List TxnId) (t : Bool) → t ≡ pointwise same_id xs ys → IsTrue t ↔ (xs ≡ ys)
 pointwise_tells xs ys t e =

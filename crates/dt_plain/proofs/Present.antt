@@ -1,12 +1,13 @@
 -- The ids that have a part in a view, gathered from its logs.
 use Rattle.std.proofs.Common.{List, [], ◌∷◌, ◌++◌, sym, inl, inr}
 use Rattle.dt_lists.specs.Lists.{Distinct}
-use Rattle.dt_lists.proofs.Words.{any_append, any_append_left, any_append_right, any_map}
+use Rattle.dt_lists.proofs.Words.{any_append, any_append_left, any_append_right}
 use Rattle.dt_access.specs.declared.TxnId.{TxnId}
 use Rattle.dt_access.specs.declared.Part.{Part}
-use Rattle.dt_sched.specs.Views.{View, IsPresent, IsComplete}
-use Rattle.dt_plain.specs.Grown.{AddsOnce}
-use Rattle.dt_plain.specs.Graphs.{GetsIds, ArePresent}
+use Rattle.dt_sched.specs.Views.{View}
+use Rattle.dt_sched.specs.IdLists.{AddsOnce}
+use Rattle.dt_plain.specs.Graphs.{GetsIds}
+use Rattle.dt_sched.specs.Surroundings.{ArePresent}
 
 pub gets_none : (ids : List TxnId) → Distinct ids → GetsIds [] ids ids
 gets_none ids d = record { distinct = d; members = λ u. (λ k. inl k, λ k. elim k [ inl a ↦ a | inr z ↦ absurd z ]) }
@@ -45,7 +46,3 @@ present_more view log old new a g =
                 [ inl x ↦ inl ((a.members u).1 x) | inr y ↦ elim y [ inl h ↦ inr h | inr z ↦ absurd z ] ]),
           );
     }
-
--- what is complete has a part
-pub present_of_complete : (view : View) (t : TxnId) → IsComplete view t → IsPresent view t
-present_of_complete view t c = any_map _ _ view (λ log e. any_map _ _ log (λ p s. s.0) e) c

@@ -1,7 +1,4 @@
-pub mod Plain
-pub mod Grown
+pub mod PlainSchedView
 pub mod Links
 pub mod Graphs
-pub mod Deciding
-pub mod Kept
-pub mod Fitting
+pub mod TestFitting

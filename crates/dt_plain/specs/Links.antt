@@ -1,7 +1,9 @@
+-- Links between ids, and a search along them: from an id, all that the links lead to, each once. A list of links says
+-- nothing of logs; that it is the edges of a view, forth or turned round, stands in Graphs.antt.
 use Rattle.std.specs.Prelude.{◌≡◌, ◌⊎◌, ◌↔◌, List}
 use Rattle.dt_lists.specs.Lists.{AnyIn, Has, IsFront, Distinct}
 use Rattle.dt_access.specs.declared.TxnId.{TxnId}
-use Rattle.dt_sched.specs.Views.{Chain}
+use Rattle.dt_lists.specs.Chain.{Chain}
 use Rattle.dt_plain.specs.declared.search.Link.{Link}
 
 -- some link goes from u to t

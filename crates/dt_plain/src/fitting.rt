@@ -2,7 +2,7 @@
 ghost use Rattle.std.specs.Prelude.{◌≡◌, ◌<◌, ◌↔◌, IsTrue, length};
 ghost use Rattle.dt_lists.specs.Lists.{AllIn, Has};
 ghost use Rattle.dt_sched.specs.Sched.{CanInsert};
-ghost use Rattle.dt_plain.specs.Fitting.{IsAlike, IsShort};
+ghost use Rattle.dt_plain.specs.TestFitting.{IsAlike, IsShort};
 
 use crate::complete::is_at;
 use dt_access::Part;

@@ -1,5 +1,6 @@
 ghost use Rattle.std.specs.Prelude.{◌≡◌, ◌↔◌, IsTrue, IfOk, OnOk, map};
-ghost use Rattle.dt_plain.specs.Graphs.{MakesEdge, EdgeInto, EdgeWithin, Gains, AreEdges, AreBehind, AreAhead, GetsIds, ArePresent, turned};
+ghost use Rattle.dt_sched.specs.Surroundings.{MakesEdge, EdgeInto, EdgeWithin, AreBehind, AreAhead, ArePresent};
+ghost use Rattle.dt_plain.specs.Graphs.{Gains, AreEdges, GetsIds, turned_link};
 ghost use Rattle.dt_lists.specs.Lists.{AllIn, Distinct};
 ghost use Rattle.dt_sched.specs.Views.{IsComplete, IsClass};
 
@@ -23,13 +24,13 @@ pub struct Graph<'a> {
 
 impl<'a> Model for Graph<'a> {
     ghost use Rattle.dt_sched.specs.Views.{View};
-    ghost use Rattle.dt_plain.specs.Graphs.{IsKept};
+    ghost use Rattle.dt_plain.specs.Graphs.{IsGraphOf};
 
     ghost Value = { View };
 
     ghost view = { λ g. g.logs.now };
 
-    ghost invariant = { λ g. IsKept g.logs.now g.ids g.links g.back };
+    ghost invariant = { λ g. IsGraphOf g.logs.now g.ids g.links g.back };
 }
 
 /// Whether the one part makes an edge to the other, which stands later in its log.
@@ -77,7 +78,7 @@ fn edges(alloc: Global, logs: &[Listed<Part>]) -> Result<Listed<Link>, NoMemory>
 
 /// The links, each turned round.
 fn turned_round(alloc: Global, links: &[Link]) -> Result<Listed<Link>, NoMemory>
-    ensures { IfOk result (λ back. back ≡ map turned links.now) }
+    ensures { IfOk result (λ back. back ≡ map turned_link links.now) }
 {
     let mut back = Listed::new(alloc);
     for link in links {

@@ -19,9 +19,9 @@ pub struct PlainSched {
 
 impl Model for PlainSched {
     ghost use Rattle.std.specs.Prelude.{◌-◌, vec_len, vec_capacity};
-    ghost use Rattle.dt_plain.specs.Kept.{Kept};
+    ghost use Rattle.dt_plain.specs.PlainSchedView.{PlainSchedView};
 
-    ghost Value = { Kept };
+    ghost Value = { PlainSchedView };
 
     ghost view = { λ s. record { seen = record { logs = s.logs.items; resolved = s.resolved.items; done = s.done.items }; spare = vec_capacity s.done - vec_len s.done } };
 }

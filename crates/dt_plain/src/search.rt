@@ -16,11 +16,11 @@ pub struct Link {
 
 impl Link {
     ghost use Rattle.std.specs.Prelude.{◌≡◌};
-    ghost use Rattle.dt_plain.specs.Graphs.{turned};
+    ghost use Rattle.dt_plain.specs.Graphs.{turned_link};
 
     /// The link the other way round.
     pub fn turned(&self) -> Self
-        ensures { result ≡ turned self.now }
+        ensures { result ≡ turned_link self.now }
     {
         Link {
             from: self.to,

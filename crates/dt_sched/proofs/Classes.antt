@@ -8,8 +8,8 @@ use Rattle.dt_lists.proofs.Ascending.{IsPicked, ascending_same, pick}
 use Rattle.dt_access.specs.Ids.{Before, AreAscending}
 use Rattle.dt_access.specs.declared.TxnId.{TxnId}
 use Rattle.dt_sched.specs.Views.{View, here, IsClosed, Mutual, IsClass}
-use Rattle.dt_sched.proofs.Ids.{before_irreflexive, before_transitive, before_total, either_id}
-use Rattle.dt_sched.proofs.Chains.{chain_join}
+use Rattle.dt_access.proofs.Ids.{before_irreflexive, before_transitive, before_total, either_id}
+use Rattle.dt_lists.proofs.Chains.{chain_join}
 use Rattle.dt_sched.proofs.Reach.{ids_in, reach_listed, mutual_decided}
 use Rattle.dt_sched.proofs.Closed.{closed_before}
 

@@ -6,7 +6,7 @@ use Rattle.dt_lists.proofs.Fronts.{any_front, some_back}
 use Rattle.dt_access.specs.declared.TxnId.{TxnId}
 use Rattle.dt_access.specs.declared.Part.{Part}
 use Rattle.dt_sched.specs.Views.{View, log_at, HasPart, IsLonger, AreClashing, Edge, here, onward, Reaches, HasParts, IsComplete, IsClosed, Mutual, Precedes, IsClass, IsWellFormed, StandsAlike}
-use Rattle.dt_sched.proofs.Chains.{chain_join, chain_step}
+use Rattle.dt_lists.proofs.Chains.{chain_join, chain_step}
 use Rattle.dt_sched.proofs.Longer.{log_longer, edge_longer, reaches_longer, complete_longer}
 
 -- the home of an edge, and back

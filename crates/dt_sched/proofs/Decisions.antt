@@ -6,7 +6,7 @@ use Rattle.dt_lists.proofs.Decided.{either_or, either_implies, either_same, eith
 use Rattle.dt_access.specs.declared.TxnId.{TxnId}
 use Rattle.dt_sched.specs.Views.{View, Reaches, IsComplete, IsClosed, Precedes, IsClass}
 use Rattle.dt_sched.specs.Decide.{IsExecutable, IsResolvable}
-use Rattle.dt_sched.proofs.Ids.{either_id}
+use Rattle.dt_access.proofs.Ids.{either_id}
 use Rattle.dt_sched.proofs.Reach.{each_reaching_decided, precedes_decided, complete_decided, closed_decided}
 use Rattle.dt_sched.proofs.Classes.{class_of, class_unique, some_class_decided}
 

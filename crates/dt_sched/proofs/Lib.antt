@@ -1,9 +1,6 @@
-pub mod Ids
 pub mod Clash
-pub mod Chains
 pub mod Longer
 pub mod Closed
-pub mod Via
 pub mod Reach
 pub mod Precedence
 pub mod Classes
@@ -13,3 +10,6 @@ pub mod OneHome
 pub mod NothingToDo
 pub mod Growing
 pub mod Sound
+pub use Rattle.dt_access.proofs.Ids
+pub use Rattle.dt_lists.proofs.Chains
+pub mod Callers

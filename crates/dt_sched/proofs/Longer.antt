@@ -5,7 +5,7 @@ use Rattle.dt_lists.proofs.Words.{any_map, all_map}
 use Rattle.dt_lists.proofs.Fronts.{front_refl, front_trans, front_map, any_front, some_front, all_front, each_front, pairwise_refl, pairwise_trans, pairwise_at, pairwise_any}
 use Rattle.dt_access.specs.declared.TxnId.{TxnId}
 use Rattle.dt_sched.specs.Views.{View, ids_of, log_at, HasPart, IsLonger, AreClashing, Edge, Reaches, IsPresent, HasParts, IsComplete, IsWellFormed}
-use Rattle.dt_sched.proofs.Chains.{chain_map}
+use Rattle.dt_lists.proofs.Chains.{chain_map}
 
 pub longer_refl : (view : View) → IsLonger view view
 longer_refl view = pairwise_refl IsFront (λ log. front_refl log) view

@@ -9,8 +9,8 @@ use Rattle.dt_access.specs.Ids.{Before}
 use Rattle.dt_access.specs.declared.TxnId.{TxnId}
 use Rattle.dt_sched.specs.Views.{View, Reaches, IsComplete, IsClosed, Precedes, IsClass}
 use Rattle.dt_sched.specs.Decide.{IsExecutable, IsResolvable, HasNothingToDo}
-use Rattle.dt_sched.proofs.Ids.{either_id}
-use Rattle.dt_sched.proofs.Chains.{chain_join}
+use Rattle.dt_access.proofs.Ids.{either_id}
+use Rattle.dt_lists.proofs.Chains.{chain_join}
 use Rattle.dt_sched.proofs.Reach.{ids_in, has_of_present, present_of_complete, reach_decided, precedes_decided, closed_decided}
 use Rattle.dt_sched.proofs.Precedence.{precedes_irreflexive, precedes_transitive}
 use Rattle.dt_sched.proofs.Closed.{closed_before, complete_of_closed}

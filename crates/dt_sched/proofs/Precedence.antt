@@ -7,9 +7,9 @@ use Rattle.dt_access.specs.Clash.{clash}
 use Rattle.dt_access.specs.declared.TxnId.{TxnId}
 use Rattle.dt_access.specs.declared.Part.{Part}
 use Rattle.dt_sched.specs.Views.{View, log_at, Edge, here, Reaches, Precedes}
-use Rattle.dt_sched.proofs.Ids.{before_transitive, before_total, before_differs}
+use Rattle.dt_access.proofs.Ids.{before_transitive, before_total, before_differs}
 use Rattle.dt_sched.proofs.Clash.{clash_symmetric}
-use Rattle.dt_sched.proofs.Chains.{chain_join, chain_step}
+use Rattle.dt_lists.proofs.Chains.{chain_join, chain_step}
 use Rattle.dt_sched.proofs.Reach.{reach_decided}
 use Rattle.dt_sched.proofs.Closed.{edge_at_home}
 

@@ -8,8 +8,8 @@ use Rattle.dt_access.specs.Clash.{clash}
 use Rattle.dt_access.specs.declared.TxnId.{TxnId}
 use Rattle.dt_access.specs.declared.Part.{Part}
 use Rattle.dt_sched.specs.Views.{View, ids_of, log_at, HasPart, AreClashing, Edge, here, onward, Reaches, IsPresent, HasParts, IsComplete, IsClosed, Mutual, Precedes}
-use Rattle.dt_sched.proofs.Ids.{either_id, before_decided}
-use Rattle.dt_sched.proofs.Via.{chain_decided}
+use Rattle.dt_access.proofs.Ids.{either_id, before_decided}
+use Rattle.dt_lists.proofs.Chains.{chain_decided}
 
 -- the ids that have a part in the view
 abbrev pub ids_in : View → List TxnId

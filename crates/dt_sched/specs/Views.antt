@@ -1,5 +1,9 @@
+-- The dependency graph. Each home keeps a log of the parts of transactions that use its rows; what a region has inserted
+-- of all logs is its view. Two parts that clash in one log make an edge from the earlier to the later. Logs of several
+-- homes may disagree, so edges can go round; ids then break the tie. What a region may do with it: Decide.antt.
 use Rattle.std.specs.Prelude.{◌≡◌, ◌≢◌, ◌⊎◌, ◌↔◌, ℕ, List, [], get_or, map, length, true}
 use Rattle.dt_lists.specs.Lists.{AnyIn, AllIn, SomeThen, Has, IsFront, Pairwise, Distinct}
+pub use Rattle.dt_lists.specs.Chain.{Chain, here, onward}
 use Rattle.dt_access.specs.Ids.{Before, AreAscending}
 use Rattle.dt_access.specs.Clash.{clash}
 use Rattle.dt_access.specs.declared.TxnId.{TxnId}
@@ -32,11 +36,6 @@ AreClashing u t p q = (p.id ≡ u) × (q.id ≡ t) × (clash p.keys q.keys ≡ t
 -- there is an edge from u to t: they differ, and in some log u's part stands before t's part and clashes with it
 abbrev pub Edge : View → TxnId → TxnId → Type 0
 Edge view u t = (u ≢ t) × AnyIn (SomeThen (AreClashing u t)) view
-
--- a chain of steps leads from one thing to another, or they are the same
-pub data Chain {A : Type 0} (Step : A → A → Type 0) : A → A → Type 0 where
-  here : {x : A} → Chain Step x x
-  onward : {x y z : A} → Chain Step x y → Step y z → Chain Step x z
 
 -- u reaches t: u is t, or a chain of edges leads from u to t
 abbrev pub Reaches : View → TxnId → TxnId → Type 0

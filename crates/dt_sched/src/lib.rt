@@ -1,5 +1,30 @@
-//! What a region may decide from the parts that it has inserted: the dependency graph, which transactions are
-//! executable in it, and which groups are resolvable. The trait `Scheduler` is what decides it.
+//! What a region may decide from the parts that it has inserted: which transactions it may execute, and which groups
+//! it may resolve. The trait `Scheduler` is what decides it.
+//!
+//! Each home keeps a log. In it stand the parts of all transactions that use rows of that home, each part with its keys
+//! and modes, and with the list of all homes of its transaction. All regions insert the same logs, each as far as it has
+//! received them.
+//!
+//! - **View**: what a region has inserted, of each log a front.
+//! - **Edge**: from u to t where in some log u's part stands before t's part and the two clash: they have a key in
+//!   common that one of them may write.
+//! - **Reaches**: a chain of edges leads from u to t, or u is t.
+//! - **Complete**: the transaction has its part at each of its homes. **Closed**: all that reaches it is complete. Then no
+//!   longer view has anything more that reaches it.
+//! - **Class**: all that reach t and that t reaches. Where each transaction has one home, classes have one member; with
+//!   more homes the edges may go round.
+//! - **Precedes**: u reaches t, and if t reaches u too, u's id is the lesser one. It is a strict order.
+//! - **Executable**: closed, not done, all that precedes it is done, and its class is resolved if it has two members.
+//! - **Resolvable**: a class of two or more, all of it complete, where all else that reaches it is done.
+//!
+//! An example: two payments, 1.0 from row a to row b, and 1.1 from b to a. Row a has home 0, row b has home 1. Home 0 puts
+//! 1.0 before 1.1, home 1 puts 1.1 before 1.0. A region that has inserted only the first entry of each log sees no edge;
+//! but neither payment is complete, so neither is executable. With all four entries inserted there are edges both ways:
+//! the two are one class, which is resolvable, and 1.0 precedes 1.1, since its id is the lesser one. Once the class is
+//! resolved, 1.0 runs, and then 1.1. Every region finds this, in whatever order the entries came.
+//!
+//! Read next: `specs/Views.antt` and `specs/Decide.antt` for the definitions, `laws.rt` for what holds of every view (that
+//! regions agree is `closed_views`, that nothing is left undone is `drained`), and the crate dt_plain for a scheduler.
 #![tactic(auto)]
 
 mod laws;

@@ -4,3 +4,6 @@ pub mod Numerals
 pub mod ReadingAt
 pub mod ReadingLaws
 pub mod ReadingSteps
+pub mod LineLengths
+pub mod Spaced
+pub mod Callers

@@ -115,3 +115,7 @@ one_spelling word n small = (
   λ is. rw is (starts_plainly n small, decimal_digits n small, decimal_value n small),
   λ (plain, all, value). digits_spell word plain.0 plain.1 all (omega (arith, value)) ∙ ap decimal value,
 )
+
+-- numbers of 32 bits with the same printed form are the same
+pub same_number : (m n : ℕ) → m < 2 ^ 32 → n < 2 ^ 32 → decimal m ≡ decimal n → m ≡ n
+same_number m n small_m small_n e = decimal_injective m n (omega arith) (omega arith) e

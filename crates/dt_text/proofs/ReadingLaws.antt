@@ -2,6 +2,7 @@
 use Rattle.std.proofs.Common.{◌≡◌, ◌≢◌, ℕ, suc, ◌+◌, ◌≤◌, Bool, true, false, cond, ◌==◌, ◌||◌, ◌&&◌, nat_lt, List, [], ◌∷◌, ◌++◌, length, Option, Some, None, refl, sym, ◌∙◌, ap, subst, arith, append_assoc, append-nil, length-append}
 use Rattle.std.specs.List.{list_all}
 use Rattle.std.proofs.lemmas.List.Folds.{list_all-append}
+use Rattle.std.proofs.lemmas.Bool.{and_parts}
 use Rattle.std.proofs.lemmas.Bool.Decides.{nat_tests}
 use Rattle.dt_text.specs.Texts.{is_text_byte, IsStr}
 use Rattle.dt_text.specs.Printed.{text_item, text_items, text_word}
@@ -11,14 +12,9 @@ use Rattle.dt_text.specs.declared.word.Word.{Word}
 use Rattle.dt_text.specs.declared.word.Word.TheVariants.{Bare, Text}
 use Rattle.dt_text.proofs.ReadingSteps as step
 
-both : (a b : Bool) → (a && b) ≡ true → (a ≡ true) × (b ≡ true)
-both true true e = (refl, refl)
-both true false e = cc
-both false b e = cc
-
 -- of two lists, each byte passes exactly where it does in both
 parts : (p : ℕ → Bool) (xs ys : List ℕ) → list_all p (xs ++ ys) ≡ true → (list_all p xs ≡ true) × (list_all p ys ≡ true)
-parts p xs ys e = both _ _ (sym (list_all-append p xs ys) ∙ e)
+parts p xs ys e = and_parts _ _ (sym (list_all-append p xs ys) ∙ e)
 
 joins : (p : ℕ → Bool) (xs ys : List ℕ) → list_all p xs ≡ true → list_all p ys ≡ true → list_all p (xs ++ ys) ≡ true
 joins p xs ys e f = list_all-append p xs ys ∙ rw (e, f) refl
@@ -30,7 +26,7 @@ is_number a b e = grind (arith, nat_tests)
 gap_found : (gap : List ℕ) (at : ℕ) (bs : List ℕ) → AreSpaces gap → words_from at (gap ++ bs) ≡ words_from (at + length gap) bs
 gap_found [] at bs spaces = let e : at + 0 ≡ at = omega arith in rw e refl
 gap_found (b ∷ gap) at bs spaces =
-    let first = both (b == 32) (list_all (λ b. b == 32) gap) spaces in
+    let first = and_parts (b == 32) (list_all (λ b. b == 32) gap) spaces in
     let e : at + 1 + length gap ≡ at + suc (length gap) = omega arith in
     step.gap_space at b (gap ++ bs) (is_number b 32 first.0) ∙ (gap_found gap (at + 1) bs first.1 ∙ ap (λ n. words_from n bs) e)
 
@@ -42,7 +38,7 @@ bare_over from at (b ∷ bs) may = let over : is_visible b ≡ false = rw may re
 bare_found : (more : List ℕ) (from at : ℕ) (rest : List ℕ) → list_all is_visible more ≡ true → MayFollowWord rest → bare_from from at (more ++ rest) ≡ with_word (Bare from (at + length more)) (words_from (at + length more) rest)
 bare_found [] from at rest visible may = let e : at + 0 ≡ at = omega arith in rw e (bare_over from at rest may)
 bare_found (b ∷ more) from at rest visible may =
-    let first = both (is_visible b) (list_all is_visible more) visible in
+    let first = and_parts (is_visible b) (list_all is_visible more) visible in
     let e : at + 1 + length more ≡ at + suc (length more) = omega arith in
     step.bare_more from at b (more ++ rest) first.0 ∙ (bare_found more from (at + 1) rest first.1 may ∙ ap (λ n. with_word (Bare from n) (words_from n rest)) e)
 
@@ -71,7 +67,7 @@ text_found (b ∷ more) text at rest is_text =
     let long : length (text ++ b ∷ more) ≡ length text + suc (length more) = length-append text (b ∷ more) in
     let room : nat_lt (length text) 256 ≡ true = grind (arith, nat_tests, is_text.0) in
     let bytes = parts is_text_byte text (b ∷ more) is_text.1 in
-    let first = both (is_text_byte b) (list_all is_text_byte more) bytes.1 in
+    let first = and_parts (is_text_byte b) (list_all is_text_byte more) bytes.1 in
     let regroup : (text ++ b ∷ []) ++ more ≡ text ++ (b ∷ more) = append_assoc text (b ∷ []) more in
     let items : text_items (b ∷ more) ++ 34 ∷ rest ≡ text_item b ++ (text_items more ++ 34 ∷ rest) = append_assoc (text_item b) (text_items more) (34 ∷ rest) in
     let place : at + length (text_item b) + length (text_items more) + 1 ≡ at + length (text_items (b ∷ more)) + 1 = omega (arith, length-append (text_item b) (text_items more)) in
@@ -84,7 +80,7 @@ text_found (b ∷ more) text at rest is_text =
 bare_word_found : (spelling rest : List ℕ) (at : ℕ) → IsBareWord spelling → MayFollowWord rest → words_from at (spelling ++ rest) ≡ with_word (Bare at (at + length spelling)) (words_from (at + length spelling) rest)
 bare_word_found [] rest at bare may = absurd (omega (arith, bare.0))
 bare_word_found (b ∷ more) rest at bare may =
-    let first = both (is_visible b) (list_all is_visible more) bare.2 in
+    let first = and_parts (is_visible b) (list_all is_visible more) bare.2 in
     let e : at + 1 + length more ≡ at + suc (length more) = omega arith in
     step.gap_bare at b (more ++ rest) bare.1 first.0
     ∙ (bare_found more at (at + 1) rest first.1 may ∙ ap (λ n. with_word (Bare at n) (words_from n rest)) e)
@@ -299,7 +295,7 @@ sound_text b bs rest text at words is_text found = by_tests (b == 34) (b == 92) 
         let plain : b ≢ 34 = grind (arith, nat_tests) in
         let unescaped : b ≢ 92 = grind (arith, nat_tests) in
         let passes = if_passes (is_text_byte b && nat_lt (length text) 256) (text_from (text ++ b ∷ []) (at + 1) bs) words (sym (step.text_plain text at b bs plain unescaped) ∙ found) in
-        let tests = both (is_text_byte b) (nat_lt (length text) 256) passes.0 in
+        let tests = and_parts (is_text_byte b) (nat_lt (length text) 256) passes.0 in
         text_goes_on text at b bs words plain unescaped (rest.text (text ++ b ∷ []) (at + 1) words (str_more text b is_text tests.0 tests.1) passes.1)
 
 escape_goes_on : (text : List ℕ) (at b : ℕ) (bs : List ℕ) (words : List Word) → (b == 34 || b == 92) ≡ true → TextMeans (text ++ b ∷ []) (at + 1) bs words → EscapeMeans text at (b ∷ bs) words
@@ -310,7 +306,7 @@ escape_goes_on text at b bs (word ∷ words) escaped (more, rest, is, is_text, w
 sound_escape : (b : ℕ) (bs : List ℕ) → Sound bs → (text : List ℕ) (at : ℕ) (words : List Word) → IsStr text → escape_from text at (b ∷ bs) ≡ Some words → EscapeMeans text at (b ∷ bs) words
 sound_escape b bs rest text at words is_text found =
     let passes = if_passes ((b == 34 || b == 92) && nat_lt (length text) 256) (text_from (text ++ b ∷ []) (at + 1) bs) words (sym (step.escape_more text at b bs) ∙ found) in
-    let tests = both (b == 34 || b == 92) (nat_lt (length text) 256) passes.0 in
+    let tests = and_parts (b == 34 || b == 92) (nat_lt (length text) 256) passes.0 in
     let allowed : is_text_byte b ≡ true = grind (arith, nat_tests, tests.0) in
     escape_goes_on text at b bs words tests.0 (rest.text (text ++ b ∷ []) (at + 1) words (str_more text b is_text allowed tests.1) passes.1)
 

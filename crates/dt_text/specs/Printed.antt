@@ -1,4 +1,5 @@
--- How texts and values are printed.
+-- How texts and values are printed. A value has one printed form, and it is read back as the same value: a `\` before
+-- each `"` and `\` of a text lets the reader tell the text's end. What the reader makes of such a word stands in Words.antt.
 use Rattle.std.specs.Prelude.{ℕ, if◌then◌else◌, ◌||◌, ◌==◌, List, [], ◌∷◌, ◌++◌}
 use Rattle.std.specs.Fmt.{signed_decimal}
 use Rattle.std.specs.List.{flat_map}

@@ -1,4 +1,6 @@
--- What the parts of the reader of words find, in terms of the words from a place of the line on.
+-- Only for the functions that the reader of words is made of (`read_word`, `read_item`, ..): what each of them finds, in
+-- terms of the words from a place of the line on. No contract of a public call needs this file; read Words.antt for what
+-- a line means, and Reading.antt for how its words are found.
 use Rattle.std.specs.Prelude.{◌≡◌, ℕ, ◌<◌, ◌≤◌, ◌∷◌, ◌++◌, [], if◌then◌else◌, nat_lt, List, length, drop, Option, Some, None, IsTrue}
 use Rattle.dt_text.specs.Texts.{is_text_byte}
 use Rattle.dt_text.specs.Reading.{with_word, words_from, bare_from, text_from, after_text, IsWordIn}

@@ -1,6 +1,12 @@
--- The bytes that keys, names and texts are made of, and the lists of bytes that are keys, names and texts.
+-- What a key, a name and a text may be. Contracts see each of them as its bytes; the type's invariant says which bytes
+-- these may be, so whoever holds a `Key` holds an `IsKey`. The limits (64, 32 and 256 bytes) keep every count of the
+-- store within 32 bits. How they are printed stands in Printed.antt, how a line is cut into words in Words.antt.
 use Rattle.std.specs.Prelude.{ℕ, ◌<◌, ◌≤◌, Bool, ◌&&◌, ◌||◌, ◌==◌, nat_le, not, List, length, Option, position, IsTrue}
 use Rattle.std.specs.List.{list_all}
+
+-- a list of bytes, as contracts see a key, a name, a text, a line and a file
+abbrev pub Bytes : Type 0
+Bytes = List ℕ
 
 -- `a` to `z` and `0` to `9`
 abbrev pub is_letter_or_digit : ℕ → Bool

@@ -7,6 +7,7 @@ ghost use Rattle.std.specs.Hash as fed;
 ghost use Rattle.std.proofs.Common.{ap};
 ghost use Rattle.dt_text.specs.Texts.{IsKey, is_key_byte, first_outside};
 
+use crate::bytes::is_key_byte;
 use crate::errors::KeyError;
 use crate::no_memory::NoMemory;
 use std::alloc::Global;
@@ -102,21 +103,14 @@ impl Key {
 fn first_bad(bytes: &[u8]) -> Option<usize>
     ensures { result ≡ first_outside is_key_byte bytes.now }
 {
-    bytes.iter().position(|byte| !is_allowed(*byte))
+    bytes.iter().position(|byte| !is_key_byte(*byte))
 }
 
 /// Whether a key may have each of the bytes.
 fn are_allowed(bytes: &[u8]) -> bool
     ensures { result ≡ list_all is_key_byte bytes.now }
 {
-    bytes.iter().all(|byte| is_allowed(*byte))
-}
-
-/// Whether a key may have the byte.
-fn is_allowed(byte: u8) -> bool
-    ensures { result ≡ is_key_byte byte }
-{
-    matches!(byte, b'a'..=b'z' | b'0'..=b'9' | b'/' | b'_' | b'.' | b'-')
+    bytes.iter().all(|byte| is_key_byte(*byte))
 }
 
 impl PartialEq for Key {

@@ -1,6 +1,7 @@
 //! Texts: keys, names, values and numbers, each with its one spelling.
 #![tactic(auto)]
 
+mod bytes;
 mod errors;
 mod key;
 mod laws;
@@ -14,6 +15,7 @@ mod text;
 mod value;
 mod word;
 
+pub use bytes::{is_key_byte, is_name_byte, is_text_byte};
 pub use errors::{KeyError, StrError};
 pub use key::Key;
 pub use laws::{numbers_have_one_spelling, printed_texts_read_back, words_are_exact};

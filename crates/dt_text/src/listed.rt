@@ -55,7 +55,7 @@ impl<X> Listed<X> {
         Ok(())
     }
 
-    /// Takes the last item off, if there is one. Takes no memory.
+    /// Takes the last item off; `None` where the list is empty, and only there. Takes no memory.
     pub fn pop(&mut self) -> Option<X>
         ensures taken { self.old ≡ self.new ++ option_to_list result }
         ensures empty { IsSome result ⊎ (self.old ≡ []) }

@@ -1,4 +1,5 @@
-ghost use Rattle.std.specs.Prelude.{◌≡◌, ◌↔◌, ◌<◌, ◌≤◌, ◌^◌, ℕ, [], List, length, refl, nat_eq, IfOk, Some};
+ghost use Rattle.std.specs.Prelude.{◌≡◌, ◌↔◌, ◌<◌, ◌≤◌, ◌^◌, ℕ, [], List, length, refl, nat_eq, IfOk, IsTrue, Some};
+ghost use Rattle.std.specs.List.{list_all};
 ghost use Rattle.std.specs.Ordering.{nat_cmp};
 ghost use Rattle.std.specs.Cmp.{partial_equiv_from_equiv};
 ghost use Rattle.std.specs.Cmp.Lexicographic.{pointwise, slice_cmp, nat_list_eq_equiv, nat_list_cmp_total, texts_ties, texts_po, bytes_decides};
@@ -6,6 +7,7 @@ ghost use Rattle.std.specs.Hash as fed;
 ghost use Rattle.std.proofs.Common.{ap};
 ghost use Rattle.dt_text.specs.Texts.{IsName, is_name_byte, first_outside};
 
+use crate::bytes::is_name_byte;
 use crate::errors::KeyError;
 use crate::no_memory::NoMemory;
 use std::alloc::Global;
@@ -61,6 +63,23 @@ impl Name {
         }
     }
 
+    /// Whether the bytes are those of a name.
+    pub fn is_name(bytes: &[u8]) -> bool
+        ensures { IsTrue result ↔ IsName bytes.now }
+    {
+        !bytes.is_empty() && bytes.len() <= Name::LONGEST && are_allowed(bytes)
+    }
+
+    /// The name that has these bytes.
+    pub fn new(alloc: Global, bytes: &[u8]) -> Result<Self, NoMemory>
+        requires { IsName bytes.now }
+        ensures { IfOk result (λ name. name ≡ bytes.now) }
+    {
+        Ok(Name {
+            bytes: Vec::from_slice(alloc, bytes)?,
+        })
+    }
+
     /// The bytes of the name.
     pub fn bytes(&self) -> &[u8]
         ensures same { result.now ≡ self.now }
@@ -84,14 +103,14 @@ impl Name {
 fn first_bad(bytes: &[u8]) -> Option<usize>
     ensures { result ≡ first_outside is_name_byte bytes.now }
 {
-    bytes.iter().position(|byte| !is_allowed(*byte))
+    bytes.iter().position(|byte| !is_name_byte(*byte))
 }
 
-/// Whether a name may have the byte.
-fn is_allowed(byte: u8) -> bool
-    ensures { result ≡ is_name_byte byte }
+/// Whether a name may have each of the bytes.
+fn are_allowed(bytes: &[u8]) -> bool
+    ensures { result ≡ list_all is_name_byte bytes.now }
 {
-    matches!(byte, b'a'..=b'z' | b'0'..=b'9' | b'_')
+    bytes.iter().all(|byte| is_name_byte(*byte))
 }
 
 impl PartialEq for Name {

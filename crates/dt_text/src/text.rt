@@ -1,4 +1,5 @@
 ghost use Rattle.std.specs.Prelude.{◌≡◌, ◌↔◌, ◌<◌, ◌≤◌, ◌^◌, ℕ, List, length, refl, nat_eq, IfOk, IsTrue, OnOk, OnErr, Some, [], ◌∷◌, ◌++◌};
+ghost use Rattle.std.specs.List.{list_all};
 ghost use Rattle.std.specs.Ordering.{nat_cmp};
 ghost use Rattle.std.specs.Cmp.{partial_equiv_from_equiv};
 ghost use Rattle.std.specs.Cmp.Lexicographic.{pointwise, slice_cmp, nat_list_eq_equiv, nat_list_cmp_total, texts_ties, texts_po, bytes_decides};
@@ -6,6 +7,7 @@ ghost use Rattle.std.specs.Hash as fed;
 ghost use Rattle.std.proofs.Common.{ap};
 ghost use Rattle.dt_text.specs.Texts.{IsStr, is_text_byte, first_outside};
 
+use crate::bytes::is_text_byte;
 use crate::errors::StrError;
 use crate::no_memory::NoMemory;
 use std::alloc::Global;
@@ -57,8 +59,25 @@ impl Str {
         }
     }
 
+    /// Whether the bytes are those of a text.
+    pub fn is_str(bytes: &[u8]) -> bool
+        ensures { IsTrue result ↔ IsStr bytes.now }
+    {
+        bytes.len() <= Str::LONGEST && are_allowed(bytes)
+    }
+
+    /// The text that has these bytes.
+    pub fn new(alloc: Global, bytes: &[u8]) -> Result<Self, NoMemory>
+        requires { IsStr bytes.now }
+        ensures { IfOk result (λ text. text ≡ bytes.now) }
+    {
+        Ok(Str {
+            bytes: Vec::from_slice(alloc, bytes)?,
+        })
+    }
+
     /// The text of no bytes. Takes no memory.
-    pub(crate) fn new(alloc: Global) -> Self
+    pub(crate) fn empty(alloc: Global) -> Self
         ensures { result ≡ [] }
     {
         Str {
@@ -100,14 +119,14 @@ impl Str {
 fn first_bad(bytes: &[u8]) -> Option<usize>
     ensures { result ≡ first_outside is_text_byte bytes.now }
 {
-    bytes.iter().position(|byte| !is_allowed(*byte))
+    bytes.iter().position(|byte| !is_text_byte(*byte))
 }
 
-/// Whether a text may have the byte.
-fn is_allowed(byte: u8) -> bool
-    ensures { result ≡ is_text_byte byte }
+/// Whether a text may have each of the bytes.
+fn are_allowed(bytes: &[u8]) -> bool
+    ensures { result ≡ list_all is_text_byte bytes.now }
 {
-    matches!(byte, b' '..=b'~')
+    bytes.iter().all(|byte| is_text_byte(*byte))
 }
 
 impl PartialEq for Str {

@@ -1,9 +1,9 @@
 ghost use Rattle.std.specs.Prelude.{◌≡◌, ◌≢◌, ◌+◌, ◌<◌, ◌≤◌, ◌^◌, length, drop, ◌==◌, ◌||◌, slice_index, IfOk, IfSome, MatchBool, All};
-ghost use Rattle.dt_text.specs.Texts.{is_text_byte};
 ghost use Rattle.dt_text.specs.Words.{is_visible};
 ghost use Rattle.dt_text.specs.Reading.{IsWordIn, words_from, words_of};
 ghost use Rattle.dt_text.specs.ReadingParts.{BareEndsAt, ItemAt, WordAt, TextEndsAt};
 
+use crate::bytes::is_text_byte;
 use crate::listed::Listed;
 use crate::no_memory::NoMemory;
 use crate::text::Str;
@@ -119,7 +119,7 @@ fn read_text(alloc: Global, line: &[u8], at: usize) -> Result<Option<(Word, usiz
     requires quote { slice_index line.now at ≡ 34 }
     ensures { IfOk result (WordAt line.now at) }
 {
-    let mut text = Str::new(alloc);
+    let mut text = Str::empty(alloc);
     let mut end = at + 1;
     while end < line.len() {
         if line[end] == b'"' {
@@ -168,7 +168,7 @@ fn read_item(line: &[u8], at: usize) -> Option<(u8, usize)>
     if byte == b'\\' {
         return read_escape(line, at);
     }
-    if is_text(byte) {
+    if is_text_byte(byte) {
         Some((byte, at + 1))
     } else {
         None
@@ -197,11 +197,4 @@ fn is_escaped(byte: u8) -> bool
     ensures { result ≡ (byte == 34 || byte == 92) }
 {
     byte == b'"' || byte == b'\\'
-}
-
-/// Whether a text may have the byte.
-fn is_text(byte: u8) -> bool
-    ensures { result ≡ is_text_byte byte }
-{
-    matches!(byte, b' '..=b'~')
 }

@@ -1,4 +1,5 @@
-use Rattle.dt_events.proofs.EventWords.{lines_of-within, all_read}
+use Rattle.dt_text.proofs.LineLengths.{lines_of-within}
+use Rattle.dt_events.proofs.EventWords.{all_read}
 use Rattle.dt_events.proofs.reader.read_events.Goals as goal
 
 pub loop-line-init : goal.loop-line-init

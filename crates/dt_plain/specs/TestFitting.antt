@@ -1,3 +1,5 @@
+-- For the tests of this crate alone: what is tested of a part before a test inserts it. No contract of the scheduler
+-- cites this file; what a part must be to be inserted is `CanInsert` of dt_sched.
 use Rattle.std.specs.Prelude.{◌≡◌, ◌<◌, List, length}
 use Rattle.dt_access.specs.declared.Part.{Part}
 

@@ -1,0 +1,61 @@
+-- Ids: their order is a strict total order and decided, and the tests on them say what they test.
+use Rattle.std.proofs.Common.{◌≡◌, ◌≢◌, ◌⊎◌, true, false, ◌&&◌, List, eqb-true, eq-eqb, sym, subst, ap, arith}
+use Rattle.std.proofs.lemmas.Bool.{and_parts, and_from, false_from_ne_true}
+use Rattle.std.proofs.lemmas.Bool.Decides.{nat_tests}
+use Rattle.dt_lists.specs.Lists.{Has, Either}
+use Rattle.dt_lists.proofs.Words.{any_map}
+use Rattle.dt_lists.proofs.Tests.{any_of_test, test_of_any}
+use Rattle.dt_lists.proofs.Decided.{either_nat, either_and, either_same}
+use Rattle.dt_access.specs.Ids.{Before, same_id, is_among}
+use Rattle.dt_access.specs.declared.TxnId.{TxnId}
+
+pub same_by_parts : (a b : TxnId) → a.seq ≡ b.seq → a.region ≡ b.region → a ≡ b
+same_by_parts a b p q = λ i. record { seq = p i; region = q i }
+
+pub before_irreflexive : (a : TxnId) → ¬ (Before a a)
+before_irreflexive a h = grind arith
+
+pub before_differs : (a b : TxnId) → Before a b → a ≢ b
+before_differs a b h e = before_irreflexive a (subst (Before a) (sym e) h)
+
+pub before_transitive : (a b c : TxnId) → Before a b → Before b c → Before a c
+before_transitive a b c h k = grind arith
+
+pub before_total : (a b : TxnId) → a ≢ b → Before a b ⊎ Before b a
+before_total a b ne = grind (arith, same_by_parts a b)
+
+pub before_asymmetric : (a b : TxnId) → Before a b → ¬ (Before b a)
+before_asymmetric a b h k = before_irreflexive a (before_transitive a b a h k)
+
+pub before_decided : (a b : TxnId) → Either (Before a b)
+before_decided a b = grind arith
+
+pub either_id : (a b : TxnId) → Either (a ≡ b)
+either_id a b = either_same ((a.seq ≡ b.seq) × (a.region ≡ b.region)) (a ≡ b) (λ s. same_by_parts a b s.0 s.1) (λ e. (ap (λ x. x.seq) e, ap (λ x. x.region) e)) (either_and (a.seq ≡ b.seq) (a.region ≡ b.region) (either_nat a.seq b.seq) (either_nat a.region b.region))
+
+-- the test of two ids
+
+pub id_of_test : (a b : TxnId) → same_id a b ≡ true → a ≡ b
+id_of_test a b e =
+    let r : (_ ≡ true) × (_ ≡ true) = and_parts _ _ e in same_by_parts a b (eqb-true a.seq b.seq r.0) (eqb-true a.region b.region r.1)
+
+pub test_of_id : (a b : TxnId) → a ≡ b → same_id a b ≡ true
+test_of_id a b e = and_from _ _ (eq-eqb a.seq b.seq (ap (λ i. i.seq) e)) (eq-eqb a.region b.region (ap (λ i. i.region) e))
+
+pub test_of_other : (a b : TxnId) → a ≢ b → same_id a b ≡ false
+test_of_other a b n = false_from_ne_true (same_id a b) (λ e. n (id_of_test a b e))
+
+-- it does not matter which of two ids comes first
+pub same_id_turned : (a b : TxnId) → same_id a b ≡ same_id b a
+same_id_turned a b = grind (arith, nat_tests)
+
+-- the test of an id among others
+
+pub has_of_among : (ids : List TxnId) (id : TxnId) → is_among ids id ≡ true → Has ids id
+has_of_among ids id e = any_map _ _ ids (λ i s. sym (id_of_test id i s)) (any_of_test (same_id id) ids e)
+
+pub among_of_has : (ids : List TxnId) (id : TxnId) → Has ids id → is_among ids id ≡ true
+among_of_has ids id h = test_of_any (same_id id) ids (any_map _ _ ids (λ i s. test_of_id id i (sym s)) h)
+
+pub not_among : (ids : List TxnId) (id : TxnId) → ¬ (Has ids id) → is_among ids id ≡ false
+not_among ids id n = false_from_ne_true _ (λ e. n (has_of_among ids id e))

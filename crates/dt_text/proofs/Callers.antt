@@ -1,0 +1,6 @@
+-- What a caller's proof needs of texts, numbers, lines and words. All other lemmas of this crate are its own.
+pub use Rattle.dt_text.proofs.Allowed.{outside_where}
+pub use Rattle.dt_text.proofs.Numerals.{decimal_digits, digit_value_is, narrower, no_minus, ok_where, one_spelling, same_number}
+pub use Rattle.dt_text.proofs.ReadingLaws.{exact}
+pub use Rattle.dt_text.proofs.LineLengths.{IsLineWithin, lines_of-within}
+pub use Rattle.dt_text.proofs.Spaced.{join_spaced, spaced}
