@@ -2,7 +2,7 @@
 use Rattle.std.proofs.Common.{◌≡◌, ℕ, true, List, [], ◌∷◌, map, slice_get, Some, Ok, Err, refl, sym, ap, ap₂, subst, ◌∙◌}
 use Rattle.std.specs.Prelude.{Option, None, Result}
 use Rattle.dt_lists.specs.Lists.{AnyIn, AllIn, EachThen}
-use Rattle.dt_lists.proofs.Words.{all_map, all_any, each_image}
+use Rattle.dt_lists.proofs.Callers.{all_map, all_any, each_image}
 use Rattle.dt_text.specs.Texts.{IsKey}
 use Rattle.dt_text.specs.declared.Value.{Value}
 use Rattle.dt_access.specs.Clash.{Bytes}

@@ -5,8 +5,8 @@ use Rattle.std.specs.Prelude.{Option, None, Result}
 use Rattle.std.proofs.lemmas.List.{map-append}
 use Rattle.std.proofs.Math.Seq.{take-append_seam, drop-cons}
 use Rattle.dt_lists.specs.Lists.{AllIn, IsFront}
-use Rattle.dt_lists.proofs.Fronts.{front_refl, front_trans, front_append}
-use Rattle.dt_lists.proofs.Places.{place_within}
+use Rattle.dt_lists.proofs.Callers.{front_refl, front_trans, front_append}
+use Rattle.dt_lists.proofs.Callers.{place_within}
 use Rattle.dt_access.specs.Clash.{Bytes}
 use Rattle.dt_proc.specs.declared.tree.Sort.{Sort}
 use Rattle.dt_proc.specs.declared.tree.Sort.TheVariants as sort

@@ -10,11 +10,12 @@ use Rattle.std.specs.declared.cmp.Ordering.{Ordering}
 use Rattle.std.specs.declared.cmp.Ordering.TheVariants.{Less, Equal, Greater}
 use Rattle.std.specs.Cmp.Lexicographic.{slice_cmp, bytes_decides, texts_ties, nat_list_cmp_total}
 use Rattle.dt_lists.specs.Lists.{AnyIn, AllIn, Pairwise}
-use Rattle.dt_lists.proofs.Places.{place_within}
-use Rattle.dt_lists.proofs.Words.{all_map}
+use Rattle.dt_lists.proofs.Callers.{place_within}
+use Rattle.dt_lists.proofs.Callers.{all_map}
 use Rattle.dt_text.specs.declared.Value.{Value}
 use Rattle.dt_access.specs.Clash.{Bytes}
 use Rattle.dt_access.specs.Orders.{KeyBefore, HasAscendingKeys}
+use Rattle.dt_access.proofs.Callers.{key_before_flip}
 use Rattle.dt_access.specs.declared.Mode.{Mode}
 use Rattle.dt_access.specs.declared.Mode.TheVariants.{Read, Write}
 use Rattle.dt_proc.specs.declared.tree.KeyDecl.{KeyDecl}
@@ -34,9 +35,6 @@ pub same_by_cmp : (a b : Bytes) → slice_cmp nat_cmp a b ≡ Equal → a ≡ b
 same_by_cmp a b e = (bytes_decides a b).0 (texts_ties a b ∙ ap is_eq e)
 
 -- what compares as greater stands after
-pub before_of_greater : (a b : Bytes) → slice_cmp nat_cmp a b ≡ Greater → KeyBefore b a
-before_of_greater a b e = nat_list_cmp_total.antisymm b a ∙ ap ordering_reverse e
-
 -- what holds of the keys of a list and of a new key holds of all after it was added
 with_use_all : (P : Bytes → Type 0) (vs : List (Bytes × Mode)) (u : Bytes × Mode) → AllIn (λ v. P v.0) vs → P u.0 → AllIn (λ v. P v.0) (with_use vs u)
 with_use_all P [] u all p = (p, tt)
@@ -54,7 +52,7 @@ with_use_ascends (v ∷ vs) u a = go (slice_cmp nat_cmp u.0 v.0) refl (with_use_
     go : (o : Ordering) → slice_cmp nat_cmp u.0 v.0 ≡ o → HasAscendingKeys (with_use vs u) → HasAscendingKeys (placed_use o u v vs (with_use vs u))
     go Less e later = ((e, all_map _ _ vs (λ x h. nat_list_cmp_total.trans u.0 v.0 x.0 e h) a.0), a)
     go Equal e later = a
-    go Greater e later = (with_use_all (KeyBefore v.0) vs u a.0 (before_of_greater u.0 v.0 e), later)
+    go Greater e later = (with_use_all (KeyBefore v.0) vs u a.0 (key_before_flip u.0 v.0 e), later)
 
 fold_ascends : (us vs : List (Bytes × Mode)) → HasAscendingKeys vs → HasAscendingKeys (fold with_use vs us)
 fold_ascends [] vs a = a

@@ -6,8 +6,8 @@ use Rattle.std.specs.Ordering.{is_eq}
 use Rattle.std.proofs.lemmas.Bool.{cases_Bool, true≢false}
 use Rattle.std.specs.List.{filter}
 use Rattle.dt_lists.specs.Lists.{AllIn, EachThen}
-use Rattle.dt_lists.proofs.Filters.{filter_each, of_filter}
-use Rattle.dt_lists.proofs.Words.{all_map, all_get, all_image, each_map, each_image, each_of_image}
+use Rattle.dt_lists.proofs.Callers.{filter_each, of_filter}
+use Rattle.dt_lists.proofs.Callers.{all_map, all_get, all_image, each_map, each_image, each_of_image}
 use Rattle.dt_access.specs.Clash.{Bytes, same_key}
 use Rattle.dt_access.specs.Orders.{KeyBefore, HasAscendingKeys, HasDistinctKeys}
 use Rattle.dt_text.specs.declared.Value.{Value}

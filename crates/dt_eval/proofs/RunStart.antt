@@ -9,10 +9,10 @@ use Rattle.std.specs.Cmp.Lexicographic.{bytes_decides}
 use Rattle.std.proofs.lemmas.Bool.{true≢false}
 use Rattle.std.proofs.lemmas.List.{get_or-map, length-map, map-append}
 use Rattle.std.proofs.Math.Seq.{drop-cons}
-use Rattle.dt_lists.proofs.Places.{all_more}
+use Rattle.dt_lists.proofs.Callers.{all_more}
 use Rattle.std.proofs.lemmas.List.Quantifiers.{position-Some}
 use Rattle.dt_lists.specs.Lists.{AnyIn, AllIn, Has, EachThen, Pairwise}
-use Rattle.dt_lists.proofs.Words.{any_map, any_image, any_of_image, all_put, each_image}
+use Rattle.dt_lists.proofs.Callers.{any_map, any_image, any_of_image, all_put, each_image}
 use Rattle.dt_text.specs.declared.Value.{Value}
 use Rattle.dt_text.specs.declared.Value.TheVariants as val
 use Rattle.dt_access.specs.Clash.{Bytes, same_key}

@@ -12,17 +12,7 @@ use Rattle.std.proofs.lemmas.List.Folds.{list_all-append, list_all_at}
 use Rattle.std.proofs.lemmas.List.Quantifiers.{position-Some}
 use Rattle.std.proofs.lemmas.Str.Parse.{digit_from_value}
 use Rattle.dt_text.specs.Texts.{IsStr, is_text_byte, first_outside}
-use Rattle.dt_text.proofs.Numerals.{decimal_digits}
-
-not_true : (b : Bool) → not b ≡ true → b ≡ false
-not_true false e = refl
-not_true true e = sym e
-
--- no byte of a text is outside
-pub none_bad : (bs : List ℕ) (i : ℕ) → IsStr bs → first_outside is_text_byte bs ≡ Some i → ⊥
-none_bad bs i text e =
-    let r = position-Some (λ b. not (is_text_byte b)) bs i 0 e in
-    true≢false (sym text.1 ∙ list_all_at is_text_byte bs i 0 r.0 (not_true _ r.1))
+use Rattle.dt_text.proofs.Callers.{decimal_digits}
 
 -- two texts that are together not too long are a text
 pub joined_text : (s t : List ℕ) → IsStr s → IsStr t → length s + length t ≤ 256 → IsStr (s ++ t)

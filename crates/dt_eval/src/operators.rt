@@ -12,7 +12,7 @@ use crate::finish::Cause;
 use crate::state::Datum;
 use crate::stop::Stop;
 use dt_proc::Op;
-use dt_text::{NoMemory, Str, StrError, Value, put_i64};
+use dt_text::{NoMemory, Str, Value, put_i64};
 use std::alloc::Global;
 
 /// The number in a row.
@@ -87,7 +87,7 @@ pub(crate) fn printed(alloc: Global, datum: Datum) -> Result<Datum, Stop>
     ensures { EvalAnswers (spec.printed_datum datum) result }
 {
     let bytes = digits_of(alloc, number_of(datum))?;
-    Ok(Datum::Text(text_of(alloc, bytes.as_slice())?))
+    Ok(Datum::Text(Str::new(alloc, bytes.as_slice())?))
 }
 
 /// The bytes of the printed form of a number.
@@ -98,19 +98,6 @@ fn digits_of(alloc: Global, number: i64) -> Result<Vec<u8>, NoMemory>
     let mut bytes = Vec::new(alloc);
     put_i64(alloc, &mut bytes, number)?;
     Ok(bytes)
-}
-
-/// The text that has these bytes.
-fn text_of(alloc: Global, bytes: &[u8]) -> Result<Str, NoMemory>
-    requires { IsStr bytes.now }
-    ensures { IfOk result (λ text. text ≡ bytes.now) }
-{
-    match Str::read(alloc, bytes) {
-        Ok(text) => Ok(text),
-        Err(StrError::NoMemory) => Err(NoMemory),
-        Err(StrError::Long) => unreachable!(),
-        Err(StrError::BadByte(_)) => unreachable!(),
-    }
 }
 
 /// The number with the other sign.
@@ -211,7 +198,7 @@ fn joined(alloc: Global, left: &Str, right: &Str) -> Result<Datum, Stop>
         return Err(Stop::Aborted(Cause::Long));
     }
     let bytes = bytes_of_both(alloc, left, right)?;
-    Ok(Datum::Text(text_of(alloc, bytes.as_slice())?))
+    Ok(Datum::Text(Str::new(alloc, bytes.as_slice())?))
 }
 
 /// The bytes of the one text and then those of the other.

@@ -5,7 +5,7 @@ use Rattle.std.specs.List.{list_any}
 use Rattle.std.specs.Cmp.Lexicographic.{pointwise, bytes_decides}
 use Rattle.std.proofs.lemmas.List.{length-append, map-append}
 use Rattle.dt_lists.specs.Lists.{AllIn, Has, Distinct}
-use Rattle.dt_lists.proofs.Distinct.{distinct_push}
+use Rattle.dt_lists.proofs.Callers.{distinct_push}
 use Rattle.dt_syntax.specs.declared.token.Placed.{Placed}
 use Rattle.dt_proc.specs.declared.error.ProcError.{ProcError}
 use Rattle.dt_proc.specs.declared.error.ProcError.TheVariants as fault

@@ -3,10 +3,10 @@ use Rattle.std.proofs.Common.{◌≡◌, inl, inr, ℕ, suc, ◌≤◌, Bool, tr
 use Rattle.std.proofs.Common.{Err, refl, sym, ap, ◌∙◌, subst, arith, nat_eq}
 use Rattle.std.specs.List.{list_any, list_all}
 use Rattle.std.specs.Cmp.Lexicographic.{pointwise, bytes_decides}
-use Rattle.std.proofs.lemmas.Bool.{false≢true}
+use Rattle.std.proofs.lemmas.Bool.{and_parts, false≢true}
 use Rattle.std.proofs.lemmas.List.{map-append}
 use Rattle.dt_lists.specs.Lists.{AllIn, Has, Distinct}
-use Rattle.dt_lists.proofs.Distinct.{distinct_push}
+use Rattle.dt_lists.proofs.Callers.{distinct_push}
 use Rattle.dt_proc.specs.declared.error.ProcError.TheVariants as fault
 use Rattle.dt_proc.specs.declared.tree.KeyDecl.{KeyDecl}
 use Rattle.dt_proc.specs.declared.tree.Sort.TheVariants as sort
@@ -20,7 +20,7 @@ use Rattle.dt_syntax.specs.Limits.{AllSound, IsSmall}
 use Rattle.dt_syntax.specs.FirstPass.{NoneTooMany}
 use Rattle.dt_proc.specs.Outcome.{Outcome}
 use Rattle.dt_proc.proofs.ExprSorts.{Holds, holds_ok, holds_after, holds_cond}
-use Rattle.dt_syntax.proofs.Callers.{sound_left, sound_right, text_sound, procs_small, both_left, both_right}
+use Rattle.dt_syntax.proofs.Callers.{sound_left, sound_right, text_sound, procs_small}
 use Rattle.dt_proc.proofs.ProcWalk.{proc_sound}
 
 abbrev is_named : List ProcTree → List ℕ → Bool
@@ -101,12 +101,12 @@ differ n m e is = clash (pointwise nat_eq n m) e ((bytes_decides n m).1 is)
 
 other_names : (n : List ℕ) (ns : List (List ℕ)) → list_all (λ m. not (pointwise nat_eq n m)) ns ≡ true → AllIn (λ m. ¬ (n ≡ m)) ns
 other_names n [] e = tt
-other_names n (m ∷ ns) e = (differ n m (both_left _ _ e), other_names n ns (both_right (not (pointwise nat_eq n m)) _ e))
+other_names n (m ∷ ns) e = (differ n m ((and_parts _ _ e).0), other_names n ns ((and_parts (not (pointwise nat_eq n m)) _ e).1))
 
 apart_distinct : (ns : List (List ℕ)) → are_apart ns ≡ true → Distinct ns
 unfolding are_apart
 apart_distinct [] e = tt
-apart_distinct (n ∷ ns) e = (other_names n ns (both_left _ _ e), apart_distinct ns (both_right (list_all (λ m. not (pointwise nat_eq n m)) ns) _ e))
+apart_distinct (n ∷ ns) e = (other_names n ns ((and_parts _ _ e).0), apart_distinct ns ((and_parts (list_all (λ m. not (pointwise nat_eq n m)) ns) _ e).1))
 
 put_sound : IsSoundProc put
 put_sound = record {

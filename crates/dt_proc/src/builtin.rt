@@ -7,8 +7,7 @@ ghost use Rattle.dt_proc.specs.Tree.{binary};
 
 use crate::procs::{Proc, Procs};
 use crate::tree::{Expr, Give, Gives, KeyDecl, KeyItem, KeyItems, Kind, Op, Stmt, Stmts};
-use dt_syntax::{named, text};
-use dt_text::{Listed, NoMemory};
+use dt_text::{Listed, Name, NoMemory, Str};
 use std::alloc::Global;
 
 /// The built-in procedures: `put`, `note`, `get`, `del`, `add`, `div`, `sum` and `xfer`.
@@ -34,7 +33,7 @@ fn put(alloc: Global) -> Result<Proc, NoMemory>
     let body = one(alloc, Stmt::Set(0, Expr::Var(1)))?;
     let keys = one_key(alloc, true)?;
     Ok(Proc::new(
-        named(alloc, b"put")?,
+        Name::new(alloc, b"put")?,
         kinds(alloc, &[Kind::Text, Kind::Int])?,
         keys,
         body,
@@ -48,7 +47,7 @@ fn note(alloc: Global) -> Result<Proc, NoMemory>
     let body = one(alloc, Stmt::Set(0, Expr::Var(1)))?;
     let keys = one_key(alloc, true)?;
     Ok(Proc::new(
-        named(alloc, b"note")?,
+        Name::new(alloc, b"note")?,
         kinds(alloc, &[Kind::Text, Kind::Text])?,
         keys,
         body,
@@ -62,7 +61,7 @@ fn get(alloc: Global) -> Result<Proc, NoMemory>
     let body = one(alloc, Stmt::Give(gift(alloc, Give::Row(0))?))?;
     let keys = one_key(alloc, false)?;
     Ok(Proc::new(
-        named(alloc, b"get")?,
+        Name::new(alloc, b"get")?,
         kinds(alloc, &[Kind::Text])?,
         keys,
         body,
@@ -76,7 +75,7 @@ fn del(alloc: Global) -> Result<Proc, NoMemory>
     let body = one(alloc, Stmt::Clear(0))?;
     let keys = one_key(alloc, true)?;
     Ok(Proc::new(
-        named(alloc, b"del")?,
+        Name::new(alloc, b"del")?,
         kinds(alloc, &[Kind::Text])?,
         keys,
         body,
@@ -94,7 +93,7 @@ fn add(alloc: Global) -> Result<Proc, NoMemory>
     body.push(Stmt::Give(gift(alloc, Give::Value(Expr::IntOf(0)))?))?;
     let keys = one_key(alloc, true)?;
     Ok(Proc::new(
-        named(alloc, b"add")?,
+        Name::new(alloc, b"add")?,
         kinds(alloc, &[Kind::Text, Kind::Int])?,
         keys,
         body,
@@ -109,7 +108,7 @@ fn div(alloc: Global) -> Result<Proc, NoMemory>
     let body = one(alloc, Stmt::Give(gift(alloc, Give::Value(quotient))?))?;
     let keys = one_key(alloc, false)?;
     Ok(Proc::new(
-        named(alloc, b"div")?,
+        Name::new(alloc, b"div")?,
         kinds(alloc, &[Kind::Text, Kind::Int])?,
         keys,
         body,
@@ -124,7 +123,7 @@ fn sum(alloc: Global) -> Result<Proc, NoMemory>
     let body = one(alloc, Stmt::Give(gift(alloc, Give::Value(total))?))?;
     let keys = two_keys(alloc, false)?;
     Ok(Proc::new(
-        named(alloc, b"sum")?,
+        Name::new(alloc, b"sum")?,
         kinds(alloc, &[Kind::Text, Kind::Text])?,
         keys,
         body,
@@ -138,7 +137,7 @@ fn xfer(alloc: Global) -> Result<Proc, NoMemory>
 {
     let keys = two_keys(alloc, true)?;
     let params = kinds(alloc, &[Kind::Text, Kind::Text, Kind::Int])?;
-    Ok(Proc::new(named(alloc, b"xfer")?, params, keys, transfer(alloc)?))
+    Ok(Proc::new(Name::new(alloc, b"xfer")?, params, keys, transfer(alloc)?))
 }
 
 /// The statements of `xfer`.
@@ -146,7 +145,7 @@ fn transfer(alloc: Global) -> Result<Stmts, NoMemory>
     ensures { IfOk result (λ body. body ≡ builtin.transfer) }
 {
     let few = binary(alloc, Op::Less, Expr::IntOf(0), Expr::Var(2))?;
-    let refused = one(alloc, Stmt::Abort(text(alloc, b"funds")?))?;
+    let refused = one(alloc, Stmt::Abort(Str::new(alloc, b"funds")?))?;
     let mut body = one(alloc, Stmt::If(few, refused, Stmts::new(alloc)))?;
     let left = binary(alloc, Op::Sub, Expr::IntOf(0), Expr::Var(2))?;
     body.push(Stmt::Set(0, left))?;

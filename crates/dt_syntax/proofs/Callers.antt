@@ -2,7 +2,6 @@
 -- through: the tokens are in range, the limits hold, and they have one reading. Of the grammar: what the first token of a part
 -- says of the part.
 pub use Rattle.dt_syntax.proofs.LimitsKept.{procs_small}
-pub use Rattle.dt_syntax.proofs.NumberTokens.{both_left, both_right}
 pub use Rattle.dt_syntax.proofs.OneReading.{one_reading}
 pub use Rattle.dt_syntax.proofs.OneStop.{Read, Stop, end, many, one_stop, same_many, same_wrong, wrong}
 pub use Rattle.dt_syntax.proofs.Shapes.{AreItems, begins_other, chain_cut, chain_shape, cut_first, front_token, head_is, inner, items_cut, items_stop}

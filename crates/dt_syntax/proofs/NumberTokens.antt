@@ -6,11 +6,12 @@ use Rattle.std.specs.List.{list_all}
 use Rattle.std.specs.Fmt.{decimal}
 use Rattle.std.specs.Str.Parse.{AllDigits, digits_value}
 use Rattle.std.specs.Char.{digit_value}
+use Rattle.std.proofs.lemmas.Bool.{and_from, and_parts}
 use Rattle.std.proofs.lemmas.Bool.Decides.{nat_tests}
 use Rattle.std.proofs.lemmas.Int.{ints}
 use Rattle.std.proofs.lemmas.Str.Parse.{digit_at}
 use Rattle.dt_text.specs.Numbers.{ReadsSignedNumber}
-use Rattle.dt_text.proofs.Numerals.{one_spelling, digit_value_is}
+use Rattle.dt_text.proofs.Callers.{one_spelling, digit_value_is}
 use Rattle.dt_syntax.specs.declared.token.Token.TheVariants.{Int}
 use Rattle.dt_syntax.specs.Tokens.{is_digit, whole_number}
 
@@ -27,24 +28,13 @@ small_digit c h =
     let high : c ≤ 57 = within.1 in
     grind (arith, nat_tests)
 
-both : (a b : Bool) → a ≡ true → b ≡ true → (a && b) ≡ true
-both a b p q = cc
-
-pub both_left : (a b : Bool) → (a && b) ≡ true → a ≡ true
-both_left true b h = refl
-both_left false b h = h
-
-pub both_right : (a b : Bool) → (a && b) ≡ true → b ≡ true
-both_right true b h = h
-both_right false b h = absurd (cc)
-
 all_digits : (bs : List ℕ) → list_all is_digit bs ≡ true → AllDigits 10 bs
 all_digits [] h = tt
-all_digits (b ∷ bs) h = (digit_small b (both_left _ _ h), all_digits bs (both_right _ _ h))
+all_digits (b ∷ bs) h = (digit_small b ((and_parts _ _ h).0), all_digits bs ((and_parts _ _ h).1))
 
 digits_all : (bs : List ℕ) → AllDigits 10 bs → list_all is_digit bs ≡ true
 digits_all [] h = refl
-digits_all (b ∷ bs) h = both _ _ (small_digit b h.0) (digits_all bs h.1)
+digits_all (b ∷ bs) h = and_from _ _ (small_digit b h.0) (digits_all bs h.1)
 
 plain_test : (a n : ℕ) → (a ≡ 48 → n ≡ 1) → (not (a == 48) || n == 1) ≡ true
 plain_test a n h = grind (arith, nat_tests)
@@ -76,9 +66,9 @@ number_known word n small is =
 number_spelled : (word : List ℕ) (n : ℕ) → 0 < length word → whole_number word ≡ Some n → (n < 2 ^ 63) × (word ≡ decimal n)
 number_spelled word n some is =
     let facts = chosen _ _ _ is in
-    let all : list_all is_digit word ≡ true = both_left _ _ (both_left _ _ facts.0) in
-    let plain : (not (get_or word 0 0 == 48) || length word == 1) ≡ true = both_right _ _ (both_left _ _ facts.0) in
-    let low : digits_value 10 word < 2 ^ 63 = is_below (digits_value 10 word) (2 ^ 63) (both_right _ _ facts.0) in
+    let all : list_all is_digit word ≡ true = (and_parts _ _ ((and_parts _ _ facts.0).0)).0 in
+    let plain : (not (get_or word 0 0 == 48) || length word == 1) ≡ true = (and_parts _ _ ((and_parts _ _ facts.0).0)).1 in
+    let low : digits_value 10 word < 2 ^ 63 = is_below (digits_value 10 word) (2 ^ 63) ((and_parts _ _ facts.0).1) in
     let value : digits_value 10 word ≡ n = facts.1 in
     let small : n < 2 ^ 63 = omega arith in
     (small, (one_spelling word n (omega arith)).1 ((some, test_plain _ _ plain), all_digits word all, value))
@@ -110,6 +100,6 @@ number_is word (Some (negsuc n)) digit h =
 pub whole_small : (word : List ℕ) (n : ℕ) → whole_number word ≡ Some n → n < 2 ^ 63
 whole_small word n is =
     let facts = chosen _ _ _ is in
-    let low : digits_value 10 word < 2 ^ 63 = is_below (digits_value 10 word) (2 ^ 63) (both_right _ _ facts.0) in
+    let low : digits_value 10 word < 2 ^ 63 = is_below (digits_value 10 word) (2 ^ 63) ((and_parts _ _ facts.0).1) in
     let value : digits_value 10 word ≡ n = facts.1 in
     omega arith

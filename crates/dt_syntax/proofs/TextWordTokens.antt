@@ -2,6 +2,7 @@
 use Rattle.std.proofs.Common.{◌≡◌, ◌↔◌, ℕ, ◌+◌, ◌-◌, ◌≤◌, Bool, true, false, cond, ◌&&◌, ◌||◌, ◌==◌, nat_le, List, [], ◌∷◌, ◌++◌, length, Option, Some, None}
 use Rattle.std.proofs.Common.{IsTrue, refl, sym, ap, ◌∙◌, subst, arith, append_assoc}
 use Rattle.std.specs.List.{list_all}
+use Rattle.std.proofs.lemmas.Bool.{and_from, and_parts}
 use Rattle.std.proofs.lemmas.Bool.Decides.{nat_tests}
 use Rattle.std.proofs.lemmas.List.{length-append}
 use Rattle.dt_text.specs.Texts.{is_text_byte, IsStr}
@@ -35,14 +36,11 @@ with_is b (Some (u, vs)) t rest e =
 abbrev ArePrinted : List ℕ → List ℕ → List ℕ → Type 0
 ArePrinted bs t rest = (list_all is_text_byte t ≡ true) × (bs ≡ text_items t ++ 34 ∷ rest)
 
-both : (a b : Bool) → a ≡ true → b ≡ true → (a && b) ≡ true
-both a b p q = cc
-
 -- one item more
 one_more : (b : ℕ) (item bs u t rest : List ℕ) → is_text_byte b ≡ true → text_item b ≡ item → t ≡ b ∷ u → ArePrinted bs u rest → ArePrinted (item ++ bs) t rest
 one_more b item bs u t rest allowed is front (all, cut) =
     subst (λ v. ArePrinted (item ++ bs) v rest) (sym front) (
-      both (is_text_byte b) (list_all is_text_byte u) allowed all,
+      and_from (is_text_byte b) (list_all is_text_byte u) allowed all,
       ap (λ v. item ++ v) cut ∙ sym (append_assoc item (text_items u) (34 ∷ rest)) ∙ ap (λ v. (v ++ text_items u) ++ 34 ∷ rest) (sym is),
     )
 
@@ -112,20 +110,12 @@ item_found b more allowed = split (b == 34) (b == 92) refl refl
         ap (λ v. items_of (cond v (92 ∷ b ∷ []) (b ∷ []) ++ more)) alone
         ∙ (λ i. cond {A = Found} (is i) (Some ([], more)) (cond {A = Found} (other i) (escaped more) (cond {A = Found} (allowed i) (with_item b (items_of more)) None)))
 
-left_true : (a b : Bool) → (a && b) ≡ true → a ≡ true
-left_true true b e = refl
-left_true false b e = absurd cc
-
-right_true : (a b : Bool) → (a && b) ≡ true → b ≡ true
-right_true true b e = e
-right_true false b e = absurd cc
-
 printed : (t rest : List ℕ) → list_all is_text_byte t ≡ true → items_of (text_items t ++ 34 ∷ rest) ≡ Some (t, rest)
 printed [] rest all = refl
 printed (b ∷ t) rest all =
     ap items_of (append_assoc (text_item b) (text_items t) (34 ∷ rest))
-    ∙ item_found b (text_items t ++ 34 ∷ rest) (left_true (is_text_byte b) (list_all is_text_byte t) all)
-    ∙ ap (with_item b) (printed t rest (right_true (is_text_byte b) (list_all is_text_byte t) all))
+    ∙ item_found b (text_items t ++ 34 ∷ rest) (and_parts (is_text_byte b) (list_all is_text_byte t) all).0
+    ∙ ap (with_item b) (printed t rest (and_parts (is_text_byte b) (list_all is_text_byte t) all).1)
 
 text_of : Token → List ℕ
 text_of (Text t) = t

@@ -4,6 +4,7 @@ use Rattle.std.proofs.Common.{length, get_or, take_while, Option, Some, None, re
 use Rattle.std.specs.Option.{option_map}
 use Rattle.std.specs.List.{list_all}
 use Rattle.std.specs.Cmp.Lexicographic.{pointwise}
+use Rattle.std.proofs.lemmas.Bool.{and_from, and_parts}
 use Rattle.std.proofs.lemmas.Bool.Decides.{nat_tests}
 use Rattle.dt_lists.specs.Lists.{AllIn}
 use Rattle.dt_text.specs.Texts.{is_name_byte, is_text_byte}
@@ -15,7 +16,7 @@ use Rattle.dt_syntax.specs.Tokens.{plain_word, whole_number, is_digit, is_letter
 use Rattle.dt_syntax.specs.Tokens.{single_sign, double_sign, first_of, Sized, is_blank, is_no_line_end}
 use Rattle.dt_syntax.specs.Limits.{IsSoundToken, AllSound}
 use Rattle.dt_syntax.proofs.LexerLemmas.{all_taken}
-use Rattle.dt_syntax.proofs.NumberTokens.{whole_small, both_left, both_right}
+use Rattle.dt_syntax.proofs.NumberTokens.{whole_small}
 use Rattle.std.proofs.lemmas.Int.{ints}
 
 abbrev Sound : Option Token → Type 0
@@ -58,9 +59,9 @@ plain_sound : (w : List ℕ) → list_all is_name_byte w ≡ true → Sound (pla
 plain_sound w all =
     cond_sound (is_digit (get_or w 0 0)) _ _ (λ e. number_sound w (whole_number w) refl)
     (cond_sound (is_letter (get_or w 0 0) && nat_le (length w) 32) (Some (tok.Name w)) None
-    (λ e. let short : nat_le (length w) 32 ≡ true = both_right _ _ e in
+    (λ e. let short : nat_le (length w) 32 ≡ true = (and_parts _ _ e).1 in
     let few : length w ≤ 32 = grind (arith, nat_tests) in
-    (name_first w (both_left _ _ e), few, all))
+    (name_first w ((and_parts _ _ e).0), few, all))
     tt)
 
 word_sound : (w : List ℕ) → list_all is_name_byte w ≡ true → Sound (word_token w)
@@ -76,12 +77,9 @@ abbrev Items : Option (List ℕ × List ℕ) → Type 0
 Items None = Unit {0}
 Items (Some r) = list_all is_text_byte r.0 ≡ true
 
-both : (a b : Bool) → a ≡ true → b ≡ true → (a && b) ≡ true
-both a b p q = cc
-
 item_with : (b : ℕ) (o : Option (List ℕ × List ℕ)) → is_text_byte b ≡ true → Items o → Items (with_item b o)
 item_with b None e h = tt
-item_with b (Some r) e h = both _ _ e h
+item_with b (Some r) e h = and_from _ _ e h
 
 cond_items : (b : Bool) (x y : Option (List ℕ × List ℕ)) → (b ≡ true → Items x) → Items y → Items (cond b x y)
 cond_items true x y h k = h refl

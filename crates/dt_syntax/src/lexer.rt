@@ -6,17 +6,10 @@ ghost use Rattle.dt_text.specs.Texts.{is_name_byte, is_text_byte, IsStr};
 ghost use Rattle.dt_syntax.specs.Tokens as tokens;
 ghost use Rattle.dt_syntax.specs.Tokens.{items_of, tokens_from, with_item};
 
-use crate::bytes::{named, text};
 use crate::operator::Op;
 use crate::token::Token;
-use dt_text::{NoMemory, read_i64};
+use dt_text::{Name, NoMemory, Str, is_name_byte, is_text_byte, read_i64};
 use std::alloc::Global;
-
-/// The longest text of a token, in items.
-const LONGEST_TEXT: usize = 256;
-
-/// The longest name, in bytes.
-const LONGEST_NAME: usize = 32;
 
 /// The place of the first byte from `at` on that is no part of a blank or a comment, or the text's end.
 pub(crate) fn gap_end(text: &[u8], at: usize) -> usize
@@ -64,7 +57,7 @@ pub(crate) fn front_token(alloc: Global, bytes: &[u8]) -> Result<Option<(Token, 
     let [first, rest @ ..] = bytes else {
         return Ok(None);
     };
-    if is_word_byte(*first) {
+    if is_name_byte(*first) {
         return front_word(alloc, bytes);
     }
     if *first == b'"' {
@@ -89,14 +82,7 @@ fn front_word(alloc: Global, bytes: &[u8]) -> Result<Option<(Token, usize)>, NoM
 fn word_end(bytes: &[u8]) -> usize
     ensures { result ≡ length (take_while is_name_byte bytes.now) }
 {
-    bytes.iter().take_while(|byte| is_word_byte(**byte)).count()
-}
-
-/// Whether the byte is a letter, a digit or `_`.
-fn is_word_byte(byte: u8) -> bool
-    ensures { result ≡ is_name_byte byte }
-{
-    matches!(byte, b'a'..=b'z' | b'0'..=b'9' | b'_')
+    bytes.iter().take_while(|byte| is_name_byte(**byte)).count()
 }
 
 /// The token of a whole word of letters, digits and `_`.
@@ -126,10 +112,10 @@ fn plain_word(alloc: Global, word: &[u8]) -> Result<Option<Token>, NoMemory>
     if first.is_ascii_digit() {
         return Ok(number(word));
     }
-    if !first.is_ascii_lowercase() || word.len() > LONGEST_NAME {
+    if !first.is_ascii_lowercase() || word.len() > Name::LONGEST {
         return Ok(None);
     }
-    Ok(Some(Token::Name(named(alloc, word)?)))
+    Ok(Some(Token::Name(Name::new(alloc, word)?)))
 }
 
 /// The token of a number.
@@ -219,9 +205,9 @@ fn text_after(alloc: Global, bytes: &[u8]) -> Result<Option<(Token, usize)>, NoM
     while let [first, after @ ..] = rest {
         if *first == b'"' {
             let size = bytes.len() - after.len() + 1;
-            return Ok(Some((Token::Text(text(alloc, items.as_slice())?), size)));
+            return Ok(Some((Token::Text(Str::new(alloc, items.as_slice())?), size)));
         }
-        if items.len() == LONGEST_TEXT {
+        if items.len() == Str::LONGEST {
             return Ok(None);
         }
         let Some((byte, after)) = item(*first, after) else {
@@ -239,19 +225,12 @@ fn item(first: u8, after: &[u8]) -> Option<(u8, &[u8])>
     ensures { tokens.ItemIs first after.now (option_map (λ found. (found.0, found.1.now)) result) }
 {
     if first != b'\\' {
-        return is_text(first).then_some((first, after));
+        return is_text_byte(first).then_some((first, after));
     }
     match after {
         [byte, rest @ ..] if *byte == b'"' || *byte == b'\\' => Some((*byte, rest)),
         _ => None,
     }
-}
-
-/// Whether a text may have the byte.
-fn is_text(byte: u8) -> bool
-    ensures { result ≡ is_text_byte byte }
-{
-    matches!(byte, b' '..=b'~')
 }
 
 /// The symbol that begins with a byte, and how many bytes it takes.

@@ -9,7 +9,6 @@
 //! stack goes on exactly where some procedures begin with the tokens so far is proved.
 #![tactic(auto)]
 
-mod bytes;
 mod counts;
 mod error;
 mod first_pass;
@@ -20,7 +19,6 @@ mod machine;
 mod operator;
 mod token;
 
-pub use bytes::{named, text};
 pub use error::SyntaxError;
 pub use first_pass::read_tokens;
 pub use kinds::Kind;
