@@ -10,6 +10,7 @@ pub mod KeySorts
 pub mod OneOutcome
 pub mod ProcWalk
 pub mod ProcsWalk
+pub mod Rooms
 pub mod SoundProcs
 pub mod StatementSorts
 pub mod StatementWalk

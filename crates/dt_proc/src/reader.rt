@@ -74,6 +74,7 @@ fn procs(alloc: Global, tokens: &[Placed]) -> Result<Procs, ProcError>
 ///
 /// The text is tested as a whole for what it is made of first (`Syntax` and `TooMany`), and then for
 /// its names and kinds (`Twice`, `Unknown` and `Kind`). A text has exactly one outcome.
+#[tactic(auto, using(crate::proofs::ProcsWalk::outcome_first))]
 pub fn read_procs(alloc: Global, text: &[u8]) -> Result<Procs, ProcError>
     requires short { length text.now < 2 ^ 32 }
     ensures outcome { (result ≡ Err ProcError.NoMemory) ⊎ Outcome text.now result }

@@ -6,6 +6,7 @@ use Rattle.dt_syntax.specs.Grammar.{at}
 use Rattle.dt_proc.specs.SecondPass.{check_param}
 use Rattle.dt_proc.specs.WalkInner.{WalkAnswers}
 use Rattle.dt_syntax.specs.FrontsInner.{comma_param}
+use Rattle.dt_proc.proofs.Rooms.{room_new}
 use Rattle.dt_proc.proofs.HeadWalk.{params_first, params_first_fault, params_more_fault, params_told_is}
 use Rattle.dt_proc.proofs.parameters.params.Goals as goal
 
@@ -34,3 +35,6 @@ returns-clause-right c = λ ps q rest e.
           (ap (λ s. check_param s k.one) (sym c.new-scope.ensures) ∙ told.0.0) others.0.0 (told.1 ∙ ap (λ v. v ++ k.one.kind ∷ []) c.new-kinds.ensures) others.1,
       others.0.1,
     )
+
+pub param-requires : goal.param-requires
+param-requires c = room_new _ _ c.new-scope.ensures c.requires

@@ -5,6 +5,7 @@ use Rattle.dt_proc.specs.SecondPass.{check_statement, check_block}
 use Rattle.dt_proc.specs.TreeViews.{stmt_tree}
 use Rattle.dt_syntax.specs.Grammar.{at, statements_tokens}
 use Rattle.dt_proc.proofs.ExprWalk.{told_right}
+use Rattle.dt_proc.proofs.Rooms.{room_left}
 use Rattle.dt_proc.proofs.StatementWalk.{not_ended, ended, step_told, step_fault, left_as_before}
 use Rattle.dt_syntax.proofs.Callers.{step_when, some_statement, no_statement}
 use Rattle.dt_proc.proofs.statements.+blocks.Goals as goal
@@ -85,3 +86,7 @@ block-returns-clause-right t c = λ ss e rest h is.
       c.leave.ensures ∙ ap (λ n. record c.steps.scope { variables = take n c.steps.scope.variables }) c.variables-outer.ensures
           ∙ left_as_before c.args.scope.now c.steps.scope end.2,
     )
+
+pub block-returns-clause-room : goal.block-returns-clause-room
+block-returns-clause-room t c =
+    room_left c.args.scope.now c.steps.scope _ _ c.args.tokens.now c.steps.rest.now _ c.steps.invariant.room c.leave.ensures (omega (arith, c.in_ok-after_one.ensures.shorter))
