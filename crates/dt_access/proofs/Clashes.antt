@@ -8,7 +8,7 @@ use Rattle.dt_lists.specs.Lists.{AllIn}
 use Rattle.dt_access.specs.declared.access.Mode.{Mode}
 use Rattle.dt_access.specs.Clash.{Bytes, same_key, is_write, uses_clash, clash}
 use Rattle.dt_access.specs.Orders.{KeyBefore, HasAscendingKeys}
-use Rattle.dt_access.proofs.Keys.{same_key_before, same_key_after, same_key_equal, key_before_flip}
+use Rattle.dt_access.proofs.KeyOrder.{same_key_before, same_key_after, same_key_equal, key_before_flip}
 
 -- what is less than a key is less than all that are greater than the key
 AllIn-before : (a b : Bytes) (bs : List (Bytes × Mode)) → KeyBefore a b → AllIn (λ y. KeyBefore b y.0) bs → AllIn (λ y. KeyBefore a y.0) bs

@@ -7,7 +7,7 @@ use Rattle.dt_lists.proofs.Words.{any_map}
 use Rattle.dt_lists.proofs.Tests.{any_of_test, test_of_any}
 use Rattle.dt_lists.proofs.Decided.{either_nat, either_and, either_same}
 use Rattle.dt_access.specs.Ids.{Before, same_id, is_among}
-use Rattle.dt_access.specs.declared.TxnId.{TxnId}
+use Rattle.dt_access.specs.declared.id.TxnId.{TxnId}
 
 pub same_by_parts : (a b : TxnId) → a.seq ≡ b.seq → a.region ≡ b.region → a ≡ b
 same_by_parts a b p q = λ i. record { seq = p i; region = q i }
@@ -31,7 +31,9 @@ pub before_decided : (a b : TxnId) → Either (Before a b)
 before_decided a b = grind arith
 
 pub either_id : (a b : TxnId) → Either (a ≡ b)
-either_id a b = either_same ((a.seq ≡ b.seq) × (a.region ≡ b.region)) (a ≡ b) (λ s. same_by_parts a b s.0 s.1) (λ e. (ap (λ x. x.seq) e, ap (λ x. x.region) e)) (either_and (a.seq ≡ b.seq) (a.region ≡ b.region) (either_nat a.seq b.seq) (either_nat a.region b.region))
+either_id a b =
+    either_same ((a.seq ≡ b.seq) × (a.region ≡ b.region)) (a ≡ b) (λ s. same_by_parts a b s.0 s.1) (λ e. (ap (λ x. x.seq) e, ap (λ x. x.region) e))
+    (either_and (a.seq ≡ b.seq) (a.region ≡ b.region) (either_nat a.seq b.seq) (either_nat a.region b.region))
 
 -- the test of two ids
 

@@ -1,5 +1,5 @@
 pub mod Ids
-pub mod Keys
+pub mod KeyOrder
 pub mod Clashes
 pub mod IdTexts
 pub mod Callers

@@ -1,30 +1,20 @@
 -- Words of lines and the events that they spell.
-use Rattle.std.proofs.Common.{◌≡◌, ◌≢◌, ℕ, zero, suc, ◌+◌, ◌<◌, ◌≤◌, ◌^◌, Bool, true, false, not, cond, List, [], ◌∷◌, ◌++◌, length, map, get_or, drop, ◌==◌, Option, Some, None, MatchOption, Bor, refl, ap, sym, ◌∙◌, subst, arith, append_assoc, append-nil}
+use Rattle.std.proofs.Common.{◌≡◌, ◌≢◌, ℕ, zero, suc, ◌+◌, ◌<◌, ◌≤◌, ◌^◌, Bool, true, false, not, cond, List, [], ◌∷◌, ◌++◌}
+use Rattle.std.proofs.Common.{length, map, get_or, drop, ◌==◌, Option, Some, None, MatchOption, Bor, refl, ap, sym, ◌∙◌, subst, arith, append_assoc, append-nil}
 use Rattle.std.specs.List.{join_with_byte, onto_first}
 use Rattle.std.proofs.lemmas.Grind.{common_steps}
 use Rattle.std.proofs.lemmas.Option.{same_Some}
 use Rattle.dt_lists.specs.Lists.{Pairwise}
 use Rattle.dt_lists.proofs.Changes.{same_head, same_tail}
-use Rattle.dt_text.specs.Texts.{IsName, is_name_byte, first_outside}
 use Rattle.dt_text.specs.Reading.{words_of}
 use Rattle.dt_text.specs.Lines.{FileLine}
 use Rattle.dt_text.specs.declared.Word.{Word}
-use Rattle.dt_text.proofs.Allowed.{outside_where}
 use Rattle.dt_text.proofs.ReadingLaws.{exact}
 use Rattle.dt_access.specs.declared.TxnId.{TxnId}
 use Rattle.dt_access.specs.Ids.{IsCounted, id_text}
 use Rattle.dt_events.specs.declared.event.Event.{Event}
 use Rattle.dt_events.specs.Events.{event_words, bare_bytes, AreBareWords, IsEventLine, IsNumberedEvent}
 use Rattle.dt_events.specs.Reading.{spelled, AreShort, AreIds, ReadsEvent}
-
--- a byte that no name has stands in no name
-outside_cases : (a r : Bool) (n m : ℕ) → a ≡ not r → cond a (Some n) None ≡ Some m → r ≡ true → ⊥
-outside_cases true true n m e h all = cc
-outside_cases true false n m e h all = cc
-outside_cases false r n m e h all = cc
-
-pub no_name_outside : (word : List ℕ) (place : ℕ) → first_outside is_name_byte word ≡ Some place → ¬ IsName word
-no_name_outside word place h name = outside_cases _ _ _ place (outside_where is_name_byte word) h name.2
 
 -- ---- words that are read where they stand
 
@@ -64,7 +54,9 @@ pub are_bare_words : (line : List ℕ) (words : List Word) (bares : List (List �
 are_bare_words line words bares found same = (words, (exact line words).0 found, same)
 
 -- what was found of the words of a line is found of the line
-pub bare_answer : {V : Type 0} (line : List ℕ) (words : List Word) (view : V → List (List ℕ)) (found : Option V) → words_of line ≡ Some words → MatchOption found ((bares : List (List ℕ)) → map (bare_bytes line) words ≢ map (λ w. Some w) bares) (λ v. map (bare_bytes line) words ≡ map (λ w. Some w) (view v)) → MatchOption found ((bares : List (List ℕ)) → ¬ AreBareWords line bares) (λ v. AreBareWords line (view v))
+pub bare_answer : {V : Type 0} (line : List ℕ) (words : List Word) (view : V → List (List ℕ)) (found : Option V) → words_of line ≡ Some words
+    → MatchOption found ((bares : List (List ℕ)) → map (bare_bytes line) words ≢ map (λ w. Some w) bares) (λ v. map (bare_bytes line) words ≡ map (λ w. Some w) (view v))
+    → MatchOption found ((bares : List (List ℕ)) → ¬ AreBareWords line bares) (λ v. AreBareWords line (view v))
 bare_answer line words view None is none = no_bare_words line words is none
 bare_answer line words view (Some v) is same = are_bare_words line words (view v) is same
 

@@ -266,4 +266,8 @@ numbered_are number (e ∷ events) all = ((refl, text_is_event e all.0), numbere
 pub reads_back : PrintedEventsReadBack
 reads_back events all read =
     let lines = lines_printed 1 events all in
-    ((λ are. numbered_only 1 events all read (subst (λ ls. Pairwise IsNumberedEvent ls read) lines are)), (λ same. subst (λ r. AreEvents (flat_map event_line events) r) (sym same) (subst (λ ls. Pairwise IsNumberedEvent ls (enumerate_from 1 events)) (sym lines) (numbered_are 1 events all))))
+    let printed : AreEvents (flat_map event_line events) (enumerate_from 1 events) =
+    subst (λ ls. Pairwise IsNumberedEvent ls (enumerate_from 1 events)) (sym lines) (numbered_are 1 events all) in (
+      λ are. numbered_only 1 events all read (subst (λ ls. Pairwise IsNumberedEvent ls read) lines are),
+      λ same. subst (λ r. AreEvents (flat_map event_line events) r) (sym same) printed,
+    )

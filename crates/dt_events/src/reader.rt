@@ -10,7 +10,7 @@ ghost use Rattle.dt_events.specs.Reading.{AreIds, AreShort, Reads, ReadsEvent, s
 use crate::event::Event;
 use crate::words::bare_words;
 use dt_access::{Ids, TxnId, read_id};
-use dt_text::{KeyError, Lines, Name, NoMemory, read_u32};
+use dt_text::{Lines, Name, NoMemory, read_u32};
 use std::alloc::{AllocFailed, Global};
 use std::fmt;
 
@@ -224,10 +224,10 @@ fn answer(alloc: Global, region: u8, arguments: &[&[u8]]) -> Result<Option<Event
 fn one_word<'a>(words: &[&'a [u8]]) -> Option<&'a [u8]>
     ensures { MatchOption result ((a : List ℕ) → spelled words.now ≢ a ∷ []) (λ w. spelled words.now ≡ w.now ∷ []) }
 {
-    if words.len() != 1 {
+    let [word] = words else {
         return None;
-    }
-    Some(words[0])
+    };
+    Some(word)
 }
 
 /// The two words, if there are as many.
@@ -235,10 +235,10 @@ fn two_words<'a>(words: &[&'a [u8]]) -> Option<(&'a [u8], &'a [u8])>
     ensures { MatchOption result ((a b : List ℕ) → spelled words.now ≢ a ∷ b ∷ [])
         (λ w. spelled words.now ≡ w.0.now ∷ w.1.now ∷ []) }
 {
-    if words.len() != 2 {
+    let [first, second] = words else {
         return None;
-    }
-    Some((words[0], words[1]))
+    };
+    Some((first, second))
 }
 
 /// The three words, if there are as many.
@@ -246,10 +246,10 @@ fn three_words<'a>(words: &[&'a [u8]]) -> Option<(&'a [u8], &'a [u8], &'a [u8])>
     ensures { MatchOption result ((a b c : List ℕ) → spelled words.now ≢ a ∷ b ∷ c ∷ [])
         (λ w. spelled words.now ≡ w.0.now ∷ w.1.now ∷ w.2.now ∷ []) }
 {
-    if words.len() != 3 {
+    let [first, second, third] = words else {
         return None;
-    }
-    Some((words[0], words[1], words[2]))
+    };
+    Some((first, second, third))
 }
 
 /// Reads the number of a region: at most 255.
@@ -265,13 +265,10 @@ fn read_session(alloc: Global, word: &[u8]) -> Result<Option<Name>, NoMemory>
     requires { length word.now < 2 ^ 32 }
     ensures { IfOk result (λ name. MatchOption name (¬ IsName word.now) (λ n. IsName n × (n ≡ word.now))) }
 {
-    match Name::read(alloc, word) {
-        Ok(name) => Ok(Some(name)),
-        Err(KeyError::NoMemory) => Err(NoMemory),
-        Err(KeyError::Empty) => Ok(None),
-        Err(KeyError::Long) => Ok(None),
-        Err(KeyError::BadByte(_)) => Ok(None),
+    if !Name::is_name(word) {
+        return Ok(None);
     }
+    Ok(Some(Name::new(alloc, word)?))
 }
 
 /// Reads ids, one from each word.

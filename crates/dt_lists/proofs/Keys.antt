@@ -37,7 +37,8 @@ key_before_transitive f (x ∷ xs) u v t once (inr s) (inl b) =
 key_before_transitive f (x ∷ xs) u v t once (inr s) (inr r) = inr (key_before_transitive f xs u v t once.1 s r)
 
 -- where only a front holds an item of the key t, the pair that ends at t is in that front too
-pub some_in_front : {A B : Type 0} (R : A → A → Type 0) (f : A → B) (t : B) (front rest : List A) → ((x y : A) → R x y → f y ≡ t) → EachThen (λ x y. ¬ (f x ≡ f y)) (front ++ rest) → AnyIn (λ x. f x ≡ t) front → SomeThen R (front ++ rest) → SomeThen R front
+pub some_in_front : {A B : Type 0} (R : A → A → Type 0) (f : A → B) (t : B) (front rest : List A) → ((x y : A) → R x y → f y ≡ t)
+    → EachThen (λ x y. ¬ (f x ≡ f y)) (front ++ rest) → AnyIn (λ x. f x ≡ t) front → SomeThen R (front ++ rest) → SomeThen R front
 some_in_front R f t [] rest ends once e s = absurd e
 some_in_front R f t (x ∷ xs) rest ends once (inl e) (inl a) =
     let r : (y : _) × Has (xs ++ rest) y × R x y = any_get (R x) (xs ++ rest) a in

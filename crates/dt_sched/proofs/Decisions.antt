@@ -34,7 +34,8 @@ settled_decided view resolved t =
 pub executable_decided : (view : View) (resolved : List (List TxnId)) (done : List TxnId) (t : TxnId) → Either (IsExecutable view resolved done t)
 executable_decided view resolved done t = join (closed_decided view t) (has_id_decided done t) (preceders_done_decided view done t) (settled_decided view resolved t)
   where
-    join : Either (IsClosed view t) → Either (Has done t) → Either ((u : TxnId) → Precedes view u t → Has done u) → Either ((ids : List TxnId) → IsClass view t ids → 2 ≤ length ids → Has resolved ids) → Either (IsExecutable view resolved done t)
+    join : Either (IsClosed view t) → Either (Has done t) → Either ((u : TxnId) → Precedes view u t → Has done u)
+        → Either ((ids : List TxnId) → IsClass view t ids → 2 ≤ length ids → Has resolved ids) → Either (IsExecutable view resolved done t)
     join (inl c) (inr w) (inl p) (inl s) = inl (record { closed = c; waiting = w; preceders = p; settled = s })
     join (inr n) w p s = inr (λ x. n x.closed)
     join (inl c) (inl d) p s = inr (λ x. x.waiting d)
@@ -51,7 +52,8 @@ outside_done_decided view done ids = either_same (AllIn (λ t. (u : TxnId) → R
 pub resolvable_decided : (view : View) (resolved : List (List TxnId)) (done ids : List TxnId) → Either (IsResolvable view resolved done ids)
 resolvable_decided view resolved done ids = join (some_class_decided view ids) (either_le 2 (length ids)) (either_all _ ids (complete_decided view)) (has_class_decided resolved ids) (outside_done_decided view done ids)
   where
-    join : Either ((t : TxnId) × IsClass view t ids) → Either (2 ≤ length ids) → Either (AllIn (IsComplete view) ids) → Either (Has resolved ids) → Either ((u t : TxnId) → Has ids t → Reaches view u t → Has ids u ⊎ Has done u) → Either (IsResolvable view resolved done ids)
+    join : Either ((t : TxnId) × IsClass view t ids) → Either (2 ≤ length ids) → Either (AllIn (IsComplete view) ids) → Either (Has resolved ids)
+        → Either ((u t : TxnId) → Has ids t → Reaches view u t → Has ids u ⊎ Has done u) → Either (IsResolvable view resolved done ids)
     join (inl g) (inl l) (inl c) (inr n) (inl b) = inl (record { group = g; several = l; complete = c; unresolved = n; before = b })
     join (inr n) l c r b = inr (λ x. n x.group)
     join (inl g) (inr n) c r b = inr (λ x. n x.several)

@@ -24,7 +24,8 @@ outside_precedes view t u v ids c h r n =
     (λ e. n (subst (Has ids) (sym e) (in_own_class view t ids c)), into, inl (λ back. n ((c.members u).1 (into, back))))
 
 -- a closed id whose preceders are done is executable, or its class is resolvable
-pub executable_or_resolvable : (view : View) (resolved : List (List TxnId)) (done : List TxnId) (t : TxnId) → IsClosed view t → ¬ (Has done t) → ((u : TxnId) → Precedes view u t → Has done u) → IsExecutable view resolved done t ⊎ ((ids : List TxnId) × IsResolvable view resolved done ids)
+pub executable_or_resolvable : (view : View) (resolved : List (List TxnId)) (done : List TxnId) (t : TxnId) → IsClosed view t → ¬ (Has done t)
+    → ((u : TxnId) → Precedes view u t → Has done u) → IsExecutable view resolved done t ⊎ ((ids : List TxnId) × IsResolvable view resolved done ids)
 executable_or_resolvable view resolved done t closed waiting preceders = at (class_of view t)
   where
     settle : (ids : List TxnId) → IsClass view t ids → (2 ≤ length ids → Has resolved ids) → IsExecutable view resolved done t
@@ -51,7 +52,8 @@ executable_or_resolvable view resolved done t closed waiting preceders = at (cla
         )
 
 -- where some closed id is not done, some id is executable or some class is resolvable
-pub something_to_do : (view : View) (resolved : List (List TxnId)) (done : List TxnId) (t : TxnId) → IsClosed view t → ¬ (Has done t) → ((u : TxnId) × IsExecutable view resolved done u) ⊎ ((ids : List TxnId) × IsResolvable view resolved done ids)
+pub something_to_do : (view : View) (resolved : List (List TxnId)) (done : List TxnId) (t : TxnId) → IsClosed view t → ¬ (Has done t)
+    → ((u : TxnId) × IsExecutable view resolved done u) ⊎ ((ids : List TxnId) × IsResolvable view resolved done ids)
 something_to_do view resolved done t closed waiting = at (pick_ids (λ u. IsClosed view u × ¬ (Has done u)) open_decided (ids_in view))
   where
     open_decided : (u : TxnId) → Either (IsClosed view u × ¬ (Has done u))
@@ -90,7 +92,9 @@ pub done_where_closed : (view : View) (resolved : List (List TxnId)) (done : Lis
 done_where_closed view resolved done closed nothing t = (λ d. all_get (IsClosed view) done closed t d, closed_is_done view resolved done nothing t)
 
 -- a complete id whose preceders are done, and whose class is single or resolved, is closed
-pub closed_of_complete : (view : View) (resolved : List (List TxnId)) (done : List TxnId) (t : TxnId) → AllIn (IsClosed view) done → AllIn (AllIn (IsClosed view)) resolved → IsComplete view t → ((u : TxnId) → Precedes view u t → Has done u) → ((ids : List TxnId) → IsClass view t ids → 2 ≤ length ids → Has resolved ids) → IsClosed view t
+pub closed_of_complete : (view : View) (resolved : List (List TxnId)) (done : List TxnId) (t : TxnId) → AllIn (IsClosed view) done
+    → AllIn (AllIn (IsClosed view)) resolved → IsComplete view t → ((u : TxnId) → Precedes view u t → Has done u)
+    → ((ids : List TxnId) → IsClass view t ids → 2 ≤ length ids → Has resolved ids) → IsClosed view t
 closed_of_complete view resolved done t closed known complete preceders settled u r = at (either_id u t) (reach_decided view t u)
   where
     at : Either (u ≡ t) → Either (Reaches view t u) → IsComplete view u
@@ -102,5 +106,9 @@ closed_of_complete view resolved done t closed known complete preceders settled 
         complete_of_closed view u (all_get (IsClosed view) c.0 (all_get (AllIn (IsClosed view)) resolved known c.0 h) u ((c.1.members u).1 (r, back)))
 
 -- so it is executable, if it is not done
-pub executable_of_complete : (view : View) (resolved : List (List TxnId)) (done : List TxnId) (t : TxnId) → AllIn (IsClosed view) done → AllIn (AllIn (IsClosed view)) resolved → IsComplete view t → ¬ (Has done t) → ((u : TxnId) → Precedes view u t → Has done u) → ((ids : List TxnId) → IsClass view t ids → 2 ≤ length ids → Has resolved ids) → IsExecutable view resolved done t
-executable_of_complete view resolved done t closed known complete waiting preceders settled = record { closed = closed_of_complete view resolved done t closed known complete preceders settled; waiting = waiting; preceders = preceders; settled = settled }
+pub executable_of_complete : (view : View) (resolved : List (List TxnId)) (done : List TxnId) (t : TxnId) → AllIn (IsClosed view) done
+    → AllIn (AllIn (IsClosed view)) resolved → IsComplete view t → ¬ (Has done t) → ((u : TxnId) → Precedes view u t → Has done u)
+    → ((ids : List TxnId) → IsClass view t ids → 2 ≤ length ids → Has resolved ids) → IsExecutable view resolved done t
+executable_of_complete view resolved done t closed known complete waiting preceders settled =
+    let whole : IsClosed view t = closed_of_complete view resolved done t closed known complete preceders settled in
+    record { closed = whole; waiting = waiting; preceders = preceders; settled = settled }

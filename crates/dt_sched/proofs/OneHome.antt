@@ -83,7 +83,10 @@ module _ (view : View) (w : IsWellFormed view) (one : HasOneHomeEach view) where
   complete_of_present t there =
       let h : (home : ℕ) × (home < length view) × HasPart (log_at view home) t = any_at _ [] view there in
       let p : (p : Part) × Has (log_at view h.0) p × (p.id ≡ t) = any_get _ (log_at view h.0) h.2 in
-      let parts : HasParts view p.0.homes t = all_put _ p.0.homes (λ home k. subst (λ c. HasPart (log_at view c) t) (only_item p.0.homes h.0 home (all_get _ (log_at view h.0) (one_at h.0) p.0 p.1) (all_get _ (log_at view h.0) (w.homed h.0) p.0 p.1).1 k) h.2) in
+      let one = all_get _ (log_at view h.0) (one_at h.0) p.0 p.1 in
+      let homed = all_get _ (log_at view h.0) (w.homed h.0) p.0 p.1 in
+      let parts : HasParts view p.0.homes t =
+      all_put _ p.0.homes (λ home k. subst (λ c. HasPart (log_at view c) t) (only_item p.0.homes h.0 home one homed.1 k) h.2) in
       any_from_at _ [] view h.0 (λ e. e) (any_put _ (log_at view h.0) p.0 p.1 (p.2, parts))
 
   pub closed_where_present : (t : TxnId) → IsClosed view t ↔ IsPresent view t

@@ -8,7 +8,9 @@ use Rattle.dt_text.specs.Lines.{cut_lines}
 before_end : List ℕ → ℕ
 before_end bs = prefix_len (λ b. not (b == 10)) bs
 
-step : (ends : Bool) (b : ℕ) (bs : List ℕ) (k : ℕ) → (k < length bs → cut_lines bs ≡ take k bs ∷ cut_lines (drop (suc k) bs)) → cond (not ends) (1 + k) 0 < suc (length bs) → cond ends ([] ∷ cut_lines bs) (onto_first b (cut_lines bs)) ≡ take (cond (not ends) (1 + k) 0) (b ∷ bs) ∷ cut_lines (drop (suc (cond (not ends) (1 + k) 0)) (b ∷ bs))
+step : (ends : Bool) (b : ℕ) (bs : List ℕ) (k : ℕ) → (k < length bs → cut_lines bs ≡ take k bs ∷ cut_lines (drop (suc k) bs))
+    → cond (not ends) (1 + k) 0 < suc (length bs)
+    → cond ends ([] ∷ cut_lines bs) (onto_first b (cut_lines bs)) ≡ take (cond (not ends) (1 + k) 0) (b ∷ bs) ∷ cut_lines (drop (suc (cond (not ends) (1 + k) 0)) (b ∷ bs))
 step true b bs k ih h = refl
 step false b bs k ih h =
     let e : 1 + k ≡ suc k = omega arith in

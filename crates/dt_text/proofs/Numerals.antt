@@ -42,7 +42,8 @@ pub digit_value_is : (c : ℕ) → 48 ≤ c → c ≤ 57 → digit_value c ≡ c
 digit_value_is c low high = grind (arith, nat_tests)
 
 -- digits that go on with a digit, and the number that they write
-pub goes_on : (bs : List ℕ) (i : ℕ) → i < length bs → AllDigits 10 (take i bs) → IsInRange 48 57 (get_or bs i 0) → AllDigits 10 (take (i + 1) bs) × (digits_value 10 (take i bs) * 10 + (get_or bs i 0 - 48) ≡ digits_value 10 (take (i + 1) bs))
+pub goes_on : (bs : List ℕ) (i : ℕ) → i < length bs → AllDigits 10 (take i bs) → IsInRange 48 57 (get_or bs i 0)
+    → AllDigits 10 (take (i + 1) bs) × (digits_value 10 (take i bs) * 10 + (get_or bs i 0 - 48) ≡ digits_value 10 (take (i + 1) bs))
 goes_on bs i within before digit =
     let is = digit_value_is (get_or bs i 0) digit.0 digit.1 in
     (digits_more 10 bs i within before (omega (arith, is)), omega (arith, is, digits_value_more 10 bs i within))

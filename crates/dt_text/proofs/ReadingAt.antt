@@ -1,5 +1,6 @@
 -- What the words from a place of a line on are, by the byte at that place of the line.
-use Rattle.std.proofs.Common.{◌≡◌, ◌≢◌, ℕ, ◌+◌, ◌<◌, ◌≤◌, Bool, true, false, cond, ◌==◌, ◌||◌, ◌&&◌, nat_lt, List, [], ◌∷◌, ◌++◌, length, get_or, drop, Option, Some, None, refl, sym, ◌∙◌, ap, arith, add-one, drop-cons, append_assoc, append-nil}
+use Rattle.std.proofs.Common.{◌≡◌, ◌≢◌, ℕ, ◌+◌, ◌<◌, ◌≤◌, Bool, true, false, cond, ◌==◌, ◌||◌, ◌&&◌, nat_lt, List, []}
+use Rattle.std.proofs.Common.{◌∷◌, ◌++◌, length, get_or, drop, Option, Some, None, refl, sym, ◌∙◌, ap, arith, add-one, drop-cons, append_assoc, append-nil}
 use Rattle.std.specs.Option.{option_map}
 use Rattle.std.proofs.lemmas.Bool.Decides.{nat_tests}
 use Rattle.std.proofs.lemmas.Grind.{common_steps}
@@ -77,7 +78,8 @@ cut_item line at inside escape last = λ text.
     let past : length line ≤ at + 1 = omega arith in
     rw (from_place line at inside) (step.text_escape text at _ _ escape ∙ rw (past_end line (at + 1) past) (step.escape_end text (at + 1)))
 
-escaped : (line text : List ℕ) (at : ℕ) → at + 1 < length line → get_or line at 0 ≡ 92 → text_from text at (drop at line) ≡ cond ((get_or line (at + 1) 0 == 34 || get_or line (at + 1) 0 == 92) && nat_lt (length text) 256) (text_from (text ++ get_or line (at + 1) 0 ∷ []) (at + 1 + 1) (drop (at + 1 + 1) line)) None
+escaped : (line text : List ℕ) (at : ℕ) → at + 1 < length line → get_or line at 0 ≡ 92
+    → text_from text at (drop at line) ≡ cond ((get_or line (at + 1) 0 == 34 || get_or line (at + 1) 0 == 92) && nat_lt (length text) 256) (text_from (text ++ get_or line (at + 1) 0 ∷ []) (at + 1 + 1) (drop (at + 1 + 1) line)) None
 escaped line text at inside escape =
     let here : at < length line = omega arith in
     rw (from_place line at here) (step.text_escape text at _ _ escape ∙ rw (from_place line (at + 1) inside) (step.escape_more text (at + 1) _ _))
@@ -91,7 +93,8 @@ pub bad_escape : (line : List ℕ) (at : ℕ) → at + 1 < length line → get_o
 bad_escape line at inside escape which = λ text. escaped line text at inside escape ∙ rw which refl
 
 -- a text word, from its first `"` to its last
-pub text_word_at : (line text : List ℕ) (at close : ℕ) (found : Option (Word × ℕ)) → at < close → close < length line → get_or line close 0 ≡ 34 → IsStr text → words_from at (drop at line) ≡ text_from text close (drop close line) → TextEndsAt line text (close + 1) found → WordAt line at found
+pub text_word_at : (line text : List ℕ) (at close : ℕ) (found : Option (Word × ℕ)) → at < close → close < length line → get_or line close 0 ≡ 34 → IsStr text
+    → words_from at (drop at line) ≡ text_from text close (drop close line) → TextEndsAt line text (close + 1) found → WordAt line at found
 text_word_at line text at close None after inside quote allowed begun ended = begun ∙ (text_closes line text close inside quote ∙ ended)
 text_word_at line text at close (Some (word, end)) after inside quote allowed begun (is, there, ended) =
     rw (is, there) (omega arith, omega arith, allowed, begun ∙ (text_closes line text close inside quote ∙ ended))
@@ -110,7 +113,9 @@ unfolding words_of
 words_begin line found at none gap = rw (none, joined_none) (sym gap)
 
 -- one word more is found, and only spaces stand between it and the place
-pub words_go_on : (line : List ℕ) (found : List Word) (word : Word) (all : Option (List Word)) (at end next : ℕ) → option_map (λ ws. found ++ ws) (words_from at (drop at line)) ≡ all → words_from at (drop at line) ≡ with_word word (words_from end (drop end line)) → words_from end (drop end line) ≡ words_from next (drop next line) → option_map (λ ws. (found ++ word ∷ []) ++ ws) (words_from next (drop next line)) ≡ all
+pub words_go_on : (line : List ℕ) (found : List Word) (word : Word) (all : Option (List Word)) (at end next : ℕ)
+    → option_map (λ ws. found ++ ws) (words_from at (drop at line)) ≡ all → words_from at (drop at line) ≡ with_word word (words_from end (drop end line))
+    → words_from end (drop end line) ≡ words_from next (drop next line) → option_map (λ ws. (found ++ word ∷ []) ++ ws) (words_from next (drop next line)) ≡ all
 words_go_on line found word all at end next before one gap =
     joined_more found word (words_from next (drop next line)) ∙ (ap (λ ws. option_map (λ vs. found ++ vs) (with_word word ws)) (sym gap) ∙ (ap (λ ws. option_map (λ vs. found ++ vs) ws) (sym one) ∙ before))
 

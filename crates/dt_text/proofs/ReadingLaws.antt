@@ -206,7 +206,8 @@ sound_gap b bs rest at words found = by_tests (b == 32) (b == 34) (is_visible b)
         cc
 
 -- a bare word ends here
-bare_ends : (from at : ℕ) (bs : List ℕ) (words : List Word) → MayFollowWord bs → ((words : List Word) → words_from at bs ≡ Some words → AreWordsFrom at bs words) → with_word (Bare from at) (words_from at bs) ≡ Some words → BareMeans from at bs words
+bare_ends : (from at : ℕ) (bs : List ℕ) (words : List Word) → MayFollowWord bs → ((words : List Word) → words_from at bs ≡ Some words → AreWordsFrom at bs words)
+    → with_word (Bare from at) (words_from at bs) ≡ Some words → BareMeans from at bs words
 bare_ends from at bs words may gap found =
     let given = with_word_gives (Bare from at) (words_from at bs) words found in
     let zero_more : at ≡ at + 0 = omega arith in
@@ -232,7 +233,9 @@ sound_bare b bs rest from at words found = by_tests (b == 32) (is_visible b) ref
         cc
 
 -- a text word has ended
-text_over : (text : List ℕ) (at : ℕ) (bs : List ℕ) (words : List Word) → MayFollowWord bs → ((words : List Word) → words_from at bs ≡ Some words → AreWordsFrom at bs words) → with_word (Text text) (words_from at bs) ≡ Some words → AfterMeans text at bs words
+text_over : (text : List ℕ) (at : ℕ) (bs : List ℕ) (words : List Word) → MayFollowWord bs
+    → ((words : List Word) → words_from at bs ≡ Some words → AreWordsFrom at bs words) → with_word (Text text) (words_from at bs) ≡ Some words
+    → AfterMeans text at bs words
 text_over text at bs words may gap found =
     let given = with_word_gives (Text text) (words_from at bs) words found in
     subst (AfterMeans text at bs) (sym given.1) (refl, may, gap given.0 given.2)

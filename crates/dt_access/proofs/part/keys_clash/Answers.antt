@@ -20,12 +20,16 @@ pub returns-then-is_write : goal.returns-then-is_write
 returns-then-is_write c =
     let i = c.loop-left_key.invariant in
     let found = clash-found _ _ _ _ _ _ c.in-Some.ensures.cases.0 c.in-Some-split_first.ensures.cases.0 i.0 i.1 (sym c.cmp.ensures ∙ c.in-Equal.is) in
-    found (elim c.then-is_write.branch [ then-is_write-via-then-is_write w ↦ or_left _ _ (sym c.is_write.ensures ∙ w.if-is_write.true) | then-is_write-via-else-is_write+then-is_write-2 w ↦ or_right _ _ (sym w.is_write-else-is_write.ensures ∙ w.if-is_write-2.true) ]) ∙ i.2
+    found (elim c.then-is_write.branch [
+      | then-is_write-via-then-is_write w ↦ or_left _ _ (sym c.is_write.ensures ∙ w.if-is_write.true)
+      | then-is_write-via-else-is_write+then-is_write-2 w ↦ or_right _ _ (sym w.is_write-else-is_write.ensures ∙ w.if-is_write-2.true)
+    ]) ∙ i.2
 
 pub loop-left_key-preserved : goal.loop-left_key-preserved
 loop-left_key-preserved c =
     let i = c.loop-left_key.invariant in
-    let s = clash-equal _ _ _ _ _ _ c.in-Some.ensures.cases.0 c.in-Some-split_first.ensures.cases.0 i.0 i.1 (sym c.cmp.ensures ∙ c.in-Equal.is) (or_from _ _ (sym c.is_write.ensures ∙ c.if-is_write.false) (sym c.is_write-else-is_write.ensures ∙ c.if-is_write-2.false)) in
+    let reads = or_from _ _ (sym c.is_write.ensures ∙ c.if-is_write.false) (sym c.is_write-else-is_write.ensures ∙ c.if-is_write-2.false) in
+    let s = clash-equal _ _ _ _ _ _ c.in-Some.ensures.cases.0 c.in-Some-split_first.ensures.cases.0 i.0 i.1 (sym c.cmp.ensures ∙ c.in-Equal.is) reads in
     (s.0, s.1, s.2 ∙ i.2)
 
 pub returns-in_default-split_first : goal.returns-in_default-split_first

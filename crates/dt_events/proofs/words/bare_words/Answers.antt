@@ -6,7 +6,9 @@ use Rattle.dt_events.proofs.words.bare_words.Goals as goal
 
 pub returns-in-Some-clause-exact : goal.returns-in-Some-clause-exact
 returns-in-Some-clause-exact c =
-    IfOk-weaker c.bytes_of_words.result _ _ (λ found h. bare_answer c.args.line.now c.as_slice.result.now (λ v. spelled v.items) found (sym c.in_ok-words.ensures.exact ∙ c.in-Some.is ∙ ap (λ w. Some w) (sym c.as_slice.ensures)) h) c.bytes_of_words.ensures.exact
+    let are = sym c.in_ok-words.ensures.exact ∙ c.in-Some.is ∙ ap (λ w. Some w) (sym c.as_slice.ensures) in
+    IfOk-weaker c.bytes_of_words.result _ _
+    (λ found h. bare_answer c.args.line.now c.as_slice.result.now (λ v. spelled v.items) found are h) c.bytes_of_words.ensures.exact
 
 pub returns-in-None-clause-exact : goal.returns-in-None-clause-exact
 returns-in-None-clause-exact c =

@@ -4,7 +4,7 @@ use Rattle.dt_text.proofs.word.read_text.Goals as goal
 
 pub loop-end-init : goal.loop-end-init
 loop-end-init c =
-    rw c.new-text.ensures
+    rw c.empty-text.ensures
     record {
       after = omega arith;
       inside = omega arith;
