@@ -23,6 +23,7 @@ use Rattle.dt_syntax.specs.Grammar.{Syntax, chain, minus, denial, int, text, tru
 use Rattle.dt_syntax.specs.Grammar.{reads_int, reads_text, reads_presence, Maker, makes_length, makes_text, Bracketed, Param, Params, no_param, params, KeyPart}
 use Rattle.dt_syntax.specs.Grammar.{text_part, name_part, show_part, KeySyntax, Item, row_item, value_item, Statement, let_new, set_key, clear_key, when}
 use Rattle.dt_syntax.specs.Grammar.{choose, abort, give, Statements, nothing, first, ProcSyntax, front_place, param_kinds}
+use Rattle.dt_syntax.specs.Grammar.{is_join}
 
 -- a value, or the first fault
 abbrev pub Checked : Type 0 → Type 0

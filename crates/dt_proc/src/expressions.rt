@@ -9,6 +9,7 @@ ghost use Rattle.dt_proc.specs.Sound as sound;
 ghost use Rattle.dt_proc.specs.SecondPass.{after_ok};
 ghost use Rattle.dt_proc.specs.SecondPass as checked;
 ghost use Rattle.dt_proc.specs.WalkInner as walked;
+ghost use Rattle.dt_syntax.specs.FrontsInner as fronts;
 ghost use Rattle.dt_proc.specs.TreeViews.{expr_tree};
 ghost use Rattle.dt_proc.specs.Tree as tree;
 
@@ -48,7 +49,7 @@ pub(crate) fn expression<'a>(
 ) -> Result<(Expr, Sort, &'a [Placed]), ProcError>
     requires { level ≤ 6 }
     ensures shorter { IfOk result (λ r. length r.2.now < length tokens.now) }
-    ensures right { (x : Syntax) (rest : List Placed) → IsLevel level x → walked.FrontStops level rest → syntax_tokens x ++ rest ≡ tokens.now
+    ensures right { (x : Syntax) (rest : List Placed) → IsLevel level x → fronts.FrontStops level rest → syntax_tokens x ++ rest ≡ tokens.now
         → walked.WalkAnswers (checked.check scope.now x) rest (walked.expr_shown result) }
 {
     if level >= 5 {
@@ -70,7 +71,7 @@ fn links<'a>(
 ) -> Result<(Expr, Sort, &'a [Placed]), ProcError>
     requires { level < 5 }
     ensures shorter { IfOk result (λ r. length r.2.now ≤ length tokens.now) }
-    ensures right { (ls : Links) (rest : List Placed) → AreLinks level ls → walked.FrontStops level rest → links_tokens ls ++ rest ≡ tokens.now
+    ensures right { (ls : Links) (rest : List Placed) → AreLinks level ls → fronts.FrontStops level rest → links_tokens ls ++ rest ≡ tokens.now
         → walked.WalkAnswers (checked.check_links scope.now (expr_tree left, sort) ls) rest (walked.expr_shown result) }
 {
     let Some((place, op, after)) = operator(tokens, level) else {
@@ -121,7 +122,7 @@ fn operand<'a>(
     requires low { 5 ≤ level }
     requires high { level ≤ 6 }
     ensures shorter { IfOk result (λ r. length r.2.now < length tokens.now) }
-    ensures right { (x : Syntax) (rest : List Placed) → IsLevel level x → walked.FrontStops level rest → syntax_tokens x ++ rest ≡ tokens.now
+    ensures right { (x : Syntax) (rest : List Placed) → IsLevel level x → fronts.FrontStops level rest → syntax_tokens x ++ rest ≡ tokens.now
         → walked.WalkAnswers (checked.check scope.now x) rest (walked.expr_shown result) }
 {
     let [first, rest @ ..] = tokens else {
@@ -266,7 +267,7 @@ fn opposite<'a>(
     tokens: &'a [Placed],
 ) -> Result<(Expr, Sort, &'a [Placed]), ProcError>
     ensures shorter { IfOk result (λ r. length r.2.now < length tokens.now) }
-    ensures right { (x : Syntax) (rest : List Placed) → IsLevel 6 x → walked.FrontStops 6 rest → syntax_tokens x ++ rest ≡ tokens.now
+    ensures right { (x : Syntax) (rest : List Placed) → IsLevel 6 x → fronts.FrontStops 6 rest → syntax_tokens x ++ rest ≡ tokens.now
         → walked.WalkAnswers (checked.check scope.now (denial place x)) rest (walked.expr_shown result) }
 {
     let (expr, sort, rest) = expression(alloc, scope, tokens, 6)?;
@@ -286,7 +287,7 @@ fn negative<'a>(
     tokens: &'a [Placed],
 ) -> Result<(Expr, Sort, &'a [Placed]), ProcError>
     ensures shorter { IfOk result (λ r. length r.2.now < length tokens.now) }
-    ensures right { (x : Syntax) (rest : List Placed) → IsLevel 6 x → walked.FrontStops 6 rest → syntax_tokens x ++ rest ≡ tokens.now
+    ensures right { (x : Syntax) (rest : List Placed) → IsLevel 6 x → fronts.FrontStops 6 rest → syntax_tokens x ++ rest ≡ tokens.now
         → walked.WalkAnswers (checked.check scope.now (minus place x)) rest (walked.expr_shown result) }
 {
     let (expr, sort, rest) = expression(alloc, scope, tokens, 6)?;

@@ -11,6 +11,7 @@ ghost use Rattle.dt_syntax.specs.declared.kinds.Kind.{Kind};
 ghost use Rattle.dt_proc.specs.SecondPass.{after_ok};
 ghost use Rattle.dt_proc.specs.SecondPass as checked;
 ghost use Rattle.dt_proc.specs.WalkInner as walked;
+ghost use Rattle.dt_syntax.specs.FrontsInner as fronts;
 
 use crate::error::ProcError;
 use crate::fronts::{BROKEN, after_join, after_one, bracketed, named};
@@ -94,7 +95,7 @@ fn more_parts<'a>(
     tokens: &'a [Placed],
 ) -> Result<&'a [Placed], ProcError>
     ensures shorter { IfOk result (λ r. length r.now < length tokens.now) }
-    ensures right { (more : List (ℕ × syn.KeyPart)) (e : ℕ) (rest : List Placed) → flat_map walked.joined_part more ++ at e tok.Semicolon ∷ rest ≡ tokens.now
+    ensures right { (more : List (ℕ × syn.KeyPart)) (e : ℕ) (rest : List Placed) → flat_map fronts.joined_part more ++ at e tok.Semicolon ∷ rest ≡ tokens.now
         → walked.WalkAnswers (after_ok (checked.check_parts scope.now more) (λ is. Ok (items.old ++ is))) rest (walked.left_with items.new result) }
 {
     match after_join(tokens) {
@@ -119,7 +120,7 @@ fn key<'a>(
     ensures shorter { IfOk result (λ r. length r.now < length tokens.now) }
     ensures room { IfOk result (λ r. walked.KeepsRoom scope.old tokens.now scope.new r.now) }
     ensures right { (k : syn.KeySyntax) (rest : List Placed) → k.write ≡ write
-        → at k.name_at (tok.Name k.name) ∷ at k.is_at tok.Is ∷ (syn.part_tokens k.first ++ (flat_map walked.joined_part k.more ++ at k.end_at tok.Semicolon ∷ rest)) ≡ tokens.now
+        → at k.name_at (tok.Name k.name) ∷ at k.is_at tok.Is ∷ (syn.part_tokens k.first ++ (flat_map fronts.joined_part k.more ++ at k.end_at tok.Semicolon ∷ rest)) ≡ tokens.now
         → walked.WalkAnswers (walked.key_told scope.old keys.old k) rest (walked.left_with_both scope.new keys.new result) }
 {
     let (place, name, rest) = named(tokens)?;

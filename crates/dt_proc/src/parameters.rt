@@ -10,6 +10,7 @@ ghost use Rattle.dt_proc.specs.Sound.{sort_of};
 ghost use Rattle.dt_syntax.specs.declared.kinds.Kind.{Kind};
 ghost use Rattle.dt_proc.specs.SecondPass as checked;
 ghost use Rattle.dt_proc.specs.WalkInner as walked;
+ghost use Rattle.dt_syntax.specs.FrontsInner as fronts;
 
 use crate::error::ProcError;
 use crate::fronts::{BROKEN, after_close, after_comma, after_one, named};
@@ -78,7 +79,7 @@ fn more_params<'a>(
     requires room { walked.HasRoom scope.old tokens.now }
     ensures shorter { IfOk result (λ r. length r.now < length tokens.now) }
     ensures room { IfOk result (λ r. walked.KeepsRoom scope.old tokens.now scope.new r.now) }
-    ensures right { (more : List (ℕ × syn.Param)) (q : ℕ) (rest : List Placed) → flat_map walked.comma_param more ++ at q tok.Close ∷ rest ≡ tokens.now
+    ensures right { (more : List (ℕ × syn.Param)) (q : ℕ) (rest : List Placed) → flat_map fronts.comma_param more ++ at q tok.Close ∷ rest ≡ tokens.now
         → walked.WalkAnswers (checked.check_more_params scope.old more) rest (walked.left_with scope.new result)
         × OnOk result (kinds.new ≡ kinds.old ++ map (λ m. m.1.kind) more) }
 {

@@ -11,6 +11,7 @@ ghost use Rattle.dt_proc.specs.Names as names;
 ghost use Rattle.dt_proc.specs.SecondPass.{after_ok};
 ghost use Rattle.dt_proc.specs.SecondPass as checked;
 ghost use Rattle.dt_proc.specs.WalkInner as walked;
+ghost use Rattle.dt_syntax.specs.FrontsInner as fronts;
 ghost use Rattle.dt_proc.specs.Tree as tree;
 ghost use Rattle.dt_proc.specs.TreeViews.{expr_tree};
 
@@ -43,7 +44,7 @@ fn value_of<'a>(
     tokens: &'a [Placed],
 ) -> Result<(Give, &'a [Placed]), ProcError>
     ensures shorter { IfOk result (λ r. length r.1.now < length tokens.now) }
-    ensures right { (x : Syntax) (rest : List Placed) → IsLevel 0 x → walked.FrontStops 0 rest → syntax_tokens x ++ rest ≡ tokens.now
+    ensures right { (x : Syntax) (rest : List Placed) → IsLevel 0 x → fronts.FrontStops 0 rest → syntax_tokens x ++ rest ≡ tokens.now
         → walked.WalkAnswers (after_ok (checked.check scope.now x) (λ a. checked.needs_stored place a (tree.value a.0))) rest (walked.gift_shown result) }
 {
     match expression(alloc, scope, tokens, 0) {
@@ -61,7 +62,7 @@ fn item<'a>(
     tokens: &'a [Placed],
 ) -> Result<(Give, &'a [Placed]), ProcError>
     ensures shorter { IfOk result (λ r. length r.1.now < length tokens.now) }
-    ensures right { (i : syn.Item) (rest : List Placed) → syn.IsItem i → walked.FrontStops 0 rest → syn.item_tokens i ++ rest ≡ tokens.now
+    ensures right { (i : syn.Item) (rest : List Placed) → syn.IsItem i → fronts.FrontStops 0 rest → syn.item_tokens i ++ rest ≡ tokens.now
         → walked.WalkAnswers (checked.check_item scope.now i) rest (walked.gift_shown result) }
 {
     let [first, rest @ ..] = tokens else {
@@ -230,7 +231,7 @@ pub(crate) fn block<'a>(
 
 /// Whether a `}` comes first, or nothing.
 fn is_end(tokens: &[Placed]) -> bool
-    ensures { walked.EndsBlock tokens.now result }
+    ensures { fronts.EndsBlock tokens.now result }
 {
     match tokens {
         [first, ..] => matches!(&first.token, Token::End),
@@ -248,7 +249,7 @@ fn step<'a>(
     requires room { walked.HasRoom scope.old tokens.now }
     ensures shorter { IfOk result (λ r. length r.1.now < length tokens.now) }
     ensures room { IfOk result (λ r. walked.KeepsRoom scope.old tokens.now scope.new r.1.now) }
-    ensures right { (s : syn.Statement) (rest : List Placed) → syn.IsStatement s → walked.NoElse rest → syn.statement_tokens s ++ rest ≡ tokens.now
+    ensures right { (s : syn.Statement) (rest : List Placed) → syn.IsStatement s → fronts.NoElse rest → syn.statement_tokens s ++ rest ≡ tokens.now
         → walked.WalkAnswers (checked.check_statement scope.old s) rest (walked.step_shown scope.new result) }
 {
     let [first, rest @ ..] = tokens else {
@@ -276,7 +277,7 @@ fn if_step<'a>(
     requires room { walked.HasRoom scope.old tokens.now }
     ensures shorter { IfOk result (λ r. length r.1.now < length tokens.now) }
     ensures room { IfOk result (λ r. walked.KeepsRoom scope.old tokens.now scope.new r.1.now) }
-    ensures one { (x : Syntax) (b : ℕ) (ss : syn.Statements) (e : ℕ) (rest : List Placed) → IsLevel 0 x → syn.AreStatements ss → walked.NoElse rest
+    ensures one { (x : Syntax) (b : ℕ) (ss : syn.Statements) (e : ℕ) (rest : List Placed) → IsLevel 0 x → syn.AreStatements ss → fronts.NoElse rest
         → syntax_tokens x ++ at b tok.Begin ∷ (syn.statements_tokens ss ++ at e tok.End ∷ rest) ≡ tokens.now
         → walked.WalkAnswers (checked.check_statement scope.old (syn.when word x b ss e)) rest (walked.step_shown scope.new result) }
     ensures two { (x : Syntax) (b : ℕ) (ss : syn.Statements) (e w o : ℕ) (rs : syn.Statements) (f : ℕ) (rest : List Placed) → IsLevel 0 x
@@ -304,7 +305,7 @@ fn branches<'a>(
     requires room { walked.HasRoom scope.old tokens.now }
     ensures shorter { IfOk result (λ r. length r.1.now < length tokens.now) }
     ensures room { IfOk result (λ r. walked.KeepsRoom scope.old tokens.now scope.new r.1.now) }
-    ensures one { (ss : syn.Statements) (e : ℕ) (rest : List Placed) → syn.AreStatements ss → walked.NoElse rest
+    ensures one { (ss : syn.Statements) (e : ℕ) (rest : List Placed) → syn.AreStatements ss → fronts.NoElse rest
         → syn.statements_tokens ss ++ at e tok.End ∷ rest ≡ tokens.now
         → walked.WalkAnswers (checked.one_block scope.old (expr_tree test) (checked.check_block scope.old ss)) rest (walked.step_shown scope.new result) }
     ensures two { (ss : syn.Statements) (e w o : ℕ) (rs : syn.Statements) (f : ℕ) (rest : List Placed) → syn.AreStatements ss → syn.AreStatements rs
