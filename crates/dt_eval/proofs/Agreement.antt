@@ -8,7 +8,7 @@ use Rattle.dt_access.specs.Clash.{Bytes}
 use Rattle.dt_text.specs.declared.Value.{Value}
 use Rattle.dt_text.specs.declared.Value.TheVariants as val
 use Rattle.dt_proc.specs.declared.tree.KeyDecl.{KeyDecl}
-use Rattle.dt_proc.specs.declared.tree.Op.{Op}
+use Rattle.dt_syntax.specs.declared.operator.Op.{Op}
 use Rattle.dt_proc.specs.declared.tree.Sort.{Sort}
 use Rattle.dt_proc.specs.declared.tree.Sort.TheVariants as sort
 use Rattle.dt_proc.specs.Tree.{ExprTree, number, text, truth, variable, number_of, text_of, has_value, length_of, shown, negative, opposite, binary, GiveTree}

@@ -21,8 +21,8 @@ use Rattle.dt_access.specs.declared.Mode.TheVariants.{Read, Write}
 use Rattle.dt_proc.specs.declared.tree.KeyDecl.{KeyDecl}
 use Rattle.dt_proc.specs.declared.tree.KeyItem.{KeyItem}
 use Rattle.dt_proc.specs.declared.tree.KeyItem.TheVariants as item
-use Rattle.dt_proc.specs.declared.tree.Kind.{Kind}
-use Rattle.dt_proc.specs.declared.tree.Kind.TheVariants as kind
+use Rattle.dt_syntax.specs.declared.kinds.Kind.{Kind}
+use Rattle.dt_syntax.specs.declared.kinds.Kind.TheVariants as kind
 use Rattle.dt_proc.specs.Sound.{IsSoundProc, IsSoundItem}
 use Rattle.dt_proc.specs.Tree.{ProcTree}
 use Rattle.dt_eval.specs.FrameInner.{IsItemWithin}

@@ -13,8 +13,8 @@ use Rattle.std.proofs.lemmas.Bool.Decides.{Decides-int_eq, Decides-ltb, Decides-
 use Rattle.std.proofs.lemmas.Option.{slice_get-map}
 use Rattle.dt_access.specs.Clash.{Bytes, same_key}
 use Rattle.dt_access.specs.Orders.{KeyBefore}
-use Rattle.dt_proc.specs.declared.tree.Op.{Op}
-use Rattle.dt_proc.specs.declared.tree.Op.TheVariants.{Or, And, Equal, Differ, Less, AtMost, More, AtLeast, Add, Sub, Join, Mul, Div, Rem}
+use Rattle.dt_syntax.specs.declared.operator.Op.{Op}
+use Rattle.dt_syntax.specs.declared.operator.Op.TheVariants.{Or, And, Equal, Differ, Less, AtMost, More, AtLeast, Add, Sub, Join, Mul, Div, Rem}
 use Rattle.dt_proc.specs.declared.tree.Sort.{Sort}
 use Rattle.dt_proc.specs.declared.tree.Sort.TheVariants as sort
 use Rattle.dt_proc.specs.Sound.{TakesSort}

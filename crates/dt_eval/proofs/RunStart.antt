@@ -19,8 +19,8 @@ use Rattle.dt_access.specs.Clash.{Bytes, same_key}
 use Rattle.dt_access.specs.Orders.{KeyBefore}
 use Rattle.dt_access.specs.declared.Mode.{Mode}
 use Rattle.dt_proc.specs.declared.tree.KeyDecl.{KeyDecl}
-use Rattle.dt_proc.specs.declared.tree.Kind.{Kind}
-use Rattle.dt_proc.specs.declared.tree.Kind.TheVariants as kind
+use Rattle.dt_syntax.specs.declared.kinds.Kind.{Kind}
+use Rattle.dt_syntax.specs.declared.kinds.Kind.TheVariants as kind
 use Rattle.dt_proc.specs.Tree.{ProcTree}
 use Rattle.dt_proc.specs.Sound.{IsSoundProc, AreSound, sort_of}
 use Rattle.dt_eval.specs.declared.frame.Frame.{Frame}

@@ -8,8 +8,8 @@ use Rattle.dt_text.specs.declared.Value.TheVariants as val
 use Rattle.dt_access.specs.Clash.{Bytes}
 use Rattle.dt_proc.specs.declared.tree.Sort.{Sort}
 use Rattle.dt_proc.specs.declared.tree.Sort.TheVariants as sort
-use Rattle.dt_proc.specs.declared.tree.Op.{Op}
-use Rattle.dt_proc.specs.declared.tree.Op.TheVariants.{Or, And, Equal, Differ, Less, AtMost, More, AtLeast, Add, Sub, Join, Mul, Div, Rem}
+use Rattle.dt_syntax.specs.declared.operator.Op.{Op}
+use Rattle.dt_syntax.specs.declared.operator.Op.TheVariants.{Or, And, Equal, Differ, Less, AtMost, More, AtLeast, Add, Sub, Join, Mul, Div, Rem}
 use Rattle.dt_proc.specs.Tree.{ExprTree, number, text, truth, variable, number_of, text_of, has_value, length_of, shown, negative, opposite, binary}
 use Rattle.dt_proc.specs.Sound.{HasSort, sort_given}
 use Rattle.dt_eval.specs.declared.finish.Cause.{Cause}

@@ -9,8 +9,8 @@ use Rattle.dt_access.specs.Clash.{Bytes}
 use Rattle.dt_access.specs.Orders.{KeyBefore}
 use Rattle.dt_text.specs.declared.Value.{Value}
 use Rattle.dt_text.specs.declared.Value.TheVariants as val
-use Rattle.dt_proc.specs.declared.tree.Op.{Op}
-use Rattle.dt_proc.specs.declared.tree.Op.TheVariants.{Or, And, Equal, Differ, Less, AtMost, More, AtLeast, Add, Sub, Join, Mul, Div, Rem}
+use Rattle.dt_syntax.specs.declared.operator.Op.{Op}
+use Rattle.dt_syntax.specs.declared.operator.Op.TheVariants.{Or, And, Equal, Differ, Less, AtMost, More, AtLeast, Add, Sub, Join, Mul, Div, Rem}
 use Rattle.dt_proc.specs.Tree.{ExprTree, number, text, truth, variable, number_of, text_of, has_value, length_of, shown, negative, opposite, binary, GiveTree}
 use Rattle.dt_proc.specs.Tree.{row, value, StmtTree, let_new, set_row, clear_row, choose, abort_with, give_all, BlockTree, done, then, ProcTree}
 use Rattle.dt_eval.specs.declared.finish.Cause.{Cause}

@@ -2,7 +2,7 @@
 use Rattle.std.specs.Prelude.{◌≡◌, ◌<◌, ℕ, ℤ, Bool, List, map, length, slice_index_or, [], Option, Some, None, Result, Ok, Err}
 use Rattle.dt_proc.specs.declared.tree.KeyItem.{KeyItem}
 use Rattle.dt_proc.specs.declared.tree.KeyItem.TheVariants as item
-use Rattle.dt_proc.specs.declared.tree.Op.{Op}
+use Rattle.dt_syntax.specs.declared.operator.Op.{Op}
 use Rattle.dt_proc.specs.declared.tree.Sort.{Sort}
 use Rattle.dt_proc.specs.Sound.{TakesSort, HasSort, AreSound}
 use Rattle.dt_proc.specs.Tree.{ExprTree, StmtTree, BlockTree, then, done}

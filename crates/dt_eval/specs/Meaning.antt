@@ -6,8 +6,8 @@ use Rattle.dt_lists.specs.Lists.{Pairwise}
 use Rattle.dt_text.specs.declared.Value.{Value}
 use Rattle.dt_text.specs.declared.Value.TheVariants as val
 use Rattle.dt_access.specs.Clash.{Bytes}
-use Rattle.dt_proc.specs.declared.tree.Kind.{Kind}
-use Rattle.dt_proc.specs.declared.tree.Kind.TheVariants as kind
+use Rattle.dt_syntax.specs.declared.kinds.Kind.{Kind}
+use Rattle.dt_syntax.specs.declared.kinds.Kind.TheVariants as kind
 use Rattle.dt_proc.specs.Tree.{ProcTree}
 use Rattle.dt_eval.specs.declared.finish.Cause.{Cause}
 use Rattle.dt_eval.specs.declared.finish.Finish.{Finish}
