@@ -8,7 +8,7 @@ use Rattle.dt_outside.specs.Files.{Files}
 use Rattle.dt_lists.specs.Lists.{Pairwise}
 use Rattle.dt_events.specs.declared.Event.{Event}
 use Rattle.dt_events.specs.Events.{FirstWithoutForm, IsNumberedEvent}
-use Rattle.dt_events.proofs.ReadBack.{one_event}
+use Rattle.dt_events.proofs.Callers.{one_event}
 use Rattle.dt_cluster.specs.declared.Cluster.{Cluster}
 use Rattle.dt_cluster.specs.declared.ClusterFault.{ClusterFault}
 use Rattle.dt_cluster.specs.Builtin.{builtin_cluster}

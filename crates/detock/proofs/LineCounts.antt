@@ -1,7 +1,7 @@
 -- A file has no more events than bytes.
 use Rattle.std.proofs.Common.{ℕ, suc, ◌+◌, ◌≤◌, true, false, cond, ◌==◌, List, [], ◌∷◌, length, arith}
 use Rattle.std.specs.List.{onto_first}
-use Rattle.dt_lists.proofs.Fronts.{pairwise_length}
+use Rattle.dt_lists.proofs.Callers.{pairwise_length}
 use Rattle.dt_text.specs.Lines.{cut_lines, is_skipped, kept_lines, lines_of}
 use Rattle.dt_events.specs.declared.Event.{Event}
 use Rattle.dt_events.specs.Events.{AreEvents, IsNumberedEvent}

@@ -6,7 +6,7 @@ use Rattle.std.specs.Char.{digit_value}
 use Rattle.std.specs.Result.{OkIff, result_ok}
 use Rattle.std.proofs.lemmas.Fmt.{decimal_is_IsNumeral, decimal_injective}
 use Rattle.std.proofs.lemmas.List.Elements.{Contains-append_right}
-use Rattle.dt_lists.proofs.Changes.{same_head, same_tail}
+use Rattle.dt_lists.proofs.Callers.{same_head, same_tail}
 use Rattle.dt_access.specs.declared.id.TxnId.{TxnId}
 use Rattle.dt_access.specs.Ids.{id_text, IsCounted}
 

@@ -1,11 +1,9 @@
 -- Ids: their order is a strict total order and decided, and the tests on them say what they test.
-use Rattle.std.proofs.Common.{◌≡◌, ◌≢◌, ◌⊎◌, true, false, ◌&&◌, List, eqb-true, eq-eqb, sym, subst, ap, arith}
+use Rattle.std.proofs.Common.{◌≡◌, ◌≢◌, ◌⊎◌, true, false, List, eqb-true, eq-eqb, sym, subst, ap, arith}
 use Rattle.std.proofs.lemmas.Bool.{and_parts, and_from, false_from_ne_true}
 use Rattle.std.proofs.lemmas.Bool.Decides.{nat_tests}
 use Rattle.dt_lists.specs.Lists.{Has, Either}
-use Rattle.dt_lists.proofs.Words.{any_map}
-use Rattle.dt_lists.proofs.Tests.{any_of_test, test_of_any}
-use Rattle.dt_lists.proofs.Decided.{either_nat, either_and, either_same}
+use Rattle.dt_lists.proofs.Callers.{any_map, any_of_test, test_of_any, either_nat, either_and, either_same}
 use Rattle.dt_access.specs.Ids.{Before, same_id, is_among}
 use Rattle.dt_access.specs.declared.id.TxnId.{TxnId}
 

@@ -9,7 +9,7 @@ use Rattle.std.specs.Map.{keys_of, lookup}
 use Rattle.std.specs.String.{string_cmp}
 use Rattle.std.specs.Ordering.{match_ordering}
 use Rattle.dt_text.specs.Texts.{first_outside}
-use Rattle.dt_text.proofs.Allowed.{outside_where}
+use Rattle.dt_text.proofs.Callers.{outside_where}
 use Rattle.toml.specs.Data.{Data, string, integer, float, boolean, datetime, array, table, as_str, as_integer, as_table, get_member, same_key, Members}
 use Rattle.toml.specs.View.{view, members_view}
 use Rattle.toml.specs.declared.value.Value.{Value}

@@ -1,15 +1,15 @@
 -- Words of lines and the events that they spell.
-use Rattle.std.proofs.Common.{◌≡◌, ◌≢◌, ℕ, zero, suc, ◌+◌, ◌<◌, ◌≤◌, ◌^◌, Bool, true, false, not, cond, List, [], ◌∷◌, ◌++◌}
-use Rattle.std.proofs.Common.{length, map, get_or, drop, ◌==◌, Option, Some, None, MatchOption, Bor, refl, ap, sym, ◌∙◌, subst, arith, append_assoc, append-nil}
-use Rattle.std.specs.List.{join_with_byte, onto_first}
+use Rattle.std.proofs.Common.{◌≡◌, ◌≢◌, ℕ, zero, suc, ◌+◌, ◌<◌, ◌≤◌, ◌^◌, List, [], ◌∷◌, ◌++◌}
+use Rattle.std.proofs.Common.{length, map, get_or, drop, Option, Some, None, MatchOption, Bor, refl, ap, sym, ◌∙◌, subst, arith, append_assoc, append-nil}
+use Rattle.std.specs.List.{join_with_byte}
 use Rattle.std.proofs.lemmas.Grind.{common_steps}
 use Rattle.std.proofs.lemmas.Option.{same_Some}
 use Rattle.dt_lists.specs.Lists.{Pairwise}
-use Rattle.dt_lists.proofs.Changes.{same_head, same_tail}
+use Rattle.dt_lists.proofs.Callers.{same_head, same_tail}
 use Rattle.dt_text.specs.Reading.{words_of}
 use Rattle.dt_text.specs.Lines.{FileLine}
 use Rattle.dt_text.specs.declared.Word.{Word}
-use Rattle.dt_text.proofs.ReadingLaws.{exact}
+use Rattle.dt_text.proofs.Callers.{exact}
 use Rattle.dt_access.specs.declared.TxnId.{TxnId}
 use Rattle.dt_access.specs.Ids.{IsCounted, id_text}
 use Rattle.dt_events.specs.declared.event.Event.{Event}

@@ -1,13 +1,13 @@
 -- Printed events are read back, and a line is one event.
 use Rattle.std.proofs.Common.{◌≡◌, ◌≢◌, ℕ, ◌+◌, ◌<◌, ◌^◌, Bool, true, false, cond, not, nat_eq, ◌==◌, List, [], ◌∷◌, ◌++◌, length, map, Some, refl, ap, sym, ◌∙◌, subst, arith, append_assoc, length-append}
-use Rattle.std.specs.List.{list_all, join_with_byte, slice_range, flat_map, enumerate_from, onto_first}
+use Rattle.std.specs.List.{list_all, slice_range, flat_map, enumerate_from, onto_first}
 use Rattle.std.specs.Cmp.Lexicographic.{pointwise, bytes_decides}
 use Rattle.std.specs.Char.{digit_value}
 use Rattle.std.specs.Fmt.{decimal}
 use Rattle.std.specs.Str.Parse.{AllDigits}
 use Rattle.std.proofs.lemmas.Bool.{and_from, and_parts, false≢true, not-true}
 use Rattle.std.proofs.lemmas.Bool.Decides.{nat_tests}
-use Rattle.std.proofs.lemmas.Fmt.{decimal_is_IsNumeral, decimal_injective}
+use Rattle.std.proofs.lemmas.Fmt.{decimal_is_IsNumeral}
 use Rattle.std.proofs.lemmas.Grind.{common_steps}
 use Rattle.std.proofs.lemmas.List.Folds.{list_all-append}
 use Rattle.dt_lists.specs.Lists.{AllIn, Pairwise}
@@ -18,14 +18,13 @@ use Rattle.dt_text.specs.declared.Word.{Word}
 use Rattle.dt_text.specs.declared.Word.TheVariants.{Bare}
 use Rattle.dt_access.specs.declared.TxnId.{TxnId}
 use Rattle.dt_access.specs.Ids.{IsCounted, id_text}
-use Rattle.dt_access.proofs.IdTexts.{id_text-injective}
+use Rattle.dt_access.proofs.Callers.{id_text-injective}
 use Rattle.dt_events.specs.declared.event.Event.{Event}
 use Rattle.dt_events.specs.declared.event.Event.TheVariants.{Submit, Append, Deliver, Insert, Resolve, Execute, Answer}
 use Rattle.dt_events.specs.Events.{region_of, kind_word, argument_words, event_words, IsWritten, IsRegion, bare_bytes, AreBareWords, IsEventLine, IsNumberedEvent, AreEvents, event_text, event_line}
 use Rattle.dt_events.specs.Laws.{LinesAreOneEvent, PrintedEventsReadBack}
-use Rattle.dt_text.proofs.Spaced.{spaced, join_spaced}
-use Rattle.dt_text.proofs.Numerals.{same_number}
-use Rattle.dt_lists.proofs.Changes.{same_head, same_tail}
+use Rattle.dt_text.proofs.Callers.{spaced, join_spaced, same_number}
+use Rattle.dt_lists.proofs.Callers.{same_head, same_tail}
 use Rattle.dt_events.proofs.EventWords.{one_line}
 
 -- ---- each word of an event is a bare word

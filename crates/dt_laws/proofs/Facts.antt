@@ -3,9 +3,7 @@
 use Rattle.std.proofs.Common.{◌≡◌, ◌<◌, ◌≤◌, ◌+◌, ℕ, List, length, slice_get, Some, None, refl, sym, ap, subst, ◌∙◌}
 use Rattle.std.specs.Prelude.{Option, option_map, unwrap_or, slice_index}
 use Rattle.dt_lists.specs.Lists.{Has, Distinct}
-use Rattle.dt_lists.proofs.Words.{all_get}
-use Rattle.dt_lists.proofs.Places.{place_of}
-use Rattle.dt_lists.proofs.Fronts.{pairwise_length}
+use Rattle.dt_lists.proofs.Callers.{all_get, place_of, pairwise_length}
 use Rattle.dt_access.specs.Clash.{Bytes}
 use Rattle.dt_access.specs.declared.TxnId.{TxnId}
 use Rattle.dt_access.specs.declared.Part.{Part}

@@ -3,9 +3,8 @@ use Rattle.std.proofs.Common.{◌≡◌, ◌≢◌, ◌<◌, ℕ, zero, suc, Boo
 use Rattle.std.specs.Prelude.{filter}
 use Rattle.std.proofs.lemmas.Option.{same_Some}
 use Rattle.dt_lists.specs.Lists.{AnyIn, AllIn, SomeThen, Has, Either}
-use Rattle.dt_lists.proofs.Decided.{either_le}
-use Rattle.dt_lists.proofs.Words.{any_get, any_put, any_append_left, any_append_right, all_get, all_put, has_map, any_of_image}
-use Rattle.dt_lists.proofs.Filters.{has_filter}
+use Rattle.dt_lists.proofs.Callers.{either_le, any_get, any_put, any_append_left, any_append_right, all_get, all_put, has_map, any_of_image, has_filter}
+use Rattle.dt_lists.proofs.Callers.{chain_step}
 use Rattle.dt_access.specs.Clash.{Bytes, same_key, uses_clash, clash}
 use Rattle.dt_access.specs.declared.Mode.{Mode}
 use Rattle.dt_access.specs.declared.Mode.TheVariants.{Write}
@@ -14,11 +13,8 @@ use Rattle.dt_access.specs.declared.Access.{Access}
 use Rattle.dt_access.specs.declared.Part.{Part}
 use Rattle.dt_sched.specs.Views.{log_at, HasPart, HasParts, AreClashing, Edge, here, Reaches, IsClosed, Precedes}
 use Rattle.dt_sched.specs.Decide.{IsSound}
-use Rattle.dt_sched.proofs.Clash.{clash_of_uses}
-use Rattle.dt_sched.proofs.Chains.{chain_step}
-use Rattle.dt_sched.proofs.Closed.{part_of_complete, edge_at_home, complete_of_closed}
-use Rattle.dt_sched.proofs.Precedence.{precedes_irreflexive, precedes_transitive, comparable_in_log}
-use Rattle.dt_sched.proofs.Sound.{sound_longer}
+use Rattle.dt_sched.proofs.Callers.{clash_of_uses, part_of_complete, edge_at_home, complete_of_closed, precedes_irreflexive, precedes_transitive}
+use Rattle.dt_sched.proofs.Callers.{comparable_in_log, sound_longer}
 use Rattle.dt_table.specs.Table.{Moved, opening_home, home_after}
 use Rattle.dt_txn.specs.declared.Body.{Body}
 use Rattle.dt_txn.specs.declared.txn.Body.TheVariants.{Call, Move}

@@ -5,9 +5,7 @@ use Rattle.std.specs.List.{cons_option}
 use Rattle.std.proofs.lemmas.Bool.{cases_Bool}
 use Rattle.std.proofs.lemmas.List.Elements.{filter-append, filter_map-append}
 use Rattle.dt_lists.specs.Lists.{Has, IsFront}
-use Rattle.dt_lists.proofs.Places.{has_of_filtered}
-use Rattle.dt_lists.proofs.Filters.{has_filter}
-use Rattle.dt_lists.proofs.Fronts.{front_refl, front_append}
+use Rattle.dt_lists.proofs.Callers.{has_of_filtered, has_filter, front_refl, front_append}
 use Rattle.dt_access.specs.Ids.{same_id, is_among}
 use Rattle.dt_access.specs.declared.TxnId.{TxnId}
 use Rattle.dt_events.specs.declared.Event.{Event}

@@ -5,7 +5,7 @@ use Rattle.std.specs.Cmp.Lexicographic.{bytes_decides}
 use Rattle.std.proofs.lemmas.Bool.{cases_Bool}
 use Rattle.std.proofs.lemmas.Option.{some_pair_parts}
 use Rattle.dt_lists.specs.Lists.{Has, Distinct, Pairwise}
-use Rattle.dt_lists.proofs.Words.{has_map, all_get}
+use Rattle.dt_lists.proofs.Callers.{has_map, all_get}
 use Rattle.dt_access.specs.Clash.{Bytes, same_key}
 use Rattle.dt_workload.specs.declared.Session.{Session}
 use Rattle.dt_session.specs.World.{Place, is_session, session_at, with_place}

@@ -3,8 +3,7 @@ use Rattle.std.proofs.Common.{◌≡◌, ◌≢◌, ◌<◌, ◌+◌, ◌⊎◌,
 use Rattle.std.specs.Prelude.{Option, option_map, filter_map}
 use Rattle.std.proofs.lemmas.Bool.{cases_Bool}
 use Rattle.dt_lists.specs.Lists.{AllIn, Has}
-use Rattle.dt_lists.proofs.Words.{any_at, any_from_at}
-use Rattle.dt_lists.proofs.Places.{place_of, any_in_joined, any_of_joined}
+use Rattle.dt_lists.proofs.Callers.{any_at, any_from_at, place_of, any_in_joined, any_of_joined}
 use Rattle.dt_access.specs.Ids.{same_id}
 use Rattle.dt_access.specs.declared.TxnId.{TxnId}
 use Rattle.dt_txn.specs.declared.Txn.{Txn}

@@ -5,9 +5,8 @@ use Rattle.std.proofs.lemmas.Bool.{cases_Bool, false_from_ne_true}
 use Rattle.std.proofs.lemmas.List.{length-set, length-append, take-append-le, get_or-set_same, get_or-set_other}
 use Rattle.std.proofs.lemmas.List.Elements.{filter-append}
 use Rattle.dt_lists.specs.Lists.{AnyIn, AllIn, Has, Either}
-use Rattle.dt_lists.proofs.Words.{any_put, all_get, all_put}
-use Rattle.dt_lists.proofs.Decided.{either_nat}
-use Rattle.dt_lists.proofs.Places.{field_of_set, map_of_set, each_of_set, all_more, has_more, has_last, has_longer, has_place, at_place}
+use Rattle.dt_lists.proofs.Callers.{any_put, all_get, all_put, either_nat, field_of_set, map_of_set, each_of_set, all_more, has_more, has_last, has_longer}
+use Rattle.dt_lists.proofs.Callers.{has_place, at_place}
 use Rattle.dt_access.specs.Clash.{Bytes, same_key}
 use Rattle.dt_access.specs.declared.TxnId.{TxnId}
 use Rattle.dt_sched.specs.Views.{ids_of}

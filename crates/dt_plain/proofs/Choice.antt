@@ -2,13 +2,11 @@
 use Rattle.std.proofs.Common.{◌≡◌, ℕ, ◌+◌, ◌<◌, ◌≤◌, ◌↔◌, Bool, false, List, [], ◌∷◌, length, get_or, take, subst, inl, inr, IsTrue}
 use Rattle.std.proofs.lemmas.List.{take_more, take_all}
 use Rattle.dt_lists.specs.Lists.{AllIn, Has}
-use Rattle.dt_lists.proofs.Words.{all_append, all_get}
+use Rattle.dt_lists.proofs.Callers.{all_append, all_get}
 use Rattle.dt_access.specs.declared.TxnId.{TxnId}
 use Rattle.dt_sched.specs.Views.{View, here, IsComplete, IsClass}
 use Rattle.dt_sched.specs.Decide.{IsExecutable, IsResolvable}
-use Rattle.dt_sched.proofs.Decisions.{has_id_decided}
-use Rattle.dt_sched.proofs.Classes.{class_unique, in_own_class}
-use Rattle.dt_sched.proofs.Reach.{present_of_complete}
+use Rattle.dt_sched.proofs.Callers.{has_id_decided, class_unique, in_own_class, present_of_complete}
 use Rattle.dt_plain.proofs.Same.{no_id}
 use Rattle.dt_plain.proofs.Scan.{refuted}
 use Rattle.dt_sched.specs.Surroundings.{ArePresent}

@@ -3,15 +3,13 @@ use Rattle.std.specs.Prelude.{Result, Ok, Err, IfOk}
 use Rattle.std.proofs.Common.{◌≡◌, ◌≤◌, ◌↔◌, Bool, true, false, List, length, get_or, sym, subst, inl, inr, arith, IsTrue}
 use Rattle.dt_text.specs.declared.NoMemory.{NoMemory}
 use Rattle.dt_lists.specs.Lists.{AllIn, Has, Either}
-use Rattle.dt_lists.proofs.Words.{all_get, all_put}
+use Rattle.dt_lists.proofs.Callers.{all_get, all_put, chain_join}
 use Rattle.dt_access.specs.Ids.{Before}
 use Rattle.dt_access.specs.declared.TxnId.{TxnId}
-use Rattle.dt_sched.specs.Views.{View, IsComplete, Precedes, IsClass}
+use Rattle.dt_sched.specs.Views.{View, Precedes, IsClass}
 use Rattle.dt_sched.specs.Decide.{IsExecutable, IsResolvable}
-use Rattle.dt_lists.proofs.Chains.{chain_join}
-use Rattle.dt_access.proofs.Ids.{either_id, before_decided}
-use Rattle.dt_sched.proofs.Decisions.{has_id_decided}
-use Rattle.dt_sched.proofs.Classes.{class_unique, class_of_member}
+use Rattle.dt_access.proofs.Callers.{either_id, before_decided}
+use Rattle.dt_sched.proofs.Callers.{has_id_decided, class_unique, class_of_member}
 use Rattle.dt_plain.proofs.Scan.{refuted}
 use Rattle.dt_plain.proofs.Same.{no_id}
 use Rattle.dt_plain.proofs.Walk.{has_at}

@@ -3,11 +3,11 @@ use Rattle.std.specs.Prelude.{Result, Ok, Err, IfOk}
 use Rattle.dt_text.specs.declared.NoMemory.{NoMemory}
 use Rattle.std.proofs.Common.{◌≡◌, ◌⊎◌, List, [], ◌∷◌, ◌++◌, map, sym, inl, inr, ◌∙◌}
 use Rattle.dt_lists.specs.Lists.{AnyIn, SomeThen}
-use Rattle.dt_lists.proofs.Words.{any_append, any_append_left, any_append_right, any_map, any_image, any_of_image, some_append_left}
+use Rattle.dt_lists.proofs.Callers.{any_append, any_append_left, any_append_right, any_map, any_image, any_of_image, some_append_left, chain_before}
+use Rattle.dt_lists.proofs.Callers.{chain_map}
 use Rattle.dt_access.specs.declared.TxnId.{TxnId}
 use Rattle.dt_access.specs.declared.Part.{Part}
 use Rattle.dt_sched.specs.Views.{View, Chain, here, onward, AreClashing, Edge}
-use Rattle.dt_lists.proofs.Chains.{chain_before, chain_map}
 use Rattle.dt_plain.specs.Links.{IsLinked, AreReached}
 use Rattle.dt_sched.specs.Surroundings.{MakesEdge, EdgeInto, EdgeWithin, AreBehind, AreAhead}
 use Rattle.dt_plain.specs.Graphs.{Gains, AreEdges, AreTurned, turned_link}

@@ -2,7 +2,7 @@
 use Rattle.std.proofs.Common.{◌*◌, ◌<◌, ◌≤◌, [], ◌∷◌, length, arith}
 use Rattle.std.proofs.lemmas.List.Sums.{sum_by-cons}
 use Rattle.dt_lists.specs.Lists.{AllIn}
-use Rattle.dt_lists.proofs.Words.{all_get}
+use Rattle.dt_lists.proofs.Callers.{all_get}
 use Rattle.dt_access.specs.declared.Part.{Part}
 use Rattle.dt_sched.specs.Views.{View}
 use Rattle.dt_sched.specs.Sched.{parts_in, CanInsert}

@@ -2,8 +2,7 @@
 use Rattle.std.proofs.Common.{◌≡◌, ℕ, ◌+◌, ◌<◌, List, [], ◌∷◌, ◌++◌, length, get_or, take, sym, subst, inl, inr}
 use Rattle.std.proofs.lemmas.List.{take_more}
 use Rattle.dt_lists.specs.Lists.{Has, Distinct}
-use Rattle.dt_lists.proofs.Words.{any_append, any_append_left, any_append_right, all_put, each_append}
-use Rattle.dt_lists.proofs.Fronts.{front_refl, front_trans, front_append}
+use Rattle.dt_lists.proofs.Callers.{any_append, any_append_left, any_append_right, all_put, each_append, front_refl, front_trans, front_append}
 use Rattle.dt_access.specs.declared.TxnId.{TxnId}
 use Rattle.dt_plain.proofs.Same.{no_id}
 use Rattle.dt_sched.specs.IdLists.{AddsOnce}

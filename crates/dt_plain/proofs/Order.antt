@@ -1,5 +1,5 @@
 -- Ids in ascending order: what a sort gives, and lists that are compared.
-use Rattle.std.proofs.Common.{◌≡◌, ◌∙◌, ℕ, suc, ◌+◌, ◌<◌, ◌↔◌, Bool, true, false, ◌&&◌, List, [], ◌∷◌, refl, sym, subst, inl, inr, arith, IsTrue, IsPermutation, IsSorted}
+use Rattle.std.proofs.Common.{◌≡◌, ◌∙◌, ℕ, suc, ◌+◌, ◌<◌, ◌↔◌, Bool, true, false, List, [], ◌∷◌, refl, sym, subst, inl, inr, arith, IsTrue, IsPermutation, IsSorted}
 use Rattle.std.specs.Ordering.{nat_cmp, ordering_then, is_lt}
 use Rattle.std.specs.Cmp.{nat_cmp_is}
 use Rattle.std.specs.declared.cmp.Ordering.{Ordering}
@@ -10,11 +10,10 @@ use Rattle.std.proofs.lemmas.Map.Keys.{IsDistinct-IsPermutation}
 use Rattle.std.proofs.lemmas.List.Sorted.{list_any-IsPermutation}
 use Rattle.std.proofs.lemmas.Bool.{and_parts}
 use Rattle.dt_lists.specs.Lists.{AllIn, Has, Distinct}
-use Rattle.dt_lists.proofs.Words.{any_map, all_map}
-use Rattle.dt_lists.proofs.Tests.{any_of_test, test_of_any}
+use Rattle.dt_lists.proofs.Callers.{any_map, all_map, any_of_test, test_of_any}
 use Rattle.dt_access.specs.Ids.{Before, AreAscending, same_id}
 use Rattle.dt_access.specs.declared.TxnId.{TxnId}
-use Rattle.dt_access.proofs.Ids.{before_total, before_transitive, test_of_id, test_of_other, same_id_turned}
+use Rattle.dt_access.proofs.Callers.{before_total, before_transitive, test_of_id, test_of_other, same_id_turned}
 use Rattle.dt_plain.proofs.Same.{ids_same, ids_differ}
 use Rattle.dt_sched.specs.IdLists.{IsOrderOf}
 

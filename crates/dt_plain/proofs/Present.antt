@@ -1,7 +1,7 @@
 -- The ids that have a part in a view, gathered from its logs.
 use Rattle.std.proofs.Common.{List, [], ◌∷◌, ◌++◌, sym, inl, inr}
 use Rattle.dt_lists.specs.Lists.{Distinct}
-use Rattle.dt_lists.proofs.Words.{any_append, any_append_left, any_append_right}
+use Rattle.dt_lists.proofs.Callers.{any_append, any_append_left, any_append_right}
 use Rattle.dt_access.specs.declared.TxnId.{TxnId}
 use Rattle.dt_access.specs.declared.Part.{Part}
 use Rattle.dt_sched.specs.Views.{View}

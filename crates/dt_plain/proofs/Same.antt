@@ -2,7 +2,7 @@
 use Rattle.std.proofs.Common.{◌≡◌, Bool, true, false, ◌&&◌, ap, arith, eqb}
 use Rattle.std.proofs.lemmas.Bool.Decides.{nat_tests}
 use Rattle.dt_access.specs.declared.TxnId.{TxnId}
-use Rattle.dt_access.proofs.Ids.{same_by_parts}
+use Rattle.dt_access.proofs.Callers.{same_by_parts}
 
 -- what stands at a place past the end of a list of ids, for `get_or`
 abbrev pub no_id : TxnId

@@ -4,8 +4,7 @@ use Rattle.std.proofs.Common.{◌≡◌, ℕ, ◌+◌, ◌<◌, List, [], ◌∷
 use Rattle.std.proofs.lemmas.List.{take_more, take-append-drop}
 use Rattle.dt_text.specs.declared.NoMemory.{NoMemory}
 use Rattle.dt_lists.specs.Lists.{Has, Distinct}
-use Rattle.dt_lists.proofs.Words.{any_append, any_append_left, any_append_right, each_append_left, each_across}
-use Rattle.dt_lists.proofs.Distinct.{distinct_push}
+use Rattle.dt_lists.proofs.Callers.{any_append, any_append_left, any_append_right, each_append_left, each_across, distinct_push}
 use Rattle.dt_access.specs.declared.TxnId.{TxnId}
 use Rattle.dt_plain.proofs.Same.{no_id}
 use Rattle.dt_sched.specs.IdLists.{AreShared, AreCommon, IsOrderOf}

@@ -3,8 +3,7 @@ use Rattle.std.proofs.Common.{◌≡◌, ◌∙◌, ℕ, zero, suc, ◌+◌, ◌
 use Rattle.std.proofs.Math.ListN.{length-map}
 use Rattle.std.proofs.lemmas.List.{take_more, take_all, take-append-le}
 use Rattle.dt_lists.specs.Lists.{AllIn, Has, Distinct}
-use Rattle.dt_lists.proofs.Words.{any_map, any_image, all_map, all_get, all_put, all_append}
-use Rattle.dt_lists.proofs.Distinct.{distinct_within}
+use Rattle.dt_lists.proofs.Callers.{any_map, any_image, all_map, all_get, all_put, all_append, distinct_within}
 use Rattle.dt_access.specs.declared.TxnId.{TxnId}
 use Rattle.dt_sched.specs.Views.{Chain, here, onward}
 use Rattle.dt_plain.specs.Links.{IsLinked, Follows, AreReached}

@@ -3,14 +3,11 @@ use Rattle.std.proofs.Common.{◌≡◌, ◌<◌, ◌≤◌, ◌+◌, ℕ, List,
 use Rattle.std.specs.Prelude.{slice_index}
 use Rattle.std.proofs.lemmas.List.{length-set, get_or-set_same, get_or-set_other}
 use Rattle.dt_lists.specs.Lists.{AllIn, Distinct, Either}
-use Rattle.dt_lists.proofs.Words.{any_of_image, all_map}
-use Rattle.dt_lists.proofs.Places.{all_more}
-use Rattle.dt_lists.proofs.Distinct.{distinct_push}
-use Rattle.dt_lists.proofs.Decided.{either_nat}
+use Rattle.dt_lists.proofs.Callers.{any_of_image, all_map, all_more, distinct_push, either_nat}
 use Rattle.dt_access.specs.declared.Part.{Part}
 use Rattle.dt_sched.specs.Views.{View, log_at, ids_of, HasPart}
 use Rattle.dt_sched.specs.Sched.{Sched, with_part}
-use Rattle.dt_sched.proofs.Growing.{log_with_part}
+use Rattle.dt_sched.proofs.Callers.{log_with_part}
 use Rattle.dt_txn.specs.declared.txn.Txn.{Txn}
 use Rattle.dt_txn.specs.Transaction.{part_of}
 use Rattle.dt_region.specs.State.{State, sched_of}

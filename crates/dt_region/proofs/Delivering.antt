@@ -3,11 +3,11 @@ use Rattle.std.proofs.Common.{◌≡◌, ◌<◌, ◌≤◌, ◌+◌, ◌-◌, �
 use Rattle.std.specs.Prelude.{slice_index}
 use Rattle.std.proofs.lemmas.List.{length-set, get_or-set_other, map-append, take-append-drop, length-append}
 use Rattle.dt_lists.specs.Lists.{AllIn, Has, Distinct}
-use Rattle.dt_lists.proofs.Words.{all_map, all_append, all_append_right, all_get, all_put, all_image, all_of_image, each_append_right}
+use Rattle.dt_lists.proofs.Callers.{all_map, all_append, all_append_right, all_get, all_put, all_image, all_of_image, each_append_right}
 use Rattle.dt_access.specs.declared.Part.{Part}
 use Rattle.dt_sched.specs.Views.{View, log_at, ids_of}
 use Rattle.dt_sched.specs.Sched.{Sched}
-use Rattle.dt_sched.proofs.Growing.{put_log}
+use Rattle.dt_sched.proofs.Callers.{put_log}
 use Rattle.dt_txn.specs.declared.txn.Txn.{Txn}
 use Rattle.dt_txn.specs.declared.txn.Entry.{Entry}
 use Rattle.dt_txn.specs.Transaction.{IsTransaction}

@@ -2,7 +2,7 @@
 use Rattle.std.proofs.Common.{◌≡◌, ◌≢◌, true, false, cond, List, [], ◌∷◌, ◌++◌, map, Some, None, refl, sym, ap, subst, ◌∙◌, inl, inr, is_some, if◌then◌else◌}
 use Rattle.std.proofs.lemmas.Bool.{false≢true}
 use Rattle.dt_lists.specs.Lists.{AllIn, Has, Distinct}
-use Rattle.dt_lists.proofs.Places.{all_more, has_longer}
+use Rattle.dt_lists.proofs.Callers.{all_more, has_longer}
 use Rattle.dt_access.specs.Ids.{same_id}
 use Rattle.dt_access.specs.declared.TxnId.{TxnId}
 use Rattle.dt_txn.specs.declared.txn.Txn.{Txn}

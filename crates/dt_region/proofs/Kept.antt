@@ -3,7 +3,7 @@
 use Rattle.std.proofs.Common.{◌≡◌, ◌≢◌, ℕ, true, false, cond, eqb, List, [], ◌∷◌, ◌++◌, refl, sym, ap, ◌∙◌, is_some, arith}
 use Rattle.std.proofs.lemmas.Bool.Decides.{nat_tests}
 use Rattle.dt_lists.specs.Lists.{AllIn, Has}
-use Rattle.dt_lists.proofs.Places.{has_longer}
+use Rattle.dt_lists.proofs.Callers.{has_longer}
 use Rattle.dt_txn.specs.declared.txn.Txn.{Txn}
 use Rattle.dt_region.specs.Holding.{keep_other, keep_others}
 use Rattle.dt_region.specs.State.{find_txn}

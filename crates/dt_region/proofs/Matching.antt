@@ -4,7 +4,7 @@ use Rattle.std.specs.Prelude.{slice_index}
 use Rattle.std.proofs.lemmas.List.{length-map, length-append, length-drop, get_or-set_same, set-get_or}
 use Rattle.std.proofs.lemmas.Option.{slice_get_within}
 use Rattle.dt_lists.specs.Lists.{AllIn, Has}
-use Rattle.dt_lists.proofs.Words.{all_map, all_image}
+use Rattle.dt_lists.proofs.Callers.{all_map, all_image}
 use Rattle.dt_access.specs.declared.Part.{Part}
 use Rattle.dt_access.specs.declared.TxnId.{TxnId}
 use Rattle.dt_log.specs.Logs.{Takes}

@@ -1,8 +1,7 @@
 -- A region that holds what is valid whatever the procedures are goes on so, when it is given nothing else.
 use Rattle.std.proofs.Common.{◌≡◌, ◌<◌, ℕ, Bool, true, false, cond, List, [], ◌∷◌, ◌++◌, Some, Result, Ok, Err, is_some, sym, ap, subst, ◌∙◌, arith}
 use Rattle.dt_lists.specs.Lists.{AllIn}
-use Rattle.dt_lists.proofs.Words.{all_get, all_append}
-use Rattle.dt_lists.proofs.Places.{all_more}
+use Rattle.dt_lists.proofs.Callers.{all_get, all_append, all_more}
 use Rattle.dt_text.specs.declared.NoMemory.{NoMemory}
 use Rattle.dt_access.specs.Clash.{Bytes}
 use Rattle.dt_access.specs.declared.TxnId.{TxnId}

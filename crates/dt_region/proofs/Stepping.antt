@@ -4,16 +4,13 @@ use Rattle.std.specs.Prelude.{slice_index}
 use Rattle.std.proofs.lemmas.List.{length-set, get_or-set_same, get_or-set_other}
 use Rattle.std.proofs.lemmas.Option.{slice_get_within, same_Some}
 use Rattle.dt_lists.specs.Lists.{AllIn, Has, Either}
-use Rattle.dt_lists.proofs.Words.{all_get, all_put, all_append}
-use Rattle.dt_lists.proofs.Fronts.{front_take, any_front}
-use Rattle.dt_lists.proofs.Places.{has_place}
-use Rattle.dt_lists.proofs.Decided.{either_nat}
+use Rattle.dt_lists.proofs.Callers.{all_get, all_put, all_append, front_take, any_front, has_place, either_nat}
 use Rattle.dt_access.specs.declared.Part.{Part}
 use Rattle.dt_access.specs.declared.TxnId.{TxnId}
 use Rattle.dt_sched.specs.Views.{View, log_at, HasPart, HasParts}
 use Rattle.dt_sched.specs.Decide.{IsExecutable}
 use Rattle.dt_sched.specs.Sched.{Sched, CanInsert, parts_in, with_part, after_insert, after_resolve, after_finish}
-use Rattle.dt_sched.proofs.Closed.{complete_of_closed, part_of_complete}
+use Rattle.dt_sched.proofs.Callers.{complete_of_closed, part_of_complete}
 use Rattle.dt_txn.specs.declared.txn.Txn.{Txn}
 use Rattle.dt_txn.specs.declared.outcome.Outcome.{Outcome}
 use Rattle.dt_proc.specs.Tree.{ProcTree}

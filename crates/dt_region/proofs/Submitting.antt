@@ -1,8 +1,7 @@
 -- A submission keeps a region sound.
 use Rattle.std.proofs.Common.{◌≡◌, ◌+◌, ℕ, List, [], ◌∷◌, ◌++◌, length, Option, Some, None, cond, slice_get, refl, sym, ap, ◌∙◌, inl, inr, arith}
 use Rattle.std.proofs.lemmas.Option.{slice_get_past}
-use Rattle.dt_lists.proofs.Words.{all_map}
-use Rattle.dt_lists.proofs.Places.{all_more}
+use Rattle.dt_lists.proofs.Callers.{all_map, all_more}
 use Rattle.dt_access.specs.declared.TxnId.{TxnId}
 use Rattle.dt_sched.specs.Views.{log_at}
 use Rattle.dt_txn.specs.declared.txn.Body.{Body}

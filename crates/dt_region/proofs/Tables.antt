@@ -1,7 +1,7 @@
 -- A table that is one for so many regions stays one: it annotates with regions, and is moved to regions.
 use Rattle.std.proofs.Common.{◌<◌, ℕ, true, false, cond, List, [], ◌∷◌, ◌++◌, map, Option, Some, None, sym, subst, ◌∙◌}
 use Rattle.dt_lists.specs.Lists.{AllIn}
-use Rattle.dt_lists.proofs.Words.{all_append}
+use Rattle.dt_lists.proofs.Callers.{all_append}
 use Rattle.dt_access.specs.Clash.{Bytes, same_key}
 use Rattle.dt_access.specs.declared.Access.{Access}
 use Rattle.dt_access.specs.declared.Mode.{Mode}

@@ -4,8 +4,7 @@ use Rattle.std.proofs.Math.Bool.{or_comm}
 use Rattle.std.specs.List.{list_any}
 use Rattle.std.proofs.lemmas.Cmp.{nat_list_eq_equiv}
 use Rattle.dt_lists.specs.Lists.{AnyIn, Has}
-use Rattle.dt_lists.proofs.Words.{any_map, any_get, any_put}
-use Rattle.dt_lists.proofs.Tests.{any_of_test, test_of_any}
+use Rattle.dt_lists.proofs.Callers.{any_map, any_get, any_put, any_of_test, test_of_any}
 use Rattle.dt_access.specs.Clash.{Bytes, is_write, uses_clash, clash}
 use Rattle.dt_access.specs.declared.access.Mode.{Mode}
 

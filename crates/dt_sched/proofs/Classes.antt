@@ -1,15 +1,12 @@
 -- The class of an id exists as a list, and there is only one.
 use Rattle.std.proofs.Common.{◌≡◌, ◌≢◌, ◌≤◌, List, [], ◌∷◌, length, sym, subst, inl, inr}
 use Rattle.dt_lists.specs.Lists.{AnyIn, AllIn, Has, Either}
-use Rattle.dt_lists.proofs.Words.{any_get, any_put, all_put}
-use Rattle.dt_lists.proofs.Distinct.{two_of_different}
-use Rattle.dt_lists.proofs.Decided.{either_any, either_same, either_list}
-use Rattle.dt_lists.proofs.Ascending.{IsPicked, ascending_same, pick}
+use Rattle.dt_lists.proofs.Callers.{any_get, any_put, all_put, two_of_different, either_any, either_same, either_list, IsPicked, ascending_same, pick}
+use Rattle.dt_lists.proofs.Callers.{chain_join}
 use Rattle.dt_access.specs.Ids.{Before, AreAscending}
 use Rattle.dt_access.specs.declared.TxnId.{TxnId}
 use Rattle.dt_sched.specs.Views.{View, here, IsClosed, Mutual, IsClass}
-use Rattle.dt_access.proofs.Ids.{before_irreflexive, before_transitive, before_total, either_id}
-use Rattle.dt_lists.proofs.Chains.{chain_join}
+use Rattle.dt_access.proofs.Callers.{before_irreflexive, before_transitive, before_total, either_id}
 use Rattle.dt_sched.proofs.Reach.{ids_in, reach_listed, mutual_decided}
 use Rattle.dt_sched.proofs.Closed.{closed_before}
 

@@ -1,12 +1,10 @@
 -- A closed transaction stands in every longer view as it stands in the shorter one.
 use Rattle.std.proofs.Common.{◌≡◌, ◌≢◌, ◌<◌, ◌↔◌, ℕ, List, [], length, sym, subst, ◌∙◌, inl, inr}
 use Rattle.dt_lists.specs.Lists.{AnyIn, SomeThen, Has}
-use Rattle.dt_lists.proofs.Words.{any_at, any_from_at, any_get, all_get, some_get, each_of_image}
-use Rattle.dt_lists.proofs.Fronts.{any_front, some_back}
+use Rattle.dt_lists.proofs.Callers.{any_at, any_from_at, any_get, all_get, some_get, each_of_image, any_front, some_back, chain_join, chain_step}
 use Rattle.dt_access.specs.declared.TxnId.{TxnId}
 use Rattle.dt_access.specs.declared.Part.{Part}
 use Rattle.dt_sched.specs.Views.{View, log_at, HasPart, IsLonger, AreClashing, Edge, here, onward, Reaches, HasParts, IsComplete, IsClosed, Mutual, Precedes, IsClass, IsWellFormed, StandsAlike}
-use Rattle.dt_lists.proofs.Chains.{chain_join, chain_step}
 use Rattle.dt_sched.proofs.Longer.{log_longer, edge_longer, reaches_longer, complete_longer}
 
 -- the home of an edge, and back

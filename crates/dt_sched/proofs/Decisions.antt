@@ -1,12 +1,11 @@
 -- What is executable and what is resolvable is decided.
 use Rattle.std.proofs.Common.{◌≤◌, ◌⊎◌, List, length, subst, inl, inr}
 use Rattle.dt_lists.specs.Lists.{AllIn, Has, Either}
-use Rattle.dt_lists.proofs.Words.{all_get, all_put}
-use Rattle.dt_lists.proofs.Decided.{either_or, either_implies, either_same, either_all, either_has, either_le, either_list}
+use Rattle.dt_lists.proofs.Callers.{all_get, all_put, either_or, either_implies, either_same, either_all, either_has, either_le, either_list}
 use Rattle.dt_access.specs.declared.TxnId.{TxnId}
 use Rattle.dt_sched.specs.Views.{View, Reaches, IsComplete, IsClosed, Precedes, IsClass}
 use Rattle.dt_sched.specs.Decide.{IsExecutable, IsResolvable}
-use Rattle.dt_access.proofs.Ids.{either_id}
+use Rattle.dt_access.proofs.Callers.{either_id}
 use Rattle.dt_sched.proofs.Reach.{each_reaching_decided, precedes_decided, complete_decided, closed_decided}
 use Rattle.dt_sched.proofs.Classes.{class_of, class_unique, some_class_decided}
 

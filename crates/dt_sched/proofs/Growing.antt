@@ -2,9 +2,7 @@
 use Rattle.std.proofs.Common.{◌≡◌, ◌⊎◌, ℕ, zero, suc, List, [], ◌∷◌, ◌++◌, set, replicate, refl, sym, ap, subst, ◌∙◌, inl, inr}
 use Rattle.std.proofs.lemmas.List.{map-append}
 use Rattle.dt_lists.specs.Lists.{AllIn, Has, Distinct, IsFront}
-use Rattle.dt_lists.proofs.Words.{any_append, any_of_image, all_get, all_put, all_append, all_at}
-use Rattle.dt_lists.proofs.Distinct.{distinct_push}
-use Rattle.dt_lists.proofs.Fronts.{front_refl, front_append}
+use Rattle.dt_lists.proofs.Callers.{any_append, any_of_image, all_get, all_put, all_append, all_at, distinct_push, front_refl, front_append}
 use Rattle.dt_access.specs.declared.Part.{Part}
 use Rattle.dt_sched.specs.Views.{View, ids_of, log_at, HasPart, IsLonger, IsWellFormed}
 use Rattle.dt_sched.specs.Sched.{CanInsert, with_part}

@@ -1,11 +1,10 @@
 -- What a view has, a longer view has; and the shorter one is well formed where the longer is.
 use Rattle.std.proofs.Common.{ℕ, List, []}
 use Rattle.dt_lists.specs.Lists.{IsFront}
-use Rattle.dt_lists.proofs.Words.{any_map, all_map}
-use Rattle.dt_lists.proofs.Fronts.{front_refl, front_trans, front_map, any_front, some_front, all_front, each_front, pairwise_refl, pairwise_trans, pairwise_at, pairwise_any}
+use Rattle.dt_lists.proofs.Callers.{any_map, all_map, front_refl, front_trans, front_map, any_front, some_front, all_front, each_front, pairwise_refl}
+use Rattle.dt_lists.proofs.Callers.{pairwise_trans, pairwise_at, pairwise_any, chain_map}
 use Rattle.dt_access.specs.declared.TxnId.{TxnId}
 use Rattle.dt_sched.specs.Views.{View, ids_of, log_at, HasPart, IsLonger, AreClashing, Edge, Reaches, IsPresent, HasParts, IsComplete, IsWellFormed}
-use Rattle.dt_lists.proofs.Chains.{chain_map}
 
 pub longer_refl : (view : View) → IsLonger view view
 longer_refl view = pairwise_refl IsFront (λ log. front_refl log) view

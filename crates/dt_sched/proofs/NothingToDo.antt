@@ -1,16 +1,12 @@
 -- Where nothing is left to do, all that is closed is done; and what is complete with all its preceders done is closed.
 use Rattle.std.proofs.Common.{◌≡◌, ◌≤◌, ◌⊎◌, ◌↔◌, List, [], ◌∷◌, length, sym, subst, inl, inr}
 use Rattle.dt_lists.specs.Lists.{AllIn, Has, Either}
-use Rattle.dt_lists.proofs.Words.{all_get, all_put}
-use Rattle.dt_lists.proofs.Decided.{either_not, either_and, either_le}
-use Rattle.dt_lists.proofs.Least.{IsLeast, least}
-use Rattle.dt_lists.proofs.Ascending.{IsPicked}
+use Rattle.dt_lists.proofs.Callers.{all_get, all_put, either_not, either_and, either_le, IsLeast, least, IsPicked, chain_join}
 use Rattle.dt_access.specs.Ids.{Before}
 use Rattle.dt_access.specs.declared.TxnId.{TxnId}
 use Rattle.dt_sched.specs.Views.{View, Reaches, IsComplete, IsClosed, Precedes, IsClass}
 use Rattle.dt_sched.specs.Decide.{IsExecutable, IsResolvable, HasNothingToDo}
-use Rattle.dt_access.proofs.Ids.{either_id}
-use Rattle.dt_lists.proofs.Chains.{chain_join}
+use Rattle.dt_access.proofs.Callers.{either_id}
 use Rattle.dt_sched.proofs.Reach.{ids_in, has_of_present, present_of_complete, reach_decided, precedes_decided, closed_decided}
 use Rattle.dt_sched.proofs.Precedence.{precedes_irreflexive, precedes_transitive}
 use Rattle.dt_sched.proofs.Closed.{closed_before, complete_of_closed}

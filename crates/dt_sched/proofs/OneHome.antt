@@ -1,14 +1,13 @@
 -- Where each transaction has one home, there is no deadlock, and all is told by single edges.
 use Rattle.std.proofs.Common.{◌≡◌, ◌≢◌, ◌<◌, ◌≤◌, ◌⊎◌, ◌↔◌, ℕ, List, [], ◌∷◌, length, refl, sym, ap, subst, ◌∙◌, inl, inr, arith}
 use Rattle.dt_lists.specs.Lists.{AllIn, SomeThen, Has, EachThen}
-use Rattle.dt_lists.proofs.Words.{any_at, any_from_at, any_get, any_put, all_get, all_put, all_at, some_map, each_of_image}
-use Rattle.dt_lists.proofs.Keys.{KeyBefore, key_first, key_second, key_before_irreflexive, key_before_transitive}
+use Rattle.dt_lists.proofs.Callers.{any_at, any_from_at, any_get, any_put, all_get, all_put, all_at, some_map, each_of_image, KeyBefore, key_first}
+use Rattle.dt_lists.proofs.Callers.{key_second, key_before_irreflexive, key_before_transitive, chain_step}
 use Rattle.dt_access.specs.declared.TxnId.{TxnId}
 use Rattle.dt_access.specs.declared.Part.{Part}
 use Rattle.dt_sched.specs.Views.{View, log_at, HasPart, AreClashing, Edge, here, onward, Reaches, IsPresent, HasParts, IsComplete, IsClosed, Mutual, Precedes, IsClass, IsWellFormed, HasOneHomeEach}
 use Rattle.dt_sched.specs.Decide.{IsExecutable, IsResolvable, IsDownward}
-use Rattle.dt_access.proofs.Ids.{either_id}
-use Rattle.dt_lists.proofs.Chains.{chain_step}
+use Rattle.dt_access.proofs.Callers.{either_id}
 use Rattle.dt_sched.proofs.Closed.{home_of_edge, complete_of_closed}
 use Rattle.dt_sched.proofs.Reach.{reach_source, present_of_complete}
 use Rattle.dt_sched.proofs.Classes.{class_alone}

@@ -1,15 +1,14 @@
 -- Precedes is a strict order, and it orders any two of which one reaches the other.
 use Rattle.std.proofs.Common.{◌≡◌, ◌≢◌, ◌⊎◌, ℕ, true, refl, sym, ap, subst, inl, inr}
 use Rattle.dt_lists.specs.Lists.{Has, Either}
-use Rattle.dt_lists.proofs.Words.{some_map, some_of_two}
+use Rattle.dt_lists.proofs.Callers.{some_map, some_of_two, chain_join, chain_step}
 use Rattle.dt_access.specs.Ids.{Before}
 use Rattle.dt_access.specs.Clash.{clash}
 use Rattle.dt_access.specs.declared.TxnId.{TxnId}
 use Rattle.dt_access.specs.declared.Part.{Part}
 use Rattle.dt_sched.specs.Views.{View, log_at, Edge, here, Reaches, Precedes}
-use Rattle.dt_access.proofs.Ids.{before_transitive, before_total, before_differs}
+use Rattle.dt_access.proofs.Callers.{before_transitive, before_total, before_differs}
 use Rattle.dt_sched.proofs.Clash.{clash_symmetric}
-use Rattle.dt_lists.proofs.Chains.{chain_join, chain_step}
 use Rattle.dt_sched.proofs.Reach.{reach_decided}
 use Rattle.dt_sched.proofs.Closed.{edge_at_home}
 

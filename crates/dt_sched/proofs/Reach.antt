@@ -1,15 +1,15 @@
 -- What reaches what is decided, and all that is said by it on single ids.
 use Rattle.std.proofs.Common.{◌≡◌, ◌≢◌, ◌⊎◌, true, List, [], ◌∷◌, ◌++◌, refl, sym, subst, inl, inr}
 use Rattle.dt_lists.specs.Lists.{AllIn, Has, Either}
-use Rattle.dt_lists.proofs.Words.{any_map, any_put, any_image, any_of_image, any_append, any_append_left, any_append_right, some_get, all_get, all_put}
-use Rattle.dt_lists.proofs.Decided.{either_not, either_and, either_and3, either_or, either_implies, either_same, either_any, either_all, either_some, either_true}
+use Rattle.dt_lists.proofs.Callers.{any_map, any_put, any_image, any_of_image, any_append, any_append_left, any_append_right, some_get, all_get, all_put}
+use Rattle.dt_lists.proofs.Callers.{either_not, either_and, either_and3, either_or, either_implies, either_same, either_any, either_all, either_some}
+use Rattle.dt_lists.proofs.Callers.{either_true, chain_decided}
 use Rattle.dt_access.specs.Ids.{Before}
 use Rattle.dt_access.specs.Clash.{clash}
 use Rattle.dt_access.specs.declared.TxnId.{TxnId}
 use Rattle.dt_access.specs.declared.Part.{Part}
 use Rattle.dt_sched.specs.Views.{View, ids_of, log_at, HasPart, AreClashing, Edge, here, onward, Reaches, IsPresent, HasParts, IsComplete, IsClosed, Mutual, Precedes}
-use Rattle.dt_access.proofs.Ids.{either_id, before_decided}
-use Rattle.dt_lists.proofs.Chains.{chain_decided}
+use Rattle.dt_access.proofs.Callers.{either_id, before_decided}
 
 -- the ids that have a part in the view
 abbrev pub ids_in : View → List TxnId

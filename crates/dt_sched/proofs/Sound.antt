@@ -1,8 +1,7 @@
 -- What a region keeps true: it holds at first, and each insertion, resolution and execution keeps it.
 use Rattle.std.proofs.Common.{ℕ, List, [], ◌∷◌, ◌++◌, replicate, refl, sym, subst, inl, inr}
 use Rattle.dt_lists.specs.Lists.{Has, EachThen}
-use Rattle.dt_lists.proofs.Words.{any_append, any_append_left, all_get, all_put, all_map, all_append, each_append}
-use Rattle.dt_lists.proofs.Distinct.{distinct_push}
+use Rattle.dt_lists.proofs.Callers.{any_append, any_append_left, all_get, all_put, all_map, all_append, each_append, distinct_push}
 use Rattle.dt_access.specs.declared.TxnId.{TxnId}
 use Rattle.dt_access.specs.declared.Part.{Part}
 use Rattle.dt_sched.specs.Views.{View, IsLonger, IsClosed, Precedes, IsClass, IsWellFormed}

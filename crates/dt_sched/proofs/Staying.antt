@@ -1,7 +1,7 @@
 -- What is executable and what is resolvable stays so until it is done, while the view becomes longer.
 use Rattle.std.proofs.Common.{List, inl, inr}
 use Rattle.dt_lists.specs.Lists.{AllIn, Has, IsWithin}
-use Rattle.dt_lists.proofs.Words.{all_get, all_put, all_map, within_get}
+use Rattle.dt_lists.proofs.Callers.{all_get, all_put, all_map, within_get}
 use Rattle.dt_access.specs.declared.TxnId.{TxnId}
 use Rattle.dt_sched.specs.Views.{View, IsLonger, IsComplete, IsClosed, IsWellFormed}
 use Rattle.dt_sched.specs.Decide.{IsExecutable, IsResolvable}

@@ -2,8 +2,7 @@
 use Rattle.std.proofs.Common.{◌≡◌, ◌⊎◌, ℕ, List, [], ◌∷◌, ◌++◌, length, slice_get, Some, sym, ap, subst, inl, inr, arith}
 use Rattle.std.specs.Prelude.{Option}
 use Rattle.dt_lists.specs.Lists.{AllIn, Has}
-use Rattle.dt_lists.proofs.Words.{any_map, any_append_left, all_put}
-use Rattle.dt_lists.proofs.Before.{Spot, spot_has, get_front}
+use Rattle.dt_lists.proofs.Callers.{any_map, any_append_left, all_put, Spot, spot_has, get_front}
 use Rattle.dt_access.specs.Clash.{Bytes}
 use Rattle.dt_access.specs.declared.TxnId.{TxnId}
 use Rattle.dt_proc.specs.Tree.{ProcTree}

@@ -6,9 +6,9 @@ use Rattle.std.proofs.lemmas.Bool.{cases_lt, and_from, and_parts, or_left, cases
 use Rattle.std.proofs.lemmas.List.{map-append}
 use Rattle.std.proofs.lemmas.Option.{slice_get_within, slice_get-get_or}
 use Rattle.dt_lists.specs.Lists.{AllIn, Has, EachThen, Either}
-use Rattle.dt_lists.proofs.Words.{any_get, all_get, all_put, each_map, each_across, has_map}
-use Rattle.dt_lists.proofs.Before.{Spot, spot_has, each_of_steps, each_at, PassesAtFront, if_passes, get_filtered}
-use Rattle.dt_sched.proofs.Ids.{either_id}
+use Rattle.dt_lists.proofs.Callers.{any_get, all_get, all_put, each_map, each_across, has_map, Spot, spot_has, each_of_steps, each_at, PassesAtFront}
+use Rattle.dt_lists.proofs.Callers.{if_passes, get_filtered}
+use Rattle.dt_access.proofs.Callers.{either_id}
 use Rattle.dt_access.specs.Ids.{is_among}
 use Rattle.dt_access.specs.Clash.{Bytes, is_write, uses_clash}
 use Rattle.dt_access.specs.declared.TxnId.{TxnId}

@@ -3,7 +3,7 @@ use Rattle.std.proofs.Common.{◌≡◌, Bool, true, false, cond, List, [], ◌�
 use Rattle.std.specs.Prelude.{Option, filter, filter_map}
 use Rattle.std.specs.List.{cons_option}
 use Rattle.dt_lists.specs.Lists.{AllIn, Has}
-use Rattle.dt_lists.proofs.Words.{all_map, all_get, all_put}
+use Rattle.dt_lists.proofs.Callers.{all_map, all_get, all_put}
 use Rattle.dt_access.specs.declared.TxnId.{TxnId}
 use Rattle.dt_txn.specs.declared.txn.Txn.{Txn}
 use Rattle.dt_serial.specs.Order.{txn_ids}

@@ -8,10 +8,11 @@ use Rattle.std.proofs.Math.Seq.{take-append_seam}
 use Rattle.std.specs.Cmp.Lexicographic.{bytes_decides}
 use Rattle.std.proofs.lemmas.Option.{slice_get_within}
 use Rattle.dt_lists.specs.Lists.{AnyIn, AllIn, Has, IsFront, Distinct, Either}
-use Rattle.dt_lists.proofs.Words.{any_map, any_get, any_put, any_of_image, any_append, any_append_left, all_get, all_put, all_append_left, all_map, each_append_right, has_map}
-use Rattle.dt_lists.proofs.Before.{Spot, spot, spot_has, has_middle, if_passes, get_filtered, front_filtered, same_by_key}
-use Rattle.dt_sched.proofs.Ids.{either_id}
-use Rattle.dt_sched.proofs.Clash.{uses_of_clash}
+use Rattle.dt_lists.proofs.Callers.{any_map, any_get, any_put, any_of_image, any_append, any_append_left, all_get, all_put, all_append_left, all_map}
+use Rattle.dt_lists.proofs.Callers.{each_append_right, has_map, Spot, spot, spot_has, has_middle, if_passes, get_filtered, front_filtered, same_by_key}
+use Rattle.dt_lists.proofs.Callers.{of_filter, has_filter}
+use Rattle.dt_access.proofs.Callers.{either_id}
+use Rattle.dt_sched.proofs.Callers.{uses_of_clash}
 use Rattle.dt_access.specs.Ids.{is_among}
 use Rattle.dt_access.specs.Clash.{Bytes, is_write, uses_clash, clash}
 use Rattle.dt_access.specs.declared.TxnId.{TxnId}
@@ -31,7 +32,6 @@ use Rattle.dt_serial.proofs.Rows.{either_changes}
 use Rattle.dt_serial.proofs.One.{mover_at, one_alike, live_entries, live_of_outcome, change_of_one}
 use Rattle.dt_serial.proofs.Runs.{table_after_append, outcomes_ids, outcome_at, AlongRun, along_put, replay_append, replay_alike, replay_none, replay_value, replay_swap}
 use Rattle.dt_serial.proofs.Past.{has_of_among, among_of_has, not_among, among_same, IsPast, past_of_down, same_past, down_front, down_closed, filter_ids, down_filter}
-use Rattle.dt_lists.proofs.Filters.{of_filter, has_filter}
 use Rattle.dt_serial.proofs.History.{down_at, past_at, apart_at, replay_at, keys_at, anchor_at, IsMoveNumber, index, follower, live_before, same_movers, across, closed_front, replayed_moves, replayed_mover}
 
 module _ (procs : List ProcTree) (order : TxnId → TxnId → Type 0) (start : Table) (txns : List Txn) (h : IsHistory procs order start txns) where

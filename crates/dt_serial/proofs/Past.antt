@@ -3,14 +3,10 @@ use Rattle.std.proofs.Common.{◌≡◌, ◌⊎◌, Bool, true, false, cond, Lis
 use Rattle.std.specs.Prelude.{filter}
 use Rattle.std.proofs.lemmas.Bool.{cases_Bool, and_parts, and_from, false_from_ne_true}
 use Rattle.dt_lists.specs.Lists.{SomeThen, Has, EachThen, Distinct}
-use Rattle.dt_lists.proofs.Words.{any_map, any_append, any_append_left, some_map, some_get, some_of_two, some_append_left, each_append_left, each_across}
-use Rattle.dt_lists.proofs.Tests.{any_of_test, test_of_any}
-use Rattle.dt_lists.proofs.Distinct.{distinct_push}
-use Rattle.dt_lists.proofs.Keys.{some_in_front}
-use Rattle.dt_lists.proofs.Filters.{of_filter, filter_each, filter_before}
-use Rattle.dt_lists.proofs.Words.{all_get}
-use Rattle.dt_lists.proofs.Before.{some_each, before_has, has_before, has_middle}
-use Rattle.dt_sched.proofs.Ids.{same_by_parts}
+use Rattle.dt_lists.proofs.Callers.{any_map, any_append, any_append_left, some_map, some_get, some_of_two, some_append_left, each_append_left, each_across}
+use Rattle.dt_lists.proofs.Callers.{any_of_test, test_of_any, distinct_push, some_in_front, of_filter, filter_each, filter_before, all_get, some_each}
+use Rattle.dt_lists.proofs.Callers.{before_has, has_before, has_middle}
+use Rattle.dt_access.proofs.Callers.{same_by_parts}
 use Rattle.dt_access.specs.Ids.{same_id, is_among, StandsBefore}
 use Rattle.dt_access.specs.declared.TxnId.{TxnId}
 use Rattle.dt_txn.specs.declared.txn.Txn.{Txn}

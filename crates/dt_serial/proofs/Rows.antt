@@ -7,7 +7,7 @@ use Rattle.std.specs.FinMap.{get, get-insert, same_map, get-from_entries, slice_
 use Rattle.std.proofs.lemmas.Cmp.{nat_list_cmp_total}
 use Rattle.std.proofs.lemmas.Bool.{false_from_ne_true}
 use Rattle.dt_lists.specs.Lists.{AnyIn, Either}
-use Rattle.dt_lists.proofs.Decided.{either_list, either_nat, either_any, either_or}
+use Rattle.dt_lists.proofs.Callers.{either_list, either_nat, either_any, either_or}
 use Rattle.dt_access.specs.Clash.{Bytes, same_key}
 use Rattle.dt_access.specs.declared.TxnId.{TxnId}
 use Rattle.dt_text.specs.declared.Value.{Value}

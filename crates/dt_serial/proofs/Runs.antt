@@ -5,9 +5,7 @@ use Rattle.std.proofs.lemmas.Bool.{cases_Bool, cases_lt}
 use Rattle.std.proofs.lemmas.Option.{slice_get_within}
 use Rattle.std.proofs.lemmas.List.Elements.{filter-append}
 use Rattle.dt_lists.specs.Lists.{AllIn, Has, IsFront}
-use Rattle.dt_lists.proofs.Words.{any_append_right, has_map}
-use Rattle.dt_lists.proofs.Fronts.{front_refl, front_trans}
-use Rattle.dt_lists.proofs.Before.{Spot, spot_has, get_front, get_seam, all_of_gets}
+use Rattle.dt_lists.proofs.Callers.{any_append_right, has_map, front_refl, front_trans, Spot, spot_has, get_front, get_seam, all_of_gets}
 use Rattle.dt_access.specs.Clash.{Bytes}
 use Rattle.dt_access.specs.declared.TxnId.{TxnId}
 use Rattle.dt_proc.specs.Tree.{ProcTree}

@@ -2,7 +2,7 @@
 use Rattle.std.proofs.Common.{◌≡◌, ℕ, List, refl, sym, subst, inl, inr}
 use Rattle.std.specs.Prelude.{Option}
 use Rattle.dt_lists.specs.Lists.{AnyIn}
-use Rattle.dt_lists.proofs.Words.{all_any, any_of_image}
+use Rattle.dt_lists.proofs.Callers.{all_any, any_of_image}
 use Rattle.dt_access.specs.Clash.{Bytes}
 use Rattle.dt_access.specs.declared.TxnId.{TxnId}
 use Rattle.dt_access.specs.declared.Mode.TheVariants.{Write}

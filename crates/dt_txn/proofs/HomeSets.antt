@@ -4,7 +4,7 @@ use Rattle.std.specs.List.{prefix_len}
 use Rattle.std.proofs.lemmas.Bool.{cases_order}
 use Rattle.std.proofs.lemmas.Bool.Decides.{nat_tests}
 use Rattle.dt_lists.specs.Lists.{AllIn}
-use Rattle.dt_lists.proofs.Words.{all_map}
+use Rattle.dt_lists.proofs.Callers.{all_map}
 use Rattle.dt_access.specs.Orders.{AreAscendingHomes}
 use Rattle.dt_txn.specs.Transaction.{with_number, set_of}
 

@@ -1,7 +1,7 @@
 -- The keys of parts.
 use Rattle.std.proofs.Common.{◌≡◌, ℕ, Bool, true, false, cond, List, [], ◌∷◌, ◌++◌, map, filter, sym, subst, refl, ap}
 use Rattle.dt_lists.specs.Lists.{AllIn, EachThen}
-use Rattle.dt_lists.proofs.Words.{each_image, each_of_image, each_append_left}
+use Rattle.dt_lists.proofs.Callers.{each_image, each_of_image, each_append_left}
 use Rattle.dt_access.specs.Clash.{Bytes}
 use Rattle.dt_access.specs.Orders.{HasAscendingKeys, KeyBefore}
 use Rattle.dt_access.specs.declared.Access.{Access}

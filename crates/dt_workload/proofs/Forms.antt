@@ -4,11 +4,10 @@ use Rattle.std.specs.Cmp.Lexicographic.{pointwise, bytes_decides}
 use Rattle.std.specs.Fmt.{decimal}
 use Rattle.dt_lists.specs.Lists.{AllIn}
 use Rattle.dt_text.specs.Texts.{IsName, is_name_byte, first_outside}
-use Rattle.dt_text.proofs.Allowed.{outside_where}
+use Rattle.dt_text.proofs.Callers.{outside_where, exact}
 use Rattle.dt_text.specs.Reading.{words_of}
 use Rattle.dt_text.specs.declared.Word.{Word}
 use Rattle.dt_text.specs.declared.Value.{Value}
-use Rattle.dt_text.proofs.ReadingLaws.{exact}
 use Rattle.dt_workload.specs.Lines.{Bytes, Said, bare, said, Form, HasForm, IsArgument, argument_word}
 use Rattle.dt_workload.specs.Reading.{IsNoBeginning, ReadsForm, ReadsRegion, Refuses, form_of}
 use Rattle.dt_workload.specs.File.{IsSessionFault}

@@ -8,8 +8,7 @@ use Rattle.std.proofs.lemmas.Bool.Decides.{nat_tests}
 use Rattle.std.proofs.lemmas.List.{map-append}
 use Rattle.std.proofs.lemmas.List.Sums.{sum_by-append}
 use Rattle.dt_lists.specs.Lists.{AllIn, Has, Distinct, Pairwise}
-use Rattle.dt_lists.proofs.Words.{all_get, all_append_right, each_across, has_map}
-use Rattle.dt_lists.proofs.Places.{has_place, place_within}
+use Rattle.dt_lists.proofs.Callers.{all_get, all_append_right, each_across, has_map, has_place, place_within}
 use Rattle.dt_text.specs.Texts.{IsKey, IsName}
 use Rattle.dt_text.specs.Lines.{FileLine, lines_of}
 use Rattle.dt_text.specs.declared.Value.{Value}

@@ -9,8 +9,7 @@ use Rattle.std.proofs.lemmas.Fmt.{decimal_injective}
 use Rattle.dt_lists.specs.Lists.{AllIn}
 use Rattle.dt_text.specs.declared.Value.{Value}
 use Rattle.dt_text.specs.declared.Value.TheVariants.{Int, Text}
-use Rattle.dt_text.proofs.Numerals.{no_minus}
-use Rattle.dt_text.proofs.ReadingLaws.{exact}
+use Rattle.dt_text.proofs.Callers.{no_minus, exact}
 use Rattle.dt_workload.specs.Lines.{Bytes, bare, quoted, said, Form, session_line, call_line, move_line, argument_word, form_words, IsArgument, IsForm, HasForm}
 
 pub head-is : {A : Type 0} {x y : A} {xs ys : List A} → x ∷ xs ≡ y ∷ ys → x ≡ y

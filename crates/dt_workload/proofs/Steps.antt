@@ -7,9 +7,7 @@ use Rattle.std.proofs.lemmas.List.Quantifiers.{position-Some}
 use Rattle.std.proofs.lemmas.Option.{get_or_from_slice_get}
 use Rattle.std.proofs.lemmas.Bool.Decides.{nat_tests}
 use Rattle.dt_lists.specs.Lists.{AllIn, Has, Pairwise}
-use Rattle.dt_lists.proofs.Words.{all_append, all_append_left, all_append_right, all_get}
-use Rattle.dt_lists.proofs.Distinct.{distinct_push}
-use Rattle.dt_lists.proofs.Places.{has_place}
+use Rattle.dt_lists.proofs.Callers.{all_append, all_append_left, all_append_right, all_get, distinct_push, has_place}
 use Rattle.dt_text.specs.Texts.{IsKey}
 use Rattle.dt_text.specs.Lines.{FileLine}
 use Rattle.dt_proc.specs.Tree.{ProcTree}

@@ -5,9 +5,7 @@ use Rattle.std.proofs.lemmas.Bool.{cases_Bool}
 use Rattle.std.proofs.lemmas.List.{length_push, get_or-set_same, get_or-set_other}
 use Rattle.std.proofs.lemmas.Option.{some_pair_parts}
 use Rattle.dt_lists.specs.Lists.{AllIn, Either}
-use Rattle.dt_lists.proofs.Words.{all_map}
-use Rattle.dt_lists.proofs.Decided.{either_nat}
-use Rattle.dt_lists.proofs.Places.{from_right, field_of_set, map_of_set}
+use Rattle.dt_lists.proofs.Callers.{all_map, either_nat, from_right, field_of_set, map_of_set}
 use Rattle.dt_access.specs.Clash.{Bytes}
 use Rattle.dt_access.specs.declared.TxnId.{TxnId}
 use Rattle.dt_sched.specs.Sched.{parts_in}

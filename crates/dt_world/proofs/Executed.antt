@@ -6,9 +6,7 @@ use Rattle.std.proofs.lemmas.Bool.{cases_Bool}
 use Rattle.std.proofs.lemmas.List.{map_push, get_or-set_same}
 use Rattle.std.proofs.lemmas.List.Elements.{filter_map-append}
 use Rattle.dt_lists.specs.Lists.{AllIn, Has, IsFront}
-use Rattle.dt_lists.proofs.Words.{all_get, all_put, any_of_image, any_image}
-use Rattle.dt_lists.proofs.Fronts.{any_front}
-use Rattle.dt_lists.proofs.Places.{has_last}
+use Rattle.dt_lists.proofs.Callers.{all_get, all_put, any_of_image, any_image, any_front, has_last}
 use Rattle.dt_access.specs.Ids.{same_id, is_among}
 use Rattle.dt_access.specs.declared.TxnId.{TxnId}
 use Rattle.dt_events.specs.declared.Event.{Event}

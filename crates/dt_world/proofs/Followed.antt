@@ -6,9 +6,7 @@ use Rattle.std.proofs.lemmas.List.{length-append, length_push, length-map, map-s
 use Rattle.std.proofs.lemmas.List.Quantifiers.{position-Some}
 use Rattle.std.proofs.lemmas.Option.{some_pair_parts}
 use Rattle.dt_lists.specs.Lists.{Has, IsFront}
-use Rattle.dt_lists.proofs.Words.{any_of_image, any_image}
-use Rattle.dt_lists.proofs.Fronts.{any_front}
-use Rattle.dt_lists.proofs.Places.{get_of_map, map_of_set}
+use Rattle.dt_lists.proofs.Callers.{any_of_image, any_image, any_front, get_of_map, map_of_set}
 use Rattle.dt_access.specs.Clash.{Bytes}
 use Rattle.dt_access.specs.declared.TxnId.{TxnId}
 use Rattle.dt_events.specs.declared.Event.{Event}

@@ -3,8 +3,7 @@ use Rattle.std.proofs.Common.{◌≡◌, ◌<◌, ◌+◌, ℕ, zero, suc, Bool,
 use Rattle.std.specs.Prelude.{Option, option_and_then}
 use Rattle.std.proofs.lemmas.List.{get_or-set_same, get_or-set_other, set_past}
 use Rattle.dt_lists.specs.Lists.{IsFront, Either}
-use Rattle.dt_lists.proofs.Decided.{either_le, either_nat}
-use Rattle.dt_lists.proofs.Fronts.{front_append, front_refl, front_trans}
+use Rattle.dt_lists.proofs.Callers.{either_le, either_nat, front_append, front_refl, front_trans}
 use Rattle.dt_events.specs.declared.Event.{Event}
 use Rattle.dt_events.specs.declared.Event.TheVariants.{Submit, Append, Deliver, Insert, Resolve, Execute, Answer}
 use Rattle.dt_txn.specs.declared.Txn.{Txn}

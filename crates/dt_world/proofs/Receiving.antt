@@ -4,9 +4,7 @@ use Rattle.std.proofs.lemmas.Bool.Decides.{nat_tests}
 use Rattle.std.proofs.lemmas.List.{length-map, length-set, length-take-le, length-drop, map-set, map_push, take_more, get_or-set_same, get_or-set_other, set-get_or}
 use Rattle.dt_lists.specs.Lists.{AllIn, Distinct, Has}
 use Rattle.std.proofs.lemmas.Option.{get_or_from_slice_get}
-use Rattle.dt_lists.proofs.Places.{map_of_set, place_within}
-use Rattle.dt_lists.proofs.Fronts.{any_front, each_front, front_map, front_take}
-use Rattle.dt_lists.proofs.Words.{all_get, all_image, all_map, all_put, has_map}
+use Rattle.dt_lists.proofs.Callers.{map_of_set, place_within, any_front, each_front, front_map, front_take, all_get, all_image, all_map, all_put, has_map}
 use Rattle.dt_access.specs.declared.TxnId.{TxnId}
 use Rattle.dt_access.specs.declared.Part.{Part}
 use Rattle.dt_log.specs.declared.Taken.{Taken}

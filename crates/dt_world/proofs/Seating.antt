@@ -9,12 +9,7 @@ use Rattle.std.proofs.lemmas.Option.{slice_get-get_or, get_or_from_slice_get}
 use Rattle.std.specs.List.{list_any, slice_get}
 use Rattle.std.proofs.lemmas.List.Quantifiers.{position-Some}
 use Rattle.dt_lists.specs.Lists.{Distinct, Either, Has}
-use Rattle.dt_lists.proofs.Words.{any_get}
-use Rattle.dt_lists.proofs.Tests.{any_of_test}
-use Rattle.dt_lists.proofs.Before.{each_at, get_front}
-use Rattle.dt_lists.proofs.Fronts.{front_take}
-use Rattle.dt_lists.proofs.Decided.{either_le, either_nat}
-use Rattle.dt_lists.proofs.Places.{get_of_map, place_of, place_within}
+use Rattle.dt_lists.proofs.Callers.{any_get, any_of_test, each_at, get_front, front_take, either_le, either_nat, get_of_map, place_of, place_within}
 use Rattle.dt_access.specs.Clash.{Bytes, same_key}
 use Rattle.dt_access.specs.declared.TxnId.{TxnId}
 use Rattle.dt_workload.specs.declared.Session.{Session}

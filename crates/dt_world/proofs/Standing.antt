@@ -2,15 +2,11 @@
 use Rattle.std.proofs.Common.{◌≡◌, ◌≢◌, ◌<◌, ◌+◌, ℕ, List, [], ◌∷◌, ◌++◌, length, map, get_or, set, Some, refl, sym, ap, subst, ◌∙◌, inl, inr}
 use Rattle.std.proofs.lemmas.List.{length-map, length_push, map-set, get_or-set_same, get_or-set_other}
 use Rattle.dt_lists.specs.Lists.{Has, Either}
-use Rattle.dt_lists.proofs.Words.{any_at, all_any}
-use Rattle.dt_lists.proofs.Fronts.{any_front, front_take}
-use Rattle.dt_lists.proofs.Decided.{either_nat}
-use Rattle.dt_lists.proofs.Places.{field_of_set, map_of_set, get_of_map}
+use Rattle.dt_lists.proofs.Callers.{any_at, all_any, any_front, front_take, either_nat, field_of_set, map_of_set, get_of_map}
 use Rattle.dt_access.specs.declared.TxnId.{TxnId}
 use Rattle.dt_access.specs.declared.Part.{Part}
 use Rattle.dt_sched.specs.Views.{log_at, HasPart, IsClosed}
-use Rattle.dt_sched.proofs.Closed.{complete_of_closed}
-use Rattle.dt_sched.proofs.Reach.{present_of_complete}
+use Rattle.dt_sched.proofs.Callers.{complete_of_closed, present_of_complete}
 use Rattle.dt_events.specs.declared.Event.{Event}
 use Rattle.dt_txn.specs.declared.Txn.{Txn}
 use Rattle.dt_txn.specs.Replica.{Replica, stepped, fronts, view_of}

@@ -3,8 +3,7 @@ use Rattle.std.proofs.Common.{◌≡◌, ◌<◌, ◌≤◌, ℕ, List, length, 
 use Rattle.std.specs.Prelude.{Option, option_map}
 use Rattle.std.specs.List.{position}
 use Rattle.std.proofs.lemmas.Option.{slice_get-get_or}
-use Rattle.dt_lists.proofs.Words.{all_at, all_get}
-use Rattle.dt_lists.proofs.Places.{has_place}
+use Rattle.dt_lists.proofs.Callers.{all_at, all_get, has_place}
 use Rattle.dt_access.specs.Clash.{Bytes}
 use Rattle.dt_access.specs.declared.TxnId.{TxnId}
 use Rattle.dt_txn.specs.declared.Body.{Body}

@@ -1,4 +1,4 @@
-use Rattle.dt_text.proofs.LineLengths.{lines_of-within}
+use Rattle.dt_text.proofs.Callers.{lines_of-within}
 use Rattle.dt_events.proofs.EventWords.{all_read}
 use Rattle.dt_events.proofs.reader.read_events.Goals as goal
 

@@ -3,7 +3,7 @@ use Rattle.dt_lists.specs.Lists.{AllIn, Pairwise}
 use Rattle.dt_text.specs.Lines.{lines_of}
 use Rattle.dt_events.specs.declared.event.Event.{Event}
 use Rattle.dt_events.specs.Events.{FirstWithoutForm, IsNumberedEvent}
-use Rattle.dt_text.proofs.LineLengths.{IsLineWithin}
+use Rattle.dt_text.proofs.Callers.{IsLineWithin}
 use Rattle.dt_events.proofs.reader.read_events.Given as goal
 
 abbrev pub invariant-loop-line : goal.invariant-loop-line

@@ -1,5 +1,5 @@
 use Rattle.std.proofs.Common.{◌<◌, ◌^◌, arith}
-use Rattle.dt_text.proofs.Numerals.{narrower, ok_where}
+use Rattle.dt_text.proofs.Callers.{narrower, ok_where}
 use Rattle.dt_events.proofs.reader.read_region.Goals as goal
 
 pub returns : goal.returns

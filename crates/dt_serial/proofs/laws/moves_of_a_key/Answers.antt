@@ -1,4 +1,4 @@
-use Rattle.dt_lists.proofs.Words.{all_put}
+use Rattle.dt_lists.proofs.Callers.{all_put}
 use Rattle.dt_serial.specs.Order.{ByTest}
 use Rattle.dt_serial.proofs.Runs.{movers_ran}
 use Rattle.dt_serial.proofs.History.{chain}

@@ -1,6 +1,6 @@
 use Rattle.std.proofs.Common.{◌≡◌, List, slice_get, Some, sym, ap, ap₂, subst, ◌∙◌}
 use Rattle.dt_lists.specs.Lists.{AllIn}
-use Rattle.dt_lists.proofs.Places.{all_more}
+use Rattle.dt_lists.proofs.Callers.{all_more}
 use Rattle.dt_access.specs.declared.Part.{Part}
 use Rattle.dt_sched.specs.Views.{log_at}
 use Rattle.dt_region.specs.State.{State, held}

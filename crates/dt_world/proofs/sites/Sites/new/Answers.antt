@@ -1,6 +1,6 @@
 use Rattle.std.proofs.Common.{sym, subst}
 use Rattle.dt_lists.specs.Lists.{AllIn}
-use Rattle.dt_lists.proofs.Places.{all_more}
+use Rattle.dt_lists.proofs.Callers.{all_more}
 use Rattle.dt_region.specs.Sound.{IsSoundRegion}
 use Rattle.dt_world.specs.Posted.{Posted}
 use Rattle.dt_world.proofs.Opened.{opened_more}
