@@ -3,7 +3,7 @@ use Rattle.std.proofs.Common.{inl, ℕ, ◌≤◌, Option, Some, None, List, ref
 use Rattle.std.specs.Prelude.{codes}
 use Rattle.dt_proc.specs.Tree.{ProcTree}
 use Rattle.dt_proc.specs.Sound.{AreProcs}
-use Rattle.dt_proc.proofs.SoundProcs.{outcome_sound, builtin_sound}
+use Rattle.dt_proc.proofs.Callers.{outcome_sound, builtin_sound}
 use Rattle.toml.specs.Data.{Data, string, integer, float, boolean, datetime, array, table, get_member}
 use Rattle.dt_text.specs.Texts.{Bytes}
 use Rattle.dt_cluster.specs.File.{GivesProcs, IsCluster}

@@ -9,7 +9,7 @@ use Rattle.dt_proc.specs.Tree.{ProcTree}
 use Rattle.dt_proc.specs.Outcome.{Outcome}
 use Rattle.dt_proc.specs.declared.error.ProcError.{ProcError}
 use Rattle.dt_proc.specs.declared.error.ProcError.TheVariants as refused
-use Rattle.dt_proc.proofs.OneOutcome.{one_outcome}
+use Rattle.dt_proc.proofs.Callers.{one_outcome}
 use Rattle.toml.specs.Data.{Data, string, integer, float, boolean, datetime, array, table, Members, get_member}
 use Rattle.dt_text.specs.Texts.{Bytes}
 use Rattle.dt_cluster.specs.Document.{Entry, IsDocument, entries_of, AreEntries, AreEntriesAt, IsNoTable, IsFirstFaulty}

@@ -11,43 +11,44 @@ use Rattle.dt_access.specs.declared.Mode.{Mode}
 use Rattle.dt_access.specs.declared.Mode.TheVariants.{Write}
 use Rattle.dt_proc.specs.declared.tree.KeyDecl.{KeyDecl}
 use Rattle.dt_proc.specs.Tree.{ProcTree}
-use Rattle.dt_proc.specs.Sound.{IsSound, sort_of}
+use Rattle.dt_proc.specs.Sound.{IsSoundProc, sort_of}
 use Rattle.dt_eval.specs.declared.finish.Cause.{Cause}
 use Rattle.dt_eval.specs.declared.state.Row.{Row}
-use Rattle.dt_eval.specs.Data.{State, with_value, name_of}
-use Rattle.dt_eval.specs.Running.{after_block}
-use Rattle.dt_eval.specs.Meaning.{HasKeys, keys_of, names_of, meaning, finish_of, opening, unchanged, writes_in, writes_of}
+use Rattle.dt_eval.specs.Data.{RunState, declared_key}
+use Rattle.dt_eval.specs.Statements.{after_block}
+use Rattle.dt_eval.specs.Meaning.{keys_of, names_of, meaning, finish_of, run_opening, writes_in}
 use Rattle.dt_eval.specs.Calls.{CallFits, keys_if, meaning_if, call_keys, call_meaning}
 use Rattle.dt_eval.proofs.KeyLaws.{keys_ascend, keys_all, keys_write, written_use}
-use Rattle.dt_eval.proofs.RowLaws.{SetsOnly, Keeps, IsWrittenIn, sets_any, sets_sound, block_keeps, with_value_keys, with_value_written, opening_written, opening_keys, writes_written, writes_ascend}
+use Rattle.dt_eval.proofs.RowLaws.{Keeps, IsWrittenIn, sets_any, sets_sound, block_keeps, with_value_keys, with_value_written, opening_written, opening_keys, writes_written, writes_ascend}
 
 -- of one procedure
 
 -- a sound procedure writes only keys that it has in mode Write
-pub writes_declared : (proc : ProcTree) (args : List Value) (reads : List (Bytes × Option Value)) → IsSound proc →
+pub writes_declared : (proc : ProcTree) (args : List Value) (reads : List (Bytes × Option Value)) → IsSoundProc proc →
     AllIn (λ w. AnyIn (λ u. (u.0 ≡ w.0) × (u.1 ≡ Write)) (keys_of proc args)) (writes_in (meaning proc args reads))
-writes_declared proc args reads sound = ended (after_block (names_of proc args) proc.body (opening args reads)) kept
+writes_declared proc args reads sound = ended (after_block (names_of proc args) proc.body (run_opening args reads)) kept
   where
-    kept : Keeps (AllIn (IsWrittenIn (λ key. AnyIn (λ u. (u.0 ≡ key) × (u.1 ≡ Write)) (keys_of proc args)))) (after_block (names_of proc args) proc.body (opening args reads))
+    kept : Keeps (AllIn (IsWrittenIn (λ key. AnyIn (λ u. (u.0 ≡ key) × (u.1 ≡ Write)) (keys_of proc args)))) (after_block (names_of proc args) proc.body (run_opening args reads))
     kept = block_keeps (names_of proc args) _ (λ k. slice_get (map (λ (d : KeyDecl). d.write) proc.keys) k ≡ Some true)
-        (λ k v rows yes all. with_value_written _ (name_of (names_of proc args) k) v rows (keys_write (name_of (names_of proc args) k) proc args (written_use args proc.keys k yes)) all)
-        proc.body (sets_sound (map sort_of proc.params) (map (λ (d : KeyDecl). d.write) proc.keys) proc.body sound.body) (opening args reads) (opening_written _ reads)
+        (λ k v rows yes all. with_value_written _ (declared_key (names_of proc args) k) v rows (keys_write (declared_key (names_of proc args) k) proc args (written_use args proc.keys k yes)) all)
+        proc.body (sets_sound (map sort_of proc.params) (map (λ (d : KeyDecl). d.write) proc.keys) proc.body sound.body) (run_opening args reads) (opening_written _ reads)
 
-    ended : (r : Result State Cause) → Keeps (AllIn (IsWrittenIn (λ key. AnyIn (λ u. (u.0 ≡ key) × (u.1 ≡ Write)) (keys_of proc args)))) r → AllIn (λ w. AnyIn (λ u. (u.0 ≡ w.0) × (u.1 ≡ Write)) (keys_of proc args)) (writes_in (finish_of r))
+    ended : (r : Result RunState Cause) → Keeps (AllIn (IsWrittenIn (λ key. AnyIn (λ u. (u.0 ≡ key) × (u.1 ≡ Write)) (keys_of proc args)))) r →
+        AllIn (λ w. AnyIn (λ u. (u.0 ≡ w.0) × (u.1 ≡ Write)) (keys_of proc args)) (writes_in (finish_of r))
     ended (Ok s) all = writes_written (λ key. AnyIn (λ u. (u.0 ≡ key) × (u.1 ≡ Write)) (keys_of proc args)) s.rows all
     ended (Err c) all = tt
 
 -- the keys of the rows of a run stay
-pub keys_stay : (proc : ProcTree) (args : List Value) (reads : List (Bytes × Option Value)) → Keeps (λ rows. map (λ (r : Row). r.key) rows ≡ map (λ r. r.0) reads) (after_block (names_of proc args) proc.body (opening args reads))
+pub keys_stay : (proc : ProcTree) (args : List Value) (reads : List (Bytes × Option Value)) → Keeps (λ rows. map (λ (r : Row). r.key) rows ≡ map (λ r. r.0) reads) (after_block (names_of proc args) proc.body (run_opening args reads))
 keys_stay proc args reads =
     block_keeps (names_of proc args) (λ rows. map (λ (r : Row). r.key) rows ≡ map (λ r. r.0) reads) (λ k. Unit {0})
-    (λ k v rows yes same. with_value_keys (name_of (names_of proc args) k) v rows ∙ same) proc.body (sets_any (λ k. Unit {0}) (λ k. tt) proc.body) (opening args reads) (opening_keys reads)
+    (λ k v rows yes same. with_value_keys (declared_key (names_of proc args) k) v rows ∙ same) proc.body (sets_any (λ k. Unit {0}) (λ k. tt) proc.body) (run_opening args reads) (opening_keys reads)
 
 -- from reads in ascending order of keys come writes in ascending order of keys
 pub writes_in_order : (proc : ProcTree) (args : List Value) (reads : List (Bytes × Option Value)) → EachThen KeyBefore (map (λ r. r.0) reads) → HasAscendingKeys (writes_in (meaning proc args reads))
-writes_in_order proc args reads each = ended (after_block (names_of proc args) proc.body (opening args reads)) (keys_stay proc args reads)
+writes_in_order proc args reads each = ended (after_block (names_of proc args) proc.body (run_opening args reads)) (keys_stay proc args reads)
   where
-    ended : (r : Result State Cause) → Keeps (λ rows. map (λ (r : Row). r.key) rows ≡ map (λ r. r.0) reads) r → HasAscendingKeys (writes_in (finish_of r))
+    ended : (r : Result RunState Cause) → Keeps (λ rows. map (λ (r : Row). r.key) rows ≡ map (λ r. r.0) reads) r → HasAscendingKeys (writes_in (finish_of r))
     ended (Ok s) same = writes_ascend s.rows (subst (EachThen KeyBefore) (sym same) each)
     ended (Err c) same = tt
 

@@ -1,6 +1,7 @@
 -- The list of the keys of a call: it ascends, and holds each key that a declaration gives, with Write if any declaration of
 -- it is.
-use Rattle.std.proofs.Common.{◌≡◌, ◌<◌, ◌≤◌, ◌+◌, ◌⊎◌, ℕ, length, take, drop, set, ◌++◌, ap₂, add-one, append_assoc, arith, zero, suc, Bool, true, List, [], ◌∷◌, map, get_or, slice_get, Some, refl, sym, ap, subst, ◌∙◌, inl, inr}
+use Rattle.std.proofs.Common.{◌≡◌, ◌<◌, ◌≤◌, ◌+◌, ◌⊎◌, ℕ, length, take, drop, set, ◌++◌, ap₂, add-one, append_assoc, arith, zero, suc, Bool, true, List, []}
+use Rattle.std.proofs.Common.{◌∷◌, map, get_or, slice_get, Some, refl, sym, ap, subst, ◌∙◌, inl, inr}
 use Rattle.std.specs.List.{fold}
 use Rattle.std.proofs.Math.Seq.{drop-cons}
 use Rattle.std.proofs.lemmas.List.{take_all, drop_all}
@@ -9,38 +10,37 @@ use Rattle.std.specs.declared.cmp.Ordering.{Ordering}
 use Rattle.std.specs.declared.cmp.Ordering.TheVariants.{Less, Equal, Greater}
 use Rattle.std.specs.Cmp.Lexicographic.{slice_cmp, bytes_decides, texts_ties, nat_list_cmp_total}
 use Rattle.dt_lists.specs.Lists.{AnyIn, AllIn, Pairwise}
-use Rattle.dt_lists.proofs.Callers.{place_within, all_map}
+use Rattle.dt_lists.proofs.Callers.{place_within}
+use Rattle.dt_lists.proofs.Callers.{all_map}
 use Rattle.dt_text.specs.declared.Value.{Value}
 use Rattle.dt_access.specs.Clash.{Bytes}
 use Rattle.dt_access.specs.Orders.{KeyBefore, HasAscendingKeys}
+use Rattle.dt_access.proofs.Callers.{key_before_flip}
 use Rattle.dt_access.specs.declared.Mode.{Mode}
 use Rattle.dt_access.specs.declared.Mode.TheVariants.{Read, Write}
 use Rattle.dt_proc.specs.declared.tree.KeyDecl.{KeyDecl}
 use Rattle.dt_proc.specs.declared.tree.KeyItem.{KeyItem}
 use Rattle.dt_proc.specs.declared.tree.KeyItem.TheVariants as item
-use Rattle.dt_proc.specs.declared.tree.Kind.{Kind}
-use Rattle.dt_proc.specs.declared.tree.Kind.TheVariants as kind
-use Rattle.dt_proc.specs.Sound.{IsSound, IsSoundItem}
+use Rattle.dt_syntax.specs.declared.kinds.Kind.{Kind}
+use Rattle.dt_syntax.specs.declared.kinds.Kind.TheVariants as kind
+use Rattle.dt_proc.specs.Sound.{IsSoundProc, IsSoundItem}
 use Rattle.dt_proc.specs.Tree.{ProcTree}
-use Rattle.dt_eval.specs.Framed.{IsItemWithin}
+use Rattle.dt_eval.specs.FrameInner.{IsItemWithin}
 use Rattle.dt_eval.specs.Meaning.{Fits, IsOfKind}
 use Rattle.dt_text.specs.Texts.{IsKey}
-use Rattle.dt_eval.specs.Keys.{HasKeys, IsFirstBad, key_text, mode_of, merged, names_in, names_of, use_of, placed, with_use, keys_of}
+use Rattle.dt_eval.specs.Keys.{HasKeys, IsFirstBadKey, key_text, mode_of, merged, names_given, names_of, use_of, placed_use, with_use, keys_of}
 
 -- keys that compare as equal are the same
 pub same_by_cmp : (a b : Bytes) → slice_cmp nat_cmp a b ≡ Equal → a ≡ b
 same_by_cmp a b e = (bytes_decides a b).0 (texts_ties a b ∙ ap is_eq e)
 
 -- what compares as greater stands after
-pub before_of_greater : (a b : Bytes) → slice_cmp nat_cmp a b ≡ Greater → KeyBefore b a
-before_of_greater a b e = nat_list_cmp_total.antisymm b a ∙ ap ordering_reverse e
-
 -- what holds of the keys of a list and of a new key holds of all after it was added
 with_use_all : (P : Bytes → Type 0) (vs : List (Bytes × Mode)) (u : Bytes × Mode) → AllIn (λ v. P v.0) vs → P u.0 → AllIn (λ v. P v.0) (with_use vs u)
 with_use_all P [] u all p = (p, tt)
 with_use_all P (v ∷ vs) u all p = go (slice_cmp nat_cmp u.0 v.0) (with_use_all P vs u all.1 p)
   where
-    go : (o : Ordering) → AllIn (λ x. P x.0) (with_use vs u) → AllIn (λ x. P x.0) (placed o u v vs (with_use vs u))
+    go : (o : Ordering) → AllIn (λ x. P x.0) (with_use vs u) → AllIn (λ x. P x.0) (placed_use o u v vs (with_use vs u))
     go Less later = (p, all)
     go Equal later = all
     go Greater later = (all.0, later)
@@ -49,10 +49,10 @@ with_use_ascends : (vs : List (Bytes × Mode)) (u : Bytes × Mode) → HasAscend
 with_use_ascends [] u a = (tt, tt)
 with_use_ascends (v ∷ vs) u a = go (slice_cmp nat_cmp u.0 v.0) refl (with_use_ascends vs u a.1)
   where
-    go : (o : Ordering) → slice_cmp nat_cmp u.0 v.0 ≡ o → HasAscendingKeys (with_use vs u) → HasAscendingKeys (placed o u v vs (with_use vs u))
+    go : (o : Ordering) → slice_cmp nat_cmp u.0 v.0 ≡ o → HasAscendingKeys (with_use vs u) → HasAscendingKeys (placed_use o u v vs (with_use vs u))
     go Less e later = ((e, all_map _ _ vs (λ x h. nat_list_cmp_total.trans u.0 v.0 x.0 e h) a.0), a)
     go Equal e later = a
-    go Greater e later = (with_use_all (KeyBefore v.0) vs u a.0 (before_of_greater u.0 v.0 e), later)
+    go Greater e later = (with_use_all (KeyBefore v.0) vs u a.0 (key_before_flip u.0 v.0 e), later)
 
 fold_ascends : (us vs : List (Bytes × Mode)) → HasAscendingKeys vs → HasAscendingKeys (fold with_use vs us)
 fold_ascends [] vs a = a
@@ -80,7 +80,7 @@ module _ (Q : Bytes × Mode → Type 0) (left : (key : Bytes) (m n : Mode) → Q
   with_use_keeps [] u h = absurd h
   with_use_keeps (v ∷ vs) u h = go (slice_cmp nat_cmp u.0 v.0) h (with_use_keeps vs u)
     where
-      go : (o : Ordering) → AnyIn Q (v ∷ vs) → (AnyIn Q vs → AnyIn Q (with_use vs u)) → AnyIn Q (placed o u v vs (with_use vs u))
+      go : (o : Ordering) → AnyIn Q (v ∷ vs) → (AnyIn Q vs → AnyIn Q (with_use vs u)) → AnyIn Q (placed_use o u v vs (with_use vs u))
       go Less h later = inr h
       go Equal (inl q) later = inl (left v.0 v.1 u.1 q)
       go Equal (inr k) later = inr k
@@ -91,7 +91,7 @@ module _ (Q : Bytes × Mode → Type 0) (left : (key : Bytes) (m n : Mode) → Q
   with_use_adds [] u q = inl q
   with_use_adds (v ∷ vs) u q = go (slice_cmp nat_cmp u.0 v.0) refl (with_use_adds vs u q)
     where
-      go : (o : Ordering) → slice_cmp nat_cmp u.0 v.0 ≡ o → AnyIn Q (with_use vs u) → AnyIn Q (placed o u v vs (with_use vs u))
+      go : (o : Ordering) → slice_cmp nat_cmp u.0 v.0 ≡ o → AnyIn Q (with_use vs u) → AnyIn Q (placed_use o u v vs (with_use vs u))
       go Less e later = inl q
       go Equal e later = inl (right v.0 v.1 u.1 (subst (λ k. Q (k, u.1)) (same_by_cmp u.0 v.0 e) q))
       go Greater e later = inr later
@@ -126,7 +126,8 @@ pub keys_there : (key : Bytes) (proc : ProcTree) (args : List Value) → AnyIn (
 keys_there key proc args = keys_any (λ u. u.0 ≡ key) (λ k m n q. q) (λ k m n q. q) proc args
 
 -- the declaration of a number, where it is one with `write`
-pub written_use : (args : List Value) (ds : List KeyDecl) (k : ℕ) → slice_get (map (λ (d : KeyDecl). d.write) ds) k ≡ Some true → AnyIn (λ u. (u.0 ≡ get_or (map (λ (d : KeyDecl). key_text args d.items) ds) k []) × (u.1 ≡ Write)) (map (use_of args) ds)
+pub written_use : (args : List Value) (ds : List KeyDecl) (k : ℕ) → slice_get (map (λ (d : KeyDecl). d.write) ds) k ≡ Some true →
+    AnyIn (λ u. (u.0 ≡ get_or (map (λ (d : KeyDecl). key_text args d.items) ds) k []) × (u.1 ≡ Write)) (map (use_of args) ds)
 written_use args [] k e = cc
 written_use args (d ∷ ds) zero e = let yes : d.write ≡ true = cc in inl (refl, ap mode_of yes)
 written_use args (d ∷ ds) (suc k) e = inr (written_use args ds k e)
@@ -144,7 +145,7 @@ fits_length [] (v ∷ args) f = absurd f
 fits_length (k ∷ params) [] f = absurd f
 fits_length (k ∷ params) (v ∷ args) f = ap suc (fits_length params args f.1)
 
-pub items_within : (proc : ProcTree) (args : List Value) → IsSound proc → Fits proc args → AllIn (λ (d : KeyDecl). AllIn (IsItemWithin (length args)) d.items) proc.keys
+pub items_within : (proc : ProcTree) (args : List Value) → IsSoundProc proc → Fits proc args → AllIn (λ (d : KeyDecl). AllIn (IsItemWithin (length args)) d.items) proc.keys
 items_within proc args sound fits =
     all_map (λ (d : KeyDecl). AllIn (IsSoundItem proc.params) d.items) (λ (d : KeyDecl). AllIn (IsItemWithin (length args)) d.items) proc.keys
     (λ (d : KeyDecl) s. all_map (IsSoundItem proc.params) (IsItemWithin (length args)) d.items (one_within proc.params (length args) (fits_length proc.params args fits)) s) sound.items
@@ -165,8 +166,8 @@ module _ (xs : List (Bytes × Mode)) (i : ℕ) (v u : Bytes × Mode) (below : i 
   cut : drop i xs ≡ v ∷ drop (suc i) xs
   cut = drop-cons xs i v below ∙ ap (λ x. x ∷ drop (suc i) xs) (sym is)
 
-  placed_at : (o : Ordering) → slice_cmp nat_cmp u.0 v.0 ≡ o → with_use xs u ≡ take i xs ++ placed o u v (drop (suc i) xs) (with_use (drop (suc i) xs) u)
-  placed_at o e = further ∙ ap (λ ys. take i xs ++ with_use ys u) cut ∙ ap (λ o. take i xs ++ placed o u v (drop (suc i) xs) (with_use (drop (suc i) xs) u)) e
+  placed_at : (o : Ordering) → slice_cmp nat_cmp u.0 v.0 ≡ o → with_use xs u ≡ take i xs ++ placed_use o u v (drop (suc i) xs) (with_use (drop (suc i) xs) u)
+  placed_at o e = further ∙ ap (λ ys. take i xs ++ with_use ys u) cut ∙ ap (λ o. take i xs ++ placed_use o u v (drop (suc i) xs) (with_use (drop (suc i) xs) u)) e
 
   pub use_before : slice_cmp nat_cmp u.0 v.0 ≡ Less → take i xs ++ u ∷ drop i xs ≡ with_use xs u
   use_before e = ap (λ ys. take i xs ++ u ∷ ys) cut ∙ sym (placed_at Less e)
@@ -201,18 +202,19 @@ shifted n j = omega arith
 pub record Gathers (proc : ProcTree) (args : List Value) (declarations : List KeyDecl) (number : ℕ) (uses : List (Bytes × Mode)) : Type 0 where
   pub within : AllIn (λ (d : KeyDecl). AllIn (IsItemWithin (length args)) d.items) (drop number declarations)
   pub told : fold with_use uses (map (use_of args) (drop number declarations)) ≡ keys_of proc args
-  pub all : AllIn IsKey (names_in args (drop number declarations)) → HasKeys proc args
-  pub first : (j : ℕ) → IsFirstBad (names_in args (drop number declarations)) j → IsFirstBad (names_of proc args) (number + j)
+  pub all : AllIn IsKey (names_given args (drop number declarations)) → HasKeys proc args
+  pub first : (j : ℕ) → IsFirstBadKey (names_given args (drop number declarations)) j → IsFirstBadKey (names_of proc args) (number + j)
 
-pub gathers_none : (proc : ProcTree) (args : List Value) (declarations : List KeyDecl) (uses : List (Bytes × Mode)) → IsSound proc → Fits proc args → declarations ≡ proc.keys → uses ≡ [] → Gathers proc args declarations 0 uses
+pub gathers_none : (proc : ProcTree) (args : List Value) (declarations : List KeyDecl) (uses : List (Bytes × Mode)) → IsSoundProc proc → Fits proc args → declarations ≡ proc.keys → uses ≡ [] → Gathers proc args declarations 0 uses
 gathers_none proc args declarations uses sound fits same none = record {
   within = subst (AllIn (λ (d : KeyDecl). AllIn (IsItemWithin (length args)) d.items)) (sym same) (items_within proc args sound fits);
   told = λ i. fold with_use (none i) (map (use_of args) (same i));
-  all = λ h. subst (λ ds. AllIn IsKey (names_in args ds)) same h;
-  first = λ j h. subst (λ n. IsFirstBad (names_of proc args) n) (sym (zero_add j)) (subst (λ ds. IsFirstBad (names_in args ds) j) same h);
+  all = λ h. subst (λ ds. AllIn IsKey (names_given args ds)) same h;
+  first = λ j h. subst (λ n. IsFirstBadKey (names_of proc args) n) (sym (zero_add j)) (subst (λ ds. IsFirstBadKey (names_given args ds) j) same h);
 }
 
-module _ (proc : ProcTree) (args : List Value) (declarations : List KeyDecl) (number : ℕ) (uses : List (Bytes × Mode)) (d : KeyDecl) (below : number < length declarations) (is : d ≡ get_or declarations number d) (known : Gathers proc args declarations number uses) where
+module _ (proc : ProcTree) (args : List Value) (declarations : List KeyDecl) (number : ℕ) (uses : List (Bytes × Mode)) (d : KeyDecl)
+    (below : number < length declarations) (is : d ≡ get_or declarations number d) (known : Gathers proc args declarations number uses) where
   declared : drop number declarations ≡ d ∷ drop (number + 1) declarations
   declared = drop-cons declarations number d below ∙ ap (λ x. x ∷ drop (suc number) declarations) (sym is) ∙ ap (λ j. d ∷ drop j declarations) (sym (add-one number))
 
@@ -223,19 +225,19 @@ module _ (proc : ProcTree) (args : List Value) (declarations : List KeyDecl) (nu
   gathers_more key more e = record {
     within = (subst (AllIn (λ (d : KeyDecl). AllIn (IsItemWithin (length args)) d.items)) declared known.within).1;
     told = ap (λ us. fold with_use us (map (use_of args) (drop (number + 1) declarations))) e ∙ ap (λ ds. fold with_use uses (map (use_of args) ds)) (sym declared) ∙ known.told;
-    all = λ h. known.all (subst (λ ds. AllIn IsKey (names_in args ds)) (sym declared) (key, h));
-    first = λ j h. subst (IsFirstBad (names_of proc args)) (shifted number j) (known.first (suc j) (subst (λ ds. IsFirstBad (names_in args ds) (suc j)) (sym declared) (key, h)));
+    all = λ h. known.all (subst (λ ds. AllIn IsKey (names_given args ds)) (sym declared) (key, h));
+    first = λ j h. subst (IsFirstBadKey (names_of proc args)) (shifted number j) (known.first (suc j) (subst (λ ds. IsFirstBadKey (names_given args ds) (suc j)) (sym declared) (key, h)));
   }
 
-  pub gathers_bad : ¬ (IsKey (key_text args d.items)) → (i : ℕ) → i ≡ number → IsFirstBad (names_of proc args) i
-  gathers_bad bad i e = subst (IsFirstBad (names_of proc args)) (add_zero number ∙ sym e) (known.first 0 (subst (λ ds. IsFirstBad (names_in args ds) 0) (sym declared) bad))
+  pub gathers_bad : ¬ (IsKey (key_text args d.items)) → (i : ℕ) → i ≡ number → IsFirstBadKey (names_of proc args) i
+  gathers_bad bad i e = subst (IsFirstBadKey (names_of proc args)) (add_zero number ∙ sym e) (known.first 0 (subst (λ ds. IsFirstBadKey (names_given args ds) 0) (sym declared) bad))
 
 module _ (proc : ProcTree) (args : List Value) (declarations : List KeyDecl) (number : ℕ) (uses : List (Bytes × Mode)) (past : length declarations ≤ number) (known : Gathers proc args declarations number uses) where
   pub gathers_all : uses ≡ keys_of proc args
   gathers_all = ap (λ ds. fold with_use uses (map (use_of args) ds)) (sym (drop_all number declarations past)) ∙ known.told
 
   pub gathers_keys : HasKeys proc args
-  gathers_keys = known.all (subst (λ ds. AllIn IsKey (names_in args ds)) (sym (drop_all number declarations past)) tt)
+  gathers_keys = known.all (subst (λ ds. AllIn IsKey (names_given args ds)) (sym (drop_all number declarations past)) tt)
 
   pub gathers_ascend : HasAscendingKeys uses
   gathers_ascend = subst HasAscendingKeys (sym gathers_all) (keys_ascend proc args)

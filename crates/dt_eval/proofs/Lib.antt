@@ -1,10 +1,11 @@
 pub mod Agreement
 pub mod CallLaws
+pub mod Callers
 pub mod FrameLaws
 pub mod KeyLaws
-pub mod Opening
 pub mod OperandLaws
 pub mod RowLaws
 pub mod RowPlaces
+pub mod RunStart
 pub mod SortLaws
 pub mod TextLaws

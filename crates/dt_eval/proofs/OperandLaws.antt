@@ -1,6 +1,7 @@
 -- The meaning by cases and the function agree: what the cases lead to is what the function gives, and on what fits the
 -- cases lead to what the function gives.
-use Rattle.std.proofs.Common.{◌≡◌, ◌≢◌, ◌⊎◌, ◌<◌, ◌≤◌, ◌^◌, ℕ, ℤ, pos, negsuc, neg_ℤ, nat_le, nat_lt, Bool, true, false, not, cond, zero, suc, List, [], ◌∷◌, ◌++◌, length, map, Some, Ok, Err, FitsSigned, w64, refl, sym, ap, ap₂, subst, ◌∙◌, inl, inr, arith}
+use Rattle.std.proofs.Common.{◌≡◌, ◌≢◌, ◌⊎◌, ◌<◌, ◌≤◌, ◌^◌, ℕ, ℤ, pos, negsuc, neg_ℤ, nat_le, nat_lt, Bool, true, false, not, cond, zero, suc, List, [], ◌∷◌}
+use Rattle.std.proofs.Common.{◌++◌, length, map, Some, Ok, Err, FitsSigned, w64, refl, sym, ap, ap₂, subst, ◌∙◌, inl, inr, arith}
 use Rattle.std.specs.Prelude.{◌↔◌, ◌+ℤ◌, ◌-ℤ◌, ◌*ℤ◌, ◌<ℤ◌, ◌≤ℤ◌, int_lt, int_le, int_div, int_rem, T, Option, None, Result, slice_get, option_map, is_some}
 use Rattle.std.specs.Bool.{Decides}
 use Rattle.std.specs.Ordering.{nat_cmp, int_eq, is_lt, is_le, is_gt, is_ge, ordering_reverse}
@@ -10,38 +11,35 @@ use Rattle.std.specs.Cmp.Lexicographic.{slice_cmp, bytes_decides, nat_list_cmp_t
 use Rattle.std.proofs.lemmas.Bool.{true≢false}
 use Rattle.std.proofs.lemmas.Bool.Decides.{Decides-int_eq, Decides-ltb, Decides-like, Decides-not, leb_tells}
 use Rattle.std.proofs.lemmas.Option.{slice_get-map}
-use Rattle.dt_lists.specs.Lists.{AllIn}
 use Rattle.dt_access.specs.Clash.{Bytes, same_key}
 use Rattle.dt_access.specs.Orders.{KeyBefore}
-use Rattle.dt_text.specs.declared.Value.{Value}
-use Rattle.dt_text.specs.declared.Value.TheVariants as val
-use Rattle.dt_proc.specs.declared.tree.Op.{Op}
-use Rattle.dt_proc.specs.declared.tree.Op.TheVariants.{Or, And, Equal, Differ, Less, AtMost, More, AtLeast, Add, Sub, Join, Mul, Div, Rem}
+use Rattle.dt_syntax.specs.declared.operator.Op.{Op}
+use Rattle.dt_syntax.specs.declared.operator.Op.TheVariants.{Or, And, Equal, Differ, Less, AtMost, More, AtLeast, Add, Sub, Join, Mul, Div, Rem}
 use Rattle.dt_proc.specs.declared.tree.Sort.{Sort}
 use Rattle.dt_proc.specs.declared.tree.Sort.TheVariants as sort
-use Rattle.dt_proc.specs.Sound.{Takes}
+use Rattle.dt_proc.specs.Sound.{TakesSort}
 use Rattle.dt_eval.specs.declared.finish.Cause.{Cause}
 use Rattle.dt_eval.specs.declared.finish.Cause.TheVariants as cause
 use Rattle.dt_eval.specs.declared.state.Datum.{Datum}
 use Rattle.dt_eval.specs.declared.state.Datum.TheVariants.{Int, Text, Bool as Truth}
 use Rattle.dt_eval.specs.Data.{sort_of_datum}
-use Rattle.dt_eval.specs.Evaluating.{is_small, in_range, is_zero, quotient, remainder, joining, text_order, of_numbers, of_texts, of_truths, operate, decides}
+use Rattle.dt_eval.specs.Expressions.{is_small, in_range, is_zero, text_order, of_numbers, of_texts, of_truths, operate, decides}
 use Rattle.dt_eval.specs.Cases as cases
-use Rattle.dt_eval.specs.Cases.{Tells, GivesIf, IsInRange, UnlessZero, OfNumbers, OfTexts, Operates}
+use Rattle.dt_eval.specs.Cases.{TellsTruth, GivesIf, IsInRange, UnlessZero, OfNumbers, OfTexts, Operates}
 
 -- a relation holds of what is told, and of nothing else
 abbrev pub Fixes : Result Datum Cause → (Result Datum Cause → Type 0) → Type 0
 Fixes told R = R told × ((r : Result Datum Cause) → R r → told ≡ r)
 
-tells : (b : Bool) (P : Type 0) → Decides b P → Fixes (Ok (Truth b)) (λ r. Tells r P)
+tells : (b : Bool) (P : Type 0) → Decides b P → Fixes (Ok (Truth b)) (λ r. TellsTruth r P)
 tells true P d = (inl (d.0 refl, refl), told)
   where
-    told : (r : Result Datum Cause) → Tells r P → Ok (Truth true) ≡ r
+    told : (r : Result Datum Cause) → TellsTruth r P → Ok (Truth true) ≡ r
     told r (inl h) = sym h.1
     told r (inr h) = absurd (h.0 (d.0 refl))
 tells false P d = (inr ((λ p. true≢false (sym (d.1 p))), refl), told)
   where
-    told : (r : Result Datum Cause) → Tells r P → Ok (Truth false) ≡ r
+    told : (r : Result Datum Cause) → TellsTruth r P → Ok (Truth false) ≡ r
     told r (inl h) = absurd (true≢false (sym (d.1 h.0)))
     told r (inr h) = sym h.1
 
@@ -95,7 +93,7 @@ ranged z = gives (is_small z) (FitsSigned w64 z) (Int z) cause.Overflow (small_d
 
 -- numbers
 
-numbers : (o : Op) (a b : ℤ) → Takes o sort.Int → Fixes (of_numbers o a b) (OfNumbers o a b)
+numbers : (o : Op) (a b : ℤ) → TakesSort o sort.Int → Fixes (of_numbers o a b) (OfNumbers o a b)
 numbers Or a b t = cc
 numbers And a b t = cc
 numbers Equal a b t = tells (int_eq a b) (a ≡ b) (Decides-int_eq a b)
@@ -113,7 +111,7 @@ numbers Rem a b t =
     unless (is_zero b) b (cond (is_small (int_div a b)) (Ok (Int (int_rem a b))) (Err cause.Overflow)) (λ r. GivesIf r (FitsSigned w64 (int_div a b)) (Int (int_rem a b)) cause.Overflow) (zero_decides b)
     (gives (is_small (int_div a b)) (FitsSigned w64 (int_div a b)) (Int (int_rem a b)) cause.Overflow (small_decides (int_div a b)))
 
-numbers_taken : (o : Op) (a b : ℤ) (r : Result Datum Cause) → OfNumbers o a b r → Takes o sort.Int
+numbers_taken : (o : Op) (a b : ℤ) (r : Result Datum Cause) → OfNumbers o a b r → TakesSort o sort.Int
 numbers_taken Or a b r h = absurd h
 numbers_taken And a b r h = absurd h
 numbers_taken Equal a b r h = inl refl
@@ -180,7 +178,7 @@ few_decides n m = (λ e. of_yes n m e (leb_tells n m), λ h. yes_of n m h (leb_t
     yes_of n m h (inl k) = k.0
     yes_of n m h (inr k) = absurd (omega (arith, h, k.1))
 
-texts : (o : Op) (s t : Bytes) → Takes o sort.Text → Fixes (of_texts o s t) (OfTexts o s t)
+texts : (o : Op) (s t : Bytes) → TakesSort o sort.Text → Fixes (of_texts o s t) (OfTexts o s t)
 texts Or s t k = cc
 texts And s t k = cc
 texts Equal s t k = tells (same_key s t) (s ≡ t) (same_decides s t)
@@ -196,7 +194,7 @@ texts Mul s t k = cc
 texts Div s t k = cc
 texts Rem s t k = cc
 
-texts_taken : (o : Op) (s t : Bytes) (r : Result Datum Cause) → OfTexts o s t r → Takes o sort.Text
+texts_taken : (o : Op) (s t : Bytes) (r : Result Datum Cause) → OfTexts o s t r → TakesSort o sort.Text
 texts_taken Or s t r h = absurd h
 texts_taken And s t r h = absurd h
 texts_taken Equal s t r h = inr refl
@@ -214,7 +212,7 @@ texts_taken Rem s t r h = absurd h
 
 -- truths
 
-truths : (o : Op) (a b : Bool) → Takes o sort.Bool → Operates o (Truth a) (Truth b) (of_truths o a b)
+truths : (o : Op) (a b : Bool) → TakesSort o sort.Bool → Operates o (Truth a) (Truth b) (of_truths o a b)
 truths Or a b t = refl
 truths And a b t = refl
 truths Equal a b (inl e) = cc
@@ -245,10 +243,10 @@ operate_is And (Truth a) (Truth b) r h = sym h
 operate_is o a b r h = absurd h
 
 -- operands of the sort that the operator takes have what the function gives
-pub is_operate : (o : Op) (a b : Datum) (s : Sort) → Takes o s → sort_of_datum a ≡ s → sort_of_datum b ≡ s → Operates o a b (operate o a b)
-is_operate o (Int a) (Int b) s t p q = (numbers o a b (subst (Takes o) (sym p) t)).0
-is_operate o (Text x) (Text y) s t p q = (texts o x y (subst (Takes o) (sym p) t)).0
-is_operate o (Truth a) (Truth b) s t p q = truths o a b (subst (Takes o) (sym p) t)
+pub is_operate : (o : Op) (a b : Datum) (s : Sort) → TakesSort o s → sort_of_datum a ≡ s → sort_of_datum b ≡ s → Operates o a b (operate o a b)
+is_operate o (Int a) (Int b) s t p q = (numbers o a b (subst (TakesSort o) (sym p) t)).0
+is_operate o (Text x) (Text y) s t p q = (texts o x y (subst (TakesSort o) (sym p) t)).0
+is_operate o (Truth a) (Truth b) s t p q = truths o a b (subst (TakesSort o) (sym p) t)
 is_operate o (Int a) (Text y) s t p q = let e : sort.Int ≡ sort.Text = p ∙ sym q in cc
 is_operate o (Int a) (Truth b) s t p q = let e : sort.Int ≡ sort.Bool = p ∙ sym q in cc
 is_operate o (Text x) (Int b) s t p q = let e : sort.Text ≡ sort.Int = p ∙ sym q in cc

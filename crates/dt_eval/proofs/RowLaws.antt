@@ -6,23 +6,24 @@ use Rattle.std.specs.Ordering.{is_eq}
 use Rattle.std.proofs.lemmas.Bool.{cases_Bool, true≢false}
 use Rattle.std.specs.List.{filter}
 use Rattle.dt_lists.specs.Lists.{AllIn, EachThen}
-use Rattle.dt_lists.proofs.Callers.{filter_each, of_filter, all_map, all_get, all_image, each_map, each_image, each_of_image}
+use Rattle.dt_lists.proofs.Callers.{filter_each, of_filter}
+use Rattle.dt_lists.proofs.Callers.{all_map, all_get, all_image, each_map, each_image, each_of_image}
 use Rattle.dt_access.specs.Clash.{Bytes, same_key}
 use Rattle.dt_access.specs.Orders.{KeyBefore, HasAscendingKeys, HasDistinctKeys}
 use Rattle.dt_text.specs.declared.Value.{Value}
 use Rattle.dt_proc.specs.declared.tree.Sort.{Sort}
-use Rattle.dt_proc.specs.Tree.{Formula, Gift, row, value, Step, let_new, set_row, clear_row, choose, abort_with, give_all, Block, done, then}
+use Rattle.dt_proc.specs.Tree.{GiveTree, value, let_new, set_row, clear_row, choose, abort_with, give_all, BlockTree, done, then}
 use Rattle.dt_proc.specs.Sound.{AreSound}
 use Rattle.dt_eval.specs.declared.finish.Cause.{Cause}
 use Rattle.dt_eval.specs.declared.state.Datum.{Datum}
 use Rattle.dt_eval.specs.declared.state.Datum.TheVariants.{Int, Text, Bool as Truth}
 use Rattle.dt_eval.specs.declared.state.Row.{Row}
-use Rattle.dt_eval.specs.Data.{State, next, stored, name_of, changed, with_value, row_at, with_variable, with_row, with_given, leaving}
-use Rattle.dt_eval.specs.Running.{value_now, gift_value, after_gift, after_gifts, chosen, after_step, after_block}
+use Rattle.dt_eval.specs.Data.{RunState, unless_aborted, stored, declared_key, changed, with_value, with_variable, with_row_value, with_given, leaving}
+use Rattle.dt_eval.specs.Statements.{value_now, gift_value, after_gift, after_gifts, chosen, after_step, after_block}
 use Rattle.dt_eval.specs.Meaning.{unchanged, writes_of}
 
 -- the block sets and clears only keys of declarations that have A
-abbrev pub SetsOnly : (ℕ → Type 0) → Block → Type 0
+abbrev pub SetsOnly : (ℕ → Type 0) → BlockTree → Type 0
 SetsOnly A done = Unit {0}
 SetsOnly A (then (let_new f) rest) = SetsOnly A rest
 SetsOnly A (then (set_row k f) rest) = A k × SetsOnly A rest
@@ -31,7 +32,7 @@ SetsOnly A (then (choose f a b) rest) = SetsOnly A a × SetsOnly A b × SetsOnly
 SetsOnly A (then (abort_with t) rest) = SetsOnly A rest
 SetsOnly A (then (give_all gs) rest) = SetsOnly A rest
 
-pub sets_any : (A : ℕ → Type 0) → ((k : ℕ) → A k) → (b : Block) → SetsOnly A b
+pub sets_any : (A : ℕ → Type 0) → ((k : ℕ) → A k) → (b : BlockTree) → SetsOnly A b
 sets_any A all done = tt
 sets_any A all (then (let_new f) rest) = sets_any A all rest
 sets_any A all (then (set_row k f) rest) = (all k, sets_any A all rest)
@@ -40,7 +41,7 @@ sets_any A all (then (choose f a b) rest) = (sets_any A all a, sets_any A all b,
 sets_any A all (then (abort_with t) rest) = sets_any A all rest
 sets_any A all (then (give_all gs) rest) = sets_any A all rest
 
-pub sets_sound : (variables : List Sort) (writes : List Bool) (b : Block) → AreSound variables writes b → SetsOnly (λ k. slice_get writes k ≡ Some true) b
+pub sets_sound : (variables : List Sort) (writes : List Bool) (b : BlockTree) → AreSound variables writes b → SetsOnly (λ k. slice_get writes k ≡ Some true) b
 sets_sound variables writes done s = tt
 sets_sound variables writes (then (let_new f) rest) s = sets_sound (variables ++ s.0 ∷ []) writes rest s.2
 sets_sound variables writes (then (set_row k f) rest) s = (s.0, sets_sound variables writes rest s.2)
@@ -50,47 +51,47 @@ sets_sound variables writes (then (abort_with t) rest) s = sets_sound variables 
 sets_sound variables writes (then (give_all gs) rest) s = sets_sound variables writes rest s.1
 
 -- where a run went on, its rows have P
-abbrev pub Keeps : (List Row → Type 0) → Result State Cause → Type 0
+abbrev pub Keeps : (List Row → Type 0) → Result RunState Cause → Type 0
 Keeps P (Ok s) = P s.rows
 Keeps P (Err c) = Unit {0}
 
-module _ (names : List Bytes) (P : List Row → Type 0) (A : ℕ → Type 0) (keeps : (k : ℕ) (v : Option Value) (rows : List Row) → A k → P rows → P (with_value (name_of names k) v rows)) where
-  on_value : (r : Result Datum Cause) (f : Datum → Result State Cause) → ((d : Datum) → Keeps P (f d)) → Keeps P (next r f)
+module _ (names : List Bytes) (P : List Row → Type 0) (A : ℕ → Type 0) (keeps : (k : ℕ) (v : Option Value) (rows : List Row) → A k → P rows → P (with_value (declared_key names k) v rows)) where
+  on_value : (r : Result Datum Cause) (f : Datum → Result RunState Cause) → ((d : Datum) → Keeps P (f d)) → Keeps P (unless_aborted r f)
   on_value (Ok d) f k = k d
   on_value (Err c) f k = tt
 
-  on_state : (r : Result State Cause) (f : State → Result State Cause) → Keeps P r → ((s : State) → P s.rows → Keeps P (f s)) → Keeps P (next r f)
+  on_state : (r : Result RunState Cause) (f : RunState → Result RunState Cause) → Keeps P r → ((s : RunState) → P s.rows → Keeps P (f s)) → Keeps P (unless_aborted r f)
   on_state (Ok s) f p k = k s p
   on_state (Err c) f p k = tt
 
-  on_leaving : (variables : List Datum) (r : Result State Cause) → Keeps P r → Keeps P (leaving variables r)
+  on_leaving : (variables : List Datum) (r : Result RunState Cause) → Keeps P r → Keeps P (leaving variables r)
   on_leaving variables (Ok s) p = p
   on_leaving variables (Err c) p = tt
 
-  on_chosen : (d : Datum) (a b : Result State Cause) → Keeps P a → Keeps P b → Keeps P (chosen d a b)
+  on_chosen : (d : Datum) (a b : Result RunState Cause) → Keeps P a → Keeps P b → Keeps P (chosen d a b)
   on_chosen (Truth true) a b p q = p
   on_chosen (Truth false) a b p q = q
   on_chosen (Int z) a b p q = tt
   on_chosen (Text t) a b p q = tt
 
-  gift_keeps : (g : Gift) (s : State) → P s.rows → Keeps P (after_gift names g s)
+  gift_keeps : (g : GiveTree) (s : RunState) → P s.rows → Keeps P (after_gift names g s)
   gift_keeps g s p = go (gift_value names g s)
     where
-      go : (r : Result (Option Value) Cause) → Keeps P (next r (λ v. Ok (with_given v s)))
+      go : (r : Result (Option Value) Cause) → Keeps P (unless_aborted r (λ v. Ok (with_given v s)))
       go (Ok v) = p
       go (Err c) = tt
 
-  gifts_keep : (gs : List Gift) (s : State) → P s.rows → Keeps P (after_gifts names gs s)
+  gifts_keep : (gs : List GiveTree) (s : RunState) → P s.rows → Keeps P (after_gifts names gs s)
   gifts_keep [] s p = p
   gifts_keep (g ∷ gs) s p = on_state (after_gift names g s) (after_gifts names gs) (gift_keeps g s p) (gifts_keep gs)
 
-  pub block_keeps : (b : Block) → SetsOnly A b → (s : State) → P s.rows → Keeps P (after_block names b s)
+  pub block_keeps : (b : BlockTree) → SetsOnly A b → (s : RunState) → P s.rows → Keeps P (after_block names b s)
   block_keeps done only s p = p
   block_keeps (then (let_new f) rest) only s p =
       on_state (after_step names (let_new f) s) (after_block names rest) (on_value (value_now names s f) (λ d. Ok (with_variable d s)) (λ d. p)) (block_keeps rest only)
   block_keeps (then (set_row k f) rest) only s p =
-      on_state (after_step names (set_row k f) s) (after_block names rest) (on_value (value_now names s f) (λ d. Ok (with_row names k (stored d) s)) (λ d. keeps k (stored d) s.rows only.0 p)) (block_keeps rest only.1)
-  block_keeps (then (clear_row k) rest) only s p = block_keeps rest only.1 (with_row names k None s) (keeps k None s.rows only.0 p)
+      on_state (after_step names (set_row k f) s) (after_block names rest) (on_value (value_now names s f) (λ d. Ok (with_row_value names k (stored d) s)) (λ d. keeps k (stored d) s.rows only.0 p)) (block_keeps rest only.1)
+  block_keeps (then (clear_row k) rest) only s p = block_keeps rest only.1 (with_row_value names k None s) (keeps k None s.rows only.0 p)
   block_keeps (then (choose f a b) rest) only s p =
       on_state (after_step names (choose f a b) s) (after_block names rest)
       (on_value (value_now names s f) (λ d. leaving s.variables (chosen d (after_block names a s) (after_block names b s)))

@@ -9,18 +9,10 @@ use Rattle.dt_lists.proofs.Callers.{map_of_set}
 use Rattle.dt_text.specs.declared.Value.{Value}
 use Rattle.dt_access.specs.Clash.{Bytes, same_key}
 use Rattle.dt_access.specs.Orders.{KeyBefore}
+use Rattle.dt_access.proofs.Callers.{same_key_after, same_key_before, same_key_self}
 use Rattle.dt_eval.specs.declared.state.Row.{Row}
-use Rattle.dt_eval.specs.Data.{name_of, value_in, changed, with_value}
+use Rattle.dt_eval.specs.Data.{declared_key, value_in, changed, with_value}
 use Rattle.dt_eval.specs.Data.{keys_in, names_at}
-
-pub same_itself : (key : Bytes) → same_key key key ≡ true
-same_itself key = (bytes_decides key key).1 refl
-
-not_before : (a b : Bytes) → KeyBefore a b → same_key b a ≡ false
-not_before a b h = texts_ties b a ∙ ap is_eq (nat_list_cmp_total.antisymm b a ∙ ap ordering_reverse h)
-
-not_after : (a b : Bytes) → KeyBefore a b → same_key a b ≡ false
-not_after a b h = texts_ties a b ∙ ap is_eq h
 
 before_at : (key : Bytes) (keys : List Bytes) (p : ℕ) → p < length keys → AllIn (KeyBefore key) keys → KeyBefore key (get_or keys p [])
 before_at key [] p below all = absurd (omega arith)
@@ -32,25 +24,25 @@ below_keys rows p below = subst (λ n. p < n) (sym (length-map rows (λ (r : Row
 
 value_at : (rows : List Row) (p : ℕ) (d : Row) → p < length rows → EachThen KeyBefore (keys_in rows) → value_in rows (get_or (keys_in rows) p []) ≡ (get_or rows p d).value
 value_at [] p d below each = absurd (omega arith)
-value_at (r ∷ rows) zero d below each = ap (λ b. cond b r.value (value_in rows r.key)) (same_itself r.key)
+value_at (r ∷ rows) zero d below each = ap (λ b. cond b r.value (value_in rows r.key)) (same_key_self r.key)
 value_at (r ∷ rows) (suc p) d below each =
     let key : Bytes = get_or (keys_in rows) p [] in
     let within : p < length rows = omega arith in
-    ap (λ b. cond b r.value (value_in rows (get_or (keys_in rows) p []))) (not_before r.key (get_or (keys_in rows) p []) (before_at r.key (keys_in rows) p (below_keys rows p within) each.0))
+    ap (λ b. cond b r.value (value_in rows (get_or (keys_in rows) p []))) (same_key_after (get_or (keys_in rows) p []) r.key (before_at r.key (keys_in rows) p (below_keys rows p within) each.0))
     ∙ value_at rows p d within each.1
 
 -- the row of a key that stands before all others is not among them
 with_value_none : (key : Bytes) (v : Option Value) (rows : List Row) → AllIn (KeyBefore key) (keys_in rows) → with_value key v rows ≡ rows
 with_value_none key v [] all = refl
-with_value_none key v (r ∷ rows) all = ap₂ ◌∷◌ (ap (λ b. cond b (changed v r) r) (not_after key r.key all.0)) (with_value_none key v rows all.1)
+with_value_none key v (r ∷ rows) all = ap₂ ◌∷◌ (ap (λ b. cond b (changed v r) r) (same_key_before key r.key all.0)) (with_value_none key v rows all.1)
 
 with_value_at : (rows : List Row) (p : ℕ) (d : Row) (v : Option Value) → p < length rows → EachThen KeyBefore (keys_in rows) → with_value (get_or (keys_in rows) p []) v rows ≡ set rows p (changed v (get_or rows p d))
 with_value_at [] p d v below each = absurd (omega arith)
-with_value_at (r ∷ rows) zero d v below each = ap₂ ◌∷◌ (ap (λ b. cond b (changed v r) r) (same_itself r.key)) (with_value_none r.key v rows each.0)
+with_value_at (r ∷ rows) zero d v below each = ap₂ ◌∷◌ (ap (λ b. cond b (changed v r) r) (same_key_self r.key)) (with_value_none r.key v rows each.0)
 with_value_at (r ∷ rows) (suc p) d v below each =
     let within : p < length rows = omega arith in
     ap₂ ◌∷◌
-    (ap (λ b. cond b (changed v r) r) (not_before r.key (get_or (keys_in rows) p []) (before_at r.key (keys_in rows) p (below_keys rows p within) each.0)))
+    (ap (λ b. cond b (changed v r) r) (same_key_after (get_or (keys_in rows) p []) r.key (before_at r.key (keys_in rows) p (below_keys rows p within) each.0)))
     (with_value_at rows p d v within each.1)
 
 place_below : (n : ℕ) (places : List ℕ) (k d : ℕ) → AllIn (λ p. p < n) places → k < length places → get_or places k d < n
@@ -65,21 +57,22 @@ module _ (rows : List Row) (places : List ℕ) (k p : ℕ) (d : Row) (all : AllI
   pub place_in_rows : p < length rows
   place_in_rows = subst (λ q. q < length rows) (sym is) (place_below (length rows) places k p all in_places)
 
-  pub name_at_place : name_of (names_at places rows) k ≡ get_or (keys_in rows) p []
+  pub name_at_place : declared_key (names_at places rows) k ≡ get_or (keys_in rows) p []
   name_at_place = get_or-map (λ q. get_or (keys_in rows) q []) places k p [] in_places ∙ ap (λ q. get_or (keys_in rows) q []) (sym is)
 
   -- the value of the row that the declaration names
-  pub value_is : value_in rows (name_of (names_at places rows) k) ≡ (get_or rows p d).value
+  pub value_is : value_in rows (declared_key (names_at places rows) k) ≡ (get_or rows p d).value
   value_is = ap (value_in rows) name_at_place ∙ value_at rows p d place_in_rows each
 
   -- the rows after that row was changed
-  pub change_is : (v : Option Value) → with_value (name_of (names_at places rows) k) v rows ≡ set rows p (changed v (get_or rows p d))
+  pub change_is : (v : Option Value) → with_value (declared_key (names_at places rows) k) v rows ≡ set rows p (changed v (get_or rows p d))
   change_is v = ap (λ n. with_value n v rows) name_at_place ∙ with_value_at rows p d v place_in_rows each
 
   pub keys_after : (v : Option Value) → keys_in (set rows p (changed v (get_or rows p d))) ≡ keys_in rows
   keys_after v = map_of_set (λ (r : Row). r.key) rows p (changed v (get_or rows p d)) d refl
 
-module _ (rows : List Row) (places : List ℕ) (k p : ℕ) (d : Row) (v : Option Value) (all : AllIn (λ q. q < length rows) places) (each : EachThen KeyBefore (keys_in rows)) (below : k < length (names_at places rows)) (is : p ≡ get_or places k p) (item : d ≡ get_or rows p d) where
+module _ (rows : List Row) (places : List ℕ) (k p : ℕ) (d : Row) (v : Option Value)
+    (all : AllIn (λ q. q < length rows) places) (each : EachThen KeyBefore (keys_in rows)) (below : k < length (names_at places rows)) (is : p ≡ get_or places k p) (item : d ≡ get_or rows p d) where
   set_is : set rows p (changed v d) ≡ set rows p (changed v (get_or rows p d))
   set_is = ap (λ x. set rows p (changed v x)) item
 
@@ -91,8 +84,8 @@ module _ (rows : List Row) (places : List ℕ) (k p : ℕ) (d : Row) (v : Option
   row_invariant = (subst (λ n. AllIn (λ q. q < n) places) (sym (length-set rows p (changed v d))) all, subst (EachThen KeyBefore) (sym set_keys) each)
 
   -- the names stay, and the row of the named key is changed
-  pub row_changed : ◌≡◌ {A = List Bytes × List Row} (names_at places (set rows p (changed v d)), set rows p (changed v d)) (names_at places rows, with_value (name_of (names_at places rows) k) v rows)
+  pub row_changed : ◌≡◌ {A = List Bytes × List Row} (names_at places (set rows p (changed v d)), set rows p (changed v d)) (names_at places rows, with_value (declared_key (names_at places rows) k) v rows)
   row_changed =
       let names : names_at places (set rows p (changed v d)) ≡ names_at places rows = ap (λ keys. map (λ q. get_or keys q []) places) set_keys in
-      let items : set rows p (changed v d) ≡ with_value (name_of (names_at places rows) k) v rows = set_is ∙ sym (change_is rows places k p d all each below is v) in
+      let items : set rows p (changed v d) ≡ with_value (declared_key (names_at places rows) k) v rows = set_is ∙ sym (change_is rows places k p d all each below is v) in
       λ i. (names i, items i)

@@ -8,18 +8,19 @@ use Rattle.dt_text.specs.declared.Value.TheVariants as val
 use Rattle.dt_access.specs.Clash.{Bytes}
 use Rattle.dt_proc.specs.declared.tree.Sort.{Sort}
 use Rattle.dt_proc.specs.declared.tree.Sort.TheVariants as sort
-use Rattle.dt_proc.specs.declared.tree.Op.{Op}
-use Rattle.dt_proc.specs.declared.tree.Op.TheVariants.{Or, And, Equal, Differ, Less, AtMost, More, AtLeast, Add, Sub, Join, Mul, Div, Rem}
-use Rattle.dt_proc.specs.Tree.{Formula, number, text, truth, variable, number_of, text_of, has_value, length_of, shown, negative, opposite, binary}
-use Rattle.dt_proc.specs.Sound.{HasSort, given_by}
+use Rattle.dt_syntax.specs.declared.operator.Op.{Op}
+use Rattle.dt_syntax.specs.declared.operator.Op.TheVariants.{Or, And, Equal, Differ, Less, AtMost, More, AtLeast, Add, Sub, Join, Mul, Div, Rem}
+use Rattle.dt_proc.specs.Tree.{ExprTree, number, text, truth, variable, number_of, text_of, has_value, length_of, shown, negative, opposite, binary}
+use Rattle.dt_proc.specs.Sound.{HasSort, sort_given}
 use Rattle.dt_eval.specs.declared.finish.Cause.{Cause}
 use Rattle.dt_eval.specs.declared.finish.Cause.TheVariants as cause
 use Rattle.dt_eval.specs.declared.state.Datum.{Datum}
 use Rattle.dt_eval.specs.declared.state.Datum.TheVariants.{Int, Text, Bool as Truth}
-use Rattle.dt_eval.specs.Data.{next, sort_of_datum}
-use Rattle.dt_eval.specs.Evaluating.{in_range, is_small, is_zero, quotient, remainder, joining, of_numbers, of_texts, of_truths, operate, decides, variable_in, number_in, text_in, byte_count, printed, negated, other_truth, value_of}
+use Rattle.dt_eval.specs.Data.{unless_aborted, sort_of_datum}
+use Rattle.dt_eval.specs.Expressions.{in_range, is_small, is_zero, of_numbers, of_texts, of_truths, operate, decides, variable_in, number_in, text_in}
+use Rattle.dt_eval.specs.Expressions.{byte_count, printed_datum, negated, other_truth, evaluated}
 use Rattle.dt_eval.specs.declared.stop.Stop.{Stop}
-use Rattle.dt_eval.specs.Framed.{Answers, GivesSort}
+use Rattle.dt_eval.specs.FrameInner.{EvalAnswers, GivesSort}
 
 value_if : (s : Sort) (b : Bool) (d : Datum) (c : Cause) → sort_of_datum d ≡ s → GivesSort s (cond b (Ok d) (Err c))
 value_if s true d c e = e
@@ -32,7 +33,7 @@ abort_if s false c r g = g
 ranged : (z : ℤ) → GivesSort sort.Int (in_range z)
 ranged z = value_if sort.Int (is_small z) (Int z) cause.Overflow refl
 
-numbers_sort : (o : Op) (a b : ℤ) → GivesSort (given_by o) (of_numbers o a b)
+numbers_sort : (o : Op) (a b : ℤ) → GivesSort (sort_given o) (of_numbers o a b)
 numbers_sort Or a b = tt
 numbers_sort And a b = tt
 numbers_sort Equal a b = refl
@@ -50,7 +51,7 @@ numbers_sort Rem a b =
     abort_if sort.Int (is_zero b) cause.Zero (cond (is_small (int_div a b)) (Ok (Int (int_rem a b))) (Err cause.Overflow))
     (value_if sort.Int (is_small (int_div a b)) (Int (int_rem a b)) cause.Overflow refl)
 
-texts_sort : (o : Op) (s t : Bytes) → GivesSort (given_by o) (of_texts o s t)
+texts_sort : (o : Op) (s t : Bytes) → GivesSort (sort_given o) (of_texts o s t)
 texts_sort Or s t = tt
 texts_sort And s t = tt
 texts_sort Equal s t = refl
@@ -66,18 +67,18 @@ texts_sort Mul s t = tt
 texts_sort Div s t = tt
 texts_sort Rem s t = tt
 
-truths_sort : (o : Op) (a b : Bool) → GivesSort (given_by o) (of_truths o a b)
+truths_sort : (o : Op) (a b : Bool) → GivesSort (sort_given o) (of_truths o a b)
 truths_sort Or a b = refl
 truths_sort And a b = refl
 truths_sort o a b = tt
 
-pub operate_sort : (o : Op) (a b : Datum) → GivesSort (given_by o) (operate o a b)
+pub operate_sort : (o : Op) (a b : Datum) → GivesSort (sort_given o) (operate o a b)
 operate_sort o (Int a) (Int b) = numbers_sort o a b
 operate_sort o (Text s) (Text t) = texts_sort o s t
 operate_sort o (Truth a) (Truth b) = truths_sort o a b
 operate_sort o a b = tt
 
-decides_sort : (o : Op) (a : Datum) → decides o a ≡ true → sort_of_datum a ≡ given_by o
+decides_sort : (o : Op) (a : Datum) → decides o a ≡ true → sort_of_datum a ≡ sort_given o
 decides_sort And (Truth a) e = refl
 decides_sort Or (Truth a) e = refl
 decides_sort o a e = absurd (true≢false (sym e))
@@ -101,7 +102,7 @@ count_sort (Int z) = tt
 count_sort (Text t) = refl
 count_sort (Truth b) = tt
 
-printed_sort : (d : Datum) → GivesSort sort.Text (printed d)
+printed_sort : (d : Datum) → GivesSort sort.Text (printed_datum d)
 printed_sort (Int z) = refl
 printed_sort (Text t) = tt
 printed_sort (Truth b) = tt
@@ -116,7 +117,7 @@ other_sort (Int z) = tt
 other_sort (Text t) = tt
 other_sort (Truth b) = refl
 
-after : (s : Sort) (r : Result Datum Cause) (f : Datum → Result Datum Cause) → ((d : Datum) → GivesSort s (f d)) → GivesSort s (next r f)
+after : (s : Sort) (r : Result Datum Cause) (f : Datum → Result Datum Cause) → ((d : Datum) → GivesSort s (f d)) → GivesSort s (unless_aborted r f)
 after s (Ok d) f k = k d
 after s (Err c) f k = tt
 
@@ -124,7 +125,7 @@ pub as_wanted : (s t : Sort) (r : Result Datum Cause) → s ≡ t → GivesSort 
 as_wanted s t r e g = subst (λ x. GivesSort x r) (sym e) g
 
 -- where an expression has a sort, what it gives has it
-pub sort_kept : (variables : List Datum) (row : ℕ → Option Value) (keys : ℕ) (f : Formula) (s : Sort) → HasSort (map sort_of_datum variables) keys f s → GivesSort s (value_of variables row f)
+pub sort_kept : (variables : List Datum) (row : ℕ → Option Value) (keys : ℕ) (f : ExprTree) (s : Sort) → HasSort (map sort_of_datum variables) keys f s → GivesSort s (evaluated variables row f)
 sort_kept variables row keys (number z) s h = sym h.0
 sort_kept variables row keys (text t) s h = sym h.0
 sort_kept variables row keys (truth b) s h = sym h
@@ -132,20 +133,20 @@ sort_kept variables row keys (variable n) s h = variable_sort s (slice_get varia
 sort_kept variables row keys (number_of k) s h = as_wanted s sort.Int (number_in (row k)) h.0 (number_sort (row k))
 sort_kept variables row keys (text_of k) s h = as_wanted s sort.Text (text_in (row k)) h.0 (text_sort (row k))
 sort_kept variables row keys (has_value k) s h = sym h.0
-sort_kept variables row keys (length_of f) s h = as_wanted s sort.Int (next (value_of variables row f) byte_count) h.0 (after sort.Int (value_of variables row f) byte_count count_sort)
-sort_kept variables row keys (shown f) s h = as_wanted s sort.Text (next (value_of variables row f) printed) h.0 (after sort.Text (value_of variables row f) printed printed_sort)
-sort_kept variables row keys (negative f) s h = as_wanted s sort.Int (next (value_of variables row f) negated) h.0 (after sort.Int (value_of variables row f) negated negated_sort)
-sort_kept variables row keys (opposite f) s h = as_wanted s sort.Bool (next (value_of variables row f) other_truth) h.0 (after sort.Bool (value_of variables row f) other_truth other_sort)
+sort_kept variables row keys (length_of f) s h = as_wanted s sort.Int (unless_aborted (evaluated variables row f) byte_count) h.0 (after sort.Int (evaluated variables row f) byte_count count_sort)
+sort_kept variables row keys (shown f) s h = as_wanted s sort.Text (unless_aborted (evaluated variables row f) printed_datum) h.0 (after sort.Text (evaluated variables row f) printed_datum printed_sort)
+sort_kept variables row keys (negative f) s h = as_wanted s sort.Int (unless_aborted (evaluated variables row f) negated) h.0 (after sort.Int (evaluated variables row f) negated negated_sort)
+sort_kept variables row keys (opposite f) s h = as_wanted s sort.Bool (unless_aborted (evaluated variables row f) other_truth) h.0 (after sort.Bool (evaluated variables row f) other_truth other_sort)
 sort_kept variables row keys (binary o f g) s h =
-    as_wanted s (given_by o) (value_of variables row (binary o f g)) h.4
-    (after (given_by o) (value_of variables row f) (λ a. cond (decides o a) (Ok a) (next (value_of variables row g) (operate o a)))
-    (λ a. decided o a (decides o a) refl (next (value_of variables row g) (operate o a)) (after (given_by o) (value_of variables row g) (operate o a) (operate_sort o a))))
+    as_wanted s (sort_given o) (evaluated variables row (binary o f g)) h.4
+    (after (sort_given o) (evaluated variables row f) (λ a. cond (decides o a) (Ok a) (unless_aborted (evaluated variables row g) (operate o a)))
+    (λ a. decided o a (decides o a) refl (unless_aborted (evaluated variables row g) (operate o a)) (after (sort_given o) (evaluated variables row g) (operate o a) (operate_sort o a))))
   where
-    decided : (o : Op) (a : Datum) (b : Bool) → decides o a ≡ b → (r : Result Datum Cause) → GivesSort (given_by o) r → GivesSort (given_by o) (cond b (Ok a) r)
+    decided : (o : Op) (a : Datum) (b : Bool) → decides o a ≡ b → (r : Result Datum Cause) → GivesSort (sort_given o) r → GivesSort (sort_given o) (cond b (Ok a) r)
     decided o a true e r g = decides_sort o a e
     decided o a false e r g = g
 
 -- an answer has the sort of what is told
-pub sort_of_answer : (s : Sort) (told : Result Datum Cause) (r : Result Datum Stop) → GivesSort s told → Answers told r → IfOk r (λ d. sort_of_datum d ≡ s)
+pub sort_of_answer : (s : Sort) (told : Result Datum Cause) (r : Result Datum Stop) → GivesSort s told → EvalAnswers told r → IfOk r (λ d. sort_of_datum d ≡ s)
 sort_of_answer s told (Ok d) g a = subst (GivesSort s) a g
 sort_of_answer s told (Err e) g a = tt

@@ -1,5 +1,6 @@
 -- Which bytes are texts: two joined ones that are not too long, and the printed form of a number.
-use Rattle.std.proofs.Common.{◌≡◌, ℕ, suc, ◌+◌, ◌<◌, ◌≤◌, ◌^◌, ℤ, pos, negsuc, Bool, true, false, not, ◌&&◌, nat_le, List, [], ◌∷◌, ◌++◌, length, Some, None, FitsSigned, w64, refl, sym, ap, ap₂, ◌∙◌, arith, length-append}
+use Rattle.std.proofs.Common.{◌≡◌, ℕ, suc, ◌+◌, ◌<◌, ◌≤◌, ◌^◌, ℤ, pos, negsuc, Bool, true, false, not, ◌&&◌, nat_le, List, [], ◌∷◌, ◌++◌, length, Some, None}
+use Rattle.std.proofs.Common.{FitsSigned, w64, refl, sym, ap, ap₂, ◌∙◌, arith, length-append}
 use Rattle.std.specs.Fmt.{decimal, signed_decimal}
 use Rattle.std.specs.List.{list_all}
 use Rattle.std.specs.Str.Parse.{AllDigits}
@@ -12,16 +13,6 @@ use Rattle.std.proofs.lemmas.List.Quantifiers.{position-Some}
 use Rattle.std.proofs.lemmas.Str.Parse.{digit_from_value}
 use Rattle.dt_text.specs.Texts.{IsStr, is_text_byte, first_outside}
 use Rattle.dt_text.proofs.Callers.{decimal_digits}
-
-not_true : (b : Bool) → not b ≡ true → b ≡ false
-not_true false e = refl
-not_true true e = sym e
-
--- no byte of a text is outside
-pub none_bad : (bs : List ℕ) (i : ℕ) → IsStr bs → first_outside is_text_byte bs ≡ Some i → ⊥
-none_bad bs i text e =
-    let r = position-Some (λ b. not (is_text_byte b)) bs i 0 e in
-    true≢false (sym text.1 ∙ list_all_at is_text_byte bs i 0 r.0 (not_true _ r.1))
 
 -- two texts that are together not too long are a text
 pub joined_text : (s t : List ℕ) → IsStr s → IsStr t → length s + length t ≤ 256 → IsStr (s ++ t)

@@ -1,10 +1,11 @@
--- Calls, which name their procedure by its number in a list of procedures.
+-- Calls, which name their procedure by its number in a list of procedures. What a call needs before it may run, which keys it
+-- uses, and how it ends; the parts of each are said by Keys and Meaning.
 use Rattle.std.specs.Prelude.{◌≡◌, ℕ, List, [], slice_get, Option, Some, None}
 use Rattle.dt_text.specs.declared.Value.{Value}
 use Rattle.dt_access.specs.Clash.{Bytes}
 use Rattle.dt_access.specs.declared.Mode.{Mode}
 use Rattle.dt_proc.specs.Tree.{ProcTree}
-use Rattle.dt_proc.specs.Sound.{IsSound}
+use Rattle.dt_proc.specs.Sound.{IsSoundProc}
 use Rattle.dt_eval.specs.declared.finish.Finish.{Finish}
 use Rattle.dt_eval.specs.declared.finish.Finish.TheVariants.{Gave}
 use Rattle.dt_eval.specs.Meaning.{Fits, HasKeys, keys_of, meaning}
@@ -13,7 +14,7 @@ use Rattle.dt_eval.specs.Meaning.{Fits, HasKeys, keys_of, meaning}
 pub record CallFits (procs : List ProcTree) (number : ℕ) (args : List Value) : Type 0 where
   pub body : ProcTree
   pub named : slice_get procs number ≡ Some body
-  pub sound : IsSound body
+  pub sound : IsSoundProc body
   pub fits : Fits body args
   pub keys : HasKeys body args
 

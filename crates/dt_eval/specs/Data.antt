@@ -1,4 +1,5 @@
--- What expressions give, the rows that a run has, and the state of a run between two statements.
+-- What expressions give, the rows that a run has, and the state of a run between two statements. A row is found by its key, so
+-- two declared names of one key are one row. Read Cases next.
 use Rattle.std.specs.Prelude.{ℕ, Bool, true, false, cond, List, [], ◌∷◌, ◌++◌, map, Option, Some, None, Result, Ok, Err, slice_index_or}
 use Rattle.dt_access.specs.Clash.{Bytes, same_key}
 use Rattle.dt_text.specs.declared.Value.{Value}
@@ -11,9 +12,9 @@ use Rattle.dt_eval.specs.declared.state.Datum.TheVariants.{Int, Text, Bool as Tr
 use Rattle.dt_eval.specs.declared.state.Row.{Row}
 
 -- goes on with what was given; an abort stays an abort
-abbrev pub next : {A B : Type 0} → Result A Cause → (A → Result B Cause) → Result B Cause
-next (Ok a) f = f a
-next (Err c) f = Err c
+abbrev pub unless_aborted : {A B : Type 0} → Result A Cause → (A → Result B Cause) → Result B Cause
+unless_aborted (Ok a) f = f a
+unless_aborted (Err c) f = Err c
 
 -- the sort of what an expression gave
 abbrev pub sort_of_datum : Datum → Sort
@@ -33,8 +34,8 @@ stored (Text t) = Some (val.Text t)
 stored (Truth b) = None
 
 -- the key of the declaration of this number
-abbrev pub name_of : List Bytes → ℕ → Bytes
-name_of names k = slice_index_or names k []
+abbrev pub declared_key : List Bytes → ℕ → Bytes
+declared_key names k = slice_index_or names k []
 
 -- the keys of rows, in order
 abbrev pub keys_in : List Row → List Bytes
@@ -58,28 +59,28 @@ abbrev pub with_value : Bytes → Option Value → List Row → List Row
 with_value key value rows = map (λ r. cond (same_key key r.key) (changed value r) r) rows
 
 -- a run between two statements: the parameters and the visible lets, the rows of all keys, and the values given so far
-pub record State : Type 0 where
+pub record RunState : Type 0 where
   pub variables : List Datum
   pub rows : List Row
   pub given : List (Option Value)
 
 -- the value of the row of the key that the declaration of this number gives; so a row is seen under every name of its key
-abbrev pub row_at : List Bytes → State → ℕ → Option Value
-row_at names s k = value_in s.rows (name_of names k)
+abbrev pub row_at : List Bytes → RunState → ℕ → Option Value
+row_at names s k = value_in s.rows (declared_key names k)
 
 -- with one more variable
-abbrev pub with_variable : Datum → State → State
+abbrev pub with_variable : Datum → RunState → RunState
 with_variable d s = record { variables = s.variables ++ d ∷ []; rows = s.rows; given = s.given }
 
 -- with a new value in the row of a declared key, or none
-abbrev pub with_row : List Bytes → ℕ → Option Value → State → State
-with_row names k value s = record { variables = s.variables; rows = with_value (name_of names k) value s.rows; given = s.given }
+abbrev pub with_row_value : List Bytes → ℕ → Option Value → RunState → RunState
+with_row_value names k value s = record { variables = s.variables; rows = with_value (declared_key names k) value s.rows; given = s.given }
 
 -- with one more value given
-abbrev pub with_given : Option Value → State → State
+abbrev pub with_given : Option Value → RunState → RunState
 with_given value s = record { variables = s.variables; rows = s.rows; given = s.given ++ value ∷ [] }
 
 -- after a block: its lets are no longer visible
-abbrev pub leaving : List Datum → Result State Cause → Result State Cause
+abbrev pub leaving : List Datum → Result RunState Cause → Result RunState Cause
 leaving variables (Ok s) = Ok (record { variables = variables; rows = s.rows; given = s.given })
 leaving variables (Err c) = Err c

@@ -1,4 +1,5 @@
--- The keys that a call uses.
+-- The keys that a call uses. They follow from its arguments alone, before it runs, so that the order of calls can be found
+-- without running them. A key that is declared twice is used once, for writing if either declaration writes.
 use Rattle.std.specs.Prelude.{◌≡◌, ℕ, zero, suc, Bool, true, false, List, [], ◌∷◌, map, slice_get, Option, Some, None}
 use Rattle.std.specs.Fmt.{signed_decimal}
 use Rattle.std.specs.List.{flat_map, fold}
@@ -35,22 +36,22 @@ abbrev pub key_text : List Value → List KeyItem → Bytes
 key_text args items = flat_map (item_text args) items
 
 -- what declarations give as keys, in order
-abbrev pub names_in : List Value → List KeyDecl → List Bytes
-names_in args declarations = map (λ (d : KeyDecl). key_text args d.items) declarations
+abbrev pub names_given : List Value → List KeyDecl → List Bytes
+names_given args declarations = map (λ (d : KeyDecl). key_text args d.items) declarations
 
 -- what the declarations of a procedure give as keys, in order: names of rows, of which several may be the same
 abbrev pub names_of : ProcTree → List Value → List Bytes
-names_of proc args = names_in args proc.keys
+names_of proc args = names_given args proc.keys
 
 -- each declaration gives a key
 abbrev pub HasKeys : ProcTree → List Value → Type 0
 HasKeys proc args = AllIn IsKey (names_of proc args)
 
 -- the first text of the list that is no key stands at this place
-abbrev pub IsFirstBad : List Bytes → ℕ → Type 0
-IsFirstBad [] i = ⊥
-IsFirstBad (name ∷ names) zero = ¬ (IsKey name)
-IsFirstBad (name ∷ names) (suc i) = IsKey name × IsFirstBad names i
+abbrev pub IsFirstBadKey : List Bytes → ℕ → Type 0
+IsFirstBadKey [] i = ⊥
+IsFirstBadKey (name ∷ names) zero = ¬ (IsKey name)
+IsFirstBadKey (name ∷ names) (suc i) = IsKey name × IsFirstBadKey names i
 
 -- the mode of a declaration
 abbrev pub mode_of : Bool → Mode
@@ -67,15 +68,15 @@ abbrev pub use_of : List Value → KeyDecl → Bytes × Mode
 use_of args d = (key_text args d.items, mode_of d.write)
 
 -- a use that stands so to the first of a list of uses is put before it, is merged with it, or is put further on
-abbrev pub placed : Ordering → Bytes × Mode → Bytes × Mode → List (Bytes × Mode) → List (Bytes × Mode) → List (Bytes × Mode)
-placed Less u v vs further = u ∷ v ∷ vs
-placed Equal u v vs further = (v.0, merged v.1 u.1) ∷ vs
-placed Greater u v vs further = v ∷ further
+abbrev pub placed_use : Ordering → Bytes × Mode → Bytes × Mode → List (Bytes × Mode) → List (Bytes × Mode) → List (Bytes × Mode)
+placed_use Less u v vs further = u ∷ v ∷ vs
+placed_use Equal u v vs further = (v.0, merged v.1 u.1) ∷ vs
+placed_use Greater u v vs further = v ∷ further
 
 -- uses in ascending order of keys, with one use more: a key that is there already stays once, and its modes are merged
 abbrev pub with_use : List (Bytes × Mode) → Bytes × Mode → List (Bytes × Mode)
 with_use [] u = u ∷ []
-with_use (v ∷ vs) u = placed (slice_cmp nat_cmp u.0 v.0) u v vs (with_use vs u)
+with_use (v ∷ vs) u = placed_use (slice_cmp nat_cmp u.0 v.0) u v vs (with_use vs u)
 
 -- the distinct keys of the declarations in ascending order, each with its mode: Write if any declaration of it is
 abbrev pub keys_of : ProcTree → List Value → List (Bytes × Mode)

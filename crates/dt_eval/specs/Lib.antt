@@ -1,9 +1,9 @@
 pub mod Calls
 pub mod Cases
 pub mod Data
-pub mod Evaluating
-pub mod Framed
+pub mod Expressions
+pub mod FrameInner
 pub mod Keys
 pub mod Laws
 pub mod Meaning
-pub mod Running
+pub mod Statements

@@ -2,10 +2,10 @@ ghost use Rattle.std.specs.Prelude.{◌≡◌, ◌<◌, ◌↔◌, IsTrue, IfOk,
 ghost use Rattle.dt_lists.specs.Lists.{AllIn, AnyIn, EachThen, Pairwise};
 ghost use Rattle.std.specs.List.{position};
 ghost use Rattle.dt_access.specs.Clash.{same_key};
-ghost use Rattle.dt_proc.specs.Sound.{IsSound};
+ghost use Rattle.dt_proc.specs.Sound.{IsSoundProc};
 ghost use Rattle.dt_eval.specs.Data.{datum_of};
-ghost use Rattle.dt_eval.specs.Framed.{ArePlaces, IsItemWithin};
-ghost use Rattle.dt_eval.specs.Keys.{HasKeys, keys_of, names_in, names_of};
+ghost use Rattle.dt_eval.specs.FrameInner.{ArePlaces, IsItemWithin};
+ghost use Rattle.dt_eval.specs.Keys.{HasKeys, keys_of, names_given, names_of};
 ghost use Rattle.dt_eval.specs.Meaning.{Fits, IsOfKind, meaning, unchanged};
 
 use crate::finish::{Finish, Reads, Values};
@@ -137,8 +137,8 @@ fn places(
     reads: &[(Key, Option<Value>)],
 ) -> Result<Vec<usize>, NoMemory>
     requires within { AllIn (λ d. AllIn (IsItemWithin (length args.now)) d.items) declarations.now }
-    requires read { AllIn (λ name. AnyIn (λ r. r.0 ≡ name) reads.now) (names_in args.now declarations.now) }
-    ensures { IfOk result (λ places. ArePlaces (names_in args.now declarations.now) (map (λ r. r.0) reads.now) places.items) }
+    requires read { AllIn (λ name. AnyIn (λ r. r.0 ≡ name) reads.now) (names_given args.now declarations.now) }
+    ensures { IfOk result (λ places. ArePlaces (names_given args.now declarations.now) (map (λ r. r.0) reads.now) places.items) }
 {
     let mut places = Vec::new(alloc);
     for declared in declarations {

@@ -1,12 +1,12 @@
 ghost use Rattle.std.specs.Prelude.{◌≡◌, ◌<◌, length, map, IfOk, OnOk, option_copied};
 ghost use Rattle.dt_lists.specs.Lists.{AllIn};
 ghost use Rattle.dt_proc.specs.declared.tree.Sort.{Sort};
-ghost use Rattle.dt_proc.specs.Shown.{block_of, formula_of, gift_of, step_of};
-ghost use Rattle.dt_proc.specs.Sound.{IsSoundGift, IsStored};
+ghost use Rattle.dt_proc.specs.TreeViews.{block_tree, expr_tree, give_tree, stmt_tree};
+ghost use Rattle.dt_proc.specs.Sound.{IsSoundGift, IsStoredSort};
 ghost use Rattle.dt_proc.specs.Tree.{choose, let_new, set_row};
 ghost use Rattle.dt_eval.specs.Data.{sort_of_datum};
-ghost use Rattle.dt_eval.specs.Framed.{Answers, HasSortIn, IsSorted, IsSoundBlock, IsSoundStep, Reaches, seen, told};
-ghost use Rattle.dt_eval.specs.Running.{after_block, after_gifts, after_step, gift_value};
+ghost use Rattle.dt_eval.specs.FrameInner.{EvalAnswers, HasSortIn, IsSorted, IsSoundBlock, IsSoundStep, RunReaches, seen, told_in};
+ghost use Rattle.dt_eval.specs.Statements.{after_block, after_gifts, after_step, gift_value};
 
 use crate::finish::{Cause, Values};
 use crate::operators::{
@@ -34,9 +34,9 @@ impl Frame {
     /// What an expression gives. Operands are evaluated from the left, and the right one only where the left one does not
     /// decide.
     pub(crate) fn value_of(&self, alloc: Global, expr: &Expr) -> Result<Datum, Stop>
-        requires { IsSorted self.now (formula_of expr.now) }
-        ensures answer { Answers (told self.now (formula_of expr.now)) result }
-        ensures sort { (s : Sort) → HasSortIn self.now (formula_of expr.now) s → IfOk result (λ d. sort_of_datum d ≡ s) }
+        requires { IsSorted self.now (expr_tree expr.now) }
+        ensures answer { EvalAnswers (told_in self.now (expr_tree expr.now)) result }
+        ensures sort { (s : Sort) → HasSortIn self.now (expr_tree expr.now) s → IfOk result (λ d. sort_of_datum d ≡ s) }
     {
         match expr {
             Expr::Int(number) => Ok(Datum::Int(*number)),
@@ -65,8 +65,8 @@ impl Frame {
     #[cycle(running)]
     #[tactic(auto, using(crate::proofs::FrameLaws::step_let, crate::proofs::FrameLaws::step_set_key, crate::proofs::FrameLaws::step_set_value, crate::proofs::FrameLaws::step_clear_key, crate::proofs::FrameLaws::step_gifts))]
     fn step(&mut self, alloc: Global, stmt: &Stmt) -> Result<(), Stop>
-        requires { IsSoundStep self.old (step_of stmt.now) }
-        ensures answer { Reaches (after_step self.old.rows.0 (step_of stmt.now) (seen self.old)) self.new result }
+        requires { IsSoundStep self.old (stmt_tree stmt.now) }
+        ensures answer { RunReaches (after_step self.old.rows.0 (stmt_tree stmt.now) (seen self.old)) self.new result }
         ensures names { OnOk result (self.new.rows.0 ≡ self.old.rows.0) }
     {
         match stmt {
@@ -85,8 +85,8 @@ impl Frame {
     /// Runs statements in order, up to the first that aborts.
     #[cycle(running)]
     pub(crate) fn block(&mut self, alloc: Global, stmts: &[Stmt]) -> Result<(), Stop>
-        requires { IsSoundBlock self.old (block_of stmts.now) }
-        ensures answer { Reaches (after_block self.old.rows.0 (block_of stmts.now) (seen self.old)) self.new result }
+        requires { IsSoundBlock self.old (block_tree stmts.now) }
+        ensures answer { RunReaches (after_block self.old.rows.0 (block_tree stmts.now) (seen self.old)) self.new result }
         ensures names { OnOk result (self.new.rows.0 ≡ self.old.rows.0) }
     {
         for stmt in stmts {
@@ -104,8 +104,8 @@ impl Frame {
         then: &Stmts,
         otherwise: &Stmts,
     ) -> Result<(), Stop>
-        requires { IsSoundStep self.old (choose (formula_of test.now) then.now otherwise.now) }
-        ensures answer { Reaches (after_step self.old.rows.0 (choose (formula_of test.now) then.now otherwise.now) (seen self.old)) self.new result }
+        requires { IsSoundStep self.old (choose (expr_tree test.now) then.now otherwise.now) }
+        ensures answer { RunReaches (after_step self.old.rows.0 (choose (expr_tree test.now) then.now otherwise.now) (seen self.old)) self.new result }
         ensures names { OnOk result (self.new.rows.0 ≡ self.old.rows.0) }
     {
         let visible = self.variables.len();
@@ -120,8 +120,8 @@ impl Frame {
 
     /// Gives a new variable the value of an expression.
     fn bind(&mut self, alloc: Global, value: &Expr) -> Result<(), Stop>
-        requires { IsSorted self.old (formula_of value.now) }
-        ensures answer { Reaches (after_step self.old.rows.0 (let_new (formula_of value.now)) (seen self.old)) self.new result }
+        requires { IsSorted self.old (expr_tree value.now) }
+        ensures answer { RunReaches (after_step self.old.rows.0 (let_new (expr_tree value.now)) (seen self.old)) self.new result }
         ensures names { OnOk result (self.new.rows.0 ≡ self.old.rows.0) }
     {
         let value = self.value_of(alloc, value)?;
@@ -132,8 +132,8 @@ impl Frame {
     /// Gives the row of a key the value of an expression.
     fn set(&mut self, alloc: Global, key: u32, value: &Expr) -> Result<(), Stop>
         requires key { key < length self.old.rows.0 }
-        requires value { (s : Sort) × IsStored s × HasSortIn self.old (formula_of value.now) s }
-        ensures answer { Reaches (after_step self.old.rows.0 (set_row key (formula_of value.now)) (seen self.old)) self.new result }
+        requires value { (s : Sort) × IsStoredSort s × HasSortIn self.old (expr_tree value.now) s }
+        ensures answer { RunReaches (after_step self.old.rows.0 (set_row key (expr_tree value.now)) (seen self.old)) self.new result }
         ensures names { OnOk result (self.new.rows.0 ≡ self.old.rows.0) }
     {
         let value = stored(self.value_of(alloc, value)?);
@@ -143,8 +143,8 @@ impl Frame {
 
     /// Adds the values of the items to the result, in order.
     fn give(&mut self, alloc: Global, items: &[Give]) -> Result<(), Stop>
-        requires { AllIn (IsSoundGift (map sort_of_datum self.old.variables.items) (length self.old.rows.0)) (map gift_of items.now) }
-        ensures answer { Reaches (after_gifts self.old.rows.0 (map gift_of items.now) (seen self.old)) self.new result }
+        requires { AllIn (IsSoundGift (map sort_of_datum self.old.variables.items) (length self.old.rows.0)) (map give_tree items.now) }
+        ensures answer { RunReaches (after_gifts self.old.rows.0 (map give_tree items.now) (seen self.old)) self.new result }
         ensures names { OnOk result (self.new.rows.0 ≡ self.old.rows.0) }
     {
         for item in items {
@@ -156,8 +156,8 @@ impl Frame {
 
     /// What an item adds to the result.
     fn gift(&self, alloc: Global, item: &Give) -> Result<Option<Value>, Stop>
-        requires { IsSoundGift (map sort_of_datum self.now.variables.items) (length self.now.rows.0) (gift_of item.now) }
-        ensures { Answers (gift_value self.now.rows.0 (gift_of item.now) (seen self.now)) result }
+        requires { IsSoundGift (map sort_of_datum self.now.variables.items) (length self.now.rows.0) (give_tree item.now) }
+        ensures { EvalAnswers (gift_value self.now.rows.0 (give_tree item.now) (seen self.now)) result }
     {
         match item {
             Give::Row(key) => Ok(copied(alloc, self.rows.value(*key))?),

@@ -1,9 +1,9 @@
 ghost use Rattle.std.specs.Prelude.{◌≡◌, ◌<◌, ◌^◌, ◌++◌, ℕ, Some, IfOk, OnOk, length};
 ghost use Rattle.dt_lists.specs.Lists.{AllIn};
 ghost use Rattle.dt_text.specs.Texts.{IsKey};
-ghost use Rattle.dt_eval.specs.Keys.{HasKeys, IsFirstBad, item_text, key_text, keys_of, merged, names_of, plain, use_of, with_use};
+ghost use Rattle.dt_eval.specs.Keys.{HasKeys, IsFirstBadKey, item_text, key_text, keys_of, merged, names_of, plain, use_of, with_use};
 ghost use Rattle.dt_eval.specs.Meaning.{Fits};
-ghost use Rattle.dt_eval.specs.Framed.{IsItemWithin};
+ghost use Rattle.dt_eval.specs.FrameInner.{IsItemWithin};
 
 use dt_access::{Keys, Mode};
 use dt_proc::{KeyDecl, KeyItem, Proc};
@@ -50,7 +50,7 @@ pub fn keys_of(alloc: Global, body: &Proc, args: &[Value]) -> Result<Keys, KeysE
     requires { Fits body.now args.now }
     ensures keys { IfOk result (λ keys. keys ≡ keys_of body.now args.now) }
     ensures ok { IfOk result (λ keys. HasKeys body.now args.now) }
-    ensures bad { (i : ℕ) → result ≡ Err (KeysError.BadKey i) → IsFirstBad (names_of body.now args.now) i }
+    ensures bad { (i : ℕ) → result ≡ Err (KeysError.BadKey i) → IsFirstBadKey (names_of body.now args.now) i }
 {
     let mut uses = Vec::new(alloc);
     let declarations = body.keys();

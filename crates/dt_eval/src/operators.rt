@@ -2,22 +2,22 @@ ghost use Rattle.std.specs.Prelude.{◌≡◌, ◌++◌, Some, Ok, IfOk, option_
 ghost use Rattle.std.specs.Fmt.{signed_decimal};
 ghost use Rattle.dt_text.specs.Texts.{IsStr};
 ghost use Rattle.dt_proc.specs.declared.tree.Sort.TheVariants as sort;
-ghost use Rattle.dt_proc.specs.Sound.{IsStored, Takes};
+ghost use Rattle.dt_proc.specs.Sound.{IsStoredSort, TakesSort};
 ghost use Rattle.dt_eval.specs.declared.state.Datum.TheVariants.{Int, Bool as Truth};
 ghost use Rattle.dt_eval.specs.Data.{sort_of_datum, stored};
-ghost use Rattle.dt_eval.specs.Evaluating as spec;
-ghost use Rattle.dt_eval.specs.Framed.{Answers, TakesBoth, or_overflow};
+ghost use Rattle.dt_eval.specs.Expressions as spec;
+ghost use Rattle.dt_eval.specs.FrameInner.{EvalAnswers, TakesBoth, or_overflow};
 
 use crate::finish::Cause;
 use crate::state::Datum;
 use crate::stop::Stop;
 use dt_proc::Op;
-use dt_text::{NoMemory, Str, StrError, Value, put_i64};
+use dt_text::{NoMemory, Str, Value, put_i64};
 use std::alloc::Global;
 
 /// The number in a row.
 pub(crate) fn number_in(value: Option<&Value>) -> Result<Datum, Stop>
-    ensures { Answers (spec.number_in (option_copied value.entry)) result }
+    ensures { EvalAnswers (spec.number_in (option_copied value.entry)) result }
 {
     match value {
         Some(Value::Int(number)) => Ok(Datum::Int(*number)),
@@ -27,7 +27,7 @@ pub(crate) fn number_in(value: Option<&Value>) -> Result<Datum, Stop>
 
 /// The text in a row.
 pub(crate) fn text_in(alloc: Global, value: Option<&Value>) -> Result<Datum, Stop>
-    ensures { Answers (spec.text_in (option_copied value.entry)) result }
+    ensures { EvalAnswers (spec.text_in (option_copied value.entry)) result }
 {
     match value {
         Some(Value::Text(text)) => Ok(Datum::Text(text.copy(alloc)?)),
@@ -59,7 +59,7 @@ pub(crate) fn truth_of(datum: Datum) -> bool
 
 /// What an expression gave, as a row has it.
 pub(crate) fn stored(datum: Datum) -> Value
-    requires { IsStored (sort_of_datum datum) }
+    requires { IsStoredSort (sort_of_datum datum) }
     ensures { stored datum ≡ Some result }
 {
     match datum {
@@ -84,10 +84,10 @@ pub(crate) fn byte_count(datum: Datum) -> Datum
 #[tactic(auto, using(crate::proofs::TextLaws::signed_is_str))]
 pub(crate) fn printed(alloc: Global, datum: Datum) -> Result<Datum, Stop>
     requires { sort_of_datum datum ≡ sort.Int }
-    ensures { Answers (spec.printed datum) result }
+    ensures { EvalAnswers (spec.printed_datum datum) result }
 {
     let bytes = digits_of(alloc, number_of(datum))?;
-    Ok(Datum::Text(text_of(alloc, bytes.as_slice())?))
+    Ok(Datum::Text(Str::new(alloc, bytes.as_slice())?))
 }
 
 /// The bytes of the printed form of a number.
@@ -98,19 +98,6 @@ fn digits_of(alloc: Global, number: i64) -> Result<Vec<u8>, NoMemory>
     let mut bytes = Vec::new(alloc);
     put_i64(alloc, &mut bytes, number)?;
     Ok(bytes)
-}
-
-/// The text that has these bytes.
-fn text_of(alloc: Global, bytes: &[u8]) -> Result<Str, NoMemory>
-    requires { IsStr bytes.now }
-    ensures { IfOk result (λ text. text ≡ bytes.now) }
-{
-    match Str::read(alloc, bytes) {
-        Ok(text) => Ok(text),
-        Err(StrError::NoMemory) => Err(NoMemory),
-        Err(StrError::Long) => unreachable!(),
-        Err(StrError::BadByte(_)) => unreachable!(),
-    }
 }
 
 /// The number with the other sign.
@@ -153,7 +140,7 @@ pub(crate) fn decides(op: Op, left: &Datum) -> bool
 /// What an operator gives of two operands.
 pub(crate) fn operate(alloc: Global, op: Op, left: Datum, right: Datum) -> Result<Datum, Stop>
     requires { TakesBoth op left right }
-    ensures { Answers (spec.operate op left right) result }
+    ensures { EvalAnswers (spec.operate op left right) result }
 {
     match (left, right) {
         (Datum::Int(left), Datum::Int(right)) => Ok(of_numbers(op, left, right)?),
@@ -165,7 +152,7 @@ pub(crate) fn operate(alloc: Global, op: Op, left: Datum, right: Datum) -> Resul
 
 /// What an operator gives of two numbers.
 fn of_numbers(op: Op, left: i64, right: i64) -> Result<Datum, Cause>
-    requires { Takes op sort.Int }
+    requires { TakesSort op sort.Int }
     ensures { result ≡ spec.of_numbers op left right }
 {
     match op {
@@ -187,8 +174,8 @@ fn of_numbers(op: Op, left: i64, right: i64) -> Result<Datum, Cause>
 
 /// What an operator gives of two texts.
 fn of_texts(alloc: Global, op: Op, left: &Str, right: &Str) -> Result<Datum, Stop>
-    requires { Takes op sort.Text }
-    ensures { Answers (spec.of_texts op left.now right.now) result }
+    requires { TakesSort op sort.Text }
+    ensures { EvalAnswers (spec.of_texts op left.now right.now) result }
 {
     match op {
         Op::Equal => Ok(Datum::Bool(left == right)),
@@ -205,13 +192,13 @@ fn of_texts(alloc: Global, op: Op, left: &Str, right: &Str) -> Result<Datum, Sto
 /// The one text and then the other, or `Long` where that is no text.
 #[tactic(auto, using(crate::proofs::TextLaws::joined_text))]
 fn joined(alloc: Global, left: &Str, right: &Str) -> Result<Datum, Stop>
-    ensures { Answers (spec.joining left.now right.now) result }
+    ensures { EvalAnswers (spec.joining left.now right.now) result }
 {
     if left.bytes().len() + right.bytes().len() > Str::LONGEST {
         return Err(Stop::Aborted(Cause::Long));
     }
     let bytes = bytes_of_both(alloc, left, right)?;
-    Ok(Datum::Text(text_of(alloc, bytes.as_slice())?))
+    Ok(Datum::Text(Str::new(alloc, bytes.as_slice())?))
 }
 
 /// The bytes of the one text and then those of the other.
@@ -225,7 +212,7 @@ fn bytes_of_both(alloc: Global, left: &Str, right: &Str) -> Result<Vec<u8>, NoMe
 
 /// What an operator gives of two truths, the left one not deciding.
 fn of_truths(op: Op, left: bool, right: bool) -> Datum
-    requires { Takes op sort.Bool }
+    requires { TakesSort op sort.Bool }
     ensures { spec.of_truths op left right ≡ Ok result }
 {
     match op {

@@ -1,7 +1,7 @@
 ghost use Rattle.std.specs.Prelude.{◌≡◌, ◌<◌, map, length, IfOk, option_copied};
 ghost use Rattle.dt_lists.specs.Lists.{AllIn, EachThen};
 ghost use Rattle.dt_access.specs.Orders.{KeyBefore};
-ghost use Rattle.dt_eval.specs.Data.{name_of, value_in, with_value};
+ghost use Rattle.dt_eval.specs.Data.{declared_key, value_in, with_value};
 ghost use Rattle.dt_eval.specs.Data.{names_at, keys_in};
 ghost use Rattle.dt_eval.specs.Meaning.{writes_of};
 
@@ -47,7 +47,7 @@ impl Rows {
     /// The value of the row of the key that the declaration of this number gives, if it has one. Takes no memory.
     pub(crate) fn value(&self, key: u32) -> Option<&Value>
         requires { key < length self.now.0 }
-        ensures { option_copied result ≡ value_in self.now.1 (name_of self.now.0 key) }
+        ensures { option_copied result ≡ value_in self.now.1 (declared_key self.now.0 key) }
     {
         self.items[self.places[key as usize]].value.as_ref()
     }
@@ -55,7 +55,7 @@ impl Rows {
     /// Gives the row of the key that the declaration of this number gives a value, or none. Takes no memory.
     pub(crate) fn change(&mut self, key: u32, value: Option<Value>)
         requires { key < length self.old.0 }
-        ensures { self.new ≡ (self.old.0, with_value (name_of self.old.0 key) value self.old.1) }
+        ensures { self.new ≡ (self.old.0, with_value (declared_key self.old.0 key) value self.old.1) }
     {
         let row = &mut self.items[self.places[key as usize]];
         row.value = value;

@@ -6,17 +6,23 @@ use Rattle.dt_proc.specs.declared.tree.KeyDecl.{KeyDecl}
 use Rattle.dt_proc.specs.declared.tree.KeyItem.TheVariants as item
 use Rattle.dt_proc.specs.declared.tree.Sort.{Sort}
 use Rattle.dt_proc.specs.declared.tree.Sort.TheVariants as sort
-use Rattle.dt_proc.specs.declared.tree.Op.{Op}
+use Rattle.dt_syntax.specs.declared.operator.Op.{Op}
 use Rattle.dt_proc.specs.declared.scope.Meaning.{Meaning}
 use Rattle.dt_proc.specs.declared.scope.Meaning.TheVariants.{Variable, Key, Unknown}
 use Rattle.dt_proc.specs.declared.error.ProcError.{ProcError}
 use Rattle.dt_proc.specs.declared.error.ProcError.TheVariants as fault
-use Rattle.dt_proc.specs.Names.{Scope, meaning}
-use Rattle.dt_proc.specs.Sound.{given_by, sort_of}
+use Rattle.dt_proc.specs.Names.{Scope, meaning_in}
+use Rattle.dt_proc.specs.Sound.{sort_given, sort_of}
 use Rattle.dt_proc.specs.Tree as tree
-use Rattle.dt_proc.specs.Tree.{Formula, Gift, Step, Block, ProcTree}
-use Rattle.dt_proc.specs.Syntax.{Syntax, chain, minus, denial, int, text, truth, name, parens, of_key, made, Links, no_link, link, Maker, makes_length, makes_text, Param, Params, no_param, params, KeyPart, text_part, name_part, show_part, KeySyntax, Item, row_item, value_item, Statement, let_new, set_key, clear_key, when, choose, abort, give, Statements, nothing, first, ProcSyntax}
-use Rattle.dt_proc.specs.Checked.{Told, Typed, after_ok, same_sort, needs, needs_stored, fits_both, combined, as_variable, as_key, as_written, is_unknown, as_new, as_param, key_of, read_by, made_by, check, check_links, front_place, check_item, check_items, check_all_items, with_variable, with_key, one_block, two_blocks, check_block, check_statement, check_part, check_parts, check_key, check_keys, check_param, check_more_params, check_params, param_kinds, check_proc, check_procs}
+use Rattle.dt_proc.specs.Tree.{ExprTree, StmtTree, BlockTree, ProcTree}
+use Rattle.dt_syntax.specs.Grammar.{Syntax, chain, minus, denial, int, text, truth, name, parens, of_key, made, Links, no_link, link, Maker, makes_length}
+use Rattle.dt_syntax.specs.Grammar.{makes_text, Param, Params, no_param, params, KeyPart, text_part, name_part, show_part, KeySyntax, Item, row_item}
+use Rattle.dt_syntax.specs.Grammar.{value_item, Statement, let_new, set_key, clear_key, when, choose, abort, give, Statements, nothing, first, ProcSyntax}
+use Rattle.dt_syntax.specs.Grammar.{front_place, param_kinds}
+use Rattle.dt_proc.specs.SecondPass.{Checked, Typed, after_ok, same_sort, needs, needs_stored, fits_both, combined, as_variable, as_key, as_written, is_unknown}
+use Rattle.dt_proc.specs.SecondPass.{as_new, as_param, key_of, read_by, made_by, check, check_links, check_item, check_items, check_all_items}
+use Rattle.dt_proc.specs.SecondPass.{with_new_variable, with_new_key, one_block, two_blocks, check_block, check_statement, check_part, check_parts, check_key}
+use Rattle.dt_proc.specs.SecondPass.{check_keys, check_param, check_more_params, check_params, check_proc, check_procs}
 
 -- a fault of the second pass
 abbrev pub IsLate : ProcError → Type 0
@@ -26,10 +32,10 @@ IsLate (fault.Kind p) = Unit {0}
 IsLate _ = ⊥
 
 -- no other fault is told
-abbrev pub Late : {A : Type 0} → Told A → Type 0
+abbrev pub Late : {A : Type 0} → Checked A → Type 0
 Late told = (e : ProcError) → told ≡ Err e → IsLate e
 
-fault_or : {A : Type 0} → ProcError → Told A → ProcError
+fault_or : {A : Type 0} → ProcError → Checked A → ProcError
 fault_or d (Ok a) = d
 fault_or d (Err e) = e
 
@@ -40,11 +46,11 @@ late_err : {A : Type 0} (f : ProcError) → IsLate f → Late {A = A} (Err f)
 unfolding fault_or
 late_err f h e is = subst IsLate (ap (fault_or f) is) h
 
-late_after : {A B : Type 0} (told : Told A) (next : A → Told B) → Late told → ((a : A) → Late (next a)) → Late (after_ok told next)
+late_after : {A B : Type 0} (told : Checked A) (next : A → Checked B) → Late told → ((a : A) → Late (next a)) → Late (after_ok told next)
 late_after (Ok a) next h k = k a
 late_after (Err f) next h k = late_err f (h f refl)
 
-late_cond : {A : Type 0} (b : Bool) (t f : Told A) → Late t → Late f → Late (cond b t f)
+late_cond : {A : Type 0} (b : Bool) (t f : Checked A) → Late t → Late f → Late (cond b t f)
 late_cond true t f h k = h
 late_cond false t f h k = k
 
@@ -56,7 +62,7 @@ late_stored p a r = late_cond (same_sort a.1 sort.Bool) (Err (fault.Kind p)) (Ok
 
 late_combined : (p : ℕ) (o : Op) (a b : Typed) → Late (combined p o a b)
 late_combined p o a b =
-    late_cond (fits_both o a.1 b.1) (Ok (tree.binary o a.0 b.0, given_by o)) (Err (fault.Kind p)) (late_ok (tree.binary o a.0 b.0, given_by o)) (late_err (fault.Kind p) tt)
+    late_cond (fits_both o a.1 b.1) (Ok (tree.binary o a.0 b.0, sort_given o)) (Err (fault.Kind p)) (late_ok (tree.binary o a.0 b.0, sort_given o)) (late_err (fault.Kind p) tt)
 
 late_variable : (p : ℕ) (m : Meaning) → Late (as_variable p m)
 late_variable p (Variable n s) = late_ok (tree.variable n, s)
@@ -96,10 +102,10 @@ mutual
   late_check scope (int p z) = late_ok (tree.number z, sort.Int)
   late_check scope (text p t) = late_ok (tree.text t, sort.Text)
   late_check scope (truth p b) = late_ok (tree.truth b, sort.Bool)
-  late_check scope (name p n) = late_variable p (meaning scope n)
+  late_check scope (name p n) = late_variable p (meaning_in scope n)
   late_check scope (parens p x q) = late_check scope x
   late_check scope (of_key p r b) =
-      late_after (key_of scope b) (λ k. Ok (read_by r k)) (late_key b.name_at (meaning scope b.name)) (λ k. late_ok (read_by r k))
+      late_after (key_of scope b) (λ k. Ok (read_by r k)) (late_key b.name_at (meaning_in scope b.name)) (λ k. late_ok (read_by r k))
   late_check scope (made p m o x q) = late_after (check scope x) (made_by m p) (late_check scope x) (late_made m p)
 
   late_links : (scope : Scope) (a : Typed) (links : Links) → Late (check_links scope a links)
@@ -109,7 +115,7 @@ mutual
       (λ b. late_after (combined p o a b) (λ c. check_links scope c more) (late_combined p o a b) (λ c. late_links scope c more))
 
 late_item : (scope : Scope) (i : Item) → Late (check_item scope i)
-late_item scope (row_item p b) = late_after (key_of scope b) (λ k. Ok (tree.row k)) (late_key b.name_at (meaning scope b.name)) (λ k. late_ok (tree.row k))
+late_item scope (row_item p b) = late_after (key_of scope b) (λ k. Ok (tree.row k)) (late_key b.name_at (meaning_in scope b.name)) (λ k. late_ok (tree.row k))
 late_item scope (value_item x) =
     late_after (check scope x) (λ a. needs_stored (front_place x) a (tree.value a.0)) (late_check scope x) (λ a. late_stored (front_place x) a (tree.value a.0))
 
@@ -124,10 +130,10 @@ late_all_items scope i more =
     late_after (check_item scope i) (λ g. after_ok (check_items scope more) (λ gs. Ok (g ∷ gs))) (late_item scope i)
     (λ g. late_after (check_items scope more) (λ gs. Ok (g ∷ gs)) (late_items scope more) (λ gs. late_ok (g ∷ gs)))
 
-late_one : (scope : Scope) (f : Formula) (told : Told Block) → Late told → Late (one_block scope f told)
+late_one : (scope : Scope) (f : ExprTree) (told : Checked BlockTree) → Late told → Late (one_block scope f told)
 late_one scope f told h = late_after told (λ c. Ok (scope, tree.choose f c tree.done)) h (λ c. late_ok (scope, tree.choose f c tree.done))
 
-late_two : (scope : Scope) (f : Formula) (told other : Told Block) → Late told → Late other → Late (two_blocks scope f told other)
+late_two : (scope : Scope) (f : ExprTree) (told other : Checked BlockTree) → Late told → Late other → Late (two_blocks scope f told other)
 late_two scope f told other h k =
     late_after told (λ c. after_ok other (λ d. Ok (scope, tree.choose f c d))) h
     (λ c. late_after other (λ d. Ok (scope, tree.choose f c d)) k (λ d. late_ok (scope, tree.choose f c d)))
@@ -136,18 +142,18 @@ mutual
   late_block : (scope : Scope) (ss : Statements) → Late (check_block scope ss)
   late_block scope nothing = late_ok tree.done
   late_block scope (first s rest) =
-      late_after {A = Scope × Step} (check_statement scope s) (λ r. after_ok (check_block r.0 rest) (λ b. Ok (tree.then r.1 b))) (late_statement scope s)
+      late_after {A = Scope × StmtTree} (check_statement scope s) (λ r. after_ok (check_block r.0 rest) (λ b. Ok (tree.then r.1 b))) (late_statement scope s)
       (λ r. late_after (check_block r.0 rest) (λ b. Ok (tree.then r.1 b)) (late_block r.0 rest) (λ b. late_ok (tree.then r.1 b)))
 
   late_statement : (scope : Scope) (s : Statement) → Late (check_statement scope s)
   late_statement scope (let_new p q n i x e) =
-      late_after (as_new q (meaning scope n)) (λ _. after_ok (check scope x) (λ a. Ok (with_variable scope n a.1, tree.let_new a.0))) (late_new q (meaning scope n))
-      (λ _. late_after (check scope x) (λ a. Ok (with_variable scope n a.1, tree.let_new a.0)) (late_check scope x) (λ a. late_ok (with_variable scope n a.1, tree.let_new a.0)))
+      late_after (as_new q (meaning_in scope n)) (λ _. after_ok (check scope x) (λ a. Ok (with_new_variable scope n a.1, tree.let_new a.0))) (late_new q (meaning_in scope n))
+      (λ _. late_after (check scope x) (λ a. Ok (with_new_variable scope n a.1, tree.let_new a.0)) (late_check scope x) (λ a. late_ok (with_new_variable scope n a.1, tree.let_new a.0)))
   late_statement scope (set_key p q n i x e) =
-      late_after (as_written q (meaning scope n)) (λ k. after_ok (check scope x) (λ a. needs_stored p a (scope, tree.set_row k a.0))) (late_written q (meaning scope n))
+      late_after (as_written q (meaning_in scope n)) (λ k. after_ok (check scope x) (λ a. needs_stored p a (scope, tree.set_row k a.0))) (late_written q (meaning_in scope n))
       (λ k. late_after (check scope x) (λ a. needs_stored p a (scope, tree.set_row k a.0)) (late_check scope x) (λ a. late_stored p a (scope, tree.set_row k a.0)))
   late_statement scope (clear_key p q n e) =
-      late_after (as_written q (meaning scope n)) (λ k. Ok (scope, tree.clear_row k)) (late_written q (meaning scope n)) (λ k. late_ok (scope, tree.clear_row k))
+      late_after (as_written q (meaning_in scope n)) (λ k. Ok (scope, tree.clear_row k)) (late_written q (meaning_in scope n)) (λ k. late_ok (scope, tree.clear_row k))
   late_statement scope (when p x b ss e) =
       late_after (check scope x) (λ a. after_ok (needs p sort.Bool a a.0) (λ f. one_block scope f (check_block scope ss))) (late_check scope x)
       (λ a. late_after (needs p sort.Bool a a.0) (λ f. one_block scope f (check_block scope ss)) (late_needs p sort.Bool a a.0)
@@ -162,9 +168,9 @@ mutual
 
 late_part : (scope : Scope) (i : KeyPart) → Late (check_part scope i)
 late_part scope (text_part p t) = late_ok (item.Text t)
-late_part scope (name_part p n) = late_after (as_param p sort.Text (meaning scope n)) (λ k. Ok (item.Param k)) (late_param p sort.Text (meaning scope n)) (λ k. late_ok (item.Param k))
+late_part scope (name_part p n) = late_after (as_param p sort.Text (meaning_in scope n)) (λ k. Ok (item.Param k)) (late_param p sort.Text (meaning_in scope n)) (λ k. late_ok (item.Param k))
 late_part scope (show_part p b) =
-    late_after (as_param b.name_at sort.Int (meaning scope b.name)) (λ k. Ok (item.Show k)) (late_param b.name_at sort.Int (meaning scope b.name)) (λ k. late_ok (item.Show k))
+    late_after (as_param b.name_at sort.Int (meaning_in scope b.name)) (λ k. Ok (item.Show k)) (late_param b.name_at sort.Int (meaning_in scope b.name)) (λ k. late_ok (item.Show k))
 
 late_parts : (scope : Scope) (more : List (ℕ × KeyPart)) → Late (check_parts scope more)
 late_parts scope [] = late_ok []
@@ -174,21 +180,21 @@ late_parts scope (m ∷ more) =
 
 late_decl : (scope : Scope) (k : KeySyntax) → Late (check_key scope k)
 late_decl scope k =
-    late_after (as_new k.name_at (meaning scope k.name)) _ (late_new k.name_at (meaning scope k.name))
+    late_after (as_new k.name_at (meaning_in scope k.name)) _ (late_new k.name_at (meaning_in scope k.name))
     (λ _. late_after (check_part scope k.first) _ (late_part scope k.first)
     (λ i. late_after (check_parts scope k.more) _ (late_parts scope k.more) (λ is. late_ok (record { write = k.write; items = i ∷ is }))))
 
 late_keys : (scope : Scope) (ks : List KeySyntax) → Late (check_keys scope ks)
 late_keys scope [] = late_ok ([], scope)
 late_keys scope (k ∷ ks) =
-    late_after (check_key scope k) (λ d. after_ok (check_keys (with_key scope k.name k.write) ks) (λ r. Ok (d ∷ r.0, r.1))) (late_decl scope k)
-    (λ d. late_after {A = List KeyDecl × Scope} (check_keys (with_key scope k.name k.write) ks) (λ r. Ok (d ∷ r.0, r.1)) (late_keys (with_key scope k.name k.write) ks)
+    late_after (check_key scope k) (λ d. after_ok (check_keys (with_new_key scope k.name k.write) ks) (λ r. Ok (d ∷ r.0, r.1))) (late_decl scope k)
+    (λ d. late_after {A = List KeyDecl × Scope} (check_keys (with_new_key scope k.name k.write) ks) (λ r. Ok (d ∷ r.0, r.1)) (late_keys (with_new_key scope k.name k.write) ks)
     (λ r. late_ok (d ∷ r.0, r.1)))
 
 late_one_param : (scope : Scope) (p : Param) → Late (check_param scope p)
 late_one_param scope p =
-    late_after (as_new p.name_at (meaning scope p.name)) (λ _. Ok (with_variable scope p.name (sort_of p.kind))) (late_new p.name_at (meaning scope p.name))
-    (λ _. late_ok (with_variable scope p.name (sort_of p.kind)))
+    late_after (as_new p.name_at (meaning_in scope p.name)) (λ _. Ok (with_new_variable scope p.name (sort_of p.kind))) (late_new p.name_at (meaning_in scope p.name))
+    (λ _. late_ok (with_new_variable scope p.name (sort_of p.kind)))
 
 late_more_params : (scope : Scope) (more : List (ℕ × Param)) → Late (check_more_params scope more)
 late_more_params scope [] = late_ok scope

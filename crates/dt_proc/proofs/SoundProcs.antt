@@ -1,8 +1,9 @@
 -- The procedures that a text means are sound, and so are the built-in ones.
-use Rattle.std.proofs.Common.{◌≡◌, inl, inr, ℕ, suc, ◌≤◌, Bool, true, false, ◌||◌, ◌&&◌, not, List, [], ◌∷◌, ◌++◌, map, length, append_assoc, append-nil, Ok, Err, refl, sym, ap, ◌∙◌, subst, arith, nat_eq}
+use Rattle.std.proofs.Common.{◌≡◌, inl, inr, ℕ, suc, ◌≤◌, Bool, true, false, ◌||◌, ◌&&◌, not, List, [], ◌∷◌, ◌++◌, map, length, append_assoc, append-nil, Ok}
+use Rattle.std.proofs.Common.{Err, refl, sym, ap, ◌∙◌, subst, arith, nat_eq}
 use Rattle.std.specs.List.{list_any, list_all}
 use Rattle.std.specs.Cmp.Lexicographic.{pointwise, bytes_decides}
-use Rattle.std.proofs.lemmas.Bool.{false≢true}
+use Rattle.std.proofs.lemmas.Bool.{and_parts, false≢true}
 use Rattle.std.proofs.lemmas.List.{map-append}
 use Rattle.dt_lists.specs.Lists.{AllIn, Has, Distinct}
 use Rattle.dt_lists.proofs.Callers.{distinct_push}
@@ -11,18 +12,16 @@ use Rattle.dt_proc.specs.declared.tree.KeyDecl.{KeyDecl}
 use Rattle.dt_proc.specs.declared.tree.Sort.TheVariants as sort
 use Rattle.dt_proc.specs.Names.{Scope}
 use Rattle.dt_proc.specs.Tree.{ProcTree}
-use Rattle.dt_proc.specs.Sound.{IsSound, AreProcs}
+use Rattle.dt_proc.specs.Sound.{IsSoundProc, AreProcs}
 use Rattle.dt_proc.specs.Builtin.{put, note, get, del, add, div, sum, xfer, builtin_procs}
-use Rattle.dt_proc.specs.Checked.{after_ok, check_params, param_kinds, check_keys, check_block, check_proc, check_procs}
-use Rattle.dt_proc.specs.Walked.{AllSound, IsSmall}
-use Rattle.dt_proc.specs.Syntax.{ProcSyntax, proc_tokens, procs_tokens}
-use Rattle.dt_proc.specs.Passes.{AreFew}
+use Rattle.dt_proc.specs.SecondPass.{after_ok, check_params, check_keys, check_block, check_proc, check_procs}
+use Rattle.dt_syntax.specs.Grammar.{param_kinds, ProcSyntax, proc_tokens, procs_tokens}
+use Rattle.dt_syntax.specs.Limits.{AllSound, IsSmall}
+use Rattle.dt_syntax.specs.FirstPass.{NoneTooMany}
 use Rattle.dt_proc.specs.Outcome.{Outcome}
-use Rattle.dt_proc.proofs.Sorted.{sound_left, sound_right, Holds, holds_ok, holds_after, holds_cond}
-use Rattle.dt_proc.proofs.Procedures.{proc_sound}
-use Rattle.dt_proc.proofs.Counting.{procs_small}
-use Rattle.dt_proc.proofs.Numbers.{left_of, right_of}
-use Rattle.dt_proc.proofs.Soundness.{text_sound}
+use Rattle.dt_proc.proofs.ExprSorts.{Holds, holds_ok, holds_after, holds_cond}
+use Rattle.dt_syntax.proofs.Callers.{sound_left, sound_right, text_sound, procs_small}
+use Rattle.dt_proc.proofs.ProcWalk.{proc_sound}
 
 abbrev is_named : List ProcTree → List ℕ → Bool
 is_named procs name = list_any (λ (q : ProcTree). pointwise nat_eq q.name name) procs
@@ -32,7 +31,7 @@ names procs = map (λ (p : ProcTree). p.name) procs
 
 -- a procedure that is told fits, and its name is new
 abbrev IsNext : List ProcTree → ProcTree → Type 0
-IsNext before q = IsSound q × (is_named before q.name ≡ false)
+IsNext before q = IsSoundProc q × (is_named before q.name ≡ false)
 
 next_fits : (before : List ProcTree) (p : ProcSyntax) → AllSound (proc_tokens p) → IsSmall p → Holds (IsNext before) (check_proc before p)
 next_fits before p sound small =
@@ -62,7 +61,7 @@ named_within (q ∷ procs) name (inr h) = right (pointwise nat_eq q.name name) (
 
 -- procedures that are told after others are as many as are spelled, and fit, and their names are new
 abbrev AreNext : List ProcTree → List ProcSyntax → List ProcTree → Type 0
-AreNext before ps qs = (length qs ≡ length ps) × AllIn IsSound qs × Distinct (names (before ++ qs))
+AreNext before ps qs = (length qs ≡ length ps) × AllIn IsSoundProc qs × Distinct (names (before ++ qs))
 
 all_fit : (before : List ProcTree) (ps : List ProcSyntax) → AllIn IsSmall ps → AllSound (procs_tokens ps) → Distinct (names before)
     → Holds (AreNext before ps) (check_procs before ps)
@@ -81,7 +80,7 @@ all_fit before (p ∷ ps) small sound distinct =
 -- the procedures that a text means are sound
 pub outcome_sound : (text : List ℕ) (procs : List ProcTree) → Outcome text (Ok procs) → AreProcs procs
 outcome_sound text procs h =
-    let small = procs_small h.spelled (subst (AreFew []) (sym h.spells) h.passes.few) in
+    let small = procs_small h.spelled (subst (NoneTooMany []) (sym h.spells) h.passes.few) in
     let sound : AllSound (procs_tokens h.spelled) = subst AllSound (ap (λ l. l.tokens) h.passes.whole ∙ sym h.spells) (text_sound text) in
     let fit = all_fit [] h.spelled small.1 sound tt procs h.tells in
     record { few = subst (λ n. n ≤ 64) (sym fit.0) small.0; distinct = fit.2; sound = fit.1 }
@@ -102,14 +101,14 @@ differ n m e is = clash (pointwise nat_eq n m) e ((bytes_decides n m).1 is)
 
 other_names : (n : List ℕ) (ns : List (List ℕ)) → list_all (λ m. not (pointwise nat_eq n m)) ns ≡ true → AllIn (λ m. ¬ (n ≡ m)) ns
 other_names n [] e = tt
-other_names n (m ∷ ns) e = (differ n m (left_of _ _ e), other_names n ns (right_of (not (pointwise nat_eq n m)) _ e))
+other_names n (m ∷ ns) e = (differ n m ((and_parts _ _ e).0), other_names n ns ((and_parts (not (pointwise nat_eq n m)) _ e).1))
 
 apart_distinct : (ns : List (List ℕ)) → are_apart ns ≡ true → Distinct ns
 unfolding are_apart
 apart_distinct [] e = tt
-apart_distinct (n ∷ ns) e = (other_names n ns (left_of _ _ e), apart_distinct ns (right_of (list_all (λ m. not (pointwise nat_eq n m)) ns) _ e))
+apart_distinct (n ∷ ns) e = (other_names n ns ((and_parts _ _ e).0), apart_distinct ns ((and_parts (list_all (λ m. not (pointwise nat_eq n m)) ns) _ e).1))
 
-put_sound : IsSound put
+put_sound : IsSoundProc put
 put_sound = record {
   name = (omega arith, omega arith, refl);
   few_params = omega arith;
@@ -119,7 +118,7 @@ put_sound = record {
   body = (refl, (sort.Int, inl refl, refl), tt);
 }
 
-note_sound : IsSound note
+note_sound : IsSoundProc note
 note_sound = record {
   name = (omega arith, omega arith, refl);
   few_params = omega arith;
@@ -129,7 +128,7 @@ note_sound = record {
   body = (refl, (sort.Text, inr refl, refl), tt);
 }
 
-get_sound : IsSound get
+get_sound : IsSoundProc get
 get_sound = record {
   name = (omega arith, omega arith, refl);
   few_params = omega arith;
@@ -139,7 +138,7 @@ get_sound = record {
   body = ((omega arith, tt), tt);
 }
 
-del_sound : IsSound del
+del_sound : IsSoundProc del
 del_sound = record {
   name = (omega arith, omega arith, refl);
   few_params = omega arith;
@@ -149,7 +148,7 @@ del_sound = record {
   body = (refl, tt);
 }
 
-add_sound : IsSound add
+add_sound : IsSoundProc add
 add_sound = record {
   name = (omega arith, omega arith, refl);
   few_params = omega arith;
@@ -159,7 +158,7 @@ add_sound = record {
   body = ((refl, omega arith), (refl, (sort.Int, inl refl, (sort.Int, refl, (refl, omega arith), refl, refl)), tt), (refl, (sort.Int, inl refl, refl), tt), (((sort.Int, inl refl, (refl, omega arith)), tt), tt));
 }
 
-div_sound : IsSound div
+div_sound : IsSoundProc div
 div_sound = record {
   name = (omega arith, omega arith, refl);
   few_params = omega arith;
@@ -169,7 +168,7 @@ div_sound = record {
   body = (((sort.Int, inl refl, (sort.Int, refl, (refl, omega arith), refl, refl)), tt), tt);
 }
 
-sum_sound : IsSound sum
+sum_sound : IsSoundProc sum
 sum_sound = record {
   name = (omega arith, omega arith, refl);
   few_params = omega arith;
@@ -179,14 +178,27 @@ sum_sound = record {
   body = (((sort.Int, inl refl, (sort.Int, refl, (refl, omega arith), (refl, omega arith), refl)), tt), tt);
 }
 
-xfer_sound : IsSound xfer
+xfer_sound : IsSoundProc xfer
 xfer_sound = record {
   name = (omega arith, omega arith, refl);
   few_params = omega arith;
   some_key = omega arith;
   few_keys = omega arith;
   items = ((refl, tt), ((refl, tt), tt));
-  body = ((sort.Int, inl refl, (refl, omega arith), refl, refl), ((omega arith, refl), tt), tt, (refl, (sort.Int, inl refl, (sort.Int, refl, (refl, omega arith), refl, refl)), (refl, (sort.Int, inl refl, (sort.Int, refl, (refl, omega arith), refl, refl)), (((sort.Int, inl refl, (refl, omega arith)), ((sort.Int, inl refl, (refl, omega arith)), tt)), tt))));
+  body = (
+    (sort.Int, inl refl, (refl, omega arith), refl, refl),
+    ((omega arith, refl), tt),
+    tt,
+    (
+      refl,
+      (sort.Int, inl refl, (sort.Int, refl, (refl, omega arith), refl, refl)),
+      (
+        refl,
+        (sort.Int, inl refl, (sort.Int, refl, (refl, omega arith), refl, refl)),
+        (((sort.Int, inl refl, (refl, omega arith)), ((sort.Int, inl refl, (refl, omega arith)), tt)), tt),
+      ),
+    ),
+  );
 }
 
 -- the built-in procedures are sound

@@ -1,10 +1,11 @@
--- The built-in procedures, as trees. Beside each stands its text.
+-- The built-in procedures, as trees. Each cluster has them unless its file names others, so their meaning is fixed here and not
+-- by a text that is read. Beside each stands its text; that the text means the tree is tested.
 use Rattle.std.specs.Prelude.{ℕ, true, false, List, [], ◌∷◌, codes}
-use Rattle.dt_proc.specs.declared.tree.Kind.TheVariants.{Int, Text}
-use Rattle.dt_proc.specs.declared.tree.Op.TheVariants.{Less, Add, Sub, Div}
+use Rattle.dt_syntax.specs.declared.kinds.Kind.TheVariants.{Int, Text}
+use Rattle.dt_syntax.specs.declared.operator.Op.TheVariants.{Less, Add, Sub, Div}
 use Rattle.dt_proc.specs.declared.tree.KeyItem.TheVariants.{Param}
 use Rattle.dt_proc.specs.declared.tree.KeyDecl.{KeyDecl}
-use Rattle.dt_proc.specs.Tree.{variable, number_of, has_value, binary, row, value, Step, set_row, clear_row, choose, abort_with, give_all, Block, done, then, ProcTree}
+use Rattle.dt_proc.specs.Tree.{variable, number_of, has_value, binary, row, value, StmtTree, set_row, clear_row, choose, abort_with, give_all, BlockTree, done, then, ProcTree}
 
 -- the key that is given as a parameter, and may be set
 abbrev pub written_key : ℕ → KeyDecl
@@ -14,7 +15,7 @@ written_key param = record { write = true; items = Param param ∷ [] }
 abbrev pub read_key : ℕ → KeyDecl
 read_key param = record { write = false; items = Param param ∷ [] }
 
-abbrev pub one_step : Step → Block
+abbrev pub one_step : StmtTree → BlockTree
 one_step s = then s done
 
 -- proc put(k: text, v: int) write a = k; { set a = v; }
@@ -66,7 +67,7 @@ sum = record {
 }
 
 -- the statements of xfer
-abbrev pub transfer : Block
+abbrev pub transfer : BlockTree
 transfer =
     then (choose (binary Less (number_of 0) (variable 2)) (one_step (abort_with (codes "funds"))) done)
     (then (set_row 0 (binary Sub (number_of 0) (variable 2)))

@@ -1,4 +1,5 @@
--- Names, and where they stand in lists.
+-- What a name means where it stands. Parameters and lets share one list and keys have another; the first entry of a name counts,
+-- and a name that is visible may not be given anew, so there is no second. SecondPass says when each becomes visible.
 use Rattle.std.specs.Prelude.{ℕ, suc, Bool, if◌then◌else◌, List, [], ◌∷◌, Option, Some, None, nat_eq, position}
 use Rattle.std.specs.Option.{option_map}
 use Rattle.std.specs.Cmp.Lexicographic.{pointwise}
@@ -30,5 +31,5 @@ as_entry None other = other
 as_entry (Some e) other = Variable e.0 e.1
 
 -- what a name means
-abbrev pub meaning : Scope → List ℕ → Meaning
-meaning scope name = as_entry (entry_of scope.variables name) (as_key_entry (entry_of scope.keys name))
+abbrev pub meaning_in : Scope → List ℕ → Meaning
+meaning_in scope name = as_entry (entry_of scope.variables name) (as_key_entry (entry_of scope.keys name))

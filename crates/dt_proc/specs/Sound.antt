@@ -1,54 +1,56 @@
 -- What holds of every procedure, so that a run of it has no case that cannot come: kinds fit, and what is named is there.
+-- Procedures that a text means are sound, and so are the built-in ones; a run needs nothing else of them.
 use Rattle.std.specs.Prelude.{◌≡◌, ◌⊎◌, ℕ, ◌<◌, ◌≤◌, Bool, true, List, [], ◌∷◌, ◌++◌, length, map, slice_get, Some, FitsSigned}
 use Rattle.std.specs.Int.{w64}
 use Rattle.dt_lists.specs.Lists.{AllIn, Distinct}
 use Rattle.dt_text.specs.Texts.{IsStr, IsName}
-use Rattle.dt_proc.specs.declared.tree.Kind.{Kind}
+use Rattle.dt_syntax.specs.declared.kinds.Kind.{Kind}
 use Rattle.dt_proc.specs.declared.tree.Sort.{Sort}
 use Rattle.dt_proc.specs.declared.tree.Sort.TheVariants as sort
-use Rattle.dt_proc.specs.declared.tree.Kind.TheVariants as kind
-use Rattle.dt_proc.specs.declared.tree.Op.{Op}
-use Rattle.dt_proc.specs.declared.tree.Op.TheVariants.{Or, And, Equal, Differ, Less, AtMost, More, AtLeast, Add, Sub, Join, Mul, Div, Rem}
+use Rattle.dt_syntax.specs.declared.kinds.Kind.TheVariants as kind
+use Rattle.dt_syntax.specs.declared.operator.Op.{Op}
+use Rattle.dt_syntax.specs.declared.operator.Op.TheVariants.{Or, And, Equal, Differ, Less, AtMost, More, AtLeast, Add, Sub, Join, Mul, Div, Rem}
 use Rattle.dt_proc.specs.declared.tree.KeyItem.{KeyItem}
 use Rattle.dt_proc.specs.declared.tree.KeyItem.TheVariants.{Text, Param, Show}
-use Rattle.dt_proc.specs.Tree.{Formula, number, text, truth, variable, number_of, text_of, has_value, length_of, shown, negative, opposite, binary, Gift, row, value, let_new, set_row, clear_row, choose, abort_with, give_all, Block, done, then, ProcTree}
+use Rattle.dt_proc.specs.Tree.{ExprTree, number, text, truth, variable, number_of, text_of, has_value, length_of, shown, negative, opposite, binary, GiveTree}
+use Rattle.dt_proc.specs.Tree.{row, value, let_new, set_row, clear_row, choose, abort_with, give_all, BlockTree, done, then, ProcTree}
 
 -- an operator needs two operands of this sort
-abbrev pub Takes : Op → Sort → Type 0
-Takes Or s = s ≡ sort.Bool
-Takes And s = s ≡ sort.Bool
-Takes Equal s = (s ≡ sort.Int) ⊎ (s ≡ sort.Text)
-Takes Differ s = (s ≡ sort.Int) ⊎ (s ≡ sort.Text)
-Takes Less s = (s ≡ sort.Int) ⊎ (s ≡ sort.Text)
-Takes AtMost s = (s ≡ sort.Int) ⊎ (s ≡ sort.Text)
-Takes More s = (s ≡ sort.Int) ⊎ (s ≡ sort.Text)
-Takes AtLeast s = (s ≡ sort.Int) ⊎ (s ≡ sort.Text)
-Takes Join s = s ≡ sort.Text
-Takes Add s = s ≡ sort.Int
-Takes Sub s = s ≡ sort.Int
-Takes Mul s = s ≡ sort.Int
-Takes Div s = s ≡ sort.Int
-Takes Rem s = s ≡ sort.Int
+abbrev pub TakesSort : Op → Sort → Type 0
+TakesSort Or s = s ≡ sort.Bool
+TakesSort And s = s ≡ sort.Bool
+TakesSort Equal s = (s ≡ sort.Int) ⊎ (s ≡ sort.Text)
+TakesSort Differ s = (s ≡ sort.Int) ⊎ (s ≡ sort.Text)
+TakesSort Less s = (s ≡ sort.Int) ⊎ (s ≡ sort.Text)
+TakesSort AtMost s = (s ≡ sort.Int) ⊎ (s ≡ sort.Text)
+TakesSort More s = (s ≡ sort.Int) ⊎ (s ≡ sort.Text)
+TakesSort AtLeast s = (s ≡ sort.Int) ⊎ (s ≡ sort.Text)
+TakesSort Join s = s ≡ sort.Text
+TakesSort Add s = s ≡ sort.Int
+TakesSort Sub s = s ≡ sort.Int
+TakesSort Mul s = s ≡ sort.Int
+TakesSort Div s = s ≡ sort.Int
+TakesSort Rem s = s ≡ sort.Int
 
 -- what an operator gives
-abbrev pub given_by : Op → Sort
-given_by Join = sort.Text
-given_by Add = sort.Int
-given_by Sub = sort.Int
-given_by Mul = sort.Int
-given_by Div = sort.Int
-given_by Rem = sort.Int
-given_by Or = sort.Bool
-given_by And = sort.Bool
-given_by Equal = sort.Bool
-given_by Differ = sort.Bool
-given_by Less = sort.Bool
-given_by AtMost = sort.Bool
-given_by More = sort.Bool
-given_by AtLeast = sort.Bool
+abbrev pub sort_given : Op → Sort
+sort_given Join = sort.Text
+sort_given Add = sort.Int
+sort_given Sub = sort.Int
+sort_given Mul = sort.Int
+sort_given Div = sort.Int
+sort_given Rem = sort.Int
+sort_given Or = sort.Bool
+sort_given And = sort.Bool
+sort_given Equal = sort.Bool
+sort_given Differ = sort.Bool
+sort_given Less = sort.Bool
+sort_given AtMost = sort.Bool
+sort_given More = sort.Bool
+sort_given AtLeast = sort.Bool
 
 -- an expression gives a value of this sort, where the variables have these sorts and there are so many keys
-abbrev pub HasSort : List Sort → ℕ → Formula → Sort → Type 0
+abbrev pub HasSort : List Sort → ℕ → ExprTree → Sort → Type 0
 HasSort variables keys (number z) s = (s ≡ sort.Int) × FitsSigned w64 z
 HasSort variables keys (text t) s = (s ≡ sort.Text) × IsStr t
 HasSort variables keys (truth b) s = s ≡ sort.Bool
@@ -61,24 +63,24 @@ HasSort variables keys (shown f) s = (s ≡ sort.Text) × HasSort variables keys
 HasSort variables keys (negative f) s = (s ≡ sort.Int) × HasSort variables keys f sort.Int
 HasSort variables keys (opposite f) s = (s ≡ sort.Bool) × HasSort variables keys f sort.Bool
 HasSort variables keys (binary o f g) s =
-    (t : Sort) × Takes o t × HasSort variables keys f t × HasSort variables keys g t × (s ≡ given_by o)
+    (t : Sort) × TakesSort o t × HasSort variables keys f t × HasSort variables keys g t × (s ≡ sort_given o)
 
 -- a sort that a row may have
-abbrev pub IsStored : Sort → Type 0
-IsStored s = (s ≡ sort.Int) ⊎ (s ≡ sort.Text)
+abbrev pub IsStoredSort : Sort → Type 0
+IsStoredSort s = (s ≡ sort.Int) ⊎ (s ≡ sort.Text)
 
-abbrev pub IsSoundGift : List Sort → ℕ → Gift → Type 0
+abbrev pub IsSoundGift : List Sort → ℕ → GiveTree → Type 0
 IsSoundGift variables keys (row k) = k < keys
-IsSoundGift variables keys (value f) = (s : Sort) × IsStored s × HasSort variables keys f s
+IsSoundGift variables keys (value f) = (s : Sort) × IsStoredSort s × HasSort variables keys f s
 
 -- statements fit, where the variables have these sorts, and each key may be set and cleared or not: a `let` adds a variable
 -- for the statements after it
-abbrev pub AreSound : List Sort → List Bool → Block → Type 0
+abbrev pub AreSound : List Sort → List Bool → BlockTree → Type 0
 AreSound variables writes done = Unit {0}
 AreSound variables writes (then (let_new f) rest) =
     (s : Sort) × HasSort variables (length writes) f s × AreSound (variables ++ s ∷ []) writes rest
 AreSound variables writes (then (set_row k f) rest) =
-    (slice_get writes k ≡ Some true) × ((s : Sort) × IsStored s × HasSort variables (length writes) f s)
+    (slice_get writes k ≡ Some true) × ((s : Sort) × IsStoredSort s × HasSort variables (length writes) f s)
     × AreSound variables writes rest
 AreSound variables writes (then (clear_row k) rest) = (slice_get writes k ≡ Some true) × AreSound variables writes rest
 AreSound variables writes (then (choose f a b) rest) =
@@ -99,7 +101,7 @@ sort_of kind.Int = sort.Int
 sort_of kind.Text = sort.Text
 
 -- a procedure has a name, at most 16 parameters, 1 to 16 keys, and all in it fits
-pub record IsSound (proc : ProcTree) : Type 0 where
+pub record IsSoundProc (proc : ProcTree) : Type 0 where
   pub name : IsName proc.name
   pub few_params : length proc.params ≤ 16
   pub some_key : 1 ≤ length proc.keys
@@ -111,4 +113,4 @@ pub record IsSound (proc : ProcTree) : Type 0 where
 pub record AreProcs (procs : List ProcTree) : Type 0 where
   pub few : length procs ≤ 64
   pub distinct : Distinct (map (λ p. p.name) procs)
-  pub sound : AllIn IsSound procs
+  pub sound : AllIn IsSoundProc procs

@@ -1,52 +1,53 @@
--- What procedures are: trees of statements and expressions, without a word on where they lie in memory.
+-- What procedures are: trees of statements and expressions, without a word on where they lie in memory. Names are gone: a
+-- variable, a key and a procedure are numbers. What a tree means when it runs is said above, by dt_eval.
 use Rattle.std.specs.Prelude.{ℕ, ℤ, Bool, List}
-use Rattle.dt_proc.specs.declared.tree.Kind.{Kind}
+use Rattle.dt_syntax.specs.declared.kinds.Kind.{Kind}
 use Rattle.dt_proc.specs.declared.tree.KeyDecl.{KeyDecl}
-use Rattle.dt_proc.specs.declared.tree.Op.{Op}
+use Rattle.dt_syntax.specs.declared.operator.Op.{Op}
 
 -- an expression
-pub data Formula : Type 0 where
-  number : ℤ → Formula
-  text : List ℕ → Formula
-  truth : Bool → Formula
-  variable : ℕ → Formula
-  number_of : ℕ → Formula
-  text_of : ℕ → Formula
-  has_value : ℕ → Formula
-  length_of : Formula → Formula
-  shown : Formula → Formula
-  negative : Formula → Formula
-  opposite : Formula → Formula
-  binary : Op → Formula → Formula → Formula
+pub data ExprTree : Type 0 where
+  number : ℤ → ExprTree
+  text : List ℕ → ExprTree
+  truth : Bool → ExprTree
+  variable : ℕ → ExprTree
+  number_of : ℕ → ExprTree
+  text_of : ℕ → ExprTree
+  has_value : ℕ → ExprTree
+  length_of : ExprTree → ExprTree
+  shown : ExprTree → ExprTree
+  negative : ExprTree → ExprTree
+  opposite : ExprTree → ExprTree
+  binary : Op → ExprTree → ExprTree → ExprTree
 
 -- what `give` adds: the value of a key's row, or of an expression
-pub data Gift : Type 0 where
-  row : ℕ → Gift
-  value : Formula → Gift
+pub data GiveTree : Type 0 where
+  row : ℕ → GiveTree
+  value : ExprTree → GiveTree
 
 mutual
   -- a statement
-  pub data Step : Type 0 where
-    let_new : Formula → Step
-    set_row : ℕ → Formula → Step
-    clear_row : ℕ → Step
-    choose : Formula → Block → Block → Step
-    abort_with : List ℕ → Step
-    give_all : List Gift → Step
+  pub data StmtTree : Type 0 where
+    let_new : ExprTree → StmtTree
+    set_row : ℕ → ExprTree → StmtTree
+    clear_row : ℕ → StmtTree
+    choose : ExprTree → BlockTree → BlockTree → StmtTree
+    abort_with : List ℕ → StmtTree
+    give_all : List GiveTree → StmtTree
 
   -- statements, in order
-  pub data Block : Type 0 where
-    done : Block
-    then : Step → Block → Block
+  pub data BlockTree : Type 0 where
+    done : BlockTree
+    then : StmtTree → BlockTree → BlockTree
 
 -- a procedure
 pub record ProcTree : Type 0 where
   pub name : List ℕ
   pub params : List Kind
   pub keys : List KeyDecl
-  pub body : Block
+  pub body : BlockTree
 
 -- the one statements and then the other
-abbrev pub joined : Block → Block → Block
+abbrev pub joined : BlockTree → BlockTree → BlockTree
 joined done b = b
 joined (then s a) b = then s (joined a b)

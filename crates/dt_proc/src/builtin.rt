@@ -2,7 +2,7 @@ ghost use Rattle.std.specs.Prelude.{◌≡◌, ◌<◌, ◌^◌, ℕ, [], ◌∷
 ghost use Rattle.dt_text.specs.Texts.{IsName, IsStr};
 ghost use Rattle.dt_proc.specs.Builtin as builtin;
 ghost use Rattle.dt_proc.specs.Tree.{done, then, joined};
-ghost use Rattle.dt_proc.specs.Shown.{block_of, formula_of, gift_of, step_of};
+ghost use Rattle.dt_proc.specs.TreeViews.{block_tree, expr_tree, give_tree, stmt_tree};
 ghost use Rattle.dt_proc.specs.Tree.{binary};
 
 use crate::procs::{Proc, Procs};
@@ -33,7 +33,7 @@ fn put(alloc: Global) -> Result<Proc, NoMemory>
     let body = one(alloc, Stmt::Set(0, Expr::Var(1)))?;
     let keys = one_key(alloc, true)?;
     Ok(Proc::new(
-        named(alloc, b"put")?,
+        Name::new(alloc, b"put")?,
         kinds(alloc, &[Kind::Text, Kind::Int])?,
         keys,
         body,
@@ -47,7 +47,7 @@ fn note(alloc: Global) -> Result<Proc, NoMemory>
     let body = one(alloc, Stmt::Set(0, Expr::Var(1)))?;
     let keys = one_key(alloc, true)?;
     Ok(Proc::new(
-        named(alloc, b"note")?,
+        Name::new(alloc, b"note")?,
         kinds(alloc, &[Kind::Text, Kind::Text])?,
         keys,
         body,
@@ -61,7 +61,7 @@ fn get(alloc: Global) -> Result<Proc, NoMemory>
     let body = one(alloc, Stmt::Give(gift(alloc, Give::Row(0))?))?;
     let keys = one_key(alloc, false)?;
     Ok(Proc::new(
-        named(alloc, b"get")?,
+        Name::new(alloc, b"get")?,
         kinds(alloc, &[Kind::Text])?,
         keys,
         body,
@@ -75,7 +75,7 @@ fn del(alloc: Global) -> Result<Proc, NoMemory>
     let body = one(alloc, Stmt::Clear(0))?;
     let keys = one_key(alloc, true)?;
     Ok(Proc::new(
-        named(alloc, b"del")?,
+        Name::new(alloc, b"del")?,
         kinds(alloc, &[Kind::Text])?,
         keys,
         body,
@@ -93,7 +93,7 @@ fn add(alloc: Global) -> Result<Proc, NoMemory>
     body.push(Stmt::Give(gift(alloc, Give::Value(Expr::IntOf(0)))?))?;
     let keys = one_key(alloc, true)?;
     Ok(Proc::new(
-        named(alloc, b"add")?,
+        Name::new(alloc, b"add")?,
         kinds(alloc, &[Kind::Text, Kind::Int])?,
         keys,
         body,
@@ -108,7 +108,7 @@ fn div(alloc: Global) -> Result<Proc, NoMemory>
     let body = one(alloc, Stmt::Give(gift(alloc, Give::Value(quotient))?))?;
     let keys = one_key(alloc, false)?;
     Ok(Proc::new(
-        named(alloc, b"div")?,
+        Name::new(alloc, b"div")?,
         kinds(alloc, &[Kind::Text, Kind::Int])?,
         keys,
         body,
@@ -123,7 +123,7 @@ fn sum(alloc: Global) -> Result<Proc, NoMemory>
     let body = one(alloc, Stmt::Give(gift(alloc, Give::Value(total))?))?;
     let keys = two_keys(alloc, false)?;
     Ok(Proc::new(
-        named(alloc, b"sum")?,
+        Name::new(alloc, b"sum")?,
         kinds(alloc, &[Kind::Text, Kind::Text])?,
         keys,
         body,
@@ -137,7 +137,7 @@ fn xfer(alloc: Global) -> Result<Proc, NoMemory>
 {
     let keys = two_keys(alloc, true)?;
     let params = kinds(alloc, &[Kind::Text, Kind::Text, Kind::Int])?;
-    Ok(Proc::new(named(alloc, b"xfer")?, params, keys, transfer(alloc)?))
+    Ok(Proc::new(Name::new(alloc, b"xfer")?, params, keys, transfer(alloc)?))
 }
 
 /// The statements of `xfer`.
@@ -145,7 +145,7 @@ fn transfer(alloc: Global) -> Result<Stmts, NoMemory>
     ensures { IfOk result (λ body. body ≡ builtin.transfer) }
 {
     let few = binary(alloc, Op::Less, Expr::IntOf(0), Expr::Var(2))?;
-    let refused = one(alloc, Stmt::Abort(text(alloc, b"funds")?))?;
+    let refused = one(alloc, Stmt::Abort(Str::new(alloc, b"funds")?))?;
     let mut body = one(alloc, Stmt::If(few, refused, Stmts::new(alloc)))?;
     let left = binary(alloc, Op::Sub, Expr::IntOf(0), Expr::Var(2))?;
     body.push(Stmt::Set(0, left))?;
@@ -155,28 +155,6 @@ fn transfer(alloc: Global) -> Result<Stmts, NoMemory>
     gives.push(Give::Value(Expr::IntOf(1)))?;
     body.push(Stmt::Give(gives))?;
     Ok(body)
-}
-
-/// A name of these bytes.
-pub(crate) fn named(alloc: Global, bytes: &[u8]) -> Result<Name, NoMemory>
-    requires { IsName bytes.now }
-    ensures { IfOk result (λ name. name ≡ bytes.now) }
-{
-    match Name::read(alloc, bytes) {
-        Ok(name) => Ok(name),
-        Err(_) => Err(NoMemory),
-    }
-}
-
-/// A text of these bytes.
-pub(crate) fn text(alloc: Global, bytes: &[u8]) -> Result<Str, NoMemory>
-    requires { IsStr bytes.now }
-    ensures { IfOk result (λ text. text ≡ bytes.now) }
-{
-    match Str::read(alloc, bytes) {
-        Ok(text) => Ok(text),
-        Err(_) => Err(NoMemory),
-    }
 }
 
 /// These kinds.
@@ -216,7 +194,7 @@ fn two_keys(alloc: Global, write: bool) -> Result<Listed<KeyDecl>, NoMemory>
 
 /// One statement.
 fn one(alloc: Global, stmt: Stmt) -> Result<Stmts, NoMemory>
-    ensures { IfOk result (λ stmts. stmts ≡ then (step_of stmt) done) }
+    ensures { IfOk result (λ stmts. stmts ≡ then (stmt_tree stmt) done) }
 {
     let mut stmts = Stmts::new(alloc);
     stmts.push(stmt)?;
@@ -225,7 +203,7 @@ fn one(alloc: Global, stmt: Stmt) -> Result<Stmts, NoMemory>
 
 /// One gift.
 fn gift(alloc: Global, give: Give) -> Result<Gives, NoMemory>
-    ensures { IfOk result (λ gives. map gift_of gives ≡ gift_of give ∷ []) }
+    ensures { IfOk result (λ gives. map give_tree gives ≡ give_tree give ∷ []) }
 {
     let mut gives = Gives::new(alloc);
     gives.push(give)?;
@@ -234,7 +212,7 @@ fn gift(alloc: Global, give: Give) -> Result<Gives, NoMemory>
 
 /// An operator between two operands.
 pub(crate) fn binary(alloc: Global, op: Op, left: Expr, right: Expr) -> Result<Expr, NoMemory>
-    ensures { IfOk result (λ expr. formula_of expr ≡ binary op (formula_of left) (formula_of right)) }
+    ensures { IfOk result (λ expr. expr_tree expr ≡ binary op (expr_tree left) (expr_tree right)) }
 {
     Ok(Expr::Binary(op, Box::new(alloc, left)?, Box::new(alloc, right)?))
 }

@@ -1,5 +1,5 @@
 ghost use Rattle.std.specs.Prelude.{◌≡◌, ◌<◌, [], ◌∷◌, ◌++◌, length, map, IfOk};
-ghost use Rattle.dt_proc.specs.Shown.{block_of, formula_of, gift_of, step_of};
+ghost use Rattle.dt_proc.specs.TreeViews.{block_tree, expr_tree, give_tree, stmt_tree};
 
 use crate::procs::{Proc, Procs};
 use crate::tree::{Expr, Give, Gives, KeyDecl, KeyItem, KeyItems, Stmt, Stmts};
@@ -9,7 +9,7 @@ use std::alloc::Global;
 impl Expr {
     /// An equal expression.
     pub fn copy(&self, alloc: Global) -> Result<Self, NoMemory>
-        ensures { IfOk result (λ copied. formula_of copied ≡ formula_of self.now) }
+        ensures { IfOk result (λ copied. expr_tree copied ≡ expr_tree self.now) }
     {
         match self {
             Expr::Int(number) => Ok(Expr::Int(*number)),
@@ -35,7 +35,7 @@ impl Expr {
 impl Give {
     /// An equal gift.
     pub fn copy(&self, alloc: Global) -> Result<Self, NoMemory>
-        ensures { IfOk result (λ copied. gift_of copied ≡ gift_of self.now) }
+        ensures { IfOk result (λ copied. give_tree copied ≡ give_tree self.now) }
     {
         match self {
             Give::Row(key) => Ok(Give::Row(*key)),
@@ -46,7 +46,7 @@ impl Give {
 
 /// Equal gifts.
 fn copy_gives(alloc: Global, gives: &[Give]) -> Result<Gives, NoMemory>
-    ensures { IfOk result (λ copied. map gift_of copied ≡ map gift_of gives.now) }
+    ensures { IfOk result (λ copied. map give_tree copied ≡ map give_tree gives.now) }
 {
     let mut copied = Gives::new(alloc);
     for give in gives {
@@ -59,7 +59,7 @@ impl Stmt {
     /// An equal statement.
     #[cycle(copies)]
     pub fn copy(&self, alloc: Global) -> Result<Self, NoMemory>
-        ensures { IfOk result (λ copied. step_of copied ≡ step_of self.now) }
+        ensures { IfOk result (λ copied. stmt_tree copied ≡ stmt_tree self.now) }
     {
         match self {
             Stmt::Let(value) => Ok(Stmt::Let(value.copy(alloc)?)),
@@ -89,7 +89,7 @@ impl Stmts {
 /// Equal statements.
 #[cycle(copies)]
 fn copy_stmts(alloc: Global, stmts: &[Stmt]) -> Result<Stmts, NoMemory>
-    ensures { IfOk result (λ copied. copied ≡ block_of stmts.now) }
+    ensures { IfOk result (λ copied. copied ≡ block_tree stmts.now) }
 {
     let mut copied = Stmts::new(alloc);
     for stmt in stmts {

@@ -1,3 +1,4 @@
+use dt_syntax::SyntaxError;
 use dt_text::NoMemory;
 use std::alloc::{AllocError, AllocFailed};
 use thiserror::Error;
@@ -55,5 +56,20 @@ impl<T: Drop> From<AllocFailed<T>> for ProcError {
 
     fn from(_error: AllocFailed<T>) -> Self {
         ProcError::NoMemory
+    }
+}
+
+impl From<SyntaxError> for ProcError {
+    ghost use Rattle.std.specs.Prelude.{◌≡◌};
+    ghost use Rattle.dt_proc.specs.Outcome.{told_first};
+
+    ghost from_gives = { λ s e. e ≡ told_first s };
+
+    fn from(error: SyntaxError) -> Self {
+        match error {
+            SyntaxError::Syntax(place) => ProcError::Syntax(place),
+            SyntaxError::TooMany(place) => ProcError::TooMany(place),
+            SyntaxError::NoMemory => ProcError::NoMemory,
+        }
     }
 }

@@ -3,20 +3,17 @@
 
 mod builtin;
 mod copies;
-mod counts;
 mod error;
-mod first_pass;
-mod heads;
+mod expressions;
+mod fronts;
+mod keys;
 mod laws;
-mod lexer;
-mod machine;
+mod parameters;
 mod procs;
 mod reader;
 mod scope;
-mod steps;
-mod token;
+mod statements;
 mod tree;
-mod walk;
 
 pub use builtin::builtin_procs;
 pub use error::ProcError;

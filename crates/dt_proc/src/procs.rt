@@ -1,6 +1,6 @@
 ghost use Rattle.std.specs.Prelude.{◌≡◌, ◌↔◌, ◌<◌, ◌≤◌, ◌++◌, ◌∷◌, [], length, slice_get, IfOk, IfSome, IfNone, OnOk, OnErr, Some, ℕ, IsTrue, option_copied, nat_eq};
-ghost use Rattle.dt_proc.specs.Shown.{block_of};
-ghost use Rattle.dt_proc.specs.Sound.{IsSound, AreProcs};
+ghost use Rattle.dt_proc.specs.TreeViews.{block_tree};
+ghost use Rattle.dt_proc.specs.Sound.{IsSoundProc, AreProcs};
 ghost use Rattle.dt_proc.specs.Tree.{joined, ProcTree};
 ghost use Rattle.std.specs.Cmp.Lexicographic.{pointwise};
 ghost use Rattle.dt_proc.specs.Names.{place_of_name};
@@ -21,8 +21,8 @@ pub struct Proc {
 
 impl Model for Proc {
     ghost use Rattle.dt_proc.specs.Tree.{ProcTree};
-    ghost use Rattle.dt_proc.specs.Codes.{coded_proc};
-    ghost use Rattle.dt_proc.specs.Sound.{IsSound};
+    ghost use Rattle.dt_proc.specs.TreeCodesInner.{coded_proc};
+    ghost use Rattle.dt_proc.specs.Sound.{IsSoundProc};
 
     ghost Value = { ProcTree };
 
@@ -30,15 +30,15 @@ impl Model for Proc {
 
     ghost view = { λ p. record { name = p.name; params = p.params; keys = p.keys; body = p.body } };
 
-    ghost invariant = { λ p. IsSound (record { name = p.name; params = p.params; keys = p.keys; body = p.body }) };
+    ghost invariant = { λ p. IsSoundProc (record { name = p.name; params = p.params; keys = p.keys; body = p.body }) };
 }
 
 impl Proc {
     /// A procedure of these parts. Takes no memory.
     pub(crate) fn new(name: Name, params: Listed<Kind>, keys: Listed<KeyDecl>, body: Stmts) -> Self
-        requires { IsSound (record { name = name; params = params; keys = keys; body = body }) }
+        requires { IsSoundProc (record { name = name; params = params; keys = keys; body = body }) }
         ensures same { result ≡ record { name = name; params = params; keys = keys; body = body } }
-        ensures sound { IsSound result }
+        ensures sound { IsSoundProc result }
     {
         Proc {
             name,
@@ -51,7 +51,7 @@ impl Proc {
     /// The name.
     pub fn name(&self) -> &Name
         ensures same { result.now ≡ self.now.name }
-        ensures sound { IsSound self.now }
+        ensures sound { IsSoundProc self.now }
     {
         &self.name
     }
@@ -59,7 +59,7 @@ impl Proc {
     /// The kinds of the parameters, in order.
     pub fn params(&self) -> &[Kind]
         ensures same { result.now ≡ self.now.params }
-        ensures sound { IsSound self.now }
+        ensures sound { IsSoundProc self.now }
     {
         self.params.as_slice()
     }
@@ -67,7 +67,7 @@ impl Proc {
     /// The declarations of keys, in order.
     pub fn keys(&self) -> &[KeyDecl]
         ensures same { result.now ≡ self.now.keys }
-        ensures sound { IsSound self.now }
+        ensures sound { IsSoundProc self.now }
     {
         self.keys.as_slice()
     }
@@ -75,15 +75,15 @@ impl Proc {
     /// The statements as they are kept.
     pub(crate) fn statements(&self) -> &Stmts
         ensures same { result.now ≡ self.now.body }
-        ensures sound { IsSound self.now }
+        ensures sound { IsSoundProc self.now }
     {
         &self.body
     }
 
     /// The statements, in order.
     pub fn body(&self) -> &[Stmt]
-        ensures same { block_of result.now ≡ self.now.body }
-        ensures sound { IsSound self.now }
+        ensures same { block_tree result.now ≡ self.now.body }
+        ensures sound { IsSoundProc self.now }
     {
         self.body.as_slice()
     }
@@ -98,7 +98,7 @@ pub struct Procs {
 impl Model for Procs {
     ghost use Rattle.std.specs.Prelude.{List};
     ghost use Rattle.dt_proc.specs.Tree.{ProcTree};
-    ghost use Rattle.dt_proc.specs.Codes.{coded_procs};
+    ghost use Rattle.dt_proc.specs.TreeCodesInner.{coded_procs};
     ghost use Rattle.dt_proc.specs.Sound.{AreProcs};
 
     ghost Value = { List ProcTree };

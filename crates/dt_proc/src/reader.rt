@@ -3,20 +3,20 @@
 ghost use Rattle.std.specs.Prelude.{◌≡◌, ◌⊎◌, ◌<◌, ◌^◌, List, [], ◌++◌, length, nat_eq, IfOk, Err};
 ghost use Rattle.std.specs.List.{list_any};
 ghost use Rattle.std.specs.Cmp.Lexicographic.{pointwise};
-ghost use Rattle.dt_proc.specs.declared.token.Placed.{Placed};
-ghost use Rattle.dt_proc.specs.Syntax as syn;
-ghost use Rattle.dt_proc.specs.Checked as checked;
-ghost use Rattle.dt_proc.specs.Walked as walked;
+ghost use Rattle.dt_syntax.specs.declared.token.Placed.{Placed};
+ghost use Rattle.dt_syntax.specs.Grammar as syn;
+ghost use Rattle.dt_proc.specs.SecondPass as checked;
+ghost use Rattle.dt_proc.specs.WalkInner as walked;
 ghost use Rattle.dt_proc.specs.Sound as sound;
 ghost use Rattle.dt_proc.specs.Outcome.{Outcome};
 
 use crate::error::ProcError;
-use crate::first_pass::first_pass;
-use crate::heads::{more_keys, params};
+use crate::fronts::{after_one, named};
+use crate::keys::more_keys;
+use crate::parameters::params;
 use crate::procs::{Proc, Procs, is_named};
-use crate::steps::block;
-use crate::token::Placed;
-use crate::walk::{after_one, named};
+use crate::statements::block;
+use dt_syntax::{Placed, read_tokens};
 use dt_text::{Listed, Name};
 use std::alloc::Global;
 
@@ -33,11 +33,12 @@ fn proc<'a>(
     before: &[Proc],
     tokens: &'a [Placed],
 ) -> Result<(Proc, &'a [Placed]), ProcError>
-    requires { walked.StartsProc tokens.now }
+    requires starts { walked.StartsProc tokens.now }
+    requires short { length tokens.now < 2 ^ 32 }
     ensures shorter { IfOk result (λ r. length r.1.now < length tokens.now) }
-    ensures fits { IfOk result (λ r. sound.IsSound r.0) }
+    ensures fits { IfOk result (λ r. sound.IsSoundProc r.0) }
     ensures right { (p : syn.ProcSyntax) (rest : List Placed) → syn.IsProc p → syn.proc_tokens p ++ rest ≡ tokens.now
-        → walked.Answers (checked.check_proc before.now p) rest (walked.proc_shown result) }
+        → walked.WalkAnswers (checked.check_proc before.now p) rest (walked.proc_shown result) }
 {
     let (place, name, rest) = named(after_one(tokens)?)?;
     if is_taken(before, name) {
@@ -52,9 +53,10 @@ fn proc<'a>(
 
 /// The procedures that all tokens spell.
 fn procs(alloc: Global, tokens: &[Placed]) -> Result<Procs, ProcError>
-    requires { walked.AreFewProcs tokens.now }
-    ensures right { (ps : List syn.ProcSyntax) → syn.AreProcs ps → syn.procs_tokens ps ≡ tokens.now
-        → walked.Gives (checked.check_procs [] ps) result }
+    requires few { walked.AreFewProcs tokens.now }
+    requires short { length tokens.now < 2 ^ 32 }
+    ensures right { (ps : List syn.ProcSyntax) → syn.AreProcSyntaxes ps → syn.procs_tokens ps ≡ tokens.now
+        → walked.PassGives (checked.check_procs [] ps) result }
     ensures sound { IfOk result sound.AreProcs }
 {
     let mut procs = Vec::new(alloc);
@@ -72,11 +74,12 @@ fn procs(alloc: Global, tokens: &[Placed]) -> Result<Procs, ProcError>
 ///
 /// The text is tested as a whole for what it is made of first (`Syntax` and `TooMany`), and then for
 /// its names and kinds (`Twice`, `Unknown` and `Kind`). A text has exactly one outcome.
+#[tactic(auto, using(crate::proofs::ProcsWalk::outcome_first))]
 pub fn read_procs(alloc: Global, text: &[u8]) -> Result<Procs, ProcError>
     requires short { length text.now < 2 ^ 32 }
     ensures outcome { (result ≡ Err ProcError.NoMemory) ⊎ Outcome text.now result }
     ensures sound { IfOk result sound.AreProcs }
 {
-    let tokens = first_pass(alloc, text)?;
+    let tokens = read_tokens(alloc, text)?;
     procs(alloc, tokens.as_slice())
 }

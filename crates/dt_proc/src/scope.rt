@@ -1,9 +1,10 @@
-ghost use Rattle.std.specs.Prelude.{◌≡◌, ◌-◌, ℕ, List, ◌<◌, ◌≤◌, ◌^◌, [], ◌∷◌, ◌++◌, length, take, nat_eq, OnOk, OnErr, IfOk};
+ghost use Rattle.std.specs.Prelude.{◌≡◌, ◌+◌, ◌-◌, ℕ, List, ◌<◌, ◌≤◌, ◌^◌, [], ◌∷◌, ◌++◌, length, take, nat_eq, OnOk, OnErr, IfOk};
 ghost use Rattle.std.specs.Ordering.{nat_cmp};
 ghost use Rattle.std.specs.Cmp.Lexicographic.{pointwise, slice_cmp};
 ghost use Rattle.std.specs.BTreeMap.{get};
-ghost use Rattle.dt_proc.specs.Names.{entry_of, meaning};
-ghost use Rattle.dt_proc.specs.Numbered.{AreNumbers, is_number};
+ghost use Rattle.dt_proc.specs.Names.{entry_of, meaning_in};
+ghost use Rattle.dt_proc.specs.SecondPass.{is_unknown};
+ghost use Rattle.dt_proc.specs.NumbersInner.{AreNumbers, is_number};
 ghost use Rattle.dt_proc.specs.declared.tree.Sort.{Sort};
 
 use crate::tree::Sort;
@@ -37,7 +38,7 @@ pub(crate) struct Scope {
 impl Model for Scope {
     ghost use Rattle.dt_proc.specs.Names as names;
     ghost use Rattle.std.specs.Prelude.{◌<◌, ◌^◌, length};
-    ghost use Rattle.dt_proc.specs.Numbered.{AreNumbers};
+    ghost use Rattle.dt_proc.specs.NumbersInner.{AreNumbers};
 
     ghost Value = { names.Scope };
 
@@ -61,7 +62,7 @@ impl Scope {
 
     /// What a name means.
     pub(crate) fn meaning(&self, name: &Name) -> Meaning
-        ensures { result ≡ meaning self.now name.now }
+        ensures { result ≡ meaning_in self.now name.now }
     {
         if let Some((number, sort)) = self.numbers.get(name) {
             return Meaning::Variable(*number, *sort);
@@ -86,11 +87,9 @@ impl Scope {
         name: &Name,
         sort: Sort,
     ) -> Result<(), NoMemory>
+        requires room { length self.old.variables + 1 < 2 ^ 32 }
         ensures { OnOk result (self.new ≡ record self.old { variables = self.old.variables ++ (name.now, sort) ∷ [] }) }
     {
-        if self.variables.len() >= u32::MAX as usize {
-            return Err(NoMemory);
-        }
         let number = self.variables.len() as u32;
         let entry = (name.copy(alloc)?, sort);
         self.variables.reserve(1)?;
@@ -108,11 +107,9 @@ impl Scope {
         name: &Name,
         write: bool,
     ) -> Result<(), NoMemory>
+        requires room { length self.old.keys + 1 < 2 ^ 32 }
         ensures { OnOk result (self.new ≡ record self.old { keys = self.old.keys ++ (name.now, write) ∷ [] }) }
     {
-        if self.keys.len() >= u32::MAX as usize {
-            return Err(NoMemory);
-        }
         self.keys.push((name.copy(alloc)?, write))?;
         Ok(())
     }
@@ -137,6 +134,13 @@ impl Scope {
             self.numbers.remove(&name);
         }
     }
+}
+
+/// Whether a name is not visible.
+pub(crate) fn is_new(scope: &Scope, name: &Name) -> bool
+    ensures { result ≡ is_unknown (meaning_in scope.now name.now) }
+{
+    matches!(scope.meaning(name), Meaning::Unknown)
 }
 
 /// Notes the number of a variable, where none before it has its name.

@@ -1,19 +1,11 @@
 ghost use Rattle.std.specs.Prelude.{◌≡◌, [], ◌∷◌, ◌++◌, length, IfOk, OnOk, OnErr};
 ghost use Rattle.dt_proc.specs.Tree.{done, then, joined};
-ghost use Rattle.dt_proc.specs.Shown.{step_of, block_of};
+ghost use Rattle.dt_proc.specs.TreeViews.{stmt_tree, block_tree};
 
+pub use dt_syntax::{Kind, Op};
 use dt_text::{Listed, NoMemory, Str};
 use std::alloc::Global;
 use std::marker::Model;
-
-/// The kind of a parameter.
-#[derive(Clone, Copy, Debug, PartialEq, Eq)]
-pub enum Kind {
-    /// A number of 64 bits with a sign.
-    Int,
-    /// A text.
-    Text,
-}
 
 /// What an expression gives.
 #[derive(Clone, Copy, Debug, PartialEq, Eq)]
@@ -24,39 +16,6 @@ pub enum Sort {
     Text,
     /// A truth.
     Bool,
-}
-
-/// An operator between two operands.
-#[derive(Clone, Copy, Debug, PartialEq, Eq)]
-pub enum Op {
-    /// `or`
-    Or,
-    /// `and`
-    And,
-    /// `==`
-    Equal,
-    /// `!=`
-    Differ,
-    /// `<`
-    Less,
-    /// `<=`
-    AtMost,
-    /// `>`
-    More,
-    /// `>=`
-    AtLeast,
-    /// `+`
-    Add,
-    /// `-`
-    Sub,
-    /// `++`
-    Join,
-    /// `*`
-    Mul,
-    /// `/`
-    Div,
-    /// `%`
-    Rem,
 }
 
 /// An expression.
@@ -149,20 +108,20 @@ pub struct Stmts {
 }
 
 impl Model for Stmts {
-    ghost use Rattle.dt_proc.specs.Tree.{Block};
-    ghost use Rattle.dt_proc.specs.Codes.{coded_block};
+    ghost use Rattle.dt_proc.specs.Tree.{BlockTree};
+    ghost use Rattle.dt_proc.specs.TreeCodesInner.{coded_block};
 
-    ghost Value = { Block };
+    ghost Value = { BlockTree };
 
     ghost coded = { coded_block };
 
-    ghost use Rattle.dt_proc.specs.Shown.{block_of, block_size};
+    ghost use Rattle.dt_proc.specs.TreeViews.{block_tree, block_size};
 
-    ghost view = { λ s. block_of s.items.items };
+    ghost view = { λ s. block_tree s.items.items };
 
     ghost size = { block_size };
 
-    ghost use Rattle.dt_proc.specs.Falls.{deep_block};
+    ghost use Rattle.dt_proc.specs.BlockSizesInner.{deep_block};
     ghost use Rattle.std.proofs.Common.{arith};
 
     ghost size_decreases = { λ a h. omega (arith, deep_block a.items.items) };
@@ -179,9 +138,9 @@ impl Stmts {
     }
 
     /// Adds a statement at the back; after `NoMemory` the statements are as before.
-    #[tactic(auto, using(crate::proofs::Blocks::with_last))]
+    #[tactic(auto, using(crate::proofs::BlockJoin::with_last))]
     pub fn push(&mut self, item: Stmt) -> Result<(), NoMemory>
-        ensures added { OnOk result (self.new ≡ joined self.old (then (step_of item) done)) }
+        ensures added { OnOk result (self.new ≡ joined self.old (then (stmt_tree item) done)) }
         ensures same { OnErr result (self.new ≡ self.old) }
     {
         self.items.push(item)?;
@@ -190,7 +149,7 @@ impl Stmts {
 
     /// The statements, in order. Takes no memory.
     pub fn as_slice(&self) -> &[Stmt]
-        ensures { block_of result.now ≡ self.now }
+        ensures { block_tree result.now ≡ self.now }
     {
         self.items.as_slice()
     }

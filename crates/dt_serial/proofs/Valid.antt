@@ -12,7 +12,7 @@ use Rattle.dt_eval.specs.declared.Finish.{Finish}
 use Rattle.dt_eval.specs.declared.finish.Finish.TheVariants.{Gave, Aborted}
 use Rattle.dt_eval.specs.Meaning.{writes_in}
 use Rattle.dt_eval.specs.Calls.{CallFits, call_keys, call_meaning}
-use Rattle.dt_eval.proofs.CallLaws.{call_writes_declared}
+use Rattle.dt_eval.proofs.Callers.{call_writes_declared}
 use Rattle.dt_txn.specs.declared.txn.Body.{Body}
 use Rattle.dt_txn.specs.declared.txn.Body.TheVariants.{Call, Move}
 use Rattle.dt_txn.specs.declared.txn.Txn.{Txn}

@@ -6,8 +6,8 @@ use Rattle.dt_access.specs.Clash.{Bytes}
 use Rattle.dt_access.specs.Orders.{HasAscendingKeys}
 use Rattle.dt_access.specs.declared.Mode.{Mode}
 use Rattle.dt_proc.specs.Tree.{ProcTree}
-use Rattle.dt_eval.specs.Meaning.{IsFirstBad}
-use Rattle.dt_eval.proofs.CallLaws.{call_keys_ascend}
+use Rattle.dt_eval.specs.Meaning.{IsFirstBadKey}
+use Rattle.dt_eval.proofs.Callers.{call_keys_ascend}
 use Rattle.dt_txn.specs.declared.txn.Body.{Body}
 use Rattle.dt_txn.specs.declared.txn.Body.TheVariants.{Call, Move}
 use Rattle.dt_txn.specs.declared.txn.Txn.{Txn}
@@ -30,7 +30,7 @@ formed procs regions txn valid = record {
 }
 
 -- where all are keys, none is the first that is no key
-pub no_bad : (names : List Bytes) (i : ℕ) → AllIn IsKey names → IsFirstBad names i → ⊥
+pub no_bad : (names : List Bytes) (i : ℕ) → AllIn IsKey names → IsFirstBadKey names i → ⊥
 no_bad [] i all bad = bad
 no_bad (name ∷ names) zero all bad = bad all.0
 no_bad (name ∷ names) (suc i) all bad = no_bad names i all.1 bad.1

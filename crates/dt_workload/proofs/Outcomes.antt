@@ -14,7 +14,7 @@ use Rattle.dt_text.specs.declared.Value.{Value}
 use Rattle.dt_text.specs.declared.Value.TheVariants as val
 use Rattle.dt_proc.specs.Tree.{ProcTree}
 use Rattle.dt_proc.specs.Names.{place_of_name}
-use Rattle.dt_proc.specs.Sound.{IsSound}
+use Rattle.dt_proc.specs.Sound.{IsSoundProc}
 use Rattle.dt_proc.specs.declared.tree.Kind.{Kind}
 use Rattle.dt_proc.specs.declared.tree.Kind.TheVariants as kind
 use Rattle.dt_eval.specs.Meaning.{IsOfKind, Fits, HasKeys, names_of}
@@ -135,7 +135,7 @@ call_goes_on cluster valid before name args (Some p) is some fits keys room =
     let at = numbered cluster.procs (place_of_name name cluster.procs) p is in
     let after = with_wanted before some (Call at.0 args) in
     let name_is : proc_name (slice_get cluster.procs at.0) ≡ name = ap proc_name at.2 ∙ named_word cluster.procs name at.0 p at.1 at.2 in
-    let sound = all_at IsSound cluster.procs at.0 p valid.procs.sound at.2 in
+    let sound = all_at IsSoundProc cluster.procs at.0 p valid.procs.sound at.2 in
     let call : CallFits cluster.procs at.0 args = record { body = p; named = at.2; sound = sound; fits = fits; keys = keys } in
     (after.0, (at.0, name_is, call, room, after.1))
 

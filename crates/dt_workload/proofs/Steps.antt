@@ -15,7 +15,7 @@ use Rattle.dt_text.specs.Texts.{IsKey}
 use Rattle.dt_text.specs.Lines.{FileLine}
 use Rattle.dt_proc.specs.Tree.{ProcTree}
 use Rattle.dt_proc.specs.Names.{place_of_name}
-use Rattle.dt_eval.specs.Keys.{IsFirstBad}
+use Rattle.dt_eval.specs.Keys.{IsFirstBadKey}
 use Rattle.dt_cluster.specs.declared.Cluster.{Cluster}
 use Rattle.dt_text.specs.Texts.{Bytes}
 use Rattle.dt_workload.specs.Lines.{Form, session_line, call_line, move_line, HasForm}
@@ -28,7 +28,7 @@ use Rattle.dt_workload.specs.declared.workload.Session.{Session}
 use Rattle.dt_workload.specs.declared.workload.Workload.{Workload}
 
 -- texts of which one is no key are no keys
-pub bad_first : (names : List Bytes) (i : ℕ) → IsFirstBad names i → AllIn IsKey names → ⊥
+pub bad_first : (names : List Bytes) (i : ℕ) → IsFirstBadKey names i → AllIn IsKey names → ⊥
 bad_first [] i bad keys = bad
 bad_first (name ∷ names) zero bad keys = bad keys.0
 bad_first (name ∷ names) (suc i) bad keys = bad_first names i bad.1 keys.1

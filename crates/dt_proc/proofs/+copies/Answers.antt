@@ -1,5 +1,5 @@
 use Rattle.std.proofs.Common.{arith}
-use Rattle.dt_proc.proofs.Blocks.{step_in, taken_step}
+use Rattle.dt_proc.proofs.BlockJoin.{step_in, taken_step}
 use Rattle.dt_proc.proofs.+copies.Goals as goal
 
 pub copies::copy_stmts-copy-requires : goal.copies::copy_stmts-copy-requires

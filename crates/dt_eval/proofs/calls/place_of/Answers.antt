@@ -1,5 +1,5 @@
 use Rattle.std.proofs.Common.{sym, ◌∙◌}
-use Rattle.dt_eval.proofs.Opening.{place_some, place_there}
+use Rattle.dt_eval.proofs.RunStart.{place_some, place_there}
 use Rattle.dt_eval.proofs.calls.place_of.Goals as goal
 
 pub unreachable-requires : goal.unreachable-requires

@@ -1,6 +1,6 @@
 use Rattle.std.proofs.Common.{◌∙◌, sym, ap, subst}
 use Rattle.dt_eval.specs.Keys.{key_text}
-use Rattle.dt_eval.proofs.Opening.{Placing, placing_more}
+use Rattle.dt_eval.proofs.RunStart.{Placing, placing_more}
 use Rattle.dt_eval.proofs.calls.places.Goals as goal
 
 pub loop-declared-preserved : goal.loop-declared-preserved

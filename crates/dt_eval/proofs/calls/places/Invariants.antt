@@ -1,4 +1,4 @@
-use Rattle.dt_eval.proofs.Opening.{Placing}
+use Rattle.dt_eval.proofs.RunStart.{Placing}
 use Rattle.dt_eval.proofs.calls.places.Given as goal
 
 abbrev pub invariant-loop-declared : goal.invariant-loop-declared

@@ -4,10 +4,10 @@ use Rattle.dt_access.specs.Clash.{Bytes}
 use Rattle.dt_text.specs.declared.Value.{Value}
 use Rattle.dt_lists.specs.Lists.{AllIn, AnyIn}
 use Rattle.dt_proc.specs.declared.tree.KeyDecl.{KeyDecl}
-use Rattle.dt_eval.specs.Framed.{ArePlaces, IsItemWithin}
-use Rattle.dt_eval.specs.Keys.{names_in}
+use Rattle.dt_eval.specs.FrameInner.{ArePlaces, IsItemWithin}
+use Rattle.dt_eval.specs.Keys.{names_given}
 use Rattle.dt_eval.proofs.KeyLaws.{items_within}
-use Rattle.dt_eval.proofs.Opening.{names_read, rows_named, rows_below, rows_ascend}
+use Rattle.dt_eval.proofs.RunStart.{names_read, rows_named, rows_below, rows_ascend}
 use Rattle.dt_eval.proofs.calls.rows.Goals as goal
 
 pub places-requires-clause-within : goal.places-requires-clause-within
@@ -16,10 +16,10 @@ places-requires-clause-within c =
 
 pub places-requires-clause-read : goal.places-requires-clause-read
 places-requires-clause-read c =
-    subst (λ ds. AllIn (λ name. AnyIn (λ r. r.0 ≡ name) c.args.reads.now) (names_in c.args.args.now ds)) (sym c.keys-declarations.ensures.same) (names_read c.args.body.now c.args.args.now c.args.reads.now c.requires.reads)
+    subst (λ ds. AllIn (λ name. AnyIn (λ r. r.0 ≡ name) c.args.reads.now) (names_given c.args.args.now ds)) (sym c.keys-declarations.ensures.same) (names_read c.args.body.now c.args.args.now c.args.reads.now c.requires.reads)
 
 pub new-requires-clause-places : goal.new-requires-clause-places
-new-requires-clause-places c = rows_below (names_in c.args.args.now c.keys-declarations.result.now) c.args.reads.now c.in_ok-places.places.items c.in_ok-items.items.items c.in_ok-items.ensures c.in_ok-places.ensures
+new-requires-clause-places c = rows_below (names_given c.args.args.now c.keys-declarations.result.now) c.args.reads.now c.in_ok-places.places.items c.in_ok-items.items.items c.in_ok-items.ensures c.in_ok-places.ensures
 
 pub new-requires-clause-keys : goal.new-requires-clause-keys
 new-requires-clause-keys c = rows_ascend c.args.body.now c.args.args.now c.args.reads.now c.in_ok-items.items.items c.in_ok-items.ensures c.requires.reads
@@ -28,4 +28,4 @@ pub returns : goal.returns
 returns c =
     c.new.ensures
     ∙ rows_named c.args.body.now c.args.args.now c.args.reads.now c.in_ok-places.places.items c.in_ok-items.items.items c.in_ok-items.ensures
-    (subst (λ ds. ArePlaces (names_in c.args.args.now ds) (map (λ (r : Bytes × Option Value). r.0) c.args.reads.now) c.in_ok-places.places.items) c.keys-declarations.ensures.same c.in_ok-places.ensures)
+    (subst (λ ds. ArePlaces (names_given c.args.args.now ds) (map (λ (r : Bytes × Option Value). r.0) c.args.reads.now) c.in_ok-places.places.items) c.keys-declarations.ensures.same c.in_ok-places.ensures)

@@ -1,7 +1,7 @@
 use Rattle.std.proofs.Common.{sym, ap, subst}
 use Rattle.dt_eval.specs.declared.frame.Frame.{Frame}
-use Rattle.dt_eval.specs.Framed.{IsSoundBlock}
-use Rattle.dt_eval.proofs.Opening.{opening_sound}
+use Rattle.dt_eval.specs.FrameInner.{IsSoundBlock}
+use Rattle.dt_eval.proofs.RunStart.{opening_sound}
 use Rattle.dt_eval.proofs.calls.run.Goals as goal
 
 pub block-requires : goal.block-requires

@@ -1,7 +1,6 @@
 use Rattle.std.proofs.Common.{◌≡◌, ◌∙◌, List, set, sym, ap, arith}
-use Rattle.dt_access.specs.declared.Mode.{Mode}
 use Rattle.dt_eval.specs.Keys.{with_use, merged}
-use Rattle.dt_eval.proofs.KeyLaws.{use_before, use_same, use_further, use_last, same_read}
+use Rattle.dt_eval.proofs.KeyLaws.{use_before, use_same, use_last, same_read}
 use Rattle.dt_eval.proofs.keys.add_use.Goals as goal
 
 pub returns-in-Less : goal.returns-in-Less

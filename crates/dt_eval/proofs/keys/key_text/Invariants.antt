@@ -1,6 +1,6 @@
 use Rattle.std.proofs.Common.{◌≡◌, ◌++◌, length, drop}
 use Rattle.dt_lists.specs.Lists.{AllIn}
-use Rattle.dt_eval.specs.Framed.{IsItemWithin}
+use Rattle.dt_eval.specs.FrameInner.{IsItemWithin}
 use Rattle.dt_eval.specs.Keys.{key_text}
 use Rattle.dt_eval.proofs.keys.key_text.Given as goal
 

@@ -4,7 +4,7 @@ use Rattle.std.specs.Prelude.{Result, IsErrAnd}
 use Rattle.dt_eval.specs.declared.keys.KeysError.{KeysError}
 use Rattle.dt_eval.specs.declared.keys.KeysError.TheVariants.{BadKey}
 use Rattle.dt_eval.specs.Keys.{with_use}
-use Rattle.dt_eval.proofs.KeyLaws.{gathers_none, gathers_within, gathers_more, gathers_bad, gathers_all, gathers_keys, gathers_ascend}
+use Rattle.dt_eval.proofs.KeyLaws.{gathers_none, gathers_more, gathers_bad, gathers_ascend}
 use Rattle.dt_eval.proofs.keys.keys_of.Goals as goal
 
 pub loop-number-init : goal.loop-number-init

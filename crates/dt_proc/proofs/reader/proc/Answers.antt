@@ -3,11 +3,12 @@ use Rattle.std.specs.List.{flat_map, list_any}
 use Rattle.std.specs.Cmp.Lexicographic.{pointwise}
 use Rattle.std.proofs.lemmas.Result.{err_from_is_err_and}
 use Rattle.dt_text.specs.Texts.{IsName}
-use Rattle.dt_proc.specs.declared.token.Token.TheVariants as tok
+use Rattle.dt_syntax.specs.declared.token.Token.TheVariants as tok
 use Rattle.dt_proc.specs.Tree.{ProcTree}
-use Rattle.dt_proc.specs.Syntax.{at, params_tokens, key_tokens, statements_tokens}
-use Rattle.dt_proc.specs.Walked.{Answers, keys_told}
-use Rattle.dt_proc.proofs.Procedures.{Free, proc_cut, proc_longer, proc_twice, proc_sound, params_first_fault, keys_first_fault, body_first_fault, proc_told}
+use Rattle.dt_syntax.specs.Grammar.{at, params_tokens, key_tokens, statements_tokens}
+use Rattle.dt_proc.specs.WalkInner.{WalkAnswers, keys_told}
+use Rattle.dt_proc.proofs.ProcWalk.{Free, proc_twice, proc_sound, params_first_fault, keys_first_fault, body_first_fault, proc_told}
+use Rattle.dt_syntax.proofs.Callers.{proc_cut, proc_longer}
 use Rattle.dt_proc.proofs.reader.proc.Goals as goal
 
 pub returns-then-is_taken-clause-right : goal.returns-then-is_taken-clause-right
@@ -26,7 +27,7 @@ returns-in_err-scope-clause-right c = λ p rest h e.
     let free : Free c.args.before.now p = ap (λ n. list_any (λ (q : ProcTree). pointwise nat_eq q.name n) c.args.before.now) (sym name.1) ∙ sym c.is_taken.ensures ∙ c.if-is_taken.false in
     let opened = c.in_ok-after_one-2.ensures.right (at p.open_at tok.Open) tail (sym name.2) in
     let keyed = flat_map key_tokens (p.key ∷ p.more_keys) ++ at p.begin_at tok.Begin ∷ (statements_tokens p.body ++ at p.end_at tok.End ∷ rest) in
-    let ps = c.in_err-scope.ensures p.params p.close_at keyed (sym opened) in
+    let ps = c.in_err-scope.ensures.right p.params p.close_at keyed (sym opened) in
     rw (r.1, r.2) (params_first_fault c.args.before.now p keyed rest _ free ps)
 
 pub returns-in_err-rest-clause-right : goal.returns-in_err-rest-clause-right
@@ -38,10 +39,10 @@ returns-in_err-rest-clause-right c = λ p rest h e.
     let free : Free c.args.before.now p = ap (λ n. list_any (λ (q : ProcTree). pointwise nat_eq q.name n) c.args.before.now) (sym name.1) ∙ sym c.is_taken.ensures ∙ c.if-is_taken.false in
     let opened = c.in_ok-after_one-2.ensures.right (at p.open_at tok.Open) tail (sym name.2) in
     let keyed = flat_map key_tokens (p.key ∷ p.more_keys) ++ at p.begin_at tok.Begin ∷ (statements_tokens p.body ++ at p.end_at tok.End ∷ rest) in
-    let ps = c.in_ok-scope.ensures p.params p.close_at keyed (sym opened) in
+    let ps = c.in_ok-scope.ensures.right p.params p.close_at keyed (sym opened) in
     let inside = statements_tokens p.body ++ at p.end_at tok.End ∷ rest in
-    let ks = c.in_err-rest.ensures (p.key ∷ p.more_keys) p.begin_at inside (sym ps.1) in
-    let empty = subst (λ v. Answers (keys_told c.in_ok-scope.scope v (p.key ∷ p.more_keys)) inside (Err c.in_err-rest.field-0.0)) c.new-keys.ensures ks in
+    let ks = c.in_err-rest.ensures.right (p.key ∷ p.more_keys) p.begin_at inside (sym ps.1) in
+    let empty = subst (λ v. WalkAnswers (keys_told c.in_ok-scope.scope v (p.key ∷ p.more_keys)) inside (Err c.in_err-rest.field-0.0)) c.new-keys.ensures ks in
     rw (r.1, r.2) (keys_first_fault c.args.before.now p (c.in_ok-scope.scope, c.in_ok-scope.kinds) inside rest _ free ps.0 empty)
 
 pub returns-in_err-body-clause-right : goal.returns-in_err-body-clause-right
@@ -53,46 +54,46 @@ returns-in_err-body-clause-right c = λ p rest h e.
     let free : Free c.args.before.now p = ap (λ n. list_any (λ (q : ProcTree). pointwise nat_eq q.name n) c.args.before.now) (sym name.1) ∙ sym c.is_taken.ensures ∙ c.if-is_taken.false in
     let opened = c.in_ok-after_one-2.ensures.right (at p.open_at tok.Open) tail (sym name.2) in
     let keyed = flat_map key_tokens (p.key ∷ p.more_keys) ++ at p.begin_at tok.Begin ∷ (statements_tokens p.body ++ at p.end_at tok.End ∷ rest) in
-    let ps = c.in_ok-scope.ensures p.params p.close_at keyed (sym opened) in
+    let ps = c.in_ok-scope.ensures.right p.params p.close_at keyed (sym opened) in
     let inside = statements_tokens p.body ++ at p.end_at tok.End ∷ rest in
-    let ks = c.in_ok-rest.ensures (p.key ∷ p.more_keys) p.begin_at inside (sym ps.1) in
+    let ks = c.in_ok-rest.ensures.right (p.key ∷ p.more_keys) p.begin_at inside (sym ps.1) in
     let made = ap (λ v. keys_told c.in_ok-scope.scope v (p.key ∷ p.more_keys)) (sym c.new-keys.ensures) ∙ ks.0 in
     let b = c.in_err-body.ensures.right p.body p.end_at rest h (sym ks.1) in
     rw (r.1, r.2) (body_first_fault c.args.before.now p (c.in_ok-scope.scope, c.in_ok-scope.kinds) (c.more_keys.new.scope, c.more_keys.new.keys) rest rest _ free ps.0 made b.0)
 
 pub new-requires : goal.new-requires
 new-requires c =
-    let p = c.requires.one in
-    let rest = c.requires.rest in
-    let h = c.requires.good in
-    let e = c.requires.cut in
+    let p = c.requires.starts.one in
+    let rest = c.requires.starts.rest in
+    let h = c.requires.starts.good in
+    let e = c.requires.starts.cut in
     let tail = params_tokens p.params ++ at p.close_at tok.Close ∷ (flat_map key_tokens (p.key ∷ p.more_keys) ++ at p.begin_at tok.Begin ∷ (statements_tokens p.body ++ at p.end_at tok.End ∷ rest)) in
     let one = c.in_ok-after_one.ensures.right (at p.word_at tok.Proc) (at p.name_at (tok.Name p.name) ∷ at p.open_at tok.Open ∷ tail) (proc_cut p rest c.args.tokens.now e) in
     let name = c.in_ok-place.ensures.right p.name_at p.name (at p.open_at tok.Open ∷ tail) (sym one) in
     let opened = c.in_ok-after_one-2.ensures.right (at p.open_at tok.Open) tail (sym name.2) in
     let keyed = flat_map key_tokens (p.key ∷ p.more_keys) ++ at p.begin_at tok.Begin ∷ (statements_tokens p.body ++ at p.end_at tok.End ∷ rest) in
-    let ps = c.in_ok-scope.ensures p.params p.close_at keyed (sym opened) in
+    let ps = c.in_ok-scope.ensures.right p.params p.close_at keyed (sym opened) in
     let inside = statements_tokens p.body ++ at p.end_at tok.End ∷ rest in
-    let ks = c.in_ok-rest.ensures (p.key ∷ p.more_keys) p.begin_at inside (sym ps.1) in
+    let ks = c.in_ok-rest.ensures.right (p.key ∷ p.more_keys) p.begin_at inside (sym ps.1) in
     let made = ap (λ v. keys_told c.in_ok-scope.scope v (p.key ∷ p.more_keys)) (sym c.new-keys.ensures) ∙ ks.0 in
     let b = c.in_ok-body.ensures.right p.body p.end_at rest h (sym ks.1) in
-    proc_sound p c.in_ok-copy.field-0 c.in_ok-scope.scope c.more_keys.new.scope c.in_ok-scope.kinds c.more_keys.new.keys c.in_ok-body.body c.requires.sound c.requires.small
+    proc_sound p c.in_ok-copy.field-0 c.in_ok-scope.scope c.more_keys.new.scope c.in_ok-scope.kinds c.more_keys.new.keys c.in_ok-body.body c.requires.starts.sound c.requires.starts.small
     (subst IsName (sym c.in_ok-copy.ensures.same) c.in_ok-copy.ensures.name) ps.0 made b.0.0
 
 pub returns-clause-shorter : goal.returns-clause-shorter
 returns-clause-shorter c =
-    let p = c.requires.one in
-    let rest = c.requires.rest in
-    let h = c.requires.good in
-    let e = c.requires.cut in
+    let p = c.requires.starts.one in
+    let rest = c.requires.starts.rest in
+    let h = c.requires.starts.good in
+    let e = c.requires.starts.cut in
     let tail = params_tokens p.params ++ at p.close_at tok.Close ∷ (flat_map key_tokens (p.key ∷ p.more_keys) ++ at p.begin_at tok.Begin ∷ (statements_tokens p.body ++ at p.end_at tok.End ∷ rest)) in
     let one = c.in_ok-after_one.ensures.right (at p.word_at tok.Proc) (at p.name_at (tok.Name p.name) ∷ at p.open_at tok.Open ∷ tail) (proc_cut p rest c.args.tokens.now e) in
     let name = c.in_ok-place.ensures.right p.name_at p.name (at p.open_at tok.Open ∷ tail) (sym one) in
     let opened = c.in_ok-after_one-2.ensures.right (at p.open_at tok.Open) tail (sym name.2) in
     let keyed = flat_map key_tokens (p.key ∷ p.more_keys) ++ at p.begin_at tok.Begin ∷ (statements_tokens p.body ++ at p.end_at tok.End ∷ rest) in
-    let ps = c.in_ok-scope.ensures p.params p.close_at keyed (sym opened) in
+    let ps = c.in_ok-scope.ensures.right p.params p.close_at keyed (sym opened) in
     let inside = statements_tokens p.body ++ at p.end_at tok.End ∷ rest in
-    let ks = c.in_ok-rest.ensures (p.key ∷ p.more_keys) p.begin_at inside (sym ps.1) in
+    let ks = c.in_ok-rest.ensures.right (p.key ∷ p.more_keys) p.begin_at inside (sym ps.1) in
     let made = ap (λ v. keys_told c.in_ok-scope.scope v (p.key ∷ p.more_keys)) (sym c.new-keys.ensures) ∙ ks.0 in
     let b = c.in_ok-body.ensures.right p.body p.end_at rest h (sym ks.1) in
     subst (λ v. length v < length c.args.tokens.now) (sym b.0.1) (proc_longer p rest c.args.tokens.now e)
@@ -105,9 +106,9 @@ returns-clause-right c = λ p rest h e.
     let free : Free c.args.before.now p = ap (λ n. list_any (λ (q : ProcTree). pointwise nat_eq q.name n) c.args.before.now) (sym name.1) ∙ sym c.is_taken.ensures ∙ c.if-is_taken.false in
     let opened = c.in_ok-after_one-2.ensures.right (at p.open_at tok.Open) tail (sym name.2) in
     let keyed = flat_map key_tokens (p.key ∷ p.more_keys) ++ at p.begin_at tok.Begin ∷ (statements_tokens p.body ++ at p.end_at tok.End ∷ rest) in
-    let ps = c.in_ok-scope.ensures p.params p.close_at keyed (sym opened) in
+    let ps = c.in_ok-scope.ensures.right p.params p.close_at keyed (sym opened) in
     let inside = statements_tokens p.body ++ at p.end_at tok.End ∷ rest in
-    let ks = c.in_ok-rest.ensures (p.key ∷ p.more_keys) p.begin_at inside (sym ps.1) in
+    let ks = c.in_ok-rest.ensures.right (p.key ∷ p.more_keys) p.begin_at inside (sym ps.1) in
     let made = ap (λ v. keys_told c.in_ok-scope.scope v (p.key ∷ p.more_keys)) (sym c.new-keys.ensures) ∙ ks.0 in
     let b = c.in_ok-body.ensures.right p.body p.end_at rest h (sym ks.1) in
     let called = c.in_ok-copy.ensures.same ∙ name.1 in (

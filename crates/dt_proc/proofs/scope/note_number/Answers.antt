@@ -1,7 +1,7 @@
 use Rattle.std.specs.Ordering.{nat_cmp}
 use Rattle.std.specs.Cmp.Lexicographic.{slice_cmp}
 use Rattle.std.specs.BTreeMap.{get}
-use Rattle.dt_proc.proofs.Naming.{added_as, added_known, some_entry}
+use Rattle.dt_proc.proofs.VariableNumbers.{added_as, added_known, some_entry}
 use Rattle.dt_proc.proofs.scope.note_number.Goals as goal
 
 pub returns-in_ok-insert-clause-added : goal.returns-in_ok-insert-clause-added

@@ -1,6 +1,6 @@
 use Rattle.std.proofs.Common.{◌≡◌, ap, sym, ◌∙◌, subst, Some, slice_get, option_copied}
 use Rattle.dt_eval.specs.Meaning.{Fits, HasKeys}
-use Rattle.dt_proc.specs.Sound.{IsSound}
+use Rattle.dt_proc.specs.Sound.{IsSoundProc}
 use Rattle.dt_workload.specs.File.{proc_name}
 use Rattle.dt_workload.proofs.Steps.{named_word, found_proc, all_at}
 use Rattle.dt_workload.proofs.draft.call_number.Goals as goal
@@ -14,7 +14,7 @@ returns-clause-ok c =
       record {
         body = body;
         named = there;
-        sound = all_at IsSound c.args.cluster.now.procs c.in-Some.number body c.requires.procs.sound there;
+        sound = all_at IsSoundProc c.args.cluster.now.procs c.in-Some.number body c.requires.procs.sound there;
         fits = subst (Fits body) c.as_slice.ensures (c.fits.ensures.0 c.if-not-fits.false);
         keys = subst (HasKeys body) c.as_slice-2.ensures c.in_ok-gives_keys.ensures.ok;
       },

@@ -1,13 +1,12 @@
 use Rattle.std.proofs.Common.{◌≡◌, ◌+◌, ◌∙◌, Ok, true, false, drop, take, sym, ap, subst, arith}
-use Rattle.dt_proc.specs.Shown.{block_of, step_of, formula_of, block_size}
+use Rattle.dt_proc.specs.TreeViews.{block_tree, stmt_tree, expr_tree, block_size}
 use Rattle.dt_proc.specs.Tree.{then}
-use Rattle.dt_eval.specs.Data.{next}
-use Rattle.dt_eval.specs.Framed.{IsSoundBlock, seen}
-use Rattle.dt_eval.specs.Running.{after_block}
+use Rattle.dt_eval.specs.Data.{unless_aborted}
+use Rattle.dt_eval.specs.FrameInner.{IsSoundBlock, seen}
+use Rattle.dt_eval.specs.Statements.{after_block}
 use Rattle.dt_eval.specs.declared.state.Datum.TheVariants.{Bool as Truth}
 use Rattle.dt_eval.proofs.FrameLaws.{block_tail, choose_by, drop_step}
 use Rattle.dt_eval.proofs.frame.Frame.+running.Goals as goal
-use Rattle.dt_eval.proofs.frame.Frame.+running.Goals.{choose-then-truth_of+in_ok-block, choose-else-truth_of+in_ok-block-2}
 
 pub block-loop-stmt-preserved : goal.block-loop-stmt-preserved
 block-loop-stmt-preserved t c =
@@ -15,15 +14,15 @@ block-loop-stmt-preserved t c =
     let i = c.loop-stmt.stmt-index in
     let old = c.loop-stmt.self in
     let new = c.step.new.self in
-    let rest = block_of (drop (i + 1) xs) in
-    let cut : block_of (drop i xs) ≡ then (step_of c.stmt-item.result) rest = drop_step xs i c.stmt-item.result c.loop-stmt-test.true c.stmt-item.is in
+    let rest = block_tree (drop (i + 1) xs) in
+    let cut : block_tree (drop i xs) ≡ then (stmt_tree c.stmt-item.result) rest = drop_step xs i c.stmt-item.result c.loop-stmt-test.true c.stmt-item.is in
     let answer = c.in_ok-step.ensures.answer in
     let names = c.in_ok-step.ensures.names in
     record {
       names = names ∙ c.loop-stmt.invariant.names;
-      sound = block_tail old new (step_of c.stmt-item.result) rest (subst (IsSoundBlock old) cut c.loop-stmt.invariant.sound) answer names;
+      sound = block_tail old new (stmt_tree c.stmt-item.result) rest (subst (IsSoundBlock old) cut c.loop-stmt.invariant.sound) answer names;
       told =
-          c.loop-stmt.invariant.told ∙ ap (λ b. after_block old.rows.0 b (seen old)) cut ∙ ap (λ r. next r (after_block old.rows.0 rest)) answer
+          c.loop-stmt.invariant.told ∙ ap (λ b. after_block old.rows.0 b (seen old)) cut ∙ ap (λ r. unless_aborted r (after_block old.rows.0 rest)) answer
           ∙ ap (λ n. after_block n rest (seen new)) (sym names);
       size = let sizes = ap block_size cut in omega (arith, sizes, c.loop-stmt.invariant.size);
     }
@@ -33,12 +32,12 @@ choose-returns-clause-answer t c =
     let self = c.args.self.now in
     elim c.if-truth_of.branch [
       | choose-then-truth_of+in_ok-block w ↦
-          choose_by self.rows.0 (formula_of c.args.test.now) c.args.then.now c.args.otherwise.now (seen self) (seen c.if-truth_of.self) true c.in_ok-value_of.field-0 c.truncate.new.self.items
+          choose_by self.rows.0 (expr_tree c.args.test.now) c.args.then.now c.args.otherwise.now (seen self) (seen c.if-truth_of.self) true c.in_ok-value_of.field-0 c.truncate.new.self.items
           c.in_ok-value_of.ensures.answer (c.truth_of.ensures ∙ ap Truth w.if-truth_of.true)
           (ap (λ b. after_block self.rows.0 b (seen self)) (sym w.as_slice.ensures) ∙ w.in_ok-block.ensures.answer ∙ ap (λ g. Ok (seen g)) (sym w.self-is))
           (c.truncate.ensures.items ∙ ap (λ n. take n c.if-truth_of.self.variables.items) (c.len-visible.ensures ∙ self.variables.ok.0))
       | choose-else-truth_of+in_ok-block-2 w ↦
-          choose_by self.rows.0 (formula_of c.args.test.now) c.args.then.now c.args.otherwise.now (seen self) (seen c.if-truth_of.self) false c.in_ok-value_of.field-0 c.truncate.new.self.items
+          choose_by self.rows.0 (expr_tree c.args.test.now) c.args.then.now c.args.otherwise.now (seen self) (seen c.if-truth_of.self) false c.in_ok-value_of.field-0 c.truncate.new.self.items
           c.in_ok-value_of.ensures.answer (c.truth_of.ensures ∙ ap Truth w.if-truth_of.false)
           (ap (λ b. after_block self.rows.0 b (seen self)) (sym w.as_slice-else-truth_of.ensures) ∙ w.in_ok-block-2.ensures.answer ∙ ap (λ g. Ok (seen g)) (sym w.self-is))
           (c.truncate.ensures.items ∙ ap (λ n. take n c.if-truth_of.self.variables.items) (c.len-visible.ensures ∙ self.variables.ok.0))

@@ -1,12 +1,6 @@
 use Rattle.std.proofs.Common.{◌≡◌, ◌<◌, ℕ, true, List, length, set, get_or, sym, ap, ap₂, subst, ◌∙◌, length-set}
 use Rattle.std.specs.Prelude.{Option}
-use Rattle.dt_lists.specs.Lists.{AllIn, EachThen}
-use Rattle.dt_access.specs.Clash.{Bytes}
-use Rattle.dt_access.specs.Orders.{KeyBefore}
-use Rattle.dt_text.specs.declared.Value.{Value}
-use Rattle.dt_eval.specs.declared.state.Row.{Row}
-use Rattle.dt_eval.specs.Data.{name_of, with_value}
-use Rattle.dt_eval.specs.Data.{names_at, keys_in}
+use Rattle.dt_eval.specs.Data.{declared_key, with_value}
 use Rattle.dt_eval.proofs.RowPlaces.{row_invariant, row_changed}
 use Rattle.dt_eval.proofs.rows.Rows.change.Goals as goal
 
@@ -19,4 +13,4 @@ pub returns : goal.returns
 returns c =
     row_changed c.self.inside.items.items c.self.inside.places.items c.args.key c.index.result.now c.index_mut-row.result.now c.args.value c.self.invariant.0 c.self.invariant.1
     (subst (λ s. c.args.key < length s.0) (sym c.self.view_is) c.requires) c.index.ensures c.index_mut-row.ensures.value
-    ∙ ap (λ s. (s.0, with_value (name_of s.0 c.args.key) c.args.value s.1)) c.self.view_is
+    ∙ ap (λ s. (s.0, with_value (declared_key s.0 c.args.key) c.args.value s.1)) c.self.view_is

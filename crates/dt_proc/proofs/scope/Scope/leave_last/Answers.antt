@@ -2,8 +2,8 @@ use Rattle.std.proofs.Common.{ap, sym, ◌∙◌, subst, arith}
 use Rattle.std.specs.Ordering.{nat_cmp}
 use Rattle.std.specs.Cmp.Lexicographic.{slice_cmp}
 use Rattle.std.specs.BTreeMap.{get}
-use Rattle.dt_proc.specs.Numbered.{AreNumbers, is_number}
-use Rattle.dt_proc.proofs.Naming.{removed, kept}
+use Rattle.dt_proc.specs.NumbersInner.{AreNumbers, is_number}
+use Rattle.dt_proc.proofs.VariableNumbers.{removed, kept}
 use Rattle.dt_proc.proofs.scope.Scope.leave_last.Goals as goal
 
 pub invariant_of-self-then-has_number : goal.invariant_of-self-then-has_number

@@ -1,0 +1,3 @@
+-- What the proofs of crates above may cite of this crate's lemmas, and nothing else of its proofs: the keys of a call ascend, and
+-- a call writes only keys that it declares.
+pub use Rattle.dt_eval.proofs.CallLaws.{call_keys_ascend, call_writes_declared}

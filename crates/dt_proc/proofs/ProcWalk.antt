@@ -1,0 +1,156 @@
+-- A procedure, as the walk over it finds it.
+use Rattle.std.proofs.Common.{◌≡◌, inl, inr, ℕ, ◌≤◌, ◌<◌, Bool, true, false, cond, List, [], ◌∷◌, ◌++◌, map, length, append_assoc, Ok, Err, refl, sym, ap, ◌∙◌, subst, arith, nat_eq}
+use Rattle.std.specs.List.{flat_map, list_any}
+use Rattle.std.specs.Cmp.Lexicographic.{pointwise}
+use Rattle.std.proofs.lemmas.List.{length-append}
+use Rattle.dt_text.specs.Texts.{IsName}
+use Rattle.dt_syntax.specs.declared.kinds.Kind.{Kind}
+use Rattle.dt_proc.specs.declared.tree.KeyDecl.{KeyDecl}
+use Rattle.dt_syntax.specs.declared.token.Token.TheVariants as tok
+use Rattle.dt_syntax.specs.declared.token.Placed.{Placed}
+use Rattle.dt_proc.specs.declared.error.ProcError.{ProcError}
+use Rattle.dt_proc.specs.declared.error.ProcError.TheVariants as fault
+use Rattle.dt_proc.specs.Names.{Scope}
+use Rattle.dt_proc.specs.Tree.{BlockTree, ProcTree}
+use Rattle.dt_proc.specs.Sound.{IsSoundProc, AreSound, sort_of}
+use Rattle.dt_proc.specs.SecondPass.{Checked, after_ok, check_params, check_keys, check_block, check_proc}
+use Rattle.dt_syntax.specs.Grammar.{param_kinds, at, params_tokens, key_tokens, KeySyntax, statements_tokens, ProcSyntax, proc_tokens}
+use Rattle.dt_proc.specs.WalkInner.{WalkAnswers, params_told, keys_told}
+use Rattle.dt_syntax.specs.Limits.{AllSound, IsSmall}
+use Rattle.dt_proc.proofs.ExprSorts.{holds_ok, holds_after, sorts, writes}
+use Rattle.dt_syntax.proofs.Callers.{sound_left, sound_right}
+use Rattle.dt_proc.proofs.KeySorts.{HasParams, KeysMade, keys_make, ParamsMade, params_make}
+use Rattle.dt_proc.proofs.StatementSorts.{block_fits}
+
+-- what the walk tells, part after part
+abbrev pub walked_proc : ProcSyntax → Checked ProcTree
+walked_proc p =
+    after_ok {A = Scope × List Kind} (params_told p.params) (λ s. after_ok {A = Scope × List KeyDecl} (keys_told s.0 [] (p.key ∷ p.more_keys))
+    (λ r. after_ok {A = BlockTree} (check_block r.0 p.body) (λ b. Ok (record { name = p.name; params = s.1; keys = r.1; body = b }))))
+
+kinds_with : {B : Type 0} (t : Checked Scope) (kinds : List Kind) (next : Scope × List Kind → Checked B) →
+    after_ok {A = Scope} {B = B} t (λ s. next (s, kinds)) ≡ after_ok {A = Scope × List Kind} {B = B} (after_ok {A = Scope} {B = Scope × List Kind} t (λ s. Ok (s, kinds))) next
+kinds_with (Ok s) kinds next = refl
+kinds_with (Err e) kinds next = refl
+
+keys_with : {B : Type 0} (t : Checked (List KeyDecl × Scope)) (next : Scope × List KeyDecl → Checked B) →
+    after_ok {A = List KeyDecl × Scope} {B = B} t (λ r. next (r.1, r.0))
+    ≡ after_ok {A = Scope × List KeyDecl} {B = B} (after_ok {A = List KeyDecl × Scope} {B = Scope × List KeyDecl} t (λ r. Ok (r.1, r.0))) next
+keys_with (Ok s) next = refl
+keys_with (Err e) next = refl
+
+after_same : {A B : Type 0} (t : Checked A) (f g : A → Checked B) → ((a : A) → f a ≡ g a) → after_ok t f ≡ after_ok t g
+after_same (Ok a) f g h = h a
+after_same (Err e) f g h = refl
+
+pub proc_is : (before : List ProcTree) (p : ProcSyntax) → list_any (λ (q : ProcTree). pointwise nat_eq q.name p.name) before ≡ false → check_proc before p ≡ walked_proc p
+proc_is before p free =
+    let made : Scope → Scope × List KeyDecl → Checked ProcTree =
+    λ s r. after_ok {A = BlockTree} (check_block r.0 p.body) (λ b. Ok (record { name = p.name; params = param_kinds p.params; keys = r.1; body = b })) in
+    let keys = p.key ∷ p.more_keys in
+    ap (λ t. cond t (Err (fault.Twice p.name_at)) (after_ok {A = Scope} (check_params p.params) (λ s. after_ok {A = List KeyDecl × Scope} (check_keys s keys) (λ r. made s (r.1, r.0))))) free
+    ∙ after_same (check_params p.params) (λ s. after_ok {A = List KeyDecl × Scope} (check_keys s keys) (λ r. made s (r.1, r.0)))
+    (λ s. after_ok {A = Scope × List KeyDecl} (keys_told s [] keys) (made s)) (λ s. keys_with (check_keys s keys) (made s))
+    ∙ kinds_with (check_params p.params) (param_kinds p.params)
+    (λ s. after_ok {A = Scope × List KeyDecl} (keys_told s.0 [] keys) (λ r. after_ok {A = BlockTree} (check_block r.0 p.body) (λ b. Ok (record { name = p.name; params = s.1; keys = r.1; body = b }))))
+
+pub proc_twice : (before : List ProcTree) (p : ProcSyntax) (name : List ℕ) (place : ℕ) → list_any (λ (q : ProcTree). pointwise nat_eq q.name name) before ≡ true →
+    name ≡ p.name → place ≡ p.name_at → check_proc before p ≡ Err (fault.Twice place)
+proc_twice before p name place taken is at_place =
+    ap (λ t. cond t (Err (fault.Twice p.name_at)) (after_ok {A = Scope} (check_params p.params) (λ s. after_ok {A = List KeyDecl × Scope} (check_keys s (p.key ∷ p.more_keys))
+    (λ r. after_ok {A = BlockTree} (check_block r.1 p.body) (λ b. Ok (record { name = p.name; params = param_kinds p.params; keys = r.0; body = b }))))))
+    (ap (λ n. list_any (λ (q : ProcTree). pointwise nat_eq q.name n) before) (sym is) ∙ taken)
+    ∙ ap (λ n. Err (fault.Twice n)) (sym at_place)
+
+-- the parameters that are told
+record IsTold (p : ProcSyntax) (scope : Scope) (kinds : List Kind) : Type 0 where
+  pub made : ParamsMade (param_kinds p.params) (record { variables = []; keys = [] }) scope
+  pub same : kinds ≡ param_kinds p.params
+
+told_params : (p : ProcSyntax) (r : Scope × List Kind) → params_told p.params ≡ Ok r → IsTold p r.0 r.1
+told_params p =
+    holds_after {A = Scope} (λ (r : Scope × List Kind). IsTold p r.0 r.1) (check_params p.params) (λ s. Ok (s, param_kinds p.params))
+    (λ s e. holds_ok (λ (r : Scope × List Kind). IsTold p r.0 r.1) (s, param_kinds p.params) (record { made = params_make p.params s e; same = refl }))
+
+abbrev Made : List Kind → Scope → ℕ → Scope × List KeyDecl → Type 0
+Made kinds scope n r = KeysMade kinds scope n (r.1, r.0)
+
+told_keys : (kinds : List Kind) (scope : Scope) (ks : List KeySyntax) → HasParams kinds scope → AllSound (flat_map key_tokens ks) → (r : Scope × List KeyDecl) → keys_told scope [] ks ≡ Ok r →
+    Made kinds scope (length ks) r
+told_keys kinds scope ks own h =
+    holds_after {A = List KeyDecl × Scope} (Made kinds scope (length ks)) (check_keys scope ks) (λ r. Ok (r.1, [] ++ r.0))
+    (λ r e. holds_ok (Made kinds scope (length ks)) (r.1, r.0) (keys_make kinds scope ks own h r e))
+
+pub proc_sound : (p : ProcSyntax) (name : List ℕ) (scope last : Scope) (kinds : List Kind) (keys : List KeyDecl) (body : BlockTree) → AllSound (proc_tokens p) → IsSmall p → IsName name →
+    params_told p.params ≡ Ok (scope, kinds) → keys_told scope [] (p.key ∷ p.more_keys) ≡ Ok (last, keys) → check_block last p.body ≡ Ok body →
+    IsSoundProc (record { name = name; params = kinds; keys = keys; body = body })
+proc_sound p name scope last kinds keys body h small named ps ks b =
+    let all = p.key ∷ p.more_keys in
+    let block = at p.begin_at tok.Begin ∷ (statements_tokens p.body ++ at p.end_at tok.End ∷ []) in
+    let heads = sound_right (params_tokens p.params) (at p.close_at tok.Close ∷ (key_tokens p.key ++ (flat_map key_tokens p.more_keys ++ block))) h.1.1.1 in
+    let parts : AllSound (flat_map key_tokens all ++ block) = subst AllSound (sym (append_assoc (key_tokens p.key) (flat_map key_tokens p.more_keys) block)) heads.1 in
+    let own = told_params p (scope, kinds) ps in
+    let has : HasParams kinds scope = own.made.0 ∙ ap (map sort_of) (sym own.same) in
+    let made = told_keys kinds scope all has (sound_left (flat_map key_tokens all) block parts) (last, keys) ks in
+    let inner = sound_left (statements_tokens p.body) (at p.end_at tok.End ∷ []) (sound_right (flat_map key_tokens all) block parts).1 in
+    let fits = block_fits last p.body inner body b in
+    let modes : writes last ≡ map (λ (k : KeyDecl). k.write) keys = made.1 ∙ ap (λ (v : List (List ℕ × Bool)). map (λ (k : List ℕ × Bool). k.1) v ++ map (λ (k : KeyDecl). k.write) keys) own.made.1 in
+    let some = made.3 in
+    let few = small.1 in
+    record {
+      name = named;
+      few_params = subst (λ (v : List Kind). length v ≤ 16) (sym own.same) small.0;
+      some_key = omega arith;
+      few_keys = omega arith;
+      items = made.0;
+      body = subst (λ v. AreSound v (map (λ (k : KeyDecl). k.write) keys) body) made.2 (subst (λ v. AreSound (sorts last) v body) modes fits);
+    }
+
+-- what follows the parameters, and what follows the keys
+after_params : ProcSyntax → Scope × List Kind → Checked ProcTree
+after_params p s =
+    after_ok {A = Scope × List KeyDecl} (keys_told s.0 [] (p.key ∷ p.more_keys))
+    (λ r. after_ok {A = BlockTree} (check_block r.0 p.body) (λ b. Ok (record { name = p.name; params = s.1; keys = r.1; body = b })))
+
+after_keys : ProcSyntax → List Kind → Scope × List KeyDecl → Checked ProcTree
+after_keys p kinds r = after_ok {A = BlockTree} (check_block r.0 p.body) (λ b. Ok (record { name = p.name; params = kinds; keys = r.1; body = b }))
+
+abbrev pub Free : List ProcTree → ProcSyntax → Type 0
+Free before p = list_any (λ (q : ProcTree). pointwise nat_eq q.name p.name) before ≡ false
+
+told_after_params : (before : List ProcTree) (p : ProcSyntax) (s : Scope × List Kind) → Free before p → params_told p.params ≡ Ok s → check_proc before p ≡ after_params p s
+unfolding after_params
+told_after_params before p s free ps = proc_is before p free ∙ ap (λ t. after_ok {A = Scope × List Kind} t (after_params p)) ps
+
+told_after_keys : (before : List ProcTree) (p : ProcSyntax) (s : Scope × List Kind) (r : Scope × List KeyDecl) → Free before p → params_told p.params ≡ Ok s →
+    keys_told s.0 [] (p.key ∷ p.more_keys) ≡ Ok r → check_proc before p ≡ after_keys p s.1 r
+unfolding after_params after_keys
+told_after_keys before p s r free ps ks = told_after_params before p s free ps ∙ ap (λ t. after_ok {A = Scope × List KeyDecl} t (after_keys p s.1)) ks
+
+-- the first fault is told, wherever it is
+pub params_first_fault : (before : List ProcTree) (p : ProcSyntax) (left rest : List Placed) (e : ProcError) → Free before p →
+    WalkAnswers (params_told p.params) left (Err e) → WalkAnswers (check_proc before p) rest (Err e)
+unfolding after_params
+params_first_fault before p left rest e free (inl m) = inl m
+params_first_fault before p left rest e free (inr s) = inr (proc_is before p free ∙ ap (λ t. after_ok {A = Scope × List Kind} t (after_params p)) s)
+
+pub keys_first_fault : (before : List ProcTree) (p : ProcSyntax) (s : Scope × List Kind) (left rest : List Placed) (e : ProcError) → Free before p →
+    params_told p.params ≡ Ok s → WalkAnswers (keys_told s.0 [] (p.key ∷ p.more_keys)) left (Err e) → WalkAnswers (check_proc before p) rest (Err e)
+unfolding after_params after_keys
+keys_first_fault before p s left rest e free ps (inl m) = inl m
+keys_first_fault before p s left rest e free ps (inr k) =
+    inr (told_after_params before p s free ps ∙ ap (λ t. after_ok {A = Scope × List KeyDecl} t (after_keys p s.1)) k)
+
+pub body_first_fault : (before : List ProcTree) (p : ProcSyntax) (s : Scope × List Kind) (r : Scope × List KeyDecl) (left rest : List Placed) (e : ProcError) → Free before p →
+    params_told p.params ≡ Ok s → keys_told s.0 [] (p.key ∷ p.more_keys) ≡ Ok r → WalkAnswers (check_block r.0 p.body) left (Err e) → WalkAnswers (check_proc before p) rest (Err e)
+unfolding after_keys
+body_first_fault before p s r left rest e free ps ks (inl m) = inl m
+body_first_fault before p s r left rest e free ps ks (inr b) =
+    inr (told_after_keys before p s r free ps ks ∙ ap (λ t. after_ok {A = BlockTree} t (λ b. Ok (record { name = p.name; params = s.1; keys = r.1; body = b }))) b)
+
+pub proc_told : (before : List ProcTree) (p : ProcSyntax) (s : Scope × List Kind) (r : Scope × List KeyDecl) (b : BlockTree) → Free before p →
+    params_told p.params ≡ Ok s → keys_told s.0 [] (p.key ∷ p.more_keys) ≡ Ok r → check_block r.0 p.body ≡ Ok b →
+    check_proc before p ≡ Ok (record { name = p.name; params = s.1; keys = r.1; body = b })
+unfolding after_keys
+proc_told before p s r b free ps ks is =
+    told_after_keys before p s r free ps ks ∙ ap (λ t. after_ok {A = BlockTree} t (λ c. Ok (record { name = p.name; params = s.1; keys = r.1; body = c }))) is

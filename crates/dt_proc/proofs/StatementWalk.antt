@@ -1,0 +1,170 @@
+-- The statements of a block, as the walk over them finds them.
+use Rattle.std.proofs.Common.{◌≡◌, ◌⊎◌, inl, inr, ℕ, ◌<◌, ◌≤◌, List, [], ◌∷◌, ◌++◌, length, take, get_or, Bool, true, false, cond, Ok, Err, refl, sym, ap, ◌∙◌}
+use Rattle.std.proofs.Common.{subst, arith, append_assoc, append-nil, length-append}
+use Rattle.std.proofs.lemmas.List.{take-append-le}
+use Rattle.std.proofs.Math.Seq.{take-length}
+use Rattle.dt_syntax.specs.declared.token.Token.TheVariants as tok
+use Rattle.dt_syntax.specs.declared.token.Placed.{Placed}
+use Rattle.dt_proc.specs.declared.tree.Sort.{Sort}
+use Rattle.dt_proc.specs.declared.error.ProcError.{ProcError}
+use Rattle.dt_proc.specs.declared.error.ProcError.TheVariants as fault
+use Rattle.dt_proc.specs.Tree as tree
+use Rattle.dt_proc.specs.Tree.{ExprTree, GiveTree, StmtTree, BlockTree, done, then, joined}
+use Rattle.dt_proc.specs.Names.{Scope, meaning_in}
+use Rattle.dt_proc.specs.SecondPass.{Checked, Typed, after_ok, with_new_variable, as_new, as_written, needs, same_sort, check, check_all_items, check_block, check_statement}
+use Rattle.dt_proc.specs.declared.tree.Sort.TheVariants as sort
+use Rattle.dt_proc.specs.WalkInner.{WalkAnswers}
+use Rattle.dt_syntax.specs.FrontsInner.{NoElse, EndsBlock}
+use Rattle.dt_syntax.specs.Grammar.{at, Statement, let_new, set_key, clear_key, when, choose, abort, give, Statements, nothing, first, statement_tokens, statements_tokens, IsStatement, AreStatements}
+use Rattle.dt_syntax.proofs.Callers.{head_is, begins_other, no_else}
+
+-- what was visible is visible still, before anything new
+pub record Grown (old new : Scope) : Type 0 where
+  pub keys : new.keys ≡ old.keys
+  pub variables : (more : List (List ℕ × Sort)) × (new.variables ≡ old.variables ++ more)
+
+pub grown_start : (scope : Scope) → Grown scope scope
+grown_start scope = record { keys = refl; variables = ([], sym (append-nil scope.variables)) }
+
+-- what is left of the statements, and what they add to those that were told
+abbrev pub StepsLeft : Scope → Scope → Checked BlockTree → BlockTree → List Placed → ℕ → List Placed → Type 0
+StepsLeft outer scope told block left e rest =
+    (ss : Statements) × AreStatements ss × (statements_tokens ss ++ at e tok.End ∷ rest ≡ left)
+    × (told ≡ after_ok (check_block scope ss) (λ b. Ok (joined block b))) × Grown outer scope
+
+joined_done : (b : BlockTree) → joined b done ≡ b
+joined_done done = refl
+joined_done (then s b) = ap (then s) (joined_done b)
+
+joined_assoc : (a b c : BlockTree) → joined (joined a b) c ≡ joined a (joined b c)
+joined_assoc done b c = refl
+joined_assoc (then s a) b c = ap (then s) (joined_assoc a b c)
+
+whole : (t : Checked BlockTree) → t ≡ after_ok t (λ b. Ok b)
+whole (Ok b) = refl
+whole (Err e) = refl
+
+pub steps_start : (scope : Scope) (ss : Statements) (e : ℕ) (rest left : List Placed) (block : BlockTree) → block ≡ done → AreStatements ss →
+    statements_tokens ss ++ at e tok.End ∷ rest ≡ left → StepsLeft scope scope (check_block scope ss) block left e rest
+steps_start scope ss e rest left block is good cut =
+    (ss, good, cut, whole (check_block scope ss) ∙ ap (λ v. after_ok (check_block scope ss) (λ b. Ok (joined v b))) (sym is), grown_start scope)
+
+-- a statement comes first
+pub record IsStep (scope : Scope) (told : Checked BlockTree) (block : BlockTree) (left : List Placed) (e : ℕ) (rest : List Placed) : Type 0 where
+  pub step : Statement
+  pub more : Statements
+  pub good : IsStatement step
+  pub others : AreStatements more
+  pub follows : NoElse (statements_tokens more ++ at e tok.End ∷ rest)
+  pub cut : statement_tokens step ++ (statements_tokens more ++ at e tok.End ∷ rest) ≡ left
+  pub told_as : told ≡ after_ok (after_ok (check_statement scope step) (λ r. after_ok (check_block r.0 more) (λ b. Ok (then r.1 b)))) (λ b. Ok (joined block b))
+
+pub step_next : (outer scope : Scope) (told : Checked BlockTree) (block : BlockTree) (t : Placed) (ts : List Placed) (e : ℕ) (rest : List Placed) →
+    ¬ (t.token ≡ tok.End) → StepsLeft outer scope told block (t ∷ ts) e rest → IsStep scope told block (t ∷ ts) e rest
+step_next outer scope told block t ts e rest other (nothing, good, cut, is, grown) =
+    absurd (other (sym (ap (λ v. v.token) (head_is (at e tok.End) t rest ts cut))))
+step_next outer scope told block t ts e rest other (first s ss, good, cut, is, grown) = record {
+  step = s;
+  more = ss;
+  good = good.0;
+  others = good.1;
+  follows = no_else ss e rest;
+  cut = sym (append_assoc (statement_tokens s) (statements_tokens ss) (at e tok.End ∷ rest)) ∙ cut;
+  told_as = is;
+}
+
+-- a `}` comes first
+pub steps_end : (outer scope : Scope) (told : Checked BlockTree) (block : BlockTree) (t : Placed) (ts : List Placed) (e : ℕ) (rest : List Placed) →
+    t.token ≡ tok.End → StepsLeft outer scope told block (t ∷ ts) e rest → (told ≡ Ok block) × (at e tok.End ∷ rest ≡ t ∷ ts) × Grown outer scope
+steps_end outer scope told block t ts e rest ends (nothing, good, cut, is, grown) = (is ∙ ap Ok (joined_done block), cut, grown)
+steps_end outer scope told block t ts e rest ends (first s ss, good, cut, is, grown) =
+    absurd (begins_other s (statements_tokens ss ++ at e tok.End ∷ rest) t ts
+    (sym (append_assoc (statement_tokens s) (statements_tokens ss) (at e tok.End ∷ rest)) ∙ cut) ends)
+
+one_more : (t : Checked BlockTree) (s : StmtTree) (block : BlockTree) →
+    after_ok (after_ok t (λ b. Ok (then s b))) (λ b. Ok (joined block b)) ≡ after_ok t (λ b. Ok (joined (joined block (then s done)) b))
+one_more (Ok b) s block = ap Ok (sym (joined_assoc block (then s done) b))
+one_more (Err e) s block = refl
+
+-- a statement lets at most one variable more
+scope_of : Scope → Checked (Scope × StmtTree) → Scope
+scope_of other (Ok r) = r.0
+scope_of other (Err e) = other
+
+-- whatever is told, what was visible is visible still
+abbrev Keeps : Scope → Checked (Scope × StmtTree) → Type 0
+Keeps scope told = (new : Scope) (step : StmtTree) → told ≡ Ok (new, step) → Grown scope new
+
+keeps_ok : (scope other : Scope) (s : StmtTree) → Grown scope other → Keeps scope (Ok (other, s))
+unfolding scope_of
+keeps_ok scope other s g new step e = subst (Grown scope) (ap (scope_of other) e) g
+
+keeps_after : {A : Type 0} (scope : Scope) (told : Checked A) (next : A → Checked (Scope × StmtTree)) → ((a : A) → Keeps scope (next a)) → Keeps scope (after_ok told next)
+keeps_after scope (Ok a) next h = h a
+keeps_after scope (Err e) next h = λ new step is. absurd cc
+
+keeps_stored : (scope : Scope) (b : Bool) (p : ℕ) (s : StmtTree) → Keeps scope (cond b (Err (fault.Kind p)) (Ok (scope, s)))
+keeps_stored scope true p s = λ new step is. absurd cc
+keeps_stored scope false p s = keeps_ok scope scope s (grown_start scope)
+
+lets : (scope : Scope) (s : Statement) → Keeps scope (check_statement scope s)
+lets scope (let_new p q n i x e) =
+    keeps_after {A = Unit {0}} scope (as_new q (meaning_in scope n)) _ (λ u. keeps_after {A = Typed} scope (check scope x) _
+    (λ a. keeps_ok scope (with_new_variable scope n a.1) (tree.let_new a.0) (record { keys = refl; variables = ((n, a.1) ∷ [], refl) })))
+lets scope (set_key p q n i x e) =
+    keeps_after {A = ℕ} scope (as_written q (meaning_in scope n)) _ (λ k. keeps_after {A = Typed} scope (check scope x) _
+    (λ a. keeps_stored scope (same_sort a.1 sort.Bool) p (tree.set_row k a.0)))
+lets scope (clear_key p q n e) =
+    keeps_after {A = ℕ} scope (as_written q (meaning_in scope n)) _ (λ k. keeps_ok scope scope (tree.clear_row k) (grown_start scope))
+lets scope (when p x b ss e) =
+    keeps_after {A = Typed} scope (check scope x) _ (λ a. keeps_after {A = ExprTree} scope (needs p sort.Bool a a.0) _
+    (λ f. keeps_after {A = BlockTree} scope (check_block scope ss) _ (λ c. keeps_ok scope scope (tree.choose f c done) (grown_start scope))))
+lets scope (choose p x b ss e w o rs g) =
+    keeps_after {A = Typed} scope (check scope x) _ (λ a. keeps_after {A = ExprTree} scope (needs p sort.Bool a a.0) _
+    (λ f. keeps_after {A = BlockTree} scope (check_block scope ss) _ (λ c. keeps_after {A = BlockTree} scope (check_block scope rs) _
+    (λ d. keeps_ok scope scope (tree.choose f c d) (grown_start scope)))))
+lets scope (abort p q t e) = keeps_ok scope scope (tree.abort_with t) (grown_start scope)
+lets scope (give p i more e) =
+    keeps_after {A = List GiveTree} scope (check_all_items scope i more) _ (λ gs. keeps_ok scope scope (tree.give_all gs) (grown_start scope))
+
+pub step_told : (outer scope new : Scope) (told : Checked BlockTree) (block after : BlockTree) (left : List Placed) (e : ℕ) (rest : List Placed) (s : StmtTree) (us : List Placed) →
+    Grown outer scope → (n : IsStep scope told block left e rest) → check_statement scope n.step ≡ Ok (new, s) → after ≡ joined block (then s done) →
+    us ≡ statements_tokens n.more ++ at e tok.End ∷ rest → StepsLeft outer new told after us e rest
+step_told outer scope new told block after left e rest s us grown n is pushed cut = (
+  n.more,
+  n.others,
+  sym cut,
+  n.told_as ∙ ap (λ t. after_ok (after_ok t (λ r. after_ok (check_block r.0 n.more) (λ b. Ok (then r.1 b)))) (λ b. Ok (joined block b))) is
+      ∙ one_more (check_block new n.more) s block ∙ ap (λ v. after_ok (check_block new n.more) (λ b. Ok (joined v b))) (sym pushed),
+  grows outer scope new grown (lets scope n.step new s is),
+)
+  where
+    grows : (a b c : Scope) → Grown a b → Grown b c → Grown a c
+    grows a b c f g = record {
+      keys = g.keys ∙ f.keys;
+      variables = (f.variables.0 ++ g.variables.0, g.variables.1 ∙ ap (λ v. v ++ g.variables.0) f.variables.1 ∙ append_assoc a.variables f.variables.0 g.variables.0);
+    }
+
+pub step_fault : (scope : Scope) (told : Checked BlockTree) (block : BlockTree) (left : List Placed) (e : ℕ) (rest before : List Placed) (f : ProcError) →
+    (n : IsStep scope told block left e rest) → WalkAnswers (check_statement scope n.step) before (Err f) → WalkAnswers told rest (Err f)
+step_fault scope told block left e rest before f n (inl m) = inl m
+step_fault scope told block left e rest before f n (inr s) =
+    inr (n.told_as ∙ ap (λ t. after_ok (after_ok t (λ r. after_ok (check_block r.0 n.more) (λ b. Ok (then r.1 b)))) (λ b. Ok (joined block b))) s)
+
+-- what was visible before is what is left of what is visible
+pub left_as_before : (outer scope : Scope) → Grown outer scope → record scope { variables = take (length outer.variables) scope.variables } ≡ outer
+left_as_before outer scope g =
+    let cut : take (length outer.variables) scope.variables ≡ outer.variables =
+    ap (take (length outer.variables)) g.variables.1 ∙ take-append-le (length outer.variables) outer.variables g.variables.0 (omega arith) ∙ take-length outer.variables in
+    λ i. record { variables = cut i; keys = g.keys i }
+
+pub not_ended : (outer scope : Scope) (told : Checked BlockTree) (block : BlockTree) (left : List Placed) (e : ℕ) (rest : List Placed) →
+    EndsBlock left false → StepsLeft outer scope told block left e rest → IsStep scope told block left e rest
+not_ended outer scope told block [] e rest ends left = absurd cc
+not_ended outer scope told block (t ∷ ts) e rest ends left = step_next outer scope told block t ts e rest ends left
+
+pub ended : (outer scope : Scope) (told : Checked BlockTree) (block : BlockTree) (left : List Placed) (e : ℕ) (rest : List Placed) →
+    EndsBlock left true → StepsLeft outer scope told block left e rest → (told ≡ Ok block) × (at e tok.End ∷ rest ≡ left) × Grown outer scope
+ended outer scope told block [] e rest ends (ss, good, cut, is, grown) =
+    absurd (omega (arith, ap length cut, length-append (statements_tokens ss) (at e tok.End ∷ rest)))
+ended outer scope told block (t ∷ ts) e rest ends left = steps_end outer scope told block t ts e rest ends left

@@ -1,0 +1,131 @@
+use Rattle.std.proofs.Common.{inr, ap, sym, ◌∙◌, arith, Ok, refl, ◌++◌, rules}
+use Rattle.std.proofs.lemmas.Result.{err_from_is_err_and}
+use Rattle.dt_syntax.specs.declared.token.Token.TheVariants as tok
+use Rattle.dt_syntax.specs.Grammar.{syntax_tokens, links_tokens}
+use Rattle.dt_proc.specs.SecondPass.{check, check_links}
+use Rattle.dt_proc.specs.Tree as tree
+use Rattle.dt_proc.specs.declared.tree.Sort.TheVariants as sort
+use Rattle.dt_proc.specs.TreeViews.{expr_tree}
+use Rattle.dt_proc.proofs.ExprWalk.{ok_then, err_then, operand_when, told_is, told_right, no_operand, no_links, link_misfit, link_fits}
+use Rattle.dt_syntax.proofs.Callers.{chain_shape, links_stop, chain_cut, not_empty, link_first, six_stop}
+use Rattle.dt_proc.proofs.expressions.+levels.Goals as goal
+
+pub expression-returns-in_err-first-clause-right : goal.expression-returns-in_err-first-clause-right
+expression-returns-in_err-first-clause-right t c = λ x rest h stop e.
+    let p = err_from_is_err_and c.from_residual.result c.from_residual.ensures.1 in
+    let k = chain_shape x c.args.level (omega arith) h in
+    rw (p.1, p.2, k.is) (err_then (check c.args.scope.now k.head) (λ a. check_links c.args.scope.now a k.links) (links_tokens k.links ++ rest) rest _
+    (c.in_err-first.ensures.right k.head (links_tokens k.links ++ rest) k.level (links_stop k.links c.args.level rest k.good stop)
+    (chain_cut k.head k.links rest c.args.tokens.now (ap (λ v. syntax_tokens v ++ rest) (sym k.is) ∙ e))))
+
+pub expression-returns-clause-right : goal.expression-returns-clause-right
+expression-returns-clause-right t c = λ x rest h stop e.
+    let k = chain_shape x c.args.level (omega arith) h in
+    let head = c.in_ok-first.ensures.right k.head (links_tokens k.links ++ rest) k.level (links_stop k.links c.args.level rest k.good stop)
+    (chain_cut k.head k.links rest c.args.tokens.now (ap (λ v. syntax_tokens v ++ rest) (sym k.is) ∙ e)) in
+    rw k.is (ok_then (check c.args.scope.now k.head) _ (λ a. check_links c.args.scope.now a k.links) rest _ head.0
+    (c.links.ensures.right k.links rest k.good stop (sym head.1)))
+
+pub links-returns-in_default-clause-right : goal.links-returns-in_default-clause-right
+links-returns-in_default-clause-right t c = λ ls rest h stop e.
+    no_links c.args.scope.now (expr_tree c.args.left, c.args.sort) ls c.args.level rest c.args.tokens.now h e c.in_default.ensures.right
+
+pub operand-returns-in-Int-clause-right : goal.operand-returns-in-Int-clause-right
+operand-returns-in-Int-clause-right t c = λ x rest h stop e.
+    let s = operand_when c.args.level c.args.scope.now x rest c.args.tokens.now c.first-item.result (tok.Int c.in-Int.number) c.requires.low h c.in-len1-up.len_at_least c.first-item.is e c.in-Int.is in
+    (search (rules, s), s.1)
+
+pub operand-returns-in_ok-copy-in-Text-clause-right : goal.operand-returns-in_ok-copy-in-Text-clause-right
+operand-returns-in_ok-copy-in-Text-clause-right t c = λ x rest h stop e.
+    let s = operand_when c.args.level c.args.scope.now x rest c.args.tokens.now c.first-item.result (tok.Text c.in-Text.text) c.requires.low h c.in-len1-up.len_at_least c.first-item.is e c.in-Text.is in
+    let same = c.in_ok-copy-in-Text.ensures.same in
+    (s.0 ∙ ap (λ v. Ok (tree.text v, sort.Text)) (sym same), s.1)
+
+pub operand-returns-in-Truth-clause-right : goal.operand-returns-in-Truth-clause-right
+operand-returns-in-Truth-clause-right t c = λ x rest h stop e.
+    let s = operand_when c.args.level c.args.scope.now x rest c.args.tokens.now c.first-item.result (tok.Truth c.in-Truth.truth) c.requires.low h c.in-len1-up.len_at_least c.first-item.is e c.in-Truth.is in
+    s
+
+pub operand-returns-in_default-clause-right : goal.operand-returns-in_default-clause-right
+operand-returns-in_default-clause-right t c = λ x rest h stop e. absurd (not_empty x rest c.args.tokens.now c.in_default.len_below e)
+
+pub operand-returns-in_default-token : goal.operand-returns-in_default-token
+operand-returns-in_default-token t c = record {
+  shorter = tt;
+  right = λ x rest h stop e.
+      let s = operand_when c.args.level c.args.scope.now x rest c.args.tokens.now c.first-item.result c.first-item.result.token c.requires.low h c.in-len1-up.len_at_least c.first-item.is e refl in
+      absurd (no_operand c.args.level c.args.scope.now c.first-item.result.token c.first-item.result.place _ x rest
+      c.in_default-token.not-Name c.in_default-token.not-Int c.in_default-token.not-Text c.in_default-token.not-Op c.in_default-token.not-IntWord
+      c.in_default-token.not-TextWord c.in_default-token.not-Has c.in_default-token.not-Len c.in_default-token.not-Show c.in_default-token.not-Not
+      c.in_default-token.not-Truth c.in_default-token.not-Open s);
+}
+
+pub operand-returns-in-Name-clause-right : goal.operand-returns-in-Name-clause-right
+operand-returns-in-Name-clause-right t c = λ x rest h stop e.
+    let s = operand_when c.args.level c.args.scope.now x rest c.args.tokens.now c.first-item.result (tok.Name c.in-Name.name) c.requires.low h c.in-len1-up.len_at_least c.first-item.is e c.in-Name.is in
+    told_is _ _ _ _ _ s.0 s.1 c.variable.ensures.right
+
+pub operand-returns-in-IntWord-clause-right : goal.operand-returns-in-IntWord-clause-right
+operand-returns-in-IntWord-clause-right t c = λ x rest h stop e.
+    let s = operand_when c.args.level c.args.scope.now x rest c.args.tokens.now c.first-item.result tok.IntWord c.requires.low h c.in-len1-up.len_at_least c.first-item.is e c.in-IntWord.is in
+    told_right _ _ _ _ s.1 (c.int_of.ensures.right s.0 rest s.2)
+
+pub operand-returns-in-TextWord-clause-right : goal.operand-returns-in-TextWord-clause-right
+operand-returns-in-TextWord-clause-right t c = λ x rest h stop e.
+    let s = operand_when c.args.level c.args.scope.now x rest c.args.tokens.now c.first-item.result tok.TextWord c.requires.low h c.in-len1-up.len_at_least c.first-item.is e c.in-TextWord.is in
+    told_right _ _ _ _ s.1 (c.text_of.ensures.right s.0 rest s.2)
+
+pub operand-returns-in-Has-clause-right : goal.operand-returns-in-Has-clause-right
+operand-returns-in-Has-clause-right t c = λ x rest h stop e.
+    let s = operand_when c.args.level c.args.scope.now x rest c.args.tokens.now c.first-item.result tok.Has c.requires.low h c.in-len1-up.len_at_least c.first-item.is e c.in-Has.is in
+    told_right _ _ _ _ s.1 (c.presence_of.ensures.right s.0 rest s.2)
+
+pub operand-returns-in-Open-clause-right : goal.operand-returns-in-Open-clause-right
+operand-returns-in-Open-clause-right t c = λ x rest h stop e.
+    let s = operand_when c.args.level c.args.scope.now x rest c.args.tokens.now c.first-item.result tok.Open c.requires.low h c.in-len1-up.len_at_least c.first-item.is e c.in-Open.is in
+    told_right _ _ _ _ s.2 (c.inside.ensures.right s.0 s.1 rest s.3 s.4)
+
+pub operand-returns-in-Len-clause-right : goal.operand-returns-in-Len-clause-right
+operand-returns-in-Len-clause-right t c = λ x rest h stop e.
+    let s = operand_when c.args.level c.args.scope.now x rest c.args.tokens.now c.first-item.result tok.Len c.requires.low h c.in-len1-up.len_at_least c.first-item.is e c.in-Len.is in
+    told_right _ _ _ _ s.3 (c.length_of.ensures.right s.0 s.1 s.2 rest s.4 s.5)
+
+pub operand-returns-in-Show-clause-right : goal.operand-returns-in-Show-clause-right
+operand-returns-in-Show-clause-right t c = λ x rest h stop e.
+    let s = operand_when c.args.level c.args.scope.now x rest c.args.tokens.now c.first-item.result tok.Show c.requires.low h c.in-len1-up.len_at_least c.first-item.is e c.in-Show.is in
+    told_right _ _ _ _ s.3 (c.shown.ensures.right s.0 s.1 s.2 rest s.4 s.5)
+
+pub operand-returns-in-Not-clause-right : goal.operand-returns-in-Not-clause-right
+operand-returns-in-Not-clause-right t c = λ x rest h stop e.
+    let s = operand_when c.args.level c.args.scope.now x rest c.args.tokens.now c.first-item.result tok.Not c.requires.low h c.in-len1-up.len_at_least c.first-item.is e c.in-Not.is in
+    told_right _ _ _ _ s.1 (c.opposite.ensures.right s.0 rest s.2 (six_stop rest c.args.level s.3 stop) s.4)
+
+pub operand-returns-in-Op-clause-right : goal.operand-returns-in-Op-clause-right
+operand-returns-in-Op-clause-right t c = λ x rest h stop e.
+    let s = operand_when c.args.level c.args.scope.now x rest c.args.tokens.now c.first-item.result (tok.Op c.in-Op.field-0) c.requires.low h c.in-len1-up.len_at_least c.first-item.is e c.in-Op.is in
+    told_right _ _ _ _ s.1 (c.negative.ensures.right s.0 rest s.2 (six_stop rest c.args.level s.3 stop) s.4)
+
+pub links-returns-in_err-right-clause-right : goal.links-returns-in_err-right-clause-right
+links-returns-in_err-right-clause-right t c = λ ls rest h stop e.
+    let p = err_from_is_err_and c.from_residual.result c.from_residual.ensures.1 in
+    let found = c.in-Some.ensures.right in
+    let k = link_first c.args.level c.in-Some.place c.in-Some.op c.in-Some.after.now ls rest c.args.tokens.now h stop found.1 found.0 e in
+    rw (p.1, p.2, k.is) (err_then (check c.args.scope.now k.x) _ (links_tokens k.more ++ rest) rest _
+    (c.in_err-right.ensures.right k.x (links_tokens k.more ++ rest) k.level (links_stop k.more c.args.level rest k.good stop) k.cut))
+
+pub links-returns-then-not-fits-clause-right : goal.links-returns-then-not-fits-clause-right
+links-returns-then-not-fits-clause-right t c = λ ls rest h stop e.
+    let found = c.in-Some.ensures.right in
+    let k = link_first c.args.level c.in-Some.place c.in-Some.op c.in-Some.after.now ls rest c.args.tokens.now h stop found.1 found.0 e in
+    let right = c.in_ok-right.ensures.right k.x (links_tokens k.more ++ rest) k.level (links_stop k.more c.args.level rest k.good stop) k.cut in
+    inr (link_misfit c.args.scope.now (expr_tree c.args.left, c.args.sort) (expr_tree c.in_ok-right.right, c.in_ok-right.other) c.in-Some.place c.in-Some.op k.x k.more ls k.is right.0 (sym c.if-not-fits.ensures))
+
+pub links-returns-clause-right : goal.links-returns-clause-right
+links-returns-clause-right t c = λ ls rest h stop e.
+    let found = c.in-Some.ensures.right in
+    let k = link_first c.args.level c.in-Some.place c.in-Some.op c.in-Some.after.now ls rest c.args.tokens.now h stop found.1 found.0 e in
+    let right = c.in_ok-right.ensures.right k.x (links_tokens k.more ++ rest) k.level (links_stop k.more c.args.level rest k.good stop) k.cut in
+    told_right _ _ rest _
+    (link_fits c.args.scope.now (expr_tree c.args.left, c.args.sort) (expr_tree c.in_ok-right.right, c.in_ok-right.other) (expr_tree c.in_ok-binary.field-0, c.given_by.result)
+    c.in-Some.place c.in-Some.op k.x k.more ls k.is right.0 (sym c.if-not-fits.ensures) (λ i. (c.in_ok-binary.ensures i, c.given_by.ensures i)))
+    (c.links.ensures.right k.more rest k.good stop (sym right.1))

@@ -1,0 +1,13 @@
+pub mod Callers
+pub mod FirstPassLoop
+pub mod LexerLemmas
+pub mod LimitsKept
+pub mod MachineComplete
+pub mod MachineSound
+pub mod NumberTokens
+pub mod OneReading
+pub mod OneStop
+pub mod OneSyntax
+pub mod Shapes
+pub mod TextWordTokens
+pub mod TokenRanges

@@ -1,0 +1,8 @@
+pub mod CountsInner
+pub mod FirstPass
+pub mod FrontsInner
+pub mod Grammar
+pub mod Limits
+pub mod MachineInner
+pub mod TextTokens
+pub mod Tokens
