@@ -8,4 +8,4 @@ mod table;
 
 pub use effect::Effect;
 pub use shown::{Shown, ShownList};
-pub use table::{Mastership, Table};
+pub use table::{Mastership, Table, TableRow};
