@@ -19,15 +19,17 @@ use Rattle.dt_txn.specs.declared.outcome.Outcome.{Outcome}
 use Rattle.dt_txn.specs.declared.outcome.Outcome.TheVariants.{Gave, Aborted, Stale}
 use Rattle.dt_txn.specs.Execution.{see, reads_of, of_finish, result_of, one}
 use Rattle.dt_txn.specs.Serial.{outcomes, table_after}
-use Rattle.dt_serial.specs.Order.{IsLive, IsStale}
+use Rattle.dt_txn.specs.Staleness.{IsStaleOutcome}
+use Rattle.dt_txn.proofs.Callers.{own_fresh}
+use Rattle.dt_serial.specs.Order.{IsLive}
 use Rattle.dt_serial.specs.Evidence.{MadeMove, own_outcome, IsGrounded, HasReason}
 use Rattle.dt_serial.proofs.One.{mover_at, IsStaleAt, live_or_stale, one_live}
-use Rattle.dt_serial.proofs.Runs.{table_after_append, outcomes_append, outcome_at, IsOutcomeAt, outcome_get, moves_grow, IsMoveAt, move_at}
+use Rattle.dt_serial.proofs.Runs.{table_after_append, outcomes_append, outcome_at, IsOutcomeAt, outcome_get, moves_grow, IsMoveAt, numbered_move}
 
 -- the move of each number was made by one of the run
 pub move_made : (procs : List ProcTree) (xs : List Txn) (start : Table) (key : Bytes) (i : ℕ) (m : Moved) → moves_of start key ≡ [] → slice_get (moves_of (table_after procs xs start) key) i ≡ Some m → MadeMove procs xs start key i m.by
 move_made procs xs start key i m none e =
-    let r : IsMoveAt procs xs start key i m = move_at procs xs start key i m (omega (arith, ap length none)) e in
+    let r : IsMoveAt procs xs start key i m = numbered_move procs xs start key i m (omega (arith, ap length none)) e in
     record {
       mover = r.mover;
       target = m.target;
@@ -50,33 +52,27 @@ made_stays procs xs ys start key had by m = record {
   number = subst (λ t. slice_get (moves_of t key) had ≡ Some (record { target = m.target; by = by })) (sym (table_after_append procs xs ys start)) (get_front _ _ had _ (moves_grow procs ys (table_after procs xs start) key) m.number);
 }
 
-finish_fresh : (f : Finish) → ¬ (IsStale (of_finish f).0)
-finish_fresh (finish.Gave values writes) k = k
-finish_fresh (finish.Aborted cause) k = k
-
--- what a body gives is never stale
-own_fresh : (procs : List ProcTree) (id : TxnId) (body : Body) (reads : List (Bytes × Option Value)) → ¬ (IsStale (result_of procs id body reads).0)
-own_fresh procs id (Call proc args) reads k = finish_fresh (call_meaning procs proc args reads) k
-own_fresh procs id (Move key target) reads k = k
-
 module _ (procs : List ProcTree) (start : Table) (unmoved : (key : Bytes) → moves_of start key ≡ []) (txns : List Txn) where
   stale_reason : (x : Txn) (s : Spot txns x) (o : Outcome) → IsStaleAt x.access (table_after procs s.front start) o → IsGrounded procs s.front txns start x o
   stale_reason x s o w =
       let m : (m : Moved) × (slice_get (moves_of (table_after procs s.front start) w.entry.key) w.entry.counter ≡ Some m) × (m.by ≡ w.by) = mover_at (moves_of (table_after procs s.front start) w.entry.key) w.entry.counter w.by w.next in
-      let made : MadeMove procs s.front start w.entry.key w.entry.counter w.by = subst (MadeMove procs s.front start w.entry.key w.entry.counter) m.2 (move_made procs s.front start w.entry.key w.entry.counter m.0 (unmoved w.entry.key) m.1) in
-      let stays : MadeMove procs txns start w.entry.key w.entry.counter w.by = subst (λ l. MadeMove procs l start w.entry.key w.entry.counter w.by) (sym s.is) (made_stays procs s.front (x ∷ s.rest) start w.entry.key w.entry.counter w.by made) in
+      let made : MadeMove procs s.front start w.entry.key w.entry.counter w.by
+          = subst (MadeMove procs s.front start w.entry.key w.entry.counter) m.2 (move_made procs s.front start w.entry.key w.entry.counter m.0 (unmoved w.entry.key) m.1) in
+      let stays : MadeMove procs txns start w.entry.key w.entry.counter w.by
+          = subst (λ l. MadeMove procs l start w.entry.key w.entry.counter w.by) (sym s.is) (made_stays procs s.front (x ∷ s.rest) start w.entry.key w.entry.counter w.by made) in
       subst (IsGrounded procs s.front txns start x) (sym w.is) (any_map _ _ x.access (λ a e. (ap (λ b. b.key) e, ap (λ b. b.counter) e)) w.there, made, stays)
 
-  live_reason : (x : Txn) (s : Spot txns x) (o : Outcome) → own_outcome procs x (table_after procs s.front start) ≡ o → IsLive x (table_after procs s.front start) → ¬ (IsStale o) → IsGrounded procs s.front txns start x o
+  live_reason : (x : Txn) (s : Spot txns x) (o : Outcome) → own_outcome procs x (table_after procs s.front start) ≡ o → IsLive x (table_after procs s.front start) → ¬ (IsStaleOutcome o) → IsGrounded procs s.front txns start x o
   live_reason x s (Gave values) e live fresh = tt
   live_reason x s (Aborted cause) e live fresh = (live, e)
   live_reason x s (Stale key had by) e live fresh = absurd (fresh tt)
 
-  reason_at : (x : Txn) (s : Spot txns x) → IsLive x (table_after procs s.front start) ⊎ IsStaleAt x.access (table_after procs s.front start) (one procs x (table_after procs s.front start)).0 → IsGrounded procs s.front txns start x (one procs x (table_after procs s.front start)).0
+  reason_at : (x : Txn) (s : Spot txns x) → IsLive x (table_after procs s.front start) ⊎ IsStaleAt x.access (table_after procs s.front start) (one procs x (table_after procs s.front start)).0
+      → IsGrounded procs s.front txns start x (one procs x (table_after procs s.front start)).0
   reason_at x s (inr w) = stale_reason x s (one procs x (table_after procs s.front start)).0 w
   reason_at x s (inl live) =
       let own : (one procs x (table_after procs s.front start)).0 ≡ own_outcome procs x (table_after procs s.front start) = ap (λ r. r.0) (one_live procs x (table_after procs s.front start) live) in
-      live_reason x s (one procs x (table_after procs s.front start)).0 (sym own) live (λ k. own_fresh procs x.id x.body (reads_of x.access (see x (table_after procs s.front start))) (subst IsStale own k))
+      live_reason x s (one procs x (table_after procs s.front start)).0 (sym own) live (λ k. own_fresh procs x.id x.body (reads_of x.access (see x (table_after procs s.front start))) (subst IsStaleOutcome own k))
 
   pub reasons : AllIn (λ r. HasReason procs txns start r) (outcomes procs txns start)
   reasons = all_put _ (outcomes procs txns start) (λ r k.

@@ -21,7 +21,7 @@ use Rattle.dt_txn.specs.Serial.{table_after}
 use Rattle.dt_serial.specs.Order.{txn_ids, Ordered, IsDown, FollowsMove, IsLive, MayWrite, KeepsToKeys, IsHistory}
 use Rattle.dt_serial.specs.Replay.{replay}
 use Rattle.dt_serial.proofs.One.{live_entries, IsMoveOf, change_of_one}
-use Rattle.dt_serial.proofs.Runs.{table_after_append, IsMoveAt, move_at, mover_in, replay_append, replay_all, replay_none, chosen_moves, replay_moves}
+use Rattle.dt_serial.proofs.Runs.{table_after_append, IsMoveAt, numbered_move, mover_in, replay_append, replay_all, replay_none, chosen_moves, replay_moves}
 use Rattle.dt_serial.proofs.Past.{among_of_has, not_among, IsPast, past_of_down, same_past, down_preceders}
 
 module _ (procs : List ProcTree) (order : TxnId → TxnId → Type 0) (start : Table) (txns : List Txn) (h : IsHistory procs order start txns) where
@@ -71,7 +71,7 @@ module _ (procs : List ProcTree) (order : TxnId → TxnId → Type 0) (start : T
 
   pub index : (key : Bytes) (i : ℕ) (m : Moved) → slice_get (moves_of (table_after procs txns start) key) i ≡ Some m → IsMoveNumber key i m
   index key i m e =
-      let r : IsMoveAt procs txns start key i m = move_at procs txns start key i m (omega (arith, no_moves key)) e in
+      let r : IsMoveAt procs txns start key i m = numbered_move procs txns start key i m (omega (arith, no_moves key)) e in
       let there : Has txns r.mover = spot_has txns r.mover r.at in
       record {
         mover = r.mover;
@@ -104,7 +104,9 @@ module _ (procs : List ProcTree) (order : TxnId → TxnId → Type 0) (start : T
           let r : IsMoveNumber key (suc i) b = index key (suc i) b q in
           let e : (e : Access) × Has r.mover.access e × ((e.key ≡ key) × (e.mode ≡ Write)) = any_get _ r.mover.access r.may in
           let number : (e.0).counter ≡ suc i = all_get _ r.mover.access r.counters e.0 e.1 e.2.0 in
-          let f : FollowsMove order (moves_of (table_after procs txns start) key) (suc i) r.mover.id = subst (λ c. FollowsMove order (moves_of (table_after procs txns start) key) c r.mover.id) number (subst (λ k. FollowsMove order (moves_of (table_after procs txns start) k) (e.0).counter r.mover.id) e.2.0 (anchor_at r.mover e.0 (spot_has txns r.mover r.at) e.1)) in
+          let f : FollowsMove order (moves_of (table_after procs txns start) key) (suc i) r.mover.id
+              = subst (λ c. FollowsMove order (moves_of (table_after procs txns start) key) c r.mover.id) number
+              (subst (λ k. FollowsMove order (moves_of (table_after procs txns start) k) (e.0).counter r.mover.id) e.2.0 (anchor_at r.mover e.0 (spot_has txns r.mover r.at) e.1)) in
           let same : f.0 ≡ a = cc (f.1, p) in
           subst (λ c. order c b.by) (ap (λ c. c.by) same) (subst (order (f.0).by) r.makes.by f.2)
 
@@ -126,11 +128,13 @@ module _ (procs : List ProcTree) (order : TxnId → TxnId → Type 0) (start : T
   pub closed_front : (p : TxnId → Bool) → ((u v : TxnId) → order u v → p v ≡ true → p u ≡ true) → (key : Bytes) → PassesAtFront (λ m. p m.by) (moves_of (table_after procs txns start) key)
   closed_front p closed key = each_map _ _ _ (λ a b r. closed a.by b.by r) (chain key)
 
-  pub replayed_mover : (p : TxnId → Bool) → ((u v : TxnId) → order u v → p v ≡ true → p u ≡ true) → (key : Bytes) (c : ℕ) → next_mover (replay procs p txns start start) key c ≡ option_map (λ m. m.by) (if_passes (λ m. p m.by) (slice_get (moves_of (table_after procs txns start) key) c))
+  pub replayed_mover : (p : TxnId → Bool) → ((u v : TxnId) → order u v → p v ≡ true → p u ≡ true) → (key : Bytes) (c : ℕ)
+      → next_mover (replay procs p txns start start) key c ≡ option_map (λ m. m.by) (if_passes (λ m. p m.by) (slice_get (moves_of (table_after procs txns start) key) c))
   replayed_mover p closed key c = ap (λ l. option_map (λ m. m.by) (slice_get l c)) (replayed_moves p key) ∙ ap (option_map (λ m. m.by)) (get_filtered (λ m. p m.by) (moves_of (table_after procs txns start) key) c (closed_front p closed key))
 
   -- after any two pasts of it, a transaction sees the same next movers
-  pub same_movers : (x : Txn) (p q : TxnId → Bool) → Has txns x → IsPast order p x.id → IsPast order q x.id → AllIn (λ a. next_mover (replay procs p txns start start) a.key a.counter ≡ next_mover (replay procs q txns start start) a.key a.counter) x.access
+  pub same_movers : (x : Txn) (p q : TxnId → Bool) → Has txns x → IsPast order p x.id → IsPast order q x.id
+      → AllIn (λ a. next_mover (replay procs p txns start start) a.key a.counter ≡ next_mover (replay procs q txns start start) a.key a.counter) x.access
   same_movers x p q k pp pq = all_put _ x.access (λ a ka.
       replayed_mover p pp.closed a.key a.counter ∙ ap (option_map (λ m. m.by)) (same a ka (slice_get (moves_of (table_after procs txns start) a.key) a.counter) refl) ∙ sym (replayed_mover q pq.closed a.key a.counter))
     where
@@ -145,7 +149,8 @@ module _ (procs : List ProcTree) (order : TxnId → TxnId → Type 0) (start : T
   -- live transactions
 
   -- the mover that follows the annotated moves of a live transaction is that transaction, or it comes after it
-  pub live_before : (x : Txn) (s : Spot txns x) (a : Access) (m : Moved) → IsLive x (table_after procs s.front start) → Has x.access a → slice_get (moves_of (table_after procs txns start) a.key) a.counter ≡ Some m → (x.id ≡ m.by) ⊎ order x.id m.by
+  pub live_before : (x : Txn) (s : Spot txns x) (a : Access) (m : Moved) → IsLive x (table_after procs s.front start) → Has x.access a
+      → slice_get (moves_of (table_after procs txns start) a.key) a.counter ≡ Some m → (x.id ≡ m.by) ⊎ order x.id m.by
   live_before x s a m live ka e = go (either_id m.by x.id)
     where
       go : Either (m.by ≡ x.id) → (x.id ≡ m.by) ⊎ order x.id m.by
@@ -153,7 +158,8 @@ module _ (procs : List ProcTree) (order : TxnId → TxnId → Type 0) (start : T
       go (inr ne) = elim (follower x a m (spot_has txns x s) ka e ne) [
         | inl r ↦ absurd (apart_at x s m.by
             (down_preceders order (txn_ids s.front) x.id (txn_ids s.rest) m.by (down_at x s) r)
-            (mover_in procs (x ∷ s.rest) (table_after procs s.front start) a.key a.counter m (all_get _ x.access (live_entries x (table_after procs s.front start) live) a ka) (subst (λ t. slice_get (moves_of t a.key) a.counter ≡ Some m) (last_at x s) e)))
+            (mover_in procs (x ∷ s.rest) (table_after procs s.front start) a.key a.counter m (all_get _ x.access (live_entries x (table_after procs s.front start) live) a ka)
+            (subst (λ t. slice_get (moves_of t a.key) a.counter ≡ Some m) (last_at x s) e)))
         | inr r ↦ inr r
       ]
 
@@ -167,7 +173,10 @@ module _ (procs : List ProcTree) (order : TxnId → TxnId → Type 0) (start : T
       joined : (d : ℕ) (n m : Moved) → a.counter ≤ d → slice_get (moves_of (table_after procs txns start) a.key) a.counter ≡ Some n → slice_get (moves_of (table_after procs txns start) a.key) d ≡ Some m → (n ≡ m) ⊎ order n.by m.by
       joined d n m le p q = elim (cases_lt a.counter d) [
         | inl less ↦ inr (each_at _ (moves_of (table_after procs txns start) a.key) a.counter d n m (chain a.key) less p q)
-        | inr ge ↦ inl (let at : a.counter ≡ d = omega arith in let r : slice_get (moves_of (table_after procs txns start) a.key) d ≡ Some n = subst (λ c. slice_get (moves_of (table_after procs txns start) a.key) c ≡ Some n) at p in cc (r, q))
+        | inr ge ↦ inl (
+            let at : a.counter ≡ d = omega arith in
+            let r : slice_get (moves_of (table_after procs txns start) a.key) d ≡ Some n = subst (λ c. slice_get (moves_of (table_after procs txns start) a.key) c ≡ Some n) at p in
+            cc (r, q))
       ]
 
       link : (n m : Moved) → (x.id ≡ n.by) ⊎ order x.id n.by → (n ≡ m) ⊎ order n.by m.by → order m.by y.id → order x.id y.id
@@ -184,7 +193,8 @@ module _ (procs : List ProcTree) (order : TxnId → TxnId → Type 0) (start : T
           link n.0 f.0 (live_before x s a n.0 live ka n.1) (joined d n.0 f.0 le n.1 f.1) f.2
 
   -- across moves: of two live transactions with uses that clash one precedes the other
-  pub across : (x y : Txn) (s : Spot txns x) (r : Spot txns y) (a b : Access) → IsLive x (table_after procs s.front start) → IsLive y (table_after procs r.front start) → x.id ≢ y.id → Has x.access a → Has y.access b → uses_clash (a.key, a.mode) (b.key, b.mode) ≡ true → Ordered order x.id y.id
+  pub across : (x y : Txn) (s : Spot txns x) (r : Spot txns y) (a b : Access) → IsLive x (table_after procs s.front start) → IsLive y (table_after procs r.front start) → x.id ≢ y.id → Has x.access a
+      → Has y.access b → uses_clash (a.key, a.mode) (b.key, b.mode) ≡ true → Ordered order x.id y.id
   across x y s r a b lx ly ne ka kb clash = go (cases_order a.counter b.counter)
     where
       same : a.key ≡ b.key

@@ -56,7 +56,8 @@ module _ (f : TxnId → Option Txn) (own : (i : TxnId) (x : Txn) → f i ≡ Som
       dropped None e n = refl
       dropped (Some x) e n = sym (ap (λ b. cond b (x ∷ filter (λ z. p z.id) (filter_map f ids)) (filter (λ z. p z.id) (filter_map f ids))) (ap p (own i x e) ∙ n))
 
-      go : (o : Option Txn) → f i ≡ o → (b : Bool) → p i ≡ b → filter_map f (filter p ids) ≡ filter (λ x. p x.id) (filter_map f ids) → filter_map f (cond (p i) (i ∷ filter p ids) (filter p ids)) ≡ filter (λ x. p x.id) (cons_option (f i) (filter_map f ids))
+      go : (o : Option Txn) → f i ≡ o → (b : Bool) → p i ≡ b → filter_map f (filter p ids) ≡ filter (λ x. p x.id) (filter_map f ids)
+          → filter_map f (cond (p i) (i ∷ filter p ids) (filter p ids)) ≡ filter (λ x. p x.id) (cons_option (f i) (filter_map f ids))
       go o e true y rest =
           ap (λ b. filter_map f (cond b (i ∷ filter p ids) (filter p ids))) y
           ∙ ap (cons_option (f i)) rest

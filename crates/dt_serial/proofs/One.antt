@@ -21,8 +21,9 @@ use Rattle.dt_txn.specs.declared.txn.Txn.{Txn}
 use Rattle.dt_txn.specs.declared.outcome.Outcome.{Outcome}
 use Rattle.dt_txn.specs.declared.outcome.Outcome.TheVariants.{Gave, Stale}
 use Rattle.dt_txn.specs.Execution.{seen_of, see, stale_at, stale_of, reads_of, of_finish, result_of, unless_stale, one}
-use Rattle.dt_serial.specs.Order.{Changes, MayWrite, KeepsToKeys, IsLive, IsStale}
-use Rattle.dt_serial.proofs.Rows.{moved_on}
+use Rattle.dt_txn.specs.Staleness.{IsStaleOutcome}
+use Rattle.dt_serial.specs.Order.{Changes, MayWrite, KeepsToKeys, IsLive}
+use Rattle.dt_table.proofs.Callers.{move_at}
 
 -- next movers
 
@@ -88,8 +89,8 @@ live_or_stale procs x t = go (stale_of x.access (see x t)) refl
     go None e = inl e
     go (Some o) e = inr (subst (IsStaleAt x.access t) (sym (ap (λ s. (unless_stale s (result_of procs x.id x.body (reads_of x.access (see x t)))).0) e)) (stale_some x.access t o e))
 
-pub live_of_outcome : (procs : List ProcTree) (x : Txn) (t : Table) → ¬ (IsStale (one procs x t).0) → IsLive x t
-live_of_outcome procs x t n = elim (live_or_stale procs x t) [ inl l ↦ l | inr s ↦ absurd (n (subst IsStale (sym s.is) tt)) ]
+pub live_of_outcome : (procs : List ProcTree) (x : Txn) (t : Table) → ¬ (IsStaleOutcome (one procs x t).0) → IsLive x t
+live_of_outcome procs x t n = elim (live_or_stale procs x t) [ inl l ↦ l | inr s ↦ absurd (n (subst IsStaleOutcome (sym s.is) tt)) ]
 
 -- results
 
@@ -101,7 +102,8 @@ pub one_live : (procs : List ProcTree) (x : Txn) (t : Table) → IsLive x t → 
 one_live procs x t e = ap (λ s. unless_stale s (result_of procs x.id x.body (reads_of x.access (see x t)))) e
 
 -- a transaction does alike on two tables where its keys have the same next movers and, if it is live, the same values
-pub one_alike : (procs : List ProcTree) (x : Txn) (t u : Table) → AllIn (λ a. next_mover t a.key a.counter ≡ next_mover u a.key a.counter) x.access → (IsLive x u → AllIn (λ a. value_of t a.key ≡ value_of u a.key) x.access) → one procs x t ≡ one procs x u
+pub one_alike : (procs : List ProcTree) (x : Txn) (t u : Table) → AllIn (λ a. next_mover t a.key a.counter ≡ next_mover u a.key a.counter) x.access
+    → (IsLive x u → AllIn (λ a. value_of t a.key ≡ value_of u a.key) x.access) → one procs x t ≡ one procs x u
 one_alike procs x t u movers values = go (stale_of x.access (see x u)) refl
   where
     same : stale_of x.access (see x t) ≡ stale_of x.access (see x u)
@@ -144,9 +146,10 @@ record IsMoveIn (procs : List ProcTree) (id : TxnId) (body : Body) (s : Option O
   gave : (unless_stale s (result_of procs id body reads)).0 ≡ Gave []
   changes : Changes (unless_stale s (result_of procs id body reads)).1 key
 
-move_in : (procs : List ProcTree) (id : TxnId) (body : Body) (s : Option Outcome) (reads : List (Bytes × Option Value)) (key : Bytes) (m : Moved) → moved_on (unless_stale s (result_of procs id body reads)).1.moved key ≡ m ∷ [] → IsMoveIn procs id body s reads key m
+move_in : (procs : List ProcTree) (id : TxnId) (body : Body) (s : Option Outcome) (reads : List (Bytes × Option Value)) (key : Bytes) (m : Moved)
+    → move_at key (unless_stale s (result_of procs id body reads)).1.moved ≡ m ∷ [] → IsMoveIn procs id body s reads key m
 move_in procs id body (Some o) reads key m e = cc
-move_in procs id (Call proc args) None reads key m e = let n : moved_on (of_finish (call_meaning procs proc args reads)).1.moved key ≡ [] = ap (λ o. moved_on o key) (of_finish_moved (call_meaning procs proc args reads)) in cc
+move_in procs id (Call proc args) None reads key m e = let n : move_at key (of_finish (call_meaning procs proc args reads)).1.moved ≡ [] = ap (λ o. move_at key o) (of_finish_moved (call_meaning procs proc args reads)) in cc
 move_in procs id (Move k target) None reads key m e = go (cases_Bool (same_key key k))
   where
     made : Moved
@@ -160,18 +163,18 @@ move_in procs id (Move k target) None reads key m e = go (cases_Bool (same_key k
         record { live = refl; is = ap₂ Move (sym is) (ap (λ x. x.target) head); by = ap (λ x. x.by) head; gave = refl; changes = inr (sym is) }
     go (inr n) = let list : [] ≡ m ∷ [] = ap (λ b. cond b (made ∷ []) []) (sym n) ∙ e in cc
 
-pub move_of_one : (procs : List ProcTree) (x : Txn) (t : Table) (key : Bytes) (m : Moved) → moved_on (one procs x t).1.moved key ≡ m ∷ [] → IsMoveOf procs x t key m
+pub move_of_one : (procs : List ProcTree) (x : Txn) (t : Table) (key : Bytes) (m : Moved) → move_at key (one procs x t).1.moved ≡ m ∷ [] → IsMoveOf procs x t key m
 move_of_one procs x t key m e =
     let r : IsMoveIn procs x.id x.body (stale_of x.access (see x t)) (reads_of x.access (see x t)) key m = move_in procs x.id x.body _ _ key m e in
     record { live = r.live; body = r.is; by = r.by; gave = r.gave; changes = r.changes }
 
-pub moved_on_cases : (o : Option (Bytes × ℕ × TxnId)) (key : Bytes) → (moved_on o key ≡ []) ⊎ ((m : Moved) × (moved_on o key ≡ m ∷ []))
-moved_on_cases None key = inl refl
-moved_on_cases (Some m) key = go (cases_Bool (same_key key m.0))
+pub move_at_cases : (o : Option (Bytes × ℕ × TxnId)) (key : Bytes) → (move_at key o ≡ []) ⊎ ((m : Moved) × (move_at key o ≡ m ∷ []))
+move_at_cases None key = inl refl
+move_at_cases (Some m) key = go (cases_Bool (same_key key m.0))
   where
     made : Moved
     made = record { target = m.1; by = m.2 }
 
-    go : (same_key key m.0 ≡ true) ⊎ (same_key key m.0 ≡ false) → (moved_on (Some m) key ≡ []) ⊎ ((n : Moved) × (moved_on (Some m) key ≡ n ∷ []))
+    go : (same_key key m.0 ≡ true) ⊎ (same_key key m.0 ≡ false) → (move_at key (Some m) ≡ []) ⊎ ((n : Moved) × (move_at key (Some m) ≡ n ∷ []))
     go (inl y) = inr (made, ap (λ b. cond b (made ∷ []) []) y)
     go (inr n) = inl (ap (λ b. cond b (made ∷ []) []) n)

@@ -25,7 +25,8 @@ use Rattle.dt_txn.specs.declared.txn.Txn.{Txn}
 use Rattle.dt_txn.specs.declared.outcome.Outcome.{Outcome}
 use Rattle.dt_txn.specs.Execution.{one}
 use Rattle.dt_txn.specs.Serial.{after, outcomes, table_after}
-use Rattle.dt_serial.specs.Order.{txn_ids, Ordered, IsDown, FollowsMove, IsStale, IsLive, Changes, MayWrite, IsHistory, uses_in}
+use Rattle.dt_txn.specs.Staleness.{IsStaleOutcome}
+use Rattle.dt_serial.specs.Order.{txn_ids, Ordered, IsDown, FollowsMove, IsLive, Changes, MayWrite, IsHistory, uses_in}
 use Rattle.dt_serial.specs.Replay.{replay}
 use Rattle.dt_serial.proofs.Rows.{either_changes}
 use Rattle.dt_serial.proofs.One.{mover_at, one_alike, live_entries, live_of_outcome, change_of_one}
@@ -36,7 +37,8 @@ use Rattle.dt_serial.proofs.History.{down_at, past_at, apart_at, replay_at, keys
 
 module _ (procs : List ProcTree) (order : TxnId → TxnId → Type 0) (start : Table) (txns : List Txn) (h : IsHistory procs order start txns) where
   -- two live transactions that change one row are ordered
-  changers : (x y : Txn) (s : Spot txns x) (r : Spot txns y) (key : Bytes) → x.id ≢ y.id → Changes (one procs x (table_after procs s.front start)).1 key → IsLive y (table_after procs r.front start) → AnyIn (λ b. b.key ≡ key) y.access → Ordered order x.id y.id
+  changers : (x y : Txn) (s : Spot txns x) (r : Spot txns y) (key : Bytes) → x.id ≢ y.id → Changes (one procs x (table_after procs s.front start)).1 key → IsLive y (table_after procs r.front start)
+      → AnyIn (λ b. b.key ≡ key) y.access → Ordered order x.id y.id
   changers x y s r key ne cx ly ky =
       let lx : IsLive x (table_after procs s.front start) × MayWrite x key = change_of_one procs x (table_after procs s.front start) key (keys_at procs order start txns h x (spot_has txns x s)) cx in
       let a : (a : Access) × Has x.access a × ((a.key ≡ key) × (a.mode ≡ Write)) = any_get _ x.access lx.1 in
@@ -45,10 +47,13 @@ module _ (procs : List ProcTree) (order : TxnId → TxnId → Type 0) (start : T
       across procs order start txns h x y s r a.0 b.0 lx.0 ly ne a.1 b.1 clash
 
   -- after any two pasts of it, a live transaction sees the same values
-  same_values : (y : Txn) (r : Spot txns y) (p q : TxnId → Bool) → IsPast order p y.id → IsPast order q y.id → IsLive y (table_after procs r.front start) → AllIn (λ a. value_of (replay procs p txns start start) a.key ≡ value_of (replay procs q txns start start) a.key) y.access
-  same_values y r p q pp pq ly = all_put _ y.access (λ a ka. replay_value procs p q txns start start start a.key (along_put procs _ txns start (λ x s. at a ka x s (either_changes (one procs x (table_after procs s.front start)).1 a.key) (either_id x.id y.id))) refl)
+  same_values : (y : Txn) (r : Spot txns y) (p q : TxnId → Bool) → IsPast order p y.id → IsPast order q y.id → IsLive y (table_after procs r.front start)
+      → AllIn (λ a. value_of (replay procs p txns start start) a.key ≡ value_of (replay procs q txns start start) a.key) y.access
+  same_values y r p q pp pq ly = all_put _ y.access (λ a ka. replay_value procs p q txns start start start a.key
+      (along_put procs _ txns start (λ x s. at a ka x s (either_changes (one procs x (table_after procs s.front start)).1 a.key) (either_id x.id y.id))) refl)
     where
-      at : (a : Access) → Has y.access a → (x : Txn) (s : Spot txns x) → Either (Changes (one procs x (table_after procs s.front start)).1 a.key) → Either (x.id ≡ y.id) → (¬ (Changes (one procs x (table_after procs s.front start)).1 a.key)) ⊎ (p x.id ≡ q x.id)
+      at : (a : Access) → Has y.access a → (x : Txn) (s : Spot txns x) → Either (Changes (one procs x (table_after procs s.front start)).1 a.key) → Either (x.id ≡ y.id)
+          → (¬ (Changes (one procs x (table_after procs s.front start)).1 a.key)) ⊎ (p x.id ≡ q x.id)
       at a ka x s (inr n) own = inl n
       at a ka x s (inl c) (inl own) = inr (ap p own ∙ pp.absent ∙ sym (ap q own ∙ pq.absent))
       at a ka x s (inl c) (inr ne) = inr (same_past order p q y.id x.id pp pq (changers x y s r a.key ne c ly (key_of y.access a ka)))
@@ -157,7 +162,8 @@ module _ (procs : List ProcTree) (order : TxnId → TxnId → Type 0) (start : T
       let r : Spot txns y = spot txns y all.0 in
       let same : one procs y (canon xs) ≡ one procs y (table_after procs r.front start) = same_one y r (is_among (txn_ids xs)) (past_in xs y ys down) in (
         subst (λ o. Has (outcomes procs txns start) (y.id, o)) (sym (ap (λ e. e.0) same)) (outcome_at procs txns start y r),
-        subst (λ t. AllIn (λ r. Has (outcomes procs txns start) r) (outcomes procs ys t)) (sym (canon_step xs y ys all.0 down)) (walk_outcomes (xs ++ y ∷ []) ys all.1 (subst (λ l. IsDown order (txn_ids l)) (sym (append_assoc xs (y ∷ []) ys)) down)),
+        subst (λ t. AllIn (λ r. Has (outcomes procs txns start) r) (outcomes procs ys t)) (sym (canon_step xs y ys all.0 down))
+        (walk_outcomes (xs ++ y ∷ []) ys all.1 (subst (λ l. IsDown order (txn_ids l)) (sym (append_assoc xs (y ∷ []) ys)) down)),
       )
 
   -- the table after such a list is the replay of the history for those of the list
@@ -172,11 +178,13 @@ module _ (procs : List ProcTree) (order : TxnId → TxnId → Type 0) (start : T
   members_front xs y ys all down = one_table xs (all_append_left _ xs (y ∷ ys) all) (down_front order (txn_ids xs) (txn_ids (y ∷ ys)) (subst (IsDown order) (map-append (λ z. z.id) xs (y ∷ ys)) down))
 
   -- and what it does there is what it does in the history
-  pub one_effect : (xs : List Txn) (y : Txn) (ys : List Txn) (r : Spot txns y) → AllIn (λ x. Has txns x) (xs ++ y ∷ ys) → IsDown order (txn_ids (xs ++ y ∷ ys)) → one procs y (table_after procs xs start) ≡ one procs y (table_after procs r.front start)
+  pub one_effect : (xs : List Txn) (y : Txn) (ys : List Txn) (r : Spot txns y) → AllIn (λ x. Has txns x) (xs ++ y ∷ ys) → IsDown order (txn_ids (xs ++ y ∷ ys))
+      → one procs y (table_after procs xs start) ≡ one procs y (table_after procs r.front start)
   one_effect xs y ys r all down = ap (one procs y) (members_front xs y ys all down) ∙ same_one y r (is_among (txn_ids xs)) (past_in xs y ys down)
 
   -- two such lists with the same members end with equal tables
-  pub one_set : (xs ys : List Txn) → AllIn (λ x. Has txns x) xs → AllIn (λ x. Has txns x) ys → IsDown order (txn_ids xs) → IsDown order (txn_ids ys) → ((i : TxnId) → Has (txn_ids xs) i ↔ Has (txn_ids ys) i) → table_after procs xs start ≡ table_after procs ys start
+  pub one_set : (xs ys : List Txn) → AllIn (λ x. Has txns x) xs → AllIn (λ x. Has txns x) ys → IsDown order (txn_ids xs) → IsDown order (txn_ids ys)
+      → ((i : TxnId) → Has (txn_ids xs) i ↔ Has (txn_ids ys) i) → table_after procs xs start ≡ table_after procs ys start
   one_set xs ys allx ally downx downy same =
       one_table xs allx downx
       ∙ replay_alike procs (is_among (txn_ids xs)) (is_among (txn_ids ys)) txns start start (all_put _ txns (λ x k. among_same (txn_ids xs) (txn_ids ys) x.id (same x.id).0 (same x.id).1))
@@ -207,17 +215,21 @@ module _ (procs : List ProcTree) (order : TxnId → TxnId → Type 0) (start : T
 
   -- the moves of a key are the first ones of the history
   pub moves_front : (xs : List Txn) (key : Bytes) → AllIn (λ x. Has txns x) xs → IsDown order (txn_ids xs) → IsFront (moves_of (table_after procs xs start) key) (moves_of (table_after procs txns start) key)
-  moves_front xs key all down = subst (λ l. IsFront l (moves_of (table_after procs txns start) key)) (sym (ap (λ t. moves_of t key) (one_table xs all down) ∙ replayed_moves procs order start txns h (is_among (txn_ids xs)) key)) (front_filtered _ _ (closed_front procs order start txns h (is_among (txn_ids xs)) (closed_in xs down) key))
+  moves_front xs key all down = subst (λ l. IsFront l (moves_of (table_after procs txns start) key)) (sym (ap (λ t. moves_of t key) (one_table xs all down) ∙ replayed_moves procs order start txns h (is_among (txn_ids xs)) key))
+      (front_filtered _ _ (closed_front procs order start txns h (is_among (txn_ids xs)) (closed_in xs down) key))
 
   -- namely as many of them as there are
-  pub moves_taken : (xs : List Txn) (key : Bytes) → AllIn (λ x. Has txns x) xs → IsDown order (txn_ids xs) → take (counter_of (table_after procs xs start) key) (moves_of (table_after procs txns start) key) ≡ moves_of (table_after procs xs start) key
+  pub moves_taken : (xs : List Txn) (key : Bytes) → AllIn (λ x. Has txns x) xs → IsDown order (txn_ids xs)
+      → take (counter_of (table_after procs xs start) key) (moves_of (table_after procs txns start) key) ≡ moves_of (table_after procs xs start) key
   moves_taken xs key all down =
       let front : IsFront (moves_of (table_after procs xs start) key) (moves_of (table_after procs txns start) key) = moves_front xs key all down in
       ap (take (counter_of (table_after procs xs start) key)) (sym front.1) ∙ take-append_seam (moves_of (table_after procs xs start) key) front.0
 
   -- the next mover of a transaction's entry is that of the history's last table, if it precedes the transaction
-  pub flag_up : (xs : List Txn) (y : Txn) (ys : List Txn) (a : Access) (by : TxnId) → AllIn (λ x. Has txns x) (xs ++ y ∷ ys) → IsDown order (txn_ids (xs ++ y ∷ ys)) → Has y.access a → next_mover (table_after procs txns start) a.key a.counter ≡ Some by → order by y.id → next_mover (table_after procs xs start) a.key a.counter ≡ Some by
-  flag_up xs y ys a by all down ka e r = ap (λ t. next_mover t a.key a.counter) (members_front xs y ys all down) ∙ replayed_mover procs order start txns h (is_among (txn_ids xs)) pp.closed a.key a.counter ∙ go (slice_get (moves_of (table_after procs txns start) a.key) a.counter) e
+  pub flag_up : (xs : List Txn) (y : Txn) (ys : List Txn) (a : Access) (by : TxnId) → AllIn (λ x. Has txns x) (xs ++ y ∷ ys) → IsDown order (txn_ids (xs ++ y ∷ ys)) → Has y.access a
+      → next_mover (table_after procs txns start) a.key a.counter ≡ Some by → order by y.id → next_mover (table_after procs xs start) a.key a.counter ≡ Some by
+  flag_up xs y ys a by all down ka e r = ap (λ t. next_mover t a.key a.counter) (members_front xs y ys all down)
+      ∙ replayed_mover procs order start txns h (is_among (txn_ids xs)) pp.closed a.key a.counter ∙ go (slice_get (moves_of (table_after procs txns start) a.key) a.counter) e
     where
       pp : IsPast order (is_among (txn_ids xs)) y.id
       pp = past_in xs y ys down
@@ -250,12 +262,15 @@ module _ (procs : List ProcTree) (order : TxnId → TxnId → Type 0) (start : T
           subst (λ t. suc c ≤ counter_of t a.key) (sym (members_front xs y ys all down)) lt
 
   -- and exactly as often, if it is not stale
-  pub counters_exact : (xs : List Txn) (y : Txn) (ys : List Txn) → AllIn (λ x. Has txns x) (xs ++ y ∷ ys) → IsDown order (txn_ids (xs ++ y ∷ ys)) → IsLive y (table_after procs xs start) → AllIn (λ a. counter_of (table_after procs xs start) a.key ≡ a.counter) y.access
+  pub counters_exact : (xs : List Txn) (y : Txn) (ys : List Txn) → AllIn (λ x. Has txns x) (xs ++ y ∷ ys) → IsDown order (txn_ids (xs ++ y ∷ ys)) → IsLive y (table_after procs xs start)
+      → AllIn (λ a. counter_of (table_after procs xs start) a.key ≡ a.counter) y.access
   counters_exact xs y ys all down live = all_put _ y.access (λ a ka. le_antisymm (all_get _ y.access (live_entries y (table_after procs xs start) live) a ka) (all_get _ y.access (counters_reached xs y ys all down) a ka))
 
   -- the next mover of an entry of such a list's transaction is that of the history's last table, and precedes it
-  pub flag_down : (xs : List Txn) (y : Txn) (ys : List Txn) (a : Access) (by : TxnId) → AllIn (λ x. Has txns x) (xs ++ y ∷ ys) → IsDown order (txn_ids (xs ++ y ∷ ys)) → Has y.access a → next_mover (table_after procs xs start) a.key a.counter ≡ Some by → (next_mover (table_after procs txns start) a.key a.counter ≡ Some by) × order by y.id
-  flag_down xs y ys a by all down ka e = go (slice_get (moves_of (table_after procs txns start) a.key) a.counter) refl (sym (ap (λ t. next_mover t a.key a.counter) (members_front xs y ys all down) ∙ replayed_mover procs order start txns h (is_among (txn_ids xs)) pp.closed a.key a.counter) ∙ e)
+  pub flag_down : (xs : List Txn) (y : Txn) (ys : List Txn) (a : Access) (by : TxnId) → AllIn (λ x. Has txns x) (xs ++ y ∷ ys) → IsDown order (txn_ids (xs ++ y ∷ ys)) → Has y.access a
+      → next_mover (table_after procs xs start) a.key a.counter ≡ Some by → (next_mover (table_after procs txns start) a.key a.counter ≡ Some by) × order by y.id
+  flag_down xs y ys a by all down ka e = go (slice_get (moves_of (table_after procs txns start) a.key) a.counter) refl
+      (sym (ap (λ t. next_mover t a.key a.counter) (members_front xs y ys all down) ∙ replayed_mover procs order start txns h (is_among (txn_ids xs)) pp.closed a.key a.counter) ∙ e)
     where
       pp : IsPast order (is_among (txn_ids xs)) y.id
       pp = past_in xs y ys down
@@ -270,14 +285,16 @@ module _ (procs : List ProcTree) (order : TxnId → TxnId → Type 0) (start : T
         | inr r ↦ absurd (both_ways (is_among (txn_ids xs) y.id) pp.absent (pp.closed y.id m.by r chosen))
       ]
 
-      at : (m : Moved) → slice_get (moves_of (table_after procs txns start) a.key) a.counter ≡ Some m → (is_among (txn_ids xs) m.by ≡ true) ⊎ (is_among (txn_ids xs) m.by ≡ false) → option_map (λ n. n.by) (if_passes (λ n. is_among (txn_ids xs) n.by) (Some m)) ≡ Some by → (next_mover (table_after procs txns start) a.key a.counter ≡ Some by) × order by y.id
+      at : (m : Moved) → slice_get (moves_of (table_after procs txns start) a.key) a.counter ≡ Some m → (is_among (txn_ids xs) m.by ≡ true) ⊎ (is_among (txn_ids xs) m.by ≡ false)
+          → option_map (λ n. n.by) (if_passes (λ n. is_among (txn_ids xs) n.by) (Some m)) ≡ Some by → (next_mover (table_after procs txns start) a.key a.counter ≡ Some by) × order by y.id
       at m f (inl chosen) g =
           let own : Some m.by ≡ Some by = ap (λ b. option_map (λ n. n.by) (cond b (Some m) None)) (sym chosen) ∙ g in
           let same : m.by ≡ by = cc in
           (ap (option_map (λ n. n.by)) f ∙ own, subst (λ i. order i y.id) same (precedes m f chosen (either_id m.by y.id)))
       at m f (inr dropped) g = let none : None ≡ Some by = ap (λ b. option_map (λ n. n.by) (cond b (Some m) None)) (sym dropped) ∙ g in cc
 
-      go : (o : Option Moved) → slice_get (moves_of (table_after procs txns start) a.key) a.counter ≡ o → option_map (λ n. n.by) (if_passes (λ n. is_among (txn_ids xs) n.by) o) ≡ Some by → (next_mover (table_after procs txns start) a.key a.counter ≡ Some by) × order by y.id
+      go : (o : Option Moved) → slice_get (moves_of (table_after procs txns start) a.key) a.counter ≡ o → option_map (λ n. n.by) (if_passes (λ n. is_among (txn_ids xs) n.by) o) ≡ Some by
+          → (next_mover (table_after procs txns start) a.key a.counter ≡ Some by) × order by y.id
       go None f g = cc
       go (Some m) f g = at m f (cases_Bool (is_among (txn_ids xs) m.by)) g
 
@@ -286,31 +303,36 @@ module _ (procs : List ProcTree) (order : TxnId → TxnId → Type 0) (start : T
   single_outcome i o p a b = ap (λ r. r.1) (same_by_key (λ r. r.0) (outcomes procs txns start) (i, o) (i, p) (subst Distinct (sym (outcomes_ids procs txns start)) h.down.once) a b refl)
 
   -- so an outcome in two such lists is one
-  pub one_outcome_each : (xs ys : List Txn) → AllIn (λ x. Has txns x) xs → AllIn (λ x. Has txns x) ys → IsDown order (txn_ids xs) → IsDown order (txn_ids ys) → (i : TxnId) (o p : Outcome) → Has (outcomes procs xs start) (i, o) → Has (outcomes procs ys start) (i, p) → o ≡ p
+  pub one_outcome_each : (xs ys : List Txn) → AllIn (λ x. Has txns x) xs → AllIn (λ x. Has txns x) ys → IsDown order (txn_ids xs) → IsDown order (txn_ids ys) → (i : TxnId) (o p : Outcome)
+      → Has (outcomes procs xs start) (i, o) → Has (outcomes procs ys start) (i, p) → o ≡ p
   one_outcome_each xs ys allx ally downx downy i o p a b = single_outcome i o p (all_get _ (outcomes procs xs start) (one_outcome xs allx downx) (i, o) a) (all_get _ (outcomes procs ys start) (one_outcome ys ally downy) (i, p) b)
 
   -- a transaction whose outcome in the history is not stale is live where it ran
-  live_there : (x : Txn) (s : Spot txns x) (o : Outcome) → Has (outcomes procs txns start) (x.id, o) → ¬ (IsStale o) → IsLive x (table_after procs s.front start)
-  live_there x s o k fresh = live_of_outcome procs x (table_after procs s.front start) (λ w. fresh (subst IsStale (single_outcome x.id _ o (outcome_at procs txns start x s) k) w))
+  live_there : (x : Txn) (s : Spot txns x) (o : Outcome) → Has (outcomes procs txns start) (x.id, o) → ¬ (IsStaleOutcome o) → IsLive x (table_after procs s.front start)
+  live_there x s o k fresh = live_of_outcome procs x (table_after procs s.front start) (λ w. fresh (subst IsStaleOutcome (single_outcome x.id _ o (outcome_at procs txns start x s) k) w))
 
   -- across moves: of two transactions that are not stale, and whose uses clash, one precedes the other
-  pub across_moves : (x y : Txn) (o p : Outcome) → Has txns x → Has txns y → x.id ≢ y.id → Has (outcomes procs txns start) (x.id, o) → Has (outcomes procs txns start) (y.id, p) → ¬ (IsStale o) → ¬ (IsStale p) → clash (uses_in x) (uses_in y) ≡ true → Ordered order x.id y.id
+  pub across_moves : (x y : Txn) (o p : Outcome) → Has txns x → Has txns y → x.id ≢ y.id → Has (outcomes procs txns start) (x.id, o) → Has (outcomes procs txns start) (y.id, p) → ¬ (IsStaleOutcome o)
+      → ¬ (IsStaleOutcome p) → clash (uses_in x) (uses_in y) ≡ true → Ordered order x.id y.id
   across_moves x y o p kx ky ne ox py fx fy c =
       let s : Spot txns x = spot txns x kx in
       let r : Spot txns y = spot txns y ky in
-      let a : (a : Access) × Has x.access a × AnyIn (λ v. uses_clash (a.key, a.mode) v ≡ true) (uses_in y) = any_get _ x.access (any_of_image (λ u. AnyIn (λ v. uses_clash u v ≡ true) (uses_in y)) (λ a. (a.key, a.mode)) x.access (uses_of_clash (uses_in x) (uses_in y) c)) in
+      let a : (a : Access) × Has x.access a × AnyIn (λ v. uses_clash (a.key, a.mode) v ≡ true) (uses_in y)
+          = any_get _ x.access (any_of_image (λ u. AnyIn (λ v. uses_clash u v ≡ true) (uses_in y)) (λ a. (a.key, a.mode)) x.access (uses_of_clash (uses_in x) (uses_in y) c)) in
       let b : (b : Access) × Has y.access b × (uses_clash ((a.0).key, (a.0).mode) (b.key, b.mode) ≡ true) = any_get _ y.access (any_of_image (λ v. uses_clash ((a.0).key, (a.0).mode) v ≡ true) (λ b. (b.key, b.mode)) y.access a.2) in
       across procs order start txns h x y s r a.0 b.0 (live_there x s o ox fx) (live_there y r p py fy) ne a.1 b.1 b.2
 
   -- the mover that follows the annotated moves of one that is not stale is itself, or comes after it
-  pub before_next : (x : Txn) (o : Outcome) → Has txns x → Has (outcomes procs txns start) (x.id, o) → ¬ (IsStale o) → AllIn (λ a. (by : TxnId) → next_mover (table_after procs txns start) a.key a.counter ≡ Some by → (x.id ≡ by) ⊎ order x.id by) x.access
+  pub before_next : (x : Txn) (o : Outcome) → Has txns x → Has (outcomes procs txns start) (x.id, o) → ¬ (IsStaleOutcome o)
+      → AllIn (λ a. (by : TxnId) → next_mover (table_after procs txns start) a.key a.counter ≡ Some by → (x.id ≡ by) ⊎ order x.id by) x.access
   before_next x o k ox fresh = all_put _ x.access (λ a ka by e.
       let m : (m : Moved) × (slice_get (moves_of (table_after procs txns start) a.key) a.counter ≡ Some m) × (m.by ≡ by) = mover_at (moves_of (table_after procs txns start) a.key) a.counter by e in
       let s : Spot txns x = spot txns x k in
       subst (λ i. (x.id ≡ i) ⊎ order x.id i) m.2 (live_before procs order start txns h x s a m.0 (live_there x s o ox fresh) ka m.1))
 
   -- the move of each number was made by one that was annotated with this number
-  pub move_numbered : (key : Bytes) (i : ℕ) (m : Moved) → slice_get (moves_of (table_after procs txns start) key) i ≡ Some m → AnyIn (λ x. (x.id ≡ m.by) × (x.body ≡ Move key m.target) × AllIn (λ a. a.key ≡ key → a.counter ≡ i) x.access) txns
+  pub move_numbered : (key : Bytes) (i : ℕ) (m : Moved) → slice_get (moves_of (table_after procs txns start) key) i ≡ Some m
+      → AnyIn (λ x. (x.id ≡ m.by) × (x.body ≡ Move key m.target) × AllIn (λ a. a.key ≡ key → a.counter ≡ i) x.access) txns
   move_numbered key i m e =
       let r : IsMoveNumber procs order start txns h key i m = index procs order start txns h key i m e in
       any_put _ txns r.mover (spot_has txns r.mover r.at) (r.makes.by, r.makes.body, r.counters)

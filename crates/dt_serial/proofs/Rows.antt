@@ -1,18 +1,19 @@
 -- What an effect does to the rows of a table, one key at a time.
-use Rattle.std.proofs.Common.{◌≡◌, ◌≢◌, ℕ, true, false, cond, List, [], ◌∷◌, ◌++◌, Some, None, IsSomeAnd, nat_cmp, refl, sym, ap, subst, ◌∙◌, append-nil, inl, inr}
+use Rattle.std.proofs.Common.{◌≡◌, ◌≢◌, ℕ, true, false, cond, List, [], ◌∷◌, ◌++◌, Some, None, IsSomeAnd, nat_cmp, refl, sym, ap, subst, ◌∙◌, inl, inr}
 use Rattle.std.specs.Prelude.{Option, unwrap_or}
 use Rattle.std.specs.Ordering.{eq_by_cmp}
 use Rattle.std.specs.Cmp.Lexicographic.{slice_cmp, bytes_decides, texts_ties}
-use Rattle.std.specs.FinMap.{get, get-insert, same_map, get-from_entries, slice_cmp-IsAntisymmetric, nat_cmp-IsAntisymmetric}
+use Rattle.std.specs.FinMap.{get, get-insert}
 use Rattle.std.proofs.lemmas.Cmp.{nat_list_cmp_total}
 use Rattle.std.proofs.lemmas.Bool.{false_from_ne_true}
 use Rattle.dt_lists.specs.Lists.{AnyIn, Either}
 use Rattle.dt_lists.proofs.Decided.{either_list, either_nat, either_any, either_or}
-use Rattle.dt_access.specs.Clash.{Bytes, same_key}
+use Rattle.dt_access.specs.Clash.{Bytes}
 use Rattle.dt_access.specs.declared.TxnId.{TxnId}
 use Rattle.dt_text.specs.declared.Value.{Value}
 use Rattle.dt_table.specs.declared.Effect.{Effect}
-use Rattle.dt_table.specs.Table.{Table, Row, Moved, no_row, row_of, value_of, moves_of, with_row, written, all_written, moved, maybe_moved, apply, opening}
+use Rattle.dt_table.specs.Table.{Table, Row, no_row, row_of, value_of, moves_of, with_row, written, all_written, moved, maybe_moved, apply}
+use Rattle.dt_table.proofs.Callers.{homes-apply, regions-apply, same_table, value_of-maybe_moved}
 use Rattle.dt_serial.specs.Order.{Changes}
 
 pub either_key : (a b : Bytes) → Either (a ≡ b)
@@ -30,34 +31,6 @@ get_same t key row q e = get-insert nat_list_cmp_total t.rows key row q ∙ ap (
 
 get_other : (t : Table) (key : Bytes) (row : Row) (q : Bytes) → q ≢ key → get (with_row t key row).rows q ≡ get t.rows q
 get_other t key row q n = get-insert nat_list_cmp_total t.rows key row q ∙ ap (λ b. cond b (Some row) (get t.rows q)) (key_other q key n)
-
--- two tables of one cluster with equal rows are equal
-pub same_table : (t u : Table) → t.regions ≡ u.regions → t.homes ≡ u.homes → ((q : Bytes) → get t.rows q ≡ get u.rows q) → t ≡ u
-same_table t u r h g = let rows : t.rows ≡ u.rows = same_map nat_list_cmp_total (slice_cmp-IsAntisymmetric nat_cmp-IsAntisymmetric) t.rows u.rows g in λ i. record { regions = r i; homes = h i; rows = rows i }
-
--- regions and homes stay
-
-all_written_regions : (ws : List (Bytes × Option Value)) (t : Table) → (all_written ws t).regions ≡ t.regions
-all_written_regions [] t = refl
-all_written_regions (w ∷ ws) t = all_written_regions ws (written t w.0 w.1)
-
-all_written_homes : (ws : List (Bytes × Option Value)) (t : Table) → (all_written ws t).homes ≡ t.homes
-all_written_homes [] t = refl
-all_written_homes (w ∷ ws) t = all_written_homes ws (written t w.0 w.1)
-
-maybe_moved_regions : (m : Option (Bytes × ℕ × TxnId)) (t : Table) → (maybe_moved m t).regions ≡ t.regions
-maybe_moved_regions None t = refl
-maybe_moved_regions (Some m) t = refl
-
-maybe_moved_homes : (m : Option (Bytes × ℕ × TxnId)) (t : Table) → (maybe_moved m t).homes ≡ t.homes
-maybe_moved_homes None t = refl
-maybe_moved_homes (Some m) t = refl
-
-pub apply_regions : (e : Effect) (t : Table) → (apply e t).regions ≡ t.regions
-apply_regions e t = maybe_moved_regions e.moved (all_written e.writes t) ∙ all_written_regions e.writes t
-
-pub apply_homes : (e : Effect) (t : Table) → (apply e t).homes ≡ t.homes
-apply_homes e t = maybe_moved_homes e.moved (all_written e.writes t) ∙ all_written_homes e.writes t
 
 -- an effect leaves the rows that it does not change
 
@@ -81,18 +54,25 @@ written_alike : (t u : Table) (key : Bytes) (v : Option Value) (q : Bytes) → g
 written_alike t u key v q e = at (either_key q key)
   where
     at : Either (q ≡ key) → get (written t key v).rows q ≡ get (written u key v).rows q
-    at (inl s) = get_same t key _ q s ∙ ap Some (subst (λ k. ◌≡◌ {A = Row} (record { value = v; moves = moves_of t k }) (record { value = v; moves = moves_of u k })) s (λ i. record { value = v; moves = (row_alike t u q e i).moves })) ∙ sym (get_same u key _ q s)
+    at (inl s) = get_same t key _ q s
+        ∙ ap Some (subst (λ k. ◌≡◌ {A = Row} (record { value = v; moves = moves_of t k }) (record { value = v; moves = moves_of u k })) s (λ i. record { value = v; moves = (row_alike t u q e i).moves })) ∙ sym (get_same u key _ q s)
     at (inr n) = get_other t key _ q n ∙ e ∙ sym (get_other u key _ q n)
 
 all_written_alike : (ws : List (Bytes × Option Value)) (t u : Table) (q : Bytes) → get t.rows q ≡ get u.rows q → get (all_written ws t).rows q ≡ get (all_written ws u).rows q
 all_written_alike [] t u q e = e
 all_written_alike (w ∷ ws) t u q e = all_written_alike ws (written t w.0 w.1) (written u w.0 w.1) q (written_alike t u w.0 w.1 q e)
 
+-- the row of a key with one move more
+abbrev moved_row : Table → ℕ → TxnId → Bytes → Row
+moved_row t target by key = record { value = value_of t key; moves = moves_of t key ++ record { target = target; by = by } ∷ [] }
+
 moved_alike : (t u : Table) (key : Bytes) (target : ℕ) (by : TxnId) (q : Bytes) → get t.rows q ≡ get u.rows q → get (moved t key target by).rows q ≡ get (moved u key target by).rows q
 moved_alike t u key target by q e = at (either_key q key)
   where
     at : Either (q ≡ key) → get (moved t key target by).rows q ≡ get (moved u key target by).rows q
-    at (inl s) = get_same t key _ q s ∙ ap Some (subst (λ k. ◌≡◌ {A = Row} (record { value = value_of t k; moves = moves_of t k ++ record { target = target; by = by } ∷ [] }) (record { value = value_of u k; moves = moves_of u k ++ record { target = target; by = by } ∷ [] })) s (λ i. record { value = (row_alike t u q e i).value; moves = (row_alike t u q e i).moves ++ record { target = target; by = by } ∷ [] })) ∙ sym (get_same u key _ q s)
+    at (inl s) = get_same t key _ q s
+        ∙ ap Some (subst (λ k. ◌≡◌ {A = Row} (moved_row t target by k) (moved_row u target by k)) s
+        (λ i. record { value = (row_alike t u q e i).value; moves = (row_alike t u q e i).moves ++ record { target = target; by = by } ∷ [] })) ∙ sym (get_same u key _ q s)
     at (inr n) = get_other t key _ q n ∙ e ∙ sym (get_other u key _ q n)
 
 maybe_moved_alike : (m : Option (Bytes × ℕ × TxnId)) (t u : Table) (q : Bytes) → get t.rows q ≡ get u.rows q → get (maybe_moved m t).rows q ≡ get (maybe_moved m u).rows q
@@ -112,8 +92,8 @@ either_changes e q = either_or _ _ (either_any _ e.writes (λ w. either_key w.0 
 -- effects that change no common row may change places
 pub apply_swap : (e f : Effect) (t : Table) → ((q : Bytes) → Changes e q → ¬ (Changes f q)) → apply e (apply f t) ≡ apply f (apply e t)
 apply_swap e f t apart = same_table _ _
-    (apply_regions e (apply f t) ∙ apply_regions f t ∙ sym (apply_regions f (apply e t) ∙ apply_regions e t))
-    (apply_homes e (apply f t) ∙ apply_homes f t ∙ sym (apply_homes f (apply e t) ∙ apply_homes e t))
+    (regions-apply e (apply f t) ∙ regions-apply f t ∙ sym (regions-apply f (apply e t) ∙ regions-apply e t))
+    (homes-apply e (apply f t) ∙ homes-apply f t ∙ sym (homes-apply f (apply e t) ∙ homes-apply e t))
     (λ q. at q (either_changes e q))
   where
     at : (q : Bytes) → Either (Changes e q) → get (apply e (apply f t)).rows q ≡ get (apply f (apply e t)).rows q
@@ -139,57 +119,5 @@ all_written_value : (ws : List (Bytes × Option Value)) (t u : Table) (q : Bytes
 all_written_value [] t u q e = e
 all_written_value (w ∷ ws) t u q e = all_written_value ws (written t w.0 w.1) (written u w.0 w.1) q (written_value t u w.0 w.1 q e)
 
-moved_value : (t : Table) (key : Bytes) (target : ℕ) (by : TxnId) (q : Bytes) → value_of (moved t key target by) q ≡ value_of t q
-moved_value t key target by q = at (either_key q key)
-  where
-    at : Either (q ≡ key) → value_of (moved t key target by) q ≡ value_of t q
-    at (inl s) = ap (λ r. (unwrap_or r no_row).value) (get_same t key _ q s) ∙ ap (value_of t) (sym s)
-    at (inr n) = value_of_get (moved t key target by) t q (get_other t key _ q n)
-
-maybe_moved_value : (m : Option (Bytes × ℕ × TxnId)) (t : Table) (q : Bytes) → value_of (maybe_moved m t) q ≡ value_of t q
-maybe_moved_value None t q = refl
-maybe_moved_value (Some m) t q = moved_value t m.0 m.1 m.2 q
-
 pub apply_value : (f : Effect) (t u : Table) (q : Bytes) → value_of t q ≡ value_of u q → value_of (apply f t) q ≡ value_of (apply f u) q
-apply_value f t u q e = maybe_moved_value f.moved (all_written f.writes t) q ∙ all_written_value f.writes t u q e ∙ sym (maybe_moved_value f.moved (all_written f.writes u) q)
-
--- moves
-
--- the move of this key that an effect makes, as a list of one, or no move
-abbrev pub moved_on : Option (Bytes × ℕ × TxnId) → Bytes → List Moved
-moved_on None key = []
-moved_on (Some m) key = cond (same_key key m.0) (record { target = m.1; by = m.2 } ∷ []) []
-
-moves_of_get : (t u : Table) (q : Bytes) → get t.rows q ≡ get u.rows q → moves_of t q ≡ moves_of u q
-moves_of_get t u q e = ap (λ r. (unwrap_or r no_row).moves) e
-
-written_moves : (t : Table) (key : Bytes) (v : Option Value) (q : Bytes) → moves_of (written t key v) q ≡ moves_of t q
-written_moves t key v q = at (either_key q key)
-  where
-    at : Either (q ≡ key) → moves_of (written t key v) q ≡ moves_of t q
-    at (inl s) = ap (λ r. (unwrap_or r no_row).moves) (get_same t key _ q s) ∙ ap (moves_of t) (sym s)
-    at (inr n) = moves_of_get (written t key v) t q (get_other t key _ q n)
-
-all_written_moves : (ws : List (Bytes × Option Value)) (t : Table) (q : Bytes) → moves_of (all_written ws t) q ≡ moves_of t q
-all_written_moves [] t q = refl
-all_written_moves (w ∷ ws) t q = all_written_moves ws (written t w.0 w.1) q ∙ written_moves t w.0 w.1 q
-
-maybe_moved_moves : (m : Option (Bytes × ℕ × TxnId)) (t : Table) (q : Bytes) → moves_of (maybe_moved m t) q ≡ moves_of t q ++ moved_on m q
-maybe_moved_moves None t q = sym (append-nil (moves_of t q))
-maybe_moved_moves (Some m) t q = at (either_key q m.0)
-  where
-    at : Either (q ≡ m.0) → moves_of (moved t m.0 m.1 m.2) q ≡ moves_of t q ++ moved_on (Some m) q
-    at (inl s) = ap (λ r. (unwrap_or r no_row).moves) (get_same t m.0 _ q s) ∙ ap (λ k. moves_of t k ++ record { target = m.1; by = m.2 } ∷ []) (sym s) ∙ ap (λ b. moves_of t q ++ cond b (record { target = m.1; by = m.2 } ∷ []) []) (sym ((bytes_decides q m.0).1 s))
-    at (inr n) = moves_of_get (moved t m.0 m.1 m.2) t q (get_other t m.0 _ q n) ∙ sym (append-nil (moves_of t q)) ∙ ap (λ b. moves_of t q ++ cond b (record { target = m.1; by = m.2 } ∷ []) []) (sym (false_from_ne_true _ (λ e. n ((bytes_decides q m.0).0 e))))
-
-pub apply_moves : (e : Effect) (t : Table) (q : Bytes) → moves_of (apply e t) q ≡ moves_of t q ++ moved_on e.moved q
-apply_moves e t q = maybe_moved_moves e.moved (all_written e.writes t) q ∙ ap (λ l. l ++ moved_on e.moved q) (all_written_moves e.writes t q)
-
--- no row of the opening table was moved
-pub opening_unmoved : (regions : ℕ) (homes : List (Bytes × ℕ)) (rows : List (Bytes × Value)) (q : Bytes) → moves_of (opening regions homes rows) q ≡ []
-opening_unmoved regions homes [] q = ap (λ r. (unwrap_or r no_row).moves) (get-from_entries nat_list_cmp_total [] q)
-opening_unmoved regions homes (r ∷ rows) q = at (either_key q r.0) (opening_unmoved regions homes rows q)
-  where
-    at : Either (q ≡ r.0) → moves_of (opening regions homes rows) q ≡ [] → moves_of (opening regions homes (r ∷ rows)) q ≡ []
-    at (inl s) rest = ap (λ o. (unwrap_or o no_row).moves) (get_same (opening regions homes rows) r.0 _ q s)
-    at (inr n) rest = moves_of_get (opening regions homes (r ∷ rows)) (opening regions homes rows) q (get_other (opening regions homes rows) r.0 _ q n) ∙ rest
+apply_value f t u q e = value_of-maybe_moved f.moved (all_written f.writes t) q ∙ all_written_value f.writes t u q e ∙ sym (value_of-maybe_moved f.moved (all_written f.writes u) q)

@@ -17,7 +17,7 @@ use Rattle.dt_txn.specs.declared.txn.Txn.{Txn}
 use Rattle.dt_txn.specs.Execution.{stale_at}
 use Rattle.dt_txn.specs.Serial.{after, table_after}
 use Rattle.dt_serial.specs.Order.{Ordered, FollowsMove, IsHistory, IsPart, IsDown, IsLive, KeepsToKeys}
-use Rattle.dt_serial.proofs.Rows.{moved_on}
+use Rattle.dt_table.proofs.Callers.{move_at}
 use Rattle.dt_serial.proofs.One.{one_live}
 use Rattle.dt_serial.proofs.Runs.{after_moves, moves_grow}
 
@@ -97,7 +97,7 @@ module _ (procs : List ProcTree) (start : Table) (unmoved : (key : Bytes) → mo
   unfolding made
   moved_once =
       after_moves procs (mover key) start key
-      ∙ ap (λ e. moves_of start key ++ moved_on e.1.moved key) (one_live procs (mover key) start live)
+      ∙ ap (λ e. moves_of start key ++ move_at key e.1.moved) (one_live procs (mover key) start live)
       ∙ ap (λ l. l ++ cond (same_key key key) (made ∷ []) []) (unmoved key)
       ∙ ap (λ b. cond b (made ∷ []) []) ((bytes_decides key key).1 refl)
 

@@ -3,6 +3,7 @@ pub mod Replay
 pub mod Evidence
 pub use Rattle.dt_txn.specs.Transaction
 pub use Rattle.dt_txn.specs.Execution
+pub use Rattle.dt_txn.specs.Staleness
 pub use Rattle.dt_txn.specs.Serial
 pub use Rattle.dt_table.specs.Table
 pub use Rattle.dt_access.specs.Ids

@@ -1,4 +1,6 @@
--- When an order of ids fits a serial run of transactions, so that runs of them in other orders agree with it.
+-- When an order of ids fits a serial run of transactions (`IsHistory`), and when a list of its transactions is one that a
+-- region may have run (`IsPart`). These two words carry all laws of this crate: a part has the outcomes, the moves and the
+-- table of its history, whatever order it took where the order of ids leaves it free. Read next src/laws.rt.
 use Rattle.std.specs.Prelude.{◌≡◌, ◌≢◌, ◌⊎◌, ℕ, zero, suc, Bool, true, List, [], map, slice_get, Option, Some, None, IsSomeAnd}
 use Rattle.dt_lists.specs.Lists.{AnyIn, AllIn, Has, Distinct}
 use Rattle.dt_access.specs.Ids.{StandsBefore}
@@ -12,8 +14,6 @@ use Rattle.dt_proc.specs.Tree.{ProcTree}
 use Rattle.dt_table.specs.declared.Effect.{Effect}
 use Rattle.dt_table.specs.Table.{Table, Moved, moves_of}
 use Rattle.dt_txn.specs.declared.txn.Txn.{Txn}
-use Rattle.dt_txn.specs.declared.outcome.Outcome.{Outcome}
-use Rattle.dt_txn.specs.declared.outcome.Outcome.TheVariants.{Stale}
 use Rattle.dt_txn.specs.Execution.{result_of, stale_of, see}
 use Rattle.dt_txn.specs.Serial.{table_after}
 
@@ -46,11 +46,6 @@ IsShared order txns =
     (x y : Txn) → Has txns x → Has txns y → x.id ≢ y.id
     → (a b : Access) → Has x.access a → Has y.access b → a.counter ≡ b.counter → uses_clash (a.key, a.mode) (b.key, b.mode) ≡ true
     → Ordered order x.id y.id
-
--- the outcome says that a row was moved since the transaction was annotated
-abbrev pub IsStale : Outcome → Type 0
-IsStale (Stale key had by) = Unit {0}
-IsStale outcome = ⊥
 
 -- on this table the transaction is live: none of its keys was moved since it was annotated
 abbrev pub IsLive : Txn → Table → Type 0

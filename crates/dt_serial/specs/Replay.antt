@@ -1,3 +1,5 @@
+-- Running a part of a history over again: some of its transactions, each with the effect that it had in the whole run. It
+-- is how a part is compared with its history: the part's own run gives the same table (`one_table` in src/laws.rt).
 use Rattle.std.specs.Prelude.{Bool, List, [], ◌∷◌, if◌then◌else◌}
 use Rattle.dt_access.specs.declared.TxnId.{TxnId}
 use Rattle.dt_proc.specs.Tree.{ProcTree}

@@ -9,11 +9,12 @@ ghost use Rattle.dt_table.specs.Table.{Moved, Table, counter_of, moves_of, next_
 ghost use Rattle.dt_proc.specs.Tree.{ProcTree};
 ghost use Rattle.dt_txn.specs.Execution.{one};
 ghost use Rattle.dt_txn.specs.Serial.{outcomes, table_after};
+ghost use Rattle.dt_txn.specs.Staleness.{IsStaleOutcome};
 ghost use Rattle.dt_txn.specs.declared.Outcome.{Outcome};
 ghost use Rattle.dt_txn.specs.declared.Txn.{Txn};
 ghost use Rattle.dt_txn.specs.declared.txn.Body.TheVariants.{Move};
 ghost use Rattle.dt_serial.specs.Evidence.{HasReason};
-ghost use Rattle.dt_serial.specs.Order.{ByTest, IsHistory, IsPart, IsStale, Ordered, txn_ids, uses_in};
+ghost use Rattle.dt_serial.specs.Order.{ByTest, IsHistory, IsPart, Ordered, txn_ids, uses_in};
 
 /// Each transaction of a part of a history has the outcome that it has in the history, and there it has one only.
 pub fn one_outcome()
@@ -66,7 +67,7 @@ pub fn reached_counters()
         IsPart procs (ByTest precedes) start history (front ++ x ∷ rest) →
         AllIn (λ a. a.counter ≤ counter_of (table_after procs front start) a.key) x.access }
     ensures exact { (procs : List ProcTree) (precedes : TxnId → TxnId → Bool) (start : Table) (history front : List Txn) (x : Txn) (rest : List Txn) →
-        IsPart procs (ByTest precedes) start history (front ++ x ∷ rest) → ¬ (IsStale (one procs x (table_after procs front start)).0) →
+        IsPart procs (ByTest precedes) start history (front ++ x ∷ rest) → ¬ (IsStaleOutcome (one procs x (table_after procs front start)).0) →
         AllIn (λ a. counter_of (table_after procs front start) a.key ≡ a.counter) x.access }
 {}
 
@@ -76,10 +77,10 @@ pub fn reached_counters()
 pub fn across_moves()
     ensures ordered { (procs : List ProcTree) (precedes : TxnId → TxnId → Bool) (start : Table) (history : List Txn) → IsHistory procs (ByTest precedes) start history →
         (x y : Txn) (o p : Outcome) → Has history x → Has history y → x.id ≢ y.id →
-        Has (outcomes procs history start) (x.id, o) → Has (outcomes procs history start) (y.id, p) → ¬ (IsStale o) → ¬ (IsStale p) →
+        Has (outcomes procs history start) (x.id, o) → Has (outcomes procs history start) (y.id, p) → ¬ (IsStaleOutcome o) → ¬ (IsStaleOutcome p) →
         clash (uses_in x) (uses_in y) ≡ true → Ordered (ByTest precedes) x.id y.id }
     ensures before_next { (procs : List ProcTree) (precedes : TxnId → TxnId → Bool) (start : Table) (history : List Txn) → IsHistory procs (ByTest precedes) start history →
-        (x : Txn) (o : Outcome) → Has history x → Has (outcomes procs history start) (x.id, o) → ¬ (IsStale o) →
+        (x : Txn) (o : Outcome) → Has history x → Has (outcomes procs history start) (x.id, o) → ¬ (IsStaleOutcome o) →
         AllIn (λ a. (by : TxnId) → next_mover (table_after procs history start) a.key a.counter ≡ Some by →
         (x.id ≡ by) ⊎ ByTest precedes x.id by) x.access }
 {}

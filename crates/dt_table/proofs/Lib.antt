@@ -1,8 +1,9 @@
+pub mod Callers
 pub mod Entries
-pub mod Histories
-pub mod Rows
-pub mod Written
-pub mod Opened
-pub mod Sorted
-pub mod Reported
+pub mod MoveHistories
+pub mod StoredRows
+pub mod ChangedInPlace
+pub mod OpeningTable
+pub mod SortedEntries
+pub mod ShownRows
 pub mod TableLaws

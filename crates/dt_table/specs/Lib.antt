@@ -1,4 +1,4 @@
 pub mod Table
-pub mod Codes
-pub mod Stored
-pub mod History
+pub mod CodesInner
+pub mod StoredRowInner
+pub mod StoredMovesInner

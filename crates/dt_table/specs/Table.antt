@@ -1,3 +1,7 @@
+-- The table of a region: for each key a value or none, and the list of its moves, each with its target and its mover.
+-- One learns here what a transaction reads of a row (`value_of`, `home_of`, `counter_of`, `next_mover`), what an effect
+-- changes (`apply`), and what a report shows (`shown`). A key that was cleared keeps its moves, since the moves say where
+-- the key is mastered. Read next `Execution` of dt_txn, which runs a transaction on a table.
 use Rattle.std.specs.Prelude.{◌+◌, ◌%◌, ◌==◌, ℕ, List, [], ◌∷◌, ◌++◌, length, map, flat_map, slice_index, slice_get, Option, Some, None, unwrap_or, option_map, option_to_list, if◌then◌else◌, is_none, ◌&&◌}
 use Rattle.std.specs.Ordering.{nat_cmp}
 use Rattle.std.specs.Cmp.Lexicographic.{slice_cmp}
@@ -26,8 +30,8 @@ pub record Table : Type 0 where
   pub homes : List (Bytes × ℕ)
   pub rows : FinMap (slice_cmp nat_cmp) Row
 
--- a table, and how many writes and moves it has room for
-pub record Kept : Type 0 where
+-- what contracts see of a `Table`: the table, and how many writes and moves it has room for
+pub record TableView : Type 0 where
   pub state : Table
   pub spare : ℕ
 

@@ -1,6 +1,6 @@
 ghost use Rattle.std.specs.Prelude.{◌≡◌, IfOk, map, flat_map};
 ghost use Rattle.std.specs.Map.Iter.{deref_pair};
-ghost use Rattle.dt_table.specs.Stored.{in_key_order, is_shown, shown_as, shown_stored};
+ghost use Rattle.dt_table.specs.StoredRowInner.{in_key_order, is_shown, shown_as, shown_stored};
 
 use crate::stored::StoredRow;
 use dt_text::{Key, Listed, NoMemory, Value};

@@ -3,8 +3,8 @@ ghost use Rattle.indexmap.specs.IndexMap.{insert_entry, spare};
 ghost use Rattle.dt_access.specs.Clash.{same_key};
 ghost use Rattle.dt_access.specs.Orders.{HasDistinctKeys};
 ghost use Rattle.dt_table.specs.Table.{opening_home as opening_home_of};
-ghost use Rattle.dt_table.specs.Stored.{opening_row, stored_of};
-ghost use Rattle.dt_table.specs.History.{history, mover_in, IsBelow, AreLinked};
+ghost use Rattle.dt_table.specs.StoredRowInner.{opening_row, stored_of};
+ghost use Rattle.dt_table.specs.StoredMovesInner.{history, mover_in, IsBelow, AreLinked};
 
 use dt_access::TxnId;
 use dt_text::{Key, NoMemory, Value};

@@ -35,18 +35,18 @@ pub struct Table {
 }
 
 impl Model for Table {
-    ghost use Rattle.dt_table.specs.Table.{Kept};
-    ghost use Rattle.dt_table.specs.Codes.{kept_code};
+    ghost use Rattle.dt_table.specs.Table.{TableView};
+    ghost use Rattle.dt_table.specs.CodesInner.{table_view_code};
 
-    ghost Value = { Kept };
+    ghost Value = { TableView };
 
-    ghost coded = { kept_code };
+    ghost coded = { table_view_code };
 
-    ghost use Rattle.dt_table.specs.History.{kept_of, IsSound};
+    ghost use Rattle.dt_table.specs.StoredMovesInner.{table_view, IsSoundTable};
 
-    ghost view = { kept_of };
+    ghost view = { table_view };
 
-    ghost invariant = { IsSound };
+    ghost invariant = { IsSoundTable };
 }
 
 impl Table {

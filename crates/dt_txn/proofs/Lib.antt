@@ -1,4 +1,6 @@
+pub mod Callers
 pub mod Formed
 pub mod HomeSets
 pub mod PartKeys
 pub mod Sight
+pub mod Stale

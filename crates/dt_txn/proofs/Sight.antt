@@ -1,6 +1,7 @@
 -- What a transaction sees.
-use Rattle.std.proofs.Common.{◌≡◌, ℕ, zero, suc, ◌≤◌, List, [], ◌∷◌, length, map, None, refl, ap, ◌∙◌, arith}
-use Rattle.std.specs.Prelude.{slice_get, option_map, Option}
+use Rattle.std.proofs.Common.{◌≡◌, ℕ, ◌≤◌, List, [], ◌∷◌, length, map, None, refl, ap, ◌∙◌, arith}
+use Rattle.std.specs.Prelude.{option_map, Option}
+use Rattle.std.proofs.lemmas.Option.{slice_get_past}
 use Rattle.dt_access.specs.declared.Access.{Access}
 use Rattle.dt_access.specs.declared.Mode.{Mode}
 use Rattle.dt_text.specs.declared.Value.{Value}
@@ -12,14 +13,9 @@ use Rattle.dt_txn.specs.Execution.{reads_of}
 use Rattle.dt_access.specs.Clash.{Bytes}
 use Rattle.dt_table.specs.Table.{Table, Moved, next_mover, counter_of, moves_of}
 
-past : {A : Type 0} (xs : List A) (i : ℕ) → length xs ≤ i → slice_get xs i ≡ None
-past [] i h = refl
-past (x ∷ xs) zero h = absurd (omega arith)
-past (x ∷ xs) (suc i) h = past xs i (omega arith)
-
 -- where a key has no more moves than these, no one made the next
 pub next_mover_none : (t : Table) (key : Bytes) (had : ℕ) → counter_of t key ≤ had → next_mover t key had ≡ None
-next_mover_none t key had h = ap (option_map (λ (m : Moved). m.by)) (past (moves_of t key) had h)
+next_mover_none t key had h = ap (option_map (λ (m : Moved). m.by)) (slice_get_past (moves_of t key) had h)
 
 reads_keys : (access : List Access) (seen : List Seen) → length seen ≡ length access → map (λ r. r.0) (reads_of access seen) ≡ map (λ u. u.0) (map used_of access)
 reads_keys [] seen e = refl
@@ -27,6 +23,7 @@ reads_keys (a ∷ access) [] e = absurd (omega arith)
 reads_keys (a ∷ access) (s ∷ seen) e = ap (λ (keys : List Bytes). a.key ∷ keys) (reads_keys access seen (omega arith))
 
 -- what a transaction reads are the rows that its body uses
-pub reads_are_uses : (procs : List ProcTree) (body : Body) (access entries : List Access) (seen items : List Seen) (reads : List (Bytes × Option Value)) → reads ≡ reads_of entries items → entries ≡ access → items ≡ seen → length seen ≡ length access → map used_of access ≡ uses_of procs body → map (λ r. r.0) reads ≡ map (λ u. u.0) (uses_of procs body)
+pub reads_are_uses : (procs : List ProcTree) (body : Body) (access entries : List Access) (seen items : List Seen) (reads : List (Bytes × Option Value)) → reads ≡ reads_of entries items
+    → entries ≡ access → items ≡ seen → length seen ≡ length access → map used_of access ≡ uses_of procs body → map (λ r. r.0) reads ≡ map (λ u. u.0) (uses_of procs body)
 reads_are_uses procs body access entries seen items reads r e s long uses =
     rw (r, e, s) (reads_keys access seen long ∙ ap (λ (us : List (Bytes × Mode)). map (λ u. u.0) us) uses)

@@ -1,3 +1,8 @@
+-- What one transaction comes to on a table: its outcome and its effect. It is defined through what the transaction sees of
+-- the rows that it uses (`see`), so that two tables that look alike there give alike results; on this stands everything
+-- that says that regions agree. A transaction is stale, and changes nothing, where a row that it uses was moved since it
+-- was annotated (Staleness.antt says exactly when); a call has the result of its procedure, and a move gives its key a new
+-- home. Read next Serial.antt, which runs one transaction after another.
 use Rattle.std.specs.Prelude.{List, [], ◌∷◌, map, Option, Some, None}
 use Rattle.dt_access.specs.Clash.{Bytes}
 use Rattle.dt_access.specs.declared.TxnId.{TxnId}

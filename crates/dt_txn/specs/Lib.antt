@@ -1,6 +1,8 @@
+pub mod Accesses
 pub mod Transaction
 pub mod Asking
 pub mod Execution
+pub mod Staleness
 pub mod Serial
 pub mod Replica
 pub use Rattle.dt_table.specs.Table

@@ -1,3 +1,6 @@
+-- Transactions that run one after another: the outcomes that they have and the table that they leave. This is the meaning
+-- of the whole store, as the clients see it: whatever the regions did, there is one list of transactions whose serial run
+-- gives every outcome. Read next the specifications of dt_serial, on runs in different orders.
 use Rattle.std.specs.Prelude.{List, [], ◌∷◌}
 use Rattle.dt_access.specs.declared.TxnId.{TxnId}
 use Rattle.dt_proc.specs.Tree.{ProcTree}

@@ -1,3 +1,7 @@
+-- A transaction: what is to be done, and what the submitting region knew of each row that it uses. One learns here how a
+-- body is annotated by a table (`annotate`), which regions are its homes, and which part each home orders in its log.
+-- A transaction can be executed anywhere, since all that its meaning needs is the body, the procedures and a table. Read
+-- next Execution.antt, which runs it, and Replica.antt, which places it.
 use Rattle.std.specs.Prelude.{◌≡◌, ◌<◌, ◌==◌, nat_lt, ℕ, List, [], ◌∷◌, ◌++◌, map, filter, if◌then◌else◌}
 use Rattle.dt_lists.specs.Lists.{AllIn}
 use Rattle.dt_access.specs.Clash.{Bytes}

@@ -2,9 +2,10 @@ ghost use Rattle.std.specs.Prelude.{◌≡◌, IfOk, map};
 ghost use Rattle.dt_eval.specs.Calls.{CallFits, call_keys};
 ghost use Rattle.dt_txn.specs.Transaction.{CanRun, annotate, annotated, used_of, uses_of};
 
+use crate::accesses::Accesses;
 use crate::called::called;
 use crate::txn::{Body, Txn};
-use dt_access::{Access, Accesses, Keys, Mode, TxnId};
+use dt_access::{Access, Keys, Mode, TxnId};
 use dt_eval::{KeysError, keys_of};
 use dt_proc::Procs;
 use dt_table::Table;

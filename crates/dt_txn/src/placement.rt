@@ -1,6 +1,7 @@
 ghost use Rattle.std.specs.Prelude.{◌≡◌, ◌↔◌, ◌==◌, ◌++◌, ◌≤◌, insert, IfSome, IfNone, nat_lt, ℕ, IsTrue, IfOk, OnOk, OnErr, map, List, length};
 ghost use Rattle.std.specs.List.{prefix_len};
 ghost use Rattle.dt_access.specs.Orders.{AreAscendingHomes, HasAscendingKeys};
+ghost use Rattle.dt_txn.specs.Accesses.{AreAscendingAccesses};
 ghost use Rattle.dt_txn.specs.Transaction.{homes_of, part_of, parts_of, set_of, with_number, targets_of, entries_at, used_of};
 
 use crate::txn::{Body, Txn};
@@ -66,7 +67,7 @@ fn place_of(homes: &[u8], home: u8) -> usize
 
 /// The keys with their modes of the part that a transaction with this body and access list has at a home.
 fn keys_at(alloc: Global, body: &Body, home: u8, access: &[Access]) -> Result<Keys, NoMemory>
-    requires { HasAscendingKeys (map used_of access.now) }
+    requires { AreAscendingAccesses access.now }
     ensures { IfOk result (λ keys. keys ≡ map used_of (entries_at body.now home access.now)) }
 {
     let is_move = matches!(body, Body::Move(_, _));
@@ -81,7 +82,6 @@ fn keys_at(alloc: Global, body: &Body, home: u8, access: &[Access]) -> Result<Ke
 
 /// The part of a transaction at a home.
 pub fn part_at(alloc: Global, txn: &Txn, home: u8) -> Result<Part, NoMemory>
-    requires { HasAscendingKeys (map used_of txn.now.access) }
     ensures { IfOk result (λ part. part ≡ part_of txn.now home) }
 {
     Ok(Part {
@@ -94,7 +94,6 @@ pub fn part_at(alloc: Global, txn: &Txn, home: u8) -> Result<Part, NoMemory>
 
 /// The parts of a transaction, one for each home, in ascending order of homes.
 pub fn parts(alloc: Global, txn: &Txn) -> Result<Vec<Part>, NoMemory>
-    requires { HasAscendingKeys (map used_of txn.now.access) }
     ensures { IfOk result (λ parts. parts.items ≡ parts_of txn.now) }
 {
     let homes = homes(alloc, txn)?;

@@ -1,5 +1,4 @@
 ghost use Rattle.std.specs.Prelude.{◌≡◌, IfOk, map};
-ghost use Rattle.dt_access.specs.Orders.{HasAscendingKeys};
 ghost use Rattle.dt_txn.specs.Transaction.{CanRun, used_of, uses_of};
 
 use crate::annotation::annotate;
@@ -80,7 +79,6 @@ fn a_put(alloc: Global, procs: &Procs, table: &Table) -> Result<Txn, Fail>
 fn a_move(alloc: Global, procs: &Procs) -> Result<Txn, Fail>
     ensures body { IfOk result (λ txn. CanRun procs.now txn.body) }
     ensures uses { IfOk result (λ txn. map used_of txn.access ≡ uses_of procs.now txn.body) }
-    ensures ascending { IfOk result (λ txn. HasAscendingKeys (map used_of txn.access)) }
 {
     let body = Body::Move(Key::read(alloc, b"b")?, 1);
     let table = opened(alloc)?;
@@ -166,7 +164,7 @@ fn a_put_on_an_unmoved_row_writes_it(rt: HostRuntime) -> Result<(), Fail> {
     let procs = some_procs(rt.alloc())?;
     let txn = a_put(rt.alloc(), &procs, &opened(rt.alloc())?)?;
     let seen = unmoved(rt.alloc())?;
-    assert!(rt; seen.len() == txn.access.len());
+    assert!(rt; seen.len() == txn.access.as_slice().len());
     let (outcome, effect) = execute_seen(rt.alloc(), &txn, &procs, &seen)?;
     let Outcome::Gave(values) = outcome else {
         panic!(rt; "a put gives");
@@ -209,7 +207,7 @@ fn a_transaction_is_copied(rt: HostRuntime) -> Result<(), Fail> {
     let txn = a_move(rt.alloc(), &procs)?;
     let copied = txn.copy(rt.alloc())?;
     assert_eq!(rt; copied.id, txn.id);
-    assert!(rt; copied.access == txn.access);
+    assert!(rt; copied.access.as_slice() == txn.access.as_slice());
     let Body::Move(key, target) = &copied.body else {
         panic!(rt; "the copy of a move is a move");
     };

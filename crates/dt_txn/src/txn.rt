@@ -1,6 +1,7 @@
 ghost use Rattle.std.specs.Prelude.{◌≡◌, IfOk};
 
-use dt_access::{Accesses, Part, TryCopy, TxnId};
+use crate::accesses::Accesses;
+use dt_access::{Part, TryCopy, TxnId};
 use dt_eval::Args;
 use dt_text::{Key, Listed, NoMemory};
 use std::alloc::Global;

@@ -1,6 +1,6 @@
 use Rattle.std.proofs.Common.{◌≡◌, map, flat_map, take}
 use Rattle.std.specs.Map.Iter.{deref_pair}
-use Rattle.dt_table.specs.Stored.{shown_stored}
+use Rattle.dt_table.specs.StoredRowInner.{shown_stored}
 use Rattle.dt_table.proofs.shown.shown_rows.Given as goal
 
 abbrev pub invariant-loop-key : goal.invariant-loop-key

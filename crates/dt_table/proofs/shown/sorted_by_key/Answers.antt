@@ -5,7 +5,7 @@ use Rattle.std.proofs.lemmas.List.Sorted.{IsPermutation-map, ranks_by, answers_a
 use Rattle.std.specs.Cmp.Lexicographic.{nat_list_cmp_total}
 use Rattle.dt_access.specs.Clash.{Bytes}
 use Rattle.dt_table.specs.declared.stored.StoredRow.{StoredRow}
-use Rattle.dt_table.proofs.Sorted.{in_order-sorted, IsSortedBy-map, order}
+use Rattle.dt_table.proofs.SortedEntries.{in_order-sorted, IsSortedBy-map, order}
 use Rattle.dt_table.proofs.shown.sorted_by_key.Goals as goal
 
 pub returns : goal.returns

@@ -1,7 +1,7 @@
 use Rattle.std.proofs.Common.{ℕ, ◌∙◌, ap, take}
 use Rattle.indexmap.specs.IndexMap.{insert_entry}
 use Rattle.dt_access.specs.Clash.{Bytes, same_key}
-use Rattle.dt_table.proofs.Opened.{next-entry}
+use Rattle.dt_table.proofs.OpeningTable.{next-entry}
 use Rattle.dt_table.proofs.stored.index_homes.Goals as goal
 
 pub loop-key-preserved : goal.loop-key-preserved

@@ -1,9 +1,9 @@
 use Rattle.std.proofs.Common.{◌≡◌, ℕ, ◌+◌, ◌-◌, ◌<◌, ap, sym, ◌∙◌, arith, length, get_or, slice_get, Some, None, Option}
 use Rattle.std.specs.Option.{option_map}
 use Rattle.dt_table.specs.Table.{Moved}
-use Rattle.dt_table.specs.History.{history}
+use Rattle.dt_table.specs.StoredMovesInner.{history}
 use Rattle.dt_table.specs.declared.stored.StoredMove.{StoredMove}
-use Rattle.dt_table.proofs.Histories.{length-walked, earlier-walked, last-walked, before-walked, mover_in-next}
+use Rattle.dt_table.proofs.MoveHistories.{length-walked, earlier-walked, last-walked, before-walked, mover_in-next}
 use Rattle.dt_table.proofs.stored.mover_of.Goals as goal
 
 abbrev no_move : StoredMove

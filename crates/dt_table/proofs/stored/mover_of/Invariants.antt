@@ -1,5 +1,5 @@
 use Rattle.std.proofs.Common.{◌≡◌, ◌+◌, ◌-◌, ◌<◌, length, slice_get, Some}
-use Rattle.dt_table.specs.History.{history}
+use Rattle.dt_table.specs.StoredMovesInner.{history}
 use Rattle.dt_table.proofs.stored.mover_of.Given as goal
 
 abbrev pub invariant-loop-later : goal.invariant-loop-later

@@ -2,8 +2,8 @@ use Rattle.std.proofs.Common.{◌∙◌, ap, map, take, Some, None}
 use Rattle.indexmap.specs.IndexMap.{insert_entry}
 use Rattle.dt_text.specs.declared.Value.{Value}
 use Rattle.dt_access.specs.Clash.{Bytes, same_key}
-use Rattle.dt_table.specs.Stored.{opening_row}
-use Rattle.dt_table.proofs.Opened.{next-opening_row}
+use Rattle.dt_table.specs.StoredRowInner.{opening_row}
+use Rattle.dt_table.proofs.OpeningTable.{next-opening_row}
 use Rattle.dt_table.proofs.stored.opening_rows.Goals as goal
 
 pub loop-key-preserved : goal.loop-key-preserved

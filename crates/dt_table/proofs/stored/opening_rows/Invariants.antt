@@ -1,5 +1,5 @@
 use Rattle.std.proofs.Common.{◌≡◌, take, map}
-use Rattle.dt_table.specs.Stored.{opening_row}
+use Rattle.dt_table.specs.StoredRowInner.{opening_row}
 use Rattle.dt_table.proofs.stored.opening_rows.Given as goal
 
 abbrev pub invariant-loop-key : goal.invariant-loop-key

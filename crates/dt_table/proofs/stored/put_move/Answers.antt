@@ -1,6 +1,6 @@
 use Rattle.std.proofs.Common.{sym, ◌+◌, ◌∙◌, Some}
 use Rattle.dt_table.specs.declared.stored.StoredRow.{StoredRow}
-use Rattle.dt_table.proofs.Written.{set_value-stored}
+use Rattle.dt_table.proofs.ChangedInPlace.{set_value-stored}
 use Rattle.dt_table.proofs.stored.put_move.Goals as goal
 
 pub returns-in-Some-clause-rows : goal.returns-in-Some-clause-rows

@@ -1,7 +1,7 @@
 use Rattle.std.proofs.Common.{sym, ◌∙◌}
 use Rattle.dt_table.specs.declared.stored.StoredRow.{StoredRow}
 use Rattle.dt_table.specs.Table.{opening_home}
-use Rattle.dt_table.proofs.Written.{set_value-stored}
+use Rattle.dt_table.proofs.ChangedInPlace.{set_value-stored}
 use Rattle.dt_table.proofs.stored.put_value.Goals as goal
 
 pub returns-in-Some-clause-rows : goal.returns-in-Some-clause-rows

@@ -1,6 +1,6 @@
 use Rattle.std.proofs.Common.{ap, sym, ◌∙◌, length}
 use Rattle.dt_table.specs.Table.{opening_home, home_after}
-use Rattle.dt_table.proofs.Rows.{home_of-found, counter_of-found, moves_of-absent}
+use Rattle.dt_table.proofs.StoredRows.{home_of-found, counter_of-found, moves_of-absent}
 use Rattle.dt_table.proofs.table.Table.mastership.Goals as goal
 
 pub returns-in-Some-clause-home : goal.returns-in-Some-clause-home

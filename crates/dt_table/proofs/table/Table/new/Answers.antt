@@ -1,6 +1,6 @@
 use Rattle.std.proofs.Common.{arith, subst, sym}
-use Rattle.dt_table.specs.History.{AreLinked}
-use Rattle.dt_table.proofs.Opened.{state-opened, stored-opened}
+use Rattle.dt_table.specs.StoredMovesInner.{AreLinked}
+use Rattle.dt_table.proofs.OpeningTable.{state-opened, stored-opened}
 use Rattle.dt_table.proofs.table.Table.new.Goals as goal
 
 pub invariant_of-result : goal.invariant_of-result

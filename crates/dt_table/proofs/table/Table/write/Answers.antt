@@ -1,6 +1,6 @@
 use Rattle.std.proofs.Common.{refl}
 use Rattle.dt_table.specs.Table.{opening_home}
-use Rattle.dt_table.proofs.Rows.{state-written, stored-written}
+use Rattle.dt_table.proofs.StoredRows.{state-written, stored-written}
 use Rattle.dt_table.proofs.table.Table.write.Goals as goal
 
 pub invariant_of-self : goal.invariant_of-self

@@ -3,7 +3,7 @@ use Rattle.std.proofs.Common.{◌≡◌, ℕ, List, ap, sym, ◌∙◌, Some, un
 use Rattle.std.specs.Map.{lookup, set_value}
 use Rattle.indexmap.specs.IndexMap.{insert_entry}
 use Rattle.dt_access.specs.Clash.{Bytes, same_key}
-use Rattle.dt_table.specs.Stored.{fresh_row, stored_of}
+use Rattle.dt_table.specs.StoredRowInner.{fresh_row, stored_of}
 use Rattle.dt_table.specs.declared.stored.StoredRow.{StoredRow}
 use Rattle.dt_table.proofs.Entries.{insert_entry-present}
 

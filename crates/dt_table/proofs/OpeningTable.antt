@@ -8,8 +8,8 @@ use Rattle.dt_access.specs.Clash.{Bytes, same_key}
 use Rattle.dt_access.specs.Orders.{HasDistinctKeys}
 use Rattle.dt_text.specs.declared.Value.{Value}
 use Rattle.dt_table.specs.Table.{Table, Row, opening}
-use Rattle.dt_table.specs.Stored.{opening_row}
-use Rattle.dt_table.specs.History.{row_in, IsStored}
+use Rattle.dt_table.specs.StoredRowInner.{opening_row}
+use Rattle.dt_table.specs.StoredMovesInner.{row_in, FitsMoves}
 use Rattle.dt_table.proofs.TableLaws.{same_key-other}
 use Rattle.dt_table.specs.declared.stored.StoredMove.{StoredMove}
 use Rattle.dt_table.specs.declared.stored.StoredRow.{StoredRow}
@@ -66,10 +66,10 @@ state-opened regions homes rows index stored moves same is none =
     ∙ ap (λ es. record { regions = regions; homes = homes; rows = from_entries es }) (shown-opened regions index rows)
 
 -- and each row fits its moves
-stored-opening : (regions : ℕ) (homes : List (Bytes × ℕ)) (rows : List (Bytes × Value)) → AllIn (IsStored regions homes []) (map (opening_row regions homes) rows)
+stored-opening : (regions : ℕ) (homes : List (Bytes × ℕ)) (rows : List (Bytes × Value)) → AllIn (FitsMoves regions homes []) (map (opening_row regions homes) rows)
 stored-opening regions homes [] = tt
 stored-opening regions homes (r ∷ rows) = (record { last = tt; counter = refl; home = refl }, stored-opening regions homes rows)
 
 pub stored-opened : (regions : ℕ) (homes : List (Bytes × ℕ)) (rows : List (Bytes × Value)) (stored : List (Bytes × StoredRow)) (moves : List StoredMove)
-    → stored ≡ map (opening_row regions homes) rows → moves ≡ [] → AllIn (IsStored regions homes moves) stored
+    → stored ≡ map (opening_row regions homes) rows → moves ≡ [] → AllIn (FitsMoves regions homes moves) stored
 stored-opened regions homes rows stored moves is none = rw (is, none) (stored-opening regions homes rows)

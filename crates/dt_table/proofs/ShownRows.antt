@@ -11,12 +11,12 @@ use Rattle.std.specs.FinMap.Entries.{find, below_all, by_order}
 use Rattle.dt_lists.specs.Lists.{AllIn}
 use Rattle.dt_access.specs.Clash.{Bytes, same_key}
 use Rattle.dt_table.specs.Table.{shown, shown_row}
-use Rattle.dt_table.specs.Stored.{in_key_order, shown_as, shown_stored}
-use Rattle.dt_table.specs.History.{row_in, kept_of, IsSound}
+use Rattle.dt_table.specs.StoredRowInner.{in_key_order, shown_as, shown_stored}
+use Rattle.dt_table.specs.StoredMovesInner.{row_in, table_view, IsSoundTable}
 use Rattle.dt_table.specs.declared.stored.StoredRow.{StoredRow}
 use Rattle.dt_table.specs.declared.table.Table.TheInside.{Inside}
-use Rattle.dt_table.proofs.Sorted.{order, find-lookup}
-use Rattle.dt_table.proofs.Rows.{home_of-found, IsStored-found}
+use Rattle.dt_table.proofs.SortedEntries.{order, find-lookup}
+use Rattle.dt_table.proofs.StoredRows.{home_of-found, FitsMoves-found}
 
 module _ {X : Type 0} where
   entries-empty : entries (empty {X = X} {R = order}) ≡ []
@@ -86,10 +86,10 @@ found-in_key_order rows = by (in_key_order rows) (found_in_order (in_key_order r
       by es found.1,
     )
 
-module _ (a : Inside) (sound : IsSound a) where
-  shown_row-stored : (key : Bytes) (row : StoredRow) → lookup (same_key key) a.rows.entries ≡ Some row → shown_row (kept_of a).state (key, row_in a.moves.items row) ≡ shown_stored (key, row)
+module _ (a : Inside) (sound : IsSoundTable a) where
+  shown_row-stored : (key : Bytes) (row : StoredRow) → lookup (same_key key) a.rows.entries ≡ Some row → shown_row (table_view a).state (key, row_in a.moves.items row) ≡ shown_stored (key, row)
   shown_row-stored key row found =
-      let stored = IsStored-found a.regions a.homes.entries a.moves.items a.rows.entries key row sound.rows found in
+      let stored = FitsMoves-found a.regions a.homes.entries a.moves.items a.rows.entries key row sound.rows found in
       let home = home_of-found a key row sound found in
       (λ i. if is_none row.value && (sym stored.counter i == 0) then [] else record { key = key; value = row.value; home = sym home i; moves = sym stored.counter i } ∷ [])
       ∙ by (is_none row.value && (row.counter == 0))
@@ -99,12 +99,12 @@ module _ (a : Inside) (sound : IsSound a) where
       by false = refl
 
   flat_map-stored : (es : List (Bytes × StoredRow)) → AllIn (λ e. lookup (same_key e.0) a.rows.entries ≡ Some e.1) es
-      → flat_map (shown_row (kept_of a).state) (map (λ e. (e.0, row_in a.moves.items e.1)) es) ≡ flat_map shown_stored es
+      → flat_map (shown_row (table_view a).state) (map (λ e. (e.0, row_in a.moves.items e.1)) es) ≡ flat_map shown_stored es
   flat_map-stored [] found = refl
   flat_map-stored (e ∷ es) found = λ i. shown_row-stored e.0 e.1 found.0 i ++ flat_map-stored es found.1 i
 
   -- what a report shows of the stored rows is what it shows of the table
-  pub shown-stored : flat_map shown_stored (in_key_order a.rows.entries) ≡ shown (kept_of a).state
+  pub shown-stored : flat_map shown_stored (in_key_order a.rows.entries) ≡ shown (table_view a).state
   shown-stored =
       sym (flat_map-stored (in_key_order a.rows.entries) (found-in_key_order a.rows.entries))
-      ∙ ap (flat_map (shown_row (kept_of a).state)) (sym (entries-from_map (row_in a.moves.items) a.rows.entries))
+      ∙ ap (flat_map (shown_row (table_view a).state)) (sym (entries-from_map (row_in a.moves.items) a.rows.entries))

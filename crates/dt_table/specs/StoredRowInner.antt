@@ -1,4 +1,6 @@
--- How the row of a key is stored.
+-- Scaffolding: how the code keeps one row. A stored row has its home and its number of moves beside its value, so that
+-- both are read without a walk along its moves. No contract of a public call speaks of these words; what they come to is
+-- in Table.antt.
 use Rattle.std.specs.Prelude.{◌==◌, ℕ, Bool, not, ◌&&◌, List, [], ◌∷◌, None, Some, unwrap_or, is_none, if◌then◌else◌}
 use Rattle.std.specs.Ordering.{nat_cmp}
 use Rattle.std.specs.Cmp.Lexicographic.{slice_cmp}

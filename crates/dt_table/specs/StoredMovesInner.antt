@@ -1,11 +1,13 @@
--- How a table keeps its moves: those of all rows in one list, each with the place of the move that it follows.
+-- Scaffolding: how the code keeps moves. Those of all rows stand in one list, each with the place of the move of the same
+-- row that it follows; so a row's moves are read backwards from its last one. `table_view` is the table that is kept so,
+-- and `IsSoundTable` what every table keeps.
 use Rattle.std.specs.Prelude.{◌≡◌, ◌+◌, ◌-◌, ◌<◌, ◌^◌, ℕ, zero, suc, slice_get, option_map, List, [], ◌∷◌, ◌++◌, map, length, get_or, min, Option, Some, None, vec_len, vec_capacity}
 use Rattle.std.specs.FinMap.{from_entries}
 use Rattle.indexmap.specs.IndexMap.{spare}
 use Rattle.dt_lists.specs.Lists.{AllIn}
 use Rattle.dt_access.specs.Clash.{Bytes}
 use Rattle.dt_access.specs.declared.TxnId.{TxnId}
-use Rattle.dt_table.specs.Table.{Moved, Row, Kept, opening_home, home_after}
+use Rattle.dt_table.specs.Table.{Moved, Row, TableView, opening_home, home_after}
 use Rattle.dt_table.specs.declared.stored.StoredMove.{StoredMove}
 use Rattle.dt_table.specs.declared.stored.StoredRow.{StoredRow}
 use Rattle.dt_table.specs.declared.table.Table.TheInside.{Inside}
@@ -48,14 +50,14 @@ AreLinked place [] = Unit {0}
 AreLinked place (m ∷ moves) = IsBelow place m.before × AreLinked (place + 1) moves
 
 -- a stored row has the home and the counter that its moves give it
-pub record IsStored (regions : ℕ) (homes : List (Bytes × ℕ)) (moves : List StoredMove) (e : Bytes × StoredRow) : Type 0 where
+pub record FitsMoves (regions : ℕ) (homes : List (Bytes × ℕ)) (moves : List StoredMove) (e : Bytes × StoredRow) : Type 0 where
   pub last : IsBelow (length moves) e.1.last
   pub counter : e.1.counter ≡ length (history moves e.1.last)
   pub home : e.1.home ≡ home_after (opening_home regions homes e.0) (history moves e.1.last)
 
 -- the table that is kept so, and how many writes and moves fit before memory is needed
-abbrev pub kept_of : Inside → Kept
-kept_of a = record {
+abbrev pub table_view : Inside → TableView
+table_view a = record {
   state = record {
     regions = a.regions;
     homes = a.homes.entries;
@@ -65,8 +67,8 @@ kept_of a = record {
 }
 
 -- what every table keeps: there is a region, the moves are fewer than 4,294,967,296 and linked, and each row fits them
-pub record IsSound (a : Inside) : Type 0 where
+pub record IsSoundTable (a : Inside) : Type 0 where
   pub regions : 0 < a.regions
   pub few : vec_len a.moves < 2 ^ 32
   pub linked : AreLinked 0 a.moves.items
-  pub rows : AllIn (IsStored a.regions a.homes.entries a.moves.items) a.rows.entries
+  pub rows : AllIn (FitsMoves a.regions a.homes.entries a.moves.items) a.rows.entries

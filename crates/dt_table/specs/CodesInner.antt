@@ -1,4 +1,4 @@
--- The codes by which proofs tell tables apart.
+-- Scaffolding: the toolchain asks for these codes, by which proofs tell tables apart; skip them.
 use Rattle.std.specs.Prelude.{ℕ, List, Option, refl}
 use Rattle.std.specs.Coded.{Coded, code_by, coded×, coded_ℕ, coded_list, coded_option}
 use Rattle.std.specs.FinMap as map
@@ -9,7 +9,7 @@ use Rattle.dt_access.specs.contracts.id.TxnId as id
 use Rattle.dt_access.specs.declared.TxnId.{TxnId}
 use Rattle.dt_text.specs.contracts.value.Value as value
 use Rattle.dt_text.specs.declared.Value.{Value}
-use Rattle.dt_table.specs.Table.{Moved, Row, Table, Kept}
+use Rattle.dt_table.specs.Table.{Moved, Row, Table, TableView}
 
 abbrev moved_code : Coded Moved
 moved_code = code_by (ℕ × TxnId) (coded× coded_ℕ id.the_row.coded) (λ m. (m.target, m.by)) (λ p. record { target = p.0; by = p.1 }) (λ _. refl)
@@ -17,11 +17,12 @@ moved_code = code_by (ℕ × TxnId) (coded× coded_ℕ id.the_row.coded) (λ m. 
 abbrev row_code : Coded Row
 row_code = code_by (Option Value × List Moved) (coded× (coded_option value.the_row.coded) (coded_list moved_code)) (λ r. (r.value, r.moves)) (λ p. record { value = p.0; moves = p.1 }) (λ _. refl)
 
-abbrev table_code : Coded Table
+-- a table is stored as its fields
+abbrev pub table_code : Coded Table
 table_code = code_by (ℕ × (List (Bytes × ℕ) × map.FinMap (slice_cmp nat_cmp) Row))
     (coded× coded_ℕ (coded× (coded_list (coded× (coded_list coded_ℕ) coded_ℕ)) (map.code (coded_list coded_ℕ) row_code)))
     (λ t. (t.regions, (t.homes, t.rows))) (λ p. record { regions = p.0; homes = p.1.0; rows = p.1.1 }) (λ _. refl)
 
--- a table with its room is stored as its fields
-abbrev pub kept_code : Coded Kept
-kept_code = code_by (Table × ℕ) (coded× table_code coded_ℕ) (λ k. (k.state, k.spare)) (λ p. record { state = p.0; spare = p.1 }) (λ _. refl)
+-- and with its room
+abbrev pub table_view_code : Coded TableView
+table_view_code = code_by (Table × ℕ) (coded× table_code coded_ℕ) (λ k. (k.state, k.spare)) (λ p. record { state = p.0; spare = p.1 }) (λ _. refl)

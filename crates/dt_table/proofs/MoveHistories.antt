@@ -5,7 +5,7 @@ use Rattle.std.proofs.Math.Seq.{get_or-append_seam}
 use Rattle.std.proofs.lemmas.Option.{slice_get-get_or}
 use Rattle.std.specs.Option.{option_map}
 use Rattle.dt_table.specs.Table.{Moved}
-use Rattle.dt_table.specs.History.{moved_of, history_at, histories_after, history, mover_in, IsBelow, AreLinked}
+use Rattle.dt_table.specs.StoredMovesInner.{moved_of, history_at, histories_after, history, mover_in, IsBelow, AreLinked}
 use Rattle.dt_table.specs.declared.stored.StoredMove.{StoredMove}
 
 -- a move that is pushed adds one history: that of the move which it follows, and then the move itself
