@@ -25,10 +25,7 @@ use Rattle.dt_txn.specs.Serial.{outcomes, table_after}
 use Rattle.dt_txn.specs.Replica.{IsDrained, fronts, done_ids}
 use Rattle.dt_serial.specs.Order.{IsHistory, txn_ids}
 use Rattle.dt_serial.specs.Evidence.{MadeMove, IsGrounded, HasReason}
-use Rattle.dt_serial.proofs.Runs.{outcomes_ids}
-use Rattle.dt_serial.proofs.Causes.{reasons}
-use Rattle.dt_serial.proofs.Outcome.{one_outcome, one_restricted, one_set}
-use Rattle.dt_serial.proofs.Lookups.{looked_from, looked_filter}
+use Rattle.dt_serial.proofs.Callers.{looked_filter, looked_from, one_outcome, one_restricted, one_set, outcomes_ids, reasons}
 use Rattle.dt_cluster.specs.declared.Cluster.{Cluster}
 use Rattle.dt_workload.specs.declared.Session.{Session}
 use Rattle.dt_workload.specs.declared.Workload.{Workload}

@@ -27,10 +27,7 @@ use Rattle.dt_txn.specs.Transaction.{uses_of, targets_of, homes_of, entries_at, 
 use Rattle.dt_txn.specs.Replica.{done_ids}
 use Rattle.dt_serial.specs.Order.{Ordered, IsDown, FollowsMove, IsShared, IsHistory, txn_ids, KeepsToKeys}
 use Rattle.dt_serial.specs.Evidence.{MadeMove}
-use Rattle.dt_serial.proofs.Causes.{move_made}
-use Rattle.dt_serial.proofs.Past.{down_of_order}
-use Rattle.dt_serial.proofs.Lookups.{looked_ids, looked_from, looked_members}
-use Rattle.dt_serial.proofs.Valid.{valid_keeps}
+use Rattle.dt_serial.proofs.Callers.{down_of_order, looked_from, looked_ids, looked_members, move_made, valid_keeps}
 use Rattle.dt_cluster.specs.declared.Cluster.{Cluster}
 use Rattle.dt_workload.specs.declared.Workload.{Workload}
 use Rattle.dt_session.specs.World.{World, Submission, node_at, opening_table, logs_of, log_of, view_at, submissions, txn_of}

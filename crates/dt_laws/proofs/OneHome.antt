@@ -21,7 +21,7 @@ use Rattle.dt_txn.specs.declared.Txn.{Txn}
 use Rattle.dt_txn.specs.Transaction.{set_of, targets_of, homes_of, used_of, annotated, uses_of, part_of, IsValid}
 use Rattle.dt_txn.specs.Replica.{done_ids}
 use Rattle.dt_serial.specs.Evidence.{MadeMove}
-use Rattle.dt_serial.proofs.Causes.{move_made}
+use Rattle.dt_serial.proofs.Callers.{move_made}
 use Rattle.dt_cluster.specs.declared.Cluster.{Cluster}
 use Rattle.dt_workload.specs.declared.Session.{Session}
 use Rattle.dt_workload.specs.declared.Wanted.{Wanted}

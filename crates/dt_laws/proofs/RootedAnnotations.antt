@@ -16,8 +16,7 @@ use Rattle.dt_txn.specs.declared.Txn.{Txn}
 use Rattle.dt_txn.specs.Transaction.{annotated}
 use Rattle.dt_txn.specs.Serial.{table_after}
 use Rattle.dt_txn.specs.Replica.{done_ids}
-use Rattle.dt_serial.proofs.Outcome.{moves_front}
-use Rattle.dt_serial.proofs.Runs.{movers_ran}
+use Rattle.dt_serial.proofs.Callers.{movers_ran, moves_front}
 use Rattle.dt_cluster.specs.declared.Cluster.{Cluster}
 use Rattle.dt_workload.specs.declared.Workload.{Workload}
 use Rattle.dt_session.specs.World.{World, Submission, node_at, opening_table, opening_world, logs_of, submissions}

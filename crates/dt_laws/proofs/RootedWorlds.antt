@@ -23,7 +23,7 @@ use Rattle.dt_txn.specs.declared.Txn.{Txn}
 use Rattle.dt_txn.specs.Transaction.{uses_of, annotated, part_of, IsValid}
 use Rattle.dt_txn.specs.Serial.{table_after}
 use Rattle.dt_txn.specs.Replica.{Replica, MayStep, stepped}
-use Rattle.dt_serial.proofs.Runs.{moves_grow, table_after_append}
+use Rattle.dt_serial.proofs.Callers.{moves_grow, table_after_append}
 use Rattle.dt_cluster.specs.declared.Cluster.{Cluster}
 use Rattle.dt_cluster.specs.Valid.{IsValidCluster}
 use Rattle.dt_workload.specs.declared.Workload.{Workload}

@@ -17,8 +17,7 @@ use Rattle.dt_txn.specs.Execution.{one}
 use Rattle.dt_txn.specs.Serial.{after}
 use Rattle.dt_txn.specs.Replica.{Replica, MayStep, executed, done_ids}
 use Rattle.dt_serial.specs.Order.{IsDown}
-use Rattle.dt_serial.proofs.Runs.{outcomes_append, table_after_append}
-use Rattle.dt_serial.proofs.Past.{down_push}
+use Rattle.dt_serial.proofs.Callers.{down_push, outcomes_append, table_after_append}
 use Rattle.dt_cluster.specs.declared.Cluster.{Cluster}
 use Rattle.dt_workload.specs.declared.Workload.{Workload}
 use Rattle.dt_session.specs.World.{World, Node, node_at, with_node, opening_table, logs_of, received_logs, view_at, txn_of}

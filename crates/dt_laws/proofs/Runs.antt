@@ -11,7 +11,7 @@ use Rattle.dt_lists.proofs.Fronts.{front_refl, front_append}
 use Rattle.dt_access.specs.Ids.{same_id, is_among}
 use Rattle.dt_access.specs.declared.TxnId.{TxnId}
 use Rattle.dt_events.specs.declared.Event.{Event}
-use Rattle.dt_serial.proofs.Past.{has_of_among, among_of_has, not_among}
+use Rattle.dt_serial.proofs.Callers.{among_of_has, has_of_among, not_among}
 use Rattle.dt_cluster.specs.declared.Cluster.{Cluster}
 use Rattle.dt_workload.specs.declared.Workload.{Workload}
 use Rattle.dt_session.specs.World.{World, opening_world}
