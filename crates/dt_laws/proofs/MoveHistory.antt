@@ -1,6 +1,7 @@
 -- The one history of a legal world: what roots every annotation in it gives what the theory of serial runs asks.
 use Rattle.std.proofs.Common.{◌≡◌, ◌≢◌, ◌<◌, ℕ, zero, suc, Bool, true, false, ◌&&◌, eqb, List, [], ◌∷◌, ◌++◌, map, take, slice_get, Some, refl, sym, ap, ap₂, subst, subst₂, ◌∙◌, inl, inr, arith}
 use Rattle.std.specs.Prelude.{filter}
+use Rattle.std.proofs.lemmas.Bool.{and_parts}
 use Rattle.std.proofs.lemmas.Option.{same_Some}
 use Rattle.dt_lists.specs.Lists.{AnyIn, AllIn, SomeThen, Has, Either}
 use Rattle.dt_lists.proofs.Decided.{either_le}
@@ -82,10 +83,6 @@ home_after_last home (x ∷ moves) (suc c) m e = home_after_last x.target moves 
 
 writes_clash : (k l : Bytes) (mode : Mode) → k ≡ l → uses_clash (k, Write) (l, mode) ≡ true
 writes_clash k l mode e = rw (test_of_key k l e) refl
-
-clash_key : (a b : Bool) → (a && b) ≡ true → a ≡ true
-clash_key true b e = refl
-clash_key false b e = cc
 
 module _ {cluster : Cluster} {workload : Workload} {w : World} {order : List TxnId} (i : Inv cluster workload w order) where
   -- the ids of the transactions of ids
@@ -187,7 +184,7 @@ module _ {cluster : Cluster} {workload : Workload} {w : World} {order : List Txn
     -- transactions with clashing entries of one number share a log
     shared : IsShared (Precedes (logs_of w)) (txns_of w order)
     shared x y hx hy ne a b ha hb e c =
-        let key : a.key ≡ b.key = key_of_test a.key b.key (clash_key (same_key a.key b.key) _ c) in
+        let key : a.key ≡ b.key = key_of_test a.key b.key (and_parts (same_key a.key b.key) _ c).0 in
         let home : a.home ≡ b.home = (root_of x a hx ha).home ∙ ap₂ (λ k n. home_after (opening_home cluster.regions cluster.homes k) (take n (history_of cluster w order k))) key e ∙ sym (root_of y b hy hb).home in
         let px : HasPart (log_at (logs_of w) a.home) x.id = parts_of_closed x.id x a.home (order_closed i x.id (in_order x hx).0) (in_order x hx).1 (home_of_entry x a ha) in
         let py : HasPart (log_at (logs_of w) a.home) y.id = subst (λ h. HasPart (log_at (logs_of w) h) y.id) (sym home) (parts_of_closed y.id y b.home (order_closed i y.id (in_order y hy).0) (in_order y hy).1 (home_of_entry y b hb)) in

@@ -82,10 +82,6 @@ run_longer {cluster = cluster} {workload = workload} {events = events} {event = 
 
 -- the order
 
--- the same id among ids, by a test
-among_id : (ids : List TxnId) (id : TxnId) → Has ids id → is_among ids id ≡ true
-among_id ids id h = among_of_has ids id h
-
 firsts_more : (xs : List TxnId) (y : TxnId) → firsts (xs ++ y ∷ []) ≡ with_executed (firsts xs) (Some y)
 firsts_more [] y = refl
 firsts_more (x ∷ xs) y = go (cases_Bool (is_among (firsts xs) y)) (cases_Bool (same_id x y)) (firsts_more xs y)
@@ -106,7 +102,7 @@ firsts_more (x ∷ xs) y = go (cases_Bool (is_among (firsts xs) y)) (cases_Bool 
     joined = filter-append (λ other. not (same_id x other)) (firsts xs) (y ∷ [])
 
     there : Has (x ∷ without x (firsts xs)) y → with_executed (x ∷ without x (firsts xs)) (Some y) ≡ x ∷ without x (firsts xs)
-    there h = rw (among_id (x ∷ without x (firsts xs)) y h) refl
+    there h = rw (among_of_has (x ∷ without x (firsts xs)) y h) refl
 
     absent : ¬ (Has (x ∷ without x (firsts xs)) y) → with_executed (x ∷ without x (firsts xs)) (Some y) ≡ (x ∷ without x (firsts xs)) ++ y ∷ []
     absent n = rw (not_among (x ∷ without x (firsts xs)) y n) refl
@@ -129,7 +125,7 @@ firsts_more (x ∷ xs) y = go (cases_Bool (is_among (firsts xs) y)) (cases_Bool 
       where
         new : ¬ (Has (x ∷ without x (firsts xs)) y)
         new (inl e) = cc (test_of_id x y e)
-        new (inr h) = cc (among_id (firsts xs) y (has_of_filtered (λ other. not (same_id x other)) (firsts xs) y h).0)
+        new (inr h) = cc (among_of_has (firsts xs) y (has_of_filtered (λ other. not (same_id x other)) (firsts xs) y h).0)
 
 pub order_of_more : (events : List Event) (event : Event) → order_of (events ++ event ∷ []) ≡ ordered (order_of events) event
 order_of_more events event = ap firsts (filter_map-append executed_id events (event ∷ [])) ∙ go (executed_id event)
