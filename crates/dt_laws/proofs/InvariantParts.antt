@@ -46,9 +46,6 @@ abbrev pub Tables : Cluster → World → Type 0
 Tables cluster w = (region : ℕ) → region < cluster.regions → IsRunOf cluster (opening_table cluster) (txns_of w (done_ids (node_at w region).here)) (node_at w region).here
 
 module _ (cluster : Cluster) (w v : World) where
-  pub sized_kept : (regions : ℕ) → Keeps (λ n. n) w v → Sized regions w → Sized regions v
-  sized_kept regions k s region lt = subst (IsSized regions) (sym (k region)) (s region lt)
-
   pub ids_kept : (regions : ℕ) → Keeps (λ n. n.submitted) w v → Numbered regions w → Numbered regions v
   ids_kept regions k i region lt = subst (AreNumbered region) (sym (k region)) (i region lt)
 
@@ -104,9 +101,6 @@ module _ (cluster : Cluster) (w v : World) where
         outcomes = kd region ∙ before.outcomes ∙ ap (λ x. outcomes cluster.procs x (opening_table cluster)) (sym same);
         table = kt region ∙ before.table ∙ ap (λ x. table_after cluster.procs x (opening_table cluster)) (sym same);
       }
-
-  pub executed_kept : Keeps (λ n. n.here.done) w v → (region : ℕ) (id : TxnId) → IsExecutedAt v region id ≡ IsExecutedAt w region id
-  executed_kept k region id = ap (λ l. Has (map (λ d. d.0) l) id) (k region)
 
   pub ordered_kept : (regions : ℕ) (order : List TxnId) → logs_of v ≡ logs_of w → Keeps (λ n. n.here.done) w v → IsOrder regions w order → IsOrder regions v order
   ordered_kept regions order e k o = record {

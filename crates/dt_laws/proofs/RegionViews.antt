@@ -13,7 +13,7 @@ use Rattle.dt_cluster.specs.declared.Cluster.{Cluster}
 use Rattle.dt_workload.specs.declared.Workload.{Workload}
 use Rattle.dt_session.specs.World.{World, node_at, logs_of, log_of, view_at, submissions, txn_of}
 use Rattle.dt_laws.specs.Invariant.{Inv, IsExecutedAt}
-use Rattle.dt_laws.proofs.Submissions.{IsKnown, AreUnlike, unlike}
+use Rattle.dt_laws.proofs.Submissions.{IsKnown}
 use Rattle.dt_laws.proofs.Views.{view_is, fronts_longer, log_is, logs_length}
 use Rattle.dt_laws.proofs.Logs.{id_known, logs_well_formed}
 
@@ -30,9 +30,6 @@ module _ {cluster : Cluster} {workload : Workload} {w : World} {order : List Txn
 
   pub view_well_formed : (region : ℕ) → region < cluster.regions → IsWellFormed (view_at w region)
   view_well_formed region lt = well_formed_front (view_at w region) (logs_of w) (view_longer region lt) full_well_formed
-
-  pub submissions_unlike : AreUnlike (submissions w)
-  submissions_unlike = unlike cluster.regions w i.nodes i.ids
 
   -- what has a part in a log was submitted
   pub present_known : (t : TxnId) → IsPresent (logs_of w) t → IsKnown w t

@@ -144,9 +144,6 @@ module _ {cluster : Cluster} {workload : Workload} {w : World} {order : List Txn
       by (inl e) = subst (λ y. Has (node_at v y).submitted x) (sym e) (subst (λ l. Has l x) (sym submitted_here) (has_longer (node_at w region).submitted (s ∷ []) x (subst (λ y. Has (node_at w y).submitted x) e h)))
       by (inr n) = subst (λ y. Has y.submitted x) (sym (other r n)) h
 
-  stays : (x : Submission) → Has (submissions w) x → Has (submissions v) x
-  stays x h = let a : (r : ℕ) × (r < length w.nodes) × Has (node_at w r).submitted x = at_region w x h in from_region v a.0 x (stays_at a.0 x a.2)
-
   was : (x : Submission) → Has (submissions v) x → Has (submissions w) x ⊎ (s ≡ x)
   was x h =
       let a : (r : ℕ) × (r < length v.nodes) × Has (node_at v r).submitted x = at_region v x h in
@@ -158,9 +155,6 @@ module _ {cluster : Cluster} {workload : Workload} {w : World} {order : List Txn
         | inr k ↦ inr k
       ]
       by r h (inr n) = inl (from_region w r x (subst (λ y. Has y.submitted x) (other r n) h))
-
-  this : Has (submissions v) s
-  this = from_region v region s (subst (λ l. Has l s) (sym submitted_here) (has_last (node_at w region).submitted s))
 
   one : AreUnlike (submissions v)
   one = unlike cluster.regions v nodes_now ids
@@ -333,14 +327,6 @@ module _ {cluster : Cluster} {workload : Workload} {w : World} {order : List Txn
   pub submitted_was : (x : Submission) → Has (submissions (world_submitted workload w region session place (attempt_for cluster w region session place call))) x → Has (submissions w) x ⊎ (attempt_for cluster w region session place call ≡ x)
   unfolding v s
   submitted_was = was
-
-  pub submitted_stays : (x : Submission) → Has (submissions w) x → Has (submissions (world_submitted workload w region session place (attempt_for cluster w region session place call))) x
-  unfolding v s
-  submitted_stays = stays
-
-  pub submitted_this : Has (submissions (world_submitted workload w region session place (attempt_for cluster w region session place call))) (attempt_for cluster w region session place call)
-  unfolding v s
-  submitted_this = this
 
   pub submitted_found : (id : TxnId) (x : Submission) → submission_of w id ≡ Some x
       → submission_of (world_submitted workload w region session place (attempt_for cluster w region session place call)) id ≡ Some x
