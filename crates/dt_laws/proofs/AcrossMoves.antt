@@ -1,5 +1,5 @@
 -- Attempts that clash are ordered across moves, and no attempt runs before the moves that it was annotated with.
-use Rattle.std.proofs.Common.{◌≡◌, ◌≢◌, ◌<◌, ◌≤◌, ℕ, true, List, [], ◌∷◌, ◌++◌, map, Some, sym, subst, subst₂, ◌∙◌}
+use Rattle.std.proofs.Common.{◌≡◌, ◌≢◌, ◌<◌, ◌≤◌, ℕ, true, List, [], ◌∷◌, ◌++◌, Some, sym, subst, subst₂, ◌∙◌}
 use Rattle.dt_lists.specs.Lists.{AnyIn, AllIn, Has}
 use Rattle.dt_lists.proofs.Words.{any_get, any_of_image}
 use Rattle.dt_lists.proofs.Before.{Spot, spot}

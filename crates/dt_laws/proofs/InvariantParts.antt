@@ -14,7 +14,7 @@ use Rattle.dt_serial.specs.Order.{IsDown}
 use Rattle.dt_cluster.specs.declared.Cluster.{Cluster}
 use Rattle.dt_workload.specs.declared.Session.{Session}
 use Rattle.dt_workload.specs.declared.Workload.{Workload}
-use Rattle.dt_session.specs.World.{World, Node, Place, opening_table, node_at, asked_of, taken_of, logs_of, log_of, received_of, view_at, submissions, txn_of}
+use Rattle.dt_session.specs.World.{World, Place, opening_table, node_at, asked_of, taken_of, logs_of, log_of, received_of, view_at, submissions, txn_of}
 use Rattle.dt_session.specs.Run.{txns_of}
 use Rattle.dt_laws.specs.Invariant.{IsSized, AreNumbered, requests, IsPartAt, given_by, IsLog, AreInOrder, IsRunOf, IsExecutedAt, IsOrder, IsPlaced, IsPlaceOf, IsSubmissionOf, SessionsMatch}
 use Rattle.dt_laws.proofs.Submissions.{Keeps, txn_same}

@@ -11,7 +11,7 @@ use Rattle.dt_sched.proofs.Closed.{complete_of_closed, closed_stays, preceders_s
 use Rattle.dt_txn.specs.Replica.{fronts, done_ids}
 use Rattle.dt_cluster.specs.declared.Cluster.{Cluster}
 use Rattle.dt_workload.specs.declared.Workload.{Workload}
-use Rattle.dt_session.specs.World.{World, node_at, logs_of, log_of, view_at, submissions, txn_of}
+use Rattle.dt_session.specs.World.{World, node_at, logs_of, log_of, view_at, txn_of}
 use Rattle.dt_laws.specs.Invariant.{Inv, IsExecutedAt}
 use Rattle.dt_laws.proofs.Submissions.{IsKnown}
 use Rattle.dt_laws.proofs.Views.{view_is, fronts_longer, log_is, logs_length}

@@ -3,11 +3,11 @@ use Rattle.std.proofs.Common.{◌≡◌, ◌<◌, ◌+◌, ℕ, suc, true, false
 use Rattle.std.specs.Prelude.{filter}
 use Rattle.std.proofs.lemmas.List.{map-append}
 use Rattle.std.proofs.lemmas.List.Elements.{filter-append}
-use Rattle.dt_lists.specs.Lists.{Has, EachThen, Distinct, IsFront}
-use Rattle.dt_lists.proofs.Words.{any_get, any_put, any_of_image, any_image, each_map, each_image}
+use Rattle.dt_lists.specs.Lists.{Has, EachThen, Distinct}
+use Rattle.dt_lists.proofs.Words.{any_get, any_of_image, each_map, each_image}
 use Rattle.dt_lists.proofs.Before.{each_of_steps}
 use Rattle.dt_lists.proofs.Places.{place_in_more, has_of_filtered}
-use Rattle.dt_lists.proofs.Filters.{has_filter, filter_each}
+use Rattle.dt_lists.proofs.Filters.{filter_each}
 use Rattle.dt_access.specs.declared.TxnId.{TxnId}
 use Rattle.dt_session.specs.World.{Submission}
 use Rattle.dt_laws.specs.Invariant.{AreNumbered, has_home, requests}

@@ -1,5 +1,5 @@
 -- A resolution keeps the invariant.
-use Rattle.std.proofs.Common.{◌≡◌, ◌<◌, ℕ, List, [], ◌∷◌, ◌++◌, refl, sym, subst, ◌∙◌, inl, inr}
+use Rattle.std.proofs.Common.{◌≡◌, ◌<◌, ℕ, List, [], ◌∷◌, ◌++◌, refl, sym, subst, inl, inr}
 use Rattle.dt_lists.specs.Lists.{Either}
 use Rattle.dt_lists.proofs.Decided.{either_nat}
 use Rattle.dt_access.specs.declared.TxnId.{TxnId}
