@@ -1,8 +1,8 @@
 -- Attempts that clash are ordered across moves, and no attempt runs before the moves that it was annotated with.
-use Rattle.std.proofs.Common.{◌≡◌, ◌≢◌, ◌<◌, ◌≤◌, ℕ, true, List, [], ◌∷◌, ◌++◌, map, Some, sym, subst, subst₂, ◌∙◌}
+use Rattle.std.proofs.Common.{◌≡◌, ◌≢◌, ◌<◌, ◌≤◌, ℕ, true, List, [], ◌∷◌, ◌++◌, Some, sym, subst, subst₂, ◌∙◌}
 use Rattle.dt_lists.specs.Lists.{AnyIn, AllIn, Has}
-use Rattle.dt_lists.proofs.Callers.{any_get, any_of_image}
-use Rattle.dt_lists.proofs.Callers.{Spot, spot}
+use Rattle.dt_lists.proofs.Words.{any_get, any_of_image}
+use Rattle.dt_lists.proofs.Before.{Spot, spot}
 use Rattle.dt_access.specs.Clash.{clash}
 use Rattle.dt_access.specs.declared.TxnId.{TxnId}
 use Rattle.dt_access.specs.declared.Access.{Access}
@@ -12,17 +12,12 @@ use Rattle.dt_events.specs.declared.Event.TheVariants.{Execute}
 use Rattle.dt_table.specs.Table.{Table, counter_of}
 use Rattle.dt_txn.specs.declared.Txn.{Txn}
 use Rattle.dt_txn.specs.declared.Outcome.{Outcome}
-use Rattle.dt_txn.specs.declared.outcome.Outcome.TheVariants.{Gave, Aborted, Stale}
+use Rattle.dt_txn.specs.Staleness.{IsStaleOutcome}
 use Rattle.dt_txn.specs.Execution.{one}
 use Rattle.dt_txn.specs.Serial.{table_after}
 use Rattle.dt_txn.specs.Replica.{done_ids}
-use Rattle.dt_serial.specs.Order as serial
 use Rattle.dt_serial.specs.Order.{IsLive, IsDown, IsHistory, Ordered, txn_ids, uses_in}
-use Rattle.dt_serial.proofs.Callers.{live_of_outcome}
-use Rattle.dt_serial.proofs.Callers.{outcome_at}
-use Rattle.dt_serial.proofs.Callers.{across_fewer}
-use Rattle.dt_serial.proofs.Callers.{across_moves, single_outcome, counters_reached}
-use Rattle.dt_serial.proofs.Callers.{looked_has}
+use Rattle.dt_serial.proofs.Callers.{across_fewer, across_moves, counters_reached, live_of_outcome, looked_has, outcome_at, single_outcome}
 use Rattle.dt_cluster.specs.declared.Cluster.{Cluster}
 use Rattle.dt_workload.specs.declared.Workload.{Workload}
 use Rattle.dt_session.specs.World.{World, opening_table, node_at, logs_of, txn_of, outcome_in}
@@ -38,18 +33,13 @@ use Rattle.dt_laws.proofs.MoveHistory.{history, region_members, region_down}
 use Rattle.dt_laws.proofs.RootedWorlds.{legal_roots}
 use Rattle.dt_laws.proofs.AllAgree.{has_lookup, outcomes_in_order, outcome_ids, outcomes_once}
 
-not_stale : (o : Outcome) → ¬ (IsStale (Some o)) → ¬ (serial.IsStale o)
-not_stale (Gave values) n s = s
-not_stale (Aborted cause) n s = s
-not_stale (Stale key had by) n s = n s
-
 -- what an executed attempt that is not stale is
 record IsRun (cluster : Cluster) (w : World) (order : List TxnId) (a : TxnId) (x : Txn) : Type 0 where
   there : Has (txns_of w order) x
   own : x.id ≡ a
   outcome : Outcome
   gave : Has (outcomes_in_order cluster w order) (x.id, outcome)
-  fresh : ¬ (serial.IsStale outcome)
+  fresh : ¬ (IsStaleOutcome outcome)
 
 module _ {cluster : Cluster} {workload : Workload} {w : World} {order : List TxnId} (i : Inv cluster workload w order) (rooted : Rooted cluster w order) where
   past : IsHistory cluster.procs (Precedes (logs_of w)) (opening_table cluster) (txns_of w order)
@@ -76,7 +66,7 @@ module _ {cluster : Cluster} {workload : Workload} {w : World} {order : List Txn
         own = own;
         outcome = r.0;
         gave = subst (λ y. Has (outcomes_in_order cluster w order) (y, r.0)) (sym own) r.1;
-        fresh = not_stale r.0 (subst (λ o. ¬ (IsStale o)) r.2 n);
+        fresh = subst (λ o. ¬ (IsStale o)) r.2 n;
       }
 
   -- two executed attempts that are not stale and clash are ordered
@@ -104,7 +94,7 @@ module _ {cluster : Cluster} {workload : Workload} {w : World} {order : List Txn
           (outcome_at cluster.procs (txns_of w order) (opening_table cluster) x s)
 
       live : IsLive x seen
-      live = live_of_outcome cluster.procs x seen (subst (λ o. ¬ (serial.IsStale o)) same p.fresh)
+      live = live_of_outcome cluster.procs x seen (subst (λ o. ¬ (IsStaleOutcome o)) same p.fresh)
 
 -- the same of legal lists of events
 

@@ -6,14 +6,14 @@ use Rattle.std.proofs.lemmas.Bool.{cases_Bool}
 use Rattle.std.proofs.lemmas.Option.{same_Some}
 use Rattle.std.proofs.lemmas.List.{map-append}
 use Rattle.dt_lists.specs.Lists.{AllIn, Has, IsFront, Distinct}
-use Rattle.dt_lists.proofs.Callers.{any_put, any_append, any_append_right, all_get, all_put, has_map, all_append_left, each_across}
-use Rattle.dt_lists.proofs.Callers.{has_before, has_middle}
-use Rattle.dt_lists.proofs.Callers.{front_refl, front_trans, any_front}
+use Rattle.dt_lists.proofs.Words.{any_put, any_append, any_append_right, all_get, all_put, has_map, all_append_left, each_across}
+use Rattle.dt_lists.proofs.Before.{has_before, has_middle}
+use Rattle.dt_lists.proofs.Fronts.{front_refl, front_trans, any_front}
 use Rattle.dt_access.specs.Ids.{same_id, is_among, StandsBefore}
 use Rattle.dt_access.specs.Clash.{Bytes}
 use Rattle.dt_access.specs.declared.TxnId.{TxnId}
 use Rattle.dt_sched.specs.Views.{View, IsClosed, Precedes}
-use Rattle.dt_sched.proofs.Callers.{done_where_closed}
+use Rattle.dt_sched.proofs.NothingToDo.{done_where_closed}
 use Rattle.dt_events.specs.declared.Event.{Event}
 use Rattle.dt_events.specs.declared.Event.TheVariants.{Submit, Answer}
 use Rattle.dt_table.specs.Table.{next_mover}
@@ -25,10 +25,7 @@ use Rattle.dt_txn.specs.Serial.{outcomes, table_after}
 use Rattle.dt_txn.specs.Replica.{IsDrained, fronts, done_ids}
 use Rattle.dt_serial.specs.Order.{IsHistory, txn_ids}
 use Rattle.dt_serial.specs.Evidence.{MadeMove, IsGrounded, HasReason}
-use Rattle.dt_serial.proofs.Callers.{outcomes_ids}
-use Rattle.dt_serial.proofs.Callers.{reasons}
-use Rattle.dt_serial.proofs.Callers.{one_outcome, one_restricted, one_set}
-use Rattle.dt_serial.proofs.Callers.{looked_from, looked_filter}
+use Rattle.dt_serial.proofs.Callers.{looked_filter, looked_from, one_outcome, one_restricted, one_set, outcomes_ids, reasons}
 use Rattle.dt_cluster.specs.declared.Cluster.{Cluster}
 use Rattle.dt_workload.specs.declared.Session.{Session}
 use Rattle.dt_workload.specs.declared.Workload.{Workload}

@@ -5,8 +5,8 @@ use Rattle.std.specs.Map.{lookup}
 use Rattle.std.proofs.lemmas.Option.{same_Some}
 use Rattle.std.specs.List.{cons_option}
 use Rattle.dt_lists.specs.Lists.{AnyIn, AllIn, Has}
-use Rattle.dt_lists.proofs.Callers.{any_get, any_append, any_of_image, all_get, all_put}
-use Rattle.dt_lists.proofs.Callers.{place_of}
+use Rattle.dt_lists.proofs.Words.{any_get, any_append, any_of_image, all_get, all_put}
+use Rattle.dt_lists.proofs.Places.{place_of}
 use Rattle.dt_access.specs.Clash.{Bytes, same_key}
 use Rattle.dt_access.specs.declared.Mode.{Mode}
 use Rattle.dt_access.specs.declared.TxnId.{TxnId}
@@ -18,7 +18,7 @@ use Rattle.dt_txn.specs.Execution.{one}
 use Rattle.dt_txn.specs.Transaction.{uses_of, annotated, annotate, targets_of, homes_of, BodyFits, IsValid}
 use Rattle.dt_txn.specs.Serial.{after, table_after}
 use Rattle.dt_serial.specs.Evidence.{MadeMove}
-use Rattle.dt_serial.proofs.Rows.{apply_regions, apply_homes, opening_unmoved}
+use Rattle.dt_table.proofs.Callers.{homes-apply, moves_of-opening, regions-apply}
 use Rattle.dt_serial.proofs.Callers.{move_made}
 use Rattle.dt_cluster.specs.declared.Cluster.{Cluster}
 use Rattle.dt_cluster.specs.Valid.{IsValidCluster}
@@ -77,14 +77,14 @@ home_after_below regions home (m ∷ moves) lt a = home_after_below regions m.ta
 
 pub regions_stay : (cluster : Cluster) (txns : List Txn) (t : Table) → (table_after cluster.procs txns t).regions ≡ t.regions
 regions_stay cluster [] t = refl
-regions_stay cluster (x ∷ txns) t = regions_stay cluster txns (after cluster.procs x t) ∙ apply_regions (one cluster.procs x t).1 t
+regions_stay cluster (x ∷ txns) t = regions_stay cluster txns (after cluster.procs x t) ∙ regions-apply (one cluster.procs x t).1 t
 
 pub homes_stay : (cluster : Cluster) (txns : List Txn) (t : Table) → (table_after cluster.procs txns t).homes ≡ t.homes
 homes_stay cluster [] t = refl
-homes_stay cluster (x ∷ txns) t = homes_stay cluster txns (after cluster.procs x t) ∙ apply_homes (one cluster.procs x t).1 t
+homes_stay cluster (x ∷ txns) t = homes_stay cluster txns (after cluster.procs x t) ∙ homes-apply (one cluster.procs x t).1 t
 
 pub unmoved_at_first : (cluster : Cluster) (key : Bytes) → moves_of (opening_table cluster) key ≡ []
-unmoved_at_first cluster key = opening_unmoved cluster.regions cluster.homes cluster.rows key
+unmoved_at_first cluster key = moves_of-opening cluster.regions cluster.homes cluster.rows key
 
 -- where valid transactions move keys to
 pub targets_below : (cluster : Cluster) (txns : List Txn) → AllIn (IsValid cluster.procs cluster.regions) txns → (key : Bytes) → AllIn (λ m. m.target < cluster.regions) (moves_of (table_after cluster.procs txns (opening_table cluster)) key)

@@ -2,8 +2,9 @@
 -- passed on, then the laws of legal lists, then small facts of one world that keeps the invariant, by what they speak of:
 -- events, logs, ids, views, sessions.
 pub use Rattle.dt_laws.proofs.Ids.{id_of_test, test_of_id, equal_of_test, test_of_equal}
-pub use Rattle.dt_laws.proofs.Submissions.{IsKnown, find_has, find_of_has, from_region, numbered, home_region, txn_there, txn_id}
+pub use Rattle.dt_laws.proofs.Submissions.{IsKnown, find_has, from_region, numbered, home_region, submission_is_found, txn_there, txn_id}
 pub use Rattle.dt_laws.proofs.Views.{fronts_at, fronts_grown, log_is, logs_length, received_log, received_own}
+pub use Rattle.dt_laws.proofs.Logs.{part_homed}
 pub use Rattle.dt_laws.proofs.Sessions.{key_of_test, test_of_key, session_of_test, session_found}
 pub use Rattle.dt_laws.proofs.Runs.{world_from_append, world_after_more, legal_append, legal_more, append_legal, more_legal, with_executed, ordered, order_of_more}
 pub use Rattle.dt_laws.proofs.Annotations.{unmoved_at_first, body_fits}
@@ -13,7 +14,7 @@ pub use Rattle.dt_laws.proofs.Rule1Submit.{Submits}
 pub use Rattle.dt_laws.proofs.Rule2Append.{IsRequest, IsNextRequest}
 use Rattle.std.proofs.Common.{◌≡◌, ◌<◌, ◌≤◌, ◌⊎◌, ℕ, List, [], ◌∷◌, ◌++◌, length, set, slice_get, Some, subst}
 use Rattle.dt_lists.specs.Lists.{AllIn, Has, Distinct}
-use Rattle.dt_lists.proofs.Callers.{all_get}
+use Rattle.dt_lists.proofs.Words.{all_get}
 use Rattle.dt_access.specs.Clash.{Bytes}
 use Rattle.dt_access.specs.declared.TxnId.{TxnId}
 use Rattle.dt_sched.specs.Views.{ids_of, log_at, IsWellFormed}
@@ -34,7 +35,7 @@ use Rattle.dt_session.specs.Agreement.{Agree}
 use Rattle.dt_laws.specs.LegalRun.{IsLegalRun}
 use Rattle.dt_laws.specs.Invariant.{IsPlaceOf, Inv}
 use Rattle.dt_laws.specs.Reports.{IsAccounted, IsAnswered}
-use Rattle.dt_laws.proofs.Submissions.{AreUnlike, txn_found}
+use Rattle.dt_laws.proofs.Submissions.{txn_found}
 use Rattle.dt_laws.proofs.Logs.{log_once}
 use Rattle.dt_laws.proofs.RegionViews as views
 use Rattle.dt_laws.proofs.Rule1Submit as rule1
@@ -116,9 +117,6 @@ module _ (cluster : Cluster) (workload : Workload) (w : World) (order : List Txn
   -- a region received no more of a log than there is
   pub received_within : (region home : ℕ) → region < cluster.regions → home < cluster.regions → received_of w region home ≤ length (log_of w home)
   received_within region home lr lh = (i.lengths region home lr lh).received
-
-  pub submissions_unlike : AreUnlike (submissions w)
-  submissions_unlike = views.submissions_unlike i
 
   -- what a region executed was submitted
   pub done_known : (region : ℕ) → region < cluster.regions → AllIn (IsKnown w) (done_ids (node_at w region).here)

@@ -4,7 +4,8 @@ use Rattle.std.proofs.lemmas.Bool.{cases_Bool}
 use Rattle.std.proofs.lemmas.Bool.Decides.{nat_tests}
 use Rattle.std.proofs.lemmas.List.{length-set, get_or-set_same, get_or-set_other}
 use Rattle.dt_lists.specs.Lists.{AllIn, Has, EachThen, Distinct}
-use Rattle.dt_lists.proofs.Callers.{any_map, all_map, all_get, each_map, any_of_test, test_of_any}
+use Rattle.dt_lists.proofs.Words.{any_map, all_map, all_get, each_map}
+use Rattle.dt_lists.proofs.Tests.{any_of_test, test_of_any}
 use Rattle.dt_access.specs.declared.TxnId.{TxnId}
 use Rattle.dt_txn.specs.declared.Txn.{Txn}
 use Rattle.dt_txn.specs.Transaction.{with_number, set_of, targets_of, homes_of}

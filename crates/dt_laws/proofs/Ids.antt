@@ -4,7 +4,7 @@ use Rattle.std.proofs.lemmas.Bool.{false_from_ne_true}
 use Rattle.std.proofs.lemmas.Bool.Decides.{nat_tests}
 use Rattle.dt_access.specs.Ids.{same_id}
 use Rattle.dt_access.specs.declared.TxnId.{TxnId}
-use Rattle.dt_access.proofs.Callers.{same_by_parts}
+use Rattle.dt_sched.proofs.Ids.{same_by_parts}
 
 pub equal_of_test : (a b : ℕ) → eqb a b ≡ true → a ≡ b
 equal_of_test a b e = grind (arith, nat_tests)

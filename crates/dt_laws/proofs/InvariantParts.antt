@@ -2,7 +2,7 @@
 use Rattle.std.proofs.Common.{◌≡◌, ◌<◌, ◌≤◌, ℕ, List, [], ◌∷◌, length, get_or, set, map, take, sym, ap, ap₂, subst, ◌∙◌}
 use Rattle.std.specs.Prelude.{slice_index, Some}
 use Rattle.dt_lists.specs.Lists.{AnyIn, AllIn, Has, Pairwise}
-use Rattle.dt_lists.proofs.Callers.{all_map}
+use Rattle.dt_lists.proofs.Words.{all_map}
 use Rattle.dt_access.specs.declared.TxnId.{TxnId}
 use Rattle.dt_access.specs.declared.Part.{Part}
 use Rattle.dt_sched.specs.Views.{ids_of, Precedes}
@@ -14,7 +14,7 @@ use Rattle.dt_serial.specs.Order.{IsDown}
 use Rattle.dt_cluster.specs.declared.Cluster.{Cluster}
 use Rattle.dt_workload.specs.declared.Session.{Session}
 use Rattle.dt_workload.specs.declared.Workload.{Workload}
-use Rattle.dt_session.specs.World.{World, Node, Place, opening_table, node_at, asked_of, taken_of, logs_of, log_of, received_of, view_at, submissions, txn_of}
+use Rattle.dt_session.specs.World.{World, Place, opening_table, node_at, asked_of, taken_of, logs_of, log_of, received_of, view_at, submissions, txn_of}
 use Rattle.dt_session.specs.Run.{txns_of}
 use Rattle.dt_laws.specs.Invariant.{IsSized, AreNumbered, requests, IsPartAt, given_by, IsLog, AreInOrder, IsRunOf, IsExecutedAt, IsOrder, IsPlaced, IsPlaceOf, IsSubmissionOf, SessionsMatch}
 use Rattle.dt_laws.proofs.Submissions.{Keeps, txn_same}
@@ -46,9 +46,6 @@ abbrev pub Tables : Cluster → World → Type 0
 Tables cluster w = (region : ℕ) → region < cluster.regions → IsRunOf cluster (opening_table cluster) (txns_of w (done_ids (node_at w region).here)) (node_at w region).here
 
 module _ (cluster : Cluster) (w v : World) where
-  pub sized_kept : (regions : ℕ) → Keeps (λ n. n) w v → Sized regions w → Sized regions v
-  sized_kept regions k s region lt = subst (IsSized regions) (sym (k region)) (s region lt)
-
   pub ids_kept : (regions : ℕ) → Keeps (λ n. n.submitted) w v → Numbered regions w → Numbered regions v
   ids_kept regions k i region lt = subst (AreNumbered region) (sym (k region)) (i region lt)
 
@@ -104,9 +101,6 @@ module _ (cluster : Cluster) (w v : World) where
         outcomes = kd region ∙ before.outcomes ∙ ap (λ x. outcomes cluster.procs x (opening_table cluster)) (sym same);
         table = kt region ∙ before.table ∙ ap (λ x. table_after cluster.procs x (opening_table cluster)) (sym same);
       }
-
-  pub executed_kept : Keeps (λ n. n.here.done) w v → (region : ℕ) (id : TxnId) → IsExecutedAt v region id ≡ IsExecutedAt w region id
-  executed_kept k region id = ap (λ l. Has (map (λ d. d.0) l) id) (k region)
 
   pub ordered_kept : (regions : ℕ) (order : List TxnId) → logs_of v ≡ logs_of w → Keeps (λ n. n.here.done) w v → IsOrder regions w order → IsOrder regions v order
   ordered_kept regions order e k o = record {

@@ -1,11 +1,11 @@
 -- Each legal event keeps the invariant, so every legal world has it.
 use Rattle.std.proofs.Common.{◌≡◌, ◌<◌, ℕ, Bool, true, false, cond, List, [], ◌∷◌, ◌++◌, refl, sym, subst₂}
-use Rattle.dt_lists.proofs.Callers.{from_right}
+use Rattle.dt_lists.proofs.Places.{from_right}
 use Rattle.dt_access.specs.Ids.{is_among}
 use Rattle.dt_access.specs.declared.TxnId.{TxnId}
 use Rattle.dt_events.specs.declared.Event.{Event}
 use Rattle.dt_events.specs.declared.Event.TheVariants.{Submit, Append, Deliver, Insert, Resolve, Execute, Answer}
-use Rattle.dt_serial.proofs.Callers.{has_of_among, among_of_has}
+use Rattle.dt_serial.proofs.Callers.{among_of_has, has_of_among}
 use Rattle.dt_cluster.specs.declared.Cluster.{Cluster}
 use Rattle.dt_cluster.specs.Valid.{IsValidCluster}
 use Rattle.dt_workload.specs.declared.Workload.{Workload}

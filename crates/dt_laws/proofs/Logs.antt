@@ -5,8 +5,11 @@ use Rattle.std.specs.Prelude.{filter}
 use Rattle.std.proofs.lemmas.Bool.{false_from_ne_true}
 use Rattle.std.proofs.lemmas.List.{get_or_past}
 use Rattle.dt_lists.specs.Lists.{AllIn, Has, Distinct, Either}
-use Rattle.dt_lists.proofs.Callers.{any_get, any_put, any_of_image, any_image, all_get, all_put, front_take, each_front, any_front, either_le}
-use Rattle.dt_lists.proofs.Callers.{distinct_by_key, has_filter}
+use Rattle.dt_lists.proofs.Words.{any_get, any_put, any_of_image, any_image, all_get, all_put}
+use Rattle.dt_lists.proofs.Fronts.{front_take, each_front, any_front}
+use Rattle.dt_lists.proofs.Decided.{either_le}
+use Rattle.dt_lists.proofs.Places.{distinct_by_key}
+use Rattle.dt_lists.proofs.Filters.{has_filter}
 use Rattle.dt_access.specs.declared.TxnId.{TxnId}
 use Rattle.dt_access.specs.declared.Part.{Part}
 use Rattle.dt_sched.specs.Views.{ids_of, log_at, IsWellFormed}

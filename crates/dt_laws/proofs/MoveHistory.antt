@@ -1,11 +1,12 @@
 -- The one history of a legal world: what roots every annotation in it gives what the theory of serial runs asks.
-use Rattle.std.proofs.Common.{◌≡◌, ◌≢◌, ◌<◌, ℕ, zero, suc, Bool, true, false, ◌&&◌, eqb, List, [], ◌∷◌, ◌++◌, map, take, slice_get, Some, refl, sym, ap, ap₂, subst, subst₂, ◌∙◌, inl, inr, arith}
+use Rattle.std.proofs.Common.{◌≡◌, ◌≢◌, ◌<◌, ℕ, zero, suc, true, eqb, List, [], ◌∷◌, ◌++◌, map, take, slice_get, Some, refl, sym, ap, ap₂, subst, subst₂, ◌∙◌, inl, inr, arith}
 use Rattle.std.specs.Prelude.{filter}
+use Rattle.std.proofs.lemmas.Bool.{and_parts}
 use Rattle.std.proofs.lemmas.Option.{same_Some}
 use Rattle.dt_lists.specs.Lists.{AnyIn, AllIn, SomeThen, Has, Either}
-use Rattle.dt_lists.proofs.Callers.{either_le}
-use Rattle.dt_lists.proofs.Callers.{any_get, any_put, any_append_left, any_append_right, all_get, all_map, all_put, has_map, any_of_image}
-use Rattle.dt_lists.proofs.Callers.{has_filter}
+use Rattle.dt_lists.proofs.Decided.{either_le}
+use Rattle.dt_lists.proofs.Words.{any_get, any_put, any_append_left, any_append_right, all_get, all_map, all_put, has_map, any_of_image}
+use Rattle.dt_lists.proofs.Filters.{has_filter}
 use Rattle.dt_access.specs.Clash.{Bytes, same_key, uses_clash, clash}
 use Rattle.dt_access.specs.declared.Mode.{Mode}
 use Rattle.dt_access.specs.declared.Mode.TheVariants.{Write}
@@ -14,8 +15,11 @@ use Rattle.dt_access.specs.declared.Access.{Access}
 use Rattle.dt_access.specs.declared.Part.{Part}
 use Rattle.dt_sched.specs.Views.{log_at, HasPart, HasParts, AreClashing, Edge, here, Reaches, IsClosed, Precedes}
 use Rattle.dt_sched.specs.Decide.{IsSound}
-use Rattle.dt_sched.proofs.Callers.{clash_of_uses, part_of_complete, edge_at_home, complete_of_closed, precedes_irreflexive, precedes_transitive}
-use Rattle.dt_sched.proofs.Callers.{comparable_in_log, sound_longer}
+use Rattle.dt_sched.proofs.Clash.{clash_of_uses}
+use Rattle.dt_sched.proofs.Chains.{chain_step}
+use Rattle.dt_sched.proofs.Closed.{part_of_complete, edge_at_home, complete_of_closed}
+use Rattle.dt_sched.proofs.Precedence.{precedes_irreflexive, precedes_transitive, comparable_in_log}
+use Rattle.dt_sched.proofs.Sound.{sound_longer}
 use Rattle.dt_table.specs.Table.{Moved, opening_home, home_after}
 use Rattle.dt_txn.specs.declared.Body.{Body}
 use Rattle.dt_txn.specs.declared.txn.Body.TheVariants.{Call, Move}
@@ -24,10 +28,7 @@ use Rattle.dt_txn.specs.Transaction.{uses_of, targets_of, homes_of, entries_at, 
 use Rattle.dt_txn.specs.Replica.{done_ids}
 use Rattle.dt_serial.specs.Order.{Ordered, IsDown, FollowsMove, IsShared, IsHistory, txn_ids, KeepsToKeys}
 use Rattle.dt_serial.specs.Evidence.{MadeMove}
-use Rattle.dt_serial.proofs.Callers.{move_made}
-use Rattle.dt_serial.proofs.Callers.{down_of_order}
-use Rattle.dt_serial.proofs.Callers.{looked_ids, looked_from, looked_members}
-use Rattle.dt_serial.proofs.Callers.{valid_keeps}
+use Rattle.dt_serial.proofs.Callers.{down_of_order, looked_from, looked_ids, looked_members, move_made, valid_keeps}
 use Rattle.dt_cluster.specs.declared.Cluster.{Cluster}
 use Rattle.dt_workload.specs.declared.Workload.{Workload}
 use Rattle.dt_session.specs.World.{World, Submission, node_at, opening_table, logs_of, log_of, view_at, submissions, txn_of}
@@ -82,10 +83,6 @@ home_after_last home (x ∷ moves) (suc c) m e = home_after_last x.target moves 
 
 writes_clash : (k l : Bytes) (mode : Mode) → k ≡ l → uses_clash (k, Write) (l, mode) ≡ true
 writes_clash k l mode e = rw (test_of_key k l e) refl
-
-clash_key : (a b : Bool) → (a && b) ≡ true → a ≡ true
-clash_key true b e = refl
-clash_key false b e = cc
 
 module _ {cluster : Cluster} {workload : Workload} {w : World} {order : List TxnId} (i : Inv cluster workload w order) where
   -- the ids of the transactions of ids
@@ -187,7 +184,7 @@ module _ {cluster : Cluster} {workload : Workload} {w : World} {order : List Txn
     -- transactions with clashing entries of one number share a log
     shared : IsShared (Precedes (logs_of w)) (txns_of w order)
     shared x y hx hy ne a b ha hb e c =
-        let key : a.key ≡ b.key = key_of_test a.key b.key (clash_key (same_key a.key b.key) _ c) in
+        let key : a.key ≡ b.key = key_of_test a.key b.key (and_parts (same_key a.key b.key) _ c).0 in
         let home : a.home ≡ b.home = (root_of x a hx ha).home ∙ ap₂ (λ k n. home_after (opening_home cluster.regions cluster.homes k) (take n (history_of cluster w order k))) key e ∙ sym (root_of y b hy hb).home in
         let px : HasPart (log_at (logs_of w) a.home) x.id = parts_of_closed x.id x a.home (order_closed i x.id (in_order x hx).0) (in_order x hx).1 (home_of_entry x a ha) in
         let py : HasPart (log_at (logs_of w) a.home) y.id = subst (λ h. HasPart (log_at (logs_of w) h) y.id) (sym home) (parts_of_closed y.id y b.home (order_closed i y.id (in_order y hy).0) (in_order y hy).1 (home_of_entry y b hb)) in

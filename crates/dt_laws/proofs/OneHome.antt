@@ -1,11 +1,11 @@
 -- Where no call moves anything and each has one home at first, each submitted transaction has one home, and there is no
 -- deadlock: the history of moves is empty, so that every annotation has the opening home of its key.
-use Rattle.std.proofs.Common.{◌≡◌, ◌<◌, ℕ, zero, suc, List, [], ◌∷◌, ◌++◌, length, get_or, map, take, slice_get, Some, refl, sym, ap, ap₂, subst, ◌∙◌}
+use Rattle.std.proofs.Common.{◌≡◌, ◌<◌, ℕ, zero, suc, List, [], ◌∷◌, ◌++◌, length, get_or, map, take, slice_get, refl, sym, ap, ap₂, subst, ◌∙◌}
 use Rattle.dt_lists.specs.Lists.{AnyIn, AllIn, Has}
-use Rattle.dt_lists.proofs.Callers.{any_get, all_get, all_put, any_image}
-use Rattle.dt_lists.proofs.Callers.{has_place}
-use Rattle.dt_lists.proofs.Callers.{Spot, spot}
-use Rattle.dt_lists.proofs.Callers.{all_front}
+use Rattle.dt_lists.proofs.Words.{any_get, all_get, all_put}
+use Rattle.dt_lists.proofs.Places.{has_place}
+use Rattle.dt_lists.proofs.Before.{Spot, spot}
+use Rattle.dt_lists.proofs.Fronts.{all_front}
 use Rattle.dt_access.specs.Clash.{Bytes}
 use Rattle.dt_access.specs.declared.TxnId.{TxnId}
 use Rattle.dt_access.specs.declared.Access.{Access}
@@ -14,19 +14,17 @@ use Rattle.dt_sched.specs.Views.{View, IsLonger, IsClass, HasOneHomeEach}
 use Rattle.dt_sched.proofs.OneHome.{class_single, none_resolvable}
 use Rattle.dt_events.specs.declared.Event.{Event}
 use Rattle.dt_events.specs.declared.Event.TheVariants.{Resolve}
-use Rattle.dt_table.specs.Table.{Moved, moves_of, opening_home, home_after, home_of}
+use Rattle.dt_table.specs.Table.{Moved, opening_home, home_after, home_of}
 use Rattle.dt_txn.specs.declared.Body.{Body}
 use Rattle.dt_txn.specs.declared.txn.Body.TheVariants.{Call, Move}
-use Rattle.dt_txn.specs.declared.Txn.{Txn}
-use Rattle.dt_txn.specs.Transaction.{set_of, targets_of, homes_of, used_of, annotated, uses_of, part_of, IsValid}
+use Rattle.dt_txn.specs.Transaction.{set_of, targets_of, homes_of, used_of, annotated, uses_of, IsValid}
 use Rattle.dt_txn.specs.Replica.{done_ids}
 use Rattle.dt_serial.specs.Evidence.{MadeMove}
 use Rattle.dt_serial.proofs.Callers.{move_made}
 use Rattle.dt_cluster.specs.declared.Cluster.{Cluster}
 use Rattle.dt_workload.specs.declared.Session.{Session}
-use Rattle.dt_workload.specs.declared.Wanted.{Wanted}
 use Rattle.dt_workload.specs.declared.Workload.{Workload}
-use Rattle.dt_session.specs.World.{World, Submission, node_at, opening_table, logs_of, log_of, view_at, submissions, txn_of}
+use Rattle.dt_session.specs.World.{World, Submission, node_at, opening_table, logs_of, view_at, submissions}
 use Rattle.dt_session.specs.Step.{IsLegal, body_of}
 use Rattle.dt_session.specs.Run.{AreLegalFrom, world_after, txns_of, order_of}
 use Rattle.dt_session.specs.OneHome.{homes_at_first, HasOneHome, CallsHaveOneHome}

@@ -2,16 +2,18 @@
 -- view is closed in the whole logs.
 use Rattle.std.proofs.Common.{◌≡◌, ◌<◌, ◌↔◌, ℕ, List, [], length, sym, subst}
 use Rattle.dt_lists.specs.Lists.{AllIn, Has}
-use Rattle.dt_lists.proofs.Callers.{any_at, any_image, all_get, all_put}
+use Rattle.dt_lists.proofs.Words.{any_at, any_image, all_get, all_put}
 use Rattle.dt_access.specs.declared.TxnId.{TxnId}
 use Rattle.dt_sched.specs.Views.{log_at, HasPart, IsLonger, IsPresent, IsClosed, Precedes, IsWellFormed}
-use Rattle.dt_sched.proofs.Callers.{well_formed_front, present_of_complete, complete_of_closed, closed_stays, preceders_stay}
+use Rattle.dt_sched.proofs.Longer.{well_formed_front}
+use Rattle.dt_sched.proofs.Reach.{present_of_complete}
+use Rattle.dt_sched.proofs.Closed.{complete_of_closed, closed_stays, preceders_stay}
 use Rattle.dt_txn.specs.Replica.{fronts, done_ids}
 use Rattle.dt_cluster.specs.declared.Cluster.{Cluster}
 use Rattle.dt_workload.specs.declared.Workload.{Workload}
-use Rattle.dt_session.specs.World.{World, node_at, logs_of, log_of, view_at, submissions, txn_of}
+use Rattle.dt_session.specs.World.{World, node_at, logs_of, log_of, view_at, txn_of}
 use Rattle.dt_laws.specs.Invariant.{Inv, IsExecutedAt}
-use Rattle.dt_laws.proofs.Submissions.{IsKnown, AreUnlike, unlike}
+use Rattle.dt_laws.proofs.Submissions.{IsKnown}
 use Rattle.dt_laws.proofs.Views.{view_is, fronts_longer, log_is, logs_length}
 use Rattle.dt_laws.proofs.Logs.{id_known, logs_well_formed}
 
@@ -28,9 +30,6 @@ module _ {cluster : Cluster} {workload : Workload} {w : World} {order : List Txn
 
   pub view_well_formed : (region : ℕ) → region < cluster.regions → IsWellFormed (view_at w region)
   view_well_formed region lt = well_formed_front (view_at w region) (logs_of w) (view_longer region lt) full_well_formed
-
-  pub submissions_unlike : AreUnlike (submissions w)
-  submissions_unlike = unlike cluster.regions w i.nodes i.ids
 
   -- what has a part in a log was submitted
   pub present_known : (t : TxnId) → IsPresent (logs_of w) t → IsKnown w t

@@ -3,9 +3,11 @@ use Rattle.std.proofs.Common.{◌≡◌, ◌<◌, ◌+◌, ℕ, suc, true, false
 use Rattle.std.specs.Prelude.{filter}
 use Rattle.std.proofs.lemmas.List.{map-append}
 use Rattle.std.proofs.lemmas.List.Elements.{filter-append}
-use Rattle.dt_lists.specs.Lists.{Has, EachThen, Distinct, IsFront}
-use Rattle.dt_lists.proofs.Callers.{any_get, any_put, any_of_image, any_image, each_map, each_image, each_of_steps, place_in_more, has_of_filtered}
-use Rattle.dt_lists.proofs.Callers.{has_filter, filter_each}
+use Rattle.dt_lists.specs.Lists.{Has, EachThen, Distinct}
+use Rattle.dt_lists.proofs.Words.{any_get, any_of_image, each_map, each_image}
+use Rattle.dt_lists.proofs.Before.{each_of_steps}
+use Rattle.dt_lists.proofs.Places.{place_in_more, has_of_filtered}
+use Rattle.dt_lists.proofs.Filters.{filter_each}
 use Rattle.dt_access.specs.declared.TxnId.{TxnId}
 use Rattle.dt_session.specs.World.{Submission}
 use Rattle.dt_laws.specs.Invariant.{AreNumbered, has_home, requests}
@@ -19,18 +21,12 @@ requests_here home s e = rw e refl
 pub requests_not : (home : ℕ) (s : Submission) → has_home home s.txn ≡ false → requests home (s ∷ []) ≡ []
 requests_not home s e = rw e refl
 
-pub requests_front : (home : ℕ) (xs ys : List Submission) → IsFront (requests home xs) (requests home (xs ++ ys))
-requests_front home xs ys = (requests home ys, sym (requests_append home xs ys))
-
 -- a request is of a submission that has a part there
 pub request_has : (home : ℕ) (xs : List Submission) (id : TxnId) → Has (requests home xs) id → (s : Submission) × Has xs s × (s.txn.id ≡ id) × (has_home home s.txn ≡ true)
 request_has home xs id h =
     let r : (s : Submission) × Has (filter (λ s. has_home home s.txn) xs) s × (s.txn.id ≡ id) = any_get _ (filter (λ s. has_home home s.txn) xs) (any_of_image (λ y. y ≡ id) (λ s. s.txn.id) (filter (λ s. has_home home s.txn) xs) h) in
     let k : Has xs r.0 × (has_home home r.0.txn ≡ true) = has_of_filtered (λ s. has_home home s.txn) xs r.0 r.1 in
     (r.0, k.0, r.2, k.1)
-
-pub has_request : (home : ℕ) (xs : List Submission) (s : Submission) → Has xs s → has_home home s.txn ≡ true → Has (requests home xs) s.txn.id
-has_request home xs s h e = any_image (λ y. y ≡ s.txn.id) (λ x. x.txn.id) (filter (λ s. has_home home s.txn) xs) (any_put _ (filter (λ s. has_home home s.txn) xs) s (has_filter (λ s. has_home home s.txn) xs s h e) refl)
 
 -- a region counts on
 pub numbered_more : (region : ℕ) (xs : List Submission) (s : Submission) → AreNumbered region xs → s.txn.id ≡ record { seq = length xs + 1; region = region } → AreNumbered region (xs ++ s ∷ [])

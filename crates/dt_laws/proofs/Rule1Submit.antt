@@ -5,8 +5,9 @@ use Rattle.std.proofs.lemmas.Bool.{cases_Bool, false_from_ne_true}
 use Rattle.std.proofs.lemmas.List.{length-set, length-append, take-append-le, get_or-set_same, get_or-set_other}
 use Rattle.std.proofs.lemmas.List.Elements.{filter-append}
 use Rattle.dt_lists.specs.Lists.{AnyIn, AllIn, Has, Either}
-use Rattle.dt_lists.proofs.Callers.{any_put, all_get, all_put, either_nat, field_of_set, map_of_set, each_of_set, all_more, has_more, has_last, has_longer}
-use Rattle.dt_lists.proofs.Callers.{has_place, at_place}
+use Rattle.dt_lists.proofs.Words.{any_put, all_get, all_put}
+use Rattle.dt_lists.proofs.Decided.{either_nat}
+use Rattle.dt_lists.proofs.Places.{field_of_set, map_of_set, each_of_set, all_more, has_more, has_last, has_longer, has_place, at_place}
 use Rattle.dt_access.specs.Clash.{Bytes, same_key}
 use Rattle.dt_access.specs.declared.TxnId.{TxnId}
 use Rattle.dt_sched.specs.Views.{ids_of}
@@ -143,9 +144,6 @@ module _ {cluster : Cluster} {workload : Workload} {w : World} {order : List Txn
       by (inl e) = subst (λ y. Has (node_at v y).submitted x) (sym e) (subst (λ l. Has l x) (sym submitted_here) (has_longer (node_at w region).submitted (s ∷ []) x (subst (λ y. Has (node_at w y).submitted x) e h)))
       by (inr n) = subst (λ y. Has y.submitted x) (sym (other r n)) h
 
-  stays : (x : Submission) → Has (submissions w) x → Has (submissions v) x
-  stays x h = let a : (r : ℕ) × (r < length w.nodes) × Has (node_at w r).submitted x = at_region w x h in from_region v a.0 x (stays_at a.0 x a.2)
-
   was : (x : Submission) → Has (submissions v) x → Has (submissions w) x ⊎ (s ≡ x)
   was x h =
       let a : (r : ℕ) × (r < length v.nodes) × Has (node_at v r).submitted x = at_region v x h in
@@ -157,9 +155,6 @@ module _ {cluster : Cluster} {workload : Workload} {w : World} {order : List Txn
         | inr k ↦ inr k
       ]
       by r h (inr n) = inl (from_region w r x (subst (λ y. Has y.submitted x) (other r n) h))
-
-  this : Has (submissions v) s
-  this = from_region v region s (subst (λ l. Has l s) (sym submitted_here) (has_last (node_at w region).submitted s))
 
   one : AreUnlike (submissions v)
   one = unlike cluster.regions v nodes_now ids
@@ -332,14 +327,6 @@ module _ {cluster : Cluster} {workload : Workload} {w : World} {order : List Txn
   pub submitted_was : (x : Submission) → Has (submissions (world_submitted workload w region session place (attempt_for cluster w region session place call))) x → Has (submissions w) x ⊎ (attempt_for cluster w region session place call ≡ x)
   unfolding v s
   submitted_was = was
-
-  pub submitted_stays : (x : Submission) → Has (submissions w) x → Has (submissions (world_submitted workload w region session place (attempt_for cluster w region session place call))) x
-  unfolding v s
-  submitted_stays = stays
-
-  pub submitted_this : Has (submissions (world_submitted workload w region session place (attempt_for cluster w region session place call))) (attempt_for cluster w region session place call)
-  unfolding v s
-  submitted_this = this
 
   pub submitted_found : (id : TxnId) (x : Submission) → submission_of w id ≡ Some x
       → submission_of (world_submitted workload w region session place (attempt_for cluster w region session place call)) id ≡ Some x

@@ -6,11 +6,12 @@ use Rattle.std.proofs.lemmas.List.{length-set, length_push, map-set, map_push, t
 use Rattle.std.proofs.lemmas.List.Elements.{filter-append}
 use Rattle.std.proofs.lemmas.Option.{get_or_from_slice_get}
 use Rattle.dt_lists.specs.Lists.{AllIn, Has, Either}
-use Rattle.dt_lists.proofs.Callers.{either_nat, field_of_set, flat_map_of_set, each_of_set, all_more, place_of, has_place, at_place, place_within}
+use Rattle.dt_lists.proofs.Decided.{either_nat}
+use Rattle.dt_lists.proofs.Places.{field_of_set, flat_map_of_set, each_of_set, all_more, place_of, has_place, at_place, place_within}
 use Rattle.dt_access.specs.declared.TxnId.{TxnId}
 use Rattle.dt_access.specs.declared.Part.{Part}
 use Rattle.dt_sched.specs.Views.{ids_of, log_at, IsLonger, IsWellFormed}
-use Rattle.dt_sched.proofs.Callers.{preceders_stay}
+use Rattle.dt_sched.proofs.Closed.{preceders_stay}
 use Rattle.dt_txn.specs.declared.Txn.{Txn}
 use Rattle.dt_txn.specs.Transaction.{homes_of, part_of}
 use Rattle.dt_txn.specs.Replica.{after_taking, fronts, done_ids}

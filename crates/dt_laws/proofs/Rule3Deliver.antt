@@ -1,10 +1,11 @@
 -- A delivery keeps the invariant.
 use Rattle.std.proofs.Common.{◌≡◌, ◌<◌, ◌≤◌, ℕ, Bool, true, false, cond, ltb, leb, ◌&&◌, List, length, get_or, set, refl, sym, ap, subst, ◌∙◌, inl, inr, arith}
 use Rattle.std.specs.Prelude.{slice_index}
+use Rattle.std.proofs.lemmas.Bool.{and_parts}
 use Rattle.std.proofs.lemmas.Bool.Decides.{nat_tests}
 use Rattle.std.proofs.lemmas.List.{length-set, get_or-set_same, get_or-set_other}
 use Rattle.dt_lists.specs.Lists.{Either}
-use Rattle.dt_lists.proofs.Callers.{either_nat}
+use Rattle.dt_lists.proofs.Decided.{either_nat}
 use Rattle.dt_access.specs.declared.TxnId.{TxnId}
 use Rattle.dt_cluster.specs.declared.Cluster.{Cluster}
 use Rattle.dt_workload.specs.declared.Workload.{Workload}
@@ -146,13 +147,9 @@ pub deliver_keeps : {cluster : Cluster} {workload : Workload} {w : World} {order
     → Inv cluster workload (next cluster workload w (Deliver region home first last)) order
 deliver_keeps {cluster = cluster} {workload = workload} {w = w} {order = order} i region home first last lr lh reaches = go (leb first (received_of w region home) && ltb (received_of w region home) last) refl
   where
-    rises : (a b : Bool) → (a && b) ≡ true → b ≡ true
-    rises true b e = e
-    rises false b e = cc
-
     below : ltb (received_of w region home) last ≡ true → received_of w region home ≤ last
     below e = grind (arith, nat_tests)
 
     go : (b : Bool) → leb first (received_of w region home) && ltb (received_of w region home) last ≡ b → Inv cluster workload (cond b (received w region home last) w) order
-    go true e = received_keeps i region home last lr lh (below (rises (leb first (received_of w region home)) (ltb (received_of w region home) last) e)) reaches
+    go true e = received_keeps i region home last lr lh (below (and_parts (leb first (received_of w region home)) (ltb (received_of w region home) last) e).1) reaches
     go false e = i

@@ -5,11 +5,13 @@ use Rattle.std.specs.List.{cons_option}
 use Rattle.std.proofs.lemmas.Bool.{cases_Bool}
 use Rattle.std.proofs.lemmas.List.Elements.{filter-append, filter_map-append}
 use Rattle.dt_lists.specs.Lists.{Has, IsFront}
-use Rattle.dt_lists.proofs.Callers.{has_of_filtered, has_filter, front_refl, front_append}
+use Rattle.dt_lists.proofs.Places.{has_of_filtered}
+use Rattle.dt_lists.proofs.Filters.{has_filter}
+use Rattle.dt_lists.proofs.Fronts.{front_refl, front_append}
 use Rattle.dt_access.specs.Ids.{same_id, is_among}
 use Rattle.dt_access.specs.declared.TxnId.{TxnId}
 use Rattle.dt_events.specs.declared.Event.{Event}
-use Rattle.dt_serial.proofs.Callers.{has_of_among, among_of_has, not_among}
+use Rattle.dt_serial.proofs.Callers.{among_of_has, has_of_among, not_among}
 use Rattle.dt_cluster.specs.declared.Cluster.{Cluster}
 use Rattle.dt_workload.specs.declared.Workload.{Workload}
 use Rattle.dt_session.specs.World.{World, opening_world}
@@ -80,10 +82,6 @@ run_longer {cluster = cluster} {workload = workload} {events = events} {event = 
 
 -- the order
 
--- the same id among ids, by a test
-among_id : (ids : List TxnId) (id : TxnId) → Has ids id → is_among ids id ≡ true
-among_id ids id h = among_of_has ids id h
-
 firsts_more : (xs : List TxnId) (y : TxnId) → firsts (xs ++ y ∷ []) ≡ with_executed (firsts xs) (Some y)
 firsts_more [] y = refl
 firsts_more (x ∷ xs) y = go (cases_Bool (is_among (firsts xs) y)) (cases_Bool (same_id x y)) (firsts_more xs y)
@@ -104,7 +102,7 @@ firsts_more (x ∷ xs) y = go (cases_Bool (is_among (firsts xs) y)) (cases_Bool 
     joined = filter-append (λ other. not (same_id x other)) (firsts xs) (y ∷ [])
 
     there : Has (x ∷ without x (firsts xs)) y → with_executed (x ∷ without x (firsts xs)) (Some y) ≡ x ∷ without x (firsts xs)
-    there h = rw (among_id (x ∷ without x (firsts xs)) y h) refl
+    there h = rw (among_of_has (x ∷ without x (firsts xs)) y h) refl
 
     absent : ¬ (Has (x ∷ without x (firsts xs)) y) → with_executed (x ∷ without x (firsts xs)) (Some y) ≡ (x ∷ without x (firsts xs)) ++ y ∷ []
     absent n = rw (not_among (x ∷ without x (firsts xs)) y n) refl
@@ -127,7 +125,7 @@ firsts_more (x ∷ xs) y = go (cases_Bool (is_among (firsts xs) y)) (cases_Bool 
       where
         new : ¬ (Has (x ∷ without x (firsts xs)) y)
         new (inl e) = cc (test_of_id x y e)
-        new (inr h) = cc (among_id (firsts xs) y (has_of_filtered (λ other. not (same_id x other)) (firsts xs) y h).0)
+        new (inr h) = cc (among_of_has (firsts xs) y (has_of_filtered (λ other. not (same_id x other)) (firsts xs) y h).0)
 
 pub order_of_more : (events : List Event) (event : Event) → order_of (events ++ event ∷ []) ≡ ordered (order_of events) event
 order_of_more events event = ap firsts (filter_map-append executed_id events (event ∷ [])) ∙ go (executed_id event)

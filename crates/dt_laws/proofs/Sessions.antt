@@ -1,19 +1,15 @@
 -- The places of sessions: one is looked up by its name and region, and one is changed.
-use Rattle.std.proofs.Common.{◌≡◌, ◌≢◌, ◌⊎◌, ℕ, Bool, true, false, eqb, ◌&&◌, List, [], ◌∷◌, map, Some, refl, sym, ap, subst, ◌∙◌, inl, inr}
+use Rattle.std.proofs.Common.{◌≡◌, ◌≢◌, ◌⊎◌, ℕ, true, false, eqb, List, [], ◌∷◌, map, Some, refl, sym, ap, subst, ◌∙◌, inl, inr}
 use Rattle.std.specs.Prelude.{Option}
 use Rattle.std.specs.Cmp.Lexicographic.{bytes_decides}
-use Rattle.std.proofs.lemmas.Bool.{cases_Bool}
+use Rattle.std.proofs.lemmas.Bool.{cases_Bool, and_parts}
 use Rattle.std.proofs.lemmas.Option.{some_pair_parts}
 use Rattle.dt_lists.specs.Lists.{Has, Distinct, Pairwise}
-use Rattle.dt_lists.proofs.Callers.{has_map, all_get}
+use Rattle.dt_lists.proofs.Words.{has_map, all_get}
 use Rattle.dt_access.specs.Clash.{Bytes, same_key}
 use Rattle.dt_workload.specs.declared.Session.{Session}
 use Rattle.dt_session.specs.World.{Place, is_session, session_at, with_place}
 use Rattle.dt_laws.proofs.Ids.{equal_of_test}
-
-both_true : (a b : Bool) → (a && b) ≡ true → (a ≡ true) × (b ≡ true)
-both_true true b e = (refl, e)
-both_true false b e = cc
 
 pub key_of_test : (a b : Bytes) → same_key a b ≡ true → a ≡ b
 key_of_test a b e = (bytes_decides a b).0 e
@@ -23,7 +19,7 @@ test_of_key a b e = (bytes_decides a b).1 e
 
 pub session_of_test : (region : ℕ) (name : Bytes) (s : Session) → is_session region name s ≡ true → (s.name ≡ name) × (s.region ≡ region)
 session_of_test region name s e =
-    let r : (same_key s.name name ≡ true) × (eqb s.region region ≡ true) = both_true (same_key s.name name) (eqb s.region region) e in
+    let r : (same_key s.name name ≡ true) × (eqb s.region region ≡ true) = and_parts (same_key s.name name) (eqb s.region region) e in
     (key_of_test s.name name r.0, equal_of_test s.region region r.1)
 
 -- the session that is found has the name and the region, and what holds of all sessions with their places holds of it

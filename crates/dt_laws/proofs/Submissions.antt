@@ -4,7 +4,8 @@ use Rattle.std.specs.Prelude.{Option, option_map}
 use Rattle.std.specs.List.{cons_option}
 use Rattle.std.proofs.lemmas.Bool.{cases_Bool}
 use Rattle.dt_lists.specs.Lists.{AllIn, Has}
-use Rattle.dt_lists.proofs.Callers.{any_at, any_from_at, place_of, any_in_joined, any_of_joined}
+use Rattle.dt_lists.proofs.Words.{any_at, any_from_at}
+use Rattle.dt_lists.proofs.Places.{place_of, any_in_joined, any_of_joined}
 use Rattle.dt_access.specs.Ids.{same_id}
 use Rattle.dt_access.specs.declared.TxnId.{TxnId}
 use Rattle.dt_txn.specs.declared.Txn.{Txn}

@@ -7,6 +7,7 @@ pub mod Eager
 pub mod Finished
 pub use Rattle.dt_txn.specs.Transaction
 pub use Rattle.dt_txn.specs.Execution
+pub use Rattle.dt_txn.specs.Staleness
 pub use Rattle.dt_txn.specs.Serial
 pub use Rattle.dt_txn.specs.Replica
 pub use Rattle.dt_table.specs.Table

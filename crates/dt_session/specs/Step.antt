@@ -12,6 +12,7 @@ use Rattle.dt_txn.specs.declared.Txn.{Txn}
 use Rattle.dt_txn.specs.declared.Outcome.{Outcome}
 use Rattle.dt_txn.specs.declared.outcome.Outcome.TheVariants.{Gave, Aborted, Stale}
 use Rattle.dt_txn.specs.Transaction.{part_of}
+use Rattle.dt_txn.specs.Staleness.{IsStaleOutcome}
 use Rattle.dt_txn.specs.Replica.{MayStep, next_id, submission_for, after_asking, after_taking, stepped}
 use Rattle.dt_cluster.specs.declared.Cluster.{Cluster}
 use Rattle.dt_workload.specs.declared.Workload.{Workload}
@@ -23,9 +24,7 @@ use Rattle.dt_session.specs.World.{World, Node, Place, Submission, node_at, with
 -- the outcome is there, and it is Stale
 abbrev pub IsStale : Option Outcome → Type 0
 IsStale None = ⊥
-IsStale (Some (Gave values)) = ⊥
-IsStale (Some (Aborted cause)) = ⊥
-IsStale (Some (Stale key had by)) = Unit {0}
+IsStale (Some outcome) = IsStaleOutcome outcome
 
 -- an attempt ends its call: its outcome is there, and it is not Stale or this was the last try
 abbrev pub IsLast : ℕ → ℕ → Option Outcome → Type 0
