@@ -1,8 +1,8 @@
 -- Attempts that clash are ordered across moves, and no attempt runs before the moves that it was annotated with.
 use Rattle.std.proofs.Common.{◌≡◌, ◌≢◌, ◌<◌, ◌≤◌, ℕ, true, List, [], ◌∷◌, ◌++◌, Some, sym, subst, subst₂, ◌∙◌}
 use Rattle.dt_lists.specs.Lists.{AnyIn, AllIn, Has}
-use Rattle.dt_lists.proofs.Words.{any_get, any_of_image}
-use Rattle.dt_lists.proofs.Before.{Spot, spot}
+use Rattle.dt_lists.proofs.Callers.{any_get, any_of_image}
+use Rattle.dt_lists.proofs.Callers.{Spot, spot}
 use Rattle.dt_access.specs.Clash.{clash}
 use Rattle.dt_access.specs.declared.TxnId.{TxnId}
 use Rattle.dt_access.specs.declared.Access.{Access}

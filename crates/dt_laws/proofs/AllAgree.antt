@@ -1,19 +1,22 @@
 -- In every legal world all regions agree.
-use Rattle.std.proofs.Common.{◌≡◌, ◌<◌, ◌⊎◌, ◌↔◌, ℕ, zero, suc, true, false, List, [], ◌∷◌, ◌++◌, length, map, take, Some, None, refl, sym, ap, ap₂, subst, subst₂, ◌∙◌, inl, inr, append_assoc, append-nil}
+use Rattle.dt_lists.proofs.Callers.{some_across}
+use Rattle.dt_access.proofs.Callers.{id_of_test, test_of_id}
+use Rattle.std.proofs.Common.{◌≡◌, ◌<◌, ◌⊎◌, ◌↔◌, ℕ, zero, suc, true, false, List, [], ◌∷◌, ◌++◌, length, map, take, Some, None, refl, sym, ap, ap₂, subst}
+use Rattle.std.proofs.Common.{subst₂, ◌∙◌, inl, inr, append_assoc, append-nil}
 use Rattle.std.specs.Prelude.{Option, option_map, filter, slice_index}
 use Rattle.std.specs.List.{cons_option}
 use Rattle.std.proofs.lemmas.Bool.{cases_Bool}
 use Rattle.std.proofs.lemmas.Option.{same_Some}
 use Rattle.std.proofs.lemmas.List.{map-append}
 use Rattle.dt_lists.specs.Lists.{AllIn, Has, IsFront, Distinct}
-use Rattle.dt_lists.proofs.Words.{any_put, any_append, any_append_right, all_get, all_put, has_map, all_append_left, each_across}
-use Rattle.dt_lists.proofs.Before.{has_before, has_middle}
-use Rattle.dt_lists.proofs.Fronts.{front_refl, front_trans, any_front}
+use Rattle.dt_lists.proofs.Callers.{any_put, any_append, any_append_right, all_get, all_put, has_map, all_append_left, each_across}
+use Rattle.dt_lists.proofs.Callers.{has_before, has_middle}
+use Rattle.dt_lists.proofs.Callers.{front_refl, front_trans, any_front}
 use Rattle.dt_access.specs.Ids.{same_id, is_among, StandsBefore}
 use Rattle.dt_access.specs.Clash.{Bytes}
 use Rattle.dt_access.specs.declared.TxnId.{TxnId}
 use Rattle.dt_sched.specs.Views.{View, IsClosed, Precedes}
-use Rattle.dt_sched.proofs.NothingToDo.{done_where_closed}
+use Rattle.dt_sched.proofs.Callers.{done_where_closed}
 use Rattle.dt_events.specs.declared.Event.{Event}
 use Rattle.dt_events.specs.declared.Event.TheVariants.{Submit, Answer}
 use Rattle.dt_table.specs.Table.{next_mover}
@@ -35,7 +38,6 @@ use Rattle.dt_session.specs.Run.{world_after, AreLegalFrom, executed_id, order_o
 use Rattle.dt_session.specs.Agreement.{WaitsFor, IsAwaited, HasCause, ReceivedAlike, Agree}
 use Rattle.dt_laws.specs.LegalRun.{IsLegalRun}
 use Rattle.dt_laws.specs.Invariant.{IsExecutedAt, Rooted, Inv}
-use Rattle.dt_laws.proofs.Ids.{id_of_test, test_of_id}
 use Rattle.dt_laws.proofs.Submissions.{IsKnown, txn_id}
 use Rattle.dt_laws.proofs.Views.{received_log}
 use Rattle.dt_laws.proofs.RegionViews.{view_fronts, order_known}
@@ -73,12 +75,6 @@ before_at id (x ∷ front) rest n = go (cases_Bool (same_id id x)) (before_at id
     go : (same_id id x ≡ true) ⊎ (same_id id x ≡ false) → ids_before id (front ++ id ∷ rest) ≡ front → ids_before id (x ∷ front ++ id ∷ rest) ≡ x ∷ front
     go (inl p) r = absurd (n (inl (sym (id_of_test id x p))))
     go (inr q) r = rw q (ap (λ l. x ∷ l) r)
-
--- an item of one list stands before one of the list that follows
-stands_across : (xs ys : List TxnId) (a b : TxnId) → Has xs a → Has ys b → StandsBefore (xs ++ ys) a b
-stands_across [] ys a b h k = absurd h
-stands_across (x ∷ xs) ys a b (inl e) k = inl (any_put _ (xs ++ ys) b (any_append_right (λ y. y ≡ b) xs ys k) (e, refl))
-stands_across (x ∷ xs) ys a b (inr h) k = inr (stands_across xs ys a b h k)
 
 -- the order of events is a front of that of more events
 pub order_front : (xs ys : List Event) → IsFront (order_of xs) (order_of (xs ++ ys))
@@ -267,12 +263,12 @@ real_time_at : {cluster : Cluster} {workload : Workload} (first : List Event) (r
     → Has (order_of (first ++ Answer region session ∷ middle ++ Submit other name ∷ last)) (upcoming_id (world_after cluster workload (first ++ Answer region session ∷ middle)) other)
     → StandsBefore (order_of (first ++ Answer region session ∷ middle ++ Submit other name ∷ last)) a (upcoming_id (world_after cluster workload (first ++ Answer region session ∷ middle)) other)
 real_time_at {cluster = cluster} {workload = workload} first region session middle other name last a run awaited executed =
-    subst (λ l. StandsBefore l a b) front.1 (stands_across (order_of before) front.0 a b
+    subst (λ l. StandsBefore l a b) front.1 (some_across (λ x y. (x ≡ a) × (y ≡ b)) (order_of before) front.0 a b
     (any_front (λ y. y ≡ a) (order_of first) (order_of before) (order_front first (Answer region session ∷ middle)) answered)
     (elim (any_append (λ y. y ≡ b) (order_of before) front.0 (subst (λ l. Has l b) (sym front.1) executed)) [
       | inl h ↦ absurd (new h)
       | inr h ↦ h
-    ]))
+    ]) (refl, refl))
   where
     before : List Event
     before = first ++ Answer region session ∷ middle

@@ -5,8 +5,8 @@ use Rattle.std.specs.Map.{lookup}
 use Rattle.std.proofs.lemmas.Option.{same_Some}
 use Rattle.std.specs.List.{cons_option}
 use Rattle.dt_lists.specs.Lists.{AnyIn, AllIn, Has}
-use Rattle.dt_lists.proofs.Words.{any_get, any_append, any_of_image, all_get, all_put}
-use Rattle.dt_lists.proofs.Places.{place_of}
+use Rattle.dt_lists.proofs.Callers.{any_get, any_append, any_of_image, all_get, all_put}
+use Rattle.dt_lists.proofs.Callers.{place_of}
 use Rattle.dt_access.specs.Clash.{Bytes, same_key}
 use Rattle.dt_access.specs.declared.Mode.{Mode}
 use Rattle.dt_access.specs.declared.TxnId.{TxnId}

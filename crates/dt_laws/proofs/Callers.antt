@@ -1,7 +1,6 @@
 -- What a proof of a crate above may cite of this crate: nothing else of `proofs/` is cited from there. First what is only
 -- passed on, then the laws of legal lists, then small facts of one world that keeps the invariant, by what they speak of:
 -- events, logs, ids, views, sessions.
-pub use Rattle.dt_laws.proofs.Ids.{id_of_test, test_of_id, equal_of_test, test_of_equal}
 pub use Rattle.dt_laws.proofs.Submissions.{IsKnown, find_has, from_region, numbered, home_region, submission_is_found, txn_there, txn_id}
 pub use Rattle.dt_laws.proofs.Views.{fronts_at, fronts_grown, log_is, logs_length, received_log, received_own}
 pub use Rattle.dt_laws.proofs.Logs.{part_homed}
@@ -14,7 +13,7 @@ pub use Rattle.dt_laws.proofs.Rule1Submit.{Submits}
 pub use Rattle.dt_laws.proofs.Rule2Append.{IsRequest, IsNextRequest}
 use Rattle.std.proofs.Common.{◌≡◌, ◌<◌, ◌≤◌, ◌⊎◌, ℕ, List, [], ◌∷◌, ◌++◌, length, set, slice_get, Some, subst}
 use Rattle.dt_lists.specs.Lists.{AllIn, Has, Distinct}
-use Rattle.dt_lists.proofs.Words.{all_get}
+use Rattle.dt_lists.proofs.Callers.{all_get}
 use Rattle.dt_access.specs.Clash.{Bytes}
 use Rattle.dt_access.specs.declared.TxnId.{TxnId}
 use Rattle.dt_sched.specs.Views.{ids_of, log_at, IsWellFormed}

@@ -1,17 +1,16 @@
 -- The homes of a transaction are a set, and asking them asks each once.
-use Rattle.std.proofs.Common.{◌≡◌, ◌<◌, ◌⊎◌, ℕ, true, false, ltb, eqb, List, [], ◌∷◌, ◌++◌, length, get_or, set, map, refl, sym, ap, subst, ◌∙◌, inl, inr, arith}
+use Rattle.std.proofs.Common.{◌≡◌, ◌<◌, ◌⊎◌, ℕ, true, false, ltb, eqb, List, [], ◌∷◌, ◌++◌, length, get_or, set, map, refl, sym, ap, subst, ◌∙◌, inl, inr, arith, eqb-true, eq-eqb}
 use Rattle.std.proofs.lemmas.Bool.{cases_Bool}
 use Rattle.std.proofs.lemmas.Bool.Decides.{nat_tests}
 use Rattle.std.proofs.lemmas.List.{length-set, get_or-set_same, get_or-set_other}
 use Rattle.dt_lists.specs.Lists.{AllIn, Has, EachThen, Distinct}
-use Rattle.dt_lists.proofs.Words.{any_map, all_map, all_get, each_map}
-use Rattle.dt_lists.proofs.Tests.{any_of_test, test_of_any}
+use Rattle.dt_lists.proofs.Callers.{any_map, all_map, all_get, each_map}
+use Rattle.dt_lists.proofs.Callers.{any_of_test, test_of_any}
 use Rattle.dt_access.specs.declared.TxnId.{TxnId}
 use Rattle.dt_txn.specs.declared.Txn.{Txn}
 use Rattle.dt_txn.specs.Transaction.{with_number, set_of, targets_of, homes_of}
 use Rattle.dt_txn.specs.Asking.{ask}
 use Rattle.dt_laws.specs.Invariant.{has_home}
-use Rattle.dt_laws.proofs.Ids.{equal_of_test, test_of_equal}
 
 -- the set with one more number
 
@@ -34,7 +33,7 @@ has_with_number n (m ∷ ms) x h = go (cases_Bool (ltb n m)) (cases_Bool (eqb n 
   where
     go : (ltb n m ≡ true) ⊎ (ltb n m ≡ false) → (eqb n m ≡ true) ⊎ (eqb n m ≡ false) → ((n ≡ x) ⊎ Has ms x → Has (with_number n ms) x) → (n ≡ x) ⊎ Has (m ∷ ms) x → Has (with_number n (m ∷ ms)) x
     go (inl p) b f h = rw p h
-    go (inr p) (inl q) f (inl e) = rw (p, q) (inl (sym (equal_of_test n m q) ∙ e))
+    go (inr p) (inl q) f (inl e) = rw (p, q) (inl (sym (eqb-true n m q) ∙ e))
     go (inr p) (inl q) f (inr k) = rw (p, q) k
     go (inr p) (inr q) f (inl e) = rw (p, q) (inr (f (inl e)))
     go (inr p) (inr q) f (inr (inl e)) = rw (p, q) (inl e)
@@ -83,10 +82,10 @@ homes_once txn = each_map _ _ (homes_of txn) (λ x y (lt : x < y) e. let n : ⊥
 -- the test whether a home is one of them
 
 pub home_of_test : (home : ℕ) (txn : Txn) → has_home home txn ≡ true → Has (homes_of txn) home
-home_of_test home txn e = any_map _ _ (homes_of txn) (λ h t. equal_of_test h home t) (any_of_test (λ h. eqb h home) (homes_of txn) e)
+home_of_test home txn e = any_map _ _ (homes_of txn) (λ h t. eqb-true h home t) (any_of_test (λ h. eqb h home) (homes_of txn) e)
 
 pub test_of_home : (home : ℕ) (txn : Txn) → Has (homes_of txn) home → has_home home txn ≡ true
-test_of_home home txn h = test_of_any (λ h. eqb h home) (homes_of txn) (any_map _ _ (homes_of txn) (λ x t. test_of_equal x home t) h)
+test_of_home home txn h = test_of_any (λ h. eqb h home) (homes_of txn) (any_map _ _ (homes_of txn) (λ x t. eq-eqb x home t) h)
 
 -- asking homes
 

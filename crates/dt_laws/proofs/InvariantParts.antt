@@ -2,7 +2,7 @@
 use Rattle.std.proofs.Common.{◌≡◌, ◌<◌, ◌≤◌, ℕ, List, [], ◌∷◌, length, get_or, set, map, take, sym, ap, ap₂, subst, ◌∙◌}
 use Rattle.std.specs.Prelude.{slice_index, Some}
 use Rattle.dt_lists.specs.Lists.{AnyIn, AllIn, Has, Pairwise}
-use Rattle.dt_lists.proofs.Words.{all_map}
+use Rattle.dt_lists.proofs.Callers.{all_map}
 use Rattle.dt_access.specs.declared.TxnId.{TxnId}
 use Rattle.dt_access.specs.declared.Part.{Part}
 use Rattle.dt_sched.specs.Views.{ids_of, Precedes}

@@ -1,7 +1,7 @@
 -- What legal events leave of ids: a submission stays the one of its id, and so does its transaction.
 use Rattle.std.proofs.Common.{◌≡◌, ℕ, Bool, true, false, cond, ltb, leb, ◌&&◌, List, [], ◌∷◌, ◌++◌, set, Some, None, refl, sym, subst, ◌∙◌, inl, inr, append_assoc, append-nil}
 use Rattle.std.specs.Prelude.{Option}
-use Rattle.dt_lists.proofs.Places.{field_of_set}
+use Rattle.dt_lists.proofs.Callers.{field_of_set}
 use Rattle.dt_access.specs.declared.TxnId.{TxnId}
 use Rattle.dt_events.specs.declared.Event.{Event}
 use Rattle.dt_events.specs.declared.Event.TheVariants.{Submit, Append, Deliver, Insert, Resolve, Execute, Answer}

@@ -1,6 +1,6 @@
 -- Each legal event keeps the invariant, so every legal world has it.
 use Rattle.std.proofs.Common.{◌≡◌, ◌<◌, ℕ, Bool, true, false, cond, List, [], ◌∷◌, ◌++◌, refl, sym, subst₂}
-use Rattle.dt_lists.proofs.Places.{from_right}
+use Rattle.dt_lists.proofs.Callers.{from_right}
 use Rattle.dt_access.specs.Ids.{is_among}
 use Rattle.dt_access.specs.declared.TxnId.{TxnId}
 use Rattle.dt_events.specs.declared.Event.{Event}

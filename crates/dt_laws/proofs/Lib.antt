@@ -1,4 +1,3 @@
-pub mod Ids
 pub mod Submissions
 pub mod Views
 pub mod Homes

@@ -1,15 +1,16 @@
 -- The logs of a world: each id stands once in a log, at a home that its part names, and all parts of an id are those of
 -- its one transaction.
-use Rattle.std.proofs.Common.{◌≡◌, ◌<◌, ◌≤◌, ℕ, suc, Bool, true, false, eqb, List, [], ◌∷◌, length, take, Some, refl, sym, ap, subst, ◌∙◌, inl, inr, arith}
+use Rattle.dt_lists.proofs.Callers.{filter_none}
+use Rattle.std.proofs.Common.{◌≡◌, ◌<◌, ◌≤◌, ℕ, suc, Bool, true, false, eqb, List, [], ◌∷◌, length, take, Some, refl, sym, ap, subst, ◌∙◌, inl, inr, arith, eqb-true, eq-eqb}
 use Rattle.std.specs.Prelude.{filter}
 use Rattle.std.proofs.lemmas.Bool.{false_from_ne_true}
 use Rattle.std.proofs.lemmas.List.{get_or_past}
 use Rattle.dt_lists.specs.Lists.{AllIn, Has, Distinct, Either}
-use Rattle.dt_lists.proofs.Words.{any_get, any_put, any_of_image, any_image, all_get, all_put}
-use Rattle.dt_lists.proofs.Fronts.{front_take, each_front, any_front}
-use Rattle.dt_lists.proofs.Decided.{either_le}
-use Rattle.dt_lists.proofs.Places.{distinct_by_key}
-use Rattle.dt_lists.proofs.Filters.{has_filter}
+use Rattle.dt_lists.proofs.Callers.{any_get, any_put, any_of_image, any_image, all_get, all_put}
+use Rattle.dt_lists.proofs.Callers.{front_take, each_front, any_front}
+use Rattle.dt_lists.proofs.Callers.{either_le}
+use Rattle.dt_lists.proofs.Callers.{distinct_by_key}
+use Rattle.dt_lists.proofs.Callers.{has_filter}
 use Rattle.dt_access.specs.declared.TxnId.{TxnId}
 use Rattle.dt_access.specs.declared.Part.{Part}
 use Rattle.dt_sched.specs.Views.{ids_of, log_at, IsWellFormed}
@@ -17,16 +18,11 @@ use Rattle.dt_txn.specs.declared.Txn.{Txn}
 use Rattle.dt_txn.specs.Transaction.{homes_of}
 use Rattle.dt_session.specs.World.{World, Submission, no_node, node_at, asked_of, taken_of, logs_of, log_of, submissions, txn_of}
 use Rattle.dt_laws.specs.Invariant.{has_home, requests, IsPartAt, given_by}
-use Rattle.dt_laws.proofs.Ids.{equal_of_test, test_of_equal}
 use Rattle.dt_laws.proofs.Submissions.{txn_there, home_region, from_region, txn_found}
 use Rattle.dt_laws.proofs.Homes.{home_of_test}
 use Rattle.dt_laws.proofs.Requests.{request_has, requests_once}
 use Rattle.dt_laws.proofs.Views.{log_is}
 use Rattle.dt_laws.proofs.InvariantParts.{Numbered, Asked, Logs}
-
-none_filtered : {A : Type 0} (test : A → Bool) (xs : List A) → AllIn (λ x. test x ≡ false) xs → filter test xs ≡ []
-none_filtered test [] a = refl
-none_filtered test (x ∷ xs) a = rw a.0 (none_filtered test xs a.1)
 
 module _ (regions : ℕ) (w : World) (nodes : length w.nodes ≡ regions) where
   -- there is no log past the last region
@@ -50,24 +46,24 @@ module _ (regions : ℕ) (w : World) (nodes : length w.nodes ≡ regions) where
     pub id_requested : (home : ℕ) (id : TxnId) → home < regions → Has (ids_of (log_of w home)) id → Has (requests home (node_at w id.region).submitted) id
     id_requested home id lt h =
         let k : (txn : Txn) × (txn_of w id ≡ Some txn) × (id.region < regions) = id_known home id lt h in
-        let g : Has (given_by id.region (ids_of (log_of w home))) id = has_filter (λ i. eqb i.region id.region) (ids_of (log_of w home)) id h (test_of_equal id.region id.region refl) in
+        let g : Has (given_by id.region (ids_of (log_of w home))) id = has_filter (λ i. eqb i.region id.region) (ids_of (log_of w home)) id h (eq-eqb id.region id.region refl) in
         let t : Has (take (taken_of w home id.region) (asked_of w id.region home)) id = subst (λ l. Has l id) ((logs home lt).given id.region k.2) g in
         subst (λ l. Has l id) (asked id.region home k.2 lt) (any_front _ (take (taken_of w home id.region) (asked_of w id.region home)) (asked_of w id.region home) (front_take (taken_of w home id.region) (asked_of w id.region home)) t)
 
     -- no id stands twice in a log
     pub log_once : (home : ℕ) → home < regions → Distinct (ids_of (log_of w home))
-    log_once home lt = distinct_by_key (λ b i. eqb i.region b) (λ i. i.region) (ids_of (log_of w home)) (λ i. test_of_equal i.region i.region refl) (λ b. by b (either_le (suc b) regions))
+    log_once home lt = distinct_by_key (λ b i. eqb i.region b) (λ i. i.region) (ids_of (log_of w home)) (λ i. eq-eqb i.region i.region refl) (λ b. by b (either_le (suc b) regions))
       where
         by : (b : ℕ) → Either (b < regions) → Distinct (given_by b (ids_of (log_of w home)))
         by b (inl lb) = subst Distinct (sym ((logs home lt).given b lb)) (each_front _ (take (taken_of w home b) (asked_of w b home)) (asked_of w b home) (front_take (taken_of w home b) (asked_of w b home))
             (subst Distinct (sym (asked b home lb lt)) (requests_once b home (node_at w b).submitted (ids b lb))))
-        by b (inr nb) = subst Distinct (sym (none_filtered (λ i. eqb i.region b) (ids_of (log_of w home)) (all_put _ (ids_of (log_of w home)) none))) tt
+        by b (inr nb) = subst Distinct (sym (filter_none (λ i. eqb i.region b) (ids_of (log_of w home)) (all_put _ (ids_of (log_of w home)) none))) tt
           where
             none : (i : TxnId) → Has (ids_of (log_of w home)) i → eqb i.region b ≡ false
             none i h =
                 let k : (txn : Txn) × (txn_of w i ≡ Some txn) × (i.region < regions) = id_known home i lt h in
                 let region : i.region < regions = k.2 in
-                false_from_ne_true (eqb i.region b) (λ e. let same : i.region ≡ b = equal_of_test i.region b e in nb (subst (λ x. x < regions) same region))
+                false_from_ne_true (eqb i.region b) (λ e. let same : i.region ≡ b = eqb-true i.region b e in nb (subst (λ x. x < regions) same region))
 
     -- a part of a log names its home, which is one of its homes
     pub part_homed : (home : ℕ) (p : Part) → home < regions → Has (log_of w home) p → (p.home ≡ home) × Has p.homes home

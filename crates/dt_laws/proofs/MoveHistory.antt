@@ -1,12 +1,12 @@
 -- The one history of a legal world: what roots every annotation in it gives what the theory of serial runs asks.
-use Rattle.std.proofs.Common.{◌≡◌, ◌≢◌, ◌<◌, ℕ, zero, suc, true, eqb, List, [], ◌∷◌, ◌++◌, map, take, slice_get, Some, refl, sym, ap, ap₂, subst, subst₂, ◌∙◌, inl, inr, arith}
+use Rattle.std.proofs.Common.{◌≡◌, ◌≢◌, ◌<◌, ℕ, zero, suc, true, eqb, List, [], ◌∷◌, ◌++◌, map, take, slice_get, Some, refl, sym, ap, ap₂, subst, subst₂, ◌∙◌, inl, inr, arith, eq-eqb}
 use Rattle.std.specs.Prelude.{filter}
 use Rattle.std.proofs.lemmas.Bool.{and_parts}
 use Rattle.std.proofs.lemmas.Option.{same_Some}
 use Rattle.dt_lists.specs.Lists.{AnyIn, AllIn, SomeThen, Has, Either}
-use Rattle.dt_lists.proofs.Decided.{either_le}
-use Rattle.dt_lists.proofs.Words.{any_get, any_put, any_append_left, any_append_right, all_get, all_map, all_put, has_map, any_of_image}
-use Rattle.dt_lists.proofs.Filters.{has_filter}
+use Rattle.dt_lists.proofs.Callers.{either_le}
+use Rattle.dt_lists.proofs.Callers.{any_get, any_put, any_append_left, any_append_right, all_get, all_map, all_put, has_map, any_of_image}
+use Rattle.dt_lists.proofs.Callers.{has_filter}
 use Rattle.dt_access.specs.Clash.{Bytes, same_key, uses_clash, clash}
 use Rattle.dt_access.specs.declared.Mode.{Mode}
 use Rattle.dt_access.specs.declared.Mode.TheVariants.{Write}
@@ -15,11 +15,11 @@ use Rattle.dt_access.specs.declared.Access.{Access}
 use Rattle.dt_access.specs.declared.Part.{Part}
 use Rattle.dt_sched.specs.Views.{log_at, HasPart, HasParts, AreClashing, Edge, here, Reaches, IsClosed, Precedes}
 use Rattle.dt_sched.specs.Decide.{IsSound}
-use Rattle.dt_sched.proofs.Clash.{clash_of_uses}
-use Rattle.dt_sched.proofs.Chains.{chain_step}
-use Rattle.dt_sched.proofs.Closed.{part_of_complete, edge_at_home, complete_of_closed}
-use Rattle.dt_sched.proofs.Precedence.{precedes_irreflexive, precedes_transitive, comparable_in_log}
-use Rattle.dt_sched.proofs.Sound.{sound_longer}
+use Rattle.dt_sched.proofs.Callers.{clash_of_uses}
+use Rattle.dt_lists.proofs.Callers.{chain_step}
+use Rattle.dt_sched.proofs.Callers.{part_of_complete, edge_at_home, complete_of_closed}
+use Rattle.dt_sched.proofs.Callers.{precedes_irreflexive, precedes_transitive, comparable_in_log}
+use Rattle.dt_sched.proofs.Callers.{sound_longer}
 use Rattle.dt_table.specs.Table.{Moved, opening_home, home_after}
 use Rattle.dt_txn.specs.declared.Body.{Body}
 use Rattle.dt_txn.specs.declared.txn.Body.TheVariants.{Call, Move}
@@ -34,7 +34,6 @@ use Rattle.dt_workload.specs.declared.Workload.{Workload}
 use Rattle.dt_session.specs.World.{World, Submission, node_at, opening_table, logs_of, log_of, view_at, submissions, txn_of}
 use Rattle.dt_session.specs.Run.{txns_of}
 use Rattle.dt_laws.specs.Invariant.{IsPartAt, history_of, HasRoot, IsRooted, Rooted, Inv}
-use Rattle.dt_laws.proofs.Ids.{test_of_equal}
 use Rattle.dt_laws.proofs.Submissions.{txn_id}
 use Rattle.dt_laws.proofs.Views.{log_is}
 use Rattle.dt_laws.proofs.Homes.{has_set_of}
@@ -59,7 +58,7 @@ some_of_image R f (x ∷ xs) (inr s) = inr (some_of_image R f xs s)
 
 -- an entry is listed by the part at its home
 pub listed : (body : Body) (home : ℕ) (access : List Access) (a : Access) → Has access a → a.home ≡ home → Has (map used_of (entries_at body home access)) (used_of a)
-listed (Call proc args) home access a h e = has_map used_of (filter (λ x. eqb x.home home) access) a (has_filter (λ x. eqb x.home home) access a h (test_of_equal a.home home e))
+listed (Call proc args) home access a h e = has_map used_of (filter (λ x. eqb x.home home) access) a (has_filter (λ x. eqb x.home home) access a h (eq-eqb a.home home e))
 listed (Move key target) home access a h e = has_map used_of access a h
 
 -- each part of a move lists its key for writing

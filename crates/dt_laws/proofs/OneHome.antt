@@ -2,16 +2,16 @@
 -- deadlock: the history of moves is empty, so that every annotation has the opening home of its key.
 use Rattle.std.proofs.Common.{◌≡◌, ◌<◌, ℕ, zero, suc, List, [], ◌∷◌, ◌++◌, length, get_or, map, take, slice_get, refl, sym, ap, ap₂, subst, ◌∙◌}
 use Rattle.dt_lists.specs.Lists.{AnyIn, AllIn, Has}
-use Rattle.dt_lists.proofs.Words.{any_get, all_get, all_put}
-use Rattle.dt_lists.proofs.Places.{has_place}
-use Rattle.dt_lists.proofs.Before.{Spot, spot}
-use Rattle.dt_lists.proofs.Fronts.{all_front}
+use Rattle.dt_lists.proofs.Callers.{any_get, all_get, all_put}
+use Rattle.dt_lists.proofs.Callers.{has_place}
+use Rattle.dt_lists.proofs.Callers.{Spot, spot}
+use Rattle.dt_lists.proofs.Callers.{all_front}
 use Rattle.dt_access.specs.Clash.{Bytes}
 use Rattle.dt_access.specs.declared.TxnId.{TxnId}
 use Rattle.dt_access.specs.declared.Access.{Access}
 use Rattle.dt_access.specs.declared.Part.{Part}
 use Rattle.dt_sched.specs.Views.{View, IsLonger, IsClass, HasOneHomeEach}
-use Rattle.dt_sched.proofs.OneHome.{class_single, none_resolvable}
+use Rattle.dt_sched.proofs.Callers.{class_single, none_resolvable}
 use Rattle.dt_events.specs.declared.Event.{Event}
 use Rattle.dt_events.specs.declared.Event.TheVariants.{Resolve}
 use Rattle.dt_table.specs.Table.{Moved, opening_home, home_after, home_of}

@@ -3,7 +3,7 @@
 -- is executed, and tables. Rules 3 to 6 change a world so.
 use Rattle.std.proofs.Common.{◌≡◌, ◌≢◌, ◌<◌, ℕ, List, length, refl, sym, ap, subst, ◌∙◌}
 use Rattle.std.proofs.lemmas.List.{length-set, get_or-set_same, get_or-set_other}
-use Rattle.dt_lists.proofs.Places.{field_of_set, map_of_set, flat_map_of_set, each_of_set}
+use Rattle.dt_lists.proofs.Callers.{field_of_set, map_of_set, flat_map_of_set, each_of_set}
 use Rattle.dt_access.specs.declared.TxnId.{TxnId}
 use Rattle.dt_cluster.specs.declared.Cluster.{Cluster}
 use Rattle.dt_workload.specs.declared.Workload.{Workload}

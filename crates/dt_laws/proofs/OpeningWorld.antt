@@ -3,16 +3,17 @@ use Rattle.std.proofs.Common.{◌≡◌, ◌<◌, ◌≤◌, ℕ, zero, suc, Lis
 use Rattle.std.specs.Prelude.{slice_index, flat_map}
 use Rattle.std.proofs.lemmas.List.{length-replicate, get_or-replicate, get_or_past}
 use Rattle.dt_lists.specs.Lists.{AllIn, Has, Pairwise, Either}
-use Rattle.dt_lists.proofs.Decided.{either_le, either_nat}
+use Rattle.dt_lists.proofs.Callers.{either_le, either_nat}
 use Rattle.dt_access.specs.declared.TxnId.{TxnId}
 use Rattle.dt_sched.specs.Views.{ids_of}
 use Rattle.dt_sched.specs.Decide.{IsSound}
-use Rattle.dt_sched.proofs.Longer.{well_formed_front}
+use Rattle.dt_sched.proofs.Callers.{well_formed_front}
 use Rattle.dt_txn.specs.Replica.{done_ids}
 use Rattle.dt_cluster.specs.declared.Cluster.{Cluster}
 use Rattle.dt_workload.specs.declared.Session.{Session}
 use Rattle.dt_workload.specs.declared.Workload.{Workload}
-use Rattle.dt_session.specs.World.{World, Node, no_node, opening_node, opening_table, opening_world, idle_place, node_at, asked_of, taken_of, log_of, logs_of, received_of, received_lengths, received_logs, view_at, submissions}
+use Rattle.dt_session.specs.World.{World, Node, no_node, opening_node, opening_table, opening_world, idle_place, node_at, asked_of, taken_of, log_of, logs_of}
+use Rattle.dt_session.specs.World.{received_of, received_lengths, received_logs, view_at, submissions}
 use Rattle.dt_session.specs.Run.{txns_of}
 use Rattle.dt_laws.specs.Invariant.{IsSized, AreNumbered, IsPartAt, given_by, requests, IsLog, AreInOrder, IsRunOf, IsOrder, IsPlaced, IsPlaceOf, SessionsMatch, Inv}
 use Rattle.dt_laws.proofs.Views.{fronts_longer, received_own, received_other}

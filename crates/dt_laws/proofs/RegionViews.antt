@@ -2,12 +2,12 @@
 -- view is closed in the whole logs.
 use Rattle.std.proofs.Common.{◌≡◌, ◌<◌, ◌↔◌, ℕ, List, [], length, sym, subst}
 use Rattle.dt_lists.specs.Lists.{AllIn, Has}
-use Rattle.dt_lists.proofs.Words.{any_at, any_image, all_get, all_put}
+use Rattle.dt_lists.proofs.Callers.{any_at, any_image, all_get, all_put}
 use Rattle.dt_access.specs.declared.TxnId.{TxnId}
 use Rattle.dt_sched.specs.Views.{log_at, HasPart, IsLonger, IsPresent, IsClosed, Precedes, IsWellFormed}
-use Rattle.dt_sched.proofs.Longer.{well_formed_front}
-use Rattle.dt_sched.proofs.Reach.{present_of_complete}
-use Rattle.dt_sched.proofs.Closed.{complete_of_closed, closed_stays, preceders_stay}
+use Rattle.dt_sched.proofs.Callers.{well_formed_front}
+use Rattle.dt_sched.proofs.Callers.{present_of_complete}
+use Rattle.dt_sched.proofs.Callers.{complete_of_closed, closed_stays, preceders_stay}
 use Rattle.dt_txn.specs.Replica.{fronts, done_ids}
 use Rattle.dt_cluster.specs.declared.Cluster.{Cluster}
 use Rattle.dt_workload.specs.declared.Workload.{Workload}

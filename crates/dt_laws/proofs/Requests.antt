@@ -4,10 +4,10 @@ use Rattle.std.specs.Prelude.{filter}
 use Rattle.std.proofs.lemmas.List.{map-append}
 use Rattle.std.proofs.lemmas.List.Elements.{filter-append}
 use Rattle.dt_lists.specs.Lists.{Has, EachThen, Distinct}
-use Rattle.dt_lists.proofs.Words.{any_get, any_of_image, each_map, each_image}
-use Rattle.dt_lists.proofs.Before.{each_of_steps}
-use Rattle.dt_lists.proofs.Places.{place_in_more, has_of_filtered}
-use Rattle.dt_lists.proofs.Filters.{filter_each}
+use Rattle.dt_lists.proofs.Callers.{any_get, any_of_image, each_map, each_image}
+use Rattle.dt_lists.proofs.Callers.{each_of_steps}
+use Rattle.dt_lists.proofs.Callers.{place_in_more, has_of_filtered}
+use Rattle.dt_lists.proofs.Callers.{filter_each}
 use Rattle.dt_access.specs.declared.TxnId.{TxnId}
 use Rattle.dt_session.specs.World.{Submission}
 use Rattle.dt_laws.specs.Invariant.{AreNumbered, has_home, requests}

@@ -2,15 +2,15 @@
 use Rattle.std.proofs.Common.{◌≡◌, ◌<◌, ◌≤◌, ◌+◌, ℕ, zero, suc, List, [], ◌++◌, length, take, slice_get, Some, refl, sym, ap, ap₂, subst, subst₂, ◌∙◌, inl, inr, arith}
 use Rattle.std.proofs.lemmas.List.{take_at, take-append-le}
 use Rattle.dt_lists.specs.Lists.{AllIn, Has, IsFront}
-use Rattle.dt_lists.proofs.Words.{any_from_at, all_map, all_get, all_put}
-use Rattle.dt_lists.proofs.Places.{has_place, place_within, at_place, place_in_longer}
+use Rattle.dt_lists.proofs.Callers.{any_from_at, all_map, all_get, all_put}
+use Rattle.dt_lists.proofs.Callers.{has_place, place_within, at_place, place_in_longer}
 use Rattle.dt_access.specs.Clash.{Bytes}
 use Rattle.dt_access.specs.declared.Mode.{Mode}
 use Rattle.dt_access.specs.declared.TxnId.{TxnId}
 use Rattle.dt_access.specs.declared.Access.{Access}
 use Rattle.dt_sched.specs.Views.{View, HasPart, IsPresent, Reaches, IsClosed, Precedes}
-use Rattle.dt_sched.proofs.Closed.{complete_of_closed}
-use Rattle.dt_sched.proofs.Reach.{reach_source, present_of_complete}
+use Rattle.dt_sched.proofs.Callers.{complete_of_closed}
+use Rattle.dt_sched.proofs.Callers.{reach_source, present_of_complete}
 use Rattle.dt_table.specs.Table.{Table, Moved, moves_of, opening_home, home_after}
 use Rattle.dt_txn.specs.declared.Txn.{Txn}
 use Rattle.dt_txn.specs.Transaction.{annotated}

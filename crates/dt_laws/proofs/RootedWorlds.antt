@@ -1,12 +1,13 @@
 -- Each legal event keeps every annotation rooted, so in every legal world all are.
-use Rattle.std.proofs.Common.{◌≡◌, ◌<◌, ◌⊎◌, ℕ, zero, suc, Bool, true, false, cond, ltb, leb, ◌&&◌, List, [], ◌∷◌, ◌++◌, length, map, set, take, slice_get, Some, None, refl, sym, ap, subst, subst₂, ◌∙◌, inl, inr, arith}
+use Rattle.std.proofs.Common.{◌≡◌, ◌<◌, ◌⊎◌, ℕ, zero, suc, Bool, true, false, cond, ltb, leb, ◌&&◌, List, [], ◌∷◌, ◌++◌, length, map, set, take, slice_get}
+use Rattle.std.proofs.Common.{Some, None, refl, sym, ap, subst, subst₂, ◌∙◌, inl, inr, arith}
 use Rattle.std.specs.Prelude.{Option}
 use Rattle.std.proofs.lemmas.List.{map_push, get_or-set_same, get_or-set_other, set_past}
 use Rattle.dt_lists.specs.Lists.{AllIn, Has, IsFront, Either}
-use Rattle.dt_lists.proofs.Words.{any_append, any_image, some_append_left, all_map, all_get, all_put, all_image}
-use Rattle.dt_lists.proofs.Decided.{either_nat, either_le}
-use Rattle.dt_lists.proofs.Before.{has_before}
-use Rattle.dt_lists.proofs.Places.{from_right, field_of_set, map_of_set, flat_map_of_set}
+use Rattle.dt_lists.proofs.Callers.{any_append, any_image, some_append_left, all_map, all_get, all_put, all_image}
+use Rattle.dt_lists.proofs.Callers.{either_nat, either_le}
+use Rattle.dt_lists.proofs.Callers.{has_before}
+use Rattle.dt_lists.proofs.Callers.{from_right, field_of_set, map_of_set, flat_map_of_set}
 use Rattle.dt_access.specs.Ids.{is_among, StandsBefore}
 use Rattle.dt_access.specs.Clash.{Bytes}
 use Rattle.dt_access.specs.declared.Mode.{Mode}
@@ -14,7 +15,7 @@ use Rattle.dt_access.specs.declared.TxnId.{TxnId}
 use Rattle.dt_access.specs.declared.Access.{Access}
 use Rattle.dt_access.specs.declared.Part.{Part}
 use Rattle.dt_sched.specs.Views.{ids_of, log_at, HasPart, IsLonger, IsClosed, IsWellFormed}
-use Rattle.dt_sched.proofs.Closed.{closed_stays, reaches_back}
+use Rattle.dt_sched.proofs.Callers.{closed_stays, reaches_back}
 use Rattle.dt_events.specs.declared.Event.{Event}
 use Rattle.dt_events.specs.declared.Event.TheVariants.{Submit, Append, Deliver, Insert, Resolve, Execute, Answer}
 use Rattle.dt_table.specs.Table.{Moved, moves_of, opening_home, home_after}

@@ -1,17 +1,18 @@
 -- A placed request keeps the invariant.
-use Rattle.std.proofs.Common.{◌≡◌, ◌≢◌, ◌<◌, ◌≤◌, ◌+◌, ◌⊎◌, ℕ, Bool, true, false, cond, eqb, List, [], ◌∷◌, ◌++◌, length, map, get_or, set, take, slice_get, Some, refl, sym, ap, ap₂, subst, ◌∙◌, inl, inr, append-nil, arith}
+use Rattle.std.proofs.Common.{◌≡◌, ◌≢◌, ◌<◌, ◌≤◌, ◌+◌, ◌⊎◌, ℕ, Bool, true, false, cond, eqb, List, [], ◌∷◌, ◌++◌, length, map, get_or, set, take, slice_get}
+use Rattle.std.proofs.Common.{Some, refl, sym, ap, ap₂, subst, ◌∙◌, inl, inr, append-nil, arith, eqb-true, eq-eqb}
 use Rattle.std.specs.Prelude.{Option, slice_index, option_and_then}
 use Rattle.std.proofs.lemmas.Bool.{false_from_ne_true}
 use Rattle.std.proofs.lemmas.List.{length-set, length_push, map-set, map_push, take_more, get_or-set_same, get_or-set_other}
 use Rattle.std.proofs.lemmas.List.Elements.{filter-append}
 use Rattle.std.proofs.lemmas.Option.{get_or_from_slice_get}
 use Rattle.dt_lists.specs.Lists.{AllIn, Has, Either}
-use Rattle.dt_lists.proofs.Decided.{either_nat}
-use Rattle.dt_lists.proofs.Places.{field_of_set, flat_map_of_set, each_of_set, all_more, place_of, has_place, at_place, place_within}
+use Rattle.dt_lists.proofs.Callers.{either_nat}
+use Rattle.dt_lists.proofs.Callers.{field_of_set, flat_map_of_set, each_of_set, all_more, place_of, has_place, at_place, place_within}
 use Rattle.dt_access.specs.declared.TxnId.{TxnId}
 use Rattle.dt_access.specs.declared.Part.{Part}
 use Rattle.dt_sched.specs.Views.{ids_of, log_at, IsLonger, IsWellFormed}
-use Rattle.dt_sched.proofs.Closed.{preceders_stay}
+use Rattle.dt_sched.proofs.Callers.{preceders_stay}
 use Rattle.dt_txn.specs.declared.Txn.{Txn}
 use Rattle.dt_txn.specs.Transaction.{homes_of, part_of}
 use Rattle.dt_txn.specs.Replica.{after_taking, fronts, done_ids}
@@ -21,7 +22,6 @@ use Rattle.dt_workload.specs.declared.Workload.{Workload}
 use Rattle.dt_session.specs.World.{World, Node, Submission, no_node, node_at, asked_of, taken_of, log_of, logs_of, received_of, view_at, submissions, txn_of}
 use Rattle.dt_session.specs.Step.{placed, next}
 use Rattle.dt_laws.specs.Invariant.{IsSized, IsPartAt, given_by, IsLog, AreInOrder, IsExecutedAt, IsOrder, has_home, Inv}
-use Rattle.dt_laws.proofs.Ids.{equal_of_test, test_of_equal}
 use Rattle.dt_laws.proofs.InvariantParts.{Sized, Numbered, Asked, Logs, Lengths, ids_kept, valid_kept, asked_kept, parts_kept, log_kept, sound_kept, tables_kept, sessions_kept}
 use Rattle.dt_laws.proofs.Submissions.{Keeps, txns_same, txn_same, txn_found, from_region}
 use Rattle.dt_laws.proofs.Requests.{request_has}
@@ -127,14 +127,14 @@ module _ {cluster : Cluster} {workload : Workload} {w : World} {order : List Txn
       where
         by : Either (s ≡ source) → given_by s (ids_of (log_of w home)) ++ given_by s (txn.id ∷ []) ≡ take (taken_of v home s) (asked_of v s home)
         by (inl e) =
-            let passes : eqb txn.id.region s ≡ true = test_of_equal txn.id.region s (request.region ∙ sym e) in
+            let passes : eqb txn.id.region s ≡ true = eq-eqb txn.id.region s (request.region ∙ sym e) in
             rw passes (ap (λ l. l ++ txn.id ∷ []) ((i.logs home lh).given s lt)
             ∙ subst (λ y. take (taken_of w home y) (asked_of w y home) ++ txn.id ∷ [] ≡ take (taken_of v home y) (asked_of v y home)) (sym e)
             (ap (λ x. take (taken_of w home source) (asked_of w source home) ++ x ∷ []) (sym (get_or_from_slice_get (asked_of w source home) (taken_of w home source) txn.id txn.id next_one))
             ∙ sym (take_more (asked_of w source home) (taken_of w home source) txn.id within)
             ∙ sym (ap₂ take taken_here (asked_same source))))
         by (inr n) =
-            let fails : eqb txn.id.region s ≡ false = false_from_ne_true (eqb txn.id.region s) (λ t. n (sym (equal_of_test txn.id.region s t) ∙ request.region)) in
+            let fails : eqb txn.id.region s ≡ false = false_from_ne_true (eqb txn.id.region s) (λ t. n (sym (eqb-true txn.id.region s t) ∙ request.region)) in
             rw fails (append-nil (given_by s (ids_of (log_of w home))) ∙ (i.logs home lh).given s lt ∙ sym (ap₂ take (taken_other s n) (asked_same s)))
 
     taken_now : (s : ℕ) → s < cluster.regions → taken_of v home s ≤ length (asked_of v s home)
@@ -292,7 +292,7 @@ module _ {cluster : Cluster} {workload : Workload} {w : World} {order : List Txn
       go false e = inl refl
       go true e =
           let at : (id : TxnId) × (slice_get (asked_of w source home) number ≡ Some id) = at_place (asked_of w source home) number more in
-          let turn : number ≡ taken_of w home source = equal_of_test number (taken_of w home source) e in
+          let turn : number ≡ taken_of w home source = eqb-true number (taken_of w home source) e in
           let r : IsRequest w home source at.0 = request_is i home source lh ls at.0 (has_place (asked_of w source home) number at.0 at.1) in
           let id : at.0 ≡ r.submission.txn.id = sym r.same in
           inr (

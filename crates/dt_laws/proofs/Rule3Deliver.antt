@@ -5,7 +5,7 @@ use Rattle.std.proofs.lemmas.Bool.{and_parts}
 use Rattle.std.proofs.lemmas.Bool.Decides.{nat_tests}
 use Rattle.std.proofs.lemmas.List.{length-set, get_or-set_same, get_or-set_other}
 use Rattle.dt_lists.specs.Lists.{Either}
-use Rattle.dt_lists.proofs.Decided.{either_nat}
+use Rattle.dt_lists.proofs.Callers.{either_nat}
 use Rattle.dt_access.specs.declared.TxnId.{TxnId}
 use Rattle.dt_cluster.specs.declared.Cluster.{Cluster}
 use Rattle.dt_workload.specs.declared.Workload.{Workload}

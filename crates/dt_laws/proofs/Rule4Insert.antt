@@ -3,12 +3,12 @@ use Rattle.std.proofs.Common.{◌≡◌, ◌≢◌, ◌<◌, ◌≤◌, ◌+◌,
 use Rattle.std.specs.Prelude.{slice_index}
 use Rattle.std.proofs.lemmas.List.{length-set, length-take, get_or-set_same, get_or-set_other}
 use Rattle.dt_lists.specs.Lists.{Either}
-use Rattle.dt_lists.proofs.Decided.{either_nat}
+use Rattle.dt_lists.proofs.Callers.{either_nat}
 use Rattle.dt_access.specs.declared.TxnId.{TxnId}
 use Rattle.dt_sched.specs.Views.{log_at, IsLonger}
 use Rattle.dt_sched.specs.Decide.{IsSound}
-use Rattle.dt_sched.proofs.Longer.{well_formed_front}
-use Rattle.dt_sched.proofs.Sound.{sound_longer}
+use Rattle.dt_sched.proofs.Callers.{well_formed_front}
+use Rattle.dt_sched.proofs.Callers.{sound_longer}
 use Rattle.dt_events.specs.declared.Event.TheVariants.{Insert}
 use Rattle.dt_txn.specs.Replica.{MayStep, fronts, done_ids}
 use Rattle.dt_cluster.specs.declared.Cluster.{Cluster}

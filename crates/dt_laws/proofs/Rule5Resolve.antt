@@ -1,10 +1,10 @@
 -- A resolution keeps the invariant.
 use Rattle.std.proofs.Common.{◌≡◌, ◌<◌, ℕ, List, [], ◌∷◌, ◌++◌, refl, sym, subst, inl, inr}
 use Rattle.dt_lists.specs.Lists.{Either}
-use Rattle.dt_lists.proofs.Decided.{either_nat}
+use Rattle.dt_lists.proofs.Callers.{either_nat}
 use Rattle.dt_access.specs.declared.TxnId.{TxnId}
 use Rattle.dt_sched.specs.Decide.{IsSound}
-use Rattle.dt_sched.proofs.Sound.{sound_resolve}
+use Rattle.dt_sched.proofs.Callers.{sound_resolve}
 use Rattle.dt_events.specs.declared.Event.TheVariants.{Resolve}
 use Rattle.dt_txn.specs.Replica.{MayStep, done_ids}
 use Rattle.dt_cluster.specs.declared.Cluster.{Cluster}

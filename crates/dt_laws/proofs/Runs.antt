@@ -1,13 +1,14 @@
 -- Events one after another: worlds, what is legal, and the order of first executions, with one more event at the end.
+use Rattle.dt_access.proofs.Callers.{id_of_test, test_of_id}
 use Rattle.std.proofs.Common.{◌≡◌, ◌⊎◌, Bool, true, false, cond, List, [], ◌∷◌, ◌++◌, Some, None, refl, sym, ap, ◌∙◌, inl, inr, append-nil}
 use Rattle.std.specs.Prelude.{Option, filter_map, not}
 use Rattle.std.specs.List.{cons_option}
 use Rattle.std.proofs.lemmas.Bool.{cases_Bool}
 use Rattle.std.proofs.lemmas.List.Elements.{filter-append, filter_map-append}
 use Rattle.dt_lists.specs.Lists.{Has, IsFront}
-use Rattle.dt_lists.proofs.Places.{has_of_filtered}
-use Rattle.dt_lists.proofs.Filters.{has_filter}
-use Rattle.dt_lists.proofs.Fronts.{front_refl, front_append}
+use Rattle.dt_lists.proofs.Callers.{has_of_filtered}
+use Rattle.dt_lists.proofs.Callers.{has_filter}
+use Rattle.dt_lists.proofs.Callers.{front_refl, front_append}
 use Rattle.dt_access.specs.Ids.{same_id, is_among}
 use Rattle.dt_access.specs.declared.TxnId.{TxnId}
 use Rattle.dt_events.specs.declared.Event.{Event}
@@ -18,7 +19,6 @@ use Rattle.dt_session.specs.World.{World, opening_world}
 use Rattle.dt_session.specs.Step.{IsLegal, next}
 use Rattle.dt_session.specs.Run.{world_from, world_after, AreLegalFrom, AreLegal, executed_id, without, firsts, order_of}
 use Rattle.dt_laws.specs.LegalRun.{IsLegalRun}
-use Rattle.dt_laws.proofs.Ids.{id_of_test, test_of_id}
 
 -- the order after the id of an event, if it executes one: an id that is executed for the first time comes last
 abbrev pub with_executed : List TxnId → Option TxnId → List TxnId

@@ -1,15 +1,14 @@
 -- The places of sessions: one is looked up by its name and region, and one is changed.
-use Rattle.std.proofs.Common.{◌≡◌, ◌≢◌, ◌⊎◌, ℕ, true, false, eqb, List, [], ◌∷◌, map, Some, refl, sym, ap, subst, ◌∙◌, inl, inr}
+use Rattle.std.proofs.Common.{◌≡◌, ◌≢◌, ◌⊎◌, ℕ, true, false, eqb, List, [], ◌∷◌, map, Some, refl, sym, ap, subst, ◌∙◌, inl, inr, eqb-true}
 use Rattle.std.specs.Prelude.{Option}
 use Rattle.std.specs.Cmp.Lexicographic.{bytes_decides}
 use Rattle.std.proofs.lemmas.Bool.{cases_Bool, and_parts}
 use Rattle.std.proofs.lemmas.Option.{some_pair_parts}
 use Rattle.dt_lists.specs.Lists.{Has, Distinct, Pairwise}
-use Rattle.dt_lists.proofs.Words.{has_map, all_get}
+use Rattle.dt_lists.proofs.Callers.{has_map, all_get}
 use Rattle.dt_access.specs.Clash.{Bytes, same_key}
 use Rattle.dt_workload.specs.declared.Session.{Session}
 use Rattle.dt_session.specs.World.{Place, is_session, session_at, with_place}
-use Rattle.dt_laws.proofs.Ids.{equal_of_test}
 
 pub key_of_test : (a b : Bytes) → same_key a b ≡ true → a ≡ b
 key_of_test a b e = (bytes_decides a b).0 e
@@ -20,7 +19,7 @@ test_of_key a b e = (bytes_decides a b).1 e
 pub session_of_test : (region : ℕ) (name : Bytes) (s : Session) → is_session region name s ≡ true → (s.name ≡ name) × (s.region ≡ region)
 session_of_test region name s e =
     let r : (same_key s.name name ≡ true) × (eqb s.region region ≡ true) = and_parts (same_key s.name name) (eqb s.region region) e in
-    (key_of_test s.name name r.0, equal_of_test s.region region r.1)
+    (key_of_test s.name name r.0, eqb-true s.region region r.1)
 
 -- the session that is found has the name and the region, and what holds of all sessions with their places holds of it
 pub session_found : (P : Session → Place → Type 0) (sessions : List Session) (places : List Place) (region : ℕ) (name : Bytes) (s : Session) (p : Place) → Pairwise P sessions places

@@ -1,18 +1,18 @@
 -- Submissions by their ids: each id has one, and it is found.
+use Rattle.dt_access.proofs.Callers.{id_of_test, test_of_id, test_of_other}
 use Rattle.std.proofs.Common.{◌≡◌, ◌≢◌, ◌<◌, ◌+◌, ◌⊎◌, ℕ, true, false, List, [], ◌∷◌, length, slice_get, Some, None, refl, sym, ap, ap₂, subst, ◌∙◌, inl, inr, arith}
 use Rattle.std.specs.Prelude.{Option, option_map}
 use Rattle.std.specs.List.{cons_option}
 use Rattle.std.proofs.lemmas.Bool.{cases_Bool}
 use Rattle.dt_lists.specs.Lists.{AllIn, Has}
-use Rattle.dt_lists.proofs.Words.{any_at, any_from_at}
-use Rattle.dt_lists.proofs.Places.{place_of, any_in_joined, any_of_joined}
+use Rattle.dt_lists.proofs.Callers.{any_at, any_from_at}
+use Rattle.dt_lists.proofs.Callers.{place_of, any_in_joined, any_of_joined}
 use Rattle.dt_access.specs.Ids.{same_id}
 use Rattle.dt_access.specs.declared.TxnId.{TxnId}
 use Rattle.dt_txn.specs.declared.Txn.{Txn}
 use Rattle.dt_session.specs.World.{World, Node, Submission, no_node, node_at, submissions, find_submission, submission_of, txn_of}
 use Rattle.dt_session.specs.Run.{txns_of}
 use Rattle.dt_laws.specs.Invariant.{AreNumbered}
-use Rattle.dt_laws.proofs.Ids.{id_of_test, test_of_id, test_of_other}
 
 -- each region has this of its node in the second world as in the first
 abbrev pub Keeps : {A : Type 0} → (Node → A) → World → World → Type 0

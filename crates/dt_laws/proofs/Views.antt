@@ -3,8 +3,8 @@ use Rattle.std.proofs.Common.{◌≡◌, ◌≢◌, ◌<◌, ◌≤◌, ℕ, zer
 use Rattle.std.specs.Prelude.{slice_index}
 use Rattle.std.proofs.lemmas.List.{take-take, take-append-le, length-map, get_or-set_same, get_or-set_other}
 use Rattle.dt_lists.specs.Lists.{IsFront}
-use Rattle.dt_lists.proofs.Fronts.{front_refl, front_take, front_takes, front_empty, front_append, pairwise_refl}
-use Rattle.dt_lists.proofs.Places.{get_of_map}
+use Rattle.dt_lists.proofs.Callers.{front_refl, front_take, front_takes, front_empty, front_append, pairwise_refl}
+use Rattle.dt_lists.proofs.Callers.{get_of_map}
 use Rattle.dt_access.specs.declared.Part.{Part}
 use Rattle.dt_sched.specs.Views.{View, log_at, IsLonger}
 use Rattle.dt_txn.specs.Replica.{fronts}

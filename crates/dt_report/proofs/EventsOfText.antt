@@ -12,17 +12,17 @@ use Rattle.std.proofs.lemmas.Bool.Decides.{nat_tests}
 use Rattle.std.proofs.lemmas.List.Concat.{flat_map-append}
 use Rattle.std.proofs.lemmas.List.Folds.{list_all-append}
 use Rattle.dt_lists.specs.Lists.{AllIn}
-use Rattle.dt_lists.proofs.Words.{all_append}
+use Rattle.dt_lists.proofs.Callers.{all_append}
 use Rattle.dt_text.specs.Texts.{IsKey, IsName, IsStr, is_key_byte, is_name_byte, is_text_byte}
 use Rattle.dt_text.specs.Printed.{text_item, text_items, text_word}
 use Rattle.dt_text.specs.declared.Value.{Value}
 use Rattle.dt_text.specs.declared.Value.TheVariants.{Int, Text}
-use Rattle.dt_text.proofs.Numerals.{decimal_digits}
+use Rattle.dt_text.proofs.Callers.{decimal_digits}
 use Rattle.dt_access.specs.declared.TxnId.{TxnId}
 use Rattle.dt_access.specs.Ids.{id_text}
 use Rattle.dt_events.specs.declared.Event.{Event}
 use Rattle.dt_events.specs.Events.{event_line, AreEvents, IsWritten}
-use Rattle.dt_events.proofs.ReadBack.{reads_back}
+use Rattle.dt_events.proofs.Callers.{reads_back}
 use Rattle.dt_eval.specs.declared.Cause.{Cause}
 use Rattle.dt_eval.specs.declared.Cause.TheVariants.{Word, Overflow, Zero, Kind, Long}
 use Rattle.dt_table.specs.declared.Shown.{Shown}

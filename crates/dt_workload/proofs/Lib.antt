@@ -4,3 +4,4 @@ pub mod OneForm
 pub mod OneFile
 pub mod Decisions
 pub mod Outcomes
+pub mod Callers

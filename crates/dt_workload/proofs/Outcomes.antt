@@ -15,8 +15,8 @@ use Rattle.dt_text.specs.declared.Value.TheVariants as val
 use Rattle.dt_proc.specs.Tree.{ProcTree}
 use Rattle.dt_proc.specs.Names.{place_of_name}
 use Rattle.dt_proc.specs.Sound.{IsSoundProc}
-use Rattle.dt_proc.specs.declared.tree.Kind.{Kind}
-use Rattle.dt_proc.specs.declared.tree.Kind.TheVariants as kind
+use Rattle.dt_syntax.specs.declared.kinds.Kind.{Kind}
+use Rattle.dt_syntax.specs.declared.kinds.Kind.TheVariants as kind
 use Rattle.dt_eval.specs.Meaning.{IsOfKind, Fits, HasKeys, names_of}
 use Rattle.dt_eval.specs.Calls.{CallFits}
 use Rattle.dt_cluster.specs.declared.Cluster.{Cluster}
