@@ -67,7 +67,7 @@ found cluster number body once e =
     let at = named_at cluster.procs number body body.name once e refl in
     let below = is_below number (length cluster.procs) (place_within cluster.procs number body e) in
     let place : place_of_name body.name cluster.procs ≡ Some number =
-        ap (λ n. cond (nat_lt n (length cluster.procs)) (Some n) None) at ∙ ap (λ b. cond b (Some number) None) below in
+    ap (λ n. cond (nat_lt n (length cluster.procs)) (Some n) None) at ∙ ap (λ b. cond b (Some number) None) below in
     ap (option_and_then (slice_get cluster.procs)) place ∙ e
 
 -- ---- calls and moves by their lines
@@ -323,7 +323,7 @@ room_for_one : (front : List Session) (last : Session) (wanted : Wanted) (others
     → calls_in (front ++ longer last wanted others ∷ later) ≤ 20000 → calls_in (front ++ last ∷ []) < 20000
 room_for_one front last wanted others later few =
     let sum : calls_in (front ++ longer last wanted others ∷ later) ≡ calls_in front + (length (last.calls ++ wanted ∷ others) + calls_in later) =
-        sum_parts (λ s. length s.calls) front (longer last wanted others) later in
+    sum_parts (λ s. length s.calls) front (longer last wanted others) later in
     let before : calls_in (front ++ last ∷ []) ≡ calls_in front + (length last.calls + 0) = sum_parts (λ s. length s.calls) front last [] in
     let calls = length-append last.calls (wanted ∷ others) in
     omega (arith, few, sum, before, calls)

@@ -214,7 +214,17 @@ every_file cluster valid file = by (lines_come_to cluster valid [] (lines_of fil
         → ((workload : Workload) × IsWorkload cluster file workload) ⊎ ((line : ℕ) × (why : WorkloadCause) × IsWorkloadFault cluster file line why)
     by (inl (sessions, are)) = inl (record { sessions = sessions }, are)
     by (inr (before, faulty, after, sessions, told, cut, fine, fault)) =
-        inr (faulty.number, told, record {
-          before = before; faulty = faulty; after = after; sessions = sessions;
-          cut = cut; fine = fine; numbered = refl; fault = fault;
-        })
+        inr (
+          faulty.number,
+          told,
+          record {
+            before = before;
+            faulty = faulty;
+            after = after;
+            sessions = sessions;
+            cut = cut;
+            fine = fine;
+            numbered = refl;
+            fault = fault;
+          },
+        )
