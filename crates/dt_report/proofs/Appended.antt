@@ -5,7 +5,7 @@ use Rattle.std.proofs.lemmas.Grind.{common_steps}
 use Rattle.dt_text.specs.declared.Value.{Value}
 use Rattle.dt_table.specs.declared.Shown.{Shown}
 use Rattle.dt_report.specs.Report.{line_of, value_word, table_text, tables_text}
-use Rattle.dt_report.specs.Spaced.{spaced}
+use Rattle.dt_report.specs.WordsInner.{spaced}
 
 spaced-append : (ws vs : List (List ℕ)) → spaced (ws ++ vs) ≡ spaced ws ++ spaced vs
 spaced-append [] vs = refl
@@ -32,7 +32,8 @@ from_place xs k x within is =
     cut ∙ ap (λ y. y ∷ drop (k + 1) xs) (sym is)
 
 -- one value more
-pub value_put : (start before after : List ℕ) (vs : List (Option Value)) (k : ℕ) (v : Option Value) → k < length vs → v ≡ get_or vs k v → before ++ spaced (map value_word (drop k vs)) ≡ start → after ≡ before ++ spaced (value_word v ∷ []) → after ++ spaced (map value_word (drop (k + 1) vs)) ≡ start
+pub value_put : (start before after : List ℕ) (vs : List (Option Value)) (k : ℕ) (v : Option Value) → k < length vs → v ≡ get_or vs k v → before ++ spaced (map value_word (drop k vs)) ≡ start
+    → after ≡ before ++ spaced (value_word v ∷ []) → after ++ spaced (map value_word (drop (k + 1) vs)) ≡ start
 value_put start before after vs k v within is so_far added =
     let rest : List (List ℕ) = map value_word (drop (k + 1) vs) in
     let one : List (List ℕ) = value_word v ∷ [] in
@@ -40,14 +41,16 @@ value_put start before after vs k v within is so_far added =
     ap (λ t. t ++ spaced rest) added ∙ append_assoc before (spaced one) (spaced rest) ∙ ap (λ t. before ++ t) (sym (spaced-append one rest)) ∙ ap (λ t. before ++ spaced (map value_word t)) (sym cut) ∙ so_far
 
 -- all values after their first word
-pub values_put : (old head before after : List ℕ) (vs : List (Option Value)) (k : ℕ) → length vs ≤ k → before ≡ old ++ spaced (head ∷ []) → after ++ spaced (map value_word (drop k vs)) ≡ before ++ spaced (map value_word vs) → after ≡ old ++ spaced (head ∷ map value_word vs)
+pub values_put : (old head before after : List ℕ) (vs : List (Option Value)) (k : ℕ) → length vs ≤ k → before ≡ old ++ spaced (head ∷ [])
+    → after ++ spaced (map value_word (drop k vs)) ≡ before ++ spaced (map value_word vs) → after ≡ old ++ spaced (head ∷ map value_word vs)
 values_put old head before after vs k past begun so_far =
     let none : drop k vs ≡ [] = grind (arith, common_steps) in
     let all : after ≡ before ++ spaced (map value_word vs) = sym (append-nil after) ∙ ap (λ t. after ++ spaced (map value_word t)) (sym none) ∙ so_far in
     words_added old (head ∷ []) (map value_word vs) before after begun all
 
 -- one table more
-pub table_put : (start before after : List ℕ) (tables : List (List Shown)) (k : ℕ) (table : List Shown) → k < length tables → table ≡ get_or tables k table → before ++ tables_text k (drop k tables) ≡ start → after ≡ before ++ table_text k table → after ++ tables_text (k + 1) (drop (k + 1) tables) ≡ start
+pub table_put : (start before after : List ℕ) (tables : List (List Shown)) (k : ℕ) (table : List Shown) → k < length tables → table ≡ get_or tables k table
+    → before ++ tables_text k (drop k tables) ≡ start → after ≡ before ++ table_text k table → after ++ tables_text (k + 1) (drop (k + 1) tables) ≡ start
 table_put start before after tables k table within is so_far added =
     let rest : List ℕ = tables_text (k + 1) (drop (k + 1) tables) in
     let cut : drop k tables ≡ table ∷ drop (k + 1) tables = from_place tables k table within is in

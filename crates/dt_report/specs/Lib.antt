@@ -1,2 +1,4 @@
 pub mod Report
-pub mod Spaced
+pub mod WordsInner
+pub mod Printable
+pub mod Laws

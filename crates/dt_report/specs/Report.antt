@@ -1,4 +1,6 @@
--- The text of a report: its sections, each made of lines of words.
+-- The text of a report: its sections, each made of lines of words. One learns here what `replay` and `run` print: the
+-- answers, the executed attempts in the one serial order, the table of each region, and the events, so that a run can be
+-- replayed from its report. Read next Laws.antt, which says that the text determines the events.
 use Rattle.std.specs.Prelude.{ℕ, ◌+◌, List, [], ◌∷◌, ◌++◌, map, flat_map, codes, Option, Some, None}
 use Rattle.std.specs.Fmt.{decimal}
 use Rattle.std.specs.List.{join_with_byte}

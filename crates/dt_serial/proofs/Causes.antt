@@ -57,9 +57,9 @@ module _ (procs : List ProcTree) (start : Table) (unmoved : (key : Bytes) → mo
   stale_reason x s o w =
       let m : (m : Moved) × (slice_get (moves_of (table_after procs s.front start) w.entry.key) w.entry.counter ≡ Some m) × (m.by ≡ w.by) = mover_at (moves_of (table_after procs s.front start) w.entry.key) w.entry.counter w.by w.next in
       let made : MadeMove procs s.front start w.entry.key w.entry.counter w.by
-          = subst (MadeMove procs s.front start w.entry.key w.entry.counter) m.2 (move_made procs s.front start w.entry.key w.entry.counter m.0 (unmoved w.entry.key) m.1) in
+      = subst (MadeMove procs s.front start w.entry.key w.entry.counter) m.2 (move_made procs s.front start w.entry.key w.entry.counter m.0 (unmoved w.entry.key) m.1) in
       let stays : MadeMove procs txns start w.entry.key w.entry.counter w.by
-          = subst (λ l. MadeMove procs l start w.entry.key w.entry.counter w.by) (sym s.is) (made_stays procs s.front (x ∷ s.rest) start w.entry.key w.entry.counter w.by made) in
+      = subst (λ l. MadeMove procs l start w.entry.key w.entry.counter w.by) (sym s.is) (made_stays procs s.front (x ∷ s.rest) start w.entry.key w.entry.counter w.by made) in
       subst (IsGrounded procs s.front txns start x) (sym w.is) (any_map _ _ x.access (λ a e. (ap (λ b. b.key) e, ap (λ b. b.counter) e)) w.there, made, stays)
 
   live_reason : (x : Txn) (s : Spot txns x) (o : Outcome) → own_outcome procs x (table_after procs s.front start) ≡ o → IsLive x (table_after procs s.front start) → ¬ (IsStaleOutcome o) → IsGrounded procs s.front txns start x o

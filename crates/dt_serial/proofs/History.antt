@@ -105,8 +105,8 @@ module _ (procs : List ProcTree) (order : TxnId → TxnId → Type 0) (start : T
           let e : (e : Access) × Has r.mover.access e × ((e.key ≡ key) × (e.mode ≡ Write)) = any_get _ r.mover.access r.may in
           let number : (e.0).counter ≡ suc i = all_get _ r.mover.access r.counters e.0 e.1 e.2.0 in
           let f : FollowsMove order (moves_of (table_after procs txns start) key) (suc i) r.mover.id
-              = subst (λ c. FollowsMove order (moves_of (table_after procs txns start) key) c r.mover.id) number
-              (subst (λ k. FollowsMove order (moves_of (table_after procs txns start) k) (e.0).counter r.mover.id) e.2.0 (anchor_at r.mover e.0 (spot_has txns r.mover r.at) e.1)) in
+          = subst (λ c. FollowsMove order (moves_of (table_after procs txns start) key) c r.mover.id) number
+          (subst (λ k. FollowsMove order (moves_of (table_after procs txns start) k) (e.0).counter r.mover.id) e.2.0 (anchor_at r.mover e.0 (spot_has txns r.mover r.at) e.1)) in
           let same : f.0 ≡ a = cc (f.1, p) in
           subst (λ c. order c b.by) (ap (λ c. c.by) same) (subst (order (f.0).by) r.makes.by f.2)
 

@@ -163,7 +163,7 @@ module _ (procs : List ProcTree) (order : TxnId → TxnId → Type 0) (start : T
       let same : one procs y (canon xs) ≡ one procs y (table_after procs r.front start) = same_one y r (is_among (txn_ids xs)) (past_in xs y ys down) in (
         subst (λ o. Has (outcomes procs txns start) (y.id, o)) (sym (ap (λ e. e.0) same)) (outcome_at procs txns start y r),
         subst (λ t. AllIn (λ r. Has (outcomes procs txns start) r) (outcomes procs ys t)) (sym (canon_step xs y ys all.0 down))
-        (walk_outcomes (xs ++ y ∷ []) ys all.1 (subst (λ l. IsDown order (txn_ids l)) (sym (append_assoc xs (y ∷ []) ys)) down)),
+            (walk_outcomes (xs ++ y ∷ []) ys all.1 (subst (λ l. IsDown order (txn_ids l)) (sym (append_assoc xs (y ∷ []) ys)) down)),
       )
 
   -- the table after such a list is the replay of the history for those of the list
@@ -318,7 +318,7 @@ module _ (procs : List ProcTree) (order : TxnId → TxnId → Type 0) (start : T
       let s : Spot txns x = spot txns x kx in
       let r : Spot txns y = spot txns y ky in
       let a : (a : Access) × Has x.access a × AnyIn (λ v. uses_clash (a.key, a.mode) v ≡ true) (uses_in y)
-          = any_get _ x.access (any_of_image (λ u. AnyIn (λ v. uses_clash u v ≡ true) (uses_in y)) (λ a. (a.key, a.mode)) x.access (uses_of_clash (uses_in x) (uses_in y) c)) in
+      = any_get _ x.access (any_of_image (λ u. AnyIn (λ v. uses_clash u v ≡ true) (uses_in y)) (λ a. (a.key, a.mode)) x.access (uses_of_clash (uses_in x) (uses_in y) c)) in
       let b : (b : Access) × Has y.access b × (uses_clash ((a.0).key, (a.0).mode) (b.key, b.mode) ≡ true) = any_get _ y.access (any_of_image (λ v. uses_clash ((a.0).key, (a.0).mode) v ≡ true) (λ b. (b.key, b.mode)) y.access a.2) in
       across procs order start txns h x y s r a.0 b.0 (live_there x s o ox fx) (live_there y r p py fy) ne a.1 b.1 b.2
 

@@ -90,7 +90,7 @@ numbered_move procs (x ∷ xs) t key i m low e = go (cases_lt i (counter_of (aft
         let number : counter_of t key ≡ i = omega (arith, here) in
         let seam : slice_get (moves_of t key ++ r.0 ∷ []) (counter_of t key) ≡ Some r.0 = get_seam (moves_of t key) r.0 [] in
         let there : slice_get (moves_of (after procs x t) key) i ≡ Some r.0
-            = subst (λ l. slice_get l i ≡ Some r.0) (sym (after_moves procs x t key ∙ ap (λ l. moves_of t key ++ l) r.1)) (subst (λ j. slice_get (moves_of t key ++ r.0 ∷ []) j ≡ Some r.0) number seam) in
+        = subst (λ l. slice_get l i ≡ Some r.0) (sym (after_moves procs x t key ∙ ap (λ l. moves_of t key ++ l) r.1)) (subst (λ j. slice_get (moves_of t key ++ r.0 ∷ []) j ≡ Some r.0) number seam) in
         let last : slice_get (moves_of (table_after procs xs (after procs x t)) key) i ≡ Some r.0 = get_front _ _ i r.0 (moves_grow procs xs (after procs x t) key) there in
         let same : r.0 ≡ m = cc in
         record { mover = x; at = record { front = []; rest = xs; is = refl }; number = number; makes = move_of_one procs x t key m (r.1 ∙ ap (λ z. z ∷ []) same) }

@@ -8,7 +8,7 @@ mod table;
 
 pub use effect::Effect;
 pub use shown::{Shown, ShownList};
-pub use table::{Mastership, Table};
+pub use table::{Mastership, Table, TableRow};
 
 #[cfg(test)]
 mod tests;

@@ -1,4 +1,4 @@
-ghost use Rattle.std.specs.Prelude.{◌≡◌, ◌+◌, ◌<◌, ◌≤◌, ◌^◌, Some, IfOk, length, map};
+ghost use Rattle.std.specs.Prelude.{◌≡◌, ◌+◌, ◌<◌, ◌≤◌, ◌^◌, Some, IfOk, length, map, option_map, slice_get};
 ghost use Rattle.indexmap.specs.IndexMap.{insert_entry, spare};
 ghost use Rattle.dt_access.specs.Clash.{same_key};
 ghost use Rattle.dt_access.specs.Orders.{HasDistinctKeys};
@@ -167,4 +167,17 @@ pub fn mover_of(moves: &[StoredMove], row: &StoredRow, number: u32) -> Option<Tx
         place = moves[place as usize].before?;
     }
     Some(moves[place as usize].by)
+}
+
+/// Who made the move of a row that follows its first `had` ones. None exactly where there is no such move.
+pub fn next_mover_of(moves: &[StoredMove], row: &StoredRow, had: u32) -> Option<TxnId>
+    requires linked { AreLinked 0 moves.now }
+    requires last { IsBelow (length moves.now) row.now.last }
+    requires counter { row.now.counter ≡ length (history moves.now row.now.last) }
+    ensures { result ≡ option_map (λ m. m.by) (slice_get (history moves.now row.now.last) had) }
+{
+    if row.counter <= had {
+        return None;
+    }
+    mover_of(moves, row, had + 1)
 }

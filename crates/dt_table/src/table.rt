@@ -6,7 +6,8 @@ ghost use Rattle.dt_table.specs.Table.{value_of, home_of, counter_of, next_mover
 use crate::effect::Effect;
 use crate::shown::{ShownList, shown_rows};
 use crate::stored::{
-    StoredMove, StoredRow, index_homes, mover_of, opening_home, opening_rows, put_move, put_value,
+    StoredMove, StoredRow, index_homes, mover_of, next_mover_of, opening_home, opening_rows,
+    put_move, put_value,
 };
 use dt_access::TxnId;
 use dt_text::{Key, NoMemory, Value};
@@ -21,6 +22,17 @@ pub struct Mastership {
     pub home: u8,
     /// How often the row was moved.
     pub counter: u32,
+}
+
+/// What a table has of one row.
+#[derive(Drop)]
+pub struct TableRow<'a> {
+    /// Its value, or none.
+    pub value: Option<&'a Value>,
+    /// How often it was moved.
+    pub counter: u32,
+    /// Who made the move that was asked for, if there is one.
+    pub mover: Option<TxnId>,
 }
 
 /// The rows of a region.
@@ -104,6 +116,26 @@ impl Table {
         ensures few { counter_of self.now.state key.now < 2 ^ 32 }
     {
         mover_of(&self.moves, self.rows.get(key)?, number)
+    }
+
+    /// What the table has of a key, by one look-up. The mover is that of the move which follows the first `had` ones.
+    pub fn row(&self, key: &Key, had: u32) -> TableRow<'_>
+        ensures value { option_copied result.value ≡ value_of self.now.state key.now }
+        ensures counter { result.counter ≡ counter_of self.now.state key.now }
+        ensures mover { result.mover ≡ next_mover self.now.state key.now had }
+    {
+        match self.rows.get(key) {
+            Some(row) => TableRow {
+                value: row.value.as_ref(),
+                counter: row.counter,
+                mover: next_mover_of(&self.moves, row, had),
+            },
+            None => TableRow {
+                value: None,
+                counter: 0,
+                mover: None,
+            },
+        }
     }
 
     /// Makes room for so many writes and moves, of any keys. Nothing else changes, whatever the answer. A table keeps at

@@ -56,7 +56,7 @@ annotated_next : (t : Table) (uses : List (Bytes × Mode)) (i : ℕ) (used : Byt
     → AreAscendingAccesses (map (annotated t) (take i uses) ++ annotated t (get_or uses i used) ∷ [])
 annotated_next t uses i used each within =
     let front = each_append_left (λ a b. KeyBefore a.0 b.0) (take (i + 1) uses) (drop (i + 1) uses)
-        (subst (λ (us : List (Bytes × Mode)). HasAscendingKeys us) (sym (take-append-drop (i + 1) uses)) each) in
+    (subst (λ (us : List (Bytes × Mode)). HasAscendingKeys us) (sym (take-append-drop (i + 1) uses)) each) in
     subst AreAscendingAccesses (ap (map (annotated t)) (take_more uses i used within) ∙ map-append (annotated t) (take i uses) (get_or uses i used ∷ []))
     (annotated_ascend t (take (i + 1) uses) front)
 
@@ -68,6 +68,6 @@ pub next_entry : (t : Table) (uses items : List (Bytes × Mode)) (access : List 
 next_entry t uses items access i used entry each same within so_far is key mode home counter =
     let entry_is : entry ≡ annotated t used = λ j. record { key = key j; mode = mode j; home = home j; counter = counter j } in
     let whole : access ++ entry ∷ [] ≡ map (annotated t) (take i items) ++ annotated t (get_or items i used) ∷ [] =
-        λ j. so_far j ++ (entry_is ∙ ap (annotated t) is) j ∷ [] in
+    λ j. so_far j ++ (entry_is ∙ ap (annotated t) is) j ∷ [] in
     subst AreAscendingAccesses (sym whole)
     (annotated_next t items i used (subst (λ (us : List (Bytes × Mode)). HasAscendingKeys us) (sym same) each) within)

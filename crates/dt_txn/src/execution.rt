@@ -1,6 +1,5 @@
 ghost use Rattle.std.specs.Prelude.{◌≡◌, IfOk, length, map};
 ghost use Rattle.std.specs.Option.{option_copied};
-ghost use Rattle.dt_table.specs.Table.{next_mover};
 ghost use Rattle.dt_eval.specs.Calls.{CallFits, call_keys, call_meaning};
 ghost use Rattle.dt_txn.specs.Transaction.{CanRun, used_of, uses_of};
 ghost use Rattle.dt_txn.specs.Execution.{execution, see, one, reads_of, result_of, stale_of, of_finish, no_effect};
@@ -21,10 +20,11 @@ pub fn see(alloc: Global, txn: &Txn, table: &Table) -> Result<Seens, NoMemory>
 {
     let mut seen = Seens::new(alloc);
     for entry in txn.access.as_slice() {
+        let row = table.row(&entry.key, entry.counter);
         seen.push(Seen {
-            value: copied(alloc, table.get(&entry.key))?,
-            counter: table.mastership(&entry.key).counter,
-            mover: next_mover(table, &entry.key, entry.counter),
+            value: copied(alloc, row.value)?,
+            counter: row.counter,
+            mover: row.mover,
         })?;
     }
     Ok(seen)
@@ -38,17 +38,6 @@ fn copied(alloc: Global, value: Option<&Value>) -> Result<Option<Value>, NoMemor
         Some(value) => Ok(Some(value.copy(alloc)?)),
         None => Ok(None),
     }
-}
-
-/// Who made the move of a key that follows its first `had` moves, if there is one.
-#[tactic(auto, using(crate::proofs::Sight::next_mover_none))]
-fn next_mover(table: &Table, key: &Key, had: u32) -> Option<TxnId>
-    ensures { result ≡ next_mover table.now.state key.now had }
-{
-    if table.mastership(key).counter <= had {
-        return None;
-    }
-    table.mover(key, had + 1)
 }
 
 /// What a transaction comes to, by these procedures, on every table in which it sees this: its outcome, and the changes that it makes.

@@ -19,6 +19,6 @@ returns-clause-own c procs precedes start history txns p key = movers_ran procs 
 
 pub returns-clause-next : goal.returns-clause-next
 returns-clause-next c procs precedes start history front x rest p = all_put _ x.access (λ a k by. (
-    flag_down procs (ByTest precedes) start history p.fits front x rest a by p.members p.down k,
-    λ r. flag_up procs (ByTest precedes) start history p.fits front x rest a by p.members p.down k r.0 r.1,
+  flag_down procs (ByTest precedes) start history p.fits front x rest a by p.members p.down k,
+  λ r. flag_up procs (ByTest precedes) start history p.fits front x rest a by p.members p.down k r.0 r.1,
 ))

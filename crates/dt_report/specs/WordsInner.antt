@@ -1,4 +1,4 @@
--- Words as the printers append them.
+-- Scaffolding: words as the printers append them, one after another. What a line of words is, Report.antt says.
 use Rattle.std.specs.Prelude.{ℕ, List, [], ◌∷◌, ◌++◌}
 
 -- words, each with a space before it
