@@ -1,10 +1,10 @@
 -- The text of a report determines its events.
-use Rattle.std.proofs.Common.{◌≡◌, ◌≢◌, ℕ, suc, ◌+◌, ◌<◌, ◌≤◌, ◌^◌, Bool, true, false, true≢false, not, nat_eq, ◌&&◌, ◌==◌, List, []}
+use Rattle.std.proofs.Common.{◌≡◌, ◌≢◌, ℕ, suc, ◌+◌, ◌<◌, Bool, true, false, true≢false, not, nat_eq, ◌&&◌, ◌==◌, List, []}
 use Rattle.std.proofs.Common.{◌∷◌, ◌++◌, length, map, codes, pos, negsuc, Option, Some, None, refl, sym, ap, subst, ◌∙◌, arith, append_assoc, append-nil}
 use Rattle.std.specs.Prelude.{flat_map}
 use Rattle.std.specs.List.{join_with_byte, list_all, enumerate_from}
 use Rattle.std.specs.Char.{digit_value}
-use Rattle.std.specs.Fmt.{decimal, signed_decimal}
+use Rattle.std.specs.Fmt.{decimal}
 use Rattle.std.specs.Str.Parse.{AllDigits}
 use Rattle.std.specs.Cmp.Lexicographic.{pointwise, bytes_decides}
 use Rattle.std.proofs.lemmas.Bool.{and_from, and_parts}
@@ -21,7 +21,7 @@ use Rattle.dt_text.proofs.Callers.{decimal_digits}
 use Rattle.dt_access.specs.declared.TxnId.{TxnId}
 use Rattle.dt_access.specs.Ids.{id_text}
 use Rattle.dt_events.specs.declared.Event.{Event}
-use Rattle.dt_events.specs.Events.{event_line, AreEvents, IsWritten}
+use Rattle.dt_events.specs.Events.{event_line, AreEvents}
 use Rattle.dt_events.proofs.Callers.{reads_back}
 use Rattle.dt_eval.specs.declared.Cause.{Cause}
 use Rattle.dt_eval.specs.declared.Cause.TheVariants.{Word, Overflow, Zero, Kind, Long}
@@ -32,7 +32,7 @@ use Rattle.dt_report.specs.declared.report.Reply.{Reply}
 use Rattle.dt_report.specs.declared.report.Ran.{Ran}
 use Rattle.dt_report.specs.declared.report.Report.{Report}
 use Rattle.dt_report.specs.Report.{line_of, value_word, cause_word, outcome_words, reply_line, ran_line, row_line, replies_text, order_text, table_text, tables_text, events_text, report_text}
-use Rattle.dt_report.specs.Printable.{IsNumber, IsPrintableId, IsPrintableValue, MayBePrinted, IsPrintableOutcome, IsPrintableReply, IsPrintableRan, IsPrintableRow, IsPrintable}
+use Rattle.dt_report.specs.Printable.{IsNumber, IsPrintableId, MayBePrinted, IsPrintableOutcome, IsPrintableReply, IsPrintableRan, IsPrintableRow, IsPrintable}
 use Rattle.dt_report.specs.Laws.{TextsTellEvents}
 
 -- ---- printed words have no line end

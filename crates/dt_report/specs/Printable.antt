@@ -2,7 +2,7 @@
 -- at most, and its events are such as a line can have. Every report that the program makes is so, by the types of its
 -- parts. One needs it to read a report's text: a session with a line end in its name could write what it likes. Read
 -- next Laws.antt.
-use Rattle.std.specs.Prelude.{ℕ, ◌<◌, ◌^◌, List, length, Option, MatchOption, FitsSigned}
+use Rattle.std.specs.Prelude.{ℕ, ◌<◌, ◌^◌, length, Option, MatchOption, FitsSigned}
 use Rattle.std.specs.Int.{w64}
 use Rattle.dt_lists.specs.Lists.{AllIn}
 use Rattle.dt_text.specs.Texts.{IsKey, IsName, IsStr}

@@ -1,22 +1,15 @@
 -- Why a transaction has its outcome.
 use Rattle.std.proofs.Common.{◌≡◌, ◌⊎◌, ℕ, List, [], ◌∷◌, ◌++◌, length, slice_get, Some, sym, ap, subst, inl, inr, arith}
-use Rattle.std.specs.Prelude.{Option}
 use Rattle.dt_lists.specs.Lists.{AllIn, Has}
 use Rattle.dt_lists.proofs.Callers.{any_map, any_append_left, all_put, Spot, spot_has, get_front}
 use Rattle.dt_access.specs.Clash.{Bytes}
 use Rattle.dt_access.specs.declared.TxnId.{TxnId}
 use Rattle.dt_proc.specs.Tree.{ProcTree}
 use Rattle.dt_table.specs.Table.{Table, Moved, moves_of}
-use Rattle.dt_text.specs.declared.Value.{Value}
-use Rattle.dt_eval.specs.Calls.{call_meaning}
-use Rattle.dt_eval.specs.declared.Finish.{Finish}
-use Rattle.dt_eval.specs.declared.finish.Finish.TheVariants as finish
-use Rattle.dt_txn.specs.declared.txn.Body.{Body}
-use Rattle.dt_txn.specs.declared.txn.Body.TheVariants.{Call, Move}
 use Rattle.dt_txn.specs.declared.txn.Txn.{Txn}
 use Rattle.dt_txn.specs.declared.outcome.Outcome.{Outcome}
 use Rattle.dt_txn.specs.declared.outcome.Outcome.TheVariants.{Gave, Aborted, Stale}
-use Rattle.dt_txn.specs.Execution.{see, reads_of, of_finish, result_of, one}
+use Rattle.dt_txn.specs.Execution.{see, reads_of, one}
 use Rattle.dt_txn.specs.Serial.{outcomes, table_after}
 use Rattle.dt_txn.specs.Staleness.{IsStaleOutcome}
 use Rattle.dt_txn.proofs.Callers.{own_fresh}

@@ -7,11 +7,11 @@ ghost use Rattle.dt_txn.specs.Execution.{execution, see, one, reads_of, result_o
 use crate::called::called;
 use crate::outcome::{Outcome, Seen, Seens};
 use crate::txn::{Body, Txn};
-use dt_access::{Access, TryCopy, TxnId, Writes};
+use dt_access::{Access, TryCopy, Writes};
 use dt_eval::{Finish, Reads, Values, run};
 use dt_proc::Procs;
 use dt_table::{Effect, Table};
-use dt_text::{Key, NoMemory, Value};
+use dt_text::{NoMemory, Value};
 use std::alloc::Global;
 
 /// What a transaction sees in a table, for each entry of its access list, in order.
