@@ -15,6 +15,6 @@ pub use copies::TryCopy;
 pub use homes::Homes;
 pub use id::{TxnId, put_id, read_id};
 pub use keys::Keys;
-pub use lists::{Accesses, Ids};
+pub use lists::Ids;
 pub use part::{Part, clash};
 pub use writes::Writes;
