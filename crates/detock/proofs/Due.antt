@@ -21,7 +21,7 @@ use Rattle.dt_workload.proofs.OneFile.{one_workload, no_workload_fault, one_work
 use Rattle.dt_session.specs.World.{World, opening_world}
 use Rattle.dt_session.specs.Step.{IsLegal, next, rule_of}
 use Rattle.dt_session.specs.Run.{AreLegal, AreLegalFrom, world_from}
-use Rattle.dt_laws.proofs.Callers.{legal_append}
+use Rattle.dt_agreement.proofs.Callers.{legal_append}
 use Rattle.detock.specs.declared.status.Status.{Status}
 use Rattle.detock.specs.declared.status.Status.TheVariants.{Done, NoMemory, BadWords, CannotRead, BadCluster, BadWorkload, BadEvents, CannotWrite, NotBuilt}
 use Rattle.detock.specs.declared.status.EventsCause.{EventsCause}

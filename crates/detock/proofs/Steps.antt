@@ -7,7 +7,7 @@ use Rattle.dt_workload.specs.declared.Workload.{Workload}
 use Rattle.dt_session.specs.World.{World, opening_world}
 use Rattle.dt_session.specs.Step.{IsLegal, next, rule_of}
 use Rattle.dt_session.specs.Run.{AreLegal, world_after}
-use Rattle.dt_laws.proofs.Callers.{append_legal, world_from_append}
+use Rattle.dt_agreement.proofs.Callers.{append_legal, world_from_append}
 use Rattle.detock.specs.Headline.{unnumbered}
 use Rattle.dt_world.specs.Kept.{Kept}
 use Rattle.dt_world.specs.declared.StepError.{StepError}

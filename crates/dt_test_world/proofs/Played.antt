@@ -2,7 +2,7 @@
 use Rattle.std.proofs.Common.{◌≡◌, ◌+◌, List, [], ◌∷◌, ◌++◌, sym, ap, subst, ◌∙◌}
 use Rattle.dt_events.specs.declared.Event.{Event}
 use Rattle.dt_session.specs.Step.{IsLegal, next}
-use Rattle.dt_laws.proofs.Callers.{more_legal, world_after_more}
+use Rattle.dt_agreement.proofs.Callers.{more_legal, world_after_more}
 use Rattle.dt_world.specs.Kept.{Kept}
 use Rattle.dt_test_world.specs.Led.{HasLed}
 

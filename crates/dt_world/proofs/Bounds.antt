@@ -20,12 +20,12 @@ use Rattle.dt_workload.specs.Valid.{IsValidWorkload}
 use Rattle.dt_session.specs.World.{World, Node, Place, idle_place, is_session, no_node, node_at, opening_node, opening_table, opening_world, logs_of, received_of, session_at, txn_of, with_place}
 use Rattle.dt_session.specs.Step.{IsLegal, MayAnswer, answered, next, node_submitted, placed, received, submission_for}
 use Rattle.dt_session.specs.Run.{AreLegal, order_of, world_after}
-use Rattle.dt_laws.specs.Invariant.{Inv}
-use Rattle.dt_laws.proofs.Callers.{append_cases}
-use Rattle.dt_laws.proofs.Appending.{logs_placed}
-use Rattle.dt_laws.proofs.Keeping.{legal_keeps}
-use Rattle.dt_laws.proofs.Callers.{legal_more, world_after_more}
-use Rattle.dt_laws.proofs.Callers.{Submits, submits}
+use Rattle.dt_agreement.specs.Invariant.{Inv}
+use Rattle.dt_agreement.proofs.Callers.{append_cases}
+use Rattle.dt_agreement.proofs.Appending.{logs_placed}
+use Rattle.dt_agreement.proofs.Keeping.{legal_keeps}
+use Rattle.dt_agreement.proofs.Callers.{legal_more, world_after_more}
+use Rattle.dt_agreement.proofs.Callers.{Submits, submits}
 use Rattle.dt_world.proofs.Listing.{parts_set}
 
 -- a world whose lists are that short

@@ -22,15 +22,15 @@ use Rattle.dt_workload.specs.Valid.{IsValidWorkload}
 use Rattle.dt_session.specs.World.{World, Submission, no_node, node_at, outcome_at, outcome_in, submission_of, submissions, txn_of}
 use Rattle.dt_session.specs.Step.{IsLegal, next}
 use Rattle.dt_session.specs.Run.{AreLegal, executed_id, order_of, serial_outcome, world_after}
-use Rattle.dt_laws.specs.Invariant.{Inv, IsExecutedAt}
-use Rattle.dt_laws.proofs.Callers.{lookup_has}
-use Rattle.dt_laws.proofs.Agreeing.{legal_agree}
-use Rattle.dt_laws.proofs.Callers.{executable_known}
-use Rattle.dt_laws.proofs.Callers.{test_of_id}
-use Rattle.dt_laws.proofs.Keeping.{legal_keeps}
-use Rattle.dt_laws.proofs.Known.{done_known, submissions_unlike}
-use Rattle.dt_laws.proofs.Callers.{with_executed, order_of_more, world_after_more}
-use Rattle.dt_laws.proofs.Callers.{IsKnown, find_of_has, numbered, txn_id, txn_there}
+use Rattle.dt_agreement.specs.Invariant.{Inv, IsExecutedAt}
+use Rattle.dt_agreement.proofs.Callers.{lookup_has}
+use Rattle.dt_agreement.proofs.Agreeing.{legal_agree}
+use Rattle.dt_agreement.proofs.Callers.{executable_known}
+use Rattle.dt_agreement.proofs.Callers.{test_of_id}
+use Rattle.dt_agreement.proofs.Keeping.{legal_keeps}
+use Rattle.dt_agreement.proofs.Known.{done_known, submissions_unlike}
+use Rattle.dt_agreement.proofs.Callers.{with_executed, order_of_more, world_after_more}
+use Rattle.dt_agreement.proofs.Callers.{IsKnown, find_of_has, numbered, txn_id, txn_there}
 use Rattle.dt_world.specs.declared.site.Origin.{Origin}
 use Rattle.dt_world.specs.Seated.{Seated}
 use Rattle.dt_world.specs.Posted.{Posted, attempt, attempts, world_of}

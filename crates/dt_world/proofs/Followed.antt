@@ -22,17 +22,17 @@ use Rattle.dt_session.specs.World.{World, Node, Place, asked_of, idle_place, is_
 use Rattle.dt_session.specs.Step.{IsLegal, MayAnswer, MayEnd, MaySubmit, answered, next, next_id, node_submitted, placed, received, submission_for}
 use Rattle.dt_session.specs.Run.{AreLegal, AreLegalFrom, order_of, serial_outcome, world_after, world_from}
 use Rattle.dt_session.specs.Agreement.{WaitsFor}
-use Rattle.dt_laws.specs.Invariant.{Inv, IsExecutedAt, IsPlaceOf}
-use Rattle.dt_laws.proofs.Callers.{answered_done, lookup_has}
-use Rattle.dt_laws.proofs.Agreeing.{legal_agree}
-use Rattle.dt_laws.proofs.Callers.{WaitsAt}
-use Rattle.dt_laws.proofs.Facts.{places_parallel, waiting_for}
-use Rattle.dt_laws.proofs.Keeping.{legal_keeps}
-use Rattle.dt_laws.proofs.Known.{submissions_unlike}
-use Rattle.dt_laws.proofs.Callers.{legal_append, world_after_more}
-use Rattle.dt_laws.proofs.Callers.{session_found, session_of_test}
-use Rattle.dt_laws.proofs.Callers.{find_has, find_of_has, from_region}
-use Rattle.dt_laws.proofs.Callers.{Submits, submits}
+use Rattle.dt_agreement.specs.Invariant.{Inv, IsExecutedAt, IsPlaceOf}
+use Rattle.dt_agreement.proofs.Callers.{answered_done, lookup_has}
+use Rattle.dt_agreement.proofs.Agreeing.{legal_agree}
+use Rattle.dt_agreement.proofs.Callers.{WaitsAt}
+use Rattle.dt_agreement.proofs.Facts.{places_parallel, waiting_for}
+use Rattle.dt_agreement.proofs.Keeping.{legal_keeps}
+use Rattle.dt_agreement.proofs.Known.{submissions_unlike}
+use Rattle.dt_agreement.proofs.Callers.{legal_append, world_after_more}
+use Rattle.dt_agreement.proofs.Callers.{session_found, session_of_test}
+use Rattle.dt_agreement.proofs.Callers.{find_has, find_of_has, from_region}
+use Rattle.dt_agreement.proofs.Callers.{Submits, submits}
 use Rattle.dt_world.specs.Seated.{no_session}
 use Rattle.dt_world.specs.Coursed.{IsReply, after_reply, after_submission, course_of, count_at, wait_at}
 use Rattle.dt_world.specs.Reported.{IsReplyOf, answered_session, replies_from, reply_for, reply_to}

@@ -15,7 +15,7 @@ use Rattle.dt_workload.specs.declared.Workload.{Workload}
 use Rattle.dt_session.specs.World.{World, Node, Place, asked_of, no_node, node_at, opening_world, received_of, session_at, taken_from, txn_of, with_node}
 use Rattle.dt_session.specs.Step.{IsLegal, answered, called, next, node_submitted, placed, received, submission_for, submitted}
 use Rattle.dt_session.specs.Run.{AreLegal, AreLegalFrom, world_after, world_from}
-use Rattle.dt_laws.proofs.Callers.{legal_append, world_from_append}
+use Rattle.dt_agreement.proofs.Callers.{legal_append, world_from_append}
 
 -- a node has at least what it had before
 pub record NodeGrows (n m : Node) : Type 0 where

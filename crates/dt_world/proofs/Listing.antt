@@ -15,7 +15,7 @@ use Rattle.dt_txn.specs.Replica.{fronts}
 use Rattle.dt_region.specs.State.{find_txn}
 use Rattle.dt_region.specs.Rules.{keep, keep_all}
 use Rattle.dt_session.specs.World.{Submission}
-use Rattle.dt_laws.proofs.Callers.{id_of_test, test_of_id}
+use Rattle.dt_agreement.proofs.Callers.{id_of_test, test_of_id}
 use Rattle.dt_world.specs.declared.site.Origin.{Origin}
 use Rattle.dt_world.specs.Posted.{attempt, attempts}
 

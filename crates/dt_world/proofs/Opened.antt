@@ -10,7 +10,7 @@ use Rattle.dt_cluster.specs.Valid.{IsValidCluster}
 use Rattle.dt_session.specs.World.{opening_table}
 use Rattle.dt_region.specs.Rules.{opening_state}
 use Rattle.dt_world.specs.Posted.{Posted, opening_post}
-use Rattle.dt_laws.proofs.Callers.{unmoved_at_first}
+use Rattle.dt_agreement.proofs.Callers.{unmoved_at_first}
 
 pub opening_is_for : (cluster : Cluster) → IsValidCluster cluster → IsTableFor cluster.regions (opening_table cluster)
 opening_is_for cluster valid = record {

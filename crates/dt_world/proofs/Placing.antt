@@ -22,12 +22,12 @@ use Rattle.dt_region.specs.Sound.{IsSoundRegion}
 use Rattle.dt_cluster.specs.declared.Cluster.{Cluster}
 use Rattle.dt_session.specs.World.{Node, asked_of, log_of, logs_of, no_node, node_at, received_lengths, received_logs, received_of, taken_from, txn_of}
 use Rattle.dt_session.specs.Step.{IsLegal, next, placed}
-use Rattle.dt_laws.proofs.Callers.{IsRequest}
-use Rattle.dt_laws.proofs.Appending.{request_is, logs_placed, placed_well_formed}
-use Rattle.dt_laws.proofs.Facts.{received_within, transaction_valid}
-use Rattle.dt_laws.proofs.Callers.{txn_id}
-use Rattle.dt_laws.proofs.Callers.{equal_of_test, test_of_equal}
-use Rattle.dt_laws.proofs.Callers.{fronts_grown, log_is, logs_length}
+use Rattle.dt_agreement.proofs.Callers.{IsRequest}
+use Rattle.dt_agreement.proofs.Appending.{request_is, logs_placed, placed_well_formed}
+use Rattle.dt_agreement.proofs.Facts.{received_within, transaction_valid}
+use Rattle.dt_agreement.proofs.Callers.{txn_id}
+use Rattle.dt_agreement.proofs.Callers.{equal_of_test, test_of_equal}
+use Rattle.dt_agreement.proofs.Callers.{fronts_grown, log_is, logs_length}
 use Rattle.dt_world.specs.Seated.{Seated}
 use Rattle.dt_world.specs.Posted.{Posted, in_state, node_of, world_of}
 use Rattle.dt_world.specs.Sited.{AppendsAt, post_at, with_state}

@@ -19,10 +19,10 @@ use Rattle.dt_cluster.specs.declared.Cluster.{Cluster}
 use Rattle.dt_workload.specs.declared.Wanted.{Wanted}
 use Rattle.dt_session.specs.World.{Submission, idle_place, is_session, no_node, node_at, received_logs, session_at, txn_of, with_place}
 use Rattle.dt_session.specs.Step.{IsLegal, MayAnswer, MaySubmit, answered, body_of, called, next, next_attempt, next_id, node_submitted, submission_for, submitted, world_submitted}
-use Rattle.dt_laws.proofs.Facts.{places_parallel, transaction_found}
-use Rattle.dt_laws.proofs.Keeping.{next_keeps}
-use Rattle.dt_laws.proofs.Callers.{ordered}
-use Rattle.dt_laws.proofs.Callers.{session_of_test}
+use Rattle.dt_agreement.proofs.Facts.{places_parallel, transaction_found}
+use Rattle.dt_agreement.proofs.Keeping.{next_keeps}
+use Rattle.dt_agreement.proofs.Callers.{ordered}
+use Rattle.dt_agreement.proofs.Callers.{session_of_test}
 use Rattle.dt_world.specs.declared.site.Origin.{Origin}
 use Rattle.dt_world.specs.Seated.{Seated, after_answer, after_wait, no_session, session_of, stand_of}
 use Rattle.dt_world.specs.Posted.{Posted, attempt, node_of, posted, world_of}

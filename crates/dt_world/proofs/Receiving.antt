@@ -24,9 +24,9 @@ use Rattle.dt_region.specs.Sound.{IsHeldPart, IsSoundRegion}
 use Rattle.dt_cluster.specs.declared.Cluster.{Cluster}
 use Rattle.dt_session.specs.World.{Node, Submission, log_of, logs_of, no_node, node_at, received_lengths, received_logs, received_of, submissions, txn_of}
 use Rattle.dt_session.specs.Step.{IsLegal, next, received}
-use Rattle.dt_laws.proofs.Facts.{log_distinct, received_within, transaction_valid}
-use Rattle.dt_laws.proofs.Callers.{home_region, txn_there}
-use Rattle.dt_laws.proofs.Callers.{log_is, received_log, received_own}
+use Rattle.dt_agreement.proofs.Facts.{log_distinct, received_within, transaction_valid}
+use Rattle.dt_agreement.proofs.Callers.{home_region, txn_there}
+use Rattle.dt_agreement.proofs.Callers.{log_is, received_log, received_own}
 use Rattle.dt_world.specs.Seated.{Seated}
 use Rattle.dt_world.specs.Posted.{Posted, in_state, node_of, world_of}
 use Rattle.dt_world.specs.Sited.{DeliversAt, post_at, with_state}

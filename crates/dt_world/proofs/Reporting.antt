@@ -23,10 +23,10 @@ use Rattle.dt_workload.specs.Valid.{IsValidWorkload}
 use Rattle.dt_session.specs.World.{World, Node, Place, Submission, idle_place, is_session, no_node, node_at, opening_node, opening_table, opening_world, outcome_at, submission_of}
 use Rattle.dt_session.specs.Step.{next}
 use Rattle.dt_session.specs.Run.{AreLegal, executed_id, order_of, region_table, world_after}
-use Rattle.dt_laws.specs.Invariant.{IsExecutedAt}
-use Rattle.dt_laws.proofs.Agreeing.{legal_agree}
-use Rattle.dt_laws.proofs.Keeping.{legal_keeps}
-use Rattle.dt_laws.proofs.Callers.{world_after_more}
+use Rattle.dt_agreement.specs.Invariant.{IsExecutedAt}
+use Rattle.dt_agreement.proofs.Agreeing.{legal_agree}
+use Rattle.dt_agreement.proofs.Keeping.{legal_keeps}
+use Rattle.dt_agreement.proofs.Callers.{world_after_more}
 use Rattle.dt_world.specs.Kept.{Kept}
 use Rattle.dt_world.specs.Posted.{Posted, node_of}
 use Rattle.dt_world.specs.Coursed.{Coursed, IsReply, LedTo, after_reply, after_submission, count_at, course_at, course_of, ran_at, rans_at, replies_at, wait_at}

@@ -17,8 +17,8 @@ use Rattle.dt_workload.specs.declared.Workload.{Workload}
 use Rattle.dt_session.specs.World.{Place, idle_place, is_session, session_at, with_place}
 use Rattle.dt_world.specs.declared.seats.Seat.{Seat}
 use Rattle.dt_world.specs.Seated.{Seated, after_wait, after_answer, place_of as place_of_seat}
-use Rattle.dt_laws.proofs.Callers.{test_of_equal}
-use Rattle.dt_laws.proofs.Callers.{key_of_test, test_of_key, session_of_test}
+use Rattle.dt_agreement.proofs.Callers.{test_of_equal}
+use Rattle.dt_agreement.proofs.Callers.{key_of_test, test_of_key, session_of_test}
 
 -- the first place at which a test passes, by recursion
 

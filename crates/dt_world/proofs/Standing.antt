@@ -17,11 +17,11 @@ use Rattle.dt_cluster.specs.declared.Cluster.{Cluster}
 use Rattle.dt_session.specs.World.{World, Node, Place, no_node, node_at, received_logs, txn_of}
 use Rattle.dt_session.specs.Step.{IsLegal, next, moved_on}
 use Rattle.dt_session.specs.Run.{order_of}
-use Rattle.dt_laws.specs.Invariant.{Inv}
-use Rattle.dt_laws.proofs.Growth.{next_txns}
-use Rattle.dt_laws.proofs.Keeping.{legal_keeps}
-use Rattle.dt_laws.proofs.Callers.{world_after_more, more_legal}
-use Rattle.dt_laws.proofs.Callers.{fronts_at}
+use Rattle.dt_agreement.specs.Invariant.{Inv}
+use Rattle.dt_agreement.proofs.Growth.{next_txns}
+use Rattle.dt_agreement.proofs.Keeping.{legal_keeps}
+use Rattle.dt_agreement.proofs.Callers.{world_after_more, more_legal}
+use Rattle.dt_agreement.proofs.Callers.{fronts_at}
 use Rattle.dt_world.specs.Seated.{Seated}
 use Rattle.dt_world.specs.Posted.{Posted, node_of, world_of, no_post, in_state}
 use Rattle.dt_world.specs.Sited.{post_at, with_state}

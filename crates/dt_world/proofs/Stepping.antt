@@ -11,7 +11,7 @@ use Rattle.dt_region.specs.Conditions.{HoldsValid}
 use Rattle.dt_cluster.specs.declared.Cluster.{Cluster}
 use Rattle.dt_session.specs.World.{node_at, received_logs, txn_of}
 use Rattle.dt_session.specs.Step.{IsLegal, next, moved_on}
-use Rattle.dt_laws.proofs.Facts.{transaction_valid}
+use Rattle.dt_agreement.proofs.Facts.{transaction_valid}
 use Rattle.dt_world.specs.Kept.{Kept}
 use Rattle.dt_world.specs.Seated.{Seated}
 use Rattle.dt_world.specs.Posted.{Posted, world_of}

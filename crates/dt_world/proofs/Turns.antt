@@ -13,7 +13,7 @@ use Rattle.dt_workload.specs.declared.Wanted.{Wanted}
 use Rattle.dt_workload.specs.Valid.{IsValidSession, WantedFits}
 use Rattle.dt_session.specs.World.{idle_place, is_session}
 use Rattle.dt_session.specs.Step.{MayTry, body_of}
-use Rattle.dt_laws.proofs.Callers.{body_fits}
+use Rattle.dt_agreement.proofs.Callers.{body_fits}
 use Rattle.dt_world.specs.Kept.{Kept}
 use Rattle.dt_world.specs.Seated.{Seated, no_session, session_of, stand_of}
 use Rattle.dt_world.specs.Posted.{Posted, world_of}

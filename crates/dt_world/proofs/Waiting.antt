@@ -10,10 +10,10 @@ use Rattle.dt_region.specs.State.{outcome_of}
 use Rattle.dt_cluster.specs.declared.Cluster.{Cluster}
 use Rattle.dt_session.specs.World.{attempt_of, idle_place, node_at, outcome_at, outcome_in, submissions}
 use Rattle.dt_session.specs.Step.{IsLast, IsStale, MayEnd, MayTry, next_attempt}
-use Rattle.dt_laws.specs.Invariant.{IsPlaceOf}
-use Rattle.dt_laws.proofs.Callers.{WaitsAt}
-use Rattle.dt_laws.proofs.Facts.{waiting_for}
-use Rattle.dt_laws.proofs.Callers.{find_has}
+use Rattle.dt_agreement.specs.Invariant.{IsPlaceOf}
+use Rattle.dt_agreement.proofs.Callers.{WaitsAt}
+use Rattle.dt_agreement.proofs.Facts.{waiting_for}
+use Rattle.dt_agreement.proofs.Callers.{find_has}
 use Rattle.dt_world.specs.Kept.{Kept}
 use Rattle.dt_world.specs.declared.site.Origin.{Origin}
 use Rattle.dt_world.specs.Seated.{Seated, no_session, session_of, stand_of}

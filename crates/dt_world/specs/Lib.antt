@@ -12,4 +12,4 @@ pub use Rattle.dt_session.specs.World
 pub use Rattle.dt_session.specs.Step
 pub use Rattle.dt_session.specs.Run
 pub use Rattle.dt_session.specs.Agreement
-pub use Rattle.dt_laws.specs.Invariant
+pub use Rattle.dt_agreement.specs.Invariant

@@ -3,7 +3,7 @@ ghost use Rattle.std.specs.Prelude.{◌≡◌, ◌+◌, ◌<◌, IfOk, OnOk, Som
 ghost use Rattle.dt_lists.specs.Lists.{AllIn};
 ghost use Rattle.dt_table.specs.Table.{shown};
 ghost use Rattle.dt_session.specs.Run.{AreLegal, order_of, world_after};
-ghost use Rattle.dt_laws.specs.Invariant.{IsExecutedAt};
+ghost use Rattle.dt_agreement.specs.Invariant.{IsExecutedAt};
 ghost use Rattle.dt_world.specs.Coursed.{IsReply, LedTo, course_at, ran_at, rans_at, replies_at};
 ghost use Rattle.dt_world.specs.Reported.{IsOutcomeOf, IsReplyOf, report_of, replies_of, rans_of};
 

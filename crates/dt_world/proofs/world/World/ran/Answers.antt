@@ -3,7 +3,7 @@ use Rattle.dt_txn.specs.declared.Outcome.{Outcome}
 use Rattle.dt_region.specs.State.{State, outcome_of}
 use Rattle.dt_report.specs.declared.Ran.{Ran}
 use Rattle.dt_session.specs.World.{Submission, node_at, outcome_at}
-use Rattle.dt_laws.specs.Invariant.{IsExecutedAt}
+use Rattle.dt_agreement.specs.Invariant.{IsExecutedAt}
 use Rattle.dt_world.specs.Coursed.{ran_at}
 use Rattle.dt_world.specs.Kept.{Kept}
 use Rattle.dt_world.specs.Posted.{Posted, attempt, world_of}

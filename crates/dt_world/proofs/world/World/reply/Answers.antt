@@ -2,7 +2,7 @@ use Rattle.std.proofs.Common.{◌≡◌, ◌≤◌, ◌-◌, Some, length, get_o
 use Rattle.dt_txn.specs.declared.Outcome.{Outcome}
 use Rattle.dt_region.specs.State.{State, outcome_of}
 use Rattle.dt_session.specs.World.{Submission, node_at, outcome_at}
-use Rattle.dt_laws.specs.Invariant.{IsExecutedAt}
+use Rattle.dt_agreement.specs.Invariant.{IsExecutedAt}
 use Rattle.dt_world.specs.Coursed.{IsReply}
 use Rattle.dt_world.specs.Kept.{Kept}
 use Rattle.dt_world.specs.Posted.{Posted, attempt, world_of}

@@ -1,8 +1,0 @@
-use Rattle.dt_laws.proofs.AcrossMoves.{legal_across, legal_fewer}
-use Rattle.dt_laws.proofs.laws.across_moves.Goals as goal
-
-pub returns-clause-ordered : goal.returns-clause-ordered
-returns-clause-ordered c cluster workload events run = legal_across run
-
-pub returns-clause-fewer : goal.returns-clause-fewer
-returns-clause-fewer c cluster workload events run = legal_fewer run

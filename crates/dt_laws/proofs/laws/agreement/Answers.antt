@@ -1,5 +1,0 @@
-use Rattle.dt_laws.proofs.AllAgree.{legal_agree}
-use Rattle.dt_laws.proofs.laws.agreement.Goals as goal
-
-pub returns : goal.returns
-returns c cluster workload events run = legal_agree run

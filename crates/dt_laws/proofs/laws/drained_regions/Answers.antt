@@ -1,7 +1,0 @@
-use Rattle.dt_laws.proofs.AllAgree.{drained_done}
-use Rattle.dt_laws.proofs.LegalWorlds.{legal_keeps}
-use Rattle.dt_laws.proofs.RootedWorlds.{legal_roots}
-use Rattle.dt_laws.proofs.laws.drained_regions.Goals as goal
-
-pub returns : goal.returns
-returns c cluster workload events run region lr d = drained_done (legal_keeps run) (legal_roots run) region lr d

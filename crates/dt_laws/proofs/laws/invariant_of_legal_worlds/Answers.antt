@@ -1,9 +1,0 @@
-use Rattle.dt_laws.proofs.LegalWorlds.{legal_keeps}
-use Rattle.dt_laws.proofs.RootedWorlds.{legal_roots}
-use Rattle.dt_laws.proofs.laws.invariant_of_legal_worlds.Goals as goal
-
-pub returns-clause-kept : goal.returns-clause-kept
-returns-clause-kept c cluster workload events run = legal_keeps run
-
-pub returns-clause-rooted : goal.returns-clause-rooted
-returns-clause-rooted c cluster workload events run = legal_roots run
