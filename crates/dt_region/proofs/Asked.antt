@@ -26,7 +26,8 @@ length_more : {A : Type 0} (xs : List A) (x : A) → length (xs ++ x ∷ []) ≡
 length_more [] x = refl
 length_more (y ∷ xs) x = ap suc (length_more xs x)
 
-pub taken_back : {A : Type 0} (lists items : List (List A)) (home : ℕ) (x : A) (was now : List A) (n : ℕ) → home < length items → items ≡ set lists home (get_or lists home [] ++ x ∷ []) → was ≡ get_or items home was → n ≡ length was → now ≡ take (n - 1) was → set items home now ≡ lists
+pub taken_back : {A : Type 0} (lists items : List (List A)) (home : ℕ) (x : A) (was now : List A) (n : ℕ) →
+    home < length items → items ≡ set lists home (get_or lists home [] ++ x ∷ []) → was ≡ get_or items home was → n ≡ length was → now ≡ take (n - 1) was → set items home now ≡ lists
 taken_back lists items home x was now n lt e w l r =
     let within : home < length lists = subst (λ k. home < k) (ap length e ∙ length-set lists home (get_or lists home [] ++ x ∷ [])) lt in
     let was_is : was ≡ get_or lists home [] ++ x ∷ [] = w ∙ ap (λ i. get_or i home was) e ∙ get_or-set_same lists home (get_or lists home [] ++ x ∷ []) was within in

@@ -4,14 +4,15 @@ use Rattle.std.proofs.lemmas.Option.{same_Some}
 use Rattle.std.specs.Map.{lookup}
 use Rattle.indexmap.specs.IndexMap.{insert_entry}
 use Rattle.dt_lists.specs.Lists.{AllIn, Has}
-use Rattle.dt_lists.proofs.Callers.{all_more, all_map}
+use Rattle.dt_lists.proofs.Callers.{all_more}
+use Rattle.dt_lists.proofs.Callers.{all_map}
 use Rattle.dt_access.specs.Ids.{same_id}
 use Rattle.dt_access.specs.declared.TxnId.{TxnId}
 use Rattle.dt_txn.specs.declared.txn.Txn.{Txn}
-use Rattle.dt_region.specs.State.{find_txn}
-use Rattle.dt_region.specs.Holding.{AreKeyed}
+use Rattle.dt_region.specs.Region.{find_txn}
+use Rattle.dt_region.specs.Foreign.{AreKeyed}
 use Rattle.dt_region.specs.Sound.{AreCounted}
-use Rattle.dt_region.proofs.Ids.{id_of_test, test_of_id, test_of_other, same_id_turned}
+use Rattle.dt_access.proofs.Callers.{id_of_test, test_of_id, test_of_other, same_id_turned}
 
 -- a map that keeps each transaction under its own id finds the one of an id
 pub find_keyed : (es : List (TxnId × Txn)) (id : TxnId) → AreKeyed es → lookup (same_id id) es ≡ find_txn (map (λ e. e.1) es) id
@@ -99,6 +100,15 @@ find_right (x ∷ xs) ys id e =
       | false ↦ λ h. find_right xs ys id h
     ] e
 
+-- where nothing is found in both together, nothing is found in the second
+pub none_right : (xs ys : List Txn) (id : TxnId) → find_txn (xs ++ ys) id ≡ None → find_txn ys id ≡ None
+none_right [] ys id e = e
+none_right (x ∷ xs) ys id e =
+    elim (same_id x.id id) as (λ b. cond b (Some x) (find_txn (xs ++ ys) id) ≡ None → find_txn ys id ≡ None) [
+      | true ↦ λ h. cc
+      | false ↦ λ h. none_right xs ys id h
+    ] e
+
 -- where nothing of the id is in the second list, what is found is found in the first
 pub find_only : (xs ys : List Txn) (id : TxnId) → find_txn ys id ≡ None → find_txn (xs ++ ys) id ≡ find_txn xs id
 find_only [] ys id e = e
@@ -135,7 +145,8 @@ counted_at region seq (suc place) (x ∷ txns) id counted own at =
 pub apart : (number : ℕ) (foreign : List Txn) (id : TxnId) → AllIn (λ txn. txn.id.region ≢ number) foreign → id.region ≡ number → find_txn foreign id ≡ None
 apart number foreign id others own = find_none foreign id (all_map _ _ foreign (λ txn other e. other (ap (λ i. i.region) e ∙ own)) others)
 
-pub held_own : (number : ℕ) (submitted foreign : List Txn) (id : TxnId) (place : ℕ) → AreCounted number 1 submitted → AllIn (λ txn. txn.id.region ≢ number) foreign → id.region ≡ number → id.seq ≡ 1 + place → find_txn (submitted ++ foreign) id ≡ slice_get submitted place
+pub held_own : (number : ℕ) (submitted foreign : List Txn) (id : TxnId) (place : ℕ) → AreCounted number 1 submitted →
+    AllIn (λ txn. txn.id.region ≢ number) foreign → id.region ≡ number → id.seq ≡ 1 + place → find_txn (submitted ++ foreign) id ≡ slice_get submitted place
 held_own number submitted foreign id place counted others own at =
     find_only submitted foreign id (apart number foreign id others own) ∙ counted_at number 1 place submitted id counted own at
 

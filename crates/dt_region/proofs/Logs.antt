@@ -4,7 +4,8 @@ use Rattle.std.specs.Prelude.{slice_index}
 use Rattle.std.proofs.lemmas.List.{take-append-le}
 use Rattle.std.proofs.lemmas.List.Sums.{sum_by-append, sum_by-set}
 use Rattle.dt_lists.specs.Lists.{AllIn, Distinct}
-use Rattle.dt_lists.proofs.Callers.{all_get, has_map, has_place}
+use Rattle.dt_lists.proofs.Callers.{all_get, has_map}
+use Rattle.dt_lists.proofs.Callers.{has_place}
 use Rattle.dt_access.specs.declared.Part.{Part}
 use Rattle.dt_sched.specs.Views.{View, log_at, ids_of, HasPart}
 use Rattle.dt_sched.specs.Sched.{parts_in, with_part}

@@ -13,7 +13,7 @@ use Rattle.dt_eval.specs.declared.Finish.{Finish}
 use Rattle.dt_eval.specs.declared.finish.Finish.TheVariants as finish
 use Rattle.dt_table.specs.Table.{Table, Moved, home_of, moves_of, apply}
 use Rattle.dt_table.specs.declared.Effect.{Effect}
-use Rattle.dt_table.proofs.Callers.{move_at, moves_of-apply, regions-apply, homes-apply, home_of-below}
+use Rattle.dt_table.proofs.Callers.{home_of-below, homes-apply, move_at, moves_of-apply, regions-apply}
 use Rattle.dt_txn.specs.declared.txn.Body.{Body}
 use Rattle.dt_txn.specs.declared.txn.Body.TheVariants.{Call, Move}
 use Rattle.dt_txn.specs.declared.txn.Txn.{Txn}
@@ -21,8 +21,7 @@ use Rattle.dt_txn.specs.declared.outcome.Outcome.{Outcome}
 use Rattle.dt_txn.specs.Transaction.{annotate, annotated, uses_of, targets_of, set_of, BodyFits, IsValid}
 use Rattle.dt_txn.specs.Execution.{see, stale_of, reads_of, result_of, of_finish, unless_stale, one}
 use Rattle.dt_txn.specs.Serial.{after}
-use Rattle.dt_txn.proofs.Callers.{with_number_all}
-use Rattle.dt_txn.proofs.Callers.{annotated_uses}
+use Rattle.dt_txn.proofs.Callers.{annotated_uses, with_number_all}
 use Rattle.dt_region.specs.Conditions.{IsTableFor}
 
 -- the effect moves to a region, if it moves at all

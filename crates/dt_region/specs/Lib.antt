@@ -1,12 +1,10 @@
-pub mod Holding
-pub mod State
-pub mod Fields
-pub mod Codes
+pub mod Region
 pub mod Rules
 pub mod Conditions
 pub mod Sound
-pub mod Keeping
-pub mod Moves
+pub mod Foreign
+pub mod RegionCode
+pub mod RegionInner
 pub use Rattle.dt_txn.specs.Transaction
 pub use Rattle.dt_txn.specs.Asking
 pub use Rattle.dt_txn.specs.Execution

@@ -1,10 +1,15 @@
-use Rattle.std.specs.Prelude.{◌≡◌, ◌≢◌, ◌<◌, ◌≤◌, ◌+◌, ◌-◌, ℕ, List, [], ◌∷◌, ◌++◌, map, length, drop, set, slice_index, replicate, is_some, if◌then◌else◌, Bool, true, false, Result, Ok, Err}
+-- What each rule does to one region, and how each call of a region is answered. The rules are those of a world of regions
+-- (rules 1 and 2 by the words of `Replica`, rules 4 to 6 by `stepped`): here they stand over the region's own fields, so
+-- that a region can be stepped by itself. Read `Region` before; `Conditions` says next when a call may be made, and `Sound`
+-- what holds of every region.
+use Rattle.std.specs.Prelude.{◌≡◌, ◌≢◌, ◌<◌, ◌≤◌, ◌+◌, ◌-◌, ℕ, List, [], ◌∷◌, ◌++◌, map, length, drop, set, replicate, is_some, if◌then◌else◌, Bool, true, false, Result, Ok, Err}
 use Rattle.dt_text.specs.declared.NoMemory.{NoMemory}
 use Rattle.dt_access.specs.declared.TxnId.{TxnId}
 use Rattle.dt_access.specs.declared.Part.{Part}
 use Rattle.dt_log.specs.declared.Taken.{Taken}
 use Rattle.dt_log.specs.declared.Taken.TheVariants.{New, Old, Gap}
 use Rattle.dt_events.specs.declared.Event.{Event}
+use Rattle.dt_events.specs.declared.Event.TheVariants.{Submit, Append, Deliver, Answer}
 use Rattle.dt_sched.specs.Views.{log_at}
 use Rattle.dt_sched.specs.Sched.{with_part}
 use Rattle.dt_proc.specs.Tree.{ProcTree}
@@ -12,39 +17,36 @@ use Rattle.dt_table.specs.Table.{Table}
 use Rattle.dt_txn.specs.declared.txn.Body.{Body}
 use Rattle.dt_txn.specs.declared.txn.Txn.{Txn}
 use Rattle.dt_txn.specs.declared.txn.Entry.{Entry}
-use Rattle.dt_txn.specs.Transaction.{annotate, homes_of, part_of}
-use Rattle.dt_txn.specs.Asking.{ask}
-use Rattle.dt_txn.specs.Replica.{MayStep, stepped}
-use Rattle.dt_region.specs.State.{State, find_txn, held}
+use Rattle.dt_txn.specs.Transaction.{part_of}
+use Rattle.dt_txn.specs.Replica.{MayStep, stepped, opening_replica, next_id, submission_for, after_asking, taken_from, after_taking}
+use Rattle.dt_region.specs.Region.{RegionState, RegionView, find_txn, held}
 
 -- a region before anything happens, in a cluster of so many regions, with this table
-abbrev pub opening_state : ℕ → ℕ → Table → State
+abbrev pub opening_state : ℕ → ℕ → Table → RegionState
 opening_state number regions table = record {
   number = number;
   regions = regions;
   submitted = [];
   foreign = [];
-  asked = replicate regions [];
-  taken = replicate regions 0;
   logs = replicate regions [];
-  here = record { inserted = replicate regions 0; resolved = []; done = []; table = table };
+  here = opening_replica regions table;
 }
 
 -- the id of a region's next submission
-abbrev pub next_id : State → TxnId
-next_id s = record { seq = length s.submitted + 1; region = s.number }
+abbrev pub id_for : RegionState → TxnId
+id_for s = next_id s.number (length s.submitted)
 
 -- what a region submits for a body: the transaction of its next id, annotated by its own table
-abbrev pub submission_for : List ProcTree → State → Body → Txn
-submission_for procs s body = annotate procs (next_id s) body s.here.table
+abbrev pub txn_for : List ProcTree → RegionState → Body → Txn
+txn_for procs s body = submission_for procs s.number (length s.submitted) s.here body
 
 -- the region after it submitted a transaction: each home of it is asked for its part
-abbrev pub with_submission : State → Txn → State
-with_submission s txn = record s { submitted = s.submitted ++ txn ∷ []; asked = ask (homes_of txn) txn.id s.asked }
+abbrev pub with_submission : RegionState → Txn → RegionState
+with_submission s txn = record s { submitted = s.submitted ++ txn ∷ []; here = after_asking s.here txn }
 
 -- the region after it submitted a body
-abbrev pub after_submit : List ProcTree → State → Body → State
-after_submit procs s body = with_submission s (submission_for procs s body)
+abbrev pub after_submit : List ProcTree → RegionState → Body → RegionState
+after_submit procs s body = with_submission s (txn_for procs s body)
 
 -- what a region that submitted the ones has of others after it got one more transaction: it keeps it, unless it holds it
 -- already
@@ -57,30 +59,19 @@ keep_all submitted foreign [] = foreign
 keep_all submitted foreign (txn ∷ txns) = keep_all submitted (keep submitted foreign txn) txns
 
 -- the region after it got a transaction
-abbrev pub hold : State → Txn → State
+abbrev pub hold : RegionState → Txn → RegionState
 hold s txn = record s { foreign = keep s.submitted s.foreign txn }
 
 -- the region after it got transactions, one after another
-abbrev pub hold_all : State → List Txn → State
+abbrev pub hold_all : RegionState → List Txn → RegionState
 hold_all s txns = record s { foreign = keep_all s.submitted s.foreign txns }
 
--- the number of the next request of a region that is to be placed here
-abbrev pub taken_from : State → ℕ → ℕ
-taken_from s source = slice_index s.taken source
-
 -- the region after it placed a transaction's part at the end of its own log, as the next request of `source`
-abbrev pub after_append : State → ℕ → Txn → State
+abbrev pub after_append : RegionState → ℕ → Txn → RegionState
 after_append s source txn = record (hold s txn) {
   logs = with_part s.logs (part_of txn s.number);
-  taken = set s.taken source (taken_from s source + 1);
+  here = after_taking s.here source;
 }
-
--- how an append is answered, and what the region is after it: the request is placed exactly where it is the next one
--- of its source, and nothing changes otherwise
-abbrev pub Appends : State → ℕ → ℕ → Txn → Result Bool NoMemory → State → Type 0
-Appends s source number txn (Ok true) after = (number ≡ taken_from s source) × (after ≡ after_append s source txn)
-Appends s source number txn (Ok false) after = (number ≢ taken_from s source) × (after ≡ s)
-Appends s source number txn (Err e) after = after ≡ s
 
 -- of entries from place `first` on, those past the end of a log
 abbrev pub past_end : {A : Type 0} → List Part → ℕ → List A → List A
@@ -92,33 +83,59 @@ with_entries log first entries = log ++ map (λ e. e.part) (past_end log first e
 
 -- the region after a delivery of entries of a home's log, from place `first` on: it has those past the end of what it
 -- had of that log, and their transactions
-abbrev pub after_deliver : State → ℕ → ℕ → List Entry → State
+abbrev pub after_deliver : RegionState → ℕ → ℕ → List Entry → RegionState
 after_deliver s home first entries = record (hold_all s (map (λ e. e.txn) (past_end (log_at s.logs home) first entries))) {
   logs = set s.logs home (with_entries (log_at s.logs home) first entries);
 }
 
--- how a delivery is answered, and what the region is after it: nothing is taken across a gap; old entries change
--- nothing; otherwise the last n of them, those past the log's end, are new
-abbrev pub Delivers : State → ℕ → ℕ → List Entry → Result Taken NoMemory → State → Type 0
-Delivers s home first entries (Ok Gap) after = (length (log_at s.logs home) < first) × (after ≡ s)
-Delivers s home first entries (Ok Old) after =
-    (first ≤ length (log_at s.logs home)) × (first + length entries ≤ length (log_at s.logs home)) × (after ≡ s)
-Delivers s home first entries (Ok (New n)) after =
-    (first ≤ length (log_at s.logs home)) × (length (log_at s.logs home) < first + length entries)
-    × (length (log_at s.logs home) + n ≡ first + length entries) × (after ≡ after_deliver s home first entries)
-Delivers s home first entries (Err e) after = after ≡ s
-
 -- whether a region may insert, resolve or execute so, by the logs as far as it received them
-abbrev pub MayMake : State → Event → Type 0
+abbrev pub MayMake : RegionState → Event → Type 0
 MayMake s event = MayStep s.logs s.here event
 
 -- the region after one of these steps, by these procedures
-abbrev pub after_step : List ProcTree → State → Event → State
+abbrev pub after_step : List ProcTree → RegionState → Event → RegionState
 after_step procs s event = record s { here = stepped procs (held s) s.here event }
 
--- how one of these steps is answered, and what the region is after it: it is made exactly where it may be made, and
--- nothing changes otherwise
-abbrev pub Steps : List ProcTree → State → Event → Result Bool NoMemory → State → Type 0
-Steps procs s event (Ok true) after = MayMake s event × (after ≡ after_step procs s event)
-Steps procs s event (Ok false) after = ¬ (MayMake s event) × (after ≡ s)
-Steps procs s event (Err e) after = after ≡ s
+-- From here on: how each call is answered, and what the region is after it, its events with it. After `NoMemory` it is
+-- always as before.
+
+-- the region in its new state, with one event more
+abbrev pub with_event : RegionView → RegionState → Event → RegionView
+with_event r state event = record { state = state; events = r.events ++ event ∷ [] }
+
+-- a submission gives its id
+abbrev pub MakesSubmit : List ProcTree → RegionView → List ℕ → Body → Result TxnId NoMemory → RegionView → Type 0
+MakesSubmit procs r session body (Ok id) after =
+    (id ≡ id_for r.state) × (after ≡ with_event r (after_submit procs r.state body) (Submit r.state.number session))
+MakesSubmit procs r session body (Err e) after = after ≡ r
+
+-- a request is placed exactly where it is the next one of its source, and nothing changes otherwise
+abbrev pub MakesAppend : RegionView → ℕ → ℕ → Txn → Result Bool NoMemory → RegionView → Type 0
+MakesAppend r source number txn (Ok true) after =
+    (number ≡ taken_from r.state.here source)
+    × (after ≡ with_event r (after_append r.state source txn) (Append r.state.number source number))
+MakesAppend r source number txn (Ok false) after = (number ≢ taken_from r.state.here source) × (after ≡ r)
+MakesAppend r source number txn (Err e) after = after ≡ r
+
+-- of a delivery nothing is taken across a gap, and old entries change nothing; otherwise the last n of them, those past
+-- the log's end, are new, and the event goes from its own first place to the new end of the log
+abbrev pub MakesDelivery : RegionView → ℕ → ℕ → List Entry → Result Taken NoMemory → RegionView → Type 0
+MakesDelivery r home first entries (Ok Gap) after = (length (log_at r.state.logs home) < first) × (after ≡ r)
+MakesDelivery r home first entries (Ok Old) after =
+    (first ≤ length (log_at r.state.logs home)) × (first + length entries ≤ length (log_at r.state.logs home)) × (after ≡ r)
+MakesDelivery r home first entries (Ok (New n)) after =
+    (first ≤ length (log_at r.state.logs home)) × (length (log_at r.state.logs home) < first + length entries)
+    × (length (log_at r.state.logs home) + n ≡ first + length entries)
+    × (after ≡ with_event r (after_deliver r.state home first entries) (Deliver r.state.number home first (first + length entries)))
+MakesDelivery r home first entries (Err e) after = after ≡ r
+
+-- a step of its own (insert, resolve, execute) is made exactly where it may be made, and nothing changes otherwise
+abbrev pub MakesStep : List ProcTree → RegionView → Event → Result Bool NoMemory → RegionView → Type 0
+MakesStep procs r event (Ok true) after = MayMake r.state event × (after ≡ with_event r (after_step procs r.state event) event)
+MakesStep procs r event (Ok false) after = ¬ (MayMake r.state event) × (after ≡ r)
+MakesStep procs r event (Err e) after = after ≡ r
+
+-- an answer changes nothing but that its event is kept
+abbrev pub MakesAnswer : RegionView → List ℕ → Result (Unit {0}) NoMemory → RegionView → Type 0
+MakesAnswer r session (Ok u) after = after ≡ with_event r r.state (Answer r.state.number session)
+MakesAnswer r session (Err e) after = after ≡ r

@@ -1,8 +1,11 @@
-ghost use Rattle.std.specs.Prelude.{◌≡◌, ◌+◌, ◌-◌, ◌<◌, ◌≤◌, ◌^◌, drop, length, map, set, vec_len, IfOk, OnOk, OnErr};
+ghost use Rattle.std.specs.Prelude.{◌≡◌, ◌+◌, ◌-◌, ◌<◌, ◌≤◌, ◌^◌, List, drop, length, map, set, vec_len, IfOk, OnOk, OnErr};
 ghost use Rattle.dt_log.specs.Logs.{AgreeOnOverlap, Takes};
+ghost use Rattle.dt_lists.specs.Lists.{AllIn, Has};
 ghost use Rattle.dt_sched.specs.Views.{log_at};
 ghost use Rattle.dt_sched.specs.Sched.{with_part};
-ghost use Rattle.dt_region.specs.Holding.{keep_others};
+ghost use Rattle.dt_txn.specs.declared.txn.Txn.{Txn};
+ghost use Rattle.dt_region.specs.Rules.{keep_all};
+ghost use Rattle.dt_region.specs.Sound.{AreCounted};
 
 use crate::foreign::Foreign;
 use dt_access::Part;
@@ -49,12 +52,13 @@ pub fn take(logs: &mut Vec<Log>, home: u8, first: u32, parts: Vec<Part>) -> Resu
     log.take(first, parts)
 }
 
-/// Of some transactions keeps the last `count` that are of other regions than `number`, unless there is one of their id.
-/// Takes no memory where there is room.
+/// Keeps the last `count` of some transactions, unless there is one of their id; what is of region `number` itself, that
+/// region submitted and holds. Takes no memory where there is room.
 pub fn keep_last(number: u8, foreign: &mut Foreign, mut txns: Vec<Txn>, count: usize)
     requires count { count ≤ vec_len txns }
     requires room { vec_len txns ≤ foreign.old.spare }
-    ensures { foreign.new.txns ≡ keep_others number foreign.old.txns (drop (vec_len txns - count) txns.items) }
+    ensures { (submitted : List Txn) → AreCounted number 1 submitted → AllIn (λ txn. txn.id.region ≡ number → Has submitted txn) (drop (vec_len txns - count) txns.items) →
+        foreign.new.txns ≡ keep_all submitted foreign.old.txns (drop (vec_len txns - count) txns.items) }
 {
     let first = txns.len() - count;
     txns.drain(..first);

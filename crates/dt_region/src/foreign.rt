@@ -1,9 +1,12 @@
-ghost use Rattle.std.specs.Prelude.{◌≡◌, ◌+◌, ◌<◌, ◌≤◌, [], ◌∷◌, ◌++◌, is_some, if◌then◌else◌, OnOk, OnErr};
+ghost use Rattle.std.specs.Prelude.{◌≡◌, ◌+◌, ◌<◌, ◌≤◌, [], ◌∷◌, ◌++◌, List, None, IfSome, IfNone, OnOk, OnErr};
 ghost use Rattle.std.specs.Option.{option_copied};
 ghost use Rattle.indexmap.specs.IndexMap.{insert_entry, spare};
 ghost use Rattle.dt_access.specs.Ids.{same_id};
-ghost use Rattle.dt_region.specs.State.{find_txn};
-ghost use Rattle.dt_region.specs.Holding.{keep_other};
+ghost use Rattle.dt_lists.specs.Lists.{Has};
+ghost use Rattle.dt_txn.specs.declared.txn.Txn.{Txn};
+ghost use Rattle.dt_region.specs.Region.{find_txn};
+ghost use Rattle.dt_region.specs.Rules.{keep};
+ghost use Rattle.dt_region.specs.Sound.{AreCounted};
 
 use dt_access::TxnId;
 use dt_text::NoMemory;
@@ -23,9 +26,9 @@ pub struct Foreign {
 impl Model for Foreign {
     ghost use Rattle.std.specs.Prelude.{map};
     ghost use Rattle.indexmap.specs.IndexMap.{spare};
-    ghost use Rattle.dt_region.specs.Holding.{Holding, AreKeyed};
+    ghost use Rattle.dt_region.specs.Foreign.{ForeignView, AreKeyed};
 
-    ghost Value = { Holding };
+    ghost Value = { ForeignView };
 
     ghost view = { λ f. record { txns = map (λ e. e.1) f.txns.entries; spare = spare f.txns } };
 
@@ -58,11 +61,23 @@ impl Foreign {
         Ok(())
     }
 
-    /// Keeps a transaction, unless it is of region `number`, or there is one of its id. Takes no memory where there is
-    /// room.
+    /// Adds a transaction, where one is given; nothing has its id yet. Takes no memory where there is room.
+    pub fn add(&mut self, txn: Option<Txn>)
+        requires room { 0 < self.old.spare }
+        requires fresh { IfSome txn (λ txn. find_txn self.old.txns txn.id ≡ None) }
+        ensures none { IfNone txn (self.new.txns ≡ self.old.txns) }
+        ensures some { IfSome txn (λ txn. self.new.txns ≡ self.old.txns ++ txn ∷ []) }
+    {
+        if let Some(txn) = txn {
+            self.hold(txn);
+        }
+    }
+
+    /// Keeps a transaction, unless it is of region `number`, which holds what it submitted, or there is one of its id.
+    /// Takes no memory where there is room.
     pub fn keep(&mut self, number: u8, txn: Txn)
         requires { 0 < self.old.spare }
-        ensures kept { self.new.txns ≡ keep_other number self.old.txns txn }
+        ensures kept { (submitted : List Txn) → AreCounted number 1 submitted → (txn.id.region ≡ number → Has submitted txn) → self.new.txns ≡ keep submitted self.old.txns txn }
         ensures room { self.old.spare ≤ self.new.spare + 1 }
     {
         if txn.id.region != number {
@@ -73,17 +88,17 @@ impl Foreign {
     // Keeps a transaction, unless there is one of its id.
     fn hold(&mut self, txn: Txn)
         requires { 0 < self.old.spare }
-        ensures held { self.new.txns ≡ (if is_some (find_txn self.old.txns txn.id) then self.old.txns else self.old.txns ++ txn ∷ []) }
+        ensures held { self.new.txns ≡ keep [] self.old.txns txn }
         ensures room { self.old.spare ≤ self.new.spare + 1 }
     {
         if !self.txns.contains_key(&txn.id) {
-            add(&mut self.txns, txn);
+            insert(&mut self.txns, txn);
         }
     }
 }
 
 // Adds a transaction under its id, which takes no memory where there is room.
-fn add(txns: &mut IndexMap<TxnId, Txn>, txn: Txn)
+fn insert(txns: &mut IndexMap<TxnId, Txn>, txn: Txn)
     requires { 0 < spare txns.old }
     ensures added { txns.new.entries ≡ insert_entry same_id txns.old.entries txn.id txn }
     ensures room { spare txns.old ≤ spare txns.new + 1 }

@@ -1,24 +1,32 @@
-ghost use Rattle.std.specs.Prelude.{◌≡◌, ◌<◌, ◌≤◌, [], ◌∷◌, ◌++◌, length, vec_len, vec_capacity, get_or, slice_index, IfOk, OnOk, OnErr};
+ghost use Rattle.std.specs.Prelude.{◌≡◌, ◌<◌, ◌≤◌, [], ◌∷◌, ◌++◌, length, vec_len, vec_capacity, slice_index, slice_get, get_or, ℕ, ◌+◌, is_some, if◌then◌else◌, None, Some, IfOk};
 ghost use Rattle.std.specs.Option.{option_copied};
-ghost use Rattle.dt_events.specs.declared.Event.TheVariants.{Submit, Append, Insert, Resolve, Execute, Answer};
+ghost use Rattle.dt_events.specs.declared.Event.TheVariants.{Insert, Resolve, Execute};
 ghost use Rattle.dt_sched.specs.Views.{log_at};
 ghost use Rattle.dt_sched.specs.Sched.{IsNextClass};
+ghost use Rattle.dt_txn.specs.declared.txn.Txn.{Txn};
+ghost use Rattle.dt_txn.specs.Execution.{one};
+ghost use Rattle.dt_txn.specs.Replica.{taken_from};
 ghost use Rattle.dt_txn.specs.Transaction.{BodyFits};
-ghost use Rattle.dt_region.specs.State.{held, outcome_of, sched_of};
-ghost use Rattle.dt_region.specs.Rules.{opening_state, next_id, after_submit, Appends, Delivers, Steps};
+ghost use Rattle.dt_region.specs.Region.{held, outcome_of, sched_of};
+ghost use Rattle.dt_region.specs.Rules.{opening_state, MakesSubmit, MakesAppend, MakesDelivery, MakesStep, MakesAnswer};
 ghost use Rattle.dt_region.specs.Conditions.{IsTableFor, CanAppend, CanDeliver, HoldsValid};
 ghost use Rattle.dt_region.specs.Sound.{IsSoundRegion};
-ghost use Rattle.dt_region.specs.Keeping.{Keeps, KeepsDelivery};
 
-use crate::inner::Inner;
+use crate::ascent::are_ascending;
+use crate::asking::ask;
+use crate::entries::{keep_last, parts_and_txns, place, take};
+use crate::execution::{note_outcome, places_for};
+use crate::foreign::Foreign;
+use crate::opening::{no_counts, no_ids, no_parts};
 use dt_access::{Ids, TxnId};
 use dt_events::Event;
 use dt_log::{Log, Taken};
 use dt_proc::Procs;
 use dt_sched::Scheduler;
-use dt_table::Table;
+use dt_table::{Effect, Table};
 use dt_text::{Name, NoMemory};
-use dt_txn::{Body, Entry, Outcome, Txn};
+use dt_txn::{Body, Entry, Outcome, Txn, annotate, execute, homes, part_at};
+use indexmap::IndexMap;
 use std::alloc::Global;
 use std::marker::Model;
 
@@ -26,22 +34,36 @@ use std::marker::Model;
 ///
 /// Contracts see its `state`, and as `events` the events that it made, in order. Its type keeps what `IsSoundRegion`
 /// says: in each log every id stands once, every part is that of the transaction which the region holds under its id,
-/// and all logs together have at most 4,294,967,295 parts.
+/// all logs together have at most 4,294,967,295 parts, and what is resolved and done could be resolved and done.
 #[derive(Drop)]
 pub struct Region<S: Scheduler> {
-    inner: Inner<S>,
+    number: u8,
+    regions: u8,
+    submitted: Vec<Txn>,
+    foreign: Foreign,
+    asked: Vec<Ids>,
+    taken: Vec<u32>,
+    logs: Vec<Log>,
+    inserted: Vec<u32>,
+    done: IndexMap<TxnId, Outcome>,
+    table: Table,
+    scheduler: S,
     events: Vec<Event>,
 }
 
 impl<S: Scheduler> Model for Region<S> {
-    ghost use Rattle.dt_region.specs.State.{Kept};
-    ghost use Rattle.dt_region.specs.Codes.{kept_code};
+    ghost use Rattle.dt_region.specs.Region.{RegionView};
+    ghost use Rattle.dt_region.specs.RegionCode.{region_code};
 
-    ghost Value = { Kept };
+    ghost Value = { RegionView };
 
-    ghost coded = { kept_code };
+    ghost coded = { region_code };
 
-    ghost view = { λ r. record { state = r.inner.state; events = r.events.items } };
+    ghost use Rattle.dt_region.specs.RegionInner.{region_in, IsWell};
+
+    ghost view = { λ r. region_in S.seen r };
+
+    ghost invariant = { λ r. IsWell S.seen r };
 }
 
 impl<S: Scheduler> Region<S> {
@@ -51,12 +73,21 @@ impl<S: Scheduler> Region<S> {
         requires number { number < regions }
         requires regions { regions ≤ 8 }
         requires table { IsTableFor regions table.state }
-        ensures opening { IfOk result (λ region. region.state ≡ opening_state number regions table.state) }
-        ensures events { IfOk result (λ region. region.events ≡ []) }
+        ensures opening { IfOk result (λ region. region ≡ record { state = opening_state number regions table.state; events = [] }) }
         ensures sound { IfOk result (λ region. IsSoundRegion region.state) }
     {
         Ok(Region {
-            inner: Inner::new(alloc, number, regions, table)?,
+            number,
+            regions,
+            submitted: Vec::new(alloc),
+            foreign: Foreign::new(alloc),
+            asked: no_ids(alloc, regions)?,
+            taken: no_counts(alloc, regions)?,
+            logs: no_parts(alloc, regions)?,
+            inserted: no_counts(alloc, regions)?,
+            done: IndexMap::new(alloc),
+            table,
+            scheduler: S::empty(alloc, regions)?,
             events: Vec::new(alloc),
         })
     }
@@ -66,30 +97,30 @@ impl<S: Scheduler> Region<S> {
         ensures number { result ≡ self.now.state.number }
         ensures sound { IsSoundRegion self.now.state }
     {
-        self.inner.number()
+        self.number
     }
 
     /// How many regions there are. Takes no memory.
     pub fn regions(&self) -> u8
         ensures { result ≡ self.now.state.regions }
     {
-        self.inner.regions()
+        self.regions
     }
 
     /// What it asked a home to place, in order. Takes no memory.
     pub fn asked(&self, home: u8) -> &[TxnId]
         requires { home < self.now.state.regions }
-        ensures { result.now ≡ get_or self.now.state.asked home [] }
+        ensures { result.now ≡ get_or self.now.state.here.asked home [] }
     {
-        self.inner.asked(home)
+        self.asked[home as usize].as_slice()
     }
 
     /// How many requests of a region it has placed in its log. Takes no memory.
     pub fn taken(&self, source: u8) -> u32
         requires { source < self.now.state.regions }
-        ensures { result ≡ slice_index self.now.state.taken source }
+        ensures { result ≡ taken_from self.now.state.here source }
     {
-        self.inner.taken(source)
+        self.taken[source as usize]
     }
 
     /// The log of a home, as far as it received it; its own log whole. Takes no memory.
@@ -97,14 +128,22 @@ impl<S: Scheduler> Region<S> {
         requires { home < self.now.state.regions }
         ensures { result.now ≡ log_at self.now.state.logs home }
     {
-        self.inner.log(home)
+        &self.logs[home as usize]
+    }
+
+    // How many parts of a home's log it has inserted.
+    fn inserted(&self, home: u8) -> u32
+        requires { home < self.now.state.regions }
+        ensures { result ≡ slice_index self.now.state.here.inserted home }
+    {
+        self.inserted[home as usize]
     }
 
     /// Its rows. Takes no memory.
     pub fn table(&self) -> &Table
         ensures { result.now.state ≡ self.now.state.here.table }
     {
-        self.inner.table()
+        &self.table
     }
 
     /// The transaction of an id. `None` exactly where the region neither submitted it, nor was given it in a request or
@@ -112,14 +151,17 @@ impl<S: Scheduler> Region<S> {
     pub fn txn(&self, id: TxnId) -> Option<&Txn>
         ensures { option_copied result ≡ held self.now.state id }
     {
-        self.inner.txn(id)
+        if id.region != self.number {
+            return self.foreign.get(id);
+        }
+        numbered(self.submitted.as_slice(), id.seq)
     }
 
     /// The outcome of an id. `None` exactly where the id isn't done here. Takes no memory.
     pub fn outcome(&self, id: TxnId) -> Option<&Outcome>
         ensures { option_copied result ≡ outcome_of self.now.state id }
     {
-        self.inner.outcome(id)
+        self.done.get(&id)
     }
 
     /// The events that it made, in order. Takes no memory.
@@ -141,20 +183,35 @@ impl<S: Scheduler> Region<S> {
     ) -> Result<TxnId, NoMemory>
         requires fits { BodyFits procs.now self.old.state.regions body }
         requires place { length self.old.state.submitted < 4294967295 }
-        ensures state { OnOk result (self.new.state ≡ after_submit procs.now self.old.state body) }
-        ensures id { IfOk result (λ id. id ≡ next_id self.old.state) }
-        ensures event { OnOk result (self.new.events ≡ self.old.events ++ Submit self.old.state.number session.now ∷ []) }
-        ensures err { OnErr result (self.new ≡ self.old) }
+        ensures makes { MakesSubmit procs.now self.old session.now body result self.new }
         ensures sound { IsSoundRegion self.new.state }
     {
+        let id = TxnId {
+            seq: self.submitted.len() as u32 + 1,
+            region: self.number,
+        };
         let event = Event::Submit {
-            region: self.inner.number(),
+            region: self.number,
             session: session.copy(alloc)?,
         };
+        let txn = annotate(alloc, id, body, procs, &self.table)?;
+        let homes = homes(alloc, &txn)?;
         self.events.reserve(1)?;
-        let id = self.inner.submit(alloc, body, procs)?;
-        keep(&mut self.events, event);
+        self.submitted.reserve(1)?;
+        ask(alloc, &mut self.asked, homes.as_slice(), id)?;
+        add_last(&mut self.submitted, txn);
+        keep_event(&mut self.events, event);
         Ok(id)
+    }
+
+    // A copy of a transaction for the region to keep, unless it holds one of its id.
+    fn copy_to_keep(&self, alloc: Global, txn: &Txn) -> Result<Option<Txn>, NoMemory>
+        ensures { IfOk result (λ copy. copy ≡ (if is_some (held self.now.state txn.now.id) then None else Some txn.now)) }
+    {
+        if self.txn(txn.id).is_some() {
+            return Ok(None);
+        }
+        Ok(Some(txn.copy(alloc)?))
     }
 
     /// Places the part of a transaction at the end of the region's own log, as request `number` of region `source`: the
@@ -170,24 +227,29 @@ impl<S: Scheduler> Region<S> {
     ) -> Result<bool, NoMemory>
         requires source { source < self.old.state.regions }
         requires can { CanAppend self.old.state source number txn.now }
-        ensures appends { Appends self.old.state source number txn.now result self.new.state }
-        ensures event { Keeps self.old.events (Append self.old.state.number source number) result self.new.events }
+        ensures makes { MakesAppend self.old source number txn.now result self.new }
         ensures sound { IsSoundRegion self.new.state }
     {
-        let home = self.inner.number();
-        self.events.reserve(1)?;
-        let is_next = self.inner.append(alloc, source, number, txn)?;
-        if is_next {
-            keep(
-                &mut self.events,
-                Event::Append {
-                    home,
-                    source,
-                    number,
-                },
-            );
+        if number != self.taken(source) {
+            return Ok(false);
         }
-        Ok(is_next)
+        let home = self.number;
+        let copy = self.copy_to_keep(alloc, txn)?;
+        let part = part_at(alloc, txn, home)?;
+        self.events.reserve(1)?;
+        self.foreign.reserve(1)?;
+        place(&mut self.logs, part)?;
+        self.taken[source as usize] = number + 1;
+        self.foreign.add(copy);
+        keep_event(
+            &mut self.events,
+            Event::Append {
+                home,
+                source,
+                number,
+            },
+        );
+        Ok(true)
     }
 
     /// Takes a delivery of a home's log: its entries from place `first` on. `New` where some stand past the end of what the
@@ -203,16 +265,19 @@ impl<S: Scheduler> Region<S> {
     ) -> Result<Taken, NoMemory>
         requires home { home < self.old.state.regions }
         requires can { CanDeliver self.old.state home first entries.items }
-        ensures delivers { Delivers self.old.state home first entries.items result self.new.state }
-        ensures event { KeepsDelivery self.old home first result self.new }
+        ensures makes { MakesDelivery self.old home first entries.items result self.new }
         ensures sound { IsSoundRegion self.new.state }
     {
-        let region = self.inner.number();
+        let region = self.number;
+        let (parts, txns) = parts_and_txns(alloc, entries)?;
+        let count = txns.len();
         self.events.reserve(1)?;
-        let taken = self.inner.deliver(alloc, home, first, entries)?;
-        if let Taken::New(_) = taken {
-            let last = self.inner.log(home).len();
-            keep(
+        self.foreign.reserve(count)?;
+        let taken = take(&mut self.logs, home, first, parts)?;
+        if let Taken::New(new) = taken {
+            keep_last(region, &mut self.foreign, txns, new as usize);
+            let last = first + count as u32;
+            keep_event(
                 &mut self.events,
                 Event::Deliver {
                     region,
@@ -229,40 +294,39 @@ impl<S: Scheduler> Region<S> {
     /// received is inserted; then nothing changes, and neither does after `NoMemory`.
     pub fn insert(&mut self, alloc: Global, home: u8) -> Result<bool, NoMemory>
         requires { home < self.old.state.regions }
-        ensures steps { Steps [] self.old.state (Insert self.old.state.number home) result self.new.state }
-        ensures event { Keeps self.old.events (Insert self.old.state.number home) result self.new.events }
+        ensures makes { MakesStep [] self.old (Insert self.old.state.number home) result self.new }
         ensures sound { IsSoundRegion self.new.state }
     {
-        let region = self.inner.number();
+        let region = self.number;
+        let place = self.inserted(home);
+        let Some(part) = self.log(home).get(place) else {
+            return Ok(false);
+        };
+        let part = part.copy(alloc)?;
         self.events.reserve(1)?;
-        let is_made = self.inner.insert(alloc, home)?;
-        if is_made {
-            keep(&mut self.events, Event::Insert { region, home });
-        }
-        Ok(is_made)
+        self.scheduler.insert(alloc, part)?;
+        self.inserted[home as usize] = place + 1;
+        keep_event(&mut self.events, Event::Insert { region, home });
+        Ok(true)
     }
 
     /// Resolves a class of deadlocked transactions, and keeps the event. False exactly where the ids aren't a class that is
     /// resolvable here, in ascending order; then nothing changes, and neither does after `NoMemory`.
     pub fn resolve(&mut self, alloc: Global, ids: &[TxnId]) -> Result<bool, NoMemory>
-        ensures steps { Steps [] self.old.state (Resolve self.old.state.number ids.now) result self.new.state }
-        ensures event { Keeps self.old.events (Resolve self.old.state.number ids.now) result self.new.events }
+        ensures makes { MakesStep [] self.old (Resolve self.old.state.number ids.now) result self.new }
         ensures sound { IsSoundRegion self.new.state }
     {
-        let region = self.inner.number();
-        let members = Ids::from_vec(ids.to_vec(alloc)?);
-        self.events.reserve(1)?;
-        let is_made = self.inner.resolve(alloc, ids)?;
-        if is_made {
-            keep(
-                &mut self.events,
-                Event::Resolve {
-                    region,
-                    ids: members,
-                },
-            );
+        if !are_ascending(ids) || !self.scheduler.resolvable(alloc, ids)? {
+            return Ok(false);
         }
-        Ok(is_made)
+        let event = Event::Resolve {
+            region: self.number,
+            ids: Ids::from_vec(ids.to_vec(alloc)?),
+        };
+        self.events.reserve(1)?;
+        self.scheduler.resolve(alloc, ids)?;
+        keep_event(&mut self.events, event);
+        Ok(true)
     }
 
     /// Some class that is resolvable here, in ascending order, or `None` where there is none. It fails only for want of
@@ -270,35 +334,51 @@ impl<S: Scheduler> Region<S> {
     pub fn next_class(&self, alloc: Global) -> Result<Option<Ids>, NoMemory>
         ensures { IfOk result (IsNextClass (sched_of self.now.state.logs self.now.state.here)) }
     {
-        self.inner.next_class(alloc)
+        self.scheduler.next_class(alloc)
+    }
+
+    // What a transaction that the region holds comes to on its table, by these procedures.
+    fn run(&self, alloc: Global, id: TxnId, procs: &Procs) -> Result<(Outcome, Effect), NoMemory>
+        requires holds { HoldsValid procs.now self.now.state }
+        requires held { (txn : Txn) × (held self.now.state id ≡ Some txn) }
+        ensures { (txn : Txn) → held self.now.state id ≡ Some txn → IfOk result (λ run. run ≡ one procs.now txn self.now.state.here.table) }
+    {
+        match self.txn(id) {
+            Some(txn) => execute(alloc, txn, procs, &self.table),
+            None => unreachable!(),
+        }
     }
 
     /// Executes a transaction on the region's table, by these procedures, and keeps the event. False exactly where it isn't
     /// executable here; then nothing changes, and neither does after `NoMemory`.
     pub fn execute(&mut self, alloc: Global, id: TxnId, procs: &Procs) -> Result<bool, NoMemory>
         requires { HoldsValid procs.now self.old.state }
-        ensures steps { Steps procs.now self.old.state (Execute self.old.state.number id) result self.new.state }
-        ensures event { Keeps self.old.events (Execute self.old.state.number id) result self.new.events }
+        ensures makes { MakesStep procs.now self.old (Execute self.old.state.number id) result self.new }
         ensures sound { IsSoundRegion self.new.state }
     {
-        let region = self.inner.number();
-        self.events.reserve(1)?;
-        let is_made = self.inner.execute(alloc, id, procs)?;
-        if is_made {
-            keep(&mut self.events, Event::Execute { region, id });
+        let region = self.number;
+        if !self.scheduler.executable(alloc, id)? {
+            return Ok(false);
         }
-        Ok(is_made)
+        let (outcome, effect) = self.run(alloc, id, procs)?;
+        self.events.reserve(1)?;
+        self.table.reserve(places_for(&effect)?)?;
+        self.done.reserve(1)?;
+        self.scheduler.reserve(alloc, 1)?;
+        self.table.apply(effect);
+        note_outcome(&mut self.done, id, outcome);
+        self.scheduler.finish(id);
+        keep_event(&mut self.events, Event::Execute { region, id });
+        Ok(true)
     }
 
     /// Keeps the event that a session is answered, which changes nothing else. Whether the session may be answered is for
     /// the caller to know. After `NoMemory` the region is as before.
     pub fn answer(&mut self, alloc: Global, session: &Name) -> Result<(), NoMemory>
-        ensures state { self.new.state ≡ self.old.state }
-        ensures event { OnOk result (self.new.events ≡ self.old.events ++ Answer self.old.state.number session.now ∷ []) }
-        ensures err { OnErr result (self.new.events ≡ self.old.events) }
+        ensures makes { MakesAnswer self.old session.now result self.new }
     {
         let event = Event::Answer {
-            region: self.inner.number(),
+            region: self.number,
             session: session.copy(alloc)?,
         };
         self.events.push(event)?;
@@ -306,8 +386,27 @@ impl<S: Scheduler> Region<S> {
     }
 }
 
+// The transaction of this number, counted from 1, if there is one.
+fn numbered(txns: &[Txn], number: u32) -> Option<&Txn>
+    ensures none { number ≡ 0 → option_copied result ≡ None }
+    ensures some { (place : ℕ) → number ≡ place + 1 → option_copied result ≡ slice_get txns.now place }
+{
+    txns.get((number as usize).checked_sub(1)?)
+}
+
+// Adds a transaction at the end, which takes no memory where there is room.
+fn add_last(txns: &mut Vec<Txn>, txn: Txn)
+    requires { vec_len txns.old < vec_capacity txns.old }
+    ensures { txns.new.items ≡ txns.old.items ++ txn ∷ [] }
+{
+    match txns.push(txn) {
+        Ok(()) => (),
+        Err(_) => unreachable!(),
+    }
+}
+
 // Keeps an event at the end, which takes no memory where there is room.
-fn keep(events: &mut Vec<Event>, event: Event)
+fn keep_event(events: &mut Vec<Event>, event: Event)
     requires { vec_len events.old < vec_capacity events.old }
     ensures { events.new.items ≡ events.old.items ++ event ∷ [] }
 {

@@ -1,0 +1,113 @@
+-- Rule 6: what an execution makes of a region's fields is what the rule says, and keeps the region sound. Its scheduler
+-- goes along.
+use Rattle.std.proofs.Common.{◌≡◌, ℕ, Ok, true, List, [], ◌∷◌, ◌++◌, map, Some, refl, sym, ap, subst, ◌∙◌}
+use Rattle.dt_lists.specs.Lists.{Has}
+use Rattle.dt_access.specs.declared.Part.{Part}
+use Rattle.dt_access.specs.declared.TxnId.{TxnId}
+use Rattle.dt_events.specs.declared.Event.{Event}
+use Rattle.dt_events.specs.declared.Event.TheVariants.{Execute}
+use Rattle.dt_sched.specs.Views.{View, log_at, HasParts}
+use Rattle.dt_sched.specs.Decide.{IsExecutable, IsSound}
+use Rattle.dt_sched.specs.Sched.{Sched, CanExecute, after_finish}
+use Rattle.dt_sched.proofs.Callers.{complete_of_closed, part_of_complete}
+use Rattle.dt_sched.proofs.Callers.{sound_execute}
+use Rattle.dt_proc.specs.Tree.{ProcTree}
+use Rattle.dt_table.specs.Table.{Table, apply}
+use Rattle.dt_table.specs.declared.Effect.{Effect}
+use Rattle.dt_txn.specs.declared.txn.Txn.{Txn}
+use Rattle.dt_txn.specs.declared.outcome.Outcome.{Outcome}
+use Rattle.dt_txn.specs.Execution.{one}
+use Rattle.dt_txn.specs.Replica.{view_of, done_ids, executed}
+use Rattle.dt_region.specs.Region.{RegionState, RegionView, held, sched_of}
+use Rattle.dt_region.specs.Rules.{after_step, MakesStep}
+use Rattle.dt_region.specs.Conditions.{HoldsValid}
+use Rattle.dt_region.specs.Sound.{IsSoundRegion, IsHeldPart}
+use Rattle.dt_region.specs.RegionInner.{AreWell}
+use Rattle.dt_region.proofs.Seen.{IsSeenAs}
+use Rattle.dt_region.proofs.Held.{held_id, view_parts}
+use Rattle.dt_region.proofs.Tables.{after_table}
+
+-- what is executable is held
+pub executable_held : (s : RegionState) → IsSoundRegion s → (id : TxnId) → IsExecutable (view_of s.logs s.here) s.here.resolved (done_ids s.here) id → (txn : Txn) × (held s id ≡ Some txn)
+executable_held s sound id executable =
+    let sight : View = view_of s.logs s.here in
+    let r : (home : ℕ) × (p : Part) × Has (log_at sight home) p × (p.id ≡ id) × HasParts sight p.homes id = part_of_complete sight id (complete_of_closed sight id executable.closed) in
+    let k : IsHeldPart s r.0 r.1 = view_parts s sound r.0 r.1 r.2 in
+    (k.0, ap (held s) (sym r.3) ∙ k.1)
+
+ids_done : (done : List (TxnId × Outcome)) (d : TxnId × Outcome) → map (λ x. x.0) (done ++ d ∷ []) ≡ map (λ x. x.0) done ++ d.0 ∷ []
+ids_done [] d = refl
+ids_done (x ∷ done) d = ap (λ l. x.0 ∷ l) (ids_done done d)
+
+module _ (procs : List ProcTree) (s : RegionState) (sound : IsSoundRegion s) (holds : HoldsValid procs s) (id : TxnId) (may : CanExecute (sched_of s.logs s.here) id) (txn : Txn) (e : held s id ≡ Some txn) where
+  abbrev after : RegionState
+  after = record s { here = executed procs s.here (Some txn) }
+
+  done_now : done_ids after.here ≡ done_ids s.here ++ id ∷ []
+  done_now = ids_done s.here.done (txn.id, (one procs txn s.here.table).0) ∙ ap (λ i. done_ids s.here ++ i ∷ []) (held_id s id txn e)
+
+  execute_sound : IsSoundRegion after
+  execute_sound = record {
+    number = sound.number;
+    regions = sound.regions;
+    asked = sound.asked;
+    taken = sound.taken;
+    logs = sound.logs;
+    inserted = sound.inserted;
+    counted = sound.counted;
+    foreign = sound.foreign;
+    submitted_homes = sound.submitted_homes;
+    foreign_homes = sound.foreign_homes;
+    once = sound.once;
+    parts = sound.parts;
+    few = sound.few;
+    taken_few = sound.taken_few;
+    inserted_few = sound.inserted_few;
+    table = after_table procs s.regions txn s.here.table sound.table (holds id txn e);
+    decided = subst (IsSound (view_of s.logs s.here) s.here.resolved) (sym done_now) (sound_execute (view_of s.logs s.here) s.here.resolved (done_ids s.here) id may sound.decided);
+  }
+
+  pub execute_well : (seen : Sched) → seen ≡ after_finish (sched_of s.logs s.here) id → AreWell after seen
+  execute_well seen f = (execute_sound, f ∙ ap (λ ids. record (sched_of s.logs s.here) { done = ids }) (sym done_now))
+
+-- The region has the state s and these events, and contracts see it as r: what the call makes of its fields is what the
+-- rule says.
+module _ (procs : List ProcTree) (r : RegionView) (s : RegionState) (events : List Event) (seen : Sched) (stands : IsSeenAs s events seen r) (holds : HoldsValid procs r.state) (id : TxnId) (can : CanExecute seen id) where
+  may_here : CanExecute (sched_of s.logs s.here) id
+  may_here = subst (λ x. CanExecute x id) stands.well.1 can
+
+  held_here : (txn : Txn) × (held s id ≡ Some txn)
+  held_here = executable_held s stands.well.0 id may_here
+
+  pub execute_held : (txn : Txn) × (held r.state id ≡ Some txn)
+  execute_held = (held_here.0, subst (λ x. held x.state id ≡ Some held_here.0) stands.view held_here.1)
+
+  abbrev made : Sched → List (TxnId × Outcome) → Table → RegionState
+  made now done table = record s { here = record s.here { resolved = now.resolved; done = done; table = table } }
+
+  module _ (now : Sched) (done : List (TxnId × Outcome)) (table : Table) (outcome : Outcome) (effect : Effect) (ran : (txn : Txn) → held r.state id ≡ Some txn → (outcome, effect) ≡ one procs txn r.state.here.table)
+      (is : now ≡ after_finish seen id) (noted : done ≡ s.here.done ++ (id, outcome) ∷ []) (applied : table ≡ apply effect s.here.table) where
+    abbrev txn_here : Txn
+    txn_here = held_here.0
+
+    run_is : (outcome, effect) ≡ one procs txn_here s.here.table
+    run_is = subst (λ x. (outcome, effect) ≡ one procs txn_here x.state.here.table) (sym stands.view) (ran txn_here (subst (λ x. held x.state id ≡ Some txn_here) stands.view held_here.1))
+
+    now_is : now ≡ after_finish (sched_of s.logs s.here) id
+    now_is = is ∙ ap (λ x. after_finish x id) stands.well.1
+
+    ran_so : made now done table ≡ record s { here = executed procs s.here (Some txn_here) }
+    ran_so =
+        let done_is : done ≡ s.here.done ++ (txn_here.id, (one procs txn_here s.here.table).0) ∷ [] = noted ∙ (λ i. s.here.done ++ (sym (held_id s id txn_here held_here.1) i, (run_is i).0) ∷ []) in
+        let table_is : table ≡ apply (one procs txn_here s.here.table).1 s.here.table = applied ∙ ap (λ x. apply x.1 s.here.table) run_is in
+        λ j. made (now_is j) (done_is j) (table_is j)
+
+    pub execute_keeps : AreWell (made now done table) now
+    execute_keeps =
+        let valid : HoldsValid procs s = subst (λ x. HoldsValid procs x.state) (sym stands.view) holds in
+        subst (λ x. AreWell x now) (sym ran_so) (execute_well procs s stands.well.0 valid id may_here txn_here held_here.1 now now_is)
+
+    pub execute_made : (after : List Event) → after ≡ events ++ Execute s.number id ∷ [] → MakesStep procs r (Execute r.state.number id) (Ok true) (record { state = made now done table; events = after })
+    execute_made after kept =
+        let state : made now done table ≡ after_step procs s (Execute s.number id) = ran_so ∙ ap (λ o. record s { here = executed procs s.here o }) (sym held_here.1) in
+        subst (λ x. MakesStep procs x (Execute x.state.number id) (Ok true) (record { state = made now done table; events = after })) stands.view (may_here, λ j. record { state = state j; events = kept j })

@@ -1,0 +1,15 @@
+-- The transactions of other regions that a region keeps, as contracts see them: the list, in the order in which they
+-- came. How it grows is said in `Rules`, by the word `keep`.
+use Rattle.std.specs.Prelude.{◌≡◌, ℕ, List}
+use Rattle.dt_lists.specs.Lists.{AllIn}
+use Rattle.dt_access.specs.declared.TxnId.{TxnId}
+use Rattle.dt_txn.specs.declared.txn.Txn.{Txn}
+
+-- transactions that are kept, and for how many more there is room
+pub record ForeignView : Type 0 where
+  pub txns : List Txn
+  pub spare : ℕ
+
+-- each transaction is kept under its own id
+abbrev pub AreKeyed : List (TxnId × Txn) → Type 0
+AreKeyed entries = AllIn (λ e. e.0 ≡ e.1.id) entries

@@ -1,0 +1,36 @@
+-- Only proofs need this file: how a region keeps what contracts see of it, and what its type says of its fields.
+use Rattle.std.specs.Prelude.{◌≡◌}
+use Rattle.dt_sched.specs.Sched.{Sched}
+use Rattle.dt_region.specs.Region.{RegionState, RegionView, sched_of}
+use Rattle.dt_region.specs.Sound.{IsSoundRegion}
+use Rattle.dt_region.specs.declared.region.Region.TheInside.{Inside}
+
+-- the state that is kept in these fields, where the scheduler is seen so; what is resolved, the scheduler knows
+abbrev pub state_in : {S : Type 0} → (S → Sched) → Inside S → RegionState
+state_in seen a = record {
+  number = a.number;
+  regions = a.regions;
+  submitted = a.submitted.items;
+  foreign = a.foreign.txns;
+  logs = a.logs.items;
+  here = record {
+    asked = a.asked.items;
+    taken = a.taken.items;
+    inserted = a.inserted.items;
+    resolved = (seen a.scheduler).resolved;
+    done = a.done.entries;
+    table = a.table.state;
+  };
+}
+
+-- the region that is kept in these fields
+abbrev pub region_in : {S : Type 0} → (S → Sched) → Inside S → RegionView
+region_in seen a = record { state = state_in seen a; events = a.events.items }
+
+-- the region is sound, and its scheduler has what the region inserted, resolved and has done
+abbrev pub AreWell : RegionState → Sched → Type 0
+AreWell s seen = IsSoundRegion s × (seen ≡ sched_of s.logs s.here)
+
+-- what the type of a region says of its fields
+abbrev pub IsWell : {S : Type 0} → (S → Sched) → Inside S → Type 0
+IsWell seen a = AreWell (state_in seen a) (seen a.scheduler)
