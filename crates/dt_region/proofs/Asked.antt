@@ -1,6 +1,7 @@
 -- Asking homes leaves how many lists there are, and can be taken back.
 use Rattle.std.proofs.Common.{◌≡◌, ◌<◌, ◌-◌, ℕ, zero, suc, List, [], ◌∷◌, ◌++◌, length, get_or, set, take, refl, ap, ap₂, subst, ◌∙◌, arith}
 use Rattle.std.proofs.lemmas.List.{length-set, get_or-set_same, set-get_or}
+use Rattle.dt_lists.proofs.Callers.{set_set}
 use Rattle.dt_access.specs.declared.TxnId.{TxnId}
 use Rattle.dt_txn.specs.Asking.{ask}
 
@@ -16,11 +17,6 @@ take_front xs x n e = ap (λ k. take k (xs ++ x ∷ [])) e ∙ go xs
     go : (ys : List _) → take (length ys) (ys ++ x ∷ []) ≡ ys
     go [] = refl
     go (y ∷ ys) = ap (λ l. y ∷ l) (go ys)
-
-set_set : {A : Type 0} (xs : List A) (i : ℕ) (x y : A) → set (set xs i x) i y ≡ set xs i y
-set_set [] i x y = refl
-set_set (z ∷ xs) zero x y = refl
-set_set (z ∷ xs) (suc i) x y = ap (λ l. z ∷ l) (set_set xs i x y)
 
 length_more : {A : Type 0} (xs : List A) (x : A) → length (xs ++ x ∷ []) ≡ suc (length xs)
 length_more [] x = refl
