@@ -37,4 +37,4 @@ returns-clause-right c = λ ps q rest e.
     )
 
 pub param-requires : goal.param-requires
-param-requires c = room_new _ _ c.new-scope.ensures c.requires
+param-requires c = record { room = room_new _ _ c.new-scope.ensures c.requires.short }

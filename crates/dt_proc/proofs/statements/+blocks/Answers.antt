@@ -41,6 +41,7 @@ step-returns-in_default-clause-right t c = λ s rest h no e. absurd (some_statem
 pub step-returns-in_default-token : goal.step-returns-in_default-token
 step-returns-in_default-token t c = record {
   shorter = tt;
+  room = tt;
   right = λ s rest h no e.
       let k = step_when s rest c.args.tokens.now c.first-item.result c.first-item.result.token h c.in-len1-up.len_at_least c.first-item.is e refl in
       absurd (no_statement c.first-item.result.token c.first-item.result.place _ s rest c.in_default-token.not-Let c.in_default-token.not-Set
