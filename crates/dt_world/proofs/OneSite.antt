@@ -1,81 +1,87 @@
--- One region among all: how it answers, as the change of the list of regions.
-use Rattle.std.proofs.Common.{◌≡◌, ◌<◌, ◌≤◌, ◌+◌, ℕ, Bool, true, false, Ok, Err, List, length, get_or, set, sym, ap, ap₂, subst, ◌∙◌}
-use Rattle.std.specs.Prelude.{Result, IfOk, OnOk, OnErr}
-use Rattle.std.proofs.lemmas.List.{get_or_default, set-get_or}
-use Rattle.dt_text.specs.declared.NoMemory.{NoMemory}
+-- One site among all, reached by a call through the list: as it was where the call changed nothing, and stepped where the
+-- call was made.
+use Rattle.std.proofs.Common.{◌≡◌, ◌<◌, ◌+◌, ℕ, Bool, true, false, List, [], length, get_or, set, Ok, refl, sym, ap, subst, ◌∙◌}
+use Rattle.std.proofs.lemmas.List.{set-get_or}
 use Rattle.dt_access.specs.declared.TxnId.{TxnId}
-use Rattle.dt_events.specs.declared.Event.{Event}
-use Rattle.dt_log.specs.declared.Taken.{Taken}
-use Rattle.dt_log.specs.declared.Taken.TheVariants.{New, Old, Gap}
-use Rattle.dt_sched.specs.Views.{log_at}
-use Rattle.dt_proc.specs.Tree.{ProcTree}
-use Rattle.dt_txn.specs.declared.Body.{Body}
-use Rattle.dt_txn.specs.declared.Entry.{Entry}
-use Rattle.dt_txn.specs.declared.Txn.{Txn}
-use Rattle.dt_region.specs.State.{State}
-use Rattle.dt_region.specs.Rules.{Steps, Appends, Delivers, MayMake, after_step, after_append, after_deliver, next_id, taken_from}
+use Rattle.dt_events.specs.declared.Event.TheVariants.{Insert, Resolve, Execute}
+use Rattle.dt_region.specs.Region.{RegionView, outcome_of}
+use Rattle.dt_region.specs.Conditions.{HoldsValid}
+use Rattle.dt_region.specs.Rules.{MakesStep}
 use Rattle.dt_region.specs.Sound.{IsSoundRegion}
-use Rattle.dt_world.specs.declared.site.Origin.{Origin}
-use Rattle.dt_world.specs.Posted.{Posted, no_post, posted, in_state}
-use Rattle.dt_world.specs.Sited.{post_at, with_state, StepsAt, AppendsAt, DeliversAt, SubmitsAt}
+use Rattle.dt_cluster.specs.declared.Cluster.{Cluster}
+use Rattle.dt_session.specs.World.{outcome_at}
+use Rattle.dt_session.specs.Step.{IsLegal}
+use Rattle.dt_site.specs.declared.Origin.{Origin}
+use Rattle.dt_site.specs.Site.{SiteView, in_region, no_site}
+use Rattle.dt_site.proofs.Callers.{a_region, execute_made, execute_refused, holds_valid, insert_made, insert_refused, outcome_here, resolve_made, resolve_refused}
+use Rattle.dt_world.specs.Seats.{SeatsView}
+use Rattle.dt_world.specs.WorldInner.{IsLawful, site_at, view_in, world_of}
+use Rattle.dt_world.specs.WorldView.{WorldView}
+use Rattle.dt_world.proofs.WorldLaws.{IsBehind, IsMade, step_made}
 
--- a region that is read is the one of its place
-pub read_at : (posts : List Posted) (region : ℕ) (p : Posted) → region < length posts → p ≡ get_or posts region p → p ≡ post_at posts region
-read_at posts region p lt is = is ∙ get_or_default posts region p no_post lt
+module _ {cluster : Cluster} {seats : SeatsView} {sites : List SiteView} {steps : ℕ} (k : IsLawful cluster seats sites steps) {region : ℕ} (lr : region < cluster.regions)
+    {r : RegionView} {origins : List Origin} (b : IsBehind sites region r origins) where
+  -- the list where the region is as it was
+  pub same_sites : (later : RegionView) → later ≡ r → set sites region (record { region = later; origins = origins }) ≡ sites
+  same_sites later same = ap (set sites region) (b.site_is later ∙ ap (in_region (site_at sites region)) (same ∙ b.region_is)) ∙ set-get_or sites region no_site
 
-module _ (posts : List Posted) (region : ℕ) (p q : Posted) (at : p ≡ post_at posts region) (same : q.origins ≡ p.origins) where
-  in_its_state : (s : State) → q.state ≡ s → q ≡ in_state (post_at posts region) s
-  in_its_state s e = ap₂ (λ (a : State) b. record { state = a; origins = b }) e (same ∙ ap (λ x. x.origins) at)
+  pub same_lawful : (later : RegionView) → later ≡ r → IsLawful cluster seats (set sites region (record { region = later; origins = origins })) steps
+  same_lawful later same = subst (λ l. IsLawful cluster seats l steps) (sym (same_sites later same)) k
 
-  changed : (s : State) → q.state ≡ s → set posts region q ≡ with_state posts region s
-  changed s e = ap (set posts region) (in_its_state s e)
+  pub same_view : (later : RegionView) → later ≡ r → view_in cluster seats (set sites region (record { region = later; origins = origins })) steps ≡ view_in cluster seats sites steps
+  same_view later same = ap (λ l. view_in cluster seats l steps) (same_sites later same)
 
-  unchanged : q.state ≡ p.state → set posts region q ≡ posts
-  unchanged e = ap (set posts region) (ap₂ (λ (a : State) b. record { state = a; origins = b }) e same ∙ at) ∙ set-get_or posts region no_post
+  pub holds_here : HoldsValid cluster.procs r.state
+  holds_here = subst (λ x. HoldsValid cluster.procs x.state) (sym b.region_is) (holds_valid k.reached (k.stands region lr))
 
-  pub steps_at : (procs : List ProcTree) (event : Event) (result : Result Bool NoMemory) → Steps procs p.state event result q.state → IsSoundRegion q.state → StepsAt procs posts region event result (set posts region q)
-  steps_at procs event (Ok true) s sound =
-      let is : q.state ≡ after_step procs (post_at posts region).state event = s.1 ∙ ap (λ x. after_step procs x.state event) at in
-      (subst (λ x. MayMake x.state event) at s.0, (subst IsSoundRegion is sound, changed (after_step procs (post_at posts region).state event) is))
-  steps_at procs event (Ok false) s sound = (λ m. s.0 (subst (λ x. MayMake x.state event) (sym at) m), unchanged s.1)
-  steps_at procs event (Err e) s sound = unchanged s
+  pub region_here : (home : ℕ) → home < cluster.regions → home < r.state.regions
+  region_here home lh = subst (λ x. home < x.state.regions) (sym b.region_is) (a_region k.reached (k.stands region lr) home lh)
 
-  pub appends_at : (source number : ℕ) (txn : Txn) (result : Result Bool NoMemory) → Appends p.state source number txn result q.state → IsSoundRegion q.state → AppendsAt posts region source number txn result (set posts region q)
-  appends_at source number txn (Ok true) s sound =
-      let is : q.state ≡ after_append (post_at posts region).state source txn = s.1 ∙ ap (λ x. after_append x.state source txn) at in
-      (s.0 ∙ ap (λ x. taken_from x.state source) at, (subst IsSoundRegion is sound, changed (after_append (post_at posts region).state source txn) is))
-  appends_at source number txn (Ok false) s sound = (λ e. s.0 (e ∙ sym (ap (λ x. taken_from x.state source) at)), unchanged s.1)
-  appends_at source number txn (Err e) s sound = unchanged s
+  pub sound_here : IsSoundRegion r.state
+  sound_here = subst (λ x. IsSoundRegion x.state) (sym b.region_is) (k.stands region lr).sound
 
-  pub delivers_at : (home first : ℕ) (entries : List Entry) (result : Result Taken NoMemory) → Delivers p.state home first entries result q.state → IsSoundRegion q.state → DeliversAt posts region home first entries result (set posts region q)
-  delivers_at home first entries (Ok Gap) s sound = (subst (λ x. length (log_at x.state.logs home) < first) at s.0, unchanged s.1)
-  delivers_at home first entries (Ok Old) s sound = (subst (λ x. first + length entries ≤ length (log_at x.state.logs home)) at s.1, unchanged s.2)
-  delivers_at home first entries (Ok (New n)) s sound =
-      let is : q.state ≡ after_deliver (post_at posts region).state home first entries = s.3 ∙ ap (λ x. after_deliver x.state home first entries) at in
-      (subst IsSoundRegion is sound, changed (after_deliver (post_at posts region).state home first entries) is)
-  delivers_at home first entries (Err e) s sound = unchanged s
+  -- the outcome that the region keeps, as the world shows it
+  pub outcome_is : {now : WorldView} → view_in cluster seats sites steps ≡ now → (id : TxnId) → outcome_of r.state id ≡ outcome_at now.state region id
+  outcome_is view id =
+      ap (λ x. outcome_of x.state id) b.region_is ∙ outcome_here k.reached (k.stands region lr) id ∙ ap (λ (v : WorldView). outcome_at v.state region id) view
 
-module _ (posts : List Posted) (region : ℕ) (p q : Posted) (at : p ≡ post_at posts region) where
-  pub submits_at : (procs : List ProcTree) (body : Body) (origin : Origin) (result : Result TxnId NoMemory) → OnOk result (q ≡ posted procs p body origin) → IfOk result (λ id. id ≡ next_id p.state) → OnErr result (q ≡ p) → OnOk result (IsSoundRegion q.state) → SubmitsAt procs posts region body origin result (set posts region q)
-  submits_at procs body origin (Ok id) is named same sound =
-      let now : q ≡ posted procs (post_at posts region) body origin = is ∙ ap (λ x. posted procs x body origin) at in
-      (named ∙ ap (λ x. next_id x.state) at, subst (λ x. IsSoundRegion x.state) now sound, ap (set posts region) now)
-  submits_at procs body origin (Err e) is named same sound = ap (set posts region) (same ∙ at) ∙ set-get_or posts region no_post
+  -- rules 4 to 6
 
--- the same, as the list of regions was before
+  module _ (home : ℕ) (lh : home < cluster.regions) (later : RegionView) (on : Bool) (m : MakesStep [] r (Insert r.state.number home) (Ok on) later) where
+    pub insert_done : on ≡ true → IsSoundRegion later.state → IsMade cluster seats sites steps (Insert region home) seats (set sites region (record { region = later; origins = origins }))
+    insert_done e sound =
+        let m' : MakesStep cluster.procs r (Insert r.state.number home) (Ok true) later = subst (λ y. MakesStep cluster.procs r (Insert r.state.number home) (Ok y) later) e m in
+        let here = subst (λ x. MakesStep cluster.procs x (Insert x.state.number home) (Ok true) later) b.region_is m' in
+        subst (λ q. IsMade cluster seats sites steps (Insert region home) seats (set sites region q)) (sym (b.site_is later))
+        (step_made k (Insert region home) lr (insert_made k.reached lr (k.stands region lr) home lh later here sound) refl refl)
 
-module _ (items now : List Posted) (region : ℕ) (p q : Posted) (view : items ≡ now) (lt : region < length now) (is : p ≡ get_or items region p) where
-  at : p ≡ post_at items region
-  at = read_at items region p (subst (λ l. region < length l) (sym view) lt) is
+    pub insert_not : on ≡ false → ¬ (IsLegal cluster seats.workload (world_of sites seats.places) (Insert region home))
+    insert_not e =
+        let m' : MakesStep cluster.procs r (Insert r.state.number home) (Ok false) later = subst (λ y. MakesStep cluster.procs r (Insert r.state.number home) (Ok y) later) e m in
+        insert_refused k.reached lr (k.stands region lr) home lh later (subst (λ x. MakesStep cluster.procs x (Insert x.state.number home) (Ok false) later) b.region_is m')
 
-  pub steps_return : (procs : List ProcTree) → q.origins ≡ p.origins → (event : Event) (result : Result Bool NoMemory) → Steps procs p.state event result q.state → IsSoundRegion q.state → StepsAt procs now region event result (set items region q)
-  steps_return procs same event result s sound = subst (λ v. StepsAt procs v region event result (set items region q)) view (steps_at items region p q at same procs event result s sound)
+  module _ (ids : List TxnId) (later : RegionView) (on : Bool) (m : MakesStep [] r (Resolve r.state.number ids) (Ok on) later) where
+    pub resolve_done : on ≡ true → IsSoundRegion later.state → IsMade cluster seats sites steps (Resolve region ids) seats (set sites region (record { region = later; origins = origins }))
+    resolve_done e sound =
+        let m' : MakesStep cluster.procs r (Resolve r.state.number ids) (Ok true) later = subst (λ y. MakesStep cluster.procs r (Resolve r.state.number ids) (Ok y) later) e m in
+        let here = subst (λ x. MakesStep cluster.procs x (Resolve x.state.number ids) (Ok true) later) b.region_is m' in
+        subst (λ q. IsMade cluster seats sites steps (Resolve region ids) seats (set sites region q)) (sym (b.site_is later))
+        (step_made k (Resolve region ids) lr (resolve_made k.reached lr (k.stands region lr) ids later here sound) refl refl)
 
-  pub appends_return : q.origins ≡ p.origins → (source number : ℕ) (txn : Txn) (result : Result Bool NoMemory) → Appends p.state source number txn result q.state → IsSoundRegion q.state → AppendsAt now region source number txn result (set items region q)
-  appends_return same source number txn result s sound = subst (λ v. AppendsAt v region source number txn result (set items region q)) view (appends_at items region p q at same source number txn result s sound)
+    pub resolve_not : on ≡ false → ¬ (IsLegal cluster seats.workload (world_of sites seats.places) (Resolve region ids))
+    resolve_not e =
+        let m' : MakesStep cluster.procs r (Resolve r.state.number ids) (Ok false) later = subst (λ y. MakesStep cluster.procs r (Resolve r.state.number ids) (Ok y) later) e m in
+        resolve_refused k.reached lr (k.stands region lr) ids later (subst (λ x. MakesStep cluster.procs x (Resolve x.state.number ids) (Ok false) later) b.region_is m')
 
-  pub submits_return : (procs : List ProcTree) (body : Body) (origin : Origin) (result : Result TxnId NoMemory) → OnOk result (q ≡ posted procs p body origin) → IfOk result (λ id. id ≡ next_id p.state) → OnErr result (q ≡ p) → OnOk result (IsSoundRegion q.state) → SubmitsAt procs now region body origin result (set items region q)
-  submits_return procs body origin result a b d e = subst (λ v. SubmitsAt procs v region body origin result (set items region q)) view (submits_at items region p q at procs body origin result a b d e)
+  module _ (id : TxnId) (later : RegionView) (on : Bool) (m : MakesStep cluster.procs r (Execute r.state.number id) (Ok on) later) where
+    pub execute_done : on ≡ true → IsSoundRegion later.state → IsMade cluster seats sites steps (Execute region id) seats (set sites region (record { region = later; origins = origins }))
+    execute_done e sound =
+        let m' : MakesStep cluster.procs r (Execute r.state.number id) (Ok true) later = subst (λ y. MakesStep cluster.procs r (Execute r.state.number id) (Ok y) later) e m in
+        let here = subst (λ x. MakesStep cluster.procs x (Execute x.state.number id) (Ok true) later) b.region_is m' in
+        subst (λ q. IsMade cluster seats sites steps (Execute region id) seats (set sites region q)) (sym (b.site_is later))
+        (step_made k (Execute region id) lr (execute_made k.reached lr (k.stands region lr) id later here sound) refl refl)
 
-  pub delivers_return : q.origins ≡ p.origins → (home first : ℕ) (entries : List Entry) (result : Result Taken NoMemory) → Delivers p.state home first entries result q.state → IsSoundRegion q.state → DeliversAt now region home first entries result (set items region q)
-  delivers_return same home first entries result s sound = subst (λ v. DeliversAt v region home first entries result (set items region q)) view (delivers_at items region p q at same home first entries result s sound)
+    pub execute_not : on ≡ false → ¬ (IsLegal cluster seats.workload (world_of sites seats.places) (Execute region id))
+    execute_not e =
+        let m' : MakesStep cluster.procs r (Execute r.state.number id) (Ok false) later = subst (λ y. MakesStep cluster.procs r (Execute r.state.number id) (Ok y) later) e m in
+        execute_refused k.reached lr (k.stands region lr) id later (subst (λ x. MakesStep cluster.procs x (Execute x.state.number id) (Ok false) later) b.region_is m')

@@ -1,13 +1,17 @@
-//! The world: all regions and all sessions, in one hand. It takes one event after another where that is legal, and
-//! reports what they came to.
+//! The world: all regions and all sessions of a cluster in one hand.
+//!
+//! A [`World`] takes one event after another. [`World::step`] makes an event exactly where it is legal by its rule, and
+//! refuses it by the number of that rule otherwise; a refused event changes nothing. [`World::report`] tells what a list of
+//! events came to: the replies, the executed attempts in the serial order, and the rows of each region. [`World::kept`] tells
+//! which events a region keeps.
+//!
+//! A world holds a [`Site`](dt_site::Site) for each region and a place for each session. A step finds the region that the
+//! event is of, and makes its call there; what the call needs of other regions, as the transaction of a request or the
+//! entries of a log, is looked up in their sites.
 #![tactic(auto)]
 
-mod course;
-mod report;
-mod rules;
 mod seats;
-mod site;
-mod sites;
+mod session_replay;
 mod world;
 
-pub use world::{StepError, World};
+pub use world::{StepError, World, kept_are_own};

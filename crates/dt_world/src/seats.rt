@@ -2,7 +2,7 @@ ghost use Rattle.std.specs.Prelude.{◌≡◌, ◌+◌, ◌<◌, ◌^◌, length
 ghost use Rattle.dt_lists.specs.Lists.{Distinct};
 ghost use Rattle.dt_session.specs.World.{is_session};
 ghost use Rattle.dt_session.specs.Step.{body_of};
-ghost use Rattle.dt_world.specs.Seated.{after_answer, after_wait, all_idle, place_of, session_of, stand_of};
+ghost use Rattle.dt_world.specs.Seats.{after_answer, after_wait, all_idle, place_of, session_of, stand_of};
 
 use dt_access::{TryCopy, TxnId};
 use dt_text::{Name, NoMemory};
@@ -31,16 +31,16 @@ pub struct Seats {
 
 impl Model for Seats {
     ghost use Rattle.std.specs.Prelude.{length, map};
-    ghost use Rattle.dt_world.specs.Seated.{Seated, AreSeated, place_of};
-    ghost use Rattle.dt_world.specs.SeatedCode.{seated_code};
+    ghost use Rattle.dt_world.specs.Seats.{SeatsView, AreIndexed, place_of};
+    ghost use Rattle.dt_world.specs.SeatsCode.{seats_code};
 
-    ghost Value = { Seated };
+    ghost Value = { SeatsView };
 
-    ghost coded = { seated_code };
+    ghost coded = { seats_code };
 
     ghost view = { λ s. record { workload = s.workload; places = map place_of s.seats.items } };
 
-    ghost invariant = { λ s. AreSeated s.workload s.index.keys (length s.seats.items) };
+    ghost invariant = { λ s. AreIndexed s.workload s.index.keys (length s.seats.items) };
 }
 
 impl Seats {

@@ -1,16 +1,41 @@
-ghost use Rattle.std.specs.Prelude.{◌≡◌, ◌<◌, ◌+◌, ℕ, IsOk, IfOk, OnOk, OnErr};
+ghost use Rattle.std.specs.Prelude.{◌≡◌, ◌↔◌, List, ◌&&◌, ◌+◌, ◌<◌, ◌≤◌, ℕ, nat_le, nat_lt, drop, filter_map, get_or, length, map, take, is_some, [], Some, IsTrue, IsOk, IfOk, OnOk, OnErr};
+ghost use Rattle.dt_lists.specs.Lists.{AllIn, Has};
+ghost use Rattle.dt_access.specs.declared.TxnId.{TxnId};
+ghost use Rattle.dt_events.specs.declared.Event.{Event};
+ghost use Rattle.dt_events.specs.declared.Event.TheVariants.{Submit, Append, Deliver, Insert, Resolve, Execute, Answer};
+ghost use Rattle.dt_sched.specs.Views.{log_at};
+ghost use Rattle.dt_table.specs.Table.{shown};
+ghost use Rattle.dt_region.specs.Region.{held};
+ghost use Rattle.dt_region.specs.Conditions.{IsTableFor};
+ghost use Rattle.dt_region.specs.Sound.{IsSoundRegion};
 ghost use Rattle.dt_cluster.specs.Valid.{IsValidCluster};
+ghost use Rattle.dt_cluster.specs.declared.Cluster.{Cluster};
 ghost use Rattle.dt_workload.specs.Valid.{IsValidWorkload};
-ghost use Rattle.dt_session.specs.World.{opening_world};
-ghost use Rattle.dt_session.specs.Step.{IsLegal, next, rule_of};
+ghost use Rattle.dt_workload.specs.declared.Workload.{Workload};
+ghost use Rattle.dt_session.specs.World.{attempt_of, opening_table, outcome_at};
+ghost use Rattle.dt_session.specs.Step.{IsLegal, IsStale, next, rule_of};
+ghost use Rattle.dt_session.specs.Run.{AreLegal, order_of, world_after};
+ghost use Rattle.dt_agreement.specs.Invariant.{IsExecutedAt};
+ghost use Rattle.dt_world.specs.Seats.{stand_of};
+ghost use Rattle.dt_world.specs.SessionReplay.{IsReply, LedTo, ran_at, rans_at, replay_at, replies_at};
+ghost use Rattle.dt_world.specs.WorldInner.{HasCall, IsNextAttempt, IsSeatOf, MayEndAt, opening_sites, seats_in};
+ghost use Rattle.dt_world.specs.WorldReport.{IsOutcomeOf, IsReplyOf, answered_name, report_of, replies_of, rans_of};
+ghost use Rattle.dt_world.specs.WorldView.{Makes, kept_next, kept_after, opening_view, own_events};
 
 use crate::seats::Seats;
-use crate::sites::Sites;
+use crate::session_replay::SessionReplay;
+use dt_access::TxnId;
 use dt_cluster::Cluster;
 use dt_events::Event;
+use dt_region::Region;
+use dt_report::{EventList, Ran, Rans, Replies, Reply, Report, Tables};
 use dt_sched::Scheduler;
-use dt_text::NoMemory;
+use dt_site::{Origin, Site};
+use dt_table::Table;
+use dt_text::{Name, NoMemory};
+use dt_txn::{Entry, Outcome};
 use dt_workload::Workload;
+use indexmap::IndexSet;
 use std::alloc::Global;
 use std::marker::Model;
 
@@ -36,30 +61,29 @@ impl From<NoMemory> for StepError {
 
 /// All regions and all sessions of a cluster and its workload.
 ///
-/// Contracts see the cluster and the workload, as `state` the state of all regions and sessions, and as `steps` how many
-/// events were made.
+/// Contracts see the cluster and the workload, as `state` the state of all regions and sessions, as `kept` the events that
+/// each region keeps, and as `steps` how many events were made.
 #[derive(Drop)]
 pub struct World<S: Scheduler + Drop> {
-    pub(crate) cluster: Cluster,
-    pub(crate) seats: Seats,
-    pub(crate) sites: Sites<S>,
-    pub(crate) steps: u32,
+    cluster: Cluster,
+    seats: Seats,
+    sites: Vec<Site<S>>,
+    steps: u32,
 }
 
 impl<S: Scheduler + Drop> Model for World<S> {
-    ghost use Rattle.dt_world.specs.Kept.{Kept};
-    ghost use Rattle.dt_world.specs.Codes.{kept_code};
+    ghost use Rattle.dt_world.specs.WorldView.{WorldView};
+    ghost use Rattle.dt_world.specs.WorldCode.{world_code};
 
-    ghost Value = { Kept };
+    ghost Value = { WorldView };
 
-    ghost coded = { kept_code };
+    ghost coded = { world_code };
 
-    ghost use Rattle.dt_world.specs.Posted.{world_of};
-    ghost use Rattle.dt_world.specs.Lawful.{AreLawful};
+    ghost use Rattle.dt_world.specs.WorldInner.{IsLawful, view_in};
 
-    ghost view = { λ w. record { cluster = w.cluster; workload = w.seats.workload; state = world_of w.sites w.seats.places; steps = w.steps } };
+    ghost view = { λ w. view_in w.cluster w.seats w.sites.items w.steps };
 
-    ghost invariant = { λ w. AreLawful w.cluster w.seats w.sites w.steps };
+    ghost invariant = { λ w. IsLawful w.cluster w.seats w.sites.items w.steps };
 }
 
 impl<S: Scheduler + Drop> World<S> {
@@ -67,17 +91,12 @@ impl<S: Scheduler + Drop> World<S> {
     pub fn begin(alloc: Global, cluster: &Cluster, workload: &Workload) -> Result<Self, NoMemory>
         requires cluster { IsValidCluster cluster.now }
         requires workload { IsValidWorkload cluster.now workload.now }
-        ensures { IfOk result (λ world. world ≡ record {
-          cluster = cluster.now;
-          workload = workload.now;
-          state = opening_world cluster.now workload.now;
-          steps = 0;
-        }) }
+        ensures { IfOk result (λ world. world ≡ opening_view cluster.now workload.now) }
     {
         Ok(World {
             cluster: cluster.copy(alloc)?,
             seats: Seats::new(alloc, workload.copy(alloc)?)?,
-            sites: Sites::new(alloc, cluster)?,
+            sites: sites(alloc, cluster)?,
             steps: 0,
         })
     }
@@ -88,6 +107,7 @@ impl<S: Scheduler + Drop> World<S> {
         ensures legal { IsOk result → IsLegal self.old.cluster self.old.workload self.old.state event.now }
         ensures next { OnOk result (self.new ≡ record self.old {
           state = next self.old.cluster self.old.workload self.old.state event.now;
+          kept = kept_next self.old.state self.old.kept event.now;
           steps = self.old.steps + 1;
         }) }
         ensures same { OnErr result (self.new ≡ self.old) }
@@ -115,4 +135,471 @@ impl<S: Scheduler + Drop> World<S> {
             Event::Answer { region, session } => self.answer(alloc, *region, session),
         }
     }
+
+    /// The events that a region keeps: of the events that were made, its own that took effect, in their order.
+    pub fn kept(&self, region: u8) -> &[Event]
+        requires { region < self.now.cluster.regions }
+        ensures { result.now ≡ get_or self.now.kept region [] }
+    {
+        self.sites[region as usize].region.events()
+    }
+
+    /// Rule 1: a session of the region submits its next attempt.
+    fn submit(&mut self, alloc: Global, region: u8, name: &Name) -> Result<(), StepError>
+        requires { self.old.steps < 4294967295 }
+        ensures { Makes self.old (Submit region name.now) result self.new }
+    {
+        if region >= self.cluster.regions {
+            return Err(StepError::Illegal(1));
+        }
+        let Some(place) = self.seats.find(region, name) else {
+            return Err(StepError::Illegal(1));
+        };
+        let Some(attempt) = self.next_attempt(region, place) else {
+            return Err(StepError::Illegal(1));
+        };
+        let body = self.seats.body(alloc, place)?;
+        let origin = Origin {
+            session: name.copy(alloc)?,
+            call: self.seats.seat(place).answered + 1,
+            attempt,
+        };
+        let id = self.sites[region as usize].submit(alloc, body, &self.cluster.procs, origin)?;
+        self.seats.wait(place, id);
+        self.steps += 1;
+        Ok(())
+    }
+
+    /// Rule 2: a home takes a request of a region.
+    fn append(&mut self, alloc: Global, home: u8, source: u8, number: u32) -> Result<(), StepError>
+        requires { self.old.steps < 4294967295 }
+        ensures { Makes self.old (Append home source number) result self.new }
+    {
+        if home >= self.cluster.regions || source >= self.cluster.regions {
+            return Err(StepError::Illegal(2));
+        }
+        let asking = &self.sites[source as usize].region;
+        let asked = asking.asked(home);
+        if number as usize >= asked.len() {
+            return Err(StepError::Illegal(2));
+        }
+        let Some(txn) = asking.txn(asked[number as usize]) else {
+            unreachable!()
+        };
+        let txn = txn.copy(alloc)?;
+        self.sites[home as usize]
+            .region
+            .append(alloc, source, number, &txn)?;
+        self.steps += 1;
+        Ok(())
+    }
+
+    /// Rule 3: a region receives a stretch of a home's log.
+    fn deliver(
+        &mut self,
+        alloc: Global,
+        region: u8,
+        home: u8,
+        first: u32,
+        last: u32,
+    ) -> Result<(), StepError>
+        requires { self.old.steps < 4294967295 }
+        ensures { Makes self.old (Deliver region home first last) result self.new }
+    {
+        if region >= self.cluster.regions || home >= self.cluster.regions {
+            return Err(StepError::Illegal(3));
+        }
+        let source = &self.sites[home as usize].region;
+        if first > last || last > source.log(home).len() {
+            return Err(StepError::Illegal(3));
+        }
+        let received = self.sites[region as usize].region.log(home).len();
+        if !joins(received, first, last) {
+            self.steps += 1;
+            return Ok(());
+        }
+        let entries = entries(alloc, source, home, first, last)?;
+        self.sites[region as usize]
+            .region
+            .deliver(alloc, home, first, entries)?;
+        self.steps += 1;
+        Ok(())
+    }
+
+    /// Rule 4: a region inserts the next part of a home's log.
+    fn insert(&mut self, alloc: Global, region: u8, home: u8) -> Result<(), StepError>
+        requires { self.old.steps < 4294967295 }
+        ensures { Makes self.old (Insert region home) result self.new }
+    {
+        if region >= self.cluster.regions || home >= self.cluster.regions {
+            return Err(StepError::Illegal(4));
+        }
+        if !self.sites[region as usize].region.insert(alloc, home)? {
+            return Err(StepError::Illegal(4));
+        }
+        self.steps += 1;
+        Ok(())
+    }
+
+    /// Rule 5: a region resolves a class of deadlocked transactions.
+    fn resolve(&mut self, alloc: Global, region: u8, ids: &[TxnId]) -> Result<(), StepError>
+        requires { self.old.steps < 4294967295 }
+        ensures { Makes self.old (Resolve region ids.now) result self.new }
+    {
+        if region >= self.cluster.regions {
+            return Err(StepError::Illegal(5));
+        }
+        if !self.sites[region as usize].region.resolve(alloc, ids)? {
+            return Err(StepError::Illegal(5));
+        }
+        self.steps += 1;
+        Ok(())
+    }
+
+    /// Rule 6: a region executes a transaction.
+    fn execute(&mut self, alloc: Global, region: u8, id: TxnId) -> Result<(), StepError>
+        requires { self.old.steps < 4294967295 }
+        ensures { Makes self.old (Execute region id) result self.new }
+    {
+        if region >= self.cluster.regions {
+            return Err(StepError::Illegal(6));
+        }
+        if !self.sites[region as usize]
+            .region
+            .execute(alloc, id, &self.cluster.procs)?
+        {
+            return Err(StepError::Illegal(6));
+        }
+        self.steps += 1;
+        Ok(())
+    }
+
+    /// Rule 7: a region answers one of its sessions.
+    fn answer(&mut self, alloc: Global, region: u8, name: &Name) -> Result<(), StepError>
+        requires { self.old.steps < 4294967295 }
+        ensures { Makes self.old (Answer region name.now) result self.new }
+    {
+        if region >= self.cluster.regions {
+            return Err(StepError::Illegal(7));
+        }
+        let Some(place) = self.seats.find(region, name) else {
+            return Err(StepError::Illegal(7));
+        };
+        if !self.may_end(region, place) {
+            return Err(StepError::Illegal(7));
+        }
+        self.sites[region as usize].region.answer(alloc, name)?;
+        self.seats.answer(place);
+        self.steps += 1;
+        Ok(())
+    }
+
+    /// The number of the attempt that the session at a place may make next. `None` exactly where it may make none.
+    fn next_attempt(&self, region: u8, place: usize) -> Option<u32>
+        requires { IsSeatOf self.now region place }
+        ensures { IsNextAttempt self.now region place result }
+    {
+        let Some(id) = self.seats.seat(place).waits else {
+            return if self.has_call(place) { Some(1) } else { None };
+        };
+        if !self.is_stale(region, id) {
+            return None;
+        }
+        let attempt = self.attempt(region, place, id);
+        if attempt >= self.cluster.tries {
+            return None;
+        }
+        Some(attempt + 1)
+    }
+
+    /// Whether the session at a place has a call left.
+    fn has_call(&self, place: usize) -> bool
+        requires { place < length self.now.workload.sessions }
+        ensures { IsTrue result ↔ HasCall self.now place }
+    {
+        let answered = self.seats.seat(place).answered as usize;
+        answered < self.seats.session(place).calls.len()
+    }
+
+    /// Whether the session at a place may be answered.
+    fn may_end(&self, region: u8, place: usize) -> bool
+        requires { IsSeatOf self.now region place }
+        ensures { IsTrue result ↔ MayEndAt self.now region place }
+    {
+        let Some(id) = self.seats.seat(place).waits else {
+            return false;
+        };
+        if self.is_stale(region, id) {
+            return self.attempt(region, place, id) == self.cluster.tries;
+        }
+        self.is_done(region, id)
+    }
+
+    /// Whether a region has executed an id.
+    fn is_done(&self, region: u8, id: TxnId) -> bool
+        requires { region < self.now.cluster.regions }
+        ensures { result ≡ is_some (outcome_at self.now.state region id) }
+    {
+        self.sites[region as usize].region.outcome(id).is_some()
+    }
+
+    /// Whether a region has executed an id, and it was stale.
+    fn is_stale(&self, region: u8, id: TxnId) -> bool
+        requires { region < self.now.cluster.regions }
+        ensures { IsTrue result ↔ IsStale (outcome_at self.now.state region id) }
+    {
+        matches!(
+            self.sites[region as usize].region.outcome(id),
+            Some(Outcome::Stale { .. })
+        )
+    }
+
+    /// The number of the attempt that the session at a place waits for.
+    fn attempt(&self, region: u8, place: usize, id: TxnId) -> u32
+        requires seat { IsSeatOf self.now region place }
+        requires waits { (stand_of (seats_in self.now) place).waits ≡ Some id }
+        ensures { result ≡ attempt_of self.now.state id }
+    {
+        self.sites[region as usize].origin(id.seq).attempt
+    }
+
+    /// The report of the events that led to this world, from its opening on.
+    pub fn report(&self, alloc: Global, events: Vec<Event>) -> Result<Report, NoMemory>
+        requires legal { AreLegal self.now.cluster self.now.workload events.items }
+        requires reached { self.now.state ≡ world_after self.now.cluster self.now.workload events.items }
+        ensures report { IfOk result (λ report. report ≡ report_of self.now.cluster self.now.workload events.items) }
+
+        // Nothing is left out: the order section has each executed id, and there is a reply for each answer.
+        ensures all_ran { IfOk result (λ report. map (λ ran. ran.id) report.order ≡ order_of events.items) }
+        ensures all_answered { IfOk result (λ report. map (λ reply. reply.session) report.replies ≡ filter_map answered_name events.items) }
+
+        // Each outcome is the one that every region keeps which executed the attempt, and each table is its region's.
+        ensures outcomes { IfOk result (λ report. AllIn (λ ran. IsOutcomeOf self.now.cluster.regions self.now.state ran.id ran.outcome) report.order) }
+        ensures replies { IfOk result (λ report. AllIn (IsReplyOf self.now.cluster.regions self.now.state) report.replies) }
+        ensures tables { IfOk result (λ report. report.tables ≡ map (λ node. shown node.here.table) self.now.state.nodes) }
+    {
+        // Names the regions, so that the proof has what is kept of them.
+        let _sites = &self.sites;
+        Ok(Report {
+            replies: self.replies(alloc, events.as_slice())?,
+            order: self.order(alloc, events.as_slice())?,
+            tables: self.tables(alloc)?,
+            events: EventList::from_vec(events),
+        })
+    }
+
+    /// The table of each region, as it is shown.
+    fn tables(&self, alloc: Global) -> Result<Tables, NoMemory>
+        ensures { IfOk result (λ tables. tables ≡ map (λ node. shown node.here.table) self.now.state.nodes) }
+    {
+        let mut tables = Tables::new(alloc);
+        for site in self.sites.as_slice() {
+            tables.push(site.region.table().shown(alloc)?)?;
+        }
+        Ok(tables)
+    }
+
+    /// The executed attempts, in the order of their first executions.
+    fn order(&self, alloc: Global, events: &[Event]) -> Result<Rans, NoMemory>
+        requires { LedTo self.now events.now }
+        ensures { IfOk result (λ order. order ≡ rans_of self.now.cluster self.now.workload events.now) }
+    {
+        let mut seen = IndexSet::new(alloc);
+        let mut order = Rans::new(alloc);
+        for at in 0..events.len() {
+            self.note(alloc, &mut seen, &mut order, events, at)?;
+        }
+        Ok(order)
+    }
+
+    /// Notes what an event executes, if it is the first to do so.
+    fn note(
+        &self,
+        alloc: Global,
+        seen: &mut IndexSet<TxnId>,
+        order: &mut Rans,
+        events: &[Event],
+        at: usize,
+    ) -> Result<(), NoMemory>
+        requires led { LedTo self.now events.now }
+        requires at { at < length events.now }
+        requires seen { seen.old.keys ≡ order_of (take at events.now) }
+        requires order { order.old ≡ rans_at self.now events.now at }
+        ensures seen { OnOk result (seen.new.keys ≡ order_of (take (at + 1) events.now)) }
+        ensures order { OnOk result (order.new ≡ rans_at self.now events.now (at + 1)) }
+    {
+        let Event::Execute { region, id } = &events[at] else {
+            return Ok(());
+        };
+        if seen.insert(*id)? {
+            order.push(self.ran(alloc, *region, *id)?)?;
+        }
+        Ok(())
+    }
+
+    /// An attempt that a region has executed, with its outcome.
+    fn ran(&self, alloc: Global, region: u8, id: TxnId) -> Result<Ran, NoMemory>
+        requires region { region < self.now.cluster.regions }
+        requires executed { IsExecutedAt self.now.state region id }
+        ensures { IfOk result (λ ran. ran_at self.now.state region id ≡ Some ran) }
+    {
+        let Some(outcome) = self.sites[region as usize].region.outcome(id) else {
+            unreachable!()
+        };
+        let origin = self.sites[id.region as usize].origin(id.seq);
+        Ok(Ran {
+            id,
+            session: origin.session.copy(alloc)?,
+            call: origin.call,
+            attempt: origin.attempt,
+            outcome: outcome.copy(alloc)?,
+        })
+    }
+
+    /// The answers that the events give, in their order.
+    fn replies(&self, alloc: Global, events: &[Event]) -> Result<Replies, NoMemory>
+        requires { LedTo self.now events.now }
+        ensures { IfOk result (λ replies. replies ≡ replies_of self.now.cluster self.now.workload events.now) }
+    {
+        let sessions = self.seats.workload().sessions.len();
+        let mut replay = SessionReplay::new(alloc, sessions, self.cluster.regions)?;
+        let mut replies = Replies::new(alloc);
+        for at in 0..events.len() {
+            self.follow(alloc, &mut replay, &mut replies, events, at)?;
+        }
+        Ok(replies)
+    }
+
+    /// Follows what an event does to sessions, and adds the reply that it gives, if it is an answer.
+    fn follow(
+        &self,
+        alloc: Global,
+        replay: &mut SessionReplay,
+        replies: &mut Replies,
+        events: &[Event],
+        at: usize,
+    ) -> Result<(), NoMemory>
+        requires led { LedTo self.now events.now }
+        requires at { at < length events.now }
+        requires replay { replay.old ≡ replay_at self.now events.now at }
+        requires replies { replies.old ≡ replies_at self.now events.now at }
+        ensures replay { OnOk result (replay.new ≡ replay_at self.now events.now (at + 1)) }
+        ensures replies { OnOk result (replies.new ≡ replies_at self.now events.now (at + 1)) }
+    {
+        match &events[at] {
+            Event::Submit { region, session } => {
+                let Some(place) = self.seats.find(*region, session) else {
+                    unreachable!()
+                };
+                // Names the steps, so that the proof has what is kept of their number.
+                let _steps = self.steps;
+                replay.submit(place, *region);
+                Ok(())
+            }
+            Event::Answer { region, session } => {
+                let Some(place) = self.seats.find(*region, session) else {
+                    unreachable!()
+                };
+                let Some(id) = replay.waits(place) else {
+                    unreachable!()
+                };
+                let reply = self.reply(alloc, *region, session, id)?;
+                replay.answer(place);
+                replies.push(reply)
+            }
+            _ => Ok(()),
+        }
+    }
+
+    /// The reply to a session of a region that waited for this attempt.
+    fn reply(&self, alloc: Global, region: u8, session: &Name, id: TxnId) -> Result<Reply, NoMemory>
+        requires region { region < self.now.cluster.regions }
+        requires own { id.region ≡ region }
+        requires executed { IsExecutedAt self.now.state region id }
+        ensures { IfOk result (λ reply. IsReply self.now.state region session.now id reply) }
+    {
+        let site = &self.sites[region as usize];
+        let Some(outcome) = site.region.outcome(id) else {
+            unreachable!()
+        };
+        Ok(Reply {
+            session: session.copy(alloc)?,
+            call: site.origin(id.seq).call,
+            outcome: outcome.copy(alloc)?,
+        })
+    }
+}
+
+/// The sites of all regions of a cluster before anything happens, by number.
+fn sites<S: Scheduler + Drop>(alloc: Global, cluster: &Cluster) -> Result<Vec<Site<S>>, NoMemory>
+    requires { IsValidCluster cluster.now }
+    ensures opening { IfOk result (λ sites. sites.items ≡ opening_sites cluster.now) }
+    ensures sound { IfOk result (λ sites. AllIn (λ site. IsSoundRegion site.region.state) sites.items) }
+{
+    let mut sites = Vec::new(alloc);
+    for number in 0..cluster.regions {
+        let table = first_table(alloc, cluster)?;
+        sites.push(Site::new(alloc, number, cluster.regions, table)?)?;
+    }
+    Ok(sites)
+}
+
+/// The table that every region has at first.
+fn first_table(alloc: Global, cluster: &Cluster) -> Result<Table, NoMemory>
+    requires { IsValidCluster cluster.now }
+    ensures opening { IfOk result (λ table. table.state ≡ opening_table cluster.now) }
+    ensures sized { IfOk result (λ table. IsTableFor cluster.now.regions table.state) }
+{
+    Ok(Table::new(
+        alloc,
+        cluster.regions,
+        cluster.homes.as_slice(),
+        cluster.rows.as_slice(),
+    )?)
+}
+
+/// What regions keep after events is, of each region, its own of these events that take effect, in their order. This is a
+/// law: the function does nothing.
+pub fn kept_are_own()
+    ensures { (cluster : Cluster) (workload : Workload) (events : List Event) (region : ℕ) → region < cluster.regions →
+        get_or (kept_after cluster workload events) region [] ≡ own_events cluster workload region events }
+{}
+
+/// Whether a delivery of the places from `first` up to `last` goes on where what was received ends, and past it.
+fn joins(received: u32, first: u32, last: u32) -> bool
+    ensures { result ≡ (nat_le first received && nat_lt received last) }
+{
+    first <= received && received < last
+}
+
+/// The entries of a home's own log from place `first` up to `last`, each with its transaction.
+fn entries<S: Scheduler>(
+    alloc: Global,
+    source: &Region<S>,
+    home: u8,
+    first: u32,
+    last: u32,
+) -> Result<Vec<Entry>, NoMemory>
+    requires sound { IsSoundRegion source.now.state }
+    requires home { home < source.now.state.regions }
+    requires order { first ≤ last }
+    requires end { last ≤ length (log_at source.now.state.logs home) }
+    ensures parts { IfOk result (λ entries. map (λ e. e.part) entries.items ≡ drop first (take last (log_at source.now.state.logs home))) }
+    ensures txns { IfOk result (λ entries. AllIn (λ e. held source.now.state e.part.id ≡ Some e.txn) entries.items) }
+{
+    let log = source.log(home);
+    let mut entries = Vec::new(alloc);
+    for place in first..last {
+        let Some(part) = log.get(place) else {
+            unreachable!()
+        };
+        let Some(txn) = source.txn(part.id) else {
+            unreachable!()
+        };
+        entries.push(Entry {
+            part: part.copy(alloc)?,
+            txn: txn.copy(alloc)?,
+        })?;
+    }
+    Ok(entries)
 }

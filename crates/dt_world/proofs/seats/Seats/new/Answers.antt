@@ -1,7 +1,7 @@
 use Rattle.std.proofs.Common.{map, sym, ap, subst, ◌∙◌}
 use Rattle.dt_lists.specs.Lists.{Distinct}
-use Rattle.dt_world.specs.Seated.{place_of}
-use Rattle.dt_world.proofs.Seating.{index_more, idle_more}
+use Rattle.dt_world.specs.Seats.{place_of}
+use Rattle.dt_world.proofs.SeatsLaws.{index_more, idle_more}
 use Rattle.dt_world.proofs.seats.Seats.new.Goals as goal
 
 pub loop-session-preserved : goal.loop-session-preserved

@@ -1,6 +1,6 @@
 use Rattle.std.proofs.Common.{◌≡◌, take, map}
 use Rattle.dt_session.specs.World.{idle_place}
-use Rattle.dt_world.specs.Seated.{place_of}
+use Rattle.dt_world.specs.Seats.{place_of}
 use Rattle.dt_world.proofs.seats.Seats.new.Given as goal
 
 abbrev pub invariant-loop-session : goal.invariant-loop-session

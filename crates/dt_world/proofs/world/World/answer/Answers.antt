@@ -1,37 +1,54 @@
-use Rattle.std.proofs.Common.{◌≡◌, ◌+◌, refl, sym, subst, ◌∙◌, arith}
+use Rattle.std.proofs.Common.{◌≡◌, ◌+◌, Some, List, set, refl, sym, ap, subst, ◌∙◌, arith}
 use Rattle.dt_events.specs.declared.Event.TheVariants.{Answer}
-use Rattle.dt_world.specs.Lawful.{AreLawful, MayEndAt, MayMake, made}
-use Rattle.dt_world.specs.Seated.{after_answer}
-use Rattle.dt_world.proofs.Posting.{answer_made, none_answered, not_answered}
-use Rattle.dt_world.proofs.Stepping.{a_post, kept_of, made_before}
-use Rattle.dt_world.proofs.Turns.{answered_few, seat_of, steps_few}
+use Rattle.dt_session.specs.Step.{IsLegal}
+use Rattle.dt_world.specs.Seats.{SeatsView}
+use Rattle.dt_world.specs.WorldInner.{IsLawful, MayEndAt, view_in}
+use Rattle.dt_world.specs.WorldView.{WorldView}
+use Rattle.dt_world.proofs.Rule7Answer.{answer_done}
+use Rattle.dt_world.proofs.WorldLaws.{a_site, behind, made_before}
+use Rattle.dt_world.proofs.WorldSeats.{answered_few, none_answered, not_answered, seat_of, steps_few}
 use Rattle.dt_world.proofs.world.World.answer.Goals as goal
 
 pub returns-in_default : goal.returns-in_default
-returns-in_default g c = (refl, λ m. none_answered c.self.inside.cluster c.self.inside.seats c.self.inside.sites c.self.inside.steps c.self.invariant c.args.region c.args.name.now (sym c.find.ensures.place ∙ c.in_default.is) (subst (λ v. MayMake v (Answer c.args.region c.args.name.now)) (sym c.self.view_is) m), refl)
+returns-in_default g c = (
+  refl,
+  λ l. none_answered c.self.invariant c.args.region c.args.name.now (sym c.find.ensures.place ∙ c.in_default.is)
+      (subst (λ (v : WorldView). IsLegal v.cluster v.workload v.state (Answer c.args.region c.args.name.now)) (sym c.self.view_is) l),
+  refl,
+)
 
 pub may_end-requires : goal.may_end-requires
-may_end-requires g c = seat_of c.self.inside.cluster c.self.inside.seats c.self.inside.sites c.self.inside.steps c.self.invariant c.args.self.now c.self.view_is c.args.region c.if-region-self.false c.args.name.now c.in-Some.place (sym c.find.ensures.place ∙ c.in-Some.is)
+may_end-requires g c = seat_of c.self.invariant c.self.view_is c.if-region-self.false c.args.name.now (sym c.find.ensures.place ∙ c.in-Some.is)
 
 pub returns-then-not-may_end : goal.returns-then-not-may_end
-returns-then-not-may_end g c = (refl, λ m. not_answered c.self.inside.cluster c.self.inside.seats c.self.inside.sites c.self.inside.steps c.self.invariant c.args.region c.if-region-self.false c.args.name.now c.in-Some.place (sym c.find.ensures.place ∙ c.in-Some.is) (λ e. cc (c.may_end.ensures.1 (subst (λ v. MayEndAt v c.args.region c.in-Some.place) c.self.view_is e), c.if-not-may_end.true)) (subst (λ v. MayMake v (Answer c.args.region c.args.name.now)) (sym c.self.view_is) m), refl)
+returns-then-not-may_end g c = (
+  refl,
+  λ l. not_answered c.self.invariant c.if-region-self.false c.args.name.now (sym c.find.ensures.place ∙ c.in-Some.is)
+      (λ e. cc (c.may_end.ensures.1 (subst (λ v. MayEndAt v c.args.region c.in-Some.place) c.self.view_is e), c.if-not-may_end.true))
+      (subst (λ (v : WorldView). IsLegal v.cluster v.workload v.state (Answer c.args.region c.args.name.now)) (sym c.self.view_is) l),
+  refl,
+)
 
-pub answer-requires-2-clause-few : goal.answer-requires-2-clause-few
-answer-requires-2-clause-few g c = omega (arith, answered_few c.self.inside.cluster c.self.inside.seats c.self.inside.sites c.self.inside.steps c.self.invariant c.in-Some.place, steps_few c.self.inside.cluster c.self.inside.seats c.self.inside.sites c.self.inside.steps c.self.invariant c.args.self.now c.self.view_is c.requires)
-
-pub answer-requires : goal.answer-requires
-answer-requires g c = a_post c.self.inside.cluster c.self.inside.seats c.self.inside.sites c.self.inside.steps c.self.invariant c.args.region c.if-region-self.false
-
-pub invariant_of-self : goal.invariant_of-self
-invariant_of-self g c = subst (λ t. AreLawful c.self.inside.cluster c.self.inside.seats t c.self.inside.steps) (sym c.in_err-answer.ensures) c.self.invariant
+pub answer-requires-clause-few : goal.answer-requires-clause-few
+answer-requires-clause-few g c = omega (arith, answered_few c.self.invariant c.in-Some.place, steps_few c.self.invariant c.self.view_is c.requires)
 
 pub invariant_of-self-2 : goal.invariant_of-self-2
 invariant_of-self-2 g c =
-    subst (λ t. AreLawful c.self.inside.cluster c.answer-2.new.self t (c.self.inside.steps + 1)) (sym c.in_ok-answer.ensures)
-    (subst (λ s. AreLawful c.self.inside.cluster s c.self.inside.sites (c.self.inside.steps + 1)) (sym c.answer-2.ensures) (answer_made c.self.inside.cluster c.self.inside.seats c.self.inside.sites c.self.inside.steps c.self.invariant c.args.region c.if-region-self.false c.args.name.now c.in-Some.place (sym c.find.ensures.place ∙ c.in-Some.is) (subst (λ v. MayEndAt v c.args.region c.in-Some.place) (sym c.self.view_is) (c.may_end.ensures.0 c.if-not-may_end.false))).lawful)
+    let may : MayEndAt (view_in c.self.inside.cluster c.self.inside.seats c.self.inside.sites.items c.self.inside.steps) c.args.region c.in-Some.place =
+    subst (λ v. MayEndAt v c.args.region c.in-Some.place) (sym c.self.view_is) (c.may_end.ensures.0 c.if-not-may_end.false) in
+    let site = behind (a_site c.self.invariant c.if-region-self.false) c.index_mut.ensures.value c.behind-self.view_is in
+    let done = answer_done c.self.invariant c.if-region-self.false c.args.name.now (sym c.find.ensures.place ∙ c.in-Some.is) may site c.answer.new.self c.in_ok-answer.ensures in
+    subst (λ (s : SeatsView). IsLawful c.self.inside.cluster s (set c.self.inside.sites.items c.args.region (record { region = c.answer.new.self; origins = c.behind-self.inside.origins.items })) (c.self.inside.steps + 1))
+    (sym c.answer-2.ensures) done.lawful
 
 pub returns : goal.returns
 returns g c =
-    subst (λ t. MayMake c.args.self.now (Answer c.args.region c.args.name.now) × (kept_of c.self.inside.cluster c.answer-2.new.self t (c.self.inside.steps + 1) ≡ made c.args.self.now (Answer c.args.region c.args.name.now))) (sym c.in_ok-answer.ensures)
-    (subst (λ s. MayMake c.args.self.now (Answer c.args.region c.args.name.now) × (kept_of c.self.inside.cluster s c.self.inside.sites (c.self.inside.steps + 1) ≡ made c.args.self.now (Answer c.args.region c.args.name.now))) (sym c.answer-2.ensures)
-    (made_before c.self.inside.cluster c.self.inside.seats c.self.inside.sites c.self.inside.steps (Answer c.args.region c.args.name.now) (after_answer c.self.inside.seats c.in-Some.place) c.self.inside.sites c.args.self.now c.self.view_is (answer_made c.self.inside.cluster c.self.inside.seats c.self.inside.sites c.self.inside.steps c.self.invariant c.args.region c.if-region-self.false c.args.name.now c.in-Some.place (sym c.find.ensures.place ∙ c.in-Some.is) (subst (λ v. MayEndAt v c.args.region c.in-Some.place) (sym c.self.view_is) (c.may_end.ensures.0 c.if-not-may_end.false)))))
+    let may : MayEndAt (view_in c.self.inside.cluster c.self.inside.seats c.self.inside.sites.items c.self.inside.steps) c.args.region c.in-Some.place =
+    subst (λ v. MayEndAt v c.args.region c.in-Some.place) (sym c.self.view_is) (c.may_end.ensures.0 c.if-not-may_end.false) in
+    let site = behind (a_site c.self.invariant c.if-region-self.false) c.index_mut.ensures.value c.behind-self.view_is in
+    let done = answer_done c.self.invariant c.if-region-self.false c.args.name.now (sym c.find.ensures.place ∙ c.in-Some.is) may site c.answer.new.self c.in_ok-answer.ensures in
+    let legal = made_before c.self.view_is done in (
+      legal.0,
+      ap (λ (s : SeatsView). view_in c.self.inside.cluster s (set c.self.inside.sites.items c.args.region (record { region = c.answer.new.self; origins = c.behind-self.inside.origins.items })) (c.self.inside.steps + 1))
+          c.answer-2.ensures ∙ legal.1,
+    )

@@ -1,61 +1,115 @@
-use Rattle.std.proofs.Common.{◌≡◌, ◌≤◌, ◌<◌, true, false, length, map, drop, take, Ok, Some, sym, ap, ap₂, subst, ◌∙◌, arith}
+use Rattle.std.proofs.Common.{◌≡◌, ◌≤◌, ◌<◌, true, false, length, map, drop, take, Some, sym, ap, subst, ◌∙◌, arith}
 use Rattle.dt_lists.specs.Lists.{AllIn}
 use Rattle.dt_sched.specs.Views.{log_at}
-use Rattle.dt_events.specs.declared.Event.TheVariants.{Deliver}
 use Rattle.dt_txn.specs.declared.Entry.{Entry}
-use Rattle.dt_region.specs.State.{State, held}
-use Rattle.dt_region.specs.Conditions.{CanDeliver}
-use Rattle.dt_world.specs.Posted.{Posted}
-use Rattle.dt_world.specs.Sited.{DeliversAt, post_at}
-use Rattle.dt_world.proofs.Receiving.{can_deliver, deliver_made, deliver_still, joins}
-use Rattle.dt_world.proofs.Stepping.{a_post, made_before}
-use Rattle.dt_world.proofs.Turns.{steps_few}
+use Rattle.dt_region.specs.Region.{RegionView, held}
+use Rattle.dt_region.specs.Sound.{IsSoundRegion}
+use Rattle.dt_site.proofs.Callers.{joins}
+use Rattle.dt_world.specs.WorldInner.{site_at}
+use Rattle.dt_world.proofs.OneSite.{region_here, sound_here}
+use Rattle.dt_world.proofs.Rule3Deliver.{can_take, deliver_done, deliver_none}
+use Rattle.dt_world.proofs.WorldLaws.{a_site, behind, made_before}
+use Rattle.dt_world.proofs.WorldSeats.{steps_few}
 use Rattle.dt_world.proofs.world.World.deliver.Goals as goal
 
-pub at-source-requires : goal.at-source-requires
-at-source-requires g c = a_post c.self.inside.cluster c.self.inside.seats c.self.inside.sites c.self.inside.steps c.self.invariant c.args.home c.if-home-self.false
+pub log-requires : goal.log-requires
+log-requires g c =
+    let home = behind (a_site c.self.invariant c.if-home-self.false) c.index.ensures c.behind-self.view_is in
+    region_here c.self.invariant c.if-home-self.false home c.args.home c.if-home-self.false
 
-pub at-requires : goal.at-requires
-at-requires g c = a_post c.self.inside.cluster c.self.inside.seats c.self.inside.sites c.self.inside.steps c.self.invariant c.args.region c.if-region-self.false
+pub log-requires-2 : goal.log-requires-2
+log-requires-2 g c =
+    let region = behind (a_site c.self.invariant c.if-region-self.false) c.index-2.ensures c.behind-self-2.view_is in
+    region_here c.self.invariant c.if-region-self.false region c.args.home c.if-home-self.false
 
 pub invariant_of-self : goal.invariant_of-self
 invariant_of-self g c =
-    let within : c.args.last ≤ length (log_at (post_at c.self.inside.sites c.args.home).state.logs c.args.home) = subst (λ n. c.args.last ≤ n) (c.len.ensures ∙ ap length (c.log.ensures ∙ ap (λ (s : State). log_at s.logs c.args.home) (c.region.ensures.state ∙ ap (λ p. p.state) c.at-source.ensures))) c.if-last-len.false in
-    let received : c.len-received.result ≡ length (log_at (post_at c.self.inside.sites c.args.region).state.logs c.args.home) = c.len-received.ensures ∙ ap length (c.log-2.ensures ∙ ap (λ (s : State). log_at s.logs c.args.home) (c.region-2.ensures.state ∙ ap (λ p. p.state) c.at.ensures)) in
-    (deliver_still c.self.inside.cluster c.self.inside.seats c.self.inside.sites c.self.inside.steps c.self.invariant c.args.region c.args.home c.args.first c.args.last c.if-region-self.false c.if-home-self.false c.if-first-last.false within (subst (λ n. joins n c.args.first c.args.last ≡ false) received (sym c.joins.ensures ∙ c.if-not-joins.true))).lawful
+    let home = behind (a_site c.self.invariant c.if-home-self.false) c.index.ensures c.behind-self.view_is in
+    let reaches : c.args.last ≤ length (log_at (site_at c.self.inside.sites.items c.args.home).region.state.logs c.args.home) =
+    subst (λ n. c.args.last ≤ n) (c.len.ensures ∙ ap length (c.log.ensures ∙ ap (λ (r : RegionView). log_at r.state.logs c.args.home) home.region_is)) c.if-last-len.false in
+    let region = behind (a_site c.self.invariant c.if-region-self.false) c.index-2.ensures c.behind-self-2.view_is in
+    let received : c.len-received.result ≡ length (log_at (site_at c.self.inside.sites.items c.args.region).region.state.logs c.args.home) =
+    c.len-received.ensures ∙ ap length (c.log-2.ensures ∙ ap (λ (r : RegionView). log_at r.state.logs c.args.home) region.region_is) in
+    let off = subst (λ n. joins n c.args.first c.args.last ≡ false) received (sym c.joins.ensures ∙ c.if-not-joins.true) in
+    let done = deliver_none c.self.invariant c.if-region-self.false c.if-home-self.false c.if-first-last.false reaches off in
+    done.lawful
 
 pub returns-then-not-joins : goal.returns-then-not-joins
 returns-then-not-joins g c =
-    let within : c.args.last ≤ length (log_at (post_at c.self.inside.sites c.args.home).state.logs c.args.home) = subst (λ n. c.args.last ≤ n) (c.len.ensures ∙ ap length (c.log.ensures ∙ ap (λ (s : State). log_at s.logs c.args.home) (c.region.ensures.state ∙ ap (λ p. p.state) c.at-source.ensures))) c.if-last-len.false in
-    let received : c.len-received.result ≡ length (log_at (post_at c.self.inside.sites c.args.region).state.logs c.args.home) = c.len-received.ensures ∙ ap length (c.log-2.ensures ∙ ap (λ (s : State). log_at s.logs c.args.home) (c.region-2.ensures.state ∙ ap (λ p. p.state) c.at.ensures)) in
-    made_before c.self.inside.cluster c.self.inside.seats c.self.inside.sites c.self.inside.steps (Deliver c.args.region c.args.home c.args.first c.args.last) c.self.inside.seats c.self.inside.sites c.args.self.now c.self.view_is (deliver_still c.self.inside.cluster c.self.inside.seats c.self.inside.sites c.self.inside.steps c.self.invariant c.args.region c.args.home c.args.first c.args.last c.if-region-self.false c.if-home-self.false c.if-first-last.false within (subst (λ n. joins n c.args.first c.args.last ≡ false) received (sym c.joins.ensures ∙ c.if-not-joins.true)))
+    let home = behind (a_site c.self.invariant c.if-home-self.false) c.index.ensures c.behind-self.view_is in
+    let reaches : c.args.last ≤ length (log_at (site_at c.self.inside.sites.items c.args.home).region.state.logs c.args.home) =
+    subst (λ n. c.args.last ≤ n) (c.len.ensures ∙ ap length (c.log.ensures ∙ ap (λ (r : RegionView). log_at r.state.logs c.args.home) home.region_is)) c.if-last-len.false in
+    let region = behind (a_site c.self.invariant c.if-region-self.false) c.index-2.ensures c.behind-self-2.view_is in
+    let received : c.len-received.result ≡ length (log_at (site_at c.self.inside.sites.items c.args.region).region.state.logs c.args.home) =
+    c.len-received.ensures ∙ ap length (c.log-2.ensures ∙ ap (λ (r : RegionView). log_at r.state.logs c.args.home) region.region_is) in
+    let off = subst (λ n. joins n c.args.first c.args.last ≡ false) received (sym c.joins.ensures ∙ c.if-not-joins.true) in
+    let done = deliver_none c.self.invariant c.if-region-self.false c.if-home-self.false c.if-first-last.false reaches off in
+    made_before c.self.view_is done
 
-pub deliver-requires-clause-region : goal.deliver-requires-clause-region
-deliver-requires-clause-region g c = a_post c.self.inside.cluster c.self.inside.seats c.self.inside.sites c.self.inside.steps c.self.invariant c.args.region c.if-region-self.false
+pub entries-requires-clause-sound : goal.entries-requires-clause-sound
+entries-requires-clause-sound g c =
+    let home = behind (a_site c.self.invariant c.if-home-self.false) c.index.ensures c.behind-self.view_is in
+    sound_here c.self.invariant c.if-home-self.false home
+
+pub entries-requires-clause-home : goal.entries-requires-clause-home
+entries-requires-clause-home g c =
+    let home = behind (a_site c.self.invariant c.if-home-self.false) c.index.ensures c.behind-self.view_is in
+    region_here c.self.invariant c.if-home-self.false home c.args.home c.if-home-self.false
+
+pub deliver-requires-clause-home : goal.deliver-requires-clause-home
+deliver-requires-clause-home g c =
+    let here = behind (a_site c.self.invariant c.if-region-self.false) c.index_mut.ensures.value c.behind-self-3.view_is in
+    region_here c.self.invariant c.if-region-self.false here c.args.home c.if-home-self.false
 
 pub deliver-requires-clause-can : goal.deliver-requires-clause-can
 deliver-requires-clause-can g c =
-    let within : c.args.last ≤ length (log_at (post_at c.self.inside.sites c.args.home).state.logs c.args.home) = subst (λ n. c.args.last ≤ n) (c.len.ensures ∙ ap length (c.log.ensures ∙ ap (λ (s : State). log_at s.logs c.args.home) (c.region.ensures.state ∙ ap (λ p. p.state) c.at-source.ensures))) c.if-last-len.false in
-    let received : c.len-received.result ≡ length (log_at (post_at c.self.inside.sites c.args.region).state.logs c.args.home) = c.len-received.ensures ∙ ap length (c.log-2.ensures ∙ ap (λ (s : State). log_at s.logs c.args.home) (c.region-2.ensures.state ∙ ap (λ p. p.state) c.at.ensures)) in
-    let parts : map (λ (e : Entry). e.part) c.in_ok-entries.entries.items ≡ drop (length (log_at (post_at c.self.inside.sites c.args.region).state.logs c.args.home)) (take c.args.last (log_at (post_at c.self.inside.sites c.args.home).state.logs c.args.home)) =
-    c.in_ok-entries.ensures.parts ∙ ap₂ (λ n (p : Posted). drop n (take c.args.last (log_at p.state.logs c.args.home))) received c.at-source.ensures in
-    let txns : AllIn (λ (e : Entry). held (post_at c.self.inside.sites c.args.home).state e.part.id ≡ Some e.txn) c.in_ok-entries.entries.items = subst (λ (p : Posted). AllIn (λ (e : Entry). held p.state e.part.id ≡ Some e.txn) c.in_ok-entries.entries.items) c.at-source.ensures c.in_ok-entries.ensures.txns in
-    subst (λ n. CanDeliver (post_at c.self.inside.sites c.args.region).state c.args.home n c.in_ok-entries.entries.items) (sym received) (can_deliver c.self.inside.cluster c.self.inside.seats c.self.inside.sites c.self.inside.steps c.self.invariant c.args.region c.args.home c.args.first c.args.last c.if-region-self.false c.if-home-self.false c.if-first-last.false within (subst (λ n. joins n c.args.first c.args.last ≡ true) received (sym c.joins.ensures ∙ c.if-not-joins.false)) c.in_ok-entries.entries.items parts txns (let lt : c.self.inside.steps < 4294967295 = steps_few c.self.inside.cluster c.self.inside.seats c.self.inside.sites c.self.inside.steps c.self.invariant c.args.self.now c.self.view_is c.requires in omega arith))
+    let home = behind (a_site c.self.invariant c.if-home-self.false) c.index.ensures c.behind-self.view_is in
+    let reaches : c.args.last ≤ length (log_at (site_at c.self.inside.sites.items c.args.home).region.state.logs c.args.home) =
+    subst (λ n. c.args.last ≤ n) (c.len.ensures ∙ ap length (c.log.ensures ∙ ap (λ (r : RegionView). log_at r.state.logs c.args.home) home.region_is)) c.if-last-len.false in
+    let region = behind (a_site c.self.invariant c.if-region-self.false) c.index-2.ensures c.behind-self-2.view_is in
+    let received : c.len-received.result ≡ length (log_at (site_at c.self.inside.sites.items c.args.region).region.state.logs c.args.home) =
+    c.len-received.ensures ∙ ap length (c.log-2.ensures ∙ ap (λ (r : RegionView). log_at r.state.logs c.args.home) region.region_is) in
+    let on = subst (λ n. joins n c.args.first c.args.last ≡ true) received (sym c.joins.ensures ∙ c.if-not-joins.false) in
+    let parts : map (λ (e : Entry). e.part) c.in_ok-entries.entries.items ≡ drop c.args.first (take c.args.last (log_at (site_at c.self.inside.sites.items c.args.home).region.state.logs c.args.home)) =
+    c.in_ok-entries.ensures.parts ∙ ap (λ (r : RegionView). drop c.args.first (take c.args.last (log_at r.state.logs c.args.home))) home.region_is in
+    let txns : AllIn (λ (e : Entry). held (site_at c.self.inside.sites.items c.args.home).region.state e.part.id ≡ Some e.txn) c.in_ok-entries.entries.items =
+    subst (λ (r : RegionView). AllIn (λ (e : Entry). held r.state e.part.id ≡ Some e.txn) c.in_ok-entries.entries.items) home.region_is c.in_ok-entries.ensures.txns in
+    let here = behind (a_site c.self.invariant c.if-region-self.false) c.index_mut.ensures.value c.behind-self-3.view_is in
+    let few = steps_few c.self.invariant c.self.view_is c.requires in
+    can_take c.self.invariant c.if-region-self.false c.if-home-self.false c.if-first-last.false reaches on c.in_ok-entries.entries.items parts txns here (omega (arith, few))
 
 pub invariant_of-self-2 : goal.invariant_of-self-2
 invariant_of-self-2 g c =
-    let within : c.args.last ≤ length (log_at (post_at c.self.inside.sites c.args.home).state.logs c.args.home) = subst (λ n. c.args.last ≤ n) (c.len.ensures ∙ ap length (c.log.ensures ∙ ap (λ (s : State). log_at s.logs c.args.home) (c.region.ensures.state ∙ ap (λ p. p.state) c.at-source.ensures))) c.if-last-len.false in
-    let received : c.len-received.result ≡ length (log_at (post_at c.self.inside.sites c.args.region).state.logs c.args.home) = c.len-received.ensures ∙ ap length (c.log-2.ensures ∙ ap (λ (s : State). log_at s.logs c.args.home) (c.region-2.ensures.state ∙ ap (λ p. p.state) c.at.ensures)) in
-    let parts : map (λ (e : Entry). e.part) c.in_ok-entries.entries.items ≡ drop (length (log_at (post_at c.self.inside.sites c.args.region).state.logs c.args.home)) (take c.args.last (log_at (post_at c.self.inside.sites c.args.home).state.logs c.args.home)) =
-    c.in_ok-entries.ensures.parts ∙ ap₂ (λ n (p : Posted). drop n (take c.args.last (log_at p.state.logs c.args.home))) received c.at-source.ensures in
-    let txns : AllIn (λ (e : Entry). held (post_at c.self.inside.sites c.args.home).state e.part.id ≡ Some e.txn) c.in_ok-entries.entries.items = subst (λ (p : Posted). AllIn (λ (e : Entry). held p.state e.part.id ≡ Some e.txn) c.in_ok-entries.entries.items) c.at-source.ensures c.in_ok-entries.ensures.txns in
-    (deliver_made c.self.inside.cluster c.self.inside.seats c.self.inside.sites c.self.inside.steps c.self.invariant c.args.region c.args.home c.args.first c.args.last c.if-region-self.false c.if-home-self.false c.if-first-last.false within (subst (λ n. joins n c.args.first c.args.last ≡ true) received (sym c.joins.ensures ∙ c.if-not-joins.false)) c.in_ok-entries.entries.items parts txns c.deliver.new.self c.in_ok-deliver.field-0 (subst (λ n. DeliversAt c.self.inside.sites c.args.region c.args.home n c.in_ok-entries.entries.items (Ok c.in_ok-deliver.field-0) c.deliver.new.self) received c.in_ok-deliver.ensures)).lawful
+    let home = behind (a_site c.self.invariant c.if-home-self.false) c.index.ensures c.behind-self.view_is in
+    let reaches : c.args.last ≤ length (log_at (site_at c.self.inside.sites.items c.args.home).region.state.logs c.args.home) =
+    subst (λ n. c.args.last ≤ n) (c.len.ensures ∙ ap length (c.log.ensures ∙ ap (λ (r : RegionView). log_at r.state.logs c.args.home) home.region_is)) c.if-last-len.false in
+    let region = behind (a_site c.self.invariant c.if-region-self.false) c.index-2.ensures c.behind-self-2.view_is in
+    let received : c.len-received.result ≡ length (log_at (site_at c.self.inside.sites.items c.args.region).region.state.logs c.args.home) =
+    c.len-received.ensures ∙ ap length (c.log-2.ensures ∙ ap (λ (r : RegionView). log_at r.state.logs c.args.home) region.region_is) in
+    let on = subst (λ n. joins n c.args.first c.args.last ≡ true) received (sym c.joins.ensures ∙ c.if-not-joins.false) in
+    let parts : map (λ (e : Entry). e.part) c.in_ok-entries.entries.items ≡ drop c.args.first (take c.args.last (log_at (site_at c.self.inside.sites.items c.args.home).region.state.logs c.args.home)) =
+    c.in_ok-entries.ensures.parts ∙ ap (λ (r : RegionView). drop c.args.first (take c.args.last (log_at r.state.logs c.args.home))) home.region_is in
+    let txns : AllIn (λ (e : Entry). held (site_at c.self.inside.sites.items c.args.home).region.state e.part.id ≡ Some e.txn) c.in_ok-entries.entries.items =
+    subst (λ (r : RegionView). AllIn (λ (e : Entry). held r.state e.part.id ≡ Some e.txn) c.in_ok-entries.entries.items) home.region_is c.in_ok-entries.ensures.txns in
+    let here = behind (a_site c.self.invariant c.if-region-self.false) c.index_mut.ensures.value c.behind-self-3.view_is in
+    let done = deliver_done c.self.invariant c.if-region-self.false c.if-home-self.false c.if-first-last.false reaches on c.in_ok-entries.entries.items parts txns here
+    c.deliver.new.self c.in_ok-deliver.field-0 c.in_ok-deliver.ensures.makes c.deliver.ensures.sound in
+    done.lawful
 
 pub returns : goal.returns
 returns g c =
-    let within : c.args.last ≤ length (log_at (post_at c.self.inside.sites c.args.home).state.logs c.args.home) = subst (λ n. c.args.last ≤ n) (c.len.ensures ∙ ap length (c.log.ensures ∙ ap (λ (s : State). log_at s.logs c.args.home) (c.region.ensures.state ∙ ap (λ p. p.state) c.at-source.ensures))) c.if-last-len.false in
-    let received : c.len-received.result ≡ length (log_at (post_at c.self.inside.sites c.args.region).state.logs c.args.home) = c.len-received.ensures ∙ ap length (c.log-2.ensures ∙ ap (λ (s : State). log_at s.logs c.args.home) (c.region-2.ensures.state ∙ ap (λ p. p.state) c.at.ensures)) in
-    let parts : map (λ (e : Entry). e.part) c.in_ok-entries.entries.items ≡ drop (length (log_at (post_at c.self.inside.sites c.args.region).state.logs c.args.home)) (take c.args.last (log_at (post_at c.self.inside.sites c.args.home).state.logs c.args.home)) =
-    c.in_ok-entries.ensures.parts ∙ ap₂ (λ n (p : Posted). drop n (take c.args.last (log_at p.state.logs c.args.home))) received c.at-source.ensures in
-    let txns : AllIn (λ (e : Entry). held (post_at c.self.inside.sites c.args.home).state e.part.id ≡ Some e.txn) c.in_ok-entries.entries.items = subst (λ (p : Posted). AllIn (λ (e : Entry). held p.state e.part.id ≡ Some e.txn) c.in_ok-entries.entries.items) c.at-source.ensures c.in_ok-entries.ensures.txns in
-    made_before c.self.inside.cluster c.self.inside.seats c.self.inside.sites c.self.inside.steps (Deliver c.args.region c.args.home c.args.first c.args.last) c.self.inside.seats c.deliver.new.self c.args.self.now c.self.view_is (deliver_made c.self.inside.cluster c.self.inside.seats c.self.inside.sites c.self.inside.steps c.self.invariant c.args.region c.args.home c.args.first c.args.last c.if-region-self.false c.if-home-self.false c.if-first-last.false within (subst (λ n. joins n c.args.first c.args.last ≡ true) received (sym c.joins.ensures ∙ c.if-not-joins.false)) c.in_ok-entries.entries.items parts txns c.deliver.new.self c.in_ok-deliver.field-0 (subst (λ n. DeliversAt c.self.inside.sites c.args.region c.args.home n c.in_ok-entries.entries.items (Ok c.in_ok-deliver.field-0) c.deliver.new.self) received c.in_ok-deliver.ensures))
+    let home = behind (a_site c.self.invariant c.if-home-self.false) c.index.ensures c.behind-self.view_is in
+    let reaches : c.args.last ≤ length (log_at (site_at c.self.inside.sites.items c.args.home).region.state.logs c.args.home) =
+    subst (λ n. c.args.last ≤ n) (c.len.ensures ∙ ap length (c.log.ensures ∙ ap (λ (r : RegionView). log_at r.state.logs c.args.home) home.region_is)) c.if-last-len.false in
+    let region = behind (a_site c.self.invariant c.if-region-self.false) c.index-2.ensures c.behind-self-2.view_is in
+    let received : c.len-received.result ≡ length (log_at (site_at c.self.inside.sites.items c.args.region).region.state.logs c.args.home) =
+    c.len-received.ensures ∙ ap length (c.log-2.ensures ∙ ap (λ (r : RegionView). log_at r.state.logs c.args.home) region.region_is) in
+    let on = subst (λ n. joins n c.args.first c.args.last ≡ true) received (sym c.joins.ensures ∙ c.if-not-joins.false) in
+    let parts : map (λ (e : Entry). e.part) c.in_ok-entries.entries.items ≡ drop c.args.first (take c.args.last (log_at (site_at c.self.inside.sites.items c.args.home).region.state.logs c.args.home)) =
+    c.in_ok-entries.ensures.parts ∙ ap (λ (r : RegionView). drop c.args.first (take c.args.last (log_at r.state.logs c.args.home))) home.region_is in
+    let txns : AllIn (λ (e : Entry). held (site_at c.self.inside.sites.items c.args.home).region.state e.part.id ≡ Some e.txn) c.in_ok-entries.entries.items =
+    subst (λ (r : RegionView). AllIn (λ (e : Entry). held r.state e.part.id ≡ Some e.txn) c.in_ok-entries.entries.items) home.region_is c.in_ok-entries.ensures.txns in
+    let here = behind (a_site c.self.invariant c.if-region-self.false) c.index_mut.ensures.value c.behind-self-3.view_is in
+    let done = deliver_done c.self.invariant c.if-region-self.false c.if-home-self.false c.if-first-last.false reaches on c.in_ok-entries.entries.items parts txns here
+    c.deliver.new.self c.in_ok-deliver.field-0 c.in_ok-deliver.ensures.makes c.deliver.ensures.sound in
+    made_before c.self.view_is done

@@ -1,4 +1,4 @@
-use Rattle.dt_world.proofs.Reporting.{order_whole}
+use Rattle.dt_world.proofs.Reports.{order_whole}
 use Rattle.dt_world.proofs.world.World.order.Goals as goal
 
 pub returns : goal.returns

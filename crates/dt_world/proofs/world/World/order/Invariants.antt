@@ -1,6 +1,6 @@
 use Rattle.std.proofs.Common.{◌≡◌, take}
 use Rattle.dt_session.specs.Run.{order_of}
-use Rattle.dt_world.specs.Coursed.{rans_at}
+use Rattle.dt_world.specs.SessionReplay.{rans_at}
 use Rattle.dt_world.proofs.world.World.order.Given as goal
 
 abbrev pub invariant-loop-at : goal.invariant-loop-at

@@ -1,0 +1,10 @@
+pub mod Lists
+pub mod Short
+pub mod Standing
+pub mod Opening
+pub mod Rule1Submit
+pub mod Rule2Append
+pub mod Rule3Deliver
+pub mod OwnSteps
+pub mod Rule7Answer
+pub mod Callers

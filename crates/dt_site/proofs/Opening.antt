@@ -1,0 +1,70 @@
+-- A site before anything happens stands in the opening world.
+use Rattle.std.proofs.Common.{◌≡◌, ◌<◌, ◌+◌, ℕ, zero, suc, List, [], ◌∷◌, length, map, get_or, set, replicate, Some, refl, sym, ap, ap₂, subst, ◌∙◌, arith}
+use Rattle.dt_lists.specs.Lists.{AllIn}
+use Rattle.dt_access.specs.declared.Part.{Part}
+use Rattle.dt_sched.specs.Views.{View, log_at}
+use Rattle.dt_table.specs.Table.{Table}
+use Rattle.dt_txn.specs.Replica.{fronts, opening_replica}
+use Rattle.dt_region.specs.Conditions.{IsTableFor}
+use Rattle.dt_region.specs.Rules.{opening_state}
+use Rattle.dt_region.specs.Sound.{IsSoundRegion}
+use Rattle.dt_cluster.specs.declared.Cluster.{Cluster}
+use Rattle.dt_cluster.specs.Valid.{IsValidCluster}
+use Rattle.dt_workload.specs.declared.Workload.{Workload}
+use Rattle.dt_session.specs.World.{Node, no_node, node_at, opening_node, opening_table, opening_world, received_logs}
+use Rattle.dt_agreement.proofs.Callers.{unmoved_at_first}
+use Rattle.dt_site.specs.Site.{SiteView, node_of, opening_site}
+use Rattle.dt_site.specs.StandsIn.{StandsIn}
+
+pub opening_is_for : (cluster : Cluster) → IsValidCluster cluster → IsTableFor cluster.regions (opening_table cluster)
+opening_is_for cluster valid = record {
+  sized = refl;
+  homes = valid.homes;
+  moves = λ key. subst (AllIn (λ m. m.target < cluster.regions)) (sym (unmoved_at_first cluster key)) tt;
+}
+
+no_log : (n h : ℕ) → log_at (replicate n []) h ≡ []
+no_log zero h = refl
+no_log (suc n) zero = refl
+no_log (suc n) (suc h) = no_log n h
+
+no_lengths : (n h : ℕ) → set (map length (replicate {A = List Part} n [])) h 0 ≡ replicate n 0
+no_lengths zero h = refl
+no_lengths (suc n) zero = ap (λ l. 0 ∷ l) (all_zero n)
+  where
+    all_zero : (m : ℕ) → map length (replicate {A = List Part} m []) ≡ replicate m 0
+    all_zero zero = refl
+    all_zero (suc m) = ap (λ l. 0 ∷ l) (all_zero m)
+no_lengths (suc n) (suc h) = ap (λ l. 0 ∷ l) (no_lengths n h)
+
+no_fronts : (lengths : List ℕ) (n : ℕ) → fronts lengths (replicate n []) ≡ replicate n []
+no_fronts lengths zero = refl
+no_fronts [] (suc n) = ap (λ l. [] ∷ l) (no_fronts [] n)
+no_fronts (zero ∷ lengths) (suc n) = ap (λ l. [] ∷ l) (no_fronts lengths n)
+no_fronts (suc m ∷ lengths) (suc n) = ap (λ l. [] ∷ l) (no_fronts lengths n)
+
+no_logs : (n : ℕ) (x : Node) → x.log ≡ [] → map (λ (y : Node). y.log) (replicate n x) ≡ replicate n []
+no_logs zero x e = refl
+no_logs (suc n) x e = ap₂ (λ (a : List Part) (l : View). a ∷ l) e (no_logs n x e)
+
+one_of_all : {A : Type 0} (n i : ℕ) (x d : A) → i < n → get_or (replicate n x) i d ≡ x
+one_of_all zero i x d lt = absurd (omega arith)
+one_of_all (suc n) zero x d lt = refl
+one_of_all (suc n) (suc i) x d lt = one_of_all n i x d (omega arith)
+
+pub opening_node_is : (number regions : ℕ) (t : Table) → node_of (opening_site number regions t) ≡ opening_node regions t
+opening_node_is number regions t = ap₂ (λ (a : List Part) (b : List ℕ). record (opening_node regions t) { log = a; received = b }) (no_log regions number) (no_lengths regions number)
+
+module _ (cluster : Cluster) (workload : Workload) (region : ℕ) (lr : region < cluster.regions) where
+  pub opening_stands : IsSoundRegion (opening_state region cluster.regions (opening_table cluster))
+      → StandsIn cluster.regions (opening_world cluster workload) region (opening_site region cluster.regions (opening_table cluster))
+  opening_stands sound = record {
+    number = refl;
+    many = refl;
+    sound = sound;
+    logs = sym (ap (fronts _) (no_logs cluster.regions (opening_node cluster.regions (opening_table cluster)) refl) ∙ no_fronts _ cluster.regions);
+    origins = refl;
+    known = λ id txn h. cc;
+    node = opening_node_is region cluster.regions (opening_table cluster)
+        ∙ sym (one_of_all cluster.regions region (opening_node cluster.regions (opening_table cluster)) no_node lr);
+  }

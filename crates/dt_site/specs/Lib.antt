@@ -1,0 +1,10 @@
+pub mod Site
+pub mod StandsIn
+pub mod SiteCode
+pub use Rattle.dt_session.specs.World
+pub use Rattle.dt_session.specs.Step
+pub use Rattle.dt_session.specs.Run
+pub use Rattle.dt_region.specs.Region
+pub use Rattle.dt_region.specs.Rules
+pub use Rattle.dt_region.specs.Conditions
+pub use Rattle.dt_region.specs.Sound

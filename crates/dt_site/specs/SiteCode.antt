@@ -1,0 +1,11 @@
+-- The toolchain asks for this; skip it. It is the code by which proofs tell sites apart.
+use Rattle.std.specs.Prelude.{List, refl}
+use Rattle.std.specs.Coded.{Coded, code_by, coded×, coded_list}
+use Rattle.dt_region.specs.Region.{RegionView}
+use Rattle.dt_region.specs.RegionCode.{region_code}
+use Rattle.dt_site.specs.contracts.site.Origin as origin
+use Rattle.dt_site.specs.declared.site.Origin.{Origin}
+use Rattle.dt_site.specs.Site.{SiteView}
+
+abbrev pub site_code : Coded SiteView
+site_code = code_by (RegionView × List Origin) (coded× region_code (coded_list origin.the_row.coded)) (λ p. (p.region, p.origins)) (λ q. record { region = q.0; origins = q.1 }) (λ _. refl)

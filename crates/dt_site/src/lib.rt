@@ -1,0 +1,20 @@
+//! One region among all: what a world, and each node of a cluster that runs, holds of a region.
+//!
+//! A [`Region`](dt_region::Region) keeps transactions, logs and rows. A [`Site`] is a region and, of each transaction that
+//! it submitted, whose it is: the session, the number of its call, and the number of the attempt.
+//!
+//! What makes this a crate of its own is the relation between a site and a world of all regions, `StandsIn` in `specs/`,
+//! and what follows of it. Where a site stands in a world that legal events lead to:
+//!
+//! - it may be given the requests that the world's regions asked it to place (`can_append`);
+//! - it may be given any stretch of another region's log, from a place that it has already or not (`can_deliver`);
+//! - what it holds is valid for the cluster's procedures, so that it may execute (`holds_valid`);
+//! - after its call answers that it was made, it stands in the world after the event, and so do all other sites.
+//!
+//! The proofs speak of one site and a world, not of how the others are held. So they serve a world that has all sites in
+//! one hand, as well as a node that has only its own and learns of the others by packets.
+#![tactic(auto)]
+
+mod site;
+
+pub use site::{Origin, Site};

@@ -1,0 +1,91 @@
+ghost use Rattle.std.specs.Prelude.{◌≡◌, ◌<◌, ◌≤◌, ◌-◌, length, get_or, IfOk, OnOk};
+ghost use Rattle.dt_txn.specs.Transaction.{BodyFits};
+ghost use Rattle.dt_region.specs.Conditions.{IsTableFor};
+ghost use Rattle.dt_region.specs.Sound.{IsSoundRegion};
+ghost use Rattle.dt_site.specs.Site.{MakesAttempt, opening_site};
+
+use dt_access::TxnId;
+use dt_proc::Procs;
+use dt_region::Region;
+use dt_sched::Scheduler;
+use dt_table::Table;
+use dt_text::{Name, NoMemory};
+use dt_txn::Body;
+use std::alloc::Global;
+use std::marker::Model;
+
+/// Whose a submission is.
+#[derive(Drop)]
+pub struct Origin {
+    pub session: Name,
+    /// The number of the call in its session, from 1.
+    pub call: u32,
+    /// The number of the attempt within its call, from 1.
+    pub attempt: u32,
+}
+
+/// A region, and whose its submissions are.
+#[derive(Drop)]
+pub struct Site<S: Scheduler> {
+    /// All its calls but `submit` are made here; a submission goes by `Site::submit`, so that it has its origin.
+    pub region: Region<S>,
+    origins: Vec<Origin>,
+}
+
+impl<S: Scheduler> Model for Site<S> {
+    ghost use Rattle.dt_site.specs.Site.{SiteView};
+    ghost use Rattle.dt_site.specs.SiteCode.{site_code};
+
+    ghost Value = { SiteView };
+
+    ghost coded = { site_code };
+
+    ghost view = { λ s. record { region = s.region; origins = s.origins.items } };
+}
+
+impl<S: Scheduler> Site<S> {
+    /// The region of this number before anything happens, in a cluster of so many regions, with this table, which is one
+    /// for so many regions. It fails only for want of memory.
+    pub fn new(alloc: Global, number: u8, regions: u8, table: Table) -> Result<Self, NoMemory>
+        requires number { number < regions }
+        requires regions { regions ≤ 8 }
+        requires table { IsTableFor regions table.state }
+        ensures opening { IfOk result (λ site. site ≡ opening_site number regions table.state) }
+        ensures sound { IfOk result (λ site. IsSoundRegion site.region.state) }
+    {
+        Ok(Site {
+            region: Region::new(alloc, number, regions, table)?,
+            origins: Vec::new(alloc),
+        })
+    }
+
+    /// Whose the submission of this number is, counted from 1. Takes no memory.
+    pub fn origin(&self, number: u32) -> &Origin
+        requires from { 1 ≤ number }
+        requires to { number ≤ length self.now.origins }
+        ensures { result.now ≡ get_or self.now.origins (number - 1) result.now }
+    {
+        &self.origins[number as usize - 1]
+    }
+
+    /// Submits a body for a session, as the region does, and keeps whose it is. After `NoMemory` nothing has changed.
+    pub fn submit(
+        &mut self,
+        alloc: Global,
+        body: Body,
+        procs: &Procs,
+        origin: Origin,
+    ) -> Result<TxnId, NoMemory>
+        requires fits { BodyFits procs.now self.old.region.state.regions body }
+        requires place { length self.old.region.state.submitted < 4294967295 }
+        ensures makes { MakesAttempt procs.now self.old body origin result self.new }
+        ensures sound { OnOk result (IsSoundRegion self.new.region.state) }
+    {
+        self.origins.reserve(1)?;
+        let id = self.region.submit(alloc, &origin.session, body, procs)?;
+        match self.origins.push(origin) {
+            Ok(()) => Ok(id),
+            Err(_) => unreachable!(),
+        }
+    }
+}

@@ -1,0 +1,182 @@
+-- What regions have executed: it is there to report, with the outcome of the serial order.
+use Rattle.std.proofs.Common.{◌≡◌, ◌<◌, ◌≤◌, ◌+◌, ◌-◌, ◌⊎◌, ℕ, true, false, cond, List, [], ◌∷◌, ◌++◌, length, map, get_or, take, slice_get, Some, None, refl}
+use Rattle.std.proofs.Common.{sym, ap, ap₂, subst, ◌∙◌, inl, inr, arith}
+use Rattle.std.specs.Prelude.{Option, option_map, option_and_then, option_to_list, filter_map}
+use Rattle.std.specs.List.{cons_option}
+use Rattle.std.proofs.lemmas.Bool.{cases_Bool}
+use Rattle.std.proofs.lemmas.List.{map_push, get_or-set_same}
+use Rattle.std.proofs.lemmas.List.Elements.{filter_map-append}
+use Rattle.dt_lists.specs.Lists.{AllIn, Has, IsFront}
+use Rattle.dt_lists.proofs.Callers.{all_get, all_put, any_of_image, any_image, any_front, has_last}
+use Rattle.dt_access.proofs.Callers.{test_of_id}
+use Rattle.dt_access.specs.Ids.{same_id, is_among}
+use Rattle.dt_access.specs.declared.TxnId.{TxnId}
+use Rattle.dt_events.specs.declared.Event.{Event}
+use Rattle.dt_events.specs.declared.Event.TheVariants.{Execute}
+use Rattle.dt_txn.specs.declared.Outcome.{Outcome}
+use Rattle.dt_txn.specs.Execution.{one}
+use Rattle.dt_txn.specs.Replica.{done_ids, executed}
+use Rattle.dt_report.specs.declared.Ran.{Ran}
+use Rattle.dt_cluster.specs.declared.Cluster.{Cluster}
+use Rattle.dt_cluster.specs.Valid.{IsValidCluster}
+use Rattle.dt_workload.specs.declared.Workload.{Workload}
+use Rattle.dt_workload.specs.Valid.{IsValidWorkload}
+use Rattle.dt_session.specs.World.{World, Submission, no_node, node_at, outcome_at, outcome_in, submission_of, submissions, txn_of}
+use Rattle.dt_session.specs.Step.{IsLegal, next}
+use Rattle.dt_session.specs.Run.{AreLegal, executed_id, order_of, serial_outcome, world_after}
+use Rattle.dt_agreement.specs.Invariant.{Inv, IsExecutedAt}
+use Rattle.dt_agreement.proofs.Callers.{lookup_has, legal_agree, executable_known, legal_keeps, done_known, with_executed, order_of_more, world_after_more, IsKnown, numbered, submission_is_found, txn_id, txn_there}
+use Rattle.dt_site.specs.declared.Origin.{Origin}
+use Rattle.dt_site.specs.Site.{SiteView, attempt, attempts}
+use Rattle.dt_site.proofs.Callers.{attempt_at, inv, order}
+use Rattle.dt_world.specs.Seats.{SeatsView}
+use Rattle.dt_world.specs.WorldInner.{IsLawful, site_at, world_of}
+use Rattle.dt_world.specs.SessionReplay.{ran_at}
+use Rattle.dt_world.specs.WorldReport.{IsOutcomeOf, ran, ran_of, rans_of}
+use Rattle.dt_world.proofs.Growth.{grows_to, legal_at, split_at}
+use Rattle.dt_world.proofs.WorldLaws.{node_is}
+
+-- an executed id has an outcome
+
+pub outcome_there : (done : List (TxnId × Outcome)) (id : TxnId) → Has (map (λ d. d.0) done) id → (o : Outcome) × (outcome_in done id ≡ Some o)
+outcome_there [] id h = absurd h
+outcome_there (d ∷ done) id h = go (cases_Bool (same_id id d.0)) h (λ r. outcome_there done id r)
+  where
+    go : (same_id id d.0 ≡ true) ⊎ (same_id id d.0 ≡ false) → Has (map (λ x. x.0) (d ∷ done)) id → (Has (map (λ x. x.0) done) id → (o : Outcome) × (outcome_in done id ≡ Some o)) → (o : Outcome) × (outcome_in (d ∷ done) id ≡ Some o)
+    go (inl y) r f = (d.1, rw y refl)
+    go (inr n) (inl e) f = absurd (cc (test_of_id id d.0 (sym e)))
+    go (inr n) (inr r) f = let g : (o : Outcome) × (outcome_in done id ≡ Some o) = f r in (g.0, rw n g.1)
+
+-- an execution is there afterwards
+pub executed_next : (cluster : Cluster) (workload : Workload) (w : World) (order : List TxnId) (region : ℕ) (id : TxnId) → IsLegal cluster workload w (Execute region id) → Inv cluster workload w order
+    → IsExecutedAt (next cluster workload w (Execute region id)) region id
+executed_next cluster workload w order region id l i =
+    let k : IsKnown w id = executable_known cluster workload w order region id l.regions l.allowed i in
+    let node : node_at (next cluster workload w (Execute region id)) region ≡ record (node_at w region) { here = executed cluster.procs (node_at w region).here (txn_of w id) } =
+    get_or-set_same w.nodes region _ no_node (subst (λ n. region < n) (sym i.nodes) l.regions) in
+    let here : node_at (next cluster workload w (Execute region id)) region ≡ record (node_at w region) { here = executed cluster.procs (node_at w region).here (Some k.0) } = node
+    ∙ ap (λ o. record (node_at w region) { here = executed cluster.procs (node_at w region).here o }) k.1 in
+    subst (λ n. Has (done_ids n.here) id) (sym here)
+    (subst (λ l. Has l id) (sym (map_push (λ d. d.0) (node_at w region).here.done (k.0.id, (one cluster.procs k.0 (node_at w region).here.table).0)))
+    (subst (λ x. Has (done_ids (node_at w region).here ++ x ∷ []) id) (sym (txn_id w id k.0 k.1)) (has_last (done_ids (node_at w region).here) id)))
+
+module _ (cluster : Cluster) (ok : IsValidCluster cluster) (workload : Workload) (fits : IsValidWorkload cluster workload) (events : List Event) (legal : AreLegal cluster workload events) where
+  -- what was executed early is executed at the end
+  pub still_executed : (i region : ℕ) (id : TxnId) → IsExecutedAt (world_after cluster workload (take i events)) region id → IsExecutedAt (world_after cluster workload events) region id
+  still_executed i region id h =
+      let g : IsFront (node_at (world_after cluster workload (take i events)) region).here.done (node_at (world_after cluster workload events) region).here.done = (grows_to cluster workload events i region).done in
+      any_image (λ y. y ≡ id) (λ d. d.0) (node_at (world_after cluster workload events) region).here.done
+      (any_front (λ d. d.0 ≡ id) (node_at (world_after cluster workload (take i events)) region).here.done (node_at (world_after cluster workload events) region).here.done g
+      (any_of_image (λ y. y ≡ id) (λ d. d.0) (node_at (world_after cluster workload (take i events)) region).here.done h))
+
+  pub executed_at : (i region : ℕ) (id : TxnId) → slice_get events i ≡ Some (Execute region id) → (region < cluster.regions) × IsExecutedAt (world_after cluster workload events) region id
+  executed_at i region id e =
+      let l : AreLegal cluster workload (take i events) × IsLegal cluster workload (world_after cluster workload (take i events)) (Execute region id) = legal_at cluster workload events legal i (Execute region id) e in
+      let h : IsExecutedAt (next cluster workload (world_after cluster workload (take i events)) (Execute region id)) region id =
+      executed_next cluster workload (world_after cluster workload (take i events)) (order_of (take i events)) region id l.1 (legal_keeps cluster ok workload fits (take i events) l.0) in (
+        l.1.regions,
+        still_executed (i + 1) region id (subst (λ x. IsExecutedAt (world_after cluster workload x) region id) (sym (split_at events i (Execute region id) e).1)
+            (subst (λ w. IsExecutedAt w region id) (sym (world_after_more cluster workload (take i events) (Execute region id))) h)),
+      )
+
+  -- the outcome that a region keeps is the serial one
+  pub serial_is : (region : ℕ) (id : TxnId) → region < cluster.regions → IsExecutedAt (world_after cluster workload events) region id
+      → (o : Outcome) × (outcome_at (world_after cluster workload events) region id ≡ Some o) × (serial_outcome cluster workload events id ≡ Some o)
+  serial_is region id lr h =
+      let o : (o : Outcome) × (outcome_at (world_after cluster workload events) region id ≡ Some o) = outcome_there (node_at (world_after cluster workload events) region).here.done id h in
+      (o.0, o.1, (legal_agree cluster ok workload fits events legal).outcomes region id o.0 lr (lookup_has (node_at (world_after cluster workload events) region).here.done id o.0 o.1))
+
+  pub ran_is : (region : ℕ) (id : TxnId) → region < cluster.regions → IsExecutedAt (world_after cluster workload events) region id → ran_at (world_after cluster workload events) region id ≡ ran_of cluster workload events id
+  ran_is region id lr h =
+      let s : (o : Outcome) × (outcome_at (world_after cluster workload events) region id ≡ Some o) × (serial_outcome cluster workload events id ≡ Some o) = serial_is region id lr h in
+      ap (λ o. option_and_then (λ x. option_map (ran id x) o) (submission_of (world_after cluster workload events) id)) (s.1 ∙ sym s.2)
+
+  -- one more event, in the order of what is reported
+
+  order_pushed : (ids : List TxnId) (id : TxnId) (r : Ran) → ran_of cluster workload events id ≡ Some r → filter_map (ran_of cluster workload events) (ids ++ id ∷ []) ≡ filter_map (ran_of cluster workload events) ids ++ r ∷ []
+  order_pushed ids id r e = filter_map-append (ran_of cluster workload events) ids (id ∷ []) ∙ ap (λ l. filter_map (ran_of cluster workload events) ids ++ l) (one_more (ran_of cluster workload events id) e)
+    where
+      one_more : (o : Option Ran) → o ≡ Some r → filter_map (λ (x : TxnId). o) (id ∷ []) ≡ r ∷ []
+      one_more o is = rw is refl
+
+  pub order_other : (i : ℕ) (event : Event) → slice_get events i ≡ Some event → executed_id event ≡ None → order_of (take (i + 1) events) ≡ order_of (take i events)
+  order_other i event e none = ap order_of (split_at events i event e).1 ∙ order_of_more (take i events) event ∙ ap (with_executed (order_of (take i events))) none
+
+  pub order_again : (i region : ℕ) (id : TxnId) → slice_get events i ≡ Some (Execute region id) → is_among (order_of (take i events)) id ≡ true → order_of (take (i + 1) events) ≡ order_of (take i events)
+  order_again i region id e there = ap order_of (split_at events i (Execute region id) e).1 ∙ order_of_more (take i events) (Execute region id) ∙ ap (λ b. cond b (order_of (take i events)) (order_of (take i events) ++ id ∷ [])) there
+
+  pub order_new : (i region : ℕ) (id : TxnId) → slice_get events i ≡ Some (Execute region id) → is_among (order_of (take i events)) id ≡ false → order_of (take (i + 1) events) ≡ order_of (take i events) ++ id ∷ []
+  order_new i region id e new = ap order_of (split_at events i (Execute region id) e).1 ∙ order_of_more (take i events) (Execute region id) ∙ ap (λ b. cond b (order_of (take i events)) (order_of (take i events) ++ id ∷ [])) new
+
+  pub rans_more : (i region : ℕ) (id : TxnId) (r : Ran) → slice_get events i ≡ Some (Execute region id) → is_among (order_of (take i events)) id ≡ false → ran_at (world_after cluster workload events) region id ≡ Some r
+      → filter_map (ran_of cluster workload events) (order_of (take (i + 1) events)) ≡ filter_map (ran_of cluster workload events) (order_of (take i events)) ++ r ∷ []
+  rans_more i region id r e new is =
+      let x : (region < cluster.regions) × IsExecutedAt (world_after cluster workload events) region id = executed_at i region id e in
+      ap (filter_map (ran_of cluster workload events)) (order_new i region id e new) ∙ order_pushed (order_of (take i events)) id r (sym (ran_is region id x.0 x.1) ∙ is)
+
+  -- every reported outcome is the one that all regions keep that executed the attempt
+  pub outcomes_kept : AllIn (λ (r : Ran). IsOutcomeOf cluster.regions (world_after cluster workload events) r.id r.outcome) (rans_of cluster workload events)
+  outcomes_kept = each (order_of events) (all_put _ (order_of events) (λ id h. ((legal_keeps cluster ok workload fits events legal).ordered.executed id).0 h))
+    where
+      is_outcome : (id : TxnId) (o : Outcome) → ((region : ℕ) × (region < cluster.regions) × IsExecutedAt (world_after cluster workload events) region id) → serial_outcome cluster workload events id ≡ Some o
+          → IsOutcomeOf cluster.regions (world_after cluster workload events) id o
+      is_outcome id o x e =
+          let s : (p : Outcome) × (outcome_at (world_after cluster workload events) x.0 id ≡ Some p) × (serial_outcome cluster workload events id ≡ Some p) = serial_is x.0 id x.1 x.2 in
+          let both : Some s.0 ≡ Some o = sym s.2 ∙ e in
+          let same : s.0 ≡ o = cc in
+          record {
+            executed = (x.0, x.1, subst (λ p. Has (node_at (world_after cluster workload events) x.0).here.done (id, p)) same (lookup_has (node_at (world_after cluster workload events) x.0).here.done id s.0 s.1));
+            kept = λ region other lr h. let twice : Some other ≡ Some o = sym ((legal_agree cluster ok workload fits events legal).outcomes region id other lr h) ∙ e in cc;
+          }
+
+      here : (id : TxnId) → ((region : ℕ) × (region < cluster.regions) × IsExecutedAt (world_after cluster workload events) region id) → (s : Option Submission) (o : Option Outcome) → serial_outcome cluster workload events id ≡ o
+          → AllIn (λ (r : Ran). IsOutcomeOf cluster.regions (world_after cluster workload events) r.id r.outcome) (option_to_list (option_and_then (λ x. option_map (ran id x) o) s))
+      here id x None o e = tt
+      here id x (Some s) None e = tt
+      here id x (Some s) (Some o) e = (is_outcome id o x e, tt)
+
+      each : (ids : List TxnId) → AllIn (λ id. (region : ℕ) × (region < cluster.regions) × IsExecutedAt (world_after cluster workload events) region id) ids
+          → AllIn (λ (r : Ran). IsOutcomeOf cluster.regions (world_after cluster workload events) r.id r.outcome) (filter_map (ran_of cluster workload events) ids)
+      each [] a = tt
+      each (id ∷ ids) a = joined (ran_of cluster workload events id) (here id a.0 (submission_of (world_after cluster workload events) id) (serial_outcome cluster workload events id) refl) (each ids a.1)
+        where
+          joined : (o : Option Ran) → AllIn (λ (r : Ran). IsOutcomeOf cluster.regions (world_after cluster workload events) r.id r.outcome) (option_to_list o)
+              → AllIn (λ (r : Ran). IsOutcomeOf cluster.regions (world_after cluster workload events) r.id r.outcome) (filter_map (ran_of cluster workload events) ids)
+              → AllIn (λ (r : Ran). IsOutcomeOf cluster.regions (world_after cluster workload events) r.id r.outcome) (cons_option o (filter_map (ran_of cluster workload events) ids))
+          joined None a b = b
+          joined (Some r) a b = (a.0, b)
+
+-- where an executed attempt stands among the submissions of its region
+
+module _ {cluster : Cluster} {seats : SeatsView} {sites : List SiteView} {steps : ℕ} (k : IsLawful cluster seats sites steps) {region : ℕ} (lr : region < cluster.regions) (id : TxnId)
+    (done : IsExecutedAt (world_of sites seats.places) region id) where
+  pub record StandsAmong : Type 0 where
+    pub home : id.region < cluster.regions
+    pub from : 1 ≤ id.seq
+    pub to : id.seq ≤ length (site_at sites id.region).origins
+    pub submission : Submission
+    pub found : submission_of (world_of sites seats.places) id ≡ Some submission
+    pub origin : (d : Origin) → submission ≡ attempt submission.txn (get_or (site_at sites id.region).origins (id.seq - 1) d)
+
+  pub stands_among : StandsAmong
+  stands_among = go (all_get (IsKnown (world_of sites seats.places)) (done_ids (node_at (world_of sites seats.places) region).here)
+      (done_known cluster seats.workload (world_of sites seats.places) (order k.reached) (inv k.reached) region lr) id done)
+    where
+      go : IsKnown (world_of sites seats.places) id → StandsAmong
+      go x =
+          let s : (s : Submission) × Has (submissions (world_of sites seats.places)) s × (s.txn ≡ x.0) × (s.txn.id ≡ id) = txn_there (world_of sites seats.places) id x.0 x.1 in
+          let n : (r i : ℕ) × (r < cluster.regions) × (slice_get (node_at (world_of sites seats.places) r).submitted i ≡ Some s.0) × (s.0.txn.id ≡ record { seq = i + 1; region = r }) =
+          numbered cluster.regions (world_of sites seats.places) (inv k.reached).nodes (inv k.reached).ids s.0 s.1 in
+          let region_is : id.region ≡ n.0 = ap (λ y. y.region) (sym s.3 ∙ n.4) in
+          let seq_is : id.seq ≡ n.1 + 1 = ap (λ y. y.seq) (sym s.3 ∙ n.4) in
+          let there : slice_get (attempts (site_at sites n.0).region.state.submitted (site_at sites n.0).origins) n.1 ≡ Some s.0 = subst (λ l. slice_get l n.1 ≡ Some s.0) (ap (λ m. m.submitted) (node_is k n.0)) n.3 in
+          let place : n.1 ≡ id.seq - 1 = omega arith in
+          record {
+            home = subst (λ r. r < cluster.regions) (sym region_is) n.2;
+            from = omega arith;
+            to = subst (λ r. id.seq ≤ length (site_at sites r).origins) (sym region_is)
+                (let lt : n.1 < length (site_at sites n.0).origins = (attempt_at (site_at sites n.0).region.state.submitted (site_at sites n.0).origins n.1 s.0 (record { session = []; call = 0; attempt = 0 }) there).0 in omega arith);
+            submission = s.0;
+            found = subst (λ y. submission_of (world_of sites seats.places) y ≡ Some s.0) s.3 (submission_is_found cluster.regions (world_of sites seats.places) (inv k.reached).nodes (inv k.reached).ids s.0 s.1);
+            origin = λ d. (attempt_at (site_at sites n.0).region.state.submitted (site_at sites n.0).origins n.1 s.0 d there).1 ∙ ap₂ (λ r i. attempt s.0.txn (get_or (site_at sites r).origins i d)) (sym region_is) place;
+          }

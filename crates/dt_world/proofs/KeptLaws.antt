@@ -1,0 +1,79 @@
+-- Of a list of events each region keeps its own that take effect, in their order.
+use Rattle.std.proofs.Common.{eq-eqb, eqb-true, ◌≡◌, ◌≢◌, ◌<◌, ◌+◌, ℕ, zero, suc, Bool, true, false, cond, eqb, ◌&&◌, List, [], ◌∷◌, ◌++◌, length, get_or, set, replicate, refl}
+use Rattle.std.proofs.Common.{sym, ap, subst, ◌∙◌, inl, inr, append_assoc, arith}
+use Rattle.std.proofs.lemmas.Bool.{false_from_ne_true}
+use Rattle.std.proofs.lemmas.List.{get_or-set_same, get_or-set_other, length-set}
+use Rattle.dt_lists.specs.Lists.{Either}
+use Rattle.dt_lists.proofs.Callers.{either_nat}
+use Rattle.dt_events.specs.Events.{region_of}
+use Rattle.dt_events.specs.declared.Event.{Event}
+use Rattle.dt_cluster.specs.declared.Cluster.{Cluster}
+use Rattle.dt_workload.specs.declared.Workload.{Workload}
+use Rattle.dt_session.specs.World.{World, opening_world}
+use Rattle.dt_session.specs.Step.{next}
+use Rattle.dt_world.specs.WorldView.{kept_next, kept_after, kept_from, own_events, own_from, takes_effect}
+
+append_nothing : {A : Type 0} (xs : List A) → xs ++ [] ≡ xs
+append_nothing [] = refl
+append_nothing (x ∷ xs) = ap (λ l. x ∷ l) (append_nothing xs)
+
+all_empty : (n region : ℕ) → get_or (replicate {A = List Event} n []) region [] ≡ []
+all_empty zero region = refl
+all_empty (suc n) zero = refl
+all_empty (suc n) (suc region) = all_empty n region
+
+many_replicated : (n : ℕ) → length (replicate {A = List Event} n []) ≡ n
+many_replicated zero = refl
+many_replicated (suc n) = ap suc (many_replicated n)
+
+-- the one event of a list of one, where it is the region's and takes effect
+abbrev one_own : Bool → Bool → Event → List Event
+one_own own effect event = cond (own && effect) (event ∷ []) []
+
+-- what one event adds to what a region keeps
+keep_adds : (kept : List (List Event)) (w : World) (event : Event) (region : ℕ) → region < length kept
+    → get_or (kept_next w kept event) region [] ≡ get_or kept region [] ++ one_own (eqb (region_of event) region) (takes_effect w event) event
+keep_adds kept w event region lt = go (takes_effect w event) (either_nat region (region_of event))
+  where
+    go : (effect : Bool) → Either (region ≡ region_of event)
+        → get_or (cond effect (set kept (region_of event) (get_or kept (region_of event) [] ++ event ∷ [])) kept) region [] ≡ get_or kept region [] ++ one_own (eqb (region_of event) region) effect event
+    go true (inl e) = rw (eq-eqb (region_of event) region (sym e))
+        (subst (λ q. get_or (set kept q (get_or kept q [] ++ event ∷ [])) region [] ≡ get_or kept region [] ++ event ∷ []) e (get_or-set_same kept region (get_or kept region [] ++ event ∷ []) [] lt))
+    go true (inr n) = rw (false_from_ne_true (eqb (region_of event) region) (λ t. n (sym (eqb-true (region_of event) region t))))
+        (get_or-set_other kept (region_of event) region (get_or kept (region_of event) [] ++ event ∷ []) [] n ∙ sym (append_nothing (get_or kept region [])))
+    go false either = sym (ap (λ b. get_or kept region [] ++ cond b (event ∷ []) []) (none (eqb (region_of event) region)) ∙ append_nothing (get_or kept region []))
+      where
+        none : (b : Bool) → (b && false) ≡ false
+        none true = refl
+        none false = refl
+
+keep_long : (kept : List (List Event)) (w : World) (event : Event) → length (kept_next w kept event) ≡ length kept
+keep_long kept w event = go (takes_effect w event)
+  where
+    go : (effect : Bool) → length (cond effect (set kept (region_of event) (get_or kept (region_of event) [] ++ event ∷ [])) kept) ≡ length kept
+    go true = length-set kept (region_of event) (get_or kept (region_of event) [] ++ event ∷ [])
+    go false = refl
+
+module _ (cluster : Cluster) (workload : Workload) (region : ℕ) where
+  own_first : (w : World) (event : Event) (events : List Event)
+      → one_own (eqb (region_of event) region) (takes_effect w event) event ++ own_from cluster workload region (next cluster workload w event) events ≡ own_from cluster workload region w (event ∷ events)
+  own_first w event events = go (eqb (region_of event) region && takes_effect w event)
+    where
+      go : (b : Bool) → cond b (event ∷ []) [] ++ own_from cluster workload region (next cluster workload w event) events
+          ≡ cond b (event ∷ own_from cluster workload region (next cluster workload w event) events) (own_from cluster workload region (next cluster workload w event) events)
+      go true = refl
+      go false = refl
+
+  kept_from_is : (w : World) (kept : List (List Event)) (events : List Event) → region < length kept
+      → get_or (kept_from cluster workload w kept events) region [] ≡ get_or kept region [] ++ own_from cluster workload region w events
+  kept_from_is w kept [] lt = sym (append_nothing (get_or kept region []))
+  kept_from_is w kept (event ∷ events) lt =
+      kept_from_is (next cluster workload w event) (kept_next w kept event) events (subst (λ n. region < n) (sym (keep_long kept w event)) lt)
+      ∙ ap (λ l. l ++ own_from cluster workload region (next cluster workload w event) events) (keep_adds kept w event region lt)
+      ∙ append_assoc (get_or kept region []) (one_own (eqb (region_of event) region) (takes_effect w event) event) (own_from cluster workload region (next cluster workload w event) events)
+      ∙ ap (λ l. get_or kept region [] ++ l) (own_first w event events)
+
+  pub kept_is_own : (events : List Event) → region < cluster.regions → get_or (kept_after cluster workload events) region [] ≡ own_events cluster workload region events
+  kept_is_own events lr =
+      kept_from_is (opening_world cluster workload) (replicate cluster.regions []) events (subst (λ n. region < n) (sym (many_replicated cluster.regions)) lr)
+      ∙ ap (λ l. l ++ own_events cluster workload region events) (all_empty cluster.regions region)

@@ -1,0 +1,109 @@
+-- Nothing is left out of a report: each executed attempt and each answer is found in what it looks up.
+use Rattle.std.proofs.Common.{◌≡◌, ◌+◌, ◌⊎◌, ℕ, Bool, true, false, cond, List, [], ◌∷◌, ◌++◌, map, Some, None, refl, sym, ap, ap₂, subst, ◌∙◌, inl, inr, append_assoc, append-nil}
+use Rattle.std.specs.Prelude.{Option, filter_map, option_and_then, option_map, option_to_list}
+use Rattle.std.specs.List.{cons_option}
+use Rattle.std.proofs.lemmas.Bool.{cases_Bool}
+use Rattle.std.proofs.lemmas.List.{map-append}
+use Rattle.std.proofs.lemmas.List.Elements.{filter_map-append}
+use Rattle.std.proofs.lemmas.Option.{some_pair_parts}
+use Rattle.dt_lists.specs.Lists.{AllIn, Has}
+use Rattle.dt_lists.proofs.Callers.{from_right, all_put}
+use Rattle.dt_access.specs.Clash.{Bytes}
+use Rattle.dt_access.specs.declared.TxnId.{TxnId}
+use Rattle.dt_events.specs.declared.Event.{Event}
+use Rattle.dt_events.specs.declared.Event.TheVariants.{Submit, Append, Deliver, Insert, Resolve, Execute, Answer}
+use Rattle.dt_report.specs.declared.Ran.{Ran}
+use Rattle.dt_report.specs.declared.Reply.{Reply}
+use Rattle.dt_cluster.specs.declared.Cluster.{Cluster}
+use Rattle.dt_cluster.specs.Valid.{IsValidCluster}
+use Rattle.dt_workload.specs.declared.Session.{Session}
+use Rattle.dt_workload.specs.declared.Workload.{Workload}
+use Rattle.dt_workload.specs.Valid.{IsValidWorkload}
+use Rattle.dt_session.specs.World.{Place, is_session, opening_world, session_at}
+use Rattle.dt_session.specs.Run.{AreLegal, order_of, serial_outcome, world_after}
+use Rattle.dt_agreement.specs.Reports.{IsAccounted, IsAnswered}
+use Rattle.dt_agreement.proofs.Callers.{answer_accounted, executed_accounted, session_of_test}
+use Rattle.dt_world.specs.WorldReport.{answered_name, answered_session, ran, ran_of, rans_of, replies_from, replies_of, reply_for, reply_to}
+use Rattle.dt_world.specs.SessionReplay.{LedTo}
+use Rattle.dt_world.specs.WorldView.{WorldView}
+use Rattle.dt_world.proofs.Replay.{replies_more}
+
+-- the session that is found has the name that is looked for
+named_there : (sessions : List Session) (places : List Place) (region : ℕ) (name : Bytes) (s : Session) (p : Place) → session_at sessions places region name ≡ Some (s, p) → s.name ≡ name
+named_there [] places region name s p e = cc
+named_there (t ∷ sessions) [] region name s p e = cc
+named_there (t ∷ sessions) (x ∷ places) region name s p e = go (cases_Bool (is_session region name t)) (named_there sessions places region name s p)
+  where
+    go : (is_session region name t ≡ true) ⊎ (is_session region name t ≡ false) → (session_at sessions places region name ≡ Some (s, p) → s.name ≡ name) → s.name ≡ name
+    go (inl y) f =
+        let is : ◌≡◌ {A = Option (Session × Place)} (Some (t, x)) (Some (s, p)) = rw y at e in
+        ap (λ z. z.name) (sym (some_pair_parts t s x p is).0) ∙ (session_of_test region name t y).0
+    go (inr n) f = f (rw n at e)
+
+module _ (cluster : Cluster) (ok : IsValidCluster cluster) (workload : Workload) (fits : IsValidWorkload cluster workload) (events : List Event) (legal : AreLegal cluster workload events) where
+  -- the order section has each executed id
+
+  ran_there : (id : TxnId) → IsAccounted cluster workload events id → (r : Ran) × (ran_of cluster workload events id ≡ Some r) × (r.id ≡ id)
+  ran_there id a = (
+    ran id a.submission a.outcome,
+    ap₂ (λ s o. option_and_then (λ x. option_map (ran id x) o) s) a.found a.serial,
+    refl,
+  )
+
+  all_ran : (ids : List TxnId) → AllIn (IsAccounted cluster workload events) ids → map (λ (r : Ran). r.id) (filter_map (ran_of cluster workload events) ids) ≡ ids
+  all_ran [] a = refl
+  all_ran (id ∷ ids) a = joined (ran_of cluster workload events id) (ran_there id a.0) (all_ran ids a.1)
+    where
+      joined : (o : Option Ran) → ((r : Ran) × (o ≡ Some r) × (r.id ≡ id)) → map (λ (r : Ran). r.id) (filter_map (ran_of cluster workload events) ids) ≡ ids
+          → map (λ (r : Ran). r.id) (cons_option o (filter_map (ran_of cluster workload events) ids)) ≡ id ∷ ids
+      joined None r rest = absurd (cc (r.1))
+      joined (Some q) r rest = let same : q ≡ r.0 = cc (r.1) in ap₂ (λ x l. x ∷ l) (ap (λ z. z.id) same ∙ r.2) rest
+
+  pub order_whole : map (λ (r : Ran). r.id) (rans_of cluster workload events) ≡ order_of events
+  order_whole = all_ran (order_of events) (all_put _ (order_of events) (λ id h. executed_accounted cluster ok workload fits events legal id h))
+
+  -- the replies have each answer
+
+  one_reply : (xs ys : List Event) (event : Event) → events ≡ xs ++ event ∷ ys
+      → map (λ (r : Reply). r.session) (option_to_list (reply_for cluster workload events (answered_session workload (world_after cluster workload xs) event))) ≡ filter_map answered_name (event ∷ [])
+  one_reply xs ys (Submit region name) e = refl
+  one_reply xs ys (Append home source number) e = refl
+  one_reply xs ys (Deliver region home first last) e = refl
+  one_reply xs ys (Insert region home) e = refl
+  one_reply xs ys (Resolve region ids) e = refl
+  one_reply xs ys (Execute region id) e = refl
+  one_reply xs ys (Answer region name) e =
+      subst (λ all. map (λ (r : Reply). r.session) (option_to_list (reply_for cluster workload all (answered_session workload (world_after cluster workload xs) (Answer region name)))) ≡ name ∷ []) (sym e) here
+    where
+      a : IsAnswered cluster workload (xs ++ Answer region name ∷ ys) xs region name
+      a = answer_accounted cluster ok workload fits xs region name ys (subst (AreLegal cluster workload) e legal)
+
+      replied : reply_for cluster workload (xs ++ Answer region name ∷ ys) (answered_session workload (world_after cluster workload xs) (Answer region name)) ≡ Some (reply_to a.session a.place a.accounted.outcome)
+      replied =
+          ap (reply_for cluster workload (xs ++ Answer region name ∷ ys)) a.found
+          ∙ ap (λ o. option_map (reply_to a.session a.place) (option_and_then (serial_outcome cluster workload (xs ++ Answer region name ∷ ys)) o)) a.waits
+          ∙ ap (option_map (reply_to a.session a.place)) a.accounted.serial
+
+      here : map (λ (r : Reply). r.session) (option_to_list (reply_for cluster workload (xs ++ Answer region name ∷ ys) (answered_session workload (world_after cluster workload xs) (Answer region name)))) ≡ name ∷ []
+      here =
+          ap (λ o. map (λ (r : Reply). r.session) (option_to_list o)) replied
+          ∙ ap (λ n. n ∷ []) (named_there workload.sessions (world_after cluster workload xs).places region name a.session a.place a.found)
+
+  pub replies_whole : map (λ (r : Reply). r.session) (replies_of cluster workload events) ≡ filter_map answered_name events
+  replies_whole = from_right (λ xs. (ys : List Event) → events ≡ xs ++ ys → map (λ (r : Reply). r.session) (replies_from cluster workload events (opening_world cluster workload) xs) ≡ filter_map answered_name xs)
+      (λ ys e. refl)
+      (λ xs event before ys e.
+      ap (map (λ (r : Reply). r.session)) (replies_more cluster workload events (opening_world cluster workload) xs event)
+      ∙ map-append (λ (r : Reply). r.session) (replies_from cluster workload events (opening_world cluster workload) xs) _
+      ∙ ap₂ (λ x y. x ++ y) (before (event ∷ ys) (e ∙ append_assoc xs (event ∷ []) ys)) (one_reply xs ys event (e ∙ append_assoc xs (event ∷ []) ys))
+      ∙ sym (filter_map-append answered_name xs (event ∷ [])))
+      events [] (sym (append-nil events))
+
+-- the same of a world that the events lead to
+
+module _ {view : WorldView} {events : List Event} (led : LedTo view events) where
+  pub all_are_ran : map (λ (r : Ran). r.id) (rans_of view.cluster view.workload events) ≡ order_of events
+  all_are_ran = order_whole view.cluster led.valid view.workload led.fits events led.legal
+
+  pub all_are_answered : map (λ (r : Reply). r.session) (replies_of view.cluster view.workload events) ≡ filter_map answered_name events
+  all_are_answered = replies_whole view.cluster led.valid view.workload led.fits events led.legal

@@ -1,0 +1,279 @@
+-- Events followed one after another: what sessions wait for, how much regions have submitted, and the replies.
+use Rattle.std.proofs.Common.{◌≡◌, ◌<◌, ◌≤◌, ◌+◌, ℕ, Bool, true, false, cond, eqb, ltb, leb, ◌&&◌, List, [], ◌∷◌, ◌++◌, length, map, get_or, set, slice_get}
+use Rattle.std.proofs.Common.{Some, None, refl, sym, ap, ap₂, subst, ◌∙◌, append_assoc, append-nil, arith}
+use Rattle.std.specs.Prelude.{Option, option_map, option_and_then, option_to_list}
+use Rattle.std.specs.List.{position}
+use Rattle.std.proofs.lemmas.List.{length-append, length_push, length-map, map-set, get_or-set_same}
+use Rattle.std.proofs.lemmas.List.Quantifiers.{position-Some}
+use Rattle.std.proofs.lemmas.Option.{some_pair_parts}
+use Rattle.dt_lists.specs.Lists.{Has, IsFront}
+use Rattle.dt_lists.proofs.Callers.{any_of_image, any_image, any_front, get_of_map, map_of_set}
+use Rattle.dt_access.specs.Clash.{Bytes}
+use Rattle.dt_access.specs.declared.TxnId.{TxnId}
+use Rattle.dt_events.specs.declared.Event.{Event}
+use Rattle.dt_events.specs.declared.Event.TheVariants.{Submit, Append, Deliver, Insert, Resolve, Execute, Answer}
+use Rattle.dt_txn.specs.declared.Outcome.{Outcome}
+use Rattle.dt_txn.specs.declared.Txn.{Txn}
+use Rattle.dt_report.specs.declared.Reply.{Reply}
+use Rattle.dt_cluster.specs.declared.Cluster.{Cluster}
+use Rattle.dt_cluster.specs.Valid.{IsValidCluster}
+use Rattle.dt_workload.specs.declared.Workload.{Workload}
+use Rattle.dt_workload.specs.Valid.{IsValidWorkload}
+use Rattle.dt_session.specs.World.{World, Node, Place, asked_of, idle_place, is_session, no_node, node_at, opening_world, outcome_at, received_of, session_at, submission_of, taken_of, txn_of}
+use Rattle.dt_session.specs.Step.{IsLegal, MayAnswer, MayEnd, MaySubmit, answered, next, upcoming_id, node_submitted, placed, received, attempt_for}
+use Rattle.dt_session.specs.Run.{AreLegal, AreLegalFrom, order_of, serial_outcome, world_after, world_from}
+use Rattle.dt_session.specs.Agreement.{WaitsFor}
+use Rattle.dt_agreement.specs.Invariant.{Inv, IsExecutedAt, IsPlaceOf}
+use Rattle.dt_agreement.proofs.Callers.{answered_done, lookup_has, legal_agree, WaitsAt, places_parallel, from_region, submission_is_found, waiting_for, legal_keeps, legal_append, world_after_more, session_found, session_of_test, find_has, Submits, submits}
+use Rattle.dt_world.specs.Seats.{no_session}
+use Rattle.dt_world.specs.SessionReplay.{IsReply, after_reply, after_submission, replay_of, count_at, wait_at}
+use Rattle.dt_world.specs.WorldReport.{IsReplyOf, answered_session, replies_from, reply_for, reply_to}
+use Rattle.dt_world.proofs.Executions.{serial_is}
+use Rattle.dt_world.proofs.Growth.{NodeGrows, grows_past}
+use Rattle.dt_world.proofs.SeatsLaws.{no_session_of_none, place_set, session_of_place}
+
+front_length : {A : Type 0} (xs ys : List A) → IsFront xs ys → length xs ≤ length ys
+front_length xs ys f = subst (λ l. length xs ≤ length l) f.1 (omega (arith, length-append xs f.0))
+
+-- replies, with one more event
+
+pub replies_more : (cluster : Cluster) (workload : Workload) (all : List Event) (w : World) (xs : List Event) (event : Event)
+    → replies_from cluster workload all w (xs ++ event ∷ []) ≡ replies_from cluster workload all w xs ++ option_to_list (reply_for cluster workload all (answered_session workload (world_from cluster workload w xs) event))
+replies_more cluster workload all w [] event = append-nil (option_to_list (reply_for cluster workload all (answered_session workload w event)))
+replies_more cluster workload all w (x ∷ xs) event =
+    ap (λ l. option_to_list (reply_for cluster workload all (answered_session workload w x)) ++ l) (replies_more cluster workload all (next cluster workload w x) xs event)
+    ∙ sym (append_assoc (option_to_list (reply_for cluster workload all (answered_session workload w x))) (replies_from cluster workload all (next cluster workload w x) xs) _)
+
+-- how much a region has submitted, and what a session waits for
+
+pub count_is : (w : World) (region : ℕ) → count_at (replay_of w) region ≡ length (node_at w region).submitted
+count_is w region = get_of_map (λ n. length n.submitted) w.nodes region no_node
+
+pub wait_is : (w : World) (place : ℕ) → wait_at (replay_of w) place ≡ (get_or w.places place idle_place).waits
+wait_is w place = get_of_map (λ p. p.waits) w.places place idle_place
+
+same_counts : (w : World) (region : ℕ) (x : Node) (places : List Place) → length x.submitted ≡ length (node_at w region).submitted
+    → replay_of (record { nodes = set w.nodes region x; places = places }) ≡ replay_of (record { nodes = w.nodes; places = places })
+same_counts w region x places e = ap (λ l. record { waits = map (λ p. p.waits) places; submitted = l }) (map_of_set (λ n. length n.submitted) w.nodes region x no_node e)
+
+pub append_same : (cluster : Cluster) (workload : Workload) (w : World) (home source number : ℕ) → replay_of (next cluster workload w (Append home source number)) ≡ replay_of w
+append_same cluster workload w home source number = go (eqb number (taken_of w home source)) (option_and_then (txn_of w) (slice_get (asked_of w source home) number))
+  where
+    go : (b : Bool) (o : Option Txn) → replay_of (cond b (placed w home source o) w) ≡ replay_of w
+    go false o = refl
+    go true None = refl
+    go true (Some txn) = same_counts w home _ w.places refl
+
+pub deliver_same : (cluster : Cluster) (workload : Workload) (w : World) (region home first last : ℕ) → replay_of (next cluster workload w (Deliver region home first last)) ≡ replay_of w
+deliver_same cluster workload w region home first last = go (leb first (received_of w region home) && ltb (received_of w region home) last)
+  where
+    go : (b : Bool) → replay_of (cond b (received w region home last) w) ≡ replay_of w
+    go false = refl
+    go true = same_counts w region _ w.places refl
+
+pub insert_same : (cluster : Cluster) (workload : Workload) (w : World) (region home : ℕ) → replay_of (next cluster workload w (Insert region home)) ≡ replay_of w
+insert_same cluster workload w region home = same_counts w region _ w.places refl
+
+pub resolve_same : (cluster : Cluster) (workload : Workload) (w : World) (region : ℕ) (ids : List TxnId) → replay_of (next cluster workload w (Resolve region ids)) ≡ replay_of w
+resolve_same cluster workload w region ids = same_counts w region _ w.places refl
+
+pub execute_same : (cluster : Cluster) (workload : Workload) (w : World) (region : ℕ) (id : TxnId) → replay_of (next cluster workload w (Execute region id)) ≡ replay_of w
+execute_same cluster workload w region id = same_counts w region _ w.places refl
+
+module _ (cluster : Cluster) (ok : IsValidCluster cluster) (workload : Workload) (fits : IsValidWorkload cluster workload) (xs ys : List Event) (event : Event) (legal : AreLegal cluster workload (xs ++ event ∷ ys)) where
+  before : AreLegal cluster workload xs × AreLegalFrom cluster workload (world_after cluster workload xs) (event ∷ ys)
+  before = legal_append cluster workload (opening_world cluster workload) xs (event ∷ ys) legal
+
+  pub now_legal : IsLegal cluster workload (world_after cluster workload xs) event
+  now_legal = before.1.0
+
+  pub now_inv : Inv cluster workload (world_after cluster workload xs) (order_of xs)
+  now_inv = legal_keeps cluster ok workload fits xs before.0
+
+  pub now_places : length (world_after cluster workload xs).places ≡ length workload.sessions
+  now_places = sym (places_parallel cluster workload (world_after cluster workload xs) (order_of xs) now_inv)
+
+  pub end_inv : Inv cluster workload (world_after cluster workload (xs ++ event ∷ ys)) (order_of (xs ++ event ∷ ys))
+  end_inv = legal_keeps cluster ok workload fits (xs ++ event ∷ ys) legal
+
+  pub to_end : (r : ℕ) → NodeGrows (node_at (world_after cluster workload xs) r) (node_at (world_after cluster workload (xs ++ event ∷ ys)) r)
+  to_end r = grows_past cluster workload xs (event ∷ ys) r
+
+-- a submission
+
+module _ (cluster : Cluster) (ok : IsValidCluster cluster) (workload : Workload) (fits : IsValidWorkload cluster workload) (xs ys : List Event) (region : ℕ) (name : Bytes)
+    (legal : AreLegal cluster workload (xs ++ Submit region name ∷ ys)) where
+  pub submit_somewhere : ¬ (position (is_session region name) workload.sessions ≡ None)
+  submit_somewhere none = subst (MaySubmit cluster (world_after cluster workload xs) region) (no_session_of_none region name workload.sessions (world_after cluster workload xs).places none)
+      (now_legal cluster ok workload fits xs ys (Submit region name) legal).allowed
+
+  module _ (place : ℕ) (found : position (is_session region name) workload.sessions ≡ Some place) where
+    pub submit_place : place < length (replay_of (world_after cluster workload xs)).waits
+    submit_place = subst (λ n. place < n) (sym (length-map (world_after cluster workload xs).places (λ p. p.waits) ∙ now_places cluster ok workload fits xs ys (Submit region name) legal))
+        (position-Some (is_session region name) workload.sessions place no_session found).0
+
+    pub submit_region : region < length (replay_of (world_after cluster workload xs)).submitted
+    submit_region = subst (λ n. region < n) (sym (length-map (world_after cluster workload xs).nodes (λ n. length n.submitted) ∙ (now_inv cluster ok workload fits xs ys (Submit region name) legal).nodes))
+        (now_legal cluster ok workload fits xs ys (Submit region name) legal).regions
+
+    r : Submits cluster workload (world_after cluster workload xs) region name
+    r = submits cluster ok workload (world_after cluster workload xs) (order_of xs) region name (now_legal cluster ok workload fits xs ys (Submit region name) legal).allowed
+        (now_inv cluster ok workload fits xs ys (Submit region name) legal)
+
+    place_is : r.place ≡ get_or (world_after cluster workload xs).places place idle_place
+    place_is =
+        let both : Some (r.session, r.place) ≡ Some (get_or workload.sessions place no_session, get_or (world_after cluster workload xs).places place idle_place) = sym r.found
+        ∙ session_of_place region name workload.sessions (world_after cluster workload xs).places (now_places cluster ok workload fits xs ys (Submit region name) legal) place no_session idle_place found in
+        (some_pair_parts r.session (get_or workload.sessions place no_session) r.place (get_or (world_after cluster workload xs).places place idle_place) both).1
+
+    found_own : position (is_session region r.session.name) workload.sessions ≡ Some place
+    found_own = subst (λ n. position (is_session region n) workload.sessions ≡ Some place) (sym r.named) found
+
+    pub submit_follows : replay_of (world_after cluster workload (xs ++ Submit region name ∷ [])) ≡ after_submission (replay_of (world_after cluster workload xs)) place region
+    submit_follows =
+        ap replay_of (world_after_more cluster workload xs (Submit region name) ∙ r.next)
+        ∙ ap₂ (λ (a : List (Option TxnId)) (b : List ℕ). record { waits = a; submitted = b })
+        (ap (map (λ p. p.waits)) (place_set region r.session.name workload.sessions (world_after cluster workload xs).places (record r.place { waits = Some (upcoming_id (world_after cluster workload xs) region) })
+        (now_places cluster ok workload fits xs ys (Submit region name) legal) place found_own)
+        ∙ map-set (λ p. p.waits) (world_after cluster workload xs).places place (record r.place { waits = Some (upcoming_id (world_after cluster workload xs) region) })
+        ∙ ap (λ n. set (map (λ p. p.waits) (world_after cluster workload xs).places) place (Some (record { seq = n + 1; region = region }))) (sym (count_is (world_after cluster workload xs) region)))
+        (map-set (λ n. length n.submitted) (world_after cluster workload xs).nodes region
+        (node_submitted (node_at (world_after cluster workload xs) region) (attempt_for cluster (world_after cluster workload xs) region r.session r.place r.call))
+        ∙ ap (set (map (λ n. length n.submitted) (world_after cluster workload xs).nodes) region)
+        (length_push (node_at (world_after cluster workload xs) region).submitted (attempt_for cluster (world_after cluster workload xs) region r.session r.place r.call)
+        ∙ ap (λ n. n + 1) (sym (count_is (world_after cluster workload xs) region))))
+
+    -- the region has so many submissions at the end
+    pub submit_few : count_at (replay_of (world_after cluster workload xs)) region + 1 ≤ length (node_at (world_after cluster workload (xs ++ Submit region name ∷ ys)) region).submitted
+    submit_few =
+        let one : count_at (replay_of (world_after cluster workload (xs ++ Submit region name ∷ []))) region ≡ count_at (replay_of (world_after cluster workload xs)) region + 1 = ap (λ c. count_at c region) submit_follows
+        ∙ get_or-set_same (replay_of (world_after cluster workload xs)).submitted region (count_at (replay_of (world_after cluster workload xs)) region + 1) 0 submit_region in
+        let grown : NodeGrows (node_at (world_after cluster workload (xs ++ Submit region name ∷ [])) region) (node_at (world_after cluster workload ((xs ++ Submit region name ∷ []) ++ ys)) region) =
+        grows_past cluster workload (xs ++ Submit region name ∷ []) ys region in
+        let f : IsFront (node_at (world_after cluster workload (xs ++ Submit region name ∷ [])) region).submitted (node_at (world_after cluster workload (xs ++ Submit region name ∷ ys)) region).submitted =
+        subst (λ l. IsFront (node_at (world_after cluster workload (xs ++ Submit region name ∷ [])) region).submitted (node_at (world_after cluster workload l) region).submitted) (append_assoc xs (Submit region name ∷ []) ys)
+        grown.submitted in
+        let long : length (node_at (world_after cluster workload (xs ++ Submit region name ∷ [])) region).submitted ≤ length (node_at (world_after cluster workload (xs ++ Submit region name ∷ ys)) region).submitted = front_length _ _ f in
+        let is : count_at (replay_of (world_after cluster workload (xs ++ Submit region name ∷ []))) region ≡ length (node_at (world_after cluster workload (xs ++ Submit region name ∷ [])) region).submitted =
+        count_is (world_after cluster workload (xs ++ Submit region name ∷ [])) region in
+        omega arith
+
+-- an answer
+
+module _ (cluster : Cluster) (ok : IsValidCluster cluster) (workload : Workload) (fits : IsValidWorkload cluster workload) (xs ys : List Event) (region : ℕ) (name : Bytes)
+    (legal : AreLegal cluster workload (xs ++ Answer region name ∷ ys)) where
+  pub answer_somewhere : ¬ (position (is_session region name) workload.sessions ≡ None)
+  answer_somewhere none = subst (MayAnswer cluster (world_after cluster workload xs) region) (no_session_of_none region name workload.sessions (world_after cluster workload xs).places none)
+      (now_legal cluster ok workload fits xs ys (Answer region name) legal).allowed
+
+  module _ (place : ℕ) (found : position (is_session region name) workload.sessions ≡ Some place) where
+    pub answer_region : region < cluster.regions
+    answer_region = (now_legal cluster ok workload fits xs ys (Answer region name) legal).regions
+
+    pub answer_place : place < length (replay_of (world_after cluster workload xs)).waits
+    answer_place = subst (λ n. place < n) (sym (length-map (world_after cluster workload xs).places (λ p. p.waits) ∙ now_places cluster ok workload fits xs ys (Answer region name) legal))
+        (position-Some (is_session region name) workload.sessions place no_session found).0
+
+    at_session : session_at workload.sessions (world_after cluster workload xs).places region name ≡ Some (get_or workload.sessions place no_session, get_or (world_after cluster workload xs).places place idle_place)
+    at_session = session_of_place region name workload.sessions (world_after cluster workload xs).places (now_places cluster ok workload fits xs ys (Answer region name) legal) place no_session idle_place found
+
+    session_is : ((get_or workload.sessions place no_session).name ≡ name) × ((get_or workload.sessions place no_session).region ≡ region)
+    session_is = session_of_test region name (get_or workload.sessions place no_session) (position-Some (is_session region name) workload.sessions place no_session found).1
+
+    found_own' : position (is_session region (get_or workload.sessions place no_session).name) workload.sessions ≡ Some place
+    found_own' = subst (λ n. position (is_session region n) workload.sessions ≡ Some place) (sym session_is.0) found
+
+    may : MayEnd cluster (world_after cluster workload xs) region (get_or (world_after cluster workload xs).places place idle_place).waits
+    may = subst (MayAnswer cluster (world_after cluster workload xs) region) at_session (now_legal cluster ok workload fits xs ys (Answer region name) legal).allowed
+
+    pub answer_waits : ¬ (wait_at (replay_of (world_after cluster workload xs)) place ≡ None)
+    answer_waits e = subst (MayEnd cluster (world_after cluster workload xs) region) (sym (wait_is (world_after cluster workload xs) place) ∙ e) may
+
+    pub answer_follows : replay_of (world_after cluster workload (xs ++ Answer region name ∷ [])) ≡ after_reply (replay_of (world_after cluster workload xs)) place
+    answer_follows =
+        ap replay_of (world_after_more cluster workload xs (Answer region name) ∙ ap (answered workload (world_after cluster workload xs) region) at_session)
+        ∙ ap (λ (a : List (Option TxnId)). record { waits = a; submitted = map (λ n. length n.submitted) (world_after cluster workload xs).nodes })
+        (ap (map (λ p. p.waits)) (place_set region (get_or workload.sessions place no_session).name workload.sessions (world_after cluster workload xs).places
+        (record { answered = (get_or (world_after cluster workload xs).places place idle_place).answered + 1; waits = None }) (now_places cluster ok workload fits xs ys (Answer region name) legal) place found_own')
+        ∙ map-set (λ p. p.waits) (world_after cluster workload xs).places place (record { answered = (get_or (world_after cluster workload xs).places place idle_place).answered + 1; waits = None }))
+
+    module _ (id : TxnId) (waits : wait_at (replay_of (world_after cluster workload xs)) place ≡ Some id) where
+      waits_here : (get_or (world_after cluster workload xs).places place idle_place).waits ≡ Some id
+      waits_here = sym (wait_is (world_after cluster workload xs) place) ∙ waits
+
+      pub w : WaitsAt cluster (world_after cluster workload xs) (get_or workload.sessions place no_session) (get_or (world_after cluster workload xs).places place idle_place) id
+      w =
+          let x : Has workload.sessions (get_or workload.sessions place no_session) × ((get_or workload.sessions place no_session).name ≡ name) × ((get_or workload.sessions place no_session).region ≡ region) × IsPlaceOf cluster.tries
+          (world_after cluster workload xs) (get_or workload.sessions place no_session) (get_or (world_after cluster workload xs).places place idle_place) =
+          session_found (IsPlaceOf cluster.tries (world_after cluster workload xs)) workload.sessions (world_after cluster workload xs).places region name (get_or workload.sessions place no_session)
+          (get_or (world_after cluster workload xs).places place idle_place) (now_inv cluster ok workload fits xs ys (Answer region name) legal).sessions.places at_session in
+          waiting_for cluster workload (world_after cluster workload xs) (order_of xs) (now_inv cluster ok workload fits xs ys (Answer region name) legal) (get_or workload.sessions place no_session)
+          (get_or (world_after cluster workload xs).places place idle_place) id (subst (λ q. q < cluster.regions) (sym x.2) answer_region) x.3 waits_here
+
+      pub answer_own : id.region ≡ region
+      answer_own = w.region ∙ session_is.1
+
+      pub answer_executed : IsExecutedAt (world_after cluster workload (xs ++ Answer region name ∷ ys)) region id
+      answer_executed =
+          let h : IsExecutedAt (world_after cluster workload xs) region id =
+          answered_done cluster (world_after cluster workload xs) region (session_at workload.sessions (world_after cluster workload xs).places region name) id
+          (now_legal cluster ok workload fits xs ys (Answer region name) legal).allowed
+          (subst (λ o. WaitsFor o id) (sym at_session) waits_here) in
+          any_image (λ y. y ≡ id) (λ d. d.0) (node_at (world_after cluster workload (xs ++ Answer region name ∷ ys)) region).here.done
+          (any_front (λ d. d.0 ≡ id) (node_at (world_after cluster workload xs) region).here.done (node_at (world_after cluster workload (xs ++ Answer region name ∷ ys)) region).here.done
+          (to_end cluster ok workload fits xs ys (Answer region name) legal region).done
+          (any_of_image (λ y. y ≡ id) (λ d. d.0) (node_at (world_after cluster workload xs) region).here.done h))
+
+      -- the attempt that was waited for is there at the end
+      pub still_found : submission_of (world_after cluster workload (xs ++ Answer region name ∷ ys)) id ≡ Some w.submission
+      still_found =
+          let there : Has (node_at (world_after cluster workload xs) (get_or workload.sessions place no_session).region).submitted w.submission = w.there in
+          let at_end : Has (node_at (world_after cluster workload (xs ++ Answer region name ∷ ys)) (get_or workload.sessions place no_session).region).submitted w.submission =
+          any_front (λ y. y ≡ w.submission) _ _ (to_end cluster ok workload fits xs ys (Answer region name) legal (get_or workload.sessions place no_session).region).submitted there in
+          let named_id : w.submission.txn.id ≡ id = (find_has (node_at (world_after cluster workload xs) id.region).submitted id w.submission w.found).1 in
+          subst (λ x. submission_of (world_after cluster workload (xs ++ Answer region name ∷ ys)) x ≡ Some w.submission) named_id
+          (submission_is_found cluster.regions (world_after cluster workload (xs ++ Answer region name ∷ ys)) (end_inv cluster ok workload fits xs ys (Answer region name) legal).nodes
+          (end_inv cluster ok workload fits xs ys (Answer region name) legal).ids w.submission
+          (from_region (world_after cluster workload (xs ++ Answer region name ∷ ys)) (get_or workload.sessions place no_session).region w.submission at_end))
+
+      s : (o : Outcome) × (outcome_at (world_after cluster workload (xs ++ Answer region name ∷ ys)) region id ≡ Some o) × (serial_outcome cluster workload (xs ++ Answer region name ∷ ys) id ≡ Some o)
+      s = serial_is cluster ok workload fits (xs ++ Answer region name ∷ ys) legal region id answer_region answer_executed
+
+      reply_of_answer : reply_for cluster workload (xs ++ Answer region name ∷ ys) (answered_session workload (world_after cluster workload xs) (Answer region name)) ≡ Some
+          (reply_to (get_or workload.sessions place no_session) (get_or (world_after cluster workload xs).places place idle_place) s.0)
+      reply_of_answer =
+          ap (reply_for cluster workload (xs ++ Answer region name ∷ ys)) at_session
+          ∙ ap (λ o. option_map (reply_to (get_or workload.sessions place no_session) (get_or (world_after cluster workload xs).places place idle_place))
+          (option_and_then (serial_outcome cluster workload (xs ++ Answer region name ∷ ys)) o)) waits_here
+          ∙ ap (option_map (reply_to (get_or workload.sessions place no_session) (get_or (world_after cluster workload xs).places place idle_place))) s.2
+
+      pub answer_replies : (reply : Reply) → IsReply (world_after cluster workload (xs ++ Answer region name ∷ ys)) region name id reply
+          → replies_from cluster workload (xs ++ Answer region name ∷ ys) (opening_world cluster workload) (xs ++ Answer region name ∷ []) ≡ replies_from cluster workload (xs ++ Answer region name ∷ ys) (opening_world cluster workload)
+          xs ++ reply ∷ []
+      answer_replies reply is =
+          let subs : Some is.submission ≡ Some w.submission = sym is.found ∙ still_found in
+          let sub : is.submission ≡ w.submission = cc in
+          let outs : Some reply.outcome ≡ Some s.0 = sym is.outcome_is ∙ s.1 in
+          let out : reply.outcome ≡ s.0 = cc in
+          let call : reply.call ≡ (get_or (world_after cluster workload xs).places place idle_place).answered + 1 = is.call_is ∙ ap (λ x. x.call) sub ∙ w.call in
+          let session : reply.session ≡ (get_or workload.sessions place no_session).name = is.session_is ∙ sym session_is.0 in
+          let whole : reply ≡ reply_to (get_or workload.sessions place no_session) (get_or (world_after cluster workload xs).places place idle_place) s.0 = λ i. record { session = session i; call = call i; outcome = out i } in
+          replies_more cluster workload (xs ++ Answer region name ∷ ys) (opening_world cluster workload) xs (Answer region name)
+          ∙ ap (λ o. replies_from cluster workload (xs ++ Answer region name ∷ ys) (opening_world cluster workload) xs ++ option_to_list o) (reply_of_answer ∙ ap Some (sym whole))
+
+      pub answer_kept : (reply : Reply) → reply_for cluster workload (xs ++ Answer region name ∷ ys) (answered_session workload (world_after cluster workload xs) (Answer region name)) ≡ Some reply
+          → IsReplyOf cluster.regions (world_after cluster workload (xs ++ Answer region name ∷ ys)) reply
+      answer_kept reply e =
+          let both : Some (reply_to (get_or workload.sessions place no_session) (get_or (world_after cluster workload xs).places place idle_place) s.0) ≡ Some reply = sym reply_of_answer ∙ e in
+          let same : reply_to (get_or workload.sessions place no_session) (get_or (world_after cluster workload xs).places place idle_place) s.0 ≡ reply = cc in
+          subst (IsReplyOf cluster.regions (world_after cluster workload (xs ++ Answer region name ∷ ys))) same (record {
+            id = id;
+            submission = w.submission;
+            found = still_found;
+            session = w.name;
+            call = w.call;
+            outcome = record {
+              executed = (region, answer_region, lookup_has (node_at (world_after cluster workload (xs ++ Answer region name ∷ ys)) region).here.done id s.0 s.1);
+              kept = λ q other lq h. let twice : Some other ≡ Some s.0 = sym ((legal_agree cluster ok workload fits (xs ++ Answer region name ∷ ys) legal).outcomes q id other lq h) ∙ s.2 in cc;
+            };
+          })

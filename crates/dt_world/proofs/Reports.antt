@@ -1,0 +1,301 @@
+-- What the parts of a report are, step by step.
+use Rattle.std.proofs.Common.{◌≡◌, ◌≢◌, ◌<◌, ◌≤◌, ◌+◌, ℕ, zero, suc, Bool, true, false, cond, not, List, [], ◌∷◌, ◌++◌, length, map, get_or, replicate, take}
+use Rattle.std.proofs.Common.{drop, slice_get, Some, None, Ok, Err, refl, sym, ap, ap₂, subst, subst₂, ◌∙◌, append_assoc, append-nil, arith}
+use Rattle.std.specs.Prelude.{Option, Result, OnOk, option_map, option_and_then, option_to_list, filter_map}
+use Rattle.std.specs.List.{position, range_with_len}
+use Rattle.std.proofs.Math.Seq.{take-length}
+use Rattle.std.proofs.lemmas.Option.{slice_get-get_or}
+use Rattle.dt_lists.specs.Lists.{AllIn}
+use Rattle.dt_lists.proofs.Callers.{all_append, from_right}
+use Rattle.dt_access.specs.Ids.{is_among}
+use Rattle.dt_access.specs.Clash.{Bytes}
+use Rattle.dt_access.specs.declared.TxnId.{TxnId}
+use Rattle.dt_events.specs.declared.Event.{Event}
+use Rattle.dt_events.specs.declared.Event.TheVariants.{Submit, Append, Deliver, Insert, Resolve, Execute, Answer}
+use Rattle.dt_table.specs.Table.{shown}
+use Rattle.dt_txn.specs.declared.Outcome.{Outcome}
+use Rattle.dt_report.specs.declared.Ran.{Ran}
+use Rattle.dt_report.specs.declared.Reply.{Reply}
+use Rattle.dt_cluster.specs.declared.Cluster.{Cluster}
+use Rattle.dt_cluster.specs.Valid.{IsValidCluster}
+use Rattle.dt_workload.specs.declared.Session.{Session}
+use Rattle.dt_workload.specs.declared.Workload.{Workload}
+use Rattle.dt_workload.specs.Valid.{IsValidWorkload}
+use Rattle.dt_session.specs.World.{World, Node, Place, Submission, idle_place, is_session, no_node, node_at, opening_node, opening_table, opening_world, outcome_at, submission_of}
+use Rattle.dt_session.specs.Step.{next}
+use Rattle.dt_session.specs.Run.{AreLegal, executed_id, order_of, region_table, world_after}
+use Rattle.dt_agreement.specs.Invariant.{IsExecutedAt}
+use Rattle.dt_agreement.proofs.Callers.{legal_agree, legal_keeps, world_after_more}
+use Rattle.dt_world.specs.WorldView.{WorldView}
+use Rattle.dt_site.specs.Site.{SiteView, node_of}
+use Rattle.dt_world.specs.SessionReplay.{SessionReplayView, IsReply, LedTo, after_reply, after_submission, count_at, replay_at, replay_of, ran_at, rans_at, replies_at, wait_at}
+use Rattle.dt_world.specs.WorldReport.{IsOutcomeOf, IsReplyOf, answered_session, ran, ran_of, rans_of, replies_from, replies_of, reply_for, tables_of}
+use Rattle.dt_world.proofs.Executions.{executed_at, order_again, order_new, order_other, outcomes_kept, rans_more}
+use Rattle.dt_world.proofs.Replay.{answer_executed, answer_follows, answer_kept, answer_own, answer_place, answer_region, answer_replies, answer_somewhere}
+use Rattle.dt_world.proofs.Replay.{answer_waits, append_same, deliver_same, execute_same, insert_same, replies_more, resolve_same, submit_few, submit_follows}
+use Rattle.dt_world.proofs.Replay.{submit_place, submit_region, submit_somewhere}
+use Rattle.dt_world.proofs.Growth.{split_at}
+
+-- tables
+
+map_twice : {A B C : Type 0} (f : A → B) (g : B → C) (xs : List A) → map g (map f xs) ≡ map (λ x. g (f x)) xs
+map_twice f g [] = refl
+map_twice f g (x ∷ xs) = ap (λ l. g (f x) ∷ l) (map_twice f g xs)
+
+pub tables_shown : (sites : List SiteView) → map (λ (n : Node). shown n.here.table) (map node_of sites) ≡ map (λ (p : SiteView). shown p.region.state.here.table) sites
+tables_shown sites = map_twice node_of (λ n. shown n.here.table) sites
+
+by_number : {A B : Type 0} (f : ℕ → B) (g : A → B) (xs : List A) (a : ℕ) (d : A) → ((i : ℕ) → i < length xs → f (a + i) ≡ g (get_or xs i d)) → map f (range_with_len a (length xs)) ≡ map g xs
+by_number f g [] a d e = refl
+by_number f g (x ∷ xs) a d e =
+    let first : f a ≡ g x = (let zero_more : a + 0 ≡ a = omega arith in subst (λ n. f n ≡ g x) zero_more (e 0 (omega arith))) in
+    ap₂ (λ y l. y ∷ l) first (by_number f g xs (a + 1) d (λ i lt. let more : a + suc i ≡ (a + 1) + i = omega arith in subst (λ n. f n ≡ g (get_or xs i d)) more (e (suc i) (omega arith))))
+
+-- an item of a list, by its place
+
+pub item_at : {A : Type 0} (xs : List A) (at : ℕ) (r e : A) → at < length xs → r ≡ get_or xs at r → r ≡ e → slice_get xs at ≡ Some e
+item_at xs at r e lt is same = slice_get-get_or xs at r lt ∙ ap Some (sym is ∙ same)
+
+module _ {view : WorldView} {events : List Event} (led : LedTo view events) where
+  -- the tables that regions keep are those of the report
+  pub tables_are : map (λ (n : Node). shown n.here.table) view.state.nodes ≡ tables_of view.cluster view.workload events
+  tables_are = subst (λ (w : World). map (λ (n : Node). shown n.here.table) w.nodes ≡ tables_of view.cluster view.workload events) (sym led.reached)
+      (sym (subst (λ m. map (λ region. shown (region_table view.cluster view.workload events region)) (range_with_len 0 m) ≡ map (λ (n : Node). shown n.here.table) (world_after view.cluster view.workload events).nodes) many
+      (by_number (λ region. shown (region_table view.cluster view.workload events region)) (λ (n : Node). shown n.here.table) (world_after view.cluster view.workload events).nodes 0 no_node
+      (λ i lt. let same : 0 + i ≡ i = omega arith in subst (λ r. shown (region_table view.cluster view.workload events r) ≡ shown (node_at (world_after view.cluster view.workload events) i).here.table) (sym same)
+      (ap shown (sym ((legal_agree view.cluster led.valid view.workload led.fits events led.legal).tables i (subst (λ m. i < m) many lt))))))))
+    where
+      many : length (world_after view.cluster view.workload events).nodes ≡ view.cluster.regions
+      many = (legal_keeps view.cluster led.valid view.workload led.fits events led.legal).nodes
+
+  pub outcomes_are : AllIn (λ (r : Ran). IsOutcomeOf view.cluster.regions view.state r.id r.outcome) (rans_of view.cluster view.workload events)
+  outcomes_are = subst (λ w. AllIn (λ (r : Ran). IsOutcomeOf view.cluster.regions w r.id r.outcome) (rans_of view.cluster view.workload events)) (sym led.reached)
+      (outcomes_kept view.cluster led.valid view.workload led.fits events led.legal)
+
+  -- what an execution adds to the order
+
+  module _ (at : ℕ) (region : ℕ) (id : TxnId) (item : slice_get events at ≡ Some (Execute region id)) where
+    pub note_region : region < view.cluster.regions
+    note_region = (executed_at view.cluster led.valid view.workload led.fits events led.legal at region id item).0
+
+    pub note_executed : IsExecutedAt view.state region id
+    note_executed = subst (λ w. IsExecutedAt w region id) (sym led.reached) (executed_at view.cluster led.valid view.workload led.fits events led.legal at region id item).1
+
+    module _ (keys new : List TxnId) (before : keys ≡ order_of (take at events)) (inserted : new ≡ cond (is_among keys id) keys (keys ++ id ∷ [])) where
+      pub seen_new : is_among keys id ≡ false → new ≡ order_of (take (at + 1) events)
+      seen_new absent = inserted ∙ ap (λ b. cond b keys (keys ++ id ∷ [])) absent ∙ ap (λ l. l ++ id ∷ []) before
+          ∙ sym (order_new view.cluster led.valid view.workload led.fits events led.legal at region id item (subst (λ l. is_among l id ≡ false) before absent))
+
+      pub seen_again : is_among keys id ≡ true → new ≡ order_of (take (at + 1) events)
+      seen_again there = inserted ∙ ap (λ b. cond b keys (keys ++ id ∷ [])) there ∙ before ∙ sym (order_again view.cluster led.valid view.workload led.fits events led.legal at region id item (subst (λ l. is_among l id ≡ true) before there))
+
+      pub rans_again : is_among keys id ≡ true → rans_at view events at ≡ rans_at view events (at + 1)
+      rans_again there = ap (filter_map (ran_of view.cluster view.workload events)) (sym (order_again view.cluster led.valid view.workload led.fits events led.legal at region id item (subst (λ l. is_among l id ≡ true) before there)))
+
+      pub rans_new : is_among keys id ≡ false → (r : Ran) → ran_at view.state region id ≡ Some r → rans_at view events at ++ r ∷ [] ≡ rans_at view events (at + 1)
+      rans_new absent r is = sym (rans_more view.cluster led.valid view.workload led.fits events led.legal at region id r item (subst (λ l. is_among l id ≡ false) before absent) (subst (λ w. ran_at w region id ≡ Some r) led.reached is))
+
+  pub seen_other : (at : ℕ) (event : Event) → slice_get events at ≡ Some event → executed_id event ≡ None → order_of (take at events) ≡ order_of (take (at + 1) events)
+  seen_other at event item none = sym (order_other view.cluster led.valid view.workload led.fits events led.legal at event item none)
+
+  -- what is followed
+
+  legal_split : (at : ℕ) (event : Event) → slice_get events at ≡ Some event → AreLegal view.cluster view.workload (take at events ++ event ∷ drop (at + 1) events)
+  legal_split at event item = subst (AreLegal view.cluster view.workload) (split_at events at event item).0 led.legal
+
+  -- an event that neither submits nor answers
+
+  pub plain_replies : (at : ℕ) (event : Event) → slice_get events at ≡ Some event → answered_session view.workload (world_after view.cluster view.workload (take at events)) event ≡ None
+      → replies_at view events at ≡ replies_at view events (at + 1)
+  plain_replies at event item none = sym (
+      ap (replies_from view.cluster view.workload events (opening_world view.cluster view.workload)) (split_at events at event item).1
+      ∙ replies_more view.cluster view.workload events (opening_world view.cluster view.workload) (take at events) event
+      ∙ ap (λ o. replies_from view.cluster view.workload events (opening_world view.cluster view.workload) (take at events) ++ option_to_list (reply_for view.cluster view.workload events o)) none
+      ∙ append-nil (replies_at view events at))
+
+  plain_course : (at : ℕ) (event : Event) → slice_get events at ≡ Some event → ((w : World) → replay_of (next view.cluster view.workload w event) ≡ replay_of w) → replay_at view events at ≡ replay_at view events (at + 1)
+  plain_course at event item same = sym (ap (λ l. replay_of (world_after view.cluster view.workload l)) (split_at events at event item).1 ∙ ap replay_of (world_after_more view.cluster view.workload (take at events) event)
+      ∙ same (world_after view.cluster view.workload (take at events)))
+
+  pub plain_event : (at : ℕ) (event : Event) → slice_get events at ≡ Some event → ((region : ℕ) (name : Bytes) → event ≢ Submit region name) → ((region : ℕ) (name : Bytes) → event ≢ Answer region name)
+      → (replay_at view events at ≡ replay_at view events (at + 1)) × (replies_at view events at ≡ replies_at view events (at + 1))
+  plain_event at (Submit region name) item a b = absurd (a region name refl)
+  plain_event at (Append home source number) item a b = (plain_course at (Append home source number) item (λ w. append_same view.cluster view.workload w home source number), plain_replies at (Append home source number) item refl)
+  plain_event at (Deliver region home first last) item a b = (
+    plain_course at (Deliver region home first last) item (λ w. deliver_same view.cluster view.workload w region home first last),
+    plain_replies at (Deliver region home first last) item refl,
+  )
+  plain_event at (Insert region home) item a b = (plain_course at (Insert region home) item (λ w. insert_same view.cluster view.workload w region home), plain_replies at (Insert region home) item refl)
+  plain_event at (Resolve region ids) item a b = (plain_course at (Resolve region ids) item (λ w. resolve_same view.cluster view.workload w region ids), plain_replies at (Resolve region ids) item refl)
+  plain_event at (Execute region id) item a b = (plain_course at (Execute region id) item (λ w. execute_same view.cluster view.workload w region id), plain_replies at (Execute region id) item refl)
+  plain_event at (Answer region name) item a b = absurd (b region name refl)
+
+  -- a submission
+
+  module _ (at : ℕ) (region : ℕ) (name : Bytes) (item : slice_get events at ≡ Some (Submit region name)) where
+    pub follow_somewhere : ¬ (position (is_session region name) view.workload.sessions ≡ None)
+    follow_somewhere = submit_somewhere view.cluster led.valid view.workload led.fits (take at events) (drop (at + 1) events) region name (legal_split at (Submit region name) item)
+
+    module _ (place : ℕ) (found : position (is_session region name) view.workload.sessions ≡ Some place) (course : SessionReplayView) (is : course ≡ replay_at view events at) where
+      pub follow_place : place < length course.waits
+      follow_place = subst (λ (c : SessionReplayView). place < length c.waits) (sym is)
+          (submit_place view.cluster led.valid view.workload led.fits (take at events) (drop (at + 1) events) region name (legal_split at (Submit region name) item) place found)
+
+      pub follow_region : region < length course.submitted
+      follow_region = subst (λ (c : SessionReplayView). region < length c.submitted) (sym is)
+          (submit_region view.cluster led.valid view.workload led.fits (take at events) (drop (at + 1) events) region name (legal_split at (Submit region name) item) place found)
+
+      pub follow_few : count_at course region + 1 ≤ length (node_at view.state region).submitted
+      follow_few = subst (λ (c : SessionReplayView). count_at c region + 1 ≤ length (node_at view.state region).submitted) (sym is)
+          (subst (λ w. count_at (replay_at view events at) region + 1 ≤ length (node_at w region).submitted) (ap (world_after view.cluster view.workload) (sym (split_at events at (Submit region name) item).0) ∙ sym led.reached)
+          (submit_few view.cluster led.valid view.workload led.fits (take at events) (drop (at + 1) events) region name (legal_split at (Submit region name) item) place found))
+
+      pub follow_submitted : after_submission course place region ≡ replay_at view events (at + 1)
+      follow_submitted = ap (λ c. after_submission c place region) is
+          ∙ sym (submit_follows view.cluster led.valid view.workload led.fits (take at events) (drop (at + 1) events) region name (legal_split at (Submit region name) item) place found)
+          ∙ ap (λ l. replay_of (world_after view.cluster view.workload l)) (sym (split_at events at (Submit region name) item).1)
+
+  -- an answer
+
+  module _ (at : ℕ) (region : ℕ) (name : Bytes) (item : slice_get events at ≡ Some (Answer region name)) where
+    pub reply_somewhere : ¬ (position (is_session region name) view.workload.sessions ≡ None)
+    reply_somewhere = answer_somewhere view.cluster led.valid view.workload led.fits (take at events) (drop (at + 1) events) region name (legal_split at (Answer region name) item)
+
+    module _ (place : ℕ) (found : position (is_session region name) view.workload.sessions ≡ Some place) (course : SessionReplayView) (is : course ≡ replay_at view events at) where
+      pub reply_region : region < view.cluster.regions
+      reply_region = answer_region view.cluster led.valid view.workload led.fits (take at events) (drop (at + 1) events) region name (legal_split at (Answer region name) item) place found
+
+      pub reply_place : place < length course.waits
+      reply_place = subst (λ (c : SessionReplayView). place < length c.waits) (sym is)
+          (answer_place view.cluster led.valid view.workload led.fits (take at events) (drop (at + 1) events) region name (legal_split at (Answer region name) item) place found)
+
+      pub reply_waits : ¬ (wait_at course place ≡ None)
+      reply_waits e = answer_waits view.cluster led.valid view.workload led.fits (take at events) (drop (at + 1) events) region name (legal_split at (Answer region name) item) place found
+          (subst (λ (c : SessionReplayView). wait_at c place ≡ None) is e)
+
+      pub reply_followed : after_reply course place ≡ replay_at view events (at + 1)
+      reply_followed = ap (λ c. after_reply c place) is
+          ∙ sym (answer_follows view.cluster led.valid view.workload led.fits (take at events) (drop (at + 1) events) region name (legal_split at (Answer region name) item) place found)
+          ∙ ap (λ l. replay_of (world_after view.cluster view.workload l)) (sym (split_at events at (Answer region name) item).1)
+
+      module _ (id : TxnId) (waits : wait_at course place ≡ Some id) where
+        waits_then : wait_at (replay_at view events at) place ≡ Some id
+        waits_then = subst (λ (c : SessionReplayView). wait_at c place ≡ Some id) is waits
+
+        pub reply_own : id.region ≡ region
+        reply_own = answer_own view.cluster led.valid view.workload led.fits (take at events) (drop (at + 1) events) region name (legal_split at (Answer region name) item) place found id waits_then
+
+        the_end : view.state ≡ world_after view.cluster view.workload (take at events ++ Answer region name ∷ drop (at + 1) events)
+        the_end = led.reached ∙ ap (world_after view.cluster view.workload) (split_at events at (Answer region name) item).0
+
+        pub reply_executed : IsExecutedAt view.state region id
+        reply_executed = subst (λ w. IsExecutedAt w region id) (sym the_end)
+            (answer_executed view.cluster led.valid view.workload led.fits (take at events) (drop (at + 1) events) region name (legal_split at (Answer region name) item) place found id waits_then)
+
+        pub reply_added : (reply : Reply) → IsReply view.state region name id reply → replies_at view events at ++ reply ∷ [] ≡ replies_at view events (at + 1)
+        reply_added reply r =
+            let added : replies_from view.cluster view.workload (take at events ++ Answer region name ∷ drop (at + 1) events) (opening_world view.cluster view.workload) (take at events ++ Answer region name ∷ []) ≡ replies_from
+            view.cluster view.workload (take at events ++ Answer region name ∷ drop (at + 1) events) (opening_world view.cluster view.workload) (take at events) ++ reply ∷ [] =
+            answer_replies view.cluster led.valid view.workload led.fits (take at events) (drop (at + 1) events) region name (legal_split at (Answer region name) item) place found id waits_then reply
+            (subst (λ w. IsReply w region name id reply) the_end r) in
+            sym (subst₂ (λ (all now : List Event). replies_from view.cluster view.workload all (opening_world view.cluster view.workload) now ≡ replies_from view.cluster view.workload all (opening_world view.cluster view.workload)
+            (take at events) ++ reply ∷ []) (sym (split_at events at (Answer region name) item).0) (sym (split_at events at (Answer region name) item).1) added)
+
+-- all replies are of what regions keep
+
+module _ (cluster : Cluster) (ok : IsValidCluster cluster) (workload : Workload) (fits : IsValidWorkload cluster workload) (events : List Event) (legal : AreLegal cluster workload events) where
+  one_kept : (xs ys : List Event) (event : Event) → events ≡ xs ++ event ∷ ys
+      → AllIn (IsReplyOf cluster.regions (world_after cluster workload events)) (option_to_list (reply_for cluster workload events (answered_session workload (world_after cluster workload xs) event)))
+  one_kept xs ys (Submit region name) e = tt
+  one_kept xs ys (Append home source number) e = tt
+  one_kept xs ys (Deliver region home first last) e = tt
+  one_kept xs ys (Insert region home) e = tt
+  one_kept xs ys (Resolve region ids) e = tt
+  one_kept xs ys (Execute region id) e = tt
+  one_kept xs ys (Answer region name) e = subst (λ all. AllIn (IsReplyOf cluster.regions (world_after cluster workload all))
+      (option_to_list (reply_for cluster workload all (answered_session workload (world_after cluster workload xs) (Answer region name))))) (sym e)
+      (by (position (is_session region name) workload.sessions) refl)
+    where
+      l : AreLegal cluster workload (xs ++ Answer region name ∷ ys)
+      l = subst (AreLegal cluster workload) e legal
+
+      one : (o : Option Reply) → ((reply : Reply) → o ≡ Some reply → IsReplyOf cluster.regions (world_after cluster workload (xs ++ Answer region name ∷ ys)) reply)
+          → AllIn (IsReplyOf cluster.regions (world_after cluster workload (xs ++ Answer region name ∷ ys))) (option_to_list o)
+      one None f = tt
+      one (Some reply) f = (f reply refl, tt)
+
+      waiting : (place : ℕ) → position (is_session region name) workload.sessions ≡ Some place → (o : Option TxnId) → wait_at (replay_of (world_after cluster workload xs)) place ≡ o
+          → AllIn (IsReplyOf cluster.regions (world_after cluster workload (xs ++ Answer region name ∷ ys)))
+          (option_to_list (reply_for cluster workload (xs ++ Answer region name ∷ ys) (answered_session workload (world_after cluster workload xs) (Answer region name))))
+      waiting place found None w = absurd (answer_waits cluster ok workload fits xs ys region name l place found w)
+      waiting place found (Some id) w = one _ (λ reply is. answer_kept cluster ok workload fits xs ys region name l place found id w reply is)
+
+      by : (o : Option ℕ) → position (is_session region name) workload.sessions ≡ o
+          → AllIn (IsReplyOf cluster.regions (world_after cluster workload (xs ++ Answer region name ∷ ys)))
+          (option_to_list (reply_for cluster workload (xs ++ Answer region name ∷ ys) (answered_session workload (world_after cluster workload xs) (Answer region name))))
+      by None f = absurd (answer_somewhere cluster ok workload fits xs ys region name l f)
+      by (Some place) f = waiting place f (wait_at (replay_of (world_after cluster workload xs)) place) refl
+
+  pub replies_kept : AllIn (IsReplyOf cluster.regions (world_after cluster workload events)) (replies_of cluster workload events)
+  replies_kept = from_right (λ xs. (ys : List Event) → events ≡ xs ++ ys → AllIn (IsReplyOf cluster.regions (world_after cluster workload events)) (replies_from cluster workload events (opening_world cluster workload) xs))
+      (λ ys e. tt)
+      (λ xs event keeps ys e. subst (AllIn (IsReplyOf cluster.regions (world_after cluster workload events))) (sym (replies_more cluster workload events (opening_world cluster workload) xs event))
+      (all_append (IsReplyOf cluster.regions (world_after cluster workload events)) (replies_from cluster workload events (opening_world cluster workload) xs) _
+      (keeps (event ∷ ys) (e ∙ append_assoc xs (event ∷ []) ys)) (one_kept xs ys event (e ∙ append_assoc xs (event ∷ []) ys))))
+      events [] (sym (append-nil events))
+
+pub replies_are : {view : WorldView} {events : List Event} → LedTo view events → AllIn (IsReplyOf view.cluster.regions view.state) (replies_of view.cluster view.workload events)
+replies_are {view} {events} led = subst (λ w. AllIn (IsReplyOf view.cluster.regions w) (replies_of view.cluster view.workload events)) (sym led.reached)
+    (replies_kept view.cluster led.valid view.workload led.fits events led.legal)
+
+-- loops that are done
+
+pub order_whole : (view : WorldView) (events : List Event) (at : ℕ) (o : List Ran) → at ≤ length events → length events ≤ at → o ≡ rans_at view events at → o ≡ rans_of view.cluster view.workload events
+order_whole view events at o le ge e = let same : at ≡ length events = omega arith in e ∙ ap (rans_at view events) same ∙ ap (λ l. filter_map (ran_of view.cluster view.workload events) (order_of l)) (take-length events)
+
+pub replies_whole : (view : WorldView) (events : List Event) (at : ℕ) (o : List Reply) → at ≤ length events → length events ≤ at → o ≡ replies_at view events at → o ≡ replies_of view.cluster view.workload events
+replies_whole view events at o le ge e = let same : at ≡ length events = omega arith in e ∙ ap (replies_at view events) same
+    ∙ ap (replies_from view.cluster view.workload events (opening_world view.cluster view.workload)) (take-length events)
+
+-- a course begins with the opening world
+
+no_waits : (sessions : List Session) → replicate {A = Option TxnId} (length sessions) None ≡ map (λ (p : Place). p.waits) (map (λ (s : Session). idle_place) sessions)
+no_waits [] = refl
+no_waits (s ∷ sessions) = ap (λ l. None ∷ l) (no_waits sessions)
+
+no_counts : (n : ℕ) (x : Node) → length x.submitted ≡ 0 → replicate n 0 ≡ map (λ (y : Node). length y.submitted) (replicate n x)
+no_counts zero x e = refl
+no_counts (suc n) x e = ap₂ (λ (a : ℕ) (l : List ℕ). a ∷ l) (sym e) (no_counts n x e)
+
+pub course_begins : (cluster : Cluster) (workload : Workload) → ◌≡◌ {A = SessionReplayView} (record { waits = replicate (length workload.sessions) None; submitted = replicate cluster.regions 0 }) (replay_of (opening_world cluster workload))
+course_begins cluster workload = ap₂ (λ (a : List (Option TxnId)) (b : List ℕ). record { waits = a; submitted = b }) (no_waits workload.sessions) (no_counts cluster.regions (opening_node cluster.regions (opening_table cluster)) refl)
+
+-- small steps
+
+pub not_execution : (event : Event) → ((region : ℕ) (id : TxnId) → event ≡ Execute region id → ⊥) → executed_id event ≡ None
+not_execution (Submit region name) n = refl
+not_execution (Append home source number) n = refl
+not_execution (Deliver region home first last) n = refl
+not_execution (Insert region home) n = refl
+not_execution (Resolve region ids) n = refl
+not_execution (Execute region id) n = absurd (n region id refl)
+not_execution (Answer region name) n = refl
+
+pub absent_of : (b c : Bool) → b ≡ true → b ≡ not c → c ≡ false
+absent_of b true e f = cc
+absent_of b false e f = refl
+
+pub present_of : (b c : Bool) → b ≡ false → b ≡ not c → c ≡ true
+present_of b true e f = refl
+present_of b false e f = cc
+
+pub on_ok : {T E : Type 0} (P : Type 0) (r : Result T E) → P → OnOk r P
+on_ok P (Ok x) p = p
+on_ok P (Err e) p = tt
+
+pub on_ok_map : {T E : Type 0} (P Q : Type 0) (r : Result T E) → (P → Q) → OnOk r P → OnOk r Q
+on_ok_map P Q (Ok x) f p = f p
+on_ok_map P Q (Err e) f p = tt
+
+pub ran_found : (w : World) (region : ℕ) (id : TxnId) (s : Submission) (o : Outcome) → submission_of w id ≡ Some s → outcome_at w region id ≡ Some o → ran_at w region id ≡ Some (ran id s o)
+ran_found w region id s o e f = ap₂ (λ x y. option_and_then (λ z. option_map (ran id z) y) x) e f

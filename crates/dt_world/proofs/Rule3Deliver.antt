@@ -1,0 +1,81 @@
+-- Rule 3 in a world: the entries are taken from the home's site, from the delivery's own first place on, and handed to the
+-- site of the region.
+use Rattle.std.proofs.Common.{◌≡◌, ◌≢◌, ◌<◌, ◌≤◌, ◌+◌, ℕ, zero, suc, Bool, true, false, List, [], ◌∷◌, ◌++◌, length, map, set, take, drop, slice_get, Ok, Some, refl, sym, ap, ap₂, subst, ◌∙◌, arith}
+use Rattle.std.proofs.lemmas.List.{length-take-le, map_push, take_more}
+use Rattle.std.proofs.lemmas.Option.{get_or_from_slice_get}
+use Rattle.dt_lists.specs.Lists.{AllIn}
+use Rattle.dt_lists.proofs.Callers.{place_within, all_map}
+use Rattle.dt_access.specs.declared.Part.{Part}
+use Rattle.dt_log.specs.declared.Taken.{Taken}
+use Rattle.dt_sched.specs.Views.{log_at}
+use Rattle.dt_sched.specs.Sched.{parts_in}
+use Rattle.dt_events.specs.declared.Event.TheVariants.{Deliver}
+use Rattle.dt_txn.specs.declared.Entry.{Entry}
+use Rattle.dt_region.specs.Region.{RegionView, held}
+use Rattle.dt_region.specs.Conditions.{CanDeliver}
+use Rattle.dt_region.specs.Rules.{MakesDelivery}
+use Rattle.dt_region.specs.Sound.{IsSoundRegion}
+use Rattle.dt_cluster.specs.declared.Cluster.{Cluster}
+use Rattle.dt_session.specs.World.{log_of, logs_of, txn_of}
+use Rattle.dt_session.specs.Step.{IsLegal}
+use Rattle.dt_site.specs.declared.Origin.{Origin}
+use Rattle.dt_site.specs.Site.{SiteView, in_region}
+use Rattle.dt_site.proofs.Callers.{apart, can_deliver, deliver_legal, deliver_made, deliver_still, has_received, joins, own_log}
+use Rattle.dt_world.specs.Seats.{SeatsView}
+use Rattle.dt_world.specs.WorldInner.{IsLawful, site_at, world_of}
+use Rattle.dt_world.proofs.WorldLaws.{IsBehind, IsMade, short, step_made, still_made}
+
+module _ {cluster : Cluster} {seats : SeatsView} {sites : List SiteView} {steps : ℕ} (k : IsLawful cluster seats sites steps) {region home first last : ℕ} (lr : region < cluster.regions) (lh : home < cluster.regions)
+    (ordered : first ≤ last) (reaches : last ≤ length (log_at (site_at sites home).region.state.logs home)) where
+  home_log : log_at (site_at sites home).region.state.logs home ≡ log_of (world_of sites seats.places) home
+  home_log = own_log k.reached (k.stands home lh)
+
+  within : last ≤ length (log_of (world_of sites seats.places) home)
+  within = subst (λ l. last ≤ length l) home_log reaches
+
+  -- a delivery that does not join
+  pub deliver_none : joins (length (log_at (site_at sites region).region.state.logs home)) first last ≡ false → IsMade cluster seats sites steps (Deliver region home first last) seats sites
+  deliver_none off = still_made k (Deliver region home first last) (deliver_legal k.reached lr (k.stands region lr) lh first last ordered within)
+      (deliver_still k.reached lr (k.stands region lr) lh first last ordered within off)
+      (subst (λ n. joins n first last ≡ false) (has_received k.reached lr (k.stands region lr) lh) off)
+
+  -- one that joins, of entries of the home's log
+
+  module _ (on : joins (length (log_at (site_at sites region).region.state.logs home)) first last ≡ true) (entries : List Entry)
+      (parts : map (λ e. e.part) entries ≡ drop first (take last (log_at (site_at sites home).region.state.logs home))) (txns : AllIn (λ e. held (site_at sites home).region.state e.part.id ≡ Some e.txn) entries)
+      {r : RegionView} {origins : List Origin} (b : IsBehind sites region r origins) where
+    parts_are : map (λ e. e.part) entries ≡ drop first (take last (log_of (world_of sites seats.places) home))
+    parts_are = parts ∙ ap (λ l. drop first (take last l)) home_log
+
+    found : AllIn (λ e. txn_of (world_of sites seats.places) e.part.id ≡ Some e.txn) entries
+    found = all_map _ _ entries (λ e h. (k.stands home lh).known e.part.id e.txn h) txns
+
+    pub can_take : steps < 4294967296 → CanDeliver r.state home first entries
+    can_take few = subst (λ x. CanDeliver x.state home first entries) (sym b.region_is)
+        (can_deliver k.reached lr (k.stands region lr) lh first last ordered within entries parts_are found (apart k.reached lr (k.stands region lr) lh first last ordered within on)
+        (omega (arith, (short k).parts, few)))
+
+    pub deliver_done : (later : RegionView) (t : Taken) → MakesDelivery r home first entries (Ok t) later → IsSoundRegion later.state
+        → IsMade cluster seats sites steps (Deliver region home first last) seats (set sites region (record { region = later; origins = origins }))
+    deliver_done later t m sound =
+        let m' = subst (λ x. MakesDelivery x home first entries (Ok t) later) b.region_is m in
+        subst (λ q. IsMade cluster seats sites steps (Deliver region home first last) seats (set sites region q)) (sym (b.site_is later))
+        (step_made k (Deliver region home first last) lr (deliver_made k.reached lr (k.stands region lr) lh first last ordered within entries parts_are found on later t m' sound) refl
+        (subst (λ n. joins n first last ≡ true) (has_received k.reached lr (k.stands region lr) lh) on))
+
+-- the entries of a log, one more at a time
+
+drop_push : {A : Type 0} (n : ℕ) (xs : List A) (y : A) → n ≤ length xs → drop n (xs ++ y ∷ []) ≡ drop n xs ++ y ∷ []
+drop_push zero xs y le = refl
+drop_push (suc n) [] y le = absurd (omega arith)
+drop_push (suc n) (x ∷ xs) y le = drop_push n xs y (omega arith)
+
+pub entries_more : (log : List Part) (first place : ℕ) (items new : List Entry) (e : Entry) → first ≤ place → slice_get log place ≡ Some e.part → map (λ x. x.part) items ≡ drop first (take place log)
+    → new ≡ items ++ e ∷ [] → map (λ x. x.part) new ≡ drop first (take (place + 1) log)
+entries_more log first place items new e le at before is =
+    let lt : place < length log = place_within log place e.part at in
+    let long : length (take place log) ≡ place = length-take-le place log (omega arith) in
+    ap (map (λ x. x.part)) is ∙ map_push (λ x. x.part) items e ∙ ap (λ l. l ++ e.part ∷ []) before
+    ∙ sym (drop_push first (take place log) e.part (omega arith))
+    ∙ ap (λ x. drop first (take place log ++ x ∷ [])) (sym (get_or_from_slice_get log place e.part e.part at))
+    ∙ ap (drop first) (sym (take_more log place e.part lt))

@@ -1,0 +1,139 @@
+-- What the type of a world keeps: what follows of it, and how it stays so when one site steps.
+use Rattle.std.proofs.Common.{◌≡◌, ◌≢◌, ◌<◌, ◌≤◌, ◌+◌, ◌==◌, ℕ, zero, suc, Bool, true, false, cond, List, [], ◌∷◌, ◌++◌, length, map, get_or, set, refl, sym, ap, ap₂, subst, ◌∙◌, inl, inr, arith}
+use Rattle.std.proofs.lemmas.List.{length-map, length_push, map-set, get_or-set_same, get_or-set_other}
+use Rattle.dt_lists.specs.Lists.{Either}
+use Rattle.dt_lists.proofs.Callers.{either_nat, get_of_map}
+use Rattle.dt_sched.specs.Sched.{parts_in}
+use Rattle.dt_events.specs.Events.{region_of}
+use Rattle.dt_events.specs.declared.Event.{Event}
+use Rattle.dt_region.specs.Region.{RegionView}
+use Rattle.dt_region.specs.Rules.{with_event}
+use Rattle.dt_cluster.specs.declared.Cluster.{Cluster}
+use Rattle.dt_cluster.specs.Valid.{IsValidCluster}
+use Rattle.dt_workload.specs.declared.Workload.{Workload}
+use Rattle.dt_workload.specs.Valid.{IsValidWorkload}
+use Rattle.dt_session.specs.World.{World, Place, logs_of, node_at}
+use Rattle.dt_session.specs.Step.{IsLegal, next}
+use Rattle.dt_session.specs.Run.{AreLegal, world_after}
+use Rattle.dt_site.specs.declared.Origin.{Origin}
+use Rattle.dt_site.specs.Site.{SiteView, in_region, no_site, node_of}
+use Rattle.dt_site.specs.StandsIn.{IsReached, StandsIn}
+use Rattle.dt_site.proofs.Callers.{IsShort, Steps, after_more, inv, legal_short, many_here, others_stand, run_more}
+use Rattle.dt_world.specs.Seats.{SeatsView}
+use Rattle.dt_world.specs.SessionReplay.{LedTo}
+use Rattle.dt_world.specs.WorldInner.{IsLawful, site_at, view_in, world_of}
+use Rattle.dt_world.specs.WorldView.{WorldView, kept_next, made, takes_effect}
+
+-- the event was legal, and these sessions and sites are what it makes
+pub record IsMade (cluster : Cluster) (seats : SeatsView) (sites : List SiteView) (steps : ℕ) (event : Event) (later : SeatsView) (after : List SiteView) : Type 0 where
+  pub legal : IsLegal cluster seats.workload (world_of sites seats.places) event
+  pub lawful : IsLawful cluster later after (steps + 1)
+  pub is : view_in cluster later after (steps + 1) ≡ made (view_in cluster seats sites steps) event
+
+-- so it is for the world as it was seen before
+pub made_before : {cluster : Cluster} {seats : SeatsView} {sites : List SiteView} {steps : ℕ} {event : Event} {later : SeatsView} {after : List SiteView} {now : WorldView}
+    → view_in cluster seats sites steps ≡ now → IsMade cluster seats sites steps event later after
+    → IsLegal now.cluster now.workload now.state event × (view_in cluster later after (steps + 1) ≡ made now event)
+made_before {cluster} {seats} {sites} {steps} {event} {later} {after} {now} view m =
+    subst (λ v. IsLegal v.cluster v.workload v.state event × (view_in cluster later after (steps + 1) ≡ made v event)) view (m.legal, m.is)
+
+-- a site that was taken out of the list is the one at that place
+pub read_at : (sites : List SiteView) (region : ℕ) (p : SiteView) → region < length sites → p ≡ get_or sites region p → p ≡ site_at sites region
+read_at [] region p lt e = absurd (omega arith)
+read_at (x ∷ sites) zero p lt e = e
+read_at (x ∷ sites) (suc region) p lt e = read_at sites region p (omega arith) e
+
+module _ {cluster : Cluster} {seats : SeatsView} {sites : List SiteView} {steps : ℕ} (k : IsLawful cluster seats sites steps) where
+  pub many_sites : length sites ≡ cluster.regions
+  many_sites = sym (length-map sites node_of) ∙ (inv k.reached).nodes
+
+  pub a_site : {region : ℕ} → region < cluster.regions → region < length sites
+  a_site {region} lr = subst (λ n. region < n) (sym many_sites) lr
+
+  pub node_is : (q : ℕ) → node_at (world_of sites seats.places) q ≡ node_of (site_at sites q)
+  node_is q = get_of_map node_of sites q no_site
+
+  -- the lists of the world are short
+  pub short : IsShort (world_of sites seats.places) steps
+  short = subst (λ w. IsShort w steps) (sym k.reached.after)
+      (subst (IsShort _) k.many (legal_short cluster k.reached.run.sound seats.workload k.reached.run.fits k.reached.events k.reached.run.legal))
+
+  pub submitted_few : {region : ℕ} → region < cluster.regions → length (site_at sites region).region.state.submitted ≤ steps
+  submitted_few {region} lr = subst (λ n. n ≤ steps) (many_here k.reached (k.stands region lr)) (short.submitted region)
+
+  kept_stays : (event : Event) (region : ℕ) (q : SiteView) → region_of event ≡ region → q.region.events ≡ (site_at sites region).region.events ++ event ∷ [] → takes_effect (world_of sites seats.places) event ≡ true
+      → map (λ p. p.region.events) (set sites region q) ≡ kept_next (world_of sites seats.places) (map (λ p. p.region.events) sites) event
+  kept_stays event region q of kept effect =
+      map-set (λ p. p.region.events) sites region q
+      ∙ ap (set (map (λ p. p.region.events) sites) region) (kept ∙ ap (λ l. l ++ event ∷ []) (sym (get_of_map (λ p. p.region.events) sites region no_site)))
+      ∙ ap (λ r. set (map (λ p. p.region.events) sites) r (get_or (map (λ p. p.region.events) sites) r [] ++ event ∷ [])) (sym of)
+      ∙ sym (ap (λ b. cond b (set (map (λ p. p.region.events) sites) (region_of event) (get_or (map (λ p. p.region.events) sites) (region_of event) [] ++ event ∷ [])) (map (λ p. p.region.events) sites)) effect)
+
+  -- one site steps
+
+  pub step_made : (event : Event) {region : ℕ} → region < cluster.regions → {q : SiteView} {places : List Place} → Steps cluster seats.workload (world_of sites seats.places) event region (site_at sites region) q places
+      → region_of event ≡ region → takes_effect (world_of sites seats.places) event ≡ true → IsMade cluster seats sites steps event (record seats { places = places }) (set sites region q)
+  step_made event {region} lr {q} {places} s of effect = record {
+    legal = s.legal;
+    lawful = record {
+      reached = record {
+        events = k.reached.events ++ event ∷ [];
+        run = run_more k.reached event s.legal;
+        after = is ∙ after_more k.reached event;
+      };
+      many = length_push k.reached.events event ∙ ap (λ n. n + 1) k.many;
+      stands = λ r lq. subst (λ w. StandsIn cluster.regions w r (site_at (set sites region q) r)) (sym is) (at r lq (either_nat r region));
+    };
+    is = ap₂ (λ w (l : List (List Event)). record { cluster = cluster; workload = seats.workload; state = w; kept = l; steps = steps + 1 }) is (kept_stays event region q of s.kept effect);
+  }
+    where
+      is : world_of (set sites region q) places ≡ next cluster seats.workload (world_of sites seats.places) event
+      is = ap (λ l. record { nodes = l; places = places }) (map-set node_of sites region q) ∙ sym s.is
+
+      at : (r : ℕ) → r < cluster.regions → Either (r ≡ region) → StandsIn cluster.regions (next cluster seats.workload (world_of sites seats.places) event) r (site_at (set sites region q) r)
+      at r lq (inl e) = subst (λ x. StandsIn cluster.regions (next cluster seats.workload (world_of sites seats.places) event) x (site_at (set sites region q) x)) (sym e)
+          (subst (λ x. StandsIn cluster.regions (next cluster seats.workload (world_of sites seats.places) event) region x) (sym (get_or-set_same sites region q no_site (a_site lr))) s.stands)
+      at r lq (inr n) = subst (λ x. StandsIn cluster.regions (next cluster seats.workload (world_of sites seats.places) event) r x) (sym (get_or-set_other sites region r q no_site n))
+          (others_stand k.reached s r n lq (site_at sites r) (k.stands r lq))
+
+  -- a legal event that takes no effect
+  pub still_made : (event : Event) → IsLegal cluster seats.workload (world_of sites seats.places) event → next cluster seats.workload (world_of sites seats.places) event ≡ world_of sites seats.places
+      → takes_effect (world_of sites seats.places) event ≡ false → IsMade cluster seats sites steps event seats sites
+  still_made event l same effect = record {
+    legal = l;
+    lawful = record {
+      reached = record {
+        events = k.reached.events ++ event ∷ [];
+        run = run_more k.reached event l;
+        after = sym same ∙ after_more k.reached event;
+      };
+      many = length_push k.reached.events event ∙ ap (λ n. n + 1) k.many;
+      stands = k.stands;
+    };
+    is = ap₂ (λ w (l : List (List Event)). record { cluster = cluster; workload = seats.workload; state = w; kept = l; steps = steps + 1 }) (sym same)
+        (sym (ap (λ b. cond b (set (map (λ p. p.region.events) sites) (region_of event) (get_or (map (λ p. p.region.events) sites) (region_of event) [] ++ event ∷ [])) (map (λ p. p.region.events) sites)) effect));
+  }
+
+-- the events of a report lead to the world
+pub led_by : {cluster : Cluster} {seats : SeatsView} {sites : List SiteView} {steps : ℕ} → IsLawful cluster seats sites steps → {now : WorldView} → view_in cluster seats sites steps ≡ now
+    → {events : List Event} → AreLegal now.cluster now.workload events → now.state ≡ world_after now.cluster now.workload events → LedTo now events
+led_by k view legal reached = record {
+  valid = subst (λ (v : WorldView). IsValidCluster v.cluster) view k.reached.run.sound;
+  fits = subst (λ (v : WorldView). IsValidWorkload v.cluster v.workload) view k.reached.run.fits;
+  legal = legal;
+  reached = reached;
+}
+
+-- a site that a call reached through the list, by its fields
+
+pub record IsBehind (sites : List SiteView) (region : ℕ) (r : RegionView) (origins : List Origin) : Type 0 where
+  pub region_is : r ≡ (site_at sites region).region
+  pub site_is : (later : RegionView) → record { region = later; origins = origins } ≡ in_region (site_at sites region) later
+
+pub behind : {sites : List SiteView} {region : ℕ} {p : SiteView} {r : RegionView} {origins : List Origin} → region < length sites → p ≡ get_or sites region p → record { region = r; origins = origins } ≡ p → IsBehind sites region r origins
+behind {sites} {region} {p} {r} {origins} lt value is =
+    let here : record { region = r; origins = origins } ≡ site_at sites region = is ∙ read_at sites region p lt value in
+    record {
+      region_is = ap (λ x. x.region) here;
+      site_is = λ later. ap (λ x. record { region = later; origins = x.origins }) here;
+    }

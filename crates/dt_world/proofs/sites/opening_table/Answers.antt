@@ -1,8 +1,0 @@
-use Rattle.std.proofs.Common.{sym, ap₂, subst, ◌∙◌}
-use Rattle.dt_region.specs.Conditions.{IsTableFor}
-use Rattle.dt_table.specs.Table.{opening}
-use Rattle.dt_world.proofs.Opened.{opening_is_for}
-use Rattle.dt_world.proofs.sites.opening_table.Goals as goal
-
-pub returns-clause-sized : goal.returns-clause-sized
-returns-clause-sized c = subst (IsTableFor c.args.cluster.now.regions) (sym (c.in_ok-new.ensures ∙ ap₂ (opening c.args.cluster.now.regions) c.as_slice.ensures c.as_slice-2.ensures)) (opening_is_for c.args.cluster.now c.requires)

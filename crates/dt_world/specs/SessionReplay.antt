@@ -1,0 +1,75 @@
+-- What a report follows of the events, one after another. A world does not keep who was answered when; so a report plays the
+-- events again, as far as they concern sessions: what each waits for, and how many attempts each region submitted. One learns
+-- here what is so followed, and what the report has after the first so many events.
+use Rattle.std.specs.Prelude.{◌≡◌, ◌+◌, ℕ, List, length, map, get_or, set, take, filter_map, Option, Some, None, option_map, option_and_then}
+use Rattle.dt_access.specs.Clash.{Bytes}
+use Rattle.dt_access.specs.declared.TxnId.{TxnId}
+use Rattle.dt_events.specs.declared.Event.{Event}
+use Rattle.dt_report.specs.declared.Ran.{Ran}
+use Rattle.dt_report.specs.declared.Reply.{Reply}
+use Rattle.dt_cluster.specs.Valid.{IsValidCluster}
+use Rattle.dt_workload.specs.Valid.{IsValidWorkload}
+use Rattle.dt_session.specs.World.{World, Submission, opening_world, outcome_at, submission_of}
+use Rattle.dt_session.specs.Run.{AreLegal, order_of, world_after}
+use Rattle.dt_world.specs.WorldView.{WorldView}
+use Rattle.dt_world.specs.WorldReport.{ran, ran_of, replies_from}
+
+-- what each session waits for, and how many attempts each region has submitted
+pub record SessionReplayView : Type 0 where
+  pub waits : List (Option TxnId)
+  pub submitted : List ℕ
+
+-- both in a world
+abbrev pub replay_of : World → SessionReplayView
+replay_of w = record { waits = map (λ p. p.waits) w.places; submitted = map (λ n. length n.submitted) w.nodes }
+
+-- how many attempts a region has submitted
+abbrev pub count_at : SessionReplayView → ℕ → ℕ
+count_at c region = get_or c.submitted region 0
+
+-- the id of the next attempt of a region
+abbrev pub next_in : SessionReplayView → ℕ → TxnId
+next_in c region = record { seq = count_at c region + 1; region = region }
+
+-- after a region submitted the attempt of a session, which waits for it
+abbrev pub after_submission : SessionReplayView → ℕ → ℕ → SessionReplayView
+after_submission c place region = record { waits = set c.waits place (Some (next_in c region)); submitted = set c.submitted region (count_at c region + 1) }
+
+-- after a session was answered
+abbrev pub after_reply : SessionReplayView → ℕ → SessionReplayView
+after_reply c place = record c { waits = set c.waits place None }
+
+-- what a session waits for
+abbrev pub wait_at : SessionReplayView → ℕ → Option TxnId
+wait_at c place = get_or c.waits place None
+
+-- these events lead to the world, of a valid cluster and workload
+pub record LedTo (view : WorldView) (events : List Event) : Type 0 where
+  pub valid : IsValidCluster view.cluster
+  pub fits : IsValidWorkload view.cluster view.workload
+  pub legal : AreLegal view.cluster view.workload events
+  pub reached : view.state ≡ world_after view.cluster view.workload events
+
+-- what is followed after the first so many of the events
+abbrev pub replay_at : WorldView → List Event → ℕ → SessionReplayView
+replay_at view events at = replay_of (world_after view.cluster view.workload (take at events))
+
+-- the replies that the first so many of the events give
+abbrev pub replies_at : WorldView → List Event → ℕ → List Reply
+replies_at view events at = replies_from view.cluster view.workload events (opening_world view.cluster view.workload) (take at events)
+
+-- the executed attempts of the first so many of the events, in the serial order
+abbrev pub rans_at : WorldView → List Event → ℕ → List Ran
+rans_at view events at = filter_map (ran_of view.cluster view.workload events) (order_of (take at events))
+
+-- an attempt with the outcome that a region keeps of it
+abbrev pub ran_at : World → ℕ → TxnId → Option Ran
+ran_at w region id = option_and_then (λ s. option_map (ran id s) (outcome_at w region id)) (submission_of w id)
+
+-- a reply to a session for this attempt: the number of its call, and the outcome that the region keeps of it
+pub record IsReply (w : World) (region : ℕ) (session : Bytes) (id : TxnId) (reply : Reply) : Type 0 where
+  pub submission : Submission
+  pub found : submission_of w id ≡ Some submission
+  pub session_is : reply.session ≡ session
+  pub call_is : reply.call ≡ submission.call
+  pub outcome_is : outcome_at w region id ≡ Some reply.outcome
