@@ -3,18 +3,14 @@ use Rattle.std.proofs.Common.{◌≡◌, ◌+◌, List, [], ◌∷◌, ◌++◌,
 use Rattle.dt_events.specs.declared.Event.{Event}
 use Rattle.dt_session.specs.Step.{IsLegal, next}
 use Rattle.dt_agreement.proofs.Callers.{more_legal, world_after_more}
-use Rattle.dt_world.specs.Kept.{Kept}
+use Rattle.dt_world.specs.WorldView.{WorldView, made}
 use Rattle.dt_test_world.specs.Led.{HasLed}
 
--- the view after a legal event
-abbrev after : Kept → Event → Kept
-after view event = record view { state = next view.cluster view.workload view.state event; steps = view.steps + 1 }
-
 -- a legal event more leads to the world after it
-pub led_more : (before view : Kept) (events : List Event) (event : Event) → HasLed before events
-    → IsLegal before.cluster before.workload before.state event → view ≡ after before event → HasLed view (events ++ event ∷ [])
+pub led_more : (before view : WorldView) (events : List Event) (event : Event) → HasLed before events
+    → IsLegal before.cluster before.workload before.state event → view ≡ made before event → HasLed view (events ++ event ∷ [])
 led_more before view events event led legal is =
-    let more : HasLed (after before event) (events ++ event ∷ []) = record {
+    let more : HasLed (made before event) (events ++ event ∷ []) = record {
       legal = more_legal before.cluster before.workload events event led.legal (subst (λ w. IsLegal before.cluster before.workload w event) led.reached legal);
       reached = ap (λ w. next before.cluster before.workload w event) led.reached ∙ sym (world_after_more before.cluster before.workload events event);
     } in

@@ -3,9 +3,9 @@
 use Rattle.std.specs.Prelude.{◌≡◌, List}
 use Rattle.dt_events.specs.declared.Event.{Event}
 use Rattle.dt_session.specs.Run.{AreLegal, world_after}
-use Rattle.dt_world.specs.Kept.{Kept}
+use Rattle.dt_world.specs.WorldView.{WorldView}
 
 -- these events lead to the world
-pub record HasLed (view : Kept) (events : List Event) : Type 0 where
+pub record HasLed (view : WorldView) (events : List Event) : Type 0 where
   pub legal : AreLegal view.cluster view.workload events
   pub reached : view.state ≡ world_after view.cluster view.workload events
