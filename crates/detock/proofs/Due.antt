@@ -13,11 +13,11 @@ use Rattle.dt_cluster.specs.declared.Cluster.{Cluster}
 use Rattle.dt_cluster.specs.declared.ClusterFault.{ClusterFault}
 use Rattle.dt_cluster.specs.Builtin.{builtin_cluster}
 use Rattle.dt_cluster.specs.Valid.{IsValidCluster}
-use Rattle.dt_cluster.proofs.OneCluster.{one_cluster, no_fault as no_cluster_fault, one_fault as one_cluster_fault}
-use Rattle.dt_cluster.proofs.FileValid.{cluster_valid, builtin_valid}
+use Rattle.dt_cluster.proofs.Callers.{one_cluster, no_fault as no_cluster_fault, one_fault as one_cluster_fault}
+use Rattle.dt_cluster.proofs.Callers.{cluster_valid, builtin_valid}
 use Rattle.dt_workload.specs.declared.Workload.{Workload}
 use Rattle.dt_workload.specs.declared.WorkloadCause.{WorkloadCause}
-use Rattle.dt_workload.proofs.OneFile.{one_workload, no_workload_fault, one_workload_fault}
+use Rattle.dt_workload.proofs.Callers.{one_workload, no_workload_fault, one_workload_fault}
 use Rattle.dt_session.specs.World.{World, opening_world}
 use Rattle.dt_session.specs.Step.{IsLegal, next, rule_of}
 use Rattle.dt_session.specs.Run.{AreLegal, AreLegalFrom, world_from}

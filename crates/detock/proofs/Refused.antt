@@ -9,8 +9,8 @@ use Rattle.dt_workload.specs.declared.Workload.{Workload}
 use Rattle.dt_workload.specs.Valid.{IsValidWorkload}
 use Rattle.dt_session.specs.Run.{AreLegal}
 use Rattle.dt_report.specs.Report.{report_text}
-use Rattle.dt_world.specs.Reported.{report_of}
-use Rattle.dt_agreement.proofs.Agreeing.{legal_agree}
+use Rattle.dt_world.specs.WorldReport.{report_of}
+use Rattle.dt_agreement.proofs.Callers.{legal_agree}
 use Rattle.detock.specs.declared.status.Status.{Status}
 use Rattle.detock.specs.declared.status.Status.TheVariants.{NoMemory, CannotRead, BadCluster, BadWorkload, BadEvents}
 use Rattle.detock.specs.declared.status.EventsCause.{EventsCause}

@@ -9,7 +9,7 @@ use Rattle.dt_session.specs.Step.{IsLegal, next, rule_of}
 use Rattle.dt_session.specs.Run.{AreLegal, world_after}
 use Rattle.dt_agreement.proofs.Callers.{append_legal, world_from_append}
 use Rattle.detock.specs.Headline.{unnumbered}
-use Rattle.dt_world.specs.Kept.{Kept}
+use Rattle.dt_world.specs.WorldView.{WorldView, made}
 use Rattle.dt_world.specs.declared.StepError.{StepError}
 use Rattle.dt_world.specs.declared.StepError.TheVariants.{Illegal}
 use Rattle.dt_world.specs.declared.StepError.TheVariants as errors
@@ -44,20 +44,20 @@ first_illegal cluster workload events i rule d inside before illegal by = record
 }
 
 -- the world that legal events led to, and the next event, which was made
-pub step_made : (cluster : Cluster) (workload : Workload) (events : List (ℕ × Event)) (i : ℕ) (x : ℕ × Event) (old new : Kept) → i < length events → x ≡ get_or events i x → (old.cluster ≡ cluster) × (old.workload ≡ workload) × (old.steps ≡ i) × AreLegal cluster workload (unnumbered (take i events)) × (old.state ≡ world_after cluster workload (unnumbered (take i events))) → IsLegal old.cluster old.workload old.state x.1 → new ≡ record old { state = next old.cluster old.workload old.state x.1; steps = old.steps + 1 } → (new.cluster ≡ cluster) × (new.workload ≡ workload) × (new.steps ≡ i + 1) × AreLegal cluster workload (unnumbered (take (i + 1) events)) × (new.state ≡ world_after cluster workload (unnumbered (take (i + 1) events)))
+pub step_made : (cluster : Cluster) (workload : Workload) (events : List (ℕ × Event)) (i : ℕ) (x : ℕ × Event) (old new : WorldView) → i < length events → x ≡ get_or events i x → (old.cluster ≡ cluster) × (old.workload ≡ workload) × (old.steps ≡ i) × AreLegal cluster workload (unnumbered (take i events)) × (old.state ≡ world_after cluster workload (unnumbered (take i events))) → IsLegal old.cluster old.workload old.state x.1 → new ≡ made old x.1 → (new.cluster ≡ cluster) × (new.workload ≡ workload) × (new.steps ≡ i + 1) × AreLegal cluster workload (unnumbered (take (i + 1) events)) × (new.state ≡ world_after cluster workload (unnumbered (take (i + 1) events)))
 step_made cluster workload events i x old new inside item (of_cluster, of_workload, steps, before, state) legal is =
     let Legal : Cluster × (Workload × (World × (ℕ × Event))) → Type 0 = λ q. IsLegal q.0 q.1.0 q.1.1.0 q.1.1.1.1 in
     let same : (old.cluster, (old.workload, (old.state, x))) ≡ (cluster, (workload, (world_after cluster workload (unnumbered (take i events)), get_or events i x))) = λ j. (of_cluster j, (of_workload j, (state j, item j))) in
     let after : next old.cluster old.workload old.state x.1 ≡ next cluster workload (world_after cluster workload (unnumbered (take i events))) (get_or events i x).1 = λ j. next (of_cluster j) (of_workload j) (state j) (item j).1 in (
-      ap (λ (k : Kept). k.cluster) is ∙ of_cluster,
-      ap (λ (k : Kept). k.workload) is ∙ of_workload,
-      ap (λ (k : Kept). k.steps) is ∙ ap (λ n. n + 1) steps,
+      ap (λ (k : WorldView). k.cluster) is ∙ of_cluster,
+      ap (λ (k : WorldView). k.workload) is ∙ of_workload,
+      ap (λ (k : WorldView). k.steps) is ∙ ap (λ n. n + 1) steps,
       legal_next cluster workload events i x inside before (subst Legal same legal),
-      ap (λ (k : Kept). k.state) is ∙ after ∙ world_next cluster workload events i x inside,
+      ap (λ (k : WorldView). k.state) is ∙ after ∙ world_next cluster workload events i x inside,
     )
 
 -- the world that legal events led to, and the next event, which is not legal
-pub step_refused : (cluster : Cluster) (workload : Workload) (events : List (ℕ × Event)) (i rule : ℕ) (x : ℕ × Event) (old : Kept) → i < length events → x ≡ get_or events i x → (old.cluster ≡ cluster) × (old.workload ≡ workload) × (old.steps ≡ i) × AreLegal cluster workload (unnumbered (take i events)) × (old.state ≡ world_after cluster workload (unnumbered (take i events))) → (rule ≡ rule_of x.1) × ¬ IsLegal old.cluster old.workload old.state x.1 → IsFirstIllegal cluster workload events x.0 rule
+pub step_refused : (cluster : Cluster) (workload : Workload) (events : List (ℕ × Event)) (i rule : ℕ) (x : ℕ × Event) (old : WorldView) → i < length events → x ≡ get_or events i x → (old.cluster ≡ cluster) × (old.workload ≡ workload) × (old.steps ≡ i) × AreLegal cluster workload (unnumbered (take i events)) × (old.state ≡ world_after cluster workload (unnumbered (take i events))) → (rule ≡ rule_of x.1) × ¬ IsLegal old.cluster old.workload old.state x.1 → IsFirstIllegal cluster workload events x.0 rule
 step_refused cluster workload events i rule x old inside item (of_cluster, of_workload, steps, before, state) (by, illegal) =
     let Refused : Cluster × (Workload × (World × (ℕ × Event))) → Type 0 = λ q. ¬ IsLegal q.0 q.1.0 q.1.1.0 q.1.1.1.1 in
     let same : (old.cluster, (old.workload, (old.state, x))) ≡ (cluster, (workload, (world_after cluster workload (unnumbered (take i events)), get_or events i x))) = λ j. (of_cluster j, (of_workload j, (state j, item j))) in

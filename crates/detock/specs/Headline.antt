@@ -15,7 +15,7 @@ use Rattle.dt_workload.specs.File.{IsWorkload}
 use Rattle.dt_session.specs.Run.{AreLegal}
 use Rattle.dt_session.specs.Agreement.{Agree}
 use Rattle.dt_report.specs.Report.{report_text}
-use Rattle.dt_world.specs.Reported.{report_of}
+use Rattle.dt_world.specs.WorldReport.{report_of}
 use Rattle.detock.specs.Words.{Replay, IsReplay, IsBuiltin, IsClusterFile, builtin_word}
 
 -- no file may be longer than this: 16 MiB

@@ -4,7 +4,7 @@ ghost use Rattle.dt_cluster.specs.Valid.{IsValidCluster};
 ghost use Rattle.dt_workload.specs.Valid.{IsValidWorkload};
 ghost use Rattle.dt_session.specs.Run.{AreLegal, world_after};
 ghost use Rattle.dt_report.specs.Report.{report_text};
-ghost use Rattle.dt_world.specs.Reported.{report_of};
+ghost use Rattle.dt_world.specs.WorldReport.{report_of};
 ghost use Rattle.detock.specs.Words.{NeedsThreads, spelled};
 ghost use Rattle.detock.specs.Headline.{Headline, IsReplayable, file_limit, is_move, moves, unnumbered};
 ghost use Rattle.detock.specs.Refusals.{IsRefusal, IsStepRefusal, refusal_of};
