@@ -10,6 +10,4 @@ pub mod OneHome
 pub mod NothingToDo
 pub mod Growing
 pub mod Sound
-pub use Rattle.dt_access.proofs.Ids
-pub use Rattle.dt_lists.proofs.Chains
 pub mod Callers
