@@ -24,7 +24,8 @@ use Rattle.dt_session.specs.Step.{IsLegal, MayAnswer, MayEnd, MaySubmit, answere
 use Rattle.dt_session.specs.Run.{AreLegal, AreLegalFrom, order_of, serial_outcome, world_after, world_from}
 use Rattle.dt_session.specs.Agreement.{WaitsFor}
 use Rattle.dt_agreement.specs.Invariant.{Inv, IsExecutedAt, IsPlaceOf}
-use Rattle.dt_agreement.proofs.Callers.{answered_done, lookup_has, legal_agree, WaitsAt, places_parallel, from_region, submission_is_found, waiting_for, legal_keeps, legal_append, world_after_more, session_found, session_of_test, find_has, Submits, submits}
+use Rattle.dt_agreement.proofs.Callers.{answered_done, lookup_has, legal_agree, WaitsAt, places_parallel, from_region, submission_is_found, waiting_for}
+use Rattle.dt_agreement.proofs.Callers.{legal_keeps, legal_append, world_after_more, session_found, session_of_test, find_has, Submits, submits}
 use Rattle.dt_world.specs.Seats.{no_session}
 use Rattle.dt_world.specs.SessionReplay.{IsReply, after_reply, after_submission, replay_of, count_at, wait_at}
 use Rattle.dt_world.specs.WorldReport.{IsReplyOf, answered_session, replies_from, reply_for, reply_to}
