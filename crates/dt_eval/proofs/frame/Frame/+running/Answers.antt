@@ -7,6 +7,7 @@ use Rattle.dt_eval.specs.Statements.{after_block}
 use Rattle.dt_eval.specs.declared.state.Datum.TheVariants.{Bool as Truth}
 use Rattle.dt_eval.proofs.FrameLaws.{block_tail, choose_by, drop_step}
 use Rattle.dt_eval.proofs.frame.Frame.+running.Goals as goal
+use Rattle.dt_eval.proofs.frame.Frame.+running.Goals.{choose-then-truth_of+in_ok-block, choose-else-truth_of+in_ok-block-2}
 
 pub block-loop-stmt-preserved : goal.block-loop-stmt-preserved
 block-loop-stmt-preserved t c =
