@@ -91,10 +91,12 @@ fn replay<R: Threads + Wait + Sync>(
         &[("c", cluster), ("w", workload), ("e", events)],
         &[],
     )?;
-    let word = match cluster {
-        b":1\n" => ":1",
-        b":2\n" => ":2",
-        _ => "c",
+    let word = if cluster == b":1\n".as_slice() {
+        ":1"
+    } else if cluster == b":2\n".as_slice() {
+        ":2"
+    } else {
+        "c"
     };
     call(
         rt,

@@ -1,6 +1,4 @@
 //! Rows: their values, homes and moves after changes, and which of them are shown.
-ghost use Rattle.std.specs.Prelude.{◌<◌, ◌^◌, length};
-
 use dt_access::{TxnId, Writes};
 use dt_table::{Effect, Table};
 use dt_text::{Key, NoMemory, Value, put_u64, put_value};
@@ -59,7 +57,7 @@ fn move_to(table: &mut Table, alloc: Global, key: Key, target: u8, seq: u32) -> 
 }
 
 /// Makes a change of a key.
-fn change(table: &mut Table, alloc: Global, key: &[u8], change: Change) -> Result<(), Fail> {
+fn make(table: &mut Table, alloc: Global, key: &[u8], change: Change) -> Result<(), Fail> {
     let key = key_of(alloc, key)?;
     match change {
         Change::Put(number) => put(table, alloc, key, Some(Value::Int(number))),
@@ -114,7 +112,7 @@ fn put_shown(alloc: Global, out: &mut Vec<u8>, table: &Table) -> Result<(), NoMe
 fn told(alloc: Global, changes: &[(&[u8], Change)], key: &[u8]) -> Result<Vec<u8>, Fail> {
     let mut table = opened(alloc)?;
     for (changed, how) in changes {
-        change(&mut table, alloc, changed, *how)?;
+        make(&mut table, alloc, changed, *how)?;
     }
     let mut out = Vec::new(alloc);
     put_row(alloc, &mut out, &table, &key_of(alloc, key)?)?;
@@ -179,8 +177,8 @@ fn length_of_many(alloc: Global, count: u32) -> Result<usize, Fail> {
     let mut table = opened(alloc)?;
     for number in 0..count {
         let key = format!(in alloc; "k{number}")?;
-        change(&mut table, alloc, key.as_bytes(), Change::Put(1))?;
-        change(&mut table, alloc, b"m", Change::Move(1, 7))?;
+        make(&mut table, alloc, key.as_bytes(), Change::Put(1))?;
+        make(&mut table, alloc, b"m", Change::Move(1, 7))?;
     }
     let mut out = Vec::new(alloc);
     put_row(alloc, &mut out, &table, &Key::read(alloc, b"m")?)?;

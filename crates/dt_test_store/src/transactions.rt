@@ -156,7 +156,7 @@ fn outcome_told(alloc: Global, key: &[u8; 1], table: &Table) -> Result<Vec<u8>, 
     let (outcome, effect) = execute(alloc, &txn, &procs, table)?;
     put_outcome(alloc, &mut out, &outcome.copy(alloc)?, &effect)?;
     let seen = see(alloc, &txn, table)?;
-    if seen.len() != txn.access.len() {
+    if seen.len() != txn.access.as_slice().len() {
         return Err(Fail::from("each row is seen"));
     }
     let (outcome, effect) = execute_seen(alloc, &txn, &procs, &seen)?;

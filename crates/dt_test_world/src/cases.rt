@@ -369,7 +369,7 @@ fn rule_of(line: &str) -> Option<u8> {
     let bytes = line.as_bytes();
     let place = bytes.iter().position(|byte| *byte == b'!')?;
     let digit = bytes.get(place + 1)?;
-    digit.checked_sub(b'0')
+    Some(digit.saturating_sub(b'0'))
 }
 
 /// What is to come of a case: the line and the rule of each event that is refused, and the report of the others.
@@ -419,16 +419,29 @@ fn events_are_refused_by_their_rules_and_the_others_reported(rt: HostRuntime) ->
     Ok(())
 }
 
+/// A letter that begins keys of this home, where there are eight regions.
+fn letter_of(home: u32) -> &'static str {
+    match home {
+        0 => "h",
+        1 => "a",
+        2 => "b",
+        3 => "c",
+        4 => "d",
+        5 => "e",
+        6 => "f",
+        _ => "g",
+    }
+}
+
 /// The sessions of a file, so many, at each of eight regions in turn; each puts a key that its own region is the home of.
 fn sessions(alloc: Global, count: u32) -> Result<Vec<u8>, Fail> {
     let mut file = Vec::new(alloc);
     for number in 0..count {
         let region = number % 8;
-        let letter = [b'h', b'a', b'b', b'c', b'd', b'e', b'f', b'g'][region as usize];
-        let line = format!(in alloc;
-            "session s{number} at {region}\ncall put \"{}{number}\" 1\n",
-            letter as char
-        )?;
+        let line = format!(in alloc; "session s{number} at {region}\n")?;
+        file.extend_from_slice(line.as_bytes())?;
+        let letter = letter_of(region);
+        let line = format!(in alloc; "call put \"{letter}{number}\" 1\n")?;
         file.extend_from_slice(line.as_bytes())?;
     }
     Ok(file)
