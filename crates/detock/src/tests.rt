@@ -374,12 +374,18 @@ fn of_long_file<R: Threads + Wait + Sync>(
     alloc: Global,
     name: &str,
 ) -> Result<Vec<u8>, Fail> {
-    let long = vec![in alloc; b' '; 16_777_217]?;
-    let files = folder_of(
-        alloc,
-        &[(name, long.as_slice()), ("c", b"regions = 1\n"), ("w", b"")],
-        &[],
-    )?;
+    let files = vec![in alloc;
+        (
+            String::from_str(alloc, name)?,
+            vec![in alloc; b' '; 16_777_217]?
+        ),
+        (
+            String::from_str(alloc, "c")?,
+            b"regions = 1\n".to_vec(alloc)?
+        ),
+        (String::from_str(alloc, "w")?, Vec::new(alloc)),
+    ]?;
+    let files = MemoryFolder::new(files, Vec::new(alloc));
     call(rt, alloc, &["replay", "c", "w", "e"], files, (AMPLE, AMPLE))
 }
 
