@@ -3,7 +3,9 @@
 use Rattle.std.proofs.Common.{◌≡◌, ◌<◌, ◌+◌, ℕ, Bool, true, false, List, [], length, get_or, set, Ok, refl, sym, ap, subst, ◌∙◌}
 use Rattle.std.proofs.lemmas.List.{set-get_or}
 use Rattle.dt_access.specs.declared.TxnId.{TxnId}
+use Rattle.dt_events.specs.declared.Event.{Event}
 use Rattle.dt_events.specs.declared.Event.TheVariants.{Insert, Resolve, Execute}
+use Rattle.dt_proc.specs.Tree.{ProcTree}
 use Rattle.dt_region.specs.Region.{RegionView, outcome_of}
 use Rattle.dt_region.specs.Conditions.{HoldsValid}
 use Rattle.dt_region.specs.Rules.{MakesStep}
@@ -18,6 +20,17 @@ use Rattle.dt_world.specs.Seats.{SeatsView}
 use Rattle.dt_world.specs.WorldInner.{IsLawful, site_at, view_in, world_of}
 use Rattle.dt_world.specs.WorldView.{WorldView}
 use Rattle.dt_world.proofs.WorldLaws.{IsBehind, IsMade, step_made}
+
+-- the list where a site is put back as it was
+pub put_back : {cluster : Cluster} {seats : SeatsView} {sites : List SiteView} {steps : ℕ} → IsLawful cluster seats sites steps → (region : ℕ) (p later : SiteView) → p ≡ site_at sites region → later ≡ p
+    → IsLawful cluster seats (set sites region later) steps
+put_back {cluster} {seats} {sites} {steps} k region p later is same =
+    subst (λ l. IsLawful cluster seats l steps) (sym (ap (set sites region) (same ∙ is) ∙ set-get_or sites region no_site)) k
+
+-- a step that is refused changes nothing
+pub refused_same : (procs : List ProcTree) (r : RegionView) (event : Event) (on : Bool) (later : RegionView) → on ≡ false → MakesStep procs r event (Ok on) later → later ≡ r
+refused_same procs r event true later e m = cc
+refused_same procs r event false later e m = m.1
 
 module _ {cluster : Cluster} {seats : SeatsView} {sites : List SiteView} {steps : ℕ} (k : IsLawful cluster seats sites steps) {region : ℕ} (lr : region < cluster.regions)
     {r : RegionView} {origins : List Origin} (b : IsBehind sites region r origins) where

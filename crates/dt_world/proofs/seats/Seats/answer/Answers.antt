@@ -7,5 +7,5 @@ use Rattle.dt_world.proofs.seats.Seats.answer.Goals as goal
 pub returns : goal.returns
 returns c =
     let lt : c.args.place < length (map place_of c.self.inside.seats.items) = subst (λ (s : SeatsView). c.args.place < length s.places) (sym c.self.view_is) c.requires.place in
-    let within = subst (λ n. c.args.place < n) (length-map c.self.inside.seats.items place_of) lt in
-    rw (← c.self.view_is) (answer_is c.self.inside.workload c.self.inside.seats.items c.args.place c.index_mut-seat.result.now within c.index_mut-seat.ensures.value)
+    rw (← c.self.view_is) (answer_is c.self.inside.workload c.self.inside.seats.items c.args.place c.index_mut-seat.result.now (subst (λ n. c.args.place < n) (length-map c.self.inside.seats.items place_of) lt)
+    c.index_mut-seat.ensures.value)

@@ -1,9 +1,10 @@
+use Rattle.std.proofs.lemmas.Grind.{common_steps}
 use Rattle.std.proofs.Common.{◌≡◌, ◌<◌, List, [], length, get_or, slice_get, Some, sym, ap, subst, ◌∙◌, arith}
 use Rattle.std.proofs.lemmas.Option.{slice_get-get_or}
 use Rattle.dt_access.specs.declared.TxnId.{TxnId}
 use Rattle.dt_region.specs.Region.{RegionView, held}
 use Rattle.dt_world.specs.WorldInner.{site_at}
-use Rattle.dt_world.proofs.OneSite.{region_here}
+use Rattle.dt_world.proofs.OneSite.{region_here, same_lawful}
 use Rattle.dt_world.proofs.Rule2Append.{append_done, asked_held, can_place}
 use Rattle.dt_world.proofs.WorldLaws.{a_site, behind, made_before}
 use Rattle.dt_world.proofs.WorldSeats.{steps_few}
@@ -71,3 +72,14 @@ returns g c =
     let home = behind (a_site c.self.invariant c.if-home-self.false) c.index_mut.ensures.value c.behind-self-2.view_is in
     let done = append_done c.self.invariant c.if-home-self.false c.if-source-self.false c.args.number wanted is_held home c.append.new.self c.in_ok-append.field-0 c.in_ok-append.ensures.makes c.append.ensures.sound in
     made_before c.self.view_is done
+
+pub index-requires : goal.index-requires
+index-requires g c = let here : c.args.source < length c.self.inside.sites.items = a_site c.self.invariant c.if-source-self.false in grind (arith, common_steps, here)
+
+pub index_mut-requires : goal.index_mut-requires
+index_mut-requires g c = let here : c.args.home < length c.self.inside.sites.items = a_site c.self.invariant c.if-home-self.false in grind (arith, common_steps, here)
+
+pub invariant_of-self : goal.invariant_of-self
+invariant_of-self g c =
+    let home = behind (a_site c.self.invariant c.if-home-self.false) c.index_mut.ensures.value c.behind-self-2.view_is in
+    same_lawful c.self.invariant c.if-home-self.false home c.append.new.self c.in_err-append.ensures.makes

@@ -1,4 +1,5 @@
-use Rattle.std.proofs.Common.{◌≡◌, ◌≤◌, ◌-◌, Some, length, get_or, sym, ap, subst, ◌∙◌}
+use Rattle.std.proofs.lemmas.Grind.{common_steps}
+use Rattle.std.proofs.Common.{◌≡◌, ◌≤◌, ◌-◌, Some, length, get_or, sym, ap, subst, ◌∙◌, ◌<◌, arith}
 use Rattle.dt_session.specs.World.{attempt_of}
 use Rattle.dt_site.specs.declared.Origin.{Origin}
 use Rattle.dt_site.specs.Site.{SiteView}
@@ -30,3 +31,6 @@ returns g c =
     let site = read_at c.self.inside.sites.items c.args.region c.index.result.now (a_site c.self.invariant (a_number c.self.invariant c.self.view_is c.requires.seat.some)) c.index.ensures in
     subst (λ (v : WorldView). c.origin.result.now.attempt ≡ attempt_of v.state c.args.id) c.self.view_is
     (ap (λ (o : Origin). o.attempt) (c.origin.ensures ∙ ap (λ (p : SiteView). get_or p.origins (c.args.id.seq - 1) c.origin.result.now) site) ∙ sym (at.attempt c.origin.result.now))
+
+pub index-requires : goal.index-requires
+index-requires g c = let here : c.args.region < length c.self.inside.sites.items = a_site c.self.invariant (a_number c.self.invariant c.self.view_is c.requires.seat.some) in grind (arith, common_steps, here)

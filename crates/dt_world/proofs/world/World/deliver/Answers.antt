@@ -1,3 +1,4 @@
+use Rattle.std.proofs.lemmas.Grind.{common_steps}
 use Rattle.std.proofs.Common.{◌≡◌, ◌≤◌, ◌<◌, true, false, length, map, drop, take, Some, sym, ap, subst, ◌∙◌, arith}
 use Rattle.dt_lists.specs.Lists.{AllIn}
 use Rattle.dt_sched.specs.Views.{log_at}
@@ -6,7 +7,7 @@ use Rattle.dt_region.specs.Region.{RegionView, held}
 use Rattle.dt_region.specs.Sound.{IsSoundRegion}
 use Rattle.dt_site.proofs.Callers.{joins}
 use Rattle.dt_world.specs.WorldInner.{site_at}
-use Rattle.dt_world.proofs.OneSite.{region_here, sound_here}
+use Rattle.dt_world.proofs.OneSite.{region_here, sound_here, same_lawful}
 use Rattle.dt_world.proofs.Rule3Deliver.{can_take, deliver_done, deliver_none}
 use Rattle.dt_world.proofs.WorldLaws.{a_site, behind, made_before}
 use Rattle.dt_world.proofs.WorldSeats.{steps_few}
@@ -113,3 +114,17 @@ returns g c =
     let done = deliver_done c.self.invariant c.if-region-self.false c.if-home-self.false c.if-first-last.false reaches on c.in_ok-entries.entries.items parts txns here
     c.deliver.new.self c.in_ok-deliver.field-0 c.in_ok-deliver.ensures.makes c.deliver.ensures.sound in
     made_before c.self.view_is done
+
+pub index-requires : goal.index-requires
+index-requires g c = let here : c.args.home < length c.self.inside.sites.items = a_site c.self.invariant c.if-home-self.false in grind (arith, common_steps, here)
+
+pub index-requires-2 : goal.index-requires-2
+index-requires-2 g c = let here : c.args.region < length c.self.inside.sites.items = a_site c.self.invariant c.if-region-self.false in grind (arith, common_steps, here)
+
+pub index_mut-requires : goal.index_mut-requires
+index_mut-requires g c = let here : c.args.region < length c.self.inside.sites.items = a_site c.self.invariant c.if-region-self.false in grind (arith, common_steps, here)
+
+pub invariant_of-self-in_err-deliver : goal.invariant_of-self-in_err-deliver
+invariant_of-self-in_err-deliver g c =
+    let here = behind (a_site c.self.invariant c.if-region-self.false) c.index_mut.ensures.value c.behind-self-3.view_is in
+    same_lawful c.self.invariant c.if-region-self.false here c.deliver.new.self c.in_err-deliver.ensures.makes

@@ -1,5 +1,9 @@
-use Rattle.std.proofs.Common.{refl, sym, subst, ◌∙◌}
-use Rattle.dt_world.proofs.OneSite.{execute_done, execute_not, holds_here, same_lawful, same_view}
+use Rattle.dt_world.specs.WorldView.{WorldView}
+use Rattle.dt_session.specs.Step.{IsLegal}
+use Rattle.dt_events.specs.declared.Event.TheVariants.{Execute}
+use Rattle.std.proofs.lemmas.Grind.{common_steps}
+use Rattle.std.proofs.Common.{refl, sym, subst, ◌∙◌, ◌<◌, length, arith}
+use Rattle.dt_world.proofs.OneSite.{execute_done, execute_not, holds_here, same_lawful, same_view, refused_same}
 use Rattle.dt_world.proofs.WorldLaws.{a_site, behind, made_before}
 use Rattle.dt_world.proofs.world.World.execute.Goals as goal
 
@@ -13,3 +17,24 @@ invariant_of-self-2 g c = (execute_done c.self.invariant c.if-region-self.false 
 pub returns : goal.returns
 returns g c = made_before c.self.view_is (execute_done c.self.invariant c.if-region-self.false (behind (a_site c.self.invariant c.if-region-self.false) c.index_mut.ensures.value c.behind-self.view_is) c.args.id c.execute.new.self
     c.in_ok-execute.field-0 c.in_ok-execute.ensures.makes c.if-not-branch.false c.execute.ensures.sound)
+
+pub index_mut-requires : goal.index_mut-requires
+index_mut-requires g c = let here : c.args.region < length c.self.inside.sites.items = a_site c.self.invariant c.if-region-self.false in grind (arith, common_steps, here)
+
+pub invariant_of-self : goal.invariant_of-self
+invariant_of-self g c = same_lawful c.self.invariant c.if-region-self.false (behind (a_site c.self.invariant c.if-region-self.false) c.index_mut.ensures.value c.behind-self.view_is) c.execute.new.self c.in_err-execute.ensures.makes
+
+pub invariant_of-self-then-not-branch : goal.invariant_of-self-then-not-branch
+invariant_of-self-then-not-branch g c =
+    let same = refused_same c.self.inside.cluster.procs c.behind-self.inside.region (Execute c.behind-self.inside.region.state.number c.args.id) c.in_ok-execute.field-0 c.execute.new.self c.if-not-branch.true c.in_ok-execute.ensures.makes in
+    same_lawful c.self.invariant c.if-region-self.false (behind (a_site c.self.invariant c.if-region-self.false) c.index_mut.ensures.value c.behind-self.view_is) c.execute.new.self same
+
+pub returns-then-not-branch : goal.returns-then-not-branch
+returns-then-not-branch g c =
+    let same = refused_same c.self.inside.cluster.procs c.behind-self.inside.region (Execute c.behind-self.inside.region.state.number c.args.id) c.in_ok-execute.field-0 c.execute.new.self c.if-not-branch.true c.in_ok-execute.ensures.makes in
+    let site = behind (a_site c.self.invariant c.if-region-self.false) c.index_mut.ensures.value c.behind-self.view_is in (
+      refl,
+      λ l. execute_not c.self.invariant c.if-region-self.false site c.args.id c.execute.new.self c.in_ok-execute.field-0 c.in_ok-execute.ensures.makes c.if-not-branch.true
+          (subst (λ (v : WorldView). IsLegal v.cluster v.workload v.state (Execute c.args.region c.args.id)) (sym c.self.view_is) l),
+      same_view c.self.invariant c.if-region-self.false site c.execute.new.self same ∙ c.self.view_is,
+    )

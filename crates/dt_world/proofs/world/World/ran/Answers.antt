@@ -1,4 +1,5 @@
-use Rattle.std.proofs.Common.{◌≡◌, ◌≤◌, ◌<◌, ◌-◌, Some, length, get_or, sym, ap, subst, ◌∙◌}
+use Rattle.std.proofs.lemmas.Grind.{common_steps}
+use Rattle.std.proofs.Common.{◌≡◌, ◌≤◌, ◌<◌, ◌-◌, Some, length, get_or, sym, ap, subst, ◌∙◌, arith}
 use Rattle.dt_txn.specs.declared.Outcome.{Outcome}
 use Rattle.dt_report.specs.declared.Ran.{Ran}
 use Rattle.dt_region.specs.Region.{outcome_of}
@@ -28,7 +29,8 @@ index-requires-2 g c =
     let lr = a_number c.self.invariant c.self.view_is c.requires.region in
     let executed = subst (λ (v : WorldView). IsExecutedAt v.state c.args.region c.args.id) (sym c.self.view_is) c.requires.executed in
     let among = stands_among c.self.invariant lr c.args.id executed in
-    a_site c.self.invariant among.home
+    let here : c.args.id.region < length c.self.inside.sites.items = a_site c.self.invariant among.home in
+    grind (arith, common_steps, here)
 
 pub origin-origin-requires-clause-from : goal.origin-origin-requires-clause-from
 origin-origin-requires-clause-from g c =

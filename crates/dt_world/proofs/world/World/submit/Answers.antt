@@ -1,5 +1,6 @@
 use Rattle.std.proofs.Common.{◌≡◌, ◌+◌, ◌≤◌, ◌<◌, Some, List, length, set, refl, sym, ap, subst, ◌∙◌, arith}
 use Rattle.std.specs.List.{position}
+use Rattle.std.proofs.lemmas.Grind.{common_steps}
 use Rattle.dt_events.specs.declared.Event.TheVariants.{Submit}
 use Rattle.dt_session.specs.Step.{IsLegal, next_attempt}
 use Rattle.dt_session.specs.World.{Place, is_session}
@@ -10,6 +11,7 @@ use Rattle.dt_txn.specs.Transaction.{BodyFits}
 use Rattle.dt_world.specs.Seats.{SeatsView, after_wait, stand_of}
 use Rattle.dt_world.specs.WorldInner.{IsLawful, IsSeatOf, MayTryAt, seats_in, site_at, view_in, world_of}
 use Rattle.dt_world.specs.WorldView.{WorldView, made}
+use Rattle.dt_world.proofs.OneSite.{put_back}
 use Rattle.dt_world.proofs.Rule1Submit.{submit_done}
 use Rattle.dt_world.proofs.WorldLaws.{a_site, made_before, read_at, submitted_few}
 use Rattle.dt_world.proofs.WorldSeats.{answered_few, call_left, fits_here, none_submitted, not_submitted, seat_here, seat_of, steps_few}
@@ -90,3 +92,11 @@ returns g c =
     let done = submit_done c.self.invariant c.if-region-self.false c.args.name.now found may c.in_ok-body.ensures c.index_mut.result.now c.submit.new.self origin c.in_ok-id.id site own c.in_ok-id.ensures.makes c.in_ok-id.ensures.sound in
     let legal = made_before c.self.view_is done in
     (legal.0, ap (λ (s : SeatsView). view_in c.self.inside.cluster s (set c.self.inside.sites.items c.args.region c.submit.new.self) (c.self.inside.steps + 1)) c.wait.ensures ∙ legal.1)
+
+pub index_mut-requires : goal.index_mut-requires
+index_mut-requires g c = let here : c.args.region < length c.self.inside.sites.items = a_site c.self.invariant c.if-region-self.false in grind (arith, common_steps, here)
+
+pub invariant_of-self : goal.invariant_of-self
+invariant_of-self g c =
+    let site = read_at c.self.inside.sites.items c.args.region c.index_mut.result.now (a_site c.self.invariant c.if-region-self.false) c.index_mut.ensures.value in
+    put_back c.self.invariant c.args.region c.index_mut.result.now c.submit.new.self site c.in_err-id.ensures.makes
