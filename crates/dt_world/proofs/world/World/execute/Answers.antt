@@ -1,5 +1,6 @@
 use Rattle.dt_world.specs.WorldView.{WorldView}
 use Rattle.dt_session.specs.Step.{IsLegal}
+use Rattle.dt_events.specs.declared.Event.{Event}
 use Rattle.dt_events.specs.declared.Event.TheVariants.{Execute}
 use Rattle.std.proofs.lemmas.Grind.{common_steps}
 use Rattle.std.proofs.Common.{refl, sym, subst, ◌∙◌, ◌<◌, length, arith}
@@ -26,12 +27,14 @@ invariant_of-self g c = same_lawful c.self.invariant c.if-region-self.false (beh
 
 pub invariant_of-self-then-not-branch : goal.invariant_of-self-then-not-branch
 invariant_of-self-then-not-branch g c =
-    let same = refused_same c.self.inside.cluster.procs c.behind-self.inside.region (Execute c.behind-self.inside.region.state.number c.args.id) c.in_ok-execute.field-0 c.execute.new.self c.if-not-branch.true c.in_ok-execute.ensures.makes in
+    let event : Event = Execute c.behind-self.inside.region.state.number c.args.id in
+    let same = refused_same c.self.inside.cluster.procs c.behind-self.inside.region event c.in_ok-execute.field-0 c.execute.new.self c.if-not-branch.true c.in_ok-execute.ensures.makes in
     same_lawful c.self.invariant c.if-region-self.false (behind (a_site c.self.invariant c.if-region-self.false) c.index_mut.ensures.value c.behind-self.view_is) c.execute.new.self same
 
 pub returns-then-not-branch : goal.returns-then-not-branch
 returns-then-not-branch g c =
-    let same = refused_same c.self.inside.cluster.procs c.behind-self.inside.region (Execute c.behind-self.inside.region.state.number c.args.id) c.in_ok-execute.field-0 c.execute.new.self c.if-not-branch.true c.in_ok-execute.ensures.makes in
+    let event : Event = Execute c.behind-self.inside.region.state.number c.args.id in
+    let same = refused_same c.self.inside.cluster.procs c.behind-self.inside.region event c.in_ok-execute.field-0 c.execute.new.self c.if-not-branch.true c.in_ok-execute.ensures.makes in
     let site = behind (a_site c.self.invariant c.if-region-self.false) c.index_mut.ensures.value c.behind-self.view_is in (
       refl,
       λ l. execute_not c.self.invariant c.if-region-self.false site c.args.id c.execute.new.self c.in_ok-execute.field-0 c.in_ok-execute.ensures.makes c.if-not-branch.true
