@@ -1,10 +1,10 @@
 -- The words and the files call for one status.
-use Rattle.std.proofs.Common.{◌≡◌, ◌≢◌, ℕ, ◌⊎◌, inl, inr, List, [], ◌∷◌, ◌++◌, length, Option, Some, None, IsSome, slice_get, refl, ap, sym, ◌∙◌, subst, arith, get_or}
+use Rattle.std.proofs.Common.{◌≡◌, ◌≢◌, ℕ, ◌⊎◌, inl, inr, List, [], ◌∷◌, ◌++◌, length, Option, Some, None, IsSome, IsSomeAnd, slice_get, refl, ap, sym, ◌∙◌, subst, arith, get_or}
 use Rattle.std.proofs.lemmas.List.{map-append}
 use Rattle.dt_access.specs.Clash.{Bytes}
 use Rattle.dt_text.specs.Lines.{FileLine, lines_of}
 use Rattle.dt_outside.specs.Faults.{Rose}
-use Rattle.dt_outside.specs.Files.{Files}
+use Rattle.dt_outside.specs.Folder.{Files, FolderView}
 use Rattle.dt_lists.specs.Lists.{Pairwise}
 use Rattle.dt_events.specs.declared.Event.{Event}
 use Rattle.dt_events.specs.Events.{FirstWithoutForm, IsNumberedEvent}
@@ -26,38 +26,54 @@ use Rattle.detock.specs.declared.status.Status.{Status}
 use Rattle.detock.specs.declared.status.Status.TheVariants.{Done, NoMemory, BadWords, CannotRead, BadCluster, BadWorkload, BadEvents, CannotWrite, NotBuilt}
 use Rattle.detock.specs.declared.status.EventsCause.{EventsCause}
 use Rattle.detock.specs.declared.status.EventsCause.TheVariants.{TooLong, Form, Rule}
-use Rattle.detock.specs.Words.{Replay, IsReplay, IsBuiltin, IsClusterFile, NeedsThreads, AreAForm, builtin_word}
-use Rattle.detock.specs.Headline.{Told, HasCluster, AreCluster, AreWorkload, AreNumbered, HasMove, IsReplayable, unnumbered}
-use Rattle.detock.specs.Causes.{AsksOn, HasWorkload, IsNotBuilt, AreBadCluster, HasBadCluster, AreBadWorkload, HasBadWorkload, IsFirstIllegal, AreBadEvents, HasBadEvents, CouldNotRead, IsDue}
-use Rattle.detock.specs.Refusals.{IsRefusal}
+use Rattle.detock.specs.Tasks.{Task, Replay, Run, Big, Asks, IsBuiltin, IsClusterFile, IsThreaded, NeedsThreads, AreAForm, builtin_word, task_words, cluster_word, workload_word, events_word}
+use Rattle.detock.specs.Loading.{HasFile, HasCluster, NamesThis, HoldCluster, HoldWorkload, HoldEvents, Loaded, unnumbered}
+use Rattle.detock.specs.Headline.{HasMove}
+use Rattle.detock.specs.Causes.{AsksBuilt, AsksOn, AsksWith, IsNotBuilt, AreBadCluster, HasBadCluster, AreBadWorkload, HasBadWorkload, IsFirstIllegal, AreBadEvents, HasBadEvents, WasMissed, CouldNotRead, IsReplayable, IsDue}
+use Rattle.detock.specs.RefusalCode.{IsRefusal}
 use Rattle.detock.proofs.WordForms.{two_bytes}
 
 -- the bytes of one file
-both_told : (files : Files) (name : Bytes) (P Q : Bytes → Type 0) → Told (Some files) name P → Told (Some files) name Q → (bytes : Bytes) × P bytes × Q bytes
-both_told files name P Q (bytes, here, p) (others, there, q) =
+both_files : (files : Files) (name : Bytes) (P Q : Bytes → Type 0) → HasFile (Some files) name P → HasFile (Some files) name Q → (bytes : Bytes) × P bytes × Q bytes
+both_files files name P Q (bytes, here, p) (others, there, q) =
     let same : others ≡ bytes = cc in
     (bytes, p, subst Q same q)
+
+-- the bytes of the file of one word, if a task has that
+both_words : (files : Files) (word : Option Bytes) (P Q : Bytes → Type 0) → IsSomeAnd word (λ name. HasFile (Some files) name P) → IsSomeAnd word (λ name. HasFile (Some files) name Q) → (bytes : Bytes) × P bytes × Q bytes
+both_words files None P Q p q = absurd p
+both_words files (Some name) P Q p q = both_files files name P Q p q
 
 -- the number of regions in the word of a built-in cluster
 one_builtin : (m n : ℕ) → IsBuiltin m → IsBuiltin n → builtin_word m ≡ builtin_word n → m ≡ n
 one_builtin m n few many same =
     let digits = ap (λ (word : Bytes). get_or word 1 0) (sym (two_bytes m few) ∙ same ∙ two_bytes n many) in omega (arith, digits)
 
--- words are one replay
-pub one_replay : (words : List Bytes) (r s : Replay) → IsReplay words r → IsReplay words s → r ≡ s
-one_replay words r s a b =
-    let same = sym a.form ∙ b.form in
-    let clusters : r.cluster ≡ s.cluster = cc in
-    let workloads : r.workload ≡ s.workload = cc in
-    let events : r.events ≡ s.events = cc in
-    λ i. record { cluster = clusters i; workload = workloads i; events = events i }
+-- words ask for one task
+module _ (words : List Bytes) where
+  pub one_task : (s t : Task) → Asks words s → Asks words t → s ≡ t
+  one_task (Replay a b c) (Replay x y z) is also =
+      let same : task_words (Replay a b c) ≡ task_words (Replay x y z) = sym is.form ∙ also.form in
+      let clusters : a ≡ x = ap (λ (l : List Bytes). get_or l 1 []) same in
+      let workloads : b ≡ y = ap (λ (l : List Bytes). get_or l 2 []) same in
+      let events : c ≡ z = ap (λ (l : List Bytes). get_or l 3 []) same in
+      λ i. Replay (clusters i) (workloads i) (events i)
+  one_task (Run a b) (Run x y) is also =
+      let same : task_words (Run a b) ≡ task_words (Run x y) = sym is.form ∙ also.form in
+      let clusters : a ≡ x = ap (λ (l : List Bytes). get_or l 1 []) same in
+      let workloads : b ≡ y = ap (λ (l : List Bytes). get_or l 2 []) same in
+      λ i. Run (clusters i) (workloads i)
+  one_task (Big a) (Big x) is also = ap (λ (l : List Bytes). Big (get_or l 1 [])) (sym is.form ∙ also.form)
+  one_task (Replay a b c) (Run x y) is also = absurd (omega (arith, ap (λ (l : List Bytes). length l) (sym is.form ∙ also.form)))
+  one_task (Replay a b c) (Big x) is also = absurd (omega (arith, ap (λ (l : List Bytes). length l) (sym is.form ∙ also.form)))
+  one_task (Run a b) (Replay x y z) is also = absurd (omega (arith, ap (λ (l : List Bytes). length l) (sym is.form ∙ also.form)))
+  one_task (Run a b) (Big x) is also = absurd (omega (arith, ap (λ (l : List Bytes). length l) (sym is.form ∙ also.form)))
+  one_task (Big a) (Replay x y z) is also = absurd (omega (arith, ap (λ (l : List Bytes). length l) (sym is.form ∙ also.form)))
+  one_task (Big a) (Run x y) is also = absurd (omega (arith, ap (λ (l : List Bytes). length l) (sym is.form ∙ also.form)))
 
--- what is done by threads is no replay
-no_threads : (words : List Bytes) (r : Replay) → IsReplay words r → NeedsThreads words → ⊥
-no_threads words r is (inl (cluster, workload, run, _, _)) =
-    let long : 4 ≡ 3 = ap length (sym is.form ∙ run) in omega (arith, long)
-no_threads words r is (inr (size, big, _)) =
-    let long : 4 ≡ 2 = ap length (sym is.form ∙ big) in omega (arith, long)
+  -- a task that is built is done by no threads
+  no_threads : (task : Task) → AsksBuilt words task → NeedsThreads words → ⊥
+  no_threads task is (other, asks, threaded) = is.built (subst IsThreaded (one_task other task asks is.asked) threaded)
 
 -- a file is one list of events
 pub one_list : (lines : List FileLine) (a b : List (ℕ × Event)) → Pairwise IsNumberedEvent lines a → Pairwise IsNumberedEvent lines b → a ≡ b
@@ -94,7 +110,10 @@ tails_of same = cc
 
 -- of events, the first that is not legal is one
 module _ (cluster : Cluster) (workload : Workload) where
-  one_illegal : (w : World) (a b after later : List (ℕ × Event)) (x y : ℕ × Event) → a ++ x ∷ after ≡ b ++ y ∷ later → AreLegalFrom cluster workload w (unnumbered a) → AreLegalFrom cluster workload w (unnumbered b) → ¬ IsLegal cluster workload (world_from cluster workload w (unnumbered a)) x.1 → ¬ IsLegal cluster workload (world_from cluster workload w (unnumbered b)) y.1 → x ≡ y
+  one_illegal : (w : World) (a b after later : List (ℕ × Event)) (x y : ℕ × Event) → a ++ x ∷ after ≡ b ++ y ∷ later
+      → AreLegalFrom cluster workload w (unnumbered a) → AreLegalFrom cluster workload w (unnumbered b)
+      → ¬ IsLegal cluster workload (world_from cluster workload w (unnumbered a)) x.1
+      → ¬ IsLegal cluster workload (world_from cluster workload w (unnumbered b)) y.1 → x ≡ y
   one_illegal w [] [] after later x y same before also never none = heads_of same
   one_illegal w [] (z ∷ b) after later x y same before (legal, also) never none =
       let P : ℕ × Event → Type 0 = λ event. IsLegal cluster workload w event.1 in absurd (never (subst P (sym (heads_of same)) legal))
@@ -135,7 +154,7 @@ module _ (cluster : Cluster) (workload : Workload) where
       λ i. BadEvents (both.0 i) (Rule (both.1 i))
 
   -- legal events have no fault
-  no_fault : (bytes : Bytes) (events : List (ℕ × Event)) (l : ℕ) (c : EventsCause) → AreNumbered events bytes → AreLegal cluster workload (unnumbered events) → AreBadEvents cluster workload l c bytes → ⊥
+  no_fault : (bytes : Bytes) (events : List (ℕ × Event)) (l : ℕ) (c : EventsCause) → HoldEvents events bytes → AreLegal cluster workload (unnumbered events) → AreBadEvents cluster workload l c bytes → ⊥
   no_fault bytes events l TooLong are legal (zero_l, long) = omega (arith, long, are.short)
   no_fault bytes events l Form are legal (short, without) = all_formed (lines_of bytes) events l are.form without
   no_fault bytes events l (Rule n) are legal (others, too, illegal) =
@@ -155,61 +174,65 @@ module _ (files : Files) (words : List Bytes) where
   same_cluster word c d (inl (m, few, is, made)) (inr (file, _)) = absurd (no_file word m few is file)
   same_cluster word c d (inr (file, _)) (inl (n, many, too, also)) = absurd (no_file word n many too file)
   same_cluster word c d (inr (_, one)) (inr (_, other)) =
-      let (bytes, a, b) = both_told files word (AreCluster c) (AreCluster d) one other in one_cluster bytes c d a.form b.form
+      let (bytes, a, b) = both_files files word (HoldCluster c) (HoldCluster d) one other in one_cluster bytes c d a.form b.form
 
-  -- a replay has one cluster
-  same_asked : (r s : Replay) (c d : Cluster) → AsksOn (Some files) words r c → AsksOn (Some files) words s d → (r ≡ s) × (c ≡ d)
-  same_asked r s c d a b =
-      let same = one_replay words r s a.asked b.asked in
-      let P : Replay → Type 0 = λ q. HasCluster (Some files) q.cluster d in
-      (same, same_cluster r.cluster c d a.cluster_word (subst P (sym same) b.cluster_word))
+  -- a task has one cluster
+  same_named : (word : Option Bytes) (c d : Cluster) → IsSomeAnd word (λ w. HasCluster (Some files) w c) → IsSomeAnd word (λ w. HasCluster (Some files) w d) → c ≡ d
+  same_named None c d is also = absurd is
+  same_named (Some word) c d is also = same_cluster word c d is also
+
+  same_asked : (s t : Task) (c d : Cluster) → AsksOn (Some files) words s c → AsksOn (Some files) words t d → (s ≡ t) × (c ≡ d)
+  same_asked s t c d a b =
+      let same = one_task words s t a.asks.asked b.asks.asked in
+      let P : Task → Type 0 = λ q. NamesThis (Some files) q d in
+      (same, same_named (cluster_word s) c d a.cluster_word (subst P (sym same) b.cluster_word))
 
   -- which is valid
-  valid_cluster : (word : Bytes) (c : Cluster) → HasCluster (Some files) word c → IsValidCluster c
-  valid_cluster word c (inl (n, (some, few), is, made)) = subst IsValidCluster (sym made) (builtin_valid n some few)
-  valid_cluster word c (inr (file, content)) = cluster_valid content.0 c content.2.form
+  valid_cluster : (word : Option Bytes) (c : Cluster) → IsSomeAnd word (λ w. HasCluster (Some files) w c) → IsValidCluster c
+  valid_cluster None c is = absurd is
+  valid_cluster (Some word) c (inl (n, (some, few), is, made)) = subst IsValidCluster (sym made) (builtin_valid n some few)
+  valid_cluster (Some word) c (inr (file, content)) = cluster_valid content.0 c content.2.form
 
-  valid_asked : (r : Replay) (c : Cluster) → AsksOn (Some files) words r c → IsValidCluster c
-  valid_asked r c asks = valid_cluster r.cluster c asks.cluster_word
+  -- the cluster of a task whose workload is loaded
+  on : (t : Task) (c : Cluster) (v : Workload) → AsksWith (Some files) words t c v → AsksOn (Some files) words t c
+  on t c v a = record { asks = a.asks; cluster_word = a.loaded.cluster_word }
 
   -- and one workload
-  same_workload : (r s : Replay) (c d : Cluster) (v w : Workload) → HasWorkload (Some files) words r c v → HasWorkload (Some files) words s d w → (r ≡ s) × (c ≡ d) × (v ≡ w)
-  same_workload r s c d v w a b =
-      let same = same_asked r s c d a.asks b.asks in
-      let P : Replay × Cluster → Type 0 = λ q. Told (Some files) q.0.workload (AreWorkload q.1 w) in
-      let pair : (s, d) ≡ (r, c) = λ i. (sym same.0 i, sym same.1 i) in
-      let (bytes, one, other) = both_told files r.workload (AreWorkload c v) (AreWorkload c w) a.workload_file (subst P pair b.workload_file) in
-      (same.0, same.1, one_workload c (valid_asked r c a.asks) bytes v w one.form other.form)
+  same_workload : (s t : Task) (c d : Cluster) (v w : Workload) → AsksWith (Some files) words s c v → AsksWith (Some files) words t d w → (s ≡ t) × (c ≡ d) × (v ≡ w)
+  same_workload s t c d v w a b =
+      let same = same_asked s t c d (on s c v a) (on t d w b) in
+      let P : Task × Cluster → Type 0 = λ q. IsSomeAnd (workload_word q.0) (λ name. HasFile (Some files) name (HoldWorkload q.1 w)) in
+      let pair : (t, d) ≡ (s, c) = λ i. (sym same.0 i, sym same.1 i) in
+      let (bytes, one, other) = both_words files (workload_word s) (HoldWorkload c v) (HoldWorkload c w) a.loaded.workload_file (subst P pair b.loaded.workload_file) in
+      (same.0, same.1, one_workload c (valid_cluster (cluster_word s) c a.loaded.cluster_word) bytes v w one.form other.form)
 
   -- what is built has a workload that stays where it is
-  built : (r : Replay) (c : Cluster) (v : Workload) → HasWorkload (Some files) words r c v → ¬ HasMove v → IsNotBuilt (Some files) words → ⊥
-  built r c v a still (inl threads) = no_threads words r a.asks.asked threads
-  built r c v a still (inr (s, d, w, b, moves)) = still (subst HasMove (sym (same_workload r s c d v w a b).2) moves)
+  built : (t : Task) (c : Cluster) (v : Workload) → AsksWith (Some files) words t c v → ¬ HasMove v → IsNotBuilt (Some files) words → ⊥
+  built t c v a still (inl threads) = no_threads words t a.asks threads
+  built t c v a still (inr (s, d, w, b, moves)) = still (subst HasMove (sym (same_workload t s c d v w a b).2) moves)
+
+  -- the word of a cluster's file that has a fault names no cluster
+  no_named : (word : Option Bytes) (c : Cluster) (f : ClusterFault) → IsSomeAnd word (λ w. HasCluster (Some files) w c) → IsSomeAnd word (λ w. IsClusterFile w × HasFile (Some files) w (AreBadCluster f)) → ⊥
+  no_named None c f is bad = is
+  no_named (Some word) c f (inl (m, few, is, made)) (file, bad) = no_file word m few is file
+  no_named (Some word) c f (inr (_, one)) (file, bad) =
+      let (bytes, is, has) = both_files files word (HoldCluster c) (AreBadCluster f) one bad in go bytes is has
+    where
+      go : (bytes : Bytes) → HoldCluster c bytes → AreBadCluster f bytes → ⊥
+      go bytes is (inl (whole, long)) = omega (arith, long, is.short)
+      go bytes is (inr (short, has)) = no_cluster_fault bytes c f is.form has
 
   -- a cluster has no fault
-  sound_cluster : (r : Replay) (c : Cluster) (f : ClusterFault) → AsksOn (Some files) words r c → HasBadCluster (Some files) words f → ⊥
-  sound_cluster r c f a (s, asked, file, bad) = go a.cluster_word
-    where
-      P : Replay → Type 0
-      P q = IsClusterFile q.cluster × Told (Some files) q.cluster (AreBadCluster f)
-
-      here : P r
-      here = subst P (sym (one_replay words r s a.asked asked)) (file, bad)
-
-      fault : (bytes : Bytes) → AreCluster c bytes → AreBadCluster f bytes → ⊥
-      fault bytes is (inl (whole, long)) = omega (arith, long, is.short)
-      fault bytes is (inr (short, has)) = no_cluster_fault bytes c f is.form has
-
-      go : HasCluster (Some files) r.cluster c → ⊥
-      go (inl (m, few, is, made)) = no_file r.cluster m few is here.0
-      go (inr (_, one)) = let (bytes, is, has) = both_told files r.cluster (AreCluster c) (AreBadCluster f) one here.1 in fault bytes is has
+  sound_cluster : (t : Task) (c : Cluster) (f : ClusterFault) → AsksOn (Some files) words t c → HasBadCluster (Some files) words f → ⊥
+  sound_cluster t c f a (s, asks, bad) =
+      let P : Task → Type 0 = λ q. IsSomeAnd (cluster_word q) (λ w. IsClusterFile w × HasFile (Some files) w (AreBadCluster f)) in
+      no_named (cluster_word t) c f a.cluster_word (subst P (one_task words s t asks.asked a.asks.asked) bad)
 
   -- a cluster's file has one fault
-  same_cluster_fault : (f g : ClusterFault) → HasBadCluster (Some files) words f → HasBadCluster (Some files) words g → f ≡ g
-  same_cluster_fault f g (r, asked, file, bad) (s, also, too, worse) =
-      let P : Replay → Type 0 = λ q. Told (Some files) q.cluster (AreBadCluster g) in
-      let (bytes, a, b) = both_told files r.cluster (AreBadCluster f) (AreBadCluster g) bad (subst P (sym (one_replay words r s asked also)) worse) in
-      go bytes a b
+  one_named : (word : Option Bytes) (f g : ClusterFault) → IsSomeAnd word (λ w. IsClusterFile w × HasFile (Some files) w (AreBadCluster f)) → IsSomeAnd word (λ w. IsClusterFile w × HasFile (Some files) w (AreBadCluster g)) → f ≡ g
+  one_named None f g bad worse = absurd bad
+  one_named (Some word) f g (file, bad) (also, worse) =
+      let (bytes, a, b) = both_files files word (AreBadCluster f) (AreBadCluster g) bad worse in go bytes a b
     where
       go : (bytes : Bytes) → AreBadCluster f bytes → AreBadCluster g bytes → f ≡ g
       go bytes (inl (is, long)) (inl (too, also)) = is ∙ sym too
@@ -217,26 +240,31 @@ module _ (files : Files) (words : List Bytes) where
       go bytes (inr (short, has)) (inl (too, long)) = absurd (omega (arith, long, short))
       go bytes (inr (_, one)) (inr (_, other)) = one_cluster_fault bytes f g one other
 
+  same_cluster_fault : (f g : ClusterFault) → HasBadCluster (Some files) words f → HasBadCluster (Some files) words g → f ≡ g
+  same_cluster_fault f g (s, asks, bad) (t, also, worse) =
+      let P : Task → Type 0 = λ q. IsSomeAnd (cluster_word q) (λ w. IsClusterFile w × HasFile (Some files) w (AreBadCluster g)) in
+      one_named (cluster_word s) f g bad (subst P (sym (one_task words s t asks.asked also.asked)) worse)
+
   -- a workload has no fault
-  sound_workload : (r : Replay) (c : Cluster) (v : Workload) (l : ℕ) (why : WorkloadCause) → HasWorkload (Some files) words r c v → HasBadWorkload (Some files) words l why → ⊥
-  sound_workload r c v l why a (s, d, asks, bad) =
-      let same = same_asked r s c d a.asks asks in
-      let P : Replay × Cluster → Type 0 = λ q. Told (Some files) q.0.workload (AreBadWorkload q.1 l why) in
-      let pair : (s, d) ≡ (r, c) = λ i. (sym same.0 i, sym same.1 i) in
-      let (bytes, is, has) = both_told files r.workload (AreWorkload c v) (AreBadWorkload c l why) a.workload_file (subst P pair bad) in
+  sound_workload : (t : Task) (c : Cluster) (v : Workload) (l : ℕ) (why : WorkloadCause) → AsksWith (Some files) words t c v → HasBadWorkload (Some files) words l why → ⊥
+  sound_workload t c v l why a (s, d, asks, bad) =
+      let same = same_asked t s c d (on t c v a) asks in
+      let P : Task × Cluster → Type 0 = λ q. IsSomeAnd (workload_word q.0) (λ name. HasFile (Some files) name (AreBadWorkload q.1 l why)) in
+      let pair : (s, d) ≡ (t, c) = λ i. (sym same.0 i, sym same.1 i) in
+      let (bytes, is, has) = both_words files (workload_word t) (HoldWorkload c v) (AreBadWorkload c l why) a.loaded.workload_file (subst P pair bad) in
       go bytes is has
     where
-      go : (bytes : Bytes) → AreWorkload c v bytes → AreBadWorkload c l why bytes → ⊥
+      go : (bytes : Bytes) → HoldWorkload c v bytes → AreBadWorkload c l why bytes → ⊥
       go bytes is (inl (zero_l, whole, long)) = omega (arith, long, is.short)
-      go bytes is (inr (short, has)) = no_workload_fault c (valid_asked r c a.asks) bytes v l why is.form has
+      go bytes is (inr (short, has)) = no_workload_fault c (valid_cluster (cluster_word t) c a.loaded.cluster_word) bytes v l why is.form has
 
   -- a workload's file has one fault
   same_workload_fault : (l m : ℕ) (why how : WorkloadCause) → HasBadWorkload (Some files) words l why → HasBadWorkload (Some files) words m how → BadWorkload l why ≡ BadWorkload m how
-  same_workload_fault l m why how (r, c, asks, bad) (s, d, also, worse) =
-      let same = same_asked r s c d asks also in
-      let P : Replay × Cluster → Type 0 = λ q. Told (Some files) q.0.workload (AreBadWorkload q.1 m how) in
-      let pair : (s, d) ≡ (r, c) = λ i. (sym same.0 i, sym same.1 i) in
-      let (bytes, a, b) = both_told files r.workload (AreBadWorkload c l why) (AreBadWorkload c m how) bad (subst P pair worse) in
+  same_workload_fault l m why how (t, c, asks, bad) (s, d, also, worse) =
+      let same = same_asked t s c d asks also in
+      let P : Task × Cluster → Type 0 = λ q. IsSomeAnd (workload_word q.0) (λ name. HasFile (Some files) name (AreBadWorkload q.1 m how)) in
+      let pair : (s, d) ≡ (t, c) = λ i. (sym same.0 i, sym same.1 i) in
+      let (bytes, a, b) = both_words files (workload_word t) (AreBadWorkload c l why) (AreBadWorkload c m how) bad (subst P pair worse) in
       go bytes a b
     where
       go : (bytes : Bytes) → AreBadWorkload c l why bytes → AreBadWorkload c m how bytes → BadWorkload l why ≡ BadWorkload m how
@@ -244,76 +272,76 @@ module _ (files : Files) (words : List Bytes) where
       go bytes (inl (zero_l, is, long)) (inr (short, has)) = absurd (omega (arith, long, short))
       go bytes (inr (short, has)) (inl (zero_m, too, long)) = absurd (omega (arith, long, short))
       go bytes (inr (_, one)) (inr (_, other)) =
-          let both = one_workload_fault c (valid_asked r c asks) bytes l m why how one other in λ i. BadWorkload (both.0 i) (both.1 i)
-
-  workload_of : (is : IsReplayable (Some files) words) → HasWorkload (Some files) words is.replay is.cluster is.workload
-  workload_of is = record { asks = record { asked = is.asked; cluster_word = is.cluster_word }; workload_file = is.workload_file }
+          let both = one_workload_fault c (valid_cluster (cluster_word t) c asks.cluster_word) bytes l m why how one other in λ i. BadWorkload (both.0 i) (both.1 i)
 
   -- what can be done has no fault in its events
   doable : (is : IsReplayable (Some files) words) (l : ℕ) (c : EventsCause) → HasBadEvents (Some files) words l c → ⊥
   doable is l c (s, d, w, has, still, bad) =
-      let same = same_workload is.replay s is.cluster d is.workload w (workload_of is) has in
-      let P : Replay × (Cluster × Workload) → Type 0 = λ q. Told (Some files) q.0.events (AreBadEvents q.1.0 q.1.1 l c) in
-      let all : (s, (d, w)) ≡ (is.replay, (is.cluster, is.workload)) = λ i. (sym same.0 i, (sym same.1 i, sym same.2 i)) in
-      let (bytes, are, fault) = both_told files is.replay.events (AreNumbered is.events) (AreBadEvents is.cluster is.workload l c) is.events_file (subst P all bad) in
+      let same = same_workload is.task s is.cluster d is.workload w is.asks has in
+      let P : Task × (Cluster × Workload) → Type 0 = λ q. IsSomeAnd (events_word q.0) (λ name. HasFile (Some files) name (AreBadEvents q.1.0 q.1.1 l c)) in
+      let all : (s, (d, w)) ≡ (is.task, (is.cluster, is.workload)) = λ i. (sym same.0 i, (sym same.1 i, sym same.2 i)) in
+      let (bytes, are, fault) = both_words files (events_word is.task) (HoldEvents is.events) (AreBadEvents is.cluster is.workload l c) is.events_file (subst P all bad) in
       no_fault is.cluster is.workload bytes is.events l c are is.legal fault
 
   -- two faults of the events are one
   same_fault : (l m : ℕ) (c d : EventsCause) → HasBadEvents (Some files) words l c → HasBadEvents (Some files) words m d → BadEvents l c ≡ BadEvents m d
-  same_fault l m c d (r, a, v, has, still, bad) (s, b, w, also, quiet, too) =
-      let same = same_workload r s a b v w has also in
-      let P : Replay × (Cluster × Workload) → Type 0 = λ q. Told (Some files) q.0.events (AreBadEvents q.1.0 q.1.1 m d) in
-      let all : (s, (b, w)) ≡ (r, (a, v)) = λ i. (sym same.0 i, (sym same.1 i, sym same.2 i)) in
-      let (bytes, one, other) = both_told files r.events (AreBadEvents a v l c) (AreBadEvents a v m d) bad (subst P all too) in
+  same_fault l m c d (t, a, v, has, still, bad) (s, b, w, also, quiet, too) =
+      let same = same_workload t s a b v w has also in
+      let P : Task × (Cluster × Workload) → Type 0 = λ q. IsSomeAnd (events_word q.0) (λ name. HasFile (Some files) name (AreBadEvents q.1.0 q.1.1 m d)) in
+      let all : (s, (b, w)) ≡ (t, (a, v)) = λ i. (sym same.0 i, (sym same.1 i, sym same.2 i)) in
+      let (bytes, one, other) = both_words files (events_word t) (AreBadEvents a v l c) (AreBadEvents a v m d) bad (subst P all too) in
       one_fault a v bytes l m c d one other
 
-  -- how far a replay got before it was refused: to its words, its cluster, its workload
-  formed : (r : Replay) → IsReplay words r → (¬ AreAForm words) → ⊥
-  formed r asked none = none (inl (r, asked))
+  -- words that ask for a task are of a form
+  formed : (t : Task) → AsksBuilt words t → (¬ AreAForm words) → ⊥
+  formed t asks none = none (t, asks.asked)
+
+  threaded : NeedsThreads words → (¬ AreAForm words) → ⊥
+  threaded (t, asks, is) none = none (t, asks)
 
   -- the words and the files call for one status; of two, the first is tried first
   before : (s t : Status) → IsDue (Some files) words s → IsDue (Some files) words t → s ≡ t
   before Done Done is also = refl
-  before Done BadWords is none = absurd (formed is.replay is.asked none)
-  before Done NotBuilt is not = absurd (built is.replay is.cluster is.workload (workload_of is) is.still not)
-  before Done (BadCluster f) is bad = absurd (sound_cluster is.replay is.cluster f (workload_of is).asks bad)
-  before Done (BadWorkload l why) is bad = absurd (sound_workload is.replay is.cluster is.workload l why (workload_of is) bad)
+  before Done BadWords is none = absurd (formed is.task is.asks.asks none)
+  before Done NotBuilt is not = absurd (built is.task is.cluster is.workload is.asks is.still not)
+  before Done (BadCluster f) is bad = absurd (sound_cluster is.task is.cluster f (on is.task is.cluster is.workload is.asks) bad)
+  before Done (BadWorkload l why) is bad = absurd (sound_workload is.task is.cluster is.workload l why is.asks bad)
   before Done (BadEvents l c) is bad = absurd (doable is l c bad)
   before BadWords BadWords none also = refl
-  before BadWords NotBuilt none (inl threads) = absurd (none (inr threads))
-  before BadWords NotBuilt none (inr (r, c, v, has, moves)) = absurd (formed r has.asks.asked none)
-  before BadWords (BadCluster f) none (r, asked, file, bad) = absurd (formed r asked none)
-  before BadWords (BadWorkload l why) none (r, c, asks, bad) = absurd (formed r asks.asked none)
-  before BadWords (BadEvents l c) none (r, d, v, has, still, bad) = absurd (formed r has.asks.asked none)
+  before BadWords NotBuilt none (inl threads) = absurd (threaded threads none)
+  before BadWords NotBuilt none (inr (r, c, v, has, moves)) = absurd (formed r has.asks none)
+  before BadWords (BadCluster f) none (r, asks, bad) = absurd (formed r asks none)
+  before BadWords (BadWorkload l why) none (r, c, asks, bad) = absurd (formed r asks.asks none)
+  before BadWords (BadEvents l c) none (r, d, v, has, still, bad) = absurd (formed r has.asks none)
   before NotBuilt NotBuilt not also = refl
-  before NotBuilt (BadCluster f) (inl threads) (r, asked, file, bad) = absurd (no_threads words r asked threads)
-  before NotBuilt (BadCluster f) (inr (r, c, v, has, moves)) bad = absurd (sound_cluster r c f has.asks bad)
-  before NotBuilt (BadWorkload l why) (inl threads) (r, c, asks, bad) = absurd (no_threads words r asks.asked threads)
+  before NotBuilt (BadCluster f) (inl threads) (r, asks, bad) = absurd (no_threads words r asks threads)
+  before NotBuilt (BadCluster f) (inr (r, c, v, has, moves)) bad = absurd (sound_cluster r c f (on r c v has) bad)
+  before NotBuilt (BadWorkload l why) (inl threads) (r, c, asks, bad) = absurd (no_threads words r asks.asks threads)
   before NotBuilt (BadWorkload l why) (inr (r, c, v, has, moves)) bad = absurd (sound_workload r c v l why has bad)
   before NotBuilt (BadEvents l c) not (r, d, v, has, still, bad) = absurd (built r d v has still not)
   before (BadCluster f) (BadCluster g) bad also = ap BadCluster (same_cluster_fault f g bad also)
   before (BadCluster f) (BadWorkload l why) bad (r, c, asks, worse) = absurd (sound_cluster r c f asks bad)
-  before (BadCluster f) (BadEvents l c) bad (r, d, v, has, still, worse) = absurd (sound_cluster r d f has.asks bad)
+  before (BadCluster f) (BadEvents l c) bad (r, d, v, has, still, worse) = absurd (sound_cluster r d f (on r d v has) bad)
   before (BadWorkload l why) (BadWorkload m how) bad also = same_workload_fault l m why how bad also
   before (BadWorkload l why) (BadEvents m c) bad (r, d, v, has, still, worse) = absurd (sound_workload r d v l why has bad)
   before (BadEvents l c) (BadEvents m d) bad also = same_fault l m c d bad also
-  before BadWords Done none is = absurd (formed is.replay is.asked none)
-  before NotBuilt Done not is = absurd (built is.replay is.cluster is.workload (workload_of is) is.still not)
-  before NotBuilt BadWords (inl threads) none = absurd (none (inr threads))
-  before NotBuilt BadWords (inr (r, c, v, has, moves)) none = absurd (formed r has.asks.asked none)
-  before (BadCluster f) Done bad is = absurd (sound_cluster is.replay is.cluster f (workload_of is).asks bad)
-  before (BadCluster f) BadWords (r, asked, file, bad) none = absurd (formed r asked none)
-  before (BadCluster f) NotBuilt (r, asked, file, bad) (inl threads) = absurd (no_threads words r asked threads)
-  before (BadCluster f) NotBuilt bad (inr (r, c, v, has, moves)) = absurd (sound_cluster r c f has.asks bad)
-  before (BadWorkload l why) Done bad is = absurd (sound_workload is.replay is.cluster is.workload l why (workload_of is) bad)
-  before (BadWorkload l why) BadWords (r, c, asks, bad) none = absurd (formed r asks.asked none)
-  before (BadWorkload l why) NotBuilt (r, c, asks, bad) (inl threads) = absurd (no_threads words r asks.asked threads)
+  before BadWords Done none is = absurd (formed is.task is.asks.asks none)
+  before NotBuilt Done not is = absurd (built is.task is.cluster is.workload is.asks is.still not)
+  before NotBuilt BadWords (inl threads) none = absurd (threaded threads none)
+  before NotBuilt BadWords (inr (r, c, v, has, moves)) none = absurd (formed r has.asks none)
+  before (BadCluster f) Done bad is = absurd (sound_cluster is.task is.cluster f (on is.task is.cluster is.workload is.asks) bad)
+  before (BadCluster f) BadWords (r, asks, bad) none = absurd (formed r asks none)
+  before (BadCluster f) NotBuilt (r, asks, bad) (inl threads) = absurd (no_threads words r asks threads)
+  before (BadCluster f) NotBuilt bad (inr (r, c, v, has, moves)) = absurd (sound_cluster r c f (on r c v has) bad)
+  before (BadWorkload l why) Done bad is = absurd (sound_workload is.task is.cluster is.workload l why is.asks bad)
+  before (BadWorkload l why) BadWords (r, c, asks, bad) none = absurd (formed r asks.asks none)
+  before (BadWorkload l why) NotBuilt (r, c, asks, bad) (inl threads) = absurd (no_threads words r asks.asks threads)
   before (BadWorkload l why) NotBuilt bad (inr (r, c, v, has, moves)) = absurd (sound_workload r c v l why has bad)
   before (BadWorkload l why) (BadCluster f) (r, c, asks, worse) bad = absurd (sound_cluster r c f asks bad)
   before (BadEvents l c) Done bad is = absurd (doable is l c bad)
-  before (BadEvents l c) BadWords (r, d, v, has, still, bad) none = absurd (formed r has.asks.asked none)
+  before (BadEvents l c) BadWords (r, d, v, has, still, bad) none = absurd (formed r has.asks none)
   before (BadEvents l c) NotBuilt (r, d, v, has, still, bad) not = absurd (built r d v has still not)
-  before (BadEvents l c) (BadCluster f) (r, d, v, has, still, worse) bad = absurd (sound_cluster r d f has.asks bad)
+  before (BadEvents l c) (BadCluster f) (r, d, v, has, still, worse) bad = absurd (sound_cluster r d f (on r d v has) bad)
   before (BadEvents m c) (BadWorkload l why) (r, d, v, has, still, worse) bad = absurd (sound_workload r d v l why has bad)
   before NoMemory t none is = absurd none
   before (CannotRead word) t none is = absurd none
@@ -325,21 +353,42 @@ module _ (files : Files) (words : List Bytes) where
   pub one_due : (s t : Status) → IsDue (Some files) words s → IsDue (Some files) words t → s ≡ t
   one_due = before
 
--- a file that could not be read is told by the folder's count
-could_not : (told : Option Files) (words : List Bytes) (before now word : ℕ) → CouldNotRead told words before now word → Rose before now
-could_not told words before now word (inl (is, replay, asked, file, rose)) = rose
-could_not told words before now word (inr (inl (is, replay, cluster, asks, rose))) = rose
-could_not told words before now word (inr (inr (is, replay, cluster, workload, has, still, rose))) = rose
+-- where a file could not be read, the folder's count rose
+missed_rose : (before now : FolderView) (word : Option Bytes) → IsSomeAnd word (WasMissed before now) → Rose before.faults now.faults
+missed_rose before now None is = absurd is
+missed_rose before now (Some name) is = is.rose
+
+missed_file : (before now : FolderView) (word : Option Bytes) → IsSomeAnd word (λ name. IsClusterFile name × WasMissed before now name) → Rose before.faults now.faults
+missed_file before now None is = absurd is
+missed_file before now (Some name) (file, is) = is.rose
+
+could_not : (words : List Bytes) (before now : FolderView) (word : ℕ) → CouldNotRead words before now word → Rose before.faults now.faults
+could_not words before now word (inl (is, task, asks, missed)) = missed_file before now (cluster_word task) missed
+could_not words before now word (inr (inl (is, task, cluster, asks, missed))) = missed_rose before now (workload_word task) missed
+could_not words before now word (inr (inr (is, task, cluster, workload, asks, still, missed))) = missed_rose before now (events_word task) missed
 
 -- a status that is no fault of a device is the one that is due
-pub comes_due : (told : Option Files) (words : List Bytes) (before now : ℕ) (status due : Status) → IsSome told → IsDue told words due → ¬ Rose before now → (status ≡ Done → IsReplayable told words) → (status ≢ Done → status ≢ CannotWrite → IsRefusal told words before now status) → status ≢ CannotWrite → (status ≡ due) ⊎ (status ≡ NoMemory)
-comes_due None words before now status due some is still done refused written = cc
-comes_due (Some files) words before now Done due some is still done refused written = inl (one_due files words Done due (done refl) is)
-comes_due (Some files) words before now NoMemory due some is still done refused written = inr refl
-comes_due (Some files) words before now BadWords due some is still done refused written = inl (one_due files words BadWords due (refused (λ e. cc) (λ e. cc)) is)
-comes_due (Some files) words before now (CannotRead word) due some is still done refused written = absurd (still (could_not (Some files) words before now word (refused (λ e. cc) (λ e. cc))))
-comes_due (Some files) words before now (BadCluster f) due some is still done refused written = inl (one_due files words (BadCluster f) due (refused (λ e. cc) (λ e. cc)) is)
-comes_due (Some files) words before now (BadWorkload l why) due some is still done refused written = inl (one_due files words (BadWorkload l why) due (refused (λ e. cc) (λ e. cc)) is)
-comes_due (Some files) words before now (BadEvents l c) due some is still done refused written = inl (one_due files words (BadEvents l c) due (refused (λ e. cc) (λ e. cc)) is)
-comes_due (Some files) words before now CannotWrite due some is still done refused written = absurd (written refl)
-comes_due (Some files) words before now NotBuilt due some is still done refused written = inl (one_due files words NotBuilt due (refused (λ e. cc) (λ e. cc)) is)
+module _ (words : List Bytes) (before now : FolderView) where
+  due_of : (told : Option Files) → told ≡ before.told → (status due : Status) → IsSome told → IsDue told words due → ¬ Rose before.faults now.faults → IsRefusal words before now status → (status ≡ due) ⊎ (status ≡ NoMemory)
+  due_of None is status due some is_due still refused = cc
+  due_of (Some files) is NoMemory due some is_due still refused = inr refl
+  due_of (Some files) is BadWords due some is_due still refused = inl (one_due files words BadWords due refused is_due)
+  due_of (Some files) is NotBuilt due some is_due still refused = inl (one_due files words NotBuilt due (subst (λ told. IsNotBuilt told words) (sym is) refused) is_due)
+  due_of (Some files) is (BadCluster f) due some is_due still refused = inl (one_due files words (BadCluster f) due (subst (λ told. HasBadCluster told words f) (sym is) refused) is_due)
+  due_of (Some files) is (BadWorkload l why) due some is_due still refused = inl (one_due files words (BadWorkload l why) due (subst (λ told. HasBadWorkload told words l why) (sym is) refused) is_due)
+  due_of (Some files) is (BadEvents l why) due some is_due still refused = inl (one_due files words (BadEvents l why) due (subst (λ told. HasBadEvents told words l why) (sym is) refused) is_due)
+  due_of (Some files) is (CannotRead word) due some is_due still refused = absurd (still (could_not words before now word refused))
+  due_of (Some files) is Done due some is_due still refused = absurd refused
+  due_of (Some files) is CannotWrite due some is_due still refused = absurd refused
+
+  -- a refusal
+  pub refusal_due : (status due : Status) → IsSome before.told → IsDue before.told words due → ¬ Rose before.faults now.faults → IsRefusal words before now status → (status ≡ due) ⊎ (status ≡ NoMemory)
+  refusal_due = due_of before.told refl
+
+  -- a report that was made
+  pub done_due : (due : Status) → IsSome before.told → IsDue before.told words due → IsReplayable before.told words → Done ≡ due
+  done_due due some is possible = go before.told some is possible
+    where
+      go : (told : Option Files) → IsSome told → IsDue told words due → IsReplayable told words → Done ≡ due
+      go None some is possible = cc
+      go (Some files) some is possible = one_due files words Done due possible is

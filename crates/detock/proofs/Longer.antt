@@ -2,18 +2,18 @@
 use Rattle.std.proofs.Common.{◌≡◌, ℕ, ◌+◌, ◌<◌, length, replicate, Option, Some, None, IfSome, IsSomeAnd, refl, arith}
 use Rattle.std.proofs.lemmas.List.{length-replicate}
 use Rattle.dt_access.specs.Clash.{Bytes}
-use Rattle.dt_outside.specs.Files.{Files, IsLonger}
-use Rattle.detock.specs.Headline.{Told}
+use Rattle.dt_outside.specs.Folder.{Files, IsAboveLimit}
+use Rattle.detock.specs.Loading.{HasFile}
 
 -- there are bytes above every limit
 long_bytes : (limit : ℕ) → (bytes : Bytes) × limit < length bytes
 long_bytes limit = (replicate (limit + 1) 0, omega (arith, length-replicate {A = ℕ} (limit + 1) 0))
 
 -- its bytes are longer; where the folder does not tell, there are such bytes
-pub longer : {A : Type 0} (limit : ℕ) (told : Option Files) (name : Bytes) → IfSome told (λ files. A → IsLonger files name limit) → A → Told told name (λ bytes. limit < length bytes)
+pub longer : {A : Type 0} (limit : ℕ) (told : Option Files) (name : Bytes) → IfSome told (λ files. A → IsAboveLimit files name limit) → A → HasFile told name (λ bytes. limit < length bytes)
 longer limit None name is a = let (bytes, long) = long_bytes limit in (bytes, tt, long)
 longer limit (Some files) name is a = held (files name) refl (is a)
   where
-    held : (o : Option Bytes) → files name ≡ o → IsSomeAnd o (λ bytes. limit < length bytes) → Told (Some files) name (λ bytes. limit < length bytes)
+    held : (o : Option Bytes) → files name ≡ o → IsSomeAnd o (λ bytes. limit < length bytes) → HasFile (Some files) name (λ bytes. limit < length bytes)
     held None here more = absurd more
     held (Some bytes) here more = (bytes, here, more)

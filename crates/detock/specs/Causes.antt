@@ -1,9 +1,13 @@
 -- Why the program refuses.
-use Rattle.std.specs.Prelude.{◌≡◌, ℕ, ◌<◌, ◌≤◌, ◌⊎◌, List, ◌∷◌, ◌++◌, length, Option}
+--
+-- Each refusal has one cause, and names the first fault in the order of the work: the words, the cluster, the workload, the
+-- events, each of which must be right before the next is looked at. So of all statuses the words and the files call for
+-- one, which `IsDue` gives. Read next: Answers, for all that a call promises.
+use Rattle.std.specs.Prelude.{◌≡◌, ℕ, ◌<◌, ◌≤◌, ◌⊎◌, List, ◌∷◌, ◌++◌, length, Option, IsSomeAnd}
 use Rattle.dt_access.specs.Clash.{Bytes}
 use Rattle.dt_text.specs.Lines.{lines_of}
 use Rattle.dt_outside.specs.Faults.{Rose}
-use Rattle.dt_outside.specs.Files.{Files}
+use Rattle.dt_outside.specs.Folder.{Files, FolderView, MissedLast}
 use Rattle.dt_events.specs.declared.Event.{Event}
 use Rattle.dt_events.specs.Events.{FirstWithoutForm}
 use Rattle.dt_cluster.specs.declared.Cluster.{Cluster}
@@ -21,24 +25,30 @@ use Rattle.detock.specs.declared.status.Status.{Status}
 use Rattle.detock.specs.declared.status.Status.TheVariants.{Done, NoMemory, BadWords, CannotRead, BadCluster, BadWorkload, BadEvents, CannotWrite, NotBuilt}
 use Rattle.detock.specs.declared.status.EventsCause.{EventsCause}
 use Rattle.detock.specs.declared.status.EventsCause.TheVariants.{TooLong, Form, Rule}
-use Rattle.detock.specs.Words.{Replay, IsReplay, IsClusterFile, AreAForm, NeedsThreads}
-use Rattle.detock.specs.Headline.{Told, HasCluster, AreWorkload, AreNumbered, HasMove, IsReplayable, file_limit, unnumbered}
+use Rattle.detock.specs.Tasks.{Task, Asks, AreAForm, IsClusterFile, IsThreaded, NeedsThreads, cluster_word, workload_word, events_word}
+use Rattle.detock.specs.Loading.{HasFile, HoldEvents, NamesThis, Loaded, HasEvents, file_limit, unnumbered}
+use Rattle.detock.specs.Headline.{HasMove}
 
--- the words are a replay, whose first word names this cluster
-pub record AsksOn (told : Option Files) (words : List Bytes) (replay : Replay) (cluster : Cluster) : Type 0 where
-  pub asked : IsReplay words replay
-  pub cluster_word : HasCluster told replay.cluster cluster
+-- the words ask for a task that is built
+pub record AsksBuilt (words : List Bytes) (task : Task) : Type 0 where
+  pub asked : Asks words task
+  pub built : ¬ IsThreaded task
 
--- and its workload's file is this workload
-pub record HasWorkload (told : Option Files) (words : List Bytes) (replay : Replay) (cluster : Cluster) (workload : Workload) : Type 0 where
-  pub asks : AsksOn told words replay cluster
-  pub workload_file : Told told replay.workload (AreWorkload cluster workload)
+-- and the task names this cluster
+pub record AsksOn (told : Option Files) (words : List Bytes) (task : Task) (cluster : Cluster) : Type 0 where
+  pub asks : AsksBuilt words task
+  pub cluster_word : NamesThis told task cluster
 
--- what is asked for is not built yet: the words ask for what threads do, or for a replay whose workload moves something
+-- or this cluster, and the file of this workload
+pub record AsksWith (told : Option Files) (words : List Bytes) (task : Task) (cluster : Cluster) (workload : Workload) : Type 0 where
+  pub asks : AsksBuilt words task
+  pub loaded : Loaded told task cluster workload
+
+-- what is asked for is not built yet: a task that is done by threads, or one whose workload moves something
 abbrev pub IsNotBuilt : Option Files → List Bytes → Type 0
 IsNotBuilt told words =
     NeedsThreads words
-    ⊎ ((replay : Replay) × (cluster : Cluster) × (workload : Workload) × HasWorkload told words replay cluster workload × HasMove workload)
+    ⊎ ((task : Task) × (cluster : Cluster) × (workload : Workload) × AsksWith told words task cluster workload × HasMove workload)
 
 -- what is wrong with the bytes of a cluster's file: they are too long, or they are no cluster, and this is their first fault
 abbrev pub AreBadCluster : ClusterFault → Bytes → Type 0
@@ -46,10 +56,11 @@ AreBadCluster fault bytes =
     ((fault ≡ record { place = Whole; cause = cluster_cause.TooLong }) × (file_limit < length bytes))
     ⊎ ((length bytes ≤ file_limit) × IsClusterFault bytes fault)
 
--- the words are a replay whose first word is the name of a file, and that file has this fault
+-- the task's word for a cluster is the name of a file, and that file has this fault
 abbrev pub HasBadCluster : Option Files → List Bytes → ClusterFault → Type 0
 HasBadCluster told words fault =
-    (replay : Replay) × IsReplay words replay × IsClusterFile replay.cluster × Told told replay.cluster (AreBadCluster fault)
+    (task : Task) × AsksBuilt words task
+    × IsSomeAnd (cluster_word task) (λ word. IsClusterFile word × HasFile told word (AreBadCluster fault))
 
 -- what is wrong with the bytes of a workload's file: they are too long, or they are no workload for the cluster, and this line
 -- is the first faulty one
@@ -58,11 +69,11 @@ AreBadWorkload cluster line cause bytes =
     ((line ≡ 0) × (cause ≡ workload_cause.TooLong) × (file_limit < length bytes))
     ⊎ ((length bytes ≤ file_limit) × IsWorkloadFault cluster bytes line cause)
 
--- the words are a replay on a cluster, and its workload's file has this fault
+-- the task has its cluster, and its workload's file has this fault
 abbrev pub HasBadWorkload : Option Files → List Bytes → ℕ → WorkloadCause → Type 0
 HasBadWorkload told words line cause =
-    (replay : Replay) × (cluster : Cluster) × AsksOn told words replay cluster
-    × Told told replay.workload (AreBadWorkload cluster line cause)
+    (task : Task) × (cluster : Cluster) × AsksOn told words task cluster
+    × IsSomeAnd (workload_word task) (λ name. HasFile told name (AreBadWorkload cluster line cause))
 
 -- the event of this line is the first that is not legal after those before it, by the rule of this number
 pub record IsFirstIllegal (cluster : Cluster) (workload : Workload) (events : List (ℕ × Event)) (line rule : ℕ) : Type 0 where
@@ -80,21 +91,40 @@ abbrev pub AreBadEvents : Cluster → Workload → ℕ → EventsCause → Bytes
 AreBadEvents cluster workload line TooLong bytes = (line ≡ 0) × (file_limit < length bytes)
 AreBadEvents cluster workload line Form bytes = (length bytes ≤ file_limit) × FirstWithoutForm (lines_of bytes) line
 AreBadEvents cluster workload line (Rule n) bytes =
-    (events : List (ℕ × Event)) × AreNumbered events bytes × IsFirstIllegal cluster workload events line n
+    (events : List (ℕ × Event)) × HoldEvents events bytes × IsFirstIllegal cluster workload events line n
 
--- the events' file of a replay, whose workload has no moves, has this fault
+-- the task has its cluster and a workload without moves, and its events' file has this fault
 abbrev pub HasBadEvents : Option Files → List Bytes → ℕ → EventsCause → Type 0
 HasBadEvents told words line cause =
-    (replay : Replay) × (cluster : Cluster) × (workload : Workload) × HasWorkload told words replay cluster workload
-    × (¬ HasMove workload) × Told told replay.events (AreBadEvents cluster workload line cause)
+    (task : Task) × (cluster : Cluster) × (workload : Workload) × AsksWith told words task cluster workload
+    × (¬ HasMove workload) × IsSomeAnd (events_word task) (λ name. HasFile told name (AreBadEvents cluster workload line cause))
 
--- the folder's count of faults rose in this call: for word 2, where the words are a replay and the word names a file; for word
--- 3, where moreover it names a cluster; for word 4, where moreover the file of word 3 is a workload without moves
-abbrev pub CouldNotRead : Option Files → List Bytes → ℕ → ℕ → ℕ → Type 0
-CouldNotRead told words before now word =
-    ((word ≡ 2) × (replay : Replay) × IsReplay words replay × IsClusterFile replay.cluster × Rose before now)
-    ⊎ ((word ≡ 3) × (replay : Replay) × (cluster : Cluster) × AsksOn told words replay cluster × Rose before now)
-    ⊎ ((word ≡ 4) × (replay : Replay) × (cluster : Cluster) × (workload : Workload) × HasWorkload told words replay cluster workload × (¬ HasMove workload) × Rose before now)
+-- a load failed in this call, and the newest one that did is that of this name, where the folder tells it
+pub record WasMissed (before now : FolderView) (name : Bytes) : Type 0 where
+  pub rose : Rose before.faults now.faults
+  pub newest : MissedLast now name
+
+-- a load failed in this call, and it was that of word 2, of a task whose word for a cluster names a file; or that of word 3, of
+-- a task that has its cluster; or that of word 4, of one that has its cluster and a workload without moves
+abbrev pub CouldNotRead : List Bytes → FolderView → FolderView → ℕ → Type 0
+CouldNotRead words before now word =
+    ((word ≡ 2) × (task : Task) × AsksBuilt words task
+    × IsSomeAnd (cluster_word task) (λ name. IsClusterFile name × WasMissed before now name))
+    ⊎ ((word ≡ 3) × (task : Task) × (cluster : Cluster) × AsksOn before.told words task cluster
+    × IsSomeAnd (workload_word task) (WasMissed before now))
+    ⊎ ((word ≡ 4) × (task : Task) × (cluster : Cluster) × (workload : Workload) × AsksWith before.told words task cluster workload
+    × (¬ HasMove workload) × IsSomeAnd (events_word task) (WasMissed before now))
+
+-- a replay that can be done: all files are what they are to be, nothing is moved, and the events are legal
+pub record IsReplayable (told : Option Files) (words : List Bytes) : Type 0 where
+  pub task : Task
+  pub cluster : Cluster
+  pub workload : Workload
+  pub asks : AsksWith told words task cluster workload
+  pub still : ¬ HasMove workload
+  pub events : List (ℕ × Event)
+  pub events_file : HasEvents told task events
+  pub legal : AreLegal cluster workload (unnumbered events)
 
 -- the status that the words and the files call for, where no device fails
 abbrev pub IsDue : Option Files → List Bytes → Status → Type 0

@@ -1,7 +1,9 @@
-pub mod Words
-pub mod Asked
-pub mod Statuses
+pub mod Tasks
+pub mod Loading
 pub mod Headline
 pub mod Causes
-pub mod Refusals
-pub mod Pieces
+pub mod Answers
+pub mod Statuses
+pub mod TaskCode
+pub mod RefusalCode
+pub mod LineCode

@@ -1,6 +1,11 @@
 -- What the program ends with: its exit numbers and fault lines.
-use Rattle.std.specs.Prelude.{ℕ, [], ◌∷◌, ◌++◌, codes, map, ◌&&◌, nat_le, if◌then◌else◌}
+--
+-- A caller learns how a call ended by a number, and a person by one line, whose text is fixed here to the byte. A byte of a
+-- name that is no visible character of ASCII is printed as `?`, so that a line is one line on every terminal.
+use Rattle.std.specs.Prelude.{Option, Some, None, ℕ, [], ◌∷◌, ◌++◌, codes, map, ◌&&◌, nat_le, if◌then◌else◌}
 use Rattle.std.specs.Fmt.{decimal}
+use Rattle.std.specs.declared.io.ErrorKind.{ErrorKind}
+use Rattle.std.specs.declared.io.ErrorKind.TheVariants.{OutOfMemory, InvalidData}
 use Rattle.dt_access.specs.Clash.{Bytes}
 use Rattle.dt_cluster.specs.declared.ClusterPlace.{ClusterPlace}
 use Rattle.dt_cluster.specs.declared.error.ClusterPlace.TheVariants as place
@@ -25,16 +30,27 @@ exit_number (BadEvents line cause) = 6
 exit_number CannotWrite = 7
 exit_number NotBuilt = 9
 
+-- the status where the words of the command line cannot be had: want of memory; or a word that is no text, which is a fault of the
+-- caller; and none where the system does not give them at all
+abbrev pub status_without : ErrorKind → Option Status
+status_without OutOfMemory = Some NoMemory
+status_without InvalidData = Some BadWords
+status_without kind = None
+
+-- the number of no status: the system does not give the words
+abbrev pub no_words : ℕ
+no_words = 12
+
 -- a byte of a name as it is printed: `?` for one that is no visible character of ASCII
-abbrev pub printed : ℕ → ℕ
-printed byte = if nat_le 33 byte && nat_le byte 126 then byte else 63
+abbrev pub visible_byte : ℕ → ℕ
+visible_byte byte = if nat_le 33 byte && nat_le byte 126 then byte else 63
 
 -- where a cluster file is at fault, in words
 abbrev pub place_text : ClusterPlace → Bytes
 place_text place.Whole = []
-place_text (place.Entry name) = codes " " ++ map printed name
-place_text (place.Home name) = codes " homes." ++ map printed name
-place_text (place.Row name) = codes " rows." ++ map printed name
+place_text (place.Entry name) = codes " " ++ map visible_byte name
+place_text (place.Home name) = codes " homes." ++ map visible_byte name
+place_text (place.Row name) = codes " rows." ++ map visible_byte name
 place_text (place.Procs at) = codes " procs byte " ++ decimal at
 
 -- what is wrong with a cluster file, in words

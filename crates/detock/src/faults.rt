@@ -1,9 +1,9 @@
-ghost use Rattle.std.specs.Prelude.{◌≡◌, ◌≤◌, ◌++◌, map, length, take, OnOk, OnErr};
+ghost use Rattle.std.specs.Prelude.{◌≡◌, ◌≤◌, ◌++◌, codes, map, length, take};
 ghost use Rattle.std.specs.List.{flat_map};
-ghost use Rattle.dt_outside.specs.Faults.{Rose};
-ghost use Rattle.dt_outside.specs.Held.{Adds, AddsPrefix};
-ghost use Rattle.detock.specs.Pieces.{cluster_end, events_end, workload_end};
-ghost use Rattle.detock.specs.Statuses.{fault_line, place_text, printed};
+ghost use Rattle.dt_outside.specs.Sink.{Writes};
+ghost use Rattle.detock.specs.Answers.{IsTold};
+ghost use Rattle.detock.specs.LineCode.{cluster_end, events_end, workload_end};
+ghost use Rattle.detock.specs.Statuses.{fault_line, place_text, visible_byte};
 
 use crate::status::{EventsCause, Status};
 use dt_cluster::{ClusterCause, ClusterFault, ClusterPlace};
@@ -17,10 +17,7 @@ const RUN: usize = 256;
 /// Tells a status by its line, piece by piece; nothing after `Done`. A fault of the sink is counted there, and changes
 /// nothing here. Takes no memory.
 pub fn tell<E: Sink>(status: &Status, err: &mut E)
-    ensures prefix { AddsPrefix (E.held err.old) (E.held err.new) (fault_line status.now) }
-    ensures whole { ¬ Rose (E.faults err.old) (E.faults err.new) → Adds (E.held err.old) (E.held err.new) (fault_line status.now) }
-    ensures quiet { status.now ≡ Status.Done → err.new ≡ err.old }
-    ensures later { E.faults err.old ≤ E.faults err.new }
+    ensures { IsTold E.seen err.old err.new status.now }
 {
     if let Status::Done = status {
         return;
@@ -30,10 +27,7 @@ pub fn tell<E: Sink>(status: &Status, err: &mut E)
 
 /// Writes the line of a status.
 fn put_fault<E: Sink>(status: &Status, err: &mut E) -> Result<(), Failed>
-    ensures added { OnOk result (Adds (E.held err.old) (E.held err.new) (fault_line status.now)) }
-    ensures prefix { OnErr result (AddsPrefix (E.held err.old) (E.held err.new) (fault_line status.now)) }
-    ensures failed { OnErr result (Rose (E.faults err.old) (E.faults err.new)) }
-    ensures later { E.faults err.old ≤ E.faults err.new }
+    ensures { Writes (E.seen err.old) (E.seen err.new) (fault_line status.now) result }
 {
     match status {
         Status::Done => Ok(()),
@@ -54,10 +48,7 @@ const USAGE: &[u8] =
 
 /// Writes the line of a file that could not be read.
 fn put_cannot_read<E: Sink>(word: u32, err: &mut E) -> Result<(), Failed>
-    ensures added { OnOk result (Adds (E.held err.old) (E.held err.new) (fault_line (Status.CannotRead word))) }
-    ensures prefix { OnErr result (AddsPrefix (E.held err.old) (E.held err.new) (fault_line (Status.CannotRead word))) }
-    ensures failed { OnErr result (Rose (E.faults err.old) (E.faults err.new)) }
-    ensures later { E.faults err.old ≤ E.faults err.new }
+    ensures { Writes (E.seen err.old) (E.seen err.new) (fault_line (Status.CannotRead word)) result }
 {
     let mut number = Buffer::new();
     let number = number.format(word).as_bytes();
@@ -66,25 +57,26 @@ fn put_cannot_read<E: Sink>(word: u32, err: &mut E) -> Result<(), Failed>
 
 /// Writes the line of a fault in a cluster's file.
 fn put_bad_cluster<E: Sink>(fault: &ClusterFault, err: &mut E) -> Result<(), Failed>
-    ensures added { OnOk result (Adds (E.held err.old) (E.held err.new) (fault_line (Status.BadCluster fault.now))) }
-    ensures prefix { OnErr result (AddsPrefix (E.held err.old) (E.held err.new) (fault_line (Status.BadCluster fault.now))) }
-    ensures failed { OnErr result (Rose (E.faults err.old) (E.faults err.new)) }
-    ensures later { E.faults err.old ≤ E.faults err.new }
+    ensures { Writes (E.seen err.old) (E.seen err.new) (fault_line (Status.BadCluster fault.now)) result }
+{
+    put_front(&fault.place, err)?;
+    write_all(err, cluster_end(fault.cause))
+}
+
+/// Writes that a cluster's file is at fault, and where.
+fn put_front<E: Sink>(place: &ClusterPlace, err: &mut E) -> Result<(), Failed>
+    ensures { Writes (E.seen err.old) (E.seen err.new) (codes "detock: cluster" ++ place_text place.now) result }
 {
     write_all(err, b"detock: cluster")?;
-    put_place(&fault.place, err)?;
-    write_all(err, cluster_end(fault.cause))
+    put_place(place, err)
 }
 
 /// Writes where a cluster's file is at fault.
 fn put_place<E: Sink>(place: &ClusterPlace, err: &mut E) -> Result<(), Failed>
-    ensures added { OnOk result (Adds (E.held err.old) (E.held err.new) (place_text place.now)) }
-    ensures prefix { OnErr result (AddsPrefix (E.held err.old) (E.held err.new) (place_text place.now)) }
-    ensures failed { OnErr result (Rose (E.faults err.old) (E.faults err.new)) }
-    ensures later { E.faults err.old ≤ E.faults err.new }
+    ensures { Writes (E.seen err.old) (E.seen err.new) (place_text place.now) result }
 {
     match place {
-        ClusterPlace::Whole => write_all(err, b""),
+        ClusterPlace::Whole => Ok(()),
         ClusterPlace::Entry(name) => put_named(b" ", name.bytes(), err),
         ClusterPlace::Home(name) => put_named(b" homes.", name.bytes(), err),
         ClusterPlace::Row(name) => put_named(b" rows.", name.bytes(), err),
@@ -98,10 +90,7 @@ fn put_place<E: Sink>(place: &ClusterPlace, err: &mut E) -> Result<(), Failed>
 
 /// Writes some bytes and a name.
 fn put_named<E: Sink>(front: &[u8], name: &[u8], err: &mut E) -> Result<(), Failed>
-    ensures added { OnOk result (Adds (E.held err.old) (E.held err.new) (front.now ++ map printed name.now)) }
-    ensures prefix { OnErr result (AddsPrefix (E.held err.old) (E.held err.new) (front.now ++ map printed name.now)) }
-    ensures failed { OnErr result (Rose (E.faults err.old) (E.faults err.new)) }
-    ensures later { E.faults err.old ≤ E.faults err.new }
+    ensures { Writes (E.seen err.old) (E.seen err.new) (front.now ++ map visible_byte name.now) result }
 {
     write_all(err, front)?;
     write_name(err, name)
@@ -129,10 +118,7 @@ fn cluster_end(cause: ClusterCause) -> &'static [u8]
 
 /// Writes the line of a fault in a workload's file.
 fn put_bad_workload<E: Sink>(line: u32, cause: WorkloadCause, err: &mut E) -> Result<(), Failed>
-    ensures added { OnOk result (Adds (E.held err.old) (E.held err.new) (fault_line (Status.BadWorkload line cause))) }
-    ensures prefix { OnErr result (AddsPrefix (E.held err.old) (E.held err.new) (fault_line (Status.BadWorkload line cause))) }
-    ensures failed { OnErr result (Rose (E.faults err.old) (E.faults err.new)) }
-    ensures later { E.faults err.old ≤ E.faults err.new }
+    ensures { Writes (E.seen err.old) (E.seen err.new) (fault_line (Status.BadWorkload line cause)) result }
 {
     let mut number = Buffer::new();
     let number = number.format(line).as_bytes();
@@ -160,10 +146,7 @@ fn workload_end(cause: WorkloadCause) -> &'static [u8]
 
 /// Writes the line of a fault in a file of events.
 fn put_bad_events<E: Sink>(line: u32, cause: EventsCause, err: &mut E) -> Result<(), Failed>
-    ensures added { OnOk result (Adds (E.held err.old) (E.held err.new) (fault_line (Status.BadEvents line cause))) }
-    ensures prefix { OnErr result (AddsPrefix (E.held err.old) (E.held err.new) (fault_line (Status.BadEvents line cause))) }
-    ensures failed { OnErr result (Rose (E.faults err.old) (E.faults err.new)) }
-    ensures later { E.faults err.old ≤ E.faults err.new }
+    ensures { Writes (E.seen err.old) (E.seen err.new) (fault_line (Status.BadEvents line cause)) result }
 {
     let mut number = Buffer::new();
     let number = number.format(line).as_bytes();
@@ -173,10 +156,7 @@ fn put_bad_events<E: Sink>(line: u32, cause: EventsCause, err: &mut E) -> Result
 
 /// Writes the end of the line of a fault in a file of events: what is wrong there.
 fn put_events_end<E: Sink>(cause: EventsCause, err: &mut E) -> Result<(), Failed>
-    ensures added { OnOk result (Adds (E.held err.old) (E.held err.new) (events_end cause)) }
-    ensures prefix { OnErr result (AddsPrefix (E.held err.old) (E.held err.new) (events_end cause)) }
-    ensures failed { OnErr result (Rose (E.faults err.old) (E.faults err.new)) }
-    ensures later { E.faults err.old ≤ E.faults err.new }
+    ensures { Writes (E.seen err.old) (E.seen err.new) (events_end cause) result }
 {
     match cause {
         EventsCause::TooLong => write_all(err, b": too long\n"),
@@ -191,10 +171,7 @@ fn put_events_end<E: Sink>(cause: EventsCause, err: &mut E) -> Result<(), Failed
 
 /// Writes the pieces, one behind the other.
 fn write_pieces<O: Sink>(out: &mut O, pieces: &[&[u8]]) -> Result<(), Failed>
-    ensures added { OnOk result (Adds (O.held out.old) (O.held out.new) (flat_map (λ piece. piece.now) pieces.now)) }
-    ensures prefix { OnErr result (AddsPrefix (O.held out.old) (O.held out.new) (flat_map (λ piece. piece.now) pieces.now)) }
-    ensures failed { OnErr result (Rose (O.faults out.old) (O.faults out.new)) }
-    ensures later { O.faults out.old ≤ O.faults out.new }
+    ensures { Writes (O.seen out.old) (O.seen out.new) (flat_map (λ piece. piece.now) pieces.now) result }
 {
     for piece in pieces {
         write_all(out, piece)?;
@@ -204,27 +181,18 @@ fn write_pieces<O: Sink>(out: &mut O, pieces: &[&[u8]]) -> Result<(), Failed>
 
 /// Writes a name, in which every byte that is no visible character of ASCII becomes `?`.
 fn write_name<O: Sink>(out: &mut O, name: &[u8]) -> Result<(), Failed>
-    ensures added { OnOk result (Adds (O.held out.old) (O.held out.new) (map printed name.now)) }
-    ensures prefix { OnErr result (AddsPrefix (O.held out.old) (O.held out.new) (map printed name.now)) }
-    ensures failed { OnErr result (Rose (O.faults out.old) (O.faults out.new)) }
-    ensures later { O.faults out.old ≤ O.faults out.new }
+    ensures { Writes (O.seen out.old) (O.seen out.new) (map visible_byte name.now) result }
 {
-    let mut rest = name;
-    while rest.len() > RUN {
-        let (run, others) = rest.split_at(RUN);
+    for run in name.chunks(RUN) {
         write_run(out, run)?;
-        rest = others;
     }
-    write_run(out, rest)
+    Ok(())
 }
 
 /// Writes up to `RUN` bytes of a name in one piece.
 fn write_run<O: Sink>(out: &mut O, run: &[u8]) -> Result<(), Failed>
     requires { length run.now ≤ 256 }
-    ensures added { OnOk result (Adds (O.held out.old) (O.held out.new) (map printed run.now)) }
-    ensures prefix { OnErr result (AddsPrefix (O.held out.old) (O.held out.new) (map printed run.now)) }
-    ensures failed { OnErr result (Rose (O.faults out.old) (O.faults out.new)) }
-    ensures later { O.faults out.old ≤ O.faults out.new }
+    ensures { Writes (O.seen out.old) (O.seen out.new) (map visible_byte run.now) result }
 {
     let shown = shown(run);
     write_all(out, &shown[..run.len()])
@@ -233,18 +201,18 @@ fn write_run<O: Sink>(out: &mut O, run: &[u8]) -> Result<(), Failed>
 /// The bytes of a run of a name as they are printed, at the front of an array.
 fn shown(run: &[u8]) -> [u8; RUN]
     requires { length run.now ≤ 256 }
-    ensures { take (length run.now) result ≡ map printed run.now }
+    ensures { take (length run.now) result ≡ map visible_byte run.now }
 {
     let mut shown = [b'?'; RUN];
     for place in 0..run.len() {
-        shown[place] = printed(run[place]);
+        shown[place] = visible_byte(run[place]);
     }
     shown
 }
 
 /// A byte of a name as it is printed.
-fn printed(byte: u8) -> u8
-    ensures { result ≡ printed byte }
+fn visible_byte(byte: u8) -> u8
+    ensures { result ≡ visible_byte byte }
 {
     if byte.is_ascii_graphic() { byte } else { b'?' }
 }

@@ -1,10 +1,10 @@
 ghost use Rattle.std.specs.Prelude.{◌≡◌, ◌<◌, ◌≤◌, ◌⊎◌, length, IfOk, IfSome, OnErr, Some};
-ghost use Rattle.dt_outside.specs.Faults.{Rose};
 ghost use Rattle.dt_cluster.specs.Valid.{IsValidCluster};
 ghost use Rattle.dt_workload.specs.Valid.{IsValidWorkload};
-ghost use Rattle.detock.specs.Asked.{IsRight, word_of};
-ghost use Rattle.detock.specs.Headline.{AreCluster, AreNumbered, AreWorkload, HasCluster, Told, file_limit};
-ghost use Rattle.detock.specs.Refusals.{IsClusterRefusal, IsEventsRefusal, IsFileRefusal, IsWorkloadRefusal};
+ghost use Rattle.detock.specs.TaskCode.{IsRight, word_of};
+ghost use Rattle.detock.specs.Loading.{HasCluster, HasFile, HoldCluster, HoldEvents, HoldWorkload, file_limit};
+ghost use Rattle.detock.specs.Causes.{WasMissed};
+ghost use Rattle.detock.specs.RefusalCode.{IsClusterRefusal, IsEventsRefusal, IsFileRefusal, IsWorkloadRefusal};
 
 use crate::status::{EventsCause, Status};
 use crate::words::ClusterWord;
@@ -35,12 +35,12 @@ pub fn load_cluster<F: Folder>(
     word: ClusterWord<'_>,
 ) -> Result<Cluster, Status>
     requires { IsRight word }
-    ensures cluster { IfOk result (λ cluster. HasCluster (F.told files.old) (word_of word.entry) cluster) }
+    ensures cluster { IfOk result (λ cluster. HasCluster (F.seen files.old).told (word_of word.entry) cluster) }
     ensures valid { IfOk result IsValidCluster }
     ensures refused { (status : _) → result ≡ Err status →
-        IsClusterRefusal (F.told files.old) (word_of word.entry) (F.faults files.old) (F.faults files.new) status }
-    ensures same_told { F.told files.new ≡ F.told files.old }
-    ensures later { F.faults files.old ≤ F.faults files.new }
+        IsClusterRefusal (word_of word.entry) (F.seen files.old) (F.seen files.new) status }
+    ensures same_told { (F.seen files.new).told ≡ (F.seen files.old).told }
+    ensures later { (F.seen files.old).faults ≤ (F.seen files.new).faults }
 {
     match word {
         ClusterWord::Builtin(regions) => Ok(builtin(alloc, regions)?),
@@ -50,12 +50,12 @@ pub fn load_cluster<F: Folder>(
 
 /// Loads and reads a cluster's file.
 fn cluster_file<F: Folder>(alloc: Global, files: &mut F, name: &str) -> Result<Cluster, Status>
-    ensures cluster { IfOk result (λ cluster. Told (F.told files.old) name.now (AreCluster cluster)) }
+    ensures cluster { IfOk result (λ cluster. HasFile (F.seen files.old).told name.now (HoldCluster cluster)) }
     ensures valid { IfOk result IsValidCluster }
     ensures refused { (status : _) → result ≡ Err status →
-        IsFileRefusal (F.told files.old) name.now (F.faults files.old) (F.faults files.new) status }
-    ensures same_told { F.told files.new ≡ F.told files.old }
-    ensures later { F.faults files.old ≤ F.faults files.new }
+        IsFileRefusal name.now (F.seen files.old) (F.seen files.new) status }
+    ensures same_told { (F.seen files.new).told ≡ (F.seen files.old).told }
+    ensures later { (F.seen files.old).faults ≤ (F.seen files.new).faults }
 {
     let too_long = Status::BadCluster(ClusterFault {
         place: ClusterPlace::Whole,
@@ -77,12 +77,12 @@ pub fn load_workload<F: Folder>(
     cluster: &Cluster,
 ) -> Result<Workload, Status>
     requires { IsValidCluster cluster.now }
-    ensures workload { IfOk result (λ workload. Told (F.told files.old) name.now (AreWorkload cluster.now workload)) }
+    ensures workload { IfOk result (λ workload. HasFile (F.seen files.old).told name.now (HoldWorkload cluster.now workload)) }
     ensures valid { IfOk result (λ workload. IsValidWorkload cluster.now workload) }
     ensures refused { (status : _) → result ≡ Err status →
-        IsWorkloadRefusal (F.told files.old) cluster.now name.now (F.faults files.old) (F.faults files.new) status }
-    ensures same_told { F.told files.new ≡ F.told files.old }
-    ensures later { F.faults files.old ≤ F.faults files.new }
+        IsWorkloadRefusal cluster.now name.now (F.seen files.old) (F.seen files.new) status }
+    ensures same_told { (F.seen files.new).told ≡ (F.seen files.old).told }
+    ensures later { (F.seen files.old).faults ≤ (F.seen files.new).faults }
 {
     let too_long = Status::BadWorkload(0, WorkloadCause::TooLong);
     let bytes = load(alloc, files, name, WORKLOAD_WORD, too_long)?;
@@ -99,12 +99,12 @@ pub fn load_events<F: Folder>(
     files: &mut F,
     name: &str,
 ) -> Result<Vec<(u32, Event)>, Status>
-    ensures events { IfOk result (λ events. Told (F.told files.old) name.now (AreNumbered events.items)) }
+    ensures events { IfOk result (λ events. HasFile (F.seen files.old).told name.now (HoldEvents events.items)) }
     ensures few { IfOk result (λ events. length events.items ≤ file_limit) }
     ensures refused { (status : _) → result ≡ Err status →
-        IsEventsRefusal (F.told files.old) name.now (F.faults files.old) (F.faults files.new) status }
-    ensures same_told { F.told files.new ≡ F.told files.old }
-    ensures later { F.faults files.old ≤ F.faults files.new }
+        IsEventsRefusal name.now (F.seen files.old) (F.seen files.new) status }
+    ensures same_told { (F.seen files.new).told ≡ (F.seen files.old).told }
+    ensures later { (F.seen files.old).faults ≤ (F.seen files.new).faults }
 {
     let too_long = Status::BadEvents(0, EventsCause::TooLong);
     let bytes = load(alloc, files, name, EVENTS_WORD, too_long)?;
@@ -123,14 +123,14 @@ fn load<F: Folder>(
     word: u32,
     too_long: Status,
 ) -> Result<Vec<u8>, Status>
-    ensures told { IfOk result (λ bytes. IfSome (F.told files.old) (λ told. told name.now ≡ Some bytes.items)) }
+    ensures told { IfOk result (λ bytes. IfSome (F.seen files.old).told (λ told. told name.now ≡ Some bytes.items)) }
     ensures short { IfOk result (λ bytes. length bytes.items ≤ file_limit) }
     ensures refused { (status : _) → result ≡ Err status →
         (status ≡ Status.NoMemory)
-        ⊎ ((status ≡ too_long) × Told (F.told files.old) name.now (λ bytes. file_limit < length bytes))
-        ⊎ ((status ≡ Status.CannotRead word) × Rose (F.faults files.old) (F.faults files.new)) }
-    ensures same_told { F.told files.new ≡ F.told files.old }
-    ensures later { F.faults files.old ≤ F.faults files.new }
+        ⊎ ((status ≡ too_long) × HasFile (F.seen files.old).told name.now (λ bytes. file_limit < length bytes))
+        ⊎ ((status ≡ Status.CannotRead word) × WasMissed (F.seen files.old) (F.seen files.new) name.now) }
+    ensures same_told { (F.seen files.new).told ≡ (F.seen files.old).told }
+    ensures later { (F.seen files.old).faults ≤ (F.seen files.new).faults }
 {
     match files.load(alloc, name, FILE_LIMIT) {
         Ok(bytes) => Ok(bytes),

@@ -3,6 +3,7 @@
 
 mod faults;
 mod loading;
+mod program;
 mod replay;
 mod status;
 #[cfg(test)]
@@ -10,36 +11,17 @@ mod tests;
 mod top;
 mod words;
 
-use crate::faults::tell;
-use crate::status::Status;
-use crate::top::detock;
-use crate::words::command_line;
+use crate::program::{command_line, exit_of};
 use dt_outside::{DiskFolder, StdSink};
-use std::io::ErrorKind;
 use std::process::ExitCode;
 
-/// The number of no status: the system does not give the words.
-const NO_WORDS: u8 = 12;
-
 fn main(rt: HostRuntime) -> ExitCode {
-    let mut files = DiskFolder::new(&rt);
-    let mut out = StdSink::new(rt.stdout());
-    let mut err = StdSink::new(rt.stderr());
-    let words = match command_line(&rt) {
-        Ok(words) => words,
-        Err(error) if error.kind() == ErrorKind::OutOfMemory => {
-            tell(&Status::NoMemory, &mut err);
-            return ExitCode::from(Status::NoMemory.exit());
-        }
-        Err(_) => return ExitCode::from(NO_WORDS),
-    };
-    let status = detock(
+    ExitCode::from(exit_of(
         &rt,
         rt.alloc(),
-        words.as_slice(),
-        &mut files,
-        &mut out,
-        &mut err,
-    );
-    ExitCode::from(status.exit())
+        command_line(&rt),
+        &mut DiskFolder::new(&rt),
+        &mut StdSink::new(rt.stdout()),
+        &mut StdSink::new(rt.stderr()),
+    ))
 }

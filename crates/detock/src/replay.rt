@@ -5,9 +5,11 @@ ghost use Rattle.dt_workload.specs.Valid.{IsValidWorkload};
 ghost use Rattle.dt_session.specs.Run.{AreLegal, world_after};
 ghost use Rattle.dt_report.specs.Report.{report_text};
 ghost use Rattle.dt_world.specs.WorldReport.{report_of};
-ghost use Rattle.detock.specs.Words.{NeedsThreads, spelled};
-ghost use Rattle.detock.specs.Headline.{Headline, IsReplayable, file_limit, is_move, moves, unnumbered};
-ghost use Rattle.detock.specs.Refusals.{IsRefusal, IsStepRefusal, refusal_of};
+ghost use Rattle.detock.specs.Tasks.{NeedsThreads, word_bytes};
+ghost use Rattle.detock.specs.Loading.{file_limit, unnumbered};
+ghost use Rattle.detock.specs.Headline.{AreDone, is_move, moves};
+ghost use Rattle.detock.specs.Causes.{IsReplayable};
+ghost use Rattle.detock.specs.RefusalCode.{IsRefusal, IsStepRefusal, refusal_of};
 
 use crate::loading::{load_cluster, load_events, load_workload};
 use crate::status::{EventsCause, Status};
@@ -24,14 +26,14 @@ use std::alloc::Global;
 
 /// The text of the report that the words ask for, or why there is none.
 pub fn report<F: Folder>(alloc: Global, words: &[String], files: &mut F) -> Result<Vec<u8>, Status>
-    requires { ¬ NeedsThreads (spelled words.now) }
-    ensures done { IfOk result (λ text. Headline (F.told files.old) (spelled words.now) (λ report. text.items ≡ report)) }
-    ensures possible { IfOk result (λ _. IsReplayable (F.told files.old) (spelled words.now)) }
+    requires { ¬ NeedsThreads (word_bytes words.now) }
+    ensures done { IfOk result (λ text. AreDone (F.seen files.old).told (word_bytes words.now) (λ report. text.items ≡ report)) }
+    ensures possible { IfOk result (λ _. IsReplayable (F.seen files.old).told (word_bytes words.now)) }
     ensures refused { (status : _) → result ≡ Err status →
-        IsRefusal (F.told files.old) (spelled words.now) (F.faults files.old) (F.faults files.new) status }
+        IsRefusal (word_bytes words.now) (F.seen files.old) (F.seen files.new) status }
     ensures unread { result ≡ Err Status.BadWords → files.new ≡ files.old }
-    ensures same_told { F.told files.new ≡ F.told files.old }
-    ensures later { F.faults files.old ≤ F.faults files.new }
+    ensures same_told { (F.seen files.new).told ≡ (F.seen files.old).told }
+    ensures later { (F.seen files.old).faults ≤ (F.seen files.new).faults }
 {
     let Some(replay) = replay_words(words) else {
         return Err(Status::BadWords);

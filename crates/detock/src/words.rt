@@ -1,11 +1,9 @@
-ghost use Rattle.std.specs.Prelude.{◌≡◌, ◌≢◌, ◌∷◌, [], ℕ, List, MatchBool, MatchOption};
-ghost use Rattle.detock.specs.Words.{IsBig, IsBuiltin, IsFileName, IsReplay, IsRun, IsSize, NamesCluster, NeedsThreads, builtin_word, spelled};
-ghost use Rattle.detock.specs.Asked.{IsRight, asked_for, word_of};
+ghost use Rattle.std.specs.Prelude.{◌≡◌, ◌≢◌, ℕ, List, MatchBool, MatchOption};
+ghost use Rattle.dt_access.specs.Clash.{Bytes};
+ghost use Rattle.detock.specs.Tasks.{Asks, Big, IsBuiltin, IsSize, NamesCluster, NeedsThreads, Replay, Run, builtin_word, word_bytes};
+ghost use Rattle.detock.specs.TaskCode.{IsRight, asked_for, word_of};
 
 use dt_text::read_u32;
-use std::alloc::Global;
-use std::env::{Env, args};
-use std::io;
 
 /// Which cluster a word names.
 #[derive(Clone, Copy, Debug)]
@@ -27,18 +25,15 @@ pub struct ReplayWords<'a> {
     pub events: &'a str,
 }
 
-/// The words of the command line, without the program's name. Fails where the system does not give them.
-pub fn command_line<R: Env + Alloc<A = Global>>(rt: &R) -> io::Result<Vec<String>> {
-    Ok(args(rt)?.skip(1).collect(rt.alloc())?)
-}
-
-/// Reads the words of a replay. `None` exactly where the words are none. Takes no memory.
+/// Reads the words of a replay. `None` exactly where the words are not those of one. Takes no memory.
 pub fn replay_words(words: &[String]) -> Option<ReplayWords<'_>>
-    ensures { MatchOption result ((replay : _) → ¬ IsReplay (spelled words.now) replay)
-        (λ replay. IsReplay (spelled words.now) (asked_for replay) × IsRight replay.cluster) }
+    ensures { MatchOption result ((cluster workload events : Bytes) → ¬ Asks (word_bytes words.now) (Replay cluster workload events))
+        (λ replay. Asks (word_bytes words.now) (asked_for replay) × IsRight replay.cluster) }
 {
-    let (verb, cluster, workload, events) = four_words(words)?;
-    if verb != "replay" || workload.is_empty() || events.is_empty() {
+    let [verb, cluster, workload, events] = words else {
+        return None;
+    };
+    if verb.as_str() != "replay" || workload.is_empty() || events.is_empty() {
         return None;
     }
     let cluster = cluster_word(cluster)?;
@@ -51,71 +46,35 @@ pub fn replay_words(words: &[String]) -> Option<ReplayWords<'_>>
 
 /// Whether the words ask for what threads do: `run`, or `big`. Takes no memory.
 pub fn needs_threads(words: &[String]) -> bool
-    ensures { MatchBool result (NeedsThreads (spelled words.now)) (¬ NeedsThreads (spelled words.now)) }
+    ensures { MatchBool result (NeedsThreads (word_bytes words.now)) (¬ NeedsThreads (word_bytes words.now)) }
 {
     is_run(words) || is_big(words)
 }
 
 fn is_run(words: &[String]) -> bool
-    ensures { MatchBool result (IsRun (spelled words.now)) (¬ IsRun (spelled words.now)) }
+    ensures { MatchBool result ((cluster workload : Bytes) × Asks (word_bytes words.now) (Run cluster workload))
+        ((cluster workload : Bytes) → ¬ Asks (word_bytes words.now) (Run cluster workload)) }
 {
-    let Some((verb, cluster, workload)) = three_words(words) else {
+    let [verb, cluster, workload] = words else {
         return false;
     };
-    if verb != "run" || workload.is_empty() {
+    if verb.as_str() != "run" || workload.is_empty() {
         return false;
     }
-    cluster_word(cluster).is_some()
+    names_cluster(cluster)
 }
 
 fn is_big(words: &[String]) -> bool
-    ensures { MatchBool result (IsBig (spelled words.now)) (¬ IsBig (spelled words.now)) }
+    ensures { MatchBool result ((size : Bytes) × Asks (word_bytes words.now) (Big size))
+        ((size : Bytes) → ¬ Asks (word_bytes words.now) (Big size)) }
 {
-    let Some((verb, size)) = two_words(words) else {
+    let [verb, size] = words else {
         return false;
     };
-    if verb != "big" {
+    if verb.as_str() != "big" {
         return false;
     }
     is_size(size.as_bytes())
-}
-
-/// The two words, if there are as many.
-fn two_words(words: &[String]) -> Option<(&str, &str)>
-    ensures { MatchOption result ((a b : List ℕ) → spelled words.now ≢ a ∷ b ∷ [])
-        (λ w. spelled words.now ≡ w.0.now ∷ w.1.now ∷ []) }
-{
-    if words.len() != 2 {
-        return None;
-    }
-    Some((words[0].as_str(), words[1].as_str()))
-}
-
-/// The three words, if there are as many.
-fn three_words(words: &[String]) -> Option<(&str, &str, &str)>
-    ensures { MatchOption result ((a b c : List ℕ) → spelled words.now ≢ a ∷ b ∷ c ∷ [])
-        (λ w. spelled words.now ≡ w.0.now ∷ w.1.now ∷ w.2.now ∷ []) }
-{
-    if words.len() != 3 {
-        return None;
-    }
-    Some((words[0].as_str(), words[1].as_str(), words[2].as_str()))
-}
-
-/// The four words, if there are as many.
-fn four_words(words: &[String]) -> Option<(&str, &str, &str, &str)>
-    ensures { MatchOption result ((a b c d : List ℕ) → spelled words.now ≢ a ∷ b ∷ c ∷ d ∷ [])
-        (λ w. spelled words.now ≡ w.0.now ∷ w.1.now ∷ w.2.now ∷ w.3.now ∷ []) }
-{
-    if words.len() != 4 {
-        return None;
-    }
-    Some((
-        words[0].as_str(),
-        words[1].as_str(),
-        words[2].as_str(),
-        words[3].as_str(),
-    ))
 }
 
 /// Whether the word is a number from 1 to 20000.
@@ -132,6 +91,13 @@ fn is_size(word: &[u8]) -> bool
         return false;
     }
     true
+}
+
+/// Whether the word names a cluster.
+fn names_cluster(word: &str) -> bool
+    ensures { MatchBool result (NamesCluster word.now) (¬ NamesCluster word.now) }
+{
+    cluster_word(word).is_some()
 }
 
 /// Which cluster the word names. `None` exactly where it names none.

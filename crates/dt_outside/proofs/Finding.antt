@@ -4,18 +4,22 @@ use Rattle.std.specs.Option.{option_map}
 use Rattle.std.specs.Cmp.Lexicographic.{pointwise}
 use Rattle.std.specs.List.{list_any}
 use Rattle.dt_outside.specs.Faults.{next_count}
-use Rattle.dt_outside.specs.Files.{StoredFolder, fails_next, file_in, stored_file}
+use Rattle.dt_outside.specs.Folder.{StoredFolder, fails_next, file_in, stored_file}
 
 -- the first file of a name is the first entry whose text is that name
-pub file_in-map : {A B : Type 0} (files : List (String A × Vec ℕ B)) (name : List ℕ) → file_in (map stored_file files) name ≡ option_map (λ file. file.1.items) (find (λ file. pointwise nat_eq (string_bytes file.0) name) files)
+pub file_in-map : {A B : Type 0} (files : List (String A × Vec ℕ B)) (name : List ℕ)
+    → file_in (map stored_file files) name ≡ option_map (λ file. file.1.items) (find (λ file. pointwise nat_eq (string_bytes file.0) name) files)
 file_in-map [] name = refl
 file_in-map (file ∷ files) name =
-    elim (pointwise nat_eq (string_bytes file.0) name) as (λ same. cond same (Some file.1.items) (file_in (map stored_file files) name) ≡ option_map (λ f. f.1.items) (cond same (Some file) (find (λ f. pointwise nat_eq (string_bytes f.0) name) files)))
+    let found = find (λ f. pointwise nat_eq (string_bytes f.0) name) files in
+    elim (pointwise nat_eq (string_bytes file.0) name)
+    as (λ same. cond same (Some file.1.items) (file_in (map stored_file files) name) ≡ option_map (λ f. f.1.items) (cond same (Some file) found))
     [ true ↦ refl | false ↦ file_in-map files name ]
 
 -- for the tactics
 pub ruleset finding = (file_in-map)
 
 -- a load passes where its number is none of those that fail, and a file has the name
-pub fails_next-found : (seen folder : StoredFolder) (name bytes : List ℕ) (number : ℕ) → seen ≡ folder → number ≡ next_count seen.loads → false ≡ list_any (λ failing. failing == number) seen.failing → Some bytes ≡ file_in seen.files name → fails_next folder name ≡ false
+pub fails_next-found : (seen folder : StoredFolder) (name bytes : List ℕ) (number : ℕ) → seen ≡ folder → number ≡ next_count seen.loads
+    → false ≡ list_any (λ failing. failing == number) seen.failing → Some bytes ≡ file_in seen.files name → fails_next folder name ≡ false
 fails_next-found seen folder name bytes number is_seen same passes found = rw (← is_seen, ← same, ← passes, ← found) refl

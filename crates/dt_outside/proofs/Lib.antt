@@ -1,2 +1,4 @@
+pub mod Callers
 pub mod Finding
+pub mod Reading
 pub mod Writing

@@ -1,3 +1,3 @@
 pub mod Faults
-pub mod Files
-pub mod Held
+pub mod Folder
+pub mod Sink

@@ -1,6 +1,6 @@
-ghost use Rattle.std.specs.Prelude.{◌≡◌, ℕ, ◌<◌, ◌≤◌, ◌⊎◌, List, length, Option, IfOk, IfSome, IsSomeAnd};
+ghost use Rattle.std.specs.Prelude.{◌≡◌, ◌≢◌, ◌<◌, ◌≤◌, ◌⊎◌, length, IfOk, IfSome, Some};
 ghost use Rattle.dt_outside.specs.Faults.{Rose};
-ghost use Rattle.dt_outside.specs.Files.{Files, IsLonger};
+ghost use Rattle.dt_outside.specs.Folder.{FolderView, IsAboveLimit, MissedLast};
 
 use crate::failures::LoadError;
 use std::alloc::Global;
@@ -8,13 +8,11 @@ use std::alloc::Global;
 /// A place that has files by name.
 ///
 /// A folder may tell what its files hold; then a load that isn't a fault gives exactly that. Whether
-/// it tells or not, it counts its faults. The count never falls, and ends at `u64::MAX`.
+/// it tells or not, it counts its faults. The count never falls, and ends at `u64::MAX`. It may tell
+/// the name of the newest load that was a fault.
 pub trait Folder {
-    // The files, where the folder tells them.
-    ghost told: { Self → Option Files };
-
-    // How many faults there were.
-    ghost faults: { Self → ℕ };
+    // What is seen of it.
+    ghost seen: { Self → FolderView };
 
     /// Gives the bytes of the file of this name, at most `limit` of them.
     ///
@@ -23,21 +21,25 @@ pub trait Folder {
     /// `NoMemory` the folder is as before.
     fn load(&mut self, alloc: Global, name: &str, limit: u64) -> Result<Vec<u8>, LoadError>
         ensures capped { IfOk result (λ bytes. length bytes.items ≤ limit) }
-        ensures failed { result ≡ Err LoadError.Failed → Rose (faults self.old) (faults self.new) }
+        ensures failed { result ≡ Err LoadError.Failed → Rose (seen self.old).faults (seen self.new).faults }
+
+        // A load in vain is the newest one, by its name; no other load changes which one is the newest.
+        ensures missed { result ≡ Err LoadError.Failed → MissedLast (seen self.new) name.now }
+        ensures same_missed { result ≢ Err LoadError.Failed → (seen self.new).missed ≡ (seen self.old).missed }
 
         // Where the files are told, an answer is that of the file of this name.
-        ensures whole { IfSome (told self.old) (λ files.
+        ensures whole { IfSome (seen self.old).told (λ files.
             IfOk result (λ bytes. files name.now ≡ Some bytes.items)) }
-        ensures long_only { IfSome (told self.old) (λ files.
-            result ≡ Err LoadError.TooLong → IsLonger files name.now limit) }
+        ensures long_only { IfSome (seen self.old).told (λ files.
+            result ≡ Err LoadError.TooLong → IsAboveLimit files name.now limit) }
 
         // Without a fault a file that is too long is refused as such; only want of memory may come first.
-        ensures long_always { IfSome (told self.old) (λ files.
-            IsLonger files name.now limit → ¬ Rose (faults self.old) (faults self.new) →
+        ensures long_always { IfSome (seen self.old).told (λ files.
+            IsAboveLimit files name.now limit → ¬ Rose (seen self.old).faults (seen self.new).faults →
             (result ≡ Err LoadError.TooLong) ⊎ (result ≡ Err LoadError.NoMemory)) }
 
         // What stays, and what never falls.
-        ensures same_told { told self.new ≡ told self.old }
-        ensures same_count { result ≡ Err LoadError.NoMemory → faults self.new ≡ faults self.old }
-        ensures later { faults self.old ≤ faults self.new };
+        ensures same_told { (seen self.new).told ≡ (seen self.old).told }
+        ensures same_count { result ≡ Err LoadError.NoMemory → (seen self.new).faults ≡ (seen self.old).faults }
+        ensures later { (seen self.old).faults ≤ (seen self.new).faults };
 }

@@ -1,6 +1,7 @@
 //! What the program knows of files and streams: folders that give files, sinks that take bytes, and
 //! a count of faults for each. A folder and a sink in memory say all that they do; those over the
-//! real disk and the real streams say what can be promised of a device.
+//! real disk and the real streams say what can be promised of a device, and hand on what the reader
+//! gives and what the writer takes.
 #![tactic(auto)]
 
 mod disk_folder;
@@ -13,7 +14,7 @@ mod std_sink;
 #[cfg(test)]
 mod tests;
 
-pub use disk_folder::DiskFolder;
+pub use disk_folder::{DiskFolder, read_within};
 pub use failures::{Failed, LoadError};
 pub use folders::Folder;
 pub use memory_folder::MemoryFolder;

@@ -1,8 +1,8 @@
-ghost use Rattle.std.specs.Prelude.{◌≡◌, ◌≢◌, ◌<◌, ◌≤◌, ◌↔◌, ◌⊎◌, List, map, length, IfOk, IfSome, Some, IsTrue, false, if◌then◌else◌, string_bytes, nat_eq, find};
+ghost use Rattle.std.specs.Prelude.{◌≡◌, ◌≢◌, ◌<◌, ◌≤◌, ◌↔◌, ◌⊎◌, List, map, length, IfOk, IfSome, None, Some, IsTrue, false, if◌then◌else◌, string_bytes, nat_eq, find};
 ghost use Rattle.std.specs.Option.{option_map, option_copied};
 ghost use Rattle.std.specs.Cmp.Lexicographic.{pointwise};
 ghost use Rattle.dt_outside.specs.Faults.{next_count, Rose};
-ghost use Rattle.dt_outside.specs.Files.{Files, IsLonger, file_in, fails_next, stored_file};
+ghost use Rattle.dt_outside.specs.Folder.{IsAboveLimit, file_in, fails_next, stored_file};
 
 use crate::failures::LoadError;
 use crate::folders::Folder;
@@ -16,11 +16,12 @@ pub struct MemoryFolder {
     failing: Vec<u64>,
     loads: u64,
     faults: u64,
+    missed: Option<String>,
 }
 
 impl Model for MemoryFolder {
     ghost use Rattle.std.specs.Prelude.{map};
-    ghost use Rattle.dt_outside.specs.Files.{StoredFolder, stored_file};
+    ghost use Rattle.dt_outside.specs.Folder.{StoredFolder, stored_file, stored_name};
 
     ghost Value = { StoredFolder };
 
@@ -29,6 +30,7 @@ impl Model for MemoryFolder {
       failing = f.failing.items;
       loads = f.loads;
       faults = f.faults;
+      missed = stored_name f.missed;
     } };
 }
 
@@ -36,13 +38,14 @@ impl MemoryFolder {
     /// A folder of these files, each a name and its bytes; of two files of one name the first
     /// counts. The loads whose numbers, from 1, are in `failing` fail. Takes no memory.
     pub fn new(files: Vec<(String, Vec<u8>)>, failing: Vec<u64>) -> Self
-        ensures { result ≡ record { files = map stored_file files.items; failing = failing.items; loads = 0; faults = 0 } }
+        ensures { result ≡ record { files = map stored_file files.items; failing = failing.items; loads = 0; faults = 0; missed = None } }
     {
         MemoryFolder {
             files,
             failing,
             loads: 0,
             faults: 0,
+            missed: None,
         }
     }
 
@@ -52,7 +55,7 @@ impl MemoryFolder {
         ensures whole { IfOk result (λ bytes. file_in self.now.files name.now ≡ Some bytes.items) }
         ensures capped { IfOk result (λ bytes. length bytes.items ≤ limit) }
         ensures long { (result ≡ Err LoadError.TooLong) ↔
-            ((fails_next self.now name.now ≡ false) × IsLonger (file_in self.now.files) name.now limit) }
+            ((fails_next self.now name.now ≡ false) × IsAboveLimit (file_in self.now.files) name.now limit) }
     {
         let number = self.loads.saturating_add(1);
         let is_failing = self.failing.contains(&number);
@@ -93,26 +96,31 @@ fn copy_within(alloc: Global, bytes: &[u8], limit: u64) -> Result<Vec<u8>, LoadE
 }
 
 impl Folder for MemoryFolder {
-    ghost told = { λ folder. Some (file_in folder.files) };
-
-    ghost faults = { λ folder. folder.faults };
+    ghost seen = { λ folder. record {
+      told = Some (file_in folder.files);
+      faults = folder.faults;
+      missed = folder.missed;
+    } };
 
     /// Fails exactly where the number of this load is one that fails, or no file has the name. Each
-    /// load is counted, and each failure as a fault; both counts end at `u64::MAX`. After `NoMemory`
-    /// the folder is as before.
+    /// load is counted, and each failure as a fault; both counts end at `u64::MAX`. The name of a load
+    /// that failed is kept, if there is memory for it. After `NoMemory` the folder is as before.
     fn load(&mut self, alloc: Global, name: &str, limit: u64) -> Result<Vec<u8>, LoadError>
         // The answer.
         ensures failed { (result ≡ Err LoadError.Failed) ↔ IsTrue (fails_next self.old name.now) }
         ensures whole { IfOk result (λ bytes. file_in self.old.files name.now ≡ Some bytes.items) }
         ensures capped { IfOk result (λ bytes. length bytes.items ≤ limit) }
         ensures long { (result ≡ Err LoadError.TooLong) ↔
-            ((fails_next self.old name.now ≡ false) × IsLonger (file_in self.old.files) name.now limit) }
+            ((fails_next self.old name.now ≡ false) × IsAboveLimit (file_in self.old.files) name.now limit) }
 
         // The folder after it.
         ensures counted { result ≢ Err LoadError.NoMemory → self.new ≡ record self.old {
           loads = next_count self.old.loads;
           faults = if fails_next self.old name.now then next_count self.old.faults else self.old.faults;
+          missed = self.new.missed;
         } }
+        ensures missed { result ≡ Err LoadError.Failed → IfSome self.new.missed (λ missed. missed ≡ name.now) }
+        ensures same_missed { result ≢ Err LoadError.Failed → self.new.missed ≡ self.old.missed }
         ensures same { result ≡ Err LoadError.NoMemory → self.new ≡ self.old }
         ensures later { self.old.faults ≤ self.new.faults }
     {
@@ -123,6 +131,7 @@ impl Folder for MemoryFolder {
         self.loads = self.loads.saturating_add(1);
         if let Err(LoadError::Failed) = answer {
             self.faults = self.faults.saturating_add(1);
+            self.missed = String::from_str(alloc, name).ok();
         }
         answer
     }

@@ -17,7 +17,7 @@ pub struct MemorySink {
 
 impl Model for MemorySink {
     ghost use Rattle.std.specs.Prelude.{◌≤◌, vec_len, vec_capacity};
-    ghost use Rattle.dt_outside.specs.Held.{StoredSink};
+    ghost use Rattle.dt_outside.specs.Sink.{StoredSink};
 
     ghost Value = { StoredSink };
 
@@ -48,9 +48,7 @@ impl MemorySink {
 }
 
 impl Sink for MemorySink {
-    ghost held = { λ sink. Some sink.content };
-
-    ghost faults = { λ sink. sink.faults };
+    ghost seen = { λ sink. record { held = Some sink.content; faults = sink.faults } };
 
     /// Adds as many first bytes of the piece as there is room for. Fails exactly where the room is
     /// used up already.

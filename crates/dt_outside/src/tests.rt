@@ -1,11 +1,11 @@
 ghost use Rattle.std.specs.Prelude.{◌≡◌, ℕ, ◌≤◌, ◌++◌, List, length, Option, IfSome, IfOk, OnOk, OnErr, MatchResult, Some};
 ghost use Rattle.dt_outside.specs.Faults.{Rose};
-ghost use Rattle.dt_outside.specs.Files.{Files};
-ghost use Rattle.dt_outside.specs.Held.{Adds, AddsPrefix};
+ghost use Rattle.dt_outside.specs.Folder.{Files};
+ghost use Rattle.dt_outside.specs.Sink.{Writes};
 
 use super::*;
 use std::alloc::Global;
-use std::io::Write;
+use std::io::{Read, Write};
 use std::test::Fail;
 use std::{env, fs, io};
 
@@ -18,8 +18,8 @@ fn load_told<F: Folder>(
     limit: u64,
 ) -> Result<Vec<u8>, LoadError>
     ensures { (told : Files) (content : List ℕ) →
-        F.told files.old ≡ Some told → told name.now ≡ Some content → length content ≤ limit →
-        ¬ Rose (F.faults files.old) (F.faults files.new) →
+        (F.seen files.old).told ≡ Some told → told name.now ≡ Some content → length content ≤ limit →
+        ¬ Rose ((F.seen files.old).faults) ((F.seen files.new).faults) →
         MatchResult result (λ bytes. bytes.items ≡ content) (λ error. error ≡ LoadError.NoMemory) }
 {
     files.load(alloc, name, limit)
@@ -27,11 +27,8 @@ fn load_told<F: Folder>(
 
 // What a caller of any sink relies on: two pieces are one, and after a fault some first bytes of both
 // were added.
-#[tactic(auto, using(crate::proofs::Writing::writing))]
 fn write_both<O: Sink>(out: &mut O, first: &[u8], second: &[u8]) -> Result<(), Failed>
-    ensures added { OnOk result (Adds (O.held out.old) (O.held out.new) (first.now ++ second.now)) }
-    ensures prefix { OnErr result (AddsPrefix (O.held out.old) (O.held out.new) (first.now ++ second.now)) }
-    ensures failed { OnErr result (Rose (O.faults out.old) (O.faults out.new)) }
+    ensures { Writes (O.seen out.old) (O.seen out.new) (first.now ++ second.now) result }
 {
     write_all(out, first)?;
     write_all(out, second)
@@ -124,25 +121,73 @@ fn a_disk_gives_the_bytes_of_a_file(rt: HostRuntime) -> Result<(), Fail> {
     Ok(())
 }
 
-// A writer that takes two bytes at once and `left` in all, and then either nothing or fails.
+// What a narrow device does: it gives or takes at most ten bytes at a time, every third call is
+// interrupted, and after `left` bytes in all there is nothing more, or a failure.
 #[derive(Drop)]
 struct Narrow {
     left: usize,
     fails: bool,
+    calls: usize,
+}
+
+impl Narrow {
+    fn new(left: usize, fails: bool) -> Self {
+        Narrow {
+            left,
+            fails,
+            calls: 0,
+        }
+    }
+
+    // How many bytes this call moves, of `wanted`.
+    fn moved(&mut self, wanted: usize) -> io::Result<usize>
+        ensures { IfOk result (λ n. n ≤ wanted) }
+    {
+        self.calls = self.calls.saturating_add(1);
+        if self.calls % 3 == 1 {
+            return Err(io::Error::from(io::ErrorKind::Interrupted));
+        }
+        if self.left == 0 && self.fails {
+            return Err(io::Error::from(io::ErrorKind::BrokenPipe));
+        }
+        let moved = wanted.min(self.left).min(10);
+        self.left -= moved;
+        Ok(moved)
+    }
+}
+
+impl Read for Narrow {
+    fn read(&mut self, buf: &mut [u8]) -> io::Result<usize> {
+        self.moved(buf.len())
+    }
 }
 
 impl Write for Narrow {
     fn write(&mut self, buf: &[u8]) -> io::Result<usize> {
-        if self.left == 0 && self.fails {
-            return Err(io::Error::from(io::ErrorKind::BrokenPipe));
-        }
-        let taken = buf.len().min(self.left).min(2);
-        self.left -= taken;
-        Ok(taken)
+        self.moved(buf.len())
     }
 
     fn flush(&mut self) -> io::Result<()> {
         Ok(())
+    }
+}
+
+#[test]
+fn a_reader_is_read_to_its_end_ten_bytes_at_a_time(rt: HostRuntime) {
+    let cases = [
+        (0, false, 0, Ok(0)),
+        (25, false, 25, Ok(25)),
+        (25, false, u64::MAX, Ok(25)),
+        (300, false, 299, Err(LoadError::TooLong)),
+        (25, true, 100, Err(LoadError::Failed)),
+    ];
+    for (left, fails, limit, want) in cases {
+        let read = read_within(rt.alloc(), Narrow::new(left, fails), limit);
+        let length = match read {
+            Ok(bytes) => Ok(bytes.len()),
+            Err(error) => Err(error),
+        };
+        assert_eq!(rt; length, want, "{left} bytes, at most {limit}");
     }
 }
 
@@ -156,12 +201,12 @@ fn a_stream_is_handed_the_bytes(rt: HostRuntime) -> Result<(), Fail> {
 }
 
 #[test]
-fn a_stream_that_fails_or_takes_nothing_is_a_fault(rt: HostRuntime) {
+fn a_stream_tells_how_many_bytes_it_took(rt: HostRuntime) {
     for fails in [false, true] {
-        let mut sink = StdSink::new(Narrow { left: 3, fails });
-        assert_eq!(rt; sink.write(b"abcd"), Ok(2));
-        assert_eq!(rt; sink.write(b"cd"), Ok(1));
-        assert_eq!(rt; sink.write(b"d"), Err(Failed));
+        let mut sink = StdSink::new(Narrow::new(13, fails));
+        assert_eq!(rt; sink.write(b"abcdefghijklm"), Ok(10));
+        assert_eq!(rt; sink.write(b"klm"), Ok(3));
+        assert_eq!(rt; sink.write(b"n"), Err(Failed));
     }
 }
 

@@ -1,24 +1,20 @@
-use Rattle.std.proofs.Common.{◌∙◌, [], ◌++◌, codes, List, ℕ, OnOk, OnErr, subst}
-use Rattle.dt_outside.specs.Held.{Adds, AddsPrefix}
-use Rattle.dt_outside.proofs.Writing.{AddsPrefix-longer}
-use Rattle.detock.specs.Pieces.{events_end}
-use Rattle.detock.proofs.FaultLines.{events_line, then_part, then_whole, where_err}
+use Rattle.std.proofs.Common.{◌∙◌, [], ◌++◌, codes, List, ℕ, subst}
+use Rattle.dt_outside.specs.Sink.{Writes}
+use Rattle.dt_outside.proofs.Callers.{Writes-append, Writes-longer}
+use Rattle.detock.specs.LineCode.{events_end}
+use Rattle.detock.proofs.FaultLines.{events_line}
 use Rattle.detock.proofs.faults.put_bad_events.Goals as goal
 
-pub returns-in_err-write_pieces-clause-prefix : goal.returns-in_err-write_pieces-clause-prefix
-returns-in_err-write_pieces-clause-prefix g c =
-    let P : List ℕ → Type 0 = λ line. AddsPrefix (g.E.Sink.held c.args.err.now) (g.E.Sink.held c.write_pieces.new.out) line in
-    where_err c.from_residual.result _ _ _ (subst P (events_line c.as_bytes-number.result.now c.args.line c.args.cause (c.as_bytes-number.ensures.value ∙ c.format.ensures.text))
-    (AddsPrefix-longer _ _ (codes "detock: events line " ++ (c.as_bytes-number.result.now ++ [])) (events_end c.args.cause) c.in_err-write_pieces.ensures.prefix))
+pub returns-in_err-write_pieces : goal.returns-in_err-write_pieces
+returns-in_err-write_pieces g c =
+    let number = c.as_bytes-number.result.now in
+    let P : List ℕ → Type 0 = λ text. Writes (g.E.Sink.seen c.args.err.now) (g.E.Sink.seen c.write_pieces.new.out) text c.from_residual.result in
+    subst P (events_line number c.args.line c.args.cause (c.as_bytes-number.ensures.value ∙ c.format.ensures.text))
+    (Writes-longer _ _ (codes "detock: events line " ++ (number ++ [])) (events_end c.args.cause) _ _ _ _ c.in_err-write_pieces.was c.from_residual.ensures.1 c.write_pieces.ensures)
 
-pub returns-clause-added : goal.returns-clause-added
-returns-clause-added g c =
-    let P : List ℕ → Type 0 = λ line. OnOk c.put_events_end.result (Adds (g.E.Sink.held c.args.err.now) (g.E.Sink.held c.put_events_end.new.err) line) in
-    subst P (events_line c.as_bytes-number.result.now c.args.line c.args.cause (c.as_bytes-number.ensures.value ∙ c.format.ensures.text))
-    (then_whole c.put_events_end.result _ _ _ (codes "detock: events line " ++ (c.as_bytes-number.result.now ++ [])) (events_end c.args.cause) c.in_ok-write_pieces.ensures.added c.put_events_end.ensures.added)
-
-pub returns-clause-prefix : goal.returns-clause-prefix
-returns-clause-prefix g c =
-    let P : List ℕ → Type 0 = λ line. OnErr c.put_events_end.result (AddsPrefix (g.E.Sink.held c.args.err.now) (g.E.Sink.held c.put_events_end.new.err) line) in
-    subst P (events_line c.as_bytes-number.result.now c.args.line c.args.cause (c.as_bytes-number.ensures.value ∙ c.format.ensures.text))
-    (then_part c.put_events_end.result _ _ _ (codes "detock: events line " ++ (c.as_bytes-number.result.now ++ [])) (events_end c.args.cause) c.in_ok-write_pieces.ensures.added c.put_events_end.ensures.prefix)
+pub returns : goal.returns
+returns g c =
+    let number = c.as_bytes-number.result.now in
+    let P : List ℕ → Type 0 = λ text. Writes (g.E.Sink.seen c.args.err.now) (g.E.Sink.seen c.put_events_end.new.err) text c.put_events_end.result in
+    subst P (events_line number c.args.line c.args.cause (c.as_bytes-number.ensures.value ∙ c.format.ensures.text))
+    (Writes-append _ _ _ (codes "detock: events line " ++ (number ++ [])) (events_end c.args.cause) _ _ _ c.in_ok-write_pieces.was c.write_pieces.ensures c.put_events_end.ensures)

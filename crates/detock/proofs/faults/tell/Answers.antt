@@ -1,5 +1,5 @@
-use Rattle.detock.proofs.FaultLines.{in_part}
+use Rattle.dt_outside.proofs.Callers.{Writes-prefix, Writes-whole}
 use Rattle.detock.proofs.faults.tell.Goals as goal
 
-pub returns-clause-prefix : goal.returns-clause-prefix
-returns-clause-prefix g c = in_part c.put_fault.result _ _ _ c.put_fault.ensures.added c.put_fault.ensures.prefix
+pub returns : goal.returns
+returns g c = record { told = Writes-whole _ _ _ _ c.put_fault.ensures; told_prefix = Writes-prefix _ _ _ _ c.put_fault.ensures; quiet = λ done. absurd (c.in_default.not-Done done) }

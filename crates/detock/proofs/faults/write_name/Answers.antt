@@ -1,29 +1,18 @@
-use Rattle.std.proofs.Common.{List, ℕ, OnErr, map, rules, subst}
-use Rattle.dt_outside.specs.Held.{AddsPrefix}
-use Rattle.dt_outside.proofs.Writing.{Adds-append}
-use Rattle.detock.specs.Statuses.{printed}
-use Rattle.detock.proofs.FaultLines.{then_part}
-use Rattle.detock.proofs.Runs.{next_run, some_of_run}
+use Rattle.std.proofs.Common.{rules, ap, map, ◌∙◌}
+use Rattle.std.proofs.lemmas.List.{map-append}
+use Rattle.std.specs.Slice.Iter.{chunks_rest}
+use Rattle.dt_outside.proofs.Callers.{HasAddedUpTo-next, HasAddedUpTo-failed}
+use Rattle.detock.specs.Statuses.{visible_byte}
 use Rattle.detock.proofs.faults.write_name.Goals as goal
 
-pub returns-in_err-write_run-clause-prefix : goal.returns-in_err-write_run-clause-prefix
-returns-in_err-write_run-clause-prefix g c =
-    let (done, added, all) = c.loop-rest.invariant.0 in
-    let some = some_of_run printed _ _ _ done c.split_at.result.0.now c.split_at.result.1.now c.loop-rest.rest.now c.args.name.now (search rules) added all c.in_err-write_run.ensures.prefix in search rules
+pub returns-in_err-write_run : goal.returns-in_err-write_run
+returns-in_err-write_run g c =
+    let cut = ap (map visible_byte) c.in-Some.ensures.steps.1.0 ∙ map-append visible_byte c.in-Some.run'.now (chunks_rest c.next.new.self) in
+    HasAddedUpTo-failed _ _ _ _ _ _ _ _ cut c.loop-run.invariant.3 c.write_run.ensures _ _ _ c.in_err-write_run.was c.from_residual.ensures.1
 
-pub loop-rest-preserved : goal.loop-rest-preserved
-loop-rest-preserved g c =
-    let (done, added, all) = c.loop-rest.invariant.0 in (
-      (
-        _,
-        Adds-append _ _ _ done _ added c.in_ok-write_run.ensures.added,
-        next_run printed done c.split_at.result.0.now c.split_at.result.1.now c.loop-rest.rest.now c.args.name.now (search rules) all,
-      ),
-      search rules,
-    )
-
-pub returns-clause-prefix : goal.returns-clause-prefix
-returns-clause-prefix g c =
-    let (done, added, all) = c.loop-rest.invariant.0 in
-    let P : List ℕ → Type 0 = λ bytes. OnErr c.write_run-2.result (AddsPrefix (g.O.Sink.held c.args.out.now) (g.O.Sink.held c.write_run-2.new.out) bytes) in
-    subst P all (then_part c.write_run-2.result _ _ _ done (map printed c.loop-rest.rest.now) added c.write_run-2.ensures.prefix)
+pub loop-run-preserved : goal.loop-run-preserved
+loop-run-preserved g c =
+    let steps = c.in-Some.ensures.steps in
+    let cut = ap (map visible_byte) steps.1.0 ∙ map-append visible_byte c.in-Some.run'.now (chunks_rest c.next.new.self) in
+    let size = c.loop-run.invariant.2 in
+    (search rules, tt, steps.0 ∙ size, HasAddedUpTo-next _ _ _ _ _ _ _ _ cut c.loop-run.invariant.3 c.write_run.ensures _ c.in_ok-write_run.was)

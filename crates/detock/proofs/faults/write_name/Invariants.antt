@@ -1,13 +1,13 @@
-use Rattle.std.proofs.Common.{◌≡◌, ◌≤◌, ◌++◌, ℕ, List, map, length}
-use Rattle.dt_outside.specs.Held.{Adds}
-use Rattle.detock.specs.Statuses.{printed}
+use Rattle.std.proofs.Common.{◌≡◌, map}
+use Rattle.std.specs.Slice.Iter.{chunks_rest, chunks_size}
+use Rattle.dt_outside.proofs.Callers.{HasAddedUpTo}
+use Rattle.detock.specs.Statuses.{visible_byte}
 use Rattle.detock.proofs.faults.write_name.Given as goal
 
--- what was written stands behind what the sink held, and with the rest it is all; the count did not fall
-abbrev pub invariant-loop-rest : goal.invariant-loop-rest
-invariant-loop-rest g l =
-    ((done : List ℕ) × Adds (g.O.Sink.held l.fn.out) (g.O.Sink.held l.out) done × (done ++ map printed l.rest ≡ map printed l.name))
-    × (g.O.Sink.faults l.fn.out ≤ g.O.Sink.faults l.out)
-
-abbrev pub decreases-loop-rest : goal.decreases-loop-rest
-decreases-loop-rest g l = length l.rest
+-- all was added but the bytes that are left
+abbrev pub invariant-loop-run : goal.invariant-loop-run
+invariant-loop-run g l =
+    (goal.iterator-loop-run g).can_next l.run-iterator
+    × (goal.iterator-loop-run g).is_finite l.run-iterator
+    × (chunks_size l.run-iterator ≡ 256)
+    × HasAddedUpTo (map visible_byte l.name) (map visible_byte (chunks_rest l.run-iterator)) (g.O.Sink.seen l.fn.out) (g.O.Sink.seen l.out)

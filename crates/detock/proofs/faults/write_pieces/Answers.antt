@@ -1,13 +1,15 @@
-use Rattle.std.proofs.Common.{rules}
-use Rattle.dt_outside.proofs.Writing.{Adds-append}
-use Rattle.detock.proofs.Pieces.{next_piece, some_of_next}
+use Rattle.std.proofs.Common.{ap}
+use Rattle.std.specs.List.{flat_map}
+use Rattle.std.proofs.lemmas.List.{drop_more}
+use Rattle.dt_outside.proofs.Callers.{HasAddedUpTo-next, HasAddedUpTo-failed}
 use Rattle.detock.proofs.faults.write_pieces.Goals as goal
 
-pub returns-in_err-write_all-clause-prefix : goal.returns-in_err-write_all-clause-prefix
-returns-in_err-write_all-clause-prefix g c =
-    let some = some_of_next (λ piece. piece.now) _ _ _ c.args.pieces.now c.loop-piece.piece-index _ c.loop-piece-test.true c.loop-piece.invariant.0 c.in_err-write_all.ensures.prefix in search rules
+pub returns-in_err-write_all : goal.returns-in_err-write_all
+returns-in_err-write_all g c =
+    let cut = ap (flat_map (λ piece. piece.now)) (drop_more c.args.pieces.now c.loop-piece.piece-index _ c.loop-piece-test.true) in
+    HasAddedUpTo-failed _ _ _ _ _ _ _ _ cut c.loop-piece.invariant c.write_all.ensures _ _ _ c.in_err-write_all.was c.from_residual.ensures.1
 
 pub loop-piece-preserved : goal.loop-piece-preserved
 loop-piece-preserved g c =
-    let (done, added, all) = c.loop-piece.invariant.0 in
-    ((_, Adds-append _ _ _ done _ added c.in_ok-write_all.ensures.added, next_piece (λ piece. piece.now) c.args.pieces.now c.loop-piece.piece-index _ done c.loop-piece-test.true all), search rules)
+    let cut = ap (flat_map (λ piece. piece.now)) (drop_more c.args.pieces.now c.loop-piece.piece-index _ c.loop-piece-test.true) in
+    HasAddedUpTo-next _ _ _ _ _ _ _ _ cut c.loop-piece.invariant c.write_all.ensures _ c.in_ok-write_all.was

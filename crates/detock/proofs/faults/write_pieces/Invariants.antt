@@ -1,11 +1,9 @@
-use Rattle.std.proofs.Common.{◌≡◌, ◌≤◌, ◌++◌, ℕ, List, drop}
+use Rattle.std.proofs.Common.{drop}
 use Rattle.std.specs.List.{flat_map}
-use Rattle.dt_outside.specs.Held.{Adds}
+use Rattle.dt_outside.proofs.Callers.{HasAddedUpTo}
 use Rattle.detock.proofs.faults.write_pieces.Given as goal
 
--- the pieces so far stand behind what the sink held, and with those that are left they are all; the count did not fall
+-- all was added but the pieces that are left
 abbrev pub invariant-loop-piece : goal.invariant-loop-piece
 invariant-loop-piece g l =
-    ((done : List ℕ) × Adds (g.O.Sink.held l.fn.out) (g.O.Sink.held l.out) done
-    × (done ++ flat_map (λ piece. piece.now) (drop l.piece-index l.pieces) ≡ flat_map (λ piece. piece.now) l.pieces))
-    × (g.O.Sink.faults l.fn.out ≤ g.O.Sink.faults l.out)
+    HasAddedUpTo (flat_map (λ piece. piece.now) l.pieces) (flat_map (λ piece. piece.now) (drop l.piece-index l.pieces)) (g.O.Sink.seen l.fn.out) (g.O.Sink.seen l.out)

@@ -1,20 +1,19 @@
-use Rattle.std.proofs.Common.{subst, refl}
-use Rattle.detock.specs.Refusals.{IsRefusal}
-use Rattle.detock.specs.Words.{spelled}
-use Rattle.detock.specs.declared.status.Status.{Status}
+use Rattle.std.proofs.Common.{refl}
+use Rattle.detock.specs.Tasks.{word_bytes}
+use Rattle.detock.proofs.Coming.{comes_refused, comes_done, comes_cut}
 use Rattle.detock.proofs.top.status_of.Goals as goal
 
-pub returns-in-Err-clause-done : goal.returns-in-Err-clause-done
-returns-in-Err-clause-done g c = λ is.
-    let P : Status → Type 0 = IsRefusal (g.F.Folder.told c.args.files.now) (spelled c.args.words.now) (g.F.Folder.faults c.args.files.now) (g.F.Folder.faults c.report.new.files) in
-    absurd (subst P is (c.in-Err.ensures.refused c.in-Err.status refl))
+pub returns-in-Err : goal.returns-in-Err
+returns-in-Err g c =
+    comes_refused (word_bytes c.args.words.now) (g.F.Folder.seen) c.args.files.now c.report.new.files (g.O.Sink.seen) c.report.ensures.same_told c.args.out.now c.in-Err.status c.requires
+    (c.in-Err.ensures.refused c.in-Err.status refl) (λ is. c.report.ensures.unread cc)
 
-pub returns-in-Err-clause-cannot_write : goal.returns-in-Err-clause-cannot_write
-returns-in-Err-clause-cannot_write g c = λ is.
-    let P : Status → Type 0 = IsRefusal (g.F.Folder.told c.args.files.now) (spelled c.args.words.now) (g.F.Folder.faults c.args.files.now) (g.F.Folder.faults c.report.new.files) in
-    absurd (subst P is (c.in-Err.ensures.refused c.in-Err.status refl))
+pub returns-in-Ok-write_all : goal.returns-in-Ok-write_all
+returns-in-Ok-write_all g c =
+    comes_done (word_bytes c.args.words.now) (g.F.Folder.seen) c.args.files.now c.report.new.files (g.O.Sink.seen) c.report.ensures.same_told c.args.out.now c.write_all.new.out
+    c.in-Ok.text.items c.requires c.in-Ok.ensures.done c.in-Ok.ensures.possible (rw c.as_slice.ensures.value at c.in-Ok-write_all.ensures.added)
 
-pub returns-in-Err-clause-possible : goal.returns-in-Err-clause-possible
-returns-in-Err-clause-possible g c = λ is.
-    let P : Status → Type 0 = IsRefusal (g.F.Folder.told c.args.files.now) (spelled c.args.words.now) (g.F.Folder.faults c.args.files.now) (g.F.Folder.faults c.report.new.files) in
-    absurd (subst P is (c.in-Err.ensures.refused c.in-Err.status refl))
+pub returns : goal.returns
+returns g c =
+    comes_cut (word_bytes c.args.words.now) (g.F.Folder.seen) c.args.files.now c.report.new.files (g.O.Sink.seen) c.report.ensures.same_told c.args.out.now c.write_all.new.out
+    c.in-Ok.text.items c.requires c.in-Ok.ensures.done (rw c.as_slice.ensures.value at c.in-Err-write_all.ensures.prefix) c.in-Err-write_all.ensures.failed

@@ -1,7 +1,8 @@
 use Rattle.std.proofs.Common.{arith}
 use Rattle.detock.proofs.WordForms.{builtin_length, builtin_colon, builtin_digit, read_builtin}
 use Rattle.detock.proofs.words.builtin_regions.Goals as goal
-use Rattle.detock.proofs.words.builtin_regions.Goals.{then-word-ne2-via-then-word-ne2, then-word-ne2-via-else-word-ne2+then-word-ne58, then-word-ne2-via-else-word-ne2+else-word-ne58+then-word-lt49, then-word-ne2-via-else-word-ne2+else-word-ne58+else-word-lt49+then-word-gt56}
+use Rattle.detock.proofs.words.builtin_regions.Goals.{then-word-ne2-via-then-word-ne2, then-word-ne2-via-else-word-ne2+then-word-ne58}
+use Rattle.detock.proofs.words.builtin_regions.Goals.{then-word-ne2-via-else-word-ne2+else-word-ne58+then-word-lt49, then-word-ne2-via-else-word-ne2+else-word-ne58+else-word-lt49+then-word-gt56}
 
 pub returns-then-word-ne2 : goal.returns-then-word-ne2
 returns-then-word-ne2 c = λ n is e.

@@ -1,6 +1,6 @@
 use Rattle.std.proofs.Common.{rules, ◌≡◌, ◌∙◌, sym, true, false}
 use Rattle.dt_outside.proofs.Finding.{fails_next-found}
-use Rattle.dt_outside.specs.Files.{fails_next}
+use Rattle.dt_outside.specs.Folder.{fails_next}
 use Rattle.dt_outside.proofs.memory_folder.MemoryFolder.next_answer.Goals as goal
 
 -- this load passes, so it fails by neither of the two causes, and a copy never does

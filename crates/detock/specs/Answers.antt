@@ -1,0 +1,51 @@
+-- What a call of the program promises.
+--
+-- `Comes` says that each status comes only by its cause, that the status which the words and the files call for comes where no
+-- device fails, and what is touched of the files and of the output. `IsTold` says which line tells a status. The top call
+-- ensures both, whatever the task. Read next: Statuses, for the exit numbers and the lines.
+use Rattle.std.specs.Prelude.{◌≡◌, ◌≢◌, ℕ, ◌≤◌, ◌⊎◌, List, IsSome}
+use Rattle.dt_access.specs.Clash.{Bytes}
+use Rattle.dt_outside.specs.Faults.{Rose}
+use Rattle.dt_outside.specs.Folder.{FolderView}
+use Rattle.dt_outside.specs.Sink.{SinkView, Adds, AddsPrefix}
+use Rattle.dt_cluster.specs.declared.ClusterFault.{ClusterFault}
+use Rattle.dt_workload.specs.declared.WorkloadCause.{WorkloadCause}
+use Rattle.detock.specs.declared.status.Status.{Status}
+use Rattle.detock.specs.declared.status.Status.TheVariants.{Done, NoMemory, BadWords, CannotRead, BadCluster, BadWorkload, BadEvents, CannotWrite, NotBuilt}
+use Rattle.detock.specs.declared.status.EventsCause.{EventsCause}
+use Rattle.detock.specs.Tasks.{AreAForm, NeedsThreads}
+use Rattle.detock.specs.Headline.{AreDone}
+use Rattle.detock.specs.Causes.{CouldNotRead, HasBadCluster, HasBadEvents, HasBadWorkload, IsDue, IsNotBuilt}
+use Rattle.detock.specs.Statuses.{fault_line}
+
+module _ {F O : Type 0} (words : List Bytes) (seen : F → FolderView) (files files_after : F) (shown : O → SinkView) (out out_after : O) where
+  -- how a status comes, from the words, the folder and the output before the call and after it
+  pub record Comes (status : Status) : Type 0 where
+    -- The headline: the task is done, and all of its report stands behind what the output held.
+    pub done : status ≡ Done → AreDone (seen files).told words (Adds (shown out).held (shown out_after).held)
+    -- Each refusal comes only by its cause, tried in this order.
+    pub bad_words : status ≡ BadWords → ¬ AreAForm words
+    pub unread : status ≡ BadWords → files_after ≡ files
+    pub not_built : status ≡ NotBuilt → IsNotBuilt (seen files).told words
+    pub bad_cluster : (fault : ClusterFault) → status ≡ BadCluster fault → HasBadCluster (seen files).told words fault
+    pub bad_workload : (line : ℕ) (cause : WorkloadCause) → status ≡ BadWorkload line cause → HasBadWorkload (seen files).told words line cause
+    pub cannot_read : (word : ℕ) → status ≡ CannotRead word → CouldNotRead words (seen files) (seen files_after) word
+    pub bad_events : (line : ℕ) (cause : EventsCause) → status ≡ BadEvents line cause → HasBadEvents (seen files).told words line cause
+    -- A report that could not be written was to be; some first bytes of it stand behind what the output held.
+    pub cannot_write : status ≡ CannotWrite → Rose (shown out).faults (shown out_after).faults
+        × AreDone (seen files).told words (AddsPrefix (shown out).held (shown out_after).held)
+    -- Where the files are told and no device failed, the status is the one that they call for, unless memory runs out.
+    pub complete : (due : Status) → IsSome (seen files).told → IsDue (seen files).told words due →
+        ¬ Rose (seen files).faults (seen files_after).faults → ¬ Rose (shown out).faults (shown out_after).faults →
+        (status ≡ due) ⊎ (status ≡ NoMemory)
+    -- Where the words ask for threads, no file is loaded before the answer.
+    pub not_loaded : NeedsThreads words → files_after ≡ files
+    -- Nothing is written to the output but the report, and no file changes.
+    pub out_same : status ≢ Done → status ≢ CannotWrite → out_after ≡ out
+    pub files_same : (seen files_after).told ≡ (seen files).told
+
+-- how a status is told: `err` gets its line, or where it failed some first bytes of it; nothing after `Done`
+pub record IsTold {E : Type 0} (seen : E → SinkView) (err err_after : E) (status : Status) : Type 0 where
+  pub told : ¬ Rose (seen err).faults (seen err_after).faults → Adds (seen err).held (seen err_after).held (fault_line status)
+  pub told_prefix : AddsPrefix (seen err).held (seen err_after).held (fault_line status)
+  pub quiet : status ≡ Done → err_after ≡ err

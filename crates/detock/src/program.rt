@@ -1,0 +1,85 @@
+ghost use Rattle.std.specs.Prelude.{◌≡◌, ℕ, IfOk, IfErr, MatchOption, drop};
+ghost use Rattle.std.specs.IoError.{error_kind};
+ghost use Rattle.detock.specs.Tasks.{word_bytes};
+ghost use Rattle.detock.specs.Answers.{Comes, IsTold};
+ghost use Rattle.detock.specs.Statuses.{exit_number, no_words, status_without};
+ghost use Rattle.detock.specs.declared.status.Status.{Status};
+
+use crate::faults::tell;
+use crate::status::Status;
+use crate::top::detock;
+use dt_outside::{Folder, Sink};
+use std::alloc::Global;
+use std::env::{Env, args};
+use std::io;
+use std::io::ErrorKind;
+use std::sync::Wait;
+use std::thread::Threads;
+
+/// The number of no status: the system does not give the words.
+const NO_WORDS: u8 = 12;
+
+/// All words of the command line, the first of which is the program's name. Fails where the system does not give them, or one is
+/// no text.
+pub fn command_line<R: Env + Alloc<A = Global>>(rt: &R) -> io::Result<Vec<String>> {
+    Ok(args(rt)?.collect(rt.alloc())?)
+}
+
+/// Does what the words of a command line ask for, and gives the number with which the program ends.
+pub fn exit_of<R: Threads + Wait + Sync, F: Folder, O: Sink, E: Sink>(
+    rt: &R,
+    alloc: Global,
+    line: io::Result<Vec<String>>,
+    files: &mut F,
+    out: &mut O,
+    err: &mut E,
+) -> u8
+    // The number is that of the status that the words after the program's name give.
+    ensures answered { IfOk line (λ all. (status : Status) × (result ≡ exit_number status)
+        × Comes (word_bytes (drop 1 all.items)) F.seen files.old files.new O.seen out.old out.new status
+        × IsTold E.seen err.old err.new status) }
+
+    // A word that is no text is a fault of the caller; without any words there is no status.
+    ensures without { IfErr line (λ error. MatchOption (status_without (error_kind error)) (result ≡ no_words)
+        (λ status. (result ≡ exit_number status) × IsTold E.seen err.old err.new status)) }
+{
+    let all = match line {
+        Ok(all) => all,
+        Err(error) => return exit_without(error.kind(), err),
+    };
+    let status = detock(rt, alloc, after_name(all.as_slice()), files, out, err);
+    status.exit()
+}
+
+/// Gives the number where there are no words for this reason, and tells the status, if there is one.
+fn exit_without<E: Sink>(kind: ErrorKind, err: &mut E) -> u8
+    ensures { MatchOption (status_without kind) (result ≡ no_words)
+        (λ status. (result ≡ exit_number status) × IsTold E.seen err.old err.new status) }
+{
+    let Some(status) = status_without(kind) else {
+        return NO_WORDS;
+    };
+    tell(&status, err);
+    status.exit()
+}
+
+/// The words after the program's name.
+fn after_name(all: &[String]) -> &[String]
+    ensures { result.now ≡ drop 1 all.now }
+{
+    match all {
+        [_, words @ ..] => words,
+        [] => all,
+    }
+}
+
+/// The status where the words could not be taken for this reason. `None` where the system does not give them at all.
+fn status_without(kind: ErrorKind) -> Option<Status>
+    ensures { result ≡ status_without kind }
+{
+    match kind {
+        ErrorKind::OutOfMemory => Some(Status::NoMemory),
+        ErrorKind::InvalidData => Some(Status::BadWords),
+        _ => None,
+    }
+}
