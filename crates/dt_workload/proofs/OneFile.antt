@@ -29,7 +29,7 @@ use Rattle.dt_workload.specs.declared.workload.Session.{Session}
 use Rattle.dt_workload.specs.declared.workload.Workload.{Workload}
 use Rattle.dt_workload.specs.declared.error.WorkloadCause.{WorkloadCause}
 use Rattle.dt_workload.specs.declared.error.WorkloadCause.TheVariants as cause
-use Rattle.dt_workload.proofs.OneForm.{same_head, same_tail, one_form}
+use Rattle.dt_workload.proofs.OneForm.{one_form}
 
 -- ---- the procedure of a name
 

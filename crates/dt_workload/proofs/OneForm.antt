@@ -16,12 +16,6 @@ use Rattle.dt_text.proofs.Callers.{exact}
 use Rattle.dt_text.specs.Texts.{Bytes}
 use Rattle.dt_workload.specs.Lines.{bare, quoted, said, Form, session_line, call_line, move_line, argument_word, form_words, IsArgument, IsForm, HasForm}
 
-pub same_head : {A : Type 0} {x y : A} {xs ys : List A} → x ∷ xs ≡ y ∷ ys → x ≡ y
-same_head e = cc
-
-pub same_tail : {A : Type 0} {x y : A} {xs ys : List A} → x ∷ xs ≡ y ∷ ys → xs ≡ ys
-same_tail e = cc
-
 same_bare : {a b : Bytes} → bare a ≡ bare b → a ≡ b
 same_bare e = cc
 
