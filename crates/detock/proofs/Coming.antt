@@ -1,14 +1,14 @@
 -- How a status comes: a refusal by its cause, and a report that was written, whole or in part.
-use Rattle.std.proofs.Common.{◌≡◌, ℕ, ◌⊎◌, inl, inr, List, ◌++◌, IsSome, Result, Ok, Err, refl, subst, sym}
+use Rattle.std.proofs.Common.{◌≡◌, inl, List, refl, subst}
 use Rattle.dt_access.specs.Clash.{Bytes}
 use Rattle.dt_outside.specs.Faults.{Rose}
 use Rattle.dt_outside.specs.Folder.{FolderView}
-use Rattle.dt_outside.specs.Sink.{SinkView, Adds, AddsPrefix, Writes}
+use Rattle.dt_outside.specs.Sink.{SinkView, Adds, AddsPrefix}
 use Rattle.detock.specs.declared.status.Status.{Status}
-use Rattle.detock.specs.declared.status.Status.TheVariants.{Done, NoMemory, BadWords, CannotRead, BadCluster, BadWorkload, BadEvents, CannotWrite, NotBuilt}
-use Rattle.detock.specs.Tasks.{NeedsThreads, Task, Replay, Run, Big}
-use Rattle.detock.specs.Headline.{AreDone, IsDone, Headline, Reported}
-use Rattle.detock.specs.Causes.{IsReplayable, IsDue, IsNotBuilt}
+use Rattle.detock.specs.declared.status.Status.TheVariants.{Done, BadWords, CannotWrite, NotBuilt}
+use Rattle.detock.specs.Tasks.{NeedsThreads, Replay, Run, Big}
+use Rattle.detock.specs.Headline.{AreDone}
+use Rattle.detock.specs.Causes.{IsReplayable}
 use Rattle.detock.specs.Answers.{Comes}
 use Rattle.detock.specs.RefusalCode.{IsRefusal}
 use Rattle.detock.proofs.Due.{refusal_due, done_due}

@@ -1,5 +1,5 @@
 -- The words and the files call for one status.
-use Rattle.std.proofs.Common.{◌≡◌, ◌≢◌, ℕ, ◌⊎◌, inl, inr, List, [], ◌∷◌, ◌++◌, length, Option, Some, None, IsSome, IsSomeAnd, slice_get, refl, ap, sym, ◌∙◌, subst, arith, get_or}
+use Rattle.std.proofs.Common.{◌≡◌, ℕ, ◌⊎◌, inl, inr, List, [], ◌∷◌, ◌++◌, length, Option, Some, None, IsSome, IsSomeAnd, slice_get, refl, ap, sym, ◌∙◌, subst, arith, get_or}
 use Rattle.std.proofs.lemmas.List.{map-append}
 use Rattle.dt_access.specs.Clash.{Bytes}
 use Rattle.dt_text.specs.Lines.{FileLine, lines_of}
@@ -27,7 +27,7 @@ use Rattle.detock.specs.declared.status.Status.TheVariants.{Done, NoMemory, BadW
 use Rattle.detock.specs.declared.status.EventsCause.{EventsCause}
 use Rattle.detock.specs.declared.status.EventsCause.TheVariants.{TooLong, Form, Rule}
 use Rattle.detock.specs.Tasks.{Task, Replay, Run, Big, Asks, IsBuiltin, IsClusterFile, IsThreaded, NeedsThreads, AreAForm, builtin_word, task_words, cluster_word, workload_word, events_word}
-use Rattle.detock.specs.Loading.{HasFile, HasCluster, NamesThis, HoldCluster, HoldWorkload, HoldEvents, Loaded, unnumbered}
+use Rattle.detock.specs.Loading.{HasFile, HasCluster, NamesThis, HoldCluster, HoldWorkload, HoldEvents, unnumbered}
 use Rattle.detock.specs.Headline.{HasMove}
 use Rattle.detock.specs.Causes.{AsksBuilt, AsksOn, AsksWith, IsNotBuilt, AreBadCluster, HasBadCluster, AreBadWorkload, HasBadWorkload, IsFirstIllegal, AreBadEvents, HasBadEvents, WasMissed, CouldNotRead, IsReplayable, IsDue}
 use Rattle.detock.specs.RefusalCode.{IsRefusal}

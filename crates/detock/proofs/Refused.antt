@@ -1,5 +1,5 @@
 -- What is answered as a whole, from what its parts answered.
-use Rattle.std.proofs.Common.{◌≡◌, ℕ, ◌≤◌, ◌<◌, List, Option, Result, Ok, Err, IfOk, Vec, inl, inr, arith, refl, subst, sym}
+use Rattle.std.proofs.Common.{◌≡◌, ℕ, ◌≤◌, List, Option, Result, Ok, Err, IfOk, Vec, inl, inr, arith, refl, subst}
 use Rattle.dt_access.specs.Clash.{Bytes}
 use Rattle.dt_outside.specs.Folder.{Files, FolderView}
 use Rattle.dt_events.specs.declared.Event.{Event}
@@ -15,8 +15,8 @@ use Rattle.detock.specs.declared.status.Status.{Status}
 use Rattle.detock.specs.declared.status.Status.TheVariants.{NoMemory, CannotRead, BadCluster, BadWorkload, BadEvents}
 use Rattle.detock.specs.declared.status.EventsCause.{EventsCause}
 use Rattle.detock.specs.declared.status.EventsCause.TheVariants.{TooLong, Form, Rule}
-use Rattle.detock.specs.Tasks.{Task, Replay, Asks, IsClusterFile, NeedsThreads, AreAForm}
-use Rattle.detock.specs.Loading.{HasFile, HasCluster, HoldWorkload, HoldEvents, Loaded, unnumbered}
+use Rattle.detock.specs.Tasks.{Task, Replay, IsClusterFile}
+use Rattle.detock.specs.Loading.{HasFile, HasCluster, HoldWorkload, HoldEvents, unnumbered}
 use Rattle.detock.specs.Headline.{HasMove, AreDone}
 use Rattle.detock.specs.Causes.{AsksBuilt, AsksOn, AsksWith, AreBadWorkload, AreBadEvents, WasMissed, IsReplayable}
 use Rattle.detock.specs.RefusalCode.{IsFileRefusal, IsClusterRefusal, IsWorkloadRefusal, IsEventsRefusal, IsStepRefusal, IsRefusal, AreMalformed}

@@ -1,9 +1,9 @@
 -- How the words of the command line are spelled.
-use Rattle.std.proofs.Common.{◌≡◌, ℕ, ◌+◌, ◌-◌, ◌≤◌, Bool, true, false, List, [], ◌∷◌, length, get_or, ap, sym, ◌∙◌, arith, refl, subst, codes, String, string_bytes, MatchBool}
+use Rattle.std.proofs.Common.{◌≡◌, ℕ, ◌+◌, ◌-◌, ◌≤◌, Bool, true, false, List, [], ◌∷◌, length, get_or, ap, sym, ◌∙◌, arith, subst, codes, String, string_bytes, MatchBool}
 use Rattle.std.proofs.lemmas.Fmt.{decimal_digit, length-decimal-le}
 use Rattle.std.specs.Fmt.{decimal}
 use Rattle.dt_access.specs.Clash.{Bytes}
-use Rattle.detock.specs.Tasks.{Task, Replay, Run, Big, Asks, AreAForm, NeedsThreads, NamesCluster, IsFileName, IsSize, IsBuiltin, builtin_word, word_bytes}
+use Rattle.detock.specs.Tasks.{Replay, Run, Big, Asks, AreAForm, NeedsThreads, NamesCluster, IsFileName, IsSize, IsBuiltin, builtin_word, word_bytes}
 
 -- the word of a built-in cluster is `:` and a digit
 pub two_bytes : (n : ℕ) → IsBuiltin n → builtin_word n ≡ 58 ∷ (48 + n) ∷ []

@@ -3,7 +3,7 @@
 -- `Comes` says that each status comes only by its cause, that the status which the words and the files call for comes where no
 -- device fails, and what is touched of the files and of the output. `IsTold` says which line tells a status. The top call
 -- ensures both, whatever the task. Read next: Statuses, for the exit numbers and the lines.
-use Rattle.std.specs.Prelude.{◌≡◌, ◌≢◌, ℕ, ◌≤◌, ◌⊎◌, List, IsSome}
+use Rattle.std.specs.Prelude.{◌≡◌, ◌≢◌, ℕ, ◌⊎◌, List, IsSome}
 use Rattle.dt_access.specs.Clash.{Bytes}
 use Rattle.dt_outside.specs.Faults.{Rose}
 use Rattle.dt_outside.specs.Folder.{FolderView}

@@ -3,7 +3,7 @@
 -- A file is taken for its bytes, where the folder tells them; else for some bytes. They hold a cluster, a workload for it, or
 -- events, each by the grammar of its own crate, and no file may be longer than 16 MiB. Read next: Headline, for what is
 -- reported of them.
-use Rattle.std.specs.Prelude.{◌≡◌, ℕ, ◌≤◌, ◌⊎◌, List, map, length, Option, Some, None, IfSome, IsSomeAnd}
+use Rattle.std.specs.Prelude.{◌≡◌, ℕ, ◌≤◌, ◌⊎◌, List, map, length, Option, Some, IfSome, IsSomeAnd}
 use Rattle.dt_access.specs.Clash.{Bytes}
 use Rattle.dt_outside.specs.Folder.{Files}
 use Rattle.dt_events.specs.declared.Event.{Event}

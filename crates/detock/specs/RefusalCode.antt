@@ -1,10 +1,10 @@
 -- What the parts of the program answer where they refuse.
 --
 -- Scaffolding: only the contracts of the steps below the top call cite this. What a caller is promised stands in Causes.
-use Rattle.std.specs.Prelude.{◌≡◌, ℕ, ◌<◌, ◌≤◌, List, length, Option}
+use Rattle.std.specs.Prelude.{◌≡◌, ℕ, ◌<◌, ◌≤◌, List, length}
 use Rattle.dt_access.specs.Clash.{Bytes}
 use Rattle.dt_text.specs.Lines.{lines_of}
-use Rattle.dt_outside.specs.Folder.{Files, FolderView}
+use Rattle.dt_outside.specs.Folder.{FolderView}
 use Rattle.dt_events.specs.declared.Event.{Event}
 use Rattle.dt_events.specs.Events.{FirstWithoutForm}
 use Rattle.dt_cluster.specs.declared.Cluster.{Cluster}

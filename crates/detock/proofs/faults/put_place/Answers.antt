@@ -1,6 +1,5 @@
 use Rattle.std.proofs.Common.{◌∙◌, codes, subst, List, ℕ}
 use Rattle.dt_outside.specs.Sink.{Writes}
-use Rattle.dt_outside.proofs.Callers.{HasAddedUpTo-start, HasAddedUpTo-end}
 use Rattle.detock.proofs.FaultLines.{ends_with}
 use Rattle.detock.proofs.faults.put_place.Goals as goal
 

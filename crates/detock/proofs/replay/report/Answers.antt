@@ -1,7 +1,7 @@
 use Rattle.std.proofs.Common.{◌≡◌, ◌∙◌, arith, Err, Option, subst}
 use Rattle.std.proofs.lemmas.Result.{err_from_is_err_and}
-use Rattle.dt_outside.specs.Folder.{Files, FolderView}
-use Rattle.detock.specs.TaskCode.{asked_for, word_of}
+use Rattle.dt_outside.specs.Folder.{Files}
+use Rattle.detock.specs.TaskCode.{asked_for}
 use Rattle.detock.specs.Tasks.{word_bytes}
 use Rattle.detock.specs.Loading.{HasFile, HoldEvents, HoldWorkload}
 use Rattle.detock.specs.Headline.{HasMove}

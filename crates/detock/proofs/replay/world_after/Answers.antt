@@ -1,7 +1,7 @@
-use Rattle.std.proofs.Common.{◌≡◌, Err, refl, ap, sym, ◌∙◌, subst, take}
+use Rattle.std.proofs.Common.{◌≡◌, Err, refl, ap, sym, ◌∙◌, subst}
 use Rattle.detock.specs.RefusalCode.{IsStepRefusal}
 use Rattle.detock.specs.declared.status.Status.{Status}
-use Rattle.detock.proofs.Steps.{IsAfter, step_made, step_refused, refused_by}
+use Rattle.detock.proofs.Steps.{step_made, step_refused, refused_by}
 use Rattle.detock.proofs.replay.world_after.Goals as goal
 
 pub returns-in-Err-clause-refused : goal.returns-in-Err-clause-refused

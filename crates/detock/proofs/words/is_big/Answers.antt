@@ -1,4 +1,4 @@
-use Rattle.std.proofs.Common.{◌≡◌, ◌∙◌, sym, rules, codes, arith, string_bytes}
+use Rattle.std.proofs.Common.{◌≡◌, ◌∙◌, sym, rules, codes, arith}
 use Rattle.detock.specs.Tasks.{word_bytes}
 use Rattle.detock.proofs.WordForms.{two_words, asks_big}
 use Rattle.detock.proofs.words.is_big.Goals as goal

@@ -1,4 +1,4 @@
-use Rattle.std.proofs.Common.{◌≡◌, ◌<◌, ◌∙◌, sym, rules, codes, arith, length, string_bytes, subst}
+use Rattle.std.proofs.Common.{◌≡◌, ◌<◌, ◌∙◌, sym, rules, codes, arith, length, subst}
 use Rattle.detock.specs.Tasks.{NamesCluster, word_bytes}
 use Rattle.detock.specs.TaskCode.{word_of}
 use Rattle.detock.proofs.WordForms.{four_words, asks_replay}
