@@ -121,7 +121,7 @@ annotated_uses t (u ∷ us) = ap (λ l. u ∷ l) (annotated_uses t us)
 
 pub body_fits : (cluster : Cluster) (regions : ℕ) (call : Wanted) → WantedFits cluster.procs regions call → BodyFits cluster.procs regions (body_of call)
 body_fits cluster regions (wanted.Call proc args) f = f
-body_fits cluster regions (wanted.Move key target) f = f
+body_fits cluster regions (wanted.Move key target) f = f.1
 
 target_below : (cluster : Cluster) (regions : ℕ) (body : Body) → BodyFits cluster.procs regions body → (x : ℕ) → Has (targets_of body) x → x < regions
 target_below cluster regions (Call proc args) f x h = absurd h
