@@ -27,6 +27,11 @@ pub put_back : {cluster : Cluster} {seats : SeatsView} {sites : List SiteView} {
 put_back {cluster} {seats} {sites} {steps} k region p later is same =
     subst (λ l. IsLawful cluster seats l steps) (sym (ap (set sites region) (same ∙ is) ∙ set-get_or sites region no_site)) k
 
+pub put_back_view : (cluster : Cluster) (seats : SeatsView) (sites : List SiteView) (steps : ℕ) (region : ℕ) (p later : SiteView) → p ≡ site_at sites region → later ≡ p
+    → view_in cluster seats (set sites region later) steps ≡ view_in cluster seats sites steps
+put_back_view cluster seats sites steps region p later is same =
+    ap (λ l. view_in cluster seats l steps) (ap (set sites region) (same ∙ is) ∙ set-get_or sites region no_site)
+
 -- a step that is refused changes nothing
 pub refused_same : (procs : List ProcTree) (r : RegionView) (event : Event) (on : Bool) (later : RegionView) → on ≡ false → MakesStep procs r event (Ok on) later → later ≡ r
 refused_same procs r event true later e m = cc

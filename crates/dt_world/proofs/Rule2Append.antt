@@ -1,5 +1,5 @@
 -- Rule 2 in a world: the transaction of a request is looked up at its source, and placed at the home's site.
-use Rattle.std.proofs.Common.{eqb-true, ◌≡◌, ◌≢◌, ◌<◌, ◌+◌, ℕ, Bool, true, false, eqb, List, [], length, get_or, set, slice_get, Ok, Some, refl, sym, ap, subst, ◌∙◌, inl, inr, arith}
+use Rattle.std.proofs.Common.{eqb-true, ◌≡◌, ◌≢◌, ◌<◌, ◌≤◌, ◌+◌, ℕ, Bool, true, false, eqb, List, [], length, get_or, set, slice_get, Ok, Some, refl, sym, ap, subst, ◌∙◌, inl, inr, arith}
 use Rattle.std.proofs.lemmas.Bool.{false_from_ne_true}
 use Rattle.dt_lists.specs.Lists.{Has, Either}
 use Rattle.dt_lists.proofs.Callers.{either_nat, has_place}
@@ -70,3 +70,10 @@ module _ {cluster : Cluster} {seats : SeatsView} {sites : List SiteView} {steps 
           (λ t. m'.0 (eqb-true number (taken_of (world_of sites seats.places) home source) t ∙ ap (λ n. taken_from n.here source) (node_is k home))) in
           subst (λ l. IsMade cluster seats sites steps (Append home source number) seats l) (sym (same_sites k lh b later (m'.1 ∙ sym b.region_is)))
           (still_made k (Append home source number) (append_legal k.reached lh (k.stands home lh) ls number txn wants_it found) (append_still k.reached lh (k.stands home lh) ls number txn wants_it found m'.0) other)
+
+-- what was not asked for cannot be placed
+pub append_not : {cluster : Cluster} {seats : SeatsView} {sites : List SiteView} {steps : ℕ} → IsLawful cluster seats sites steps → (home source number : ℕ)
+    → length (get_or (site_at sites source).region.state.here.asked home []) ≤ number → ¬ (IsLegal cluster seats.workload (world_of sites seats.places) (Append home source number))
+append_not k home source number le l =
+    let lt = subst (λ n. number < length (get_or n.here.asked home [])) (node_is k source) l.allowed in
+    absurd (omega (arith, lt, le))

@@ -16,7 +16,8 @@ use Rattle.dt_region.specs.Conditions.{CanDeliver}
 use Rattle.dt_region.specs.Rules.{MakesDelivery}
 use Rattle.dt_region.specs.Sound.{IsSoundRegion}
 use Rattle.dt_cluster.specs.declared.Cluster.{Cluster}
-use Rattle.dt_session.specs.World.{log_of, logs_of, txn_of}
+use Rattle.dt_workload.specs.declared.Workload.{Workload}
+use Rattle.dt_session.specs.World.{World, log_of, logs_of, txn_of}
 use Rattle.dt_session.specs.Step.{IsLegal}
 use Rattle.dt_site.specs.declared.Origin.{Origin}
 use Rattle.dt_site.specs.Site.{SiteView, in_region}
@@ -79,3 +80,14 @@ entries_more log first place items new e le at before is =
     ∙ sym (drop_push first (take place log) e.part (omega arith))
     ∙ ap (λ x. drop first (take place log ++ x ∷ [])) (sym (get_or_from_slice_get log place e.part e.part at))
     ∙ ap (drop first) (sym (take_more log place e.part lt))
+
+-- no delivery is legal whose places are out of order, or that goes past the end of the home's log
+
+pub out_of_order : {cluster : Cluster} {workload : Workload} {w : World} {region home first last : ℕ} → last < first → IsLegal cluster workload w (Deliver region home first last) → ⊥
+out_of_order lt l = absurd (omega (arith, lt, l.allowed.0))
+
+pub past_log : {cluster : Cluster} {seats : SeatsView} {sites : List SiteView} {steps : ℕ} → IsLawful cluster seats sites steps → {region home first last : ℕ} → home < cluster.regions
+    → length (log_at (site_at sites home).region.state.logs home) < last → ¬ (IsLegal cluster seats.workload (world_of sites seats.places) (Deliver region home first last))
+past_log k {region} {home} {first} {last} lh lt l =
+    let far = subst (λ l. length l < last) (own_log k.reached (k.stands home lh)) lt in
+    absurd (omega (arith, far, l.allowed.1))

@@ -1,5 +1,5 @@
 -- What the type of a world keeps: what follows of it, and how it stays so when one site steps.
-use Rattle.std.proofs.Common.{◌≡◌, ◌≢◌, ◌<◌, ◌≤◌, ◌+◌, ◌==◌, ℕ, zero, suc, Bool, true, false, cond, List, [], ◌∷◌, ◌++◌, length, map, get_or, set, refl, sym, ap, ap₂, subst, ◌∙◌, inl, inr, arith}
+use Rattle.std.proofs.Common.{◌≡◌, ◌≢◌, ◌<◌, ◌≤◌, ◌+◌, ◌==◌, ℕ, zero, suc, Bool, true, false, cond, List, [], ◌∷◌, ◌++◌, length, map, get_or, set, Result, Ok, Err, IsErrAnd, refl, sym, ap, ap₂, subst, ◌∙◌, inl, inr, arith}
 use Rattle.std.proofs.lemmas.List.{length-map, length_push, map-set, get_or-set_same, get_or-set_other}
 use Rattle.dt_lists.specs.Lists.{Either}
 use Rattle.dt_lists.proofs.Callers.{either_nat, get_of_map}
@@ -22,7 +22,9 @@ use Rattle.dt_site.proofs.Callers.{IsShort, Steps, after_more, inv, legal_short,
 use Rattle.dt_world.specs.Seats.{SeatsView}
 use Rattle.dt_world.specs.SessionReplay.{LedTo}
 use Rattle.dt_world.specs.WorldInner.{IsLawful, site_at, view_in, world_of}
-use Rattle.dt_world.specs.WorldView.{WorldView, kept_next, made, takes_effect}
+use Rattle.dt_world.specs.WorldView.{Makes, WorldView, kept_next, made, takes_effect}
+use Rattle.dt_world.specs.declared.world.StepError.{StepError}
+use Rattle.dt_world.specs.declared.world.StepError.TheVariants.{NoMemory}
 
 -- the event was legal, and these sessions and sites are what it makes
 pub record IsMade (cluster : Cluster) (seats : SeatsView) (sites : List SiteView) (steps : ℕ) (event : Event) (later : SeatsView) (after : List SiteView) : Type 0 where
@@ -137,3 +139,8 @@ behind {sites} {region} {p} {r} {origins} lt value is =
       region_is = ap (λ x. x.region) here;
       site_is = λ later. ap (λ x. record { region = later; origins = x.origins }) here;
     }
+
+-- after want of memory the world is as it was
+pub out_of_memory : {now after : WorldView} (event : Event) (r : Result (Unit {0}) StepError) → IsErrAnd r (λ e. e ≡ NoMemory) → after ≡ now → Makes now event r after
+out_of_memory event (Ok u) h same = absurd h
+out_of_memory {now} {after} event (Err e) h same = subst (λ x. Makes now event (Err x) after) (sym h) same

@@ -1,12 +1,15 @@
 use Rattle.std.proofs.lemmas.Grind.{common_steps}
-use Rattle.std.proofs.Common.{◌≡◌, ◌<◌, List, [], length, get_or, slice_get, Some, sym, ap, subst, ◌∙◌, arith}
+use Rattle.std.proofs.Common.{◌≡◌, ◌≤◌, ◌<◌, refl, List, [], length, get_or, slice_get, Some, sym, ap, subst, ◌∙◌, arith}
 use Rattle.std.proofs.lemmas.Option.{slice_get-get_or}
 use Rattle.dt_access.specs.declared.TxnId.{TxnId}
 use Rattle.dt_region.specs.Region.{RegionView, held}
+use Rattle.dt_events.specs.declared.Event.TheVariants.{Append}
+use Rattle.dt_session.specs.Step.{IsLegal}
+use Rattle.dt_world.specs.WorldView.{WorldView}
 use Rattle.dt_world.specs.WorldInner.{site_at}
-use Rattle.dt_world.proofs.OneSite.{region_here, same_lawful}
-use Rattle.dt_world.proofs.Rule2Append.{append_done, asked_held, can_place}
-use Rattle.dt_world.proofs.WorldLaws.{a_site, behind, made_before}
+use Rattle.dt_world.proofs.OneSite.{region_here, same_lawful, same_view}
+use Rattle.dt_world.proofs.Rule2Append.{append_done, append_not, asked_held, can_place}
+use Rattle.dt_world.proofs.WorldLaws.{a_site, behind, made_before, out_of_memory}
 use Rattle.dt_world.proofs.WorldSeats.{steps_few}
 use Rattle.dt_world.proofs.world.World.append.Goals as goal
 
@@ -83,3 +86,20 @@ pub invariant_of-self : goal.invariant_of-self
 invariant_of-self g c =
     let home = behind (a_site c.self.invariant c.if-home-self.false) c.index_mut.ensures.value c.behind-self-2.view_is in
     same_lawful c.self.invariant c.if-home-self.false home c.append.new.self c.in_err-append.ensures.makes
+
+pub returns-then-number-asked : goal.returns-then-number-asked
+returns-then-number-asked g c =
+    let source = behind (a_site c.self.invariant c.if-source-self.false) c.index.ensures c.behind-self.view_is in
+    let list : c.asked-asked.result.now ≡ get_or (site_at c.self.inside.sites.items c.args.source).region.state.here.asked c.args.home [] =
+    c.asked-asked.ensures ∙ ap (λ (r : RegionView). get_or r.state.here.asked c.args.home []) source.region_is in
+    let beyond = subst (λ (l : List TxnId). length l ≤ c.args.number) list c.if-number-asked.true in (
+      refl,
+      λ l. append_not c.self.invariant c.args.home c.args.source c.args.number beyond
+          (subst (λ (v : WorldView). IsLegal v.cluster v.workload v.state (Append c.args.home c.args.source c.args.number)) (sym c.self.view_is) l),
+      refl,
+    )
+
+pub returns-in_err-append : goal.returns-in_err-append
+returns-in_err-append g c =
+    let home = behind (a_site c.self.invariant c.if-home-self.false) c.index_mut.ensures.value c.behind-self-2.view_is in
+    out_of_memory (Append c.args.home c.args.source c.args.number) _ c.from_residual-in_err-append.ensures.1 (same_view c.self.invariant c.if-home-self.false home c.append.new.self c.in_err-append.ensures.makes ∙ c.self.view_is)

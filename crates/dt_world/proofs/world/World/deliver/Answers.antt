@@ -1,17 +1,21 @@
 use Rattle.std.proofs.lemmas.Grind.{common_steps}
-use Rattle.std.proofs.Common.{◌≡◌, ◌≤◌, ◌<◌, true, false, length, map, drop, take, Some, sym, ap, subst, ◌∙◌, arith}
+use Rattle.std.proofs.Common.{◌≡◌, ◌≤◌, ◌<◌, true, false, refl, length, map, drop, take, Some, sym, ap, subst, ◌∙◌, arith}
 use Rattle.dt_lists.specs.Lists.{AllIn}
 use Rattle.dt_sched.specs.Views.{log_at}
 use Rattle.dt_txn.specs.declared.Entry.{Entry}
 use Rattle.dt_region.specs.Region.{RegionView, held}
 use Rattle.dt_region.specs.Sound.{IsSoundRegion}
 use Rattle.dt_site.proofs.Callers.{joins}
+use Rattle.dt_events.specs.declared.Event.TheVariants.{Deliver}
+use Rattle.dt_session.specs.Step.{IsLegal}
+use Rattle.dt_world.specs.WorldView.{WorldView}
 use Rattle.dt_world.specs.WorldInner.{site_at}
-use Rattle.dt_world.proofs.OneSite.{region_here, sound_here, same_lawful}
-use Rattle.dt_world.proofs.Rule3Deliver.{can_take, deliver_done, deliver_none}
-use Rattle.dt_world.proofs.WorldLaws.{a_site, behind, made_before}
+use Rattle.dt_world.proofs.OneSite.{region_here, sound_here, same_lawful, same_view}
+use Rattle.dt_world.proofs.Rule3Deliver.{can_take, deliver_done, deliver_none, out_of_order, past_log}
+use Rattle.dt_world.proofs.WorldLaws.{a_site, behind, made_before, out_of_memory}
 use Rattle.dt_world.proofs.WorldSeats.{steps_few}
 use Rattle.dt_world.proofs.world.World.deliver.Goals as goal
+use Rattle.dt_world.proofs.world.World.deliver.Goals.{then-first-last-via-then-first-last, then-first-last-via-else-first-last+then-last-len}
 
 pub log-requires : goal.log-requires
 log-requires g c =
@@ -128,3 +132,25 @@ pub invariant_of-self-in_err-deliver : goal.invariant_of-self-in_err-deliver
 invariant_of-self-in_err-deliver g c =
     let here = behind (a_site c.self.invariant c.if-region-self.false) c.index_mut.ensures.value c.behind-self-3.view_is in
     same_lawful c.self.invariant c.if-region-self.false here c.deliver.new.self c.in_err-deliver.ensures.makes
+
+pub returns-then-first-last : goal.returns-then-first-last
+returns-then-first-last g c =
+    let home = behind (a_site c.self.invariant c.if-home-self.false) c.index.ensures c.behind-self.view_is in
+    elim c.then-first-last.branch [
+      then-first-last-via-then-first-last w ↦ (
+        refl,
+        λ l. out_of_order w.if-first-last.true l,
+        refl,
+      )
+      | then-first-last-via-else-first-last+then-last-len w ↦ (
+        refl,
+        λ l. past_log c.self.invariant c.if-home-self.false (subst (λ n. n < c.args.last) (w.len.ensures ∙ ap length (w.log.ensures ∙ ap (λ (r : RegionView). log_at r.state.logs c.args.home) home.region_is)) w.if-last-len.true)
+            (subst (λ (v : WorldView). IsLegal v.cluster v.workload v.state (Deliver c.args.region c.args.home c.args.first c.args.last)) (sym c.self.view_is) l),
+        refl,
+      )
+    ]
+
+pub returns-in_err-deliver : goal.returns-in_err-deliver
+returns-in_err-deliver g c =
+    let here = behind (a_site c.self.invariant c.if-region-self.false) c.index_mut.ensures.value c.behind-self-3.view_is in
+    out_of_memory (Deliver c.args.region c.args.home c.args.first c.args.last) _ c.from_residual-in_err-deliver.ensures.1 (same_view c.self.invariant c.if-region-self.false here c.deliver.new.self c.in_err-deliver.ensures.makes ∙ c.self.view_is)

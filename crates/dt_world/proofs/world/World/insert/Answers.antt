@@ -1,3 +1,5 @@
+use Rattle.dt_session.specs.Step.{IsLegal}
+use Rattle.dt_world.specs.WorldView.{WorldView}
 use Rattle.dt_events.specs.declared.Event.TheVariants.{Insert}
 use Rattle.std.proofs.lemmas.Grind.{common_steps}
 use Rattle.std.proofs.Common.{refl, sym, subst, ◌∙◌, ◌<◌, length, arith, []}
@@ -26,3 +28,13 @@ pub invariant_of-self-then-not-branch : goal.invariant_of-self-then-not-branch
 invariant_of-self-then-not-branch g c =
     let same = refused_same [] c.behind-self.inside.region (Insert c.behind-self.inside.region.state.number c.args.home) c.in_ok-insert.field-0 c.insert.new.self c.if-not-branch.true c.in_ok-insert.ensures.makes in
     same_lawful c.self.invariant c.if-region-self.false (behind (a_site c.self.invariant c.if-region-self.false) c.index_mut.ensures.value c.behind-self.view_is) c.insert.new.self same
+
+pub returns-then-not-branch : goal.returns-then-not-branch
+returns-then-not-branch g c =
+    let same = refused_same [] c.behind-self.inside.region (Insert c.behind-self.inside.region.state.number c.args.home) c.in_ok-insert.field-0 c.insert.new.self c.if-not-branch.true c.in_ok-insert.ensures.makes in
+    let site = behind (a_site c.self.invariant c.if-region-self.false) c.index_mut.ensures.value c.behind-self.view_is in (
+      refl,
+      λ l. insert_not c.self.invariant c.if-region-self.false site c.args.home c.if-home-self.false c.insert.new.self c.in_ok-insert.field-0 c.in_ok-insert.ensures.makes c.if-not-branch.true
+          (subst (λ (v : WorldView). IsLegal v.cluster v.workload v.state (Insert c.args.region c.args.home)) (sym c.self.view_is) l),
+      same_view c.self.invariant c.if-region-self.false site c.insert.new.self same ∙ c.self.view_is,
+    )

@@ -1,3 +1,5 @@
+use Rattle.dt_session.specs.Step.{IsLegal}
+use Rattle.dt_world.specs.WorldView.{WorldView}
 use Rattle.dt_events.specs.declared.Event.TheVariants.{Resolve}
 use Rattle.std.proofs.lemmas.Grind.{common_steps}
 use Rattle.std.proofs.Common.{refl, sym, subst, ◌∙◌, ◌<◌, length, arith, []}
@@ -23,3 +25,13 @@ pub invariant_of-self-then-not-branch : goal.invariant_of-self-then-not-branch
 invariant_of-self-then-not-branch g c =
     let same = refused_same [] c.behind-self.inside.region (Resolve c.behind-self.inside.region.state.number c.args.ids.now) c.in_ok-resolve.field-0 c.resolve.new.self c.if-not-branch.true c.in_ok-resolve.ensures.makes in
     same_lawful c.self.invariant c.if-region-self.false (behind (a_site c.self.invariant c.if-region-self.false) c.index_mut.ensures.value c.behind-self.view_is) c.resolve.new.self same
+
+pub returns-then-not-branch : goal.returns-then-not-branch
+returns-then-not-branch g c =
+    let same = refused_same [] c.behind-self.inside.region (Resolve c.behind-self.inside.region.state.number c.args.ids.now) c.in_ok-resolve.field-0 c.resolve.new.self c.if-not-branch.true c.in_ok-resolve.ensures.makes in
+    let site = behind (a_site c.self.invariant c.if-region-self.false) c.index_mut.ensures.value c.behind-self.view_is in (
+      refl,
+      λ l. resolve_not c.self.invariant c.if-region-self.false site c.args.ids.now c.resolve.new.self c.in_ok-resolve.field-0 c.in_ok-resolve.ensures.makes c.if-not-branch.true
+          (subst (λ (v : WorldView). IsLegal v.cluster v.workload v.state (Resolve c.args.region c.args.ids.now)) (sym c.self.view_is) l),
+      same_view c.self.invariant c.if-region-self.false site c.resolve.new.self same ∙ c.self.view_is,
+    )

@@ -11,9 +11,9 @@ use Rattle.dt_txn.specs.Transaction.{BodyFits}
 use Rattle.dt_world.specs.Seats.{SeatsView, after_wait, stand_of}
 use Rattle.dt_world.specs.WorldInner.{IsLawful, IsSeatOf, MayTryAt, seats_in, site_at, view_in, world_of}
 use Rattle.dt_world.specs.WorldView.{WorldView, made}
-use Rattle.dt_world.proofs.OneSite.{put_back}
+use Rattle.dt_world.proofs.OneSite.{put_back, put_back_view}
 use Rattle.dt_world.proofs.Rule1Submit.{submit_done}
-use Rattle.dt_world.proofs.WorldLaws.{a_site, made_before, read_at, submitted_few}
+use Rattle.dt_world.proofs.WorldLaws.{a_site, made_before, out_of_memory, read_at, submitted_few}
 use Rattle.dt_world.proofs.WorldSeats.{answered_few, call_left, fits_here, none_submitted, not_submitted, seat_here, seat_of, steps_few}
 use Rattle.dt_world.proofs.world.World.submit.Goals as goal
 
@@ -100,3 +100,8 @@ pub invariant_of-self : goal.invariant_of-self
 invariant_of-self g c =
     let site = read_at c.self.inside.sites.items c.args.region c.index_mut.result.now (a_site c.self.invariant c.if-region-self.false) c.index_mut.ensures.value in
     put_back c.self.invariant c.args.region c.index_mut.result.now c.submit.new.self site c.in_err-id.ensures.makes
+
+pub returns-in_err-id : goal.returns-in_err-id
+returns-in_err-id g c =
+    let site = read_at c.self.inside.sites.items c.args.region c.index_mut.result.now (a_site c.self.invariant c.if-region-self.false) c.index_mut.ensures.value in
+    out_of_memory (Submit c.args.region c.args.name.now) _ c.from_residual-in_err-id.ensures.1 (put_back_view c.self.inside.cluster c.self.inside.seats c.self.inside.sites.items c.self.inside.steps c.args.region c.index_mut.result.now c.submit.new.self site c.in_err-id.ensures.makes ∙ c.self.view_is)
