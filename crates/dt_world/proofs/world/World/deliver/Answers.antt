@@ -137,7 +137,7 @@ pub returns-then-first-last : goal.returns-then-first-last
 returns-then-first-last g c =
     let home = behind (a_site c.self.invariant c.if-home-self.false) c.index.ensures c.behind-self.view_is in
     elim c.then-first-last.branch [
-      then-first-last-via-then-first-last w ↦ (
+      | then-first-last-via-then-first-last w ↦ (
         refl,
         λ l. out_of_order w.if-first-last.true l,
         refl,
