@@ -153,4 +153,5 @@ returns-then-first-last g c =
 pub returns-in_err-deliver : goal.returns-in_err-deliver
 returns-in_err-deliver g c =
     let here = behind (a_site c.self.invariant c.if-region-self.false) c.index_mut.ensures.value c.behind-self-3.view_is in
-    out_of_memory (Deliver c.args.region c.args.home c.args.first c.args.last) _ c.from_residual-in_err-deliver.ensures.1 (same_view c.self.invariant c.if-region-self.false here c.deliver.new.self c.in_err-deliver.ensures.makes ∙ c.self.view_is)
+    out_of_memory (Deliver c.args.region c.args.home c.args.first c.args.last) _ c.from_residual-in_err-deliver.ensures.1
+    (same_view c.self.invariant c.if-region-self.false here c.deliver.new.self c.in_err-deliver.ensures.makes ∙ c.self.view_is)

@@ -104,4 +104,6 @@ invariant_of-self g c =
 pub returns-in_err-id : goal.returns-in_err-id
 returns-in_err-id g c =
     let site = read_at c.self.inside.sites.items c.args.region c.index_mut.result.now (a_site c.self.invariant c.if-region-self.false) c.index_mut.ensures.value in
-    out_of_memory (Submit c.args.region c.args.name.now) _ c.from_residual-in_err-id.ensures.1 (put_back_view c.self.inside.cluster c.self.inside.seats c.self.inside.sites.items c.self.inside.steps c.args.region c.index_mut.result.now c.submit.new.self site c.in_err-id.ensures.makes ∙ c.self.view_is)
+    out_of_memory (Submit c.args.region c.args.name.now) _ c.from_residual-in_err-id.ensures.1
+    (put_back_view c.self.inside.cluster c.self.inside.seats c.self.inside.sites.items c.self.inside.steps c.args.region c.index_mut.result.now
+    c.submit.new.self site c.in_err-id.ensures.makes ∙ c.self.view_is)
