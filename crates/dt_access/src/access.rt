@@ -28,7 +28,7 @@ impl TryCopy for Mode {
 }
 
 /// One row that a transaction uses, with the home and the number of moves that the submitting region knew.
-#[derive(Debug, PartialEq, Eq, Drop)]
+#[derive(Clone, Debug, PartialEq, Eq, Drop)]
 pub struct Access {
     pub key: Key,
     pub mode: Mode,
@@ -38,15 +38,10 @@ pub struct Access {
 
 impl Access {
     /// An equal entry.
-    pub fn copy(&self, alloc: Global) -> Result<Self, NoMemory>
+    pub fn copy(&self, _alloc: Global) -> Result<Self, NoMemory>
         ensures { IfOk result (λ copied. copied ≡ self.now) }
     {
-        Ok(Access {
-            key: self.key.copy(alloc)?,
-            mode: self.mode,
-            home: self.home,
-            counter: self.counter,
-        })
+        Ok(self.clone()?)
     }
 }
 

@@ -6,7 +6,7 @@ use std::alloc::Global;
 use std::marker::Model;
 
 /// Homes in ascending order; so none stands twice.
-#[derive(Debug, Drop)]
+#[derive(Clone, Debug, Drop)]
 pub struct Homes {
     items: Vec<u8>,
 }
@@ -68,11 +68,9 @@ impl Homes {
     }
 
     /// An equal list.
-    pub fn copy(&self, alloc: Global) -> Result<Self, NoMemory>
+    pub fn copy(&self, _alloc: Global) -> Result<Self, NoMemory>
         ensures { IfOk result (λ copied. copied ≡ self.now) }
     {
-        Ok(Homes {
-            items: Vec::from_slice(alloc, self.items.as_slice())?,
-        })
+        Ok(self.clone()?)
     }
 }

@@ -2,13 +2,12 @@ ghost use Rattle.std.specs.Prelude.{◌≡◌, [], ◌∷◌, ◌++◌, IfOk, On
 ghost use Rattle.dt_access.specs.Orders.{HasAscendingKeys};
 
 use crate::access::Mode;
-use crate::copies::copy_items;
 use dt_text::{Key, NoMemory};
 use std::alloc::Global;
 use std::marker::Model;
 
 /// Keys with their modes, in ascending order of the keys' bytes; so no key stands twice.
-#[derive(Debug, Drop)]
+#[derive(Clone, Debug, Drop)]
 pub struct Keys {
     items: Vec<(Key, Mode)>,
 }
@@ -71,11 +70,9 @@ impl Keys {
     }
 
     /// An equal list.
-    pub fn copy(&self, alloc: Global) -> Result<Self, NoMemory>
+    pub fn copy(&self, _alloc: Global) -> Result<Self, NoMemory>
         ensures { IfOk result (λ copied. copied ≡ self.now) }
     {
-        Ok(Keys {
-            items: copy_items(alloc, self.items.as_slice())?,
-        })
+        Ok(self.clone()?)
     }
 }

@@ -12,7 +12,7 @@ use std::alloc::Global;
 use std::cmp::Ordering;
 
 /// The part of a transaction that one home orders: its keys that are homed there.
-#[derive(Debug, Drop)]
+#[derive(Clone, Debug, Drop)]
 pub struct Part {
     pub id: TxnId,
     pub home: u8,
@@ -22,15 +22,10 @@ pub struct Part {
 
 impl Part {
     /// An equal part.
-    pub fn copy(&self, alloc: Global) -> Result<Self, NoMemory>
+    pub fn copy(&self, _alloc: Global) -> Result<Self, NoMemory>
         ensures { IfOk result (λ copied. copied ≡ self.now) }
     {
-        Ok(Part {
-            id: self.id,
-            home: self.home,
-            keys: self.keys.copy(alloc)?,
-            homes: self.homes.copy(alloc)?,
-        })
+        Ok(self.clone()?)
     }
 }
 

@@ -1,13 +1,12 @@
 ghost use Rattle.std.specs.Prelude.{◌≡◌, [], ◌∷◌, ◌++◌, IfOk, OnOk, OnErr};
 ghost use Rattle.dt_access.specs.Orders.{HasDistinctKeys};
 
-use crate::copies::copy_items;
 use dt_text::{Key, NoMemory, Value};
 use std::alloc::Global;
 use std::marker::Model;
 
 /// New values of rows, or none for a row that is cleared; no key stands twice.
-#[derive(Debug, Drop)]
+#[derive(Clone, Debug, Drop)]
 pub struct Writes {
     items: Vec<(Key, Option<Value>)>,
 }
@@ -70,11 +69,9 @@ impl Writes {
     }
 
     /// An equal list.
-    pub fn copy(&self, alloc: Global) -> Result<Self, NoMemory>
+    pub fn copy(&self, _alloc: Global) -> Result<Self, NoMemory>
         ensures { IfOk result (λ copied. copied ≡ self.now) }
     {
-        Ok(Writes {
-            items: copy_items(alloc, self.items.as_slice())?,
-        })
+        Ok(self.clone()?)
     }
 }

@@ -6,7 +6,7 @@ use dt_text::{Name, NoMemory};
 use std::alloc::Global;
 
 /// One atomic step of one region, the region being the first number in its text.
-#[derive(Debug, PartialEq, Eq, Drop)]
+#[derive(Clone, Debug, PartialEq, Eq, Drop)]
 pub enum Event {
     /// A session of the region submits its next attempt.
     Submit {
@@ -65,51 +65,10 @@ impl Event {
     }
 
     /// An equal event.
-    pub fn copy(&self, alloc: Global) -> Result<Self, NoMemory>
+    pub fn copy(&self, _alloc: Global) -> Result<Self, NoMemory>
         ensures { IfOk result (λ copied. copied ≡ self.now) }
     {
-        match self {
-            Event::Submit { region, session } => Ok(Event::Submit {
-                region: *region,
-                session: session.copy(alloc)?,
-            }),
-            Event::Append {
-                home,
-                source,
-                number,
-            } => Ok(Event::Append {
-                home: *home,
-                source: *source,
-                number: *number,
-            }),
-            Event::Deliver {
-                region,
-                home,
-                first,
-                last,
-            } => Ok(Event::Deliver {
-                region: *region,
-                home: *home,
-                first: *first,
-                last: *last,
-            }),
-            Event::Insert { region, home } => Ok(Event::Insert {
-                region: *region,
-                home: *home,
-            }),
-            Event::Resolve { region, ids } => Ok(Event::Resolve {
-                region: *region,
-                ids: ids.copy(alloc)?,
-            }),
-            Event::Execute { region, id } => Ok(Event::Execute {
-                region: *region,
-                id: *id,
-            }),
-            Event::Answer { region, session } => Ok(Event::Answer {
-                region: *region,
-                session: session.copy(alloc)?,
-            }),
-        }
+        Ok(self.clone()?)
     }
 }
 

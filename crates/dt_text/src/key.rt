@@ -18,7 +18,7 @@ use std::marker::Model;
 /// The name of a row: 1 to 64 bytes out of `a-z`, `0-9`, `/`, `_`, `.` and `-`.
 ///
 /// Contracts see its bytes. Keys are ordered by their bytes, a proper prefix being less.
-#[derive(Debug, Drop)]
+#[derive(Clone, Debug, Drop)]
 pub struct Key {
     bytes: Vec<u8>,
 }
@@ -89,13 +89,11 @@ impl Key {
     }
 
     /// A key with the same bytes.
-    pub fn copy(&self, alloc: Global) -> Result<Self, NoMemory>
+    pub fn copy(&self, _alloc: Global) -> Result<Self, NoMemory>
         ensures same { IfOk result (λ key. key ≡ self.now) }
         ensures key { IsKey self.now }
     {
-        Ok(Key {
-            bytes: Vec::from_slice(alloc, self.bytes.as_slice())?,
-        })
+        Ok(self.clone()?)
     }
 }
 

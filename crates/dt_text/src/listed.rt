@@ -8,7 +8,7 @@ use std::alloc::Global;
 use std::marker::Model;
 
 /// A list. Contracts see the items in order and nothing else: neither room nor where it lies.
-#[derive(Debug, Drop)]
+#[derive(Clone, Debug, Drop)]
 pub struct Listed<X> {
     items: Vec<X>,
 }

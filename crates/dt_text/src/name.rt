@@ -18,7 +18,7 @@ use std::marker::Model;
 /// A name, as sessions and procedures have: 1 to 32 bytes out of `a-z`, `0-9` and `_`.
 ///
 /// Contracts see its bytes. Names are ordered by their bytes, a proper prefix being less.
-#[derive(Debug, Drop)]
+#[derive(Clone, Debug, Drop)]
 pub struct Name {
     bytes: Vec<u8>,
 }
@@ -89,13 +89,11 @@ impl Name {
     }
 
     /// A name with the same bytes.
-    pub fn copy(&self, alloc: Global) -> Result<Self, NoMemory>
+    pub fn copy(&self, _alloc: Global) -> Result<Self, NoMemory>
         ensures same { IfOk result (λ name. name ≡ self.now) }
         ensures name { IsName self.now }
     {
-        Ok(Name {
-            bytes: Vec::from_slice(alloc, self.bytes.as_slice())?,
-        })
+        Ok(self.clone()?)
     }
 }
 

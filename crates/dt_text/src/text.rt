@@ -18,7 +18,7 @@ use std::marker::Model;
 /// A text: 0 to 256 bytes, each a space or a visible character of ASCII (0x20 to 0x7E).
 ///
 /// Contracts see its bytes. Strs are ordered by their bytes, a proper prefix being less.
-#[derive(Debug, Drop)]
+#[derive(Clone, Debug, Drop)]
 pub struct Str {
     bytes: Vec<u8>,
 }
@@ -105,13 +105,11 @@ impl Str {
     }
 
     /// A text with the same bytes.
-    pub fn copy(&self, alloc: Global) -> Result<Self, NoMemory>
+    pub fn copy(&self, _alloc: Global) -> Result<Self, NoMemory>
         ensures same { IfOk result (λ text. text ≡ self.now) }
         ensures text { IsStr self.now }
     {
-        Ok(Str {
-            bytes: Vec::from_slice(alloc, self.bytes.as_slice())?,
-        })
+        Ok(self.clone()?)
     }
 }
 
