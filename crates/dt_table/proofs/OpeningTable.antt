@@ -68,7 +68,7 @@ state-opened regions homes rows index stored moves same is none =
 -- and each row fits its moves
 stored-opening : (regions : ℕ) (homes : List (Bytes × ℕ)) (rows : List (Bytes × Value)) → AllIn (FitsMoves regions homes []) (map (opening_row regions homes) rows)
 stored-opening regions homes [] = tt
-stored-opening regions homes (r ∷ rows) = (record { last = tt; counter = refl; home = refl }, stored-opening regions homes rows)
+stored-opening regions homes (r ∷ rows) = (record { few = omega arith; last = tt; counter = refl; home = refl }, stored-opening regions homes rows)
 
 pub stored-opened : (regions : ℕ) (homes : List (Bytes × ℕ)) (rows : List (Bytes × Value)) (stored : List (Bytes × StoredRow)) (moves : List StoredMove)
     → stored ≡ map (opening_row regions homes) rows → moves ≡ [] → AllIn (FitsMoves regions homes moves) stored

@@ -18,7 +18,7 @@ use Rattle.dt_table.specs.declared.stored.StoredRow.{StoredRow}
 use Rattle.dt_table.specs.declared.table.Table.TheInside.{Inside}
 use Rattle.dt_table.proofs.Entries.{get-from_map, insert-from_map, AllIn-insert_entry, AllIn-lookup}
 use Rattle.dt_table.proofs.TableLaws.{home_after-append}
-use Rattle.dt_table.proofs.MoveHistories.{history-push_other, history-push_new, length-history, AreLinked-push, mover_in-next, IsSome-mover_in}
+use Rattle.dt_table.proofs.MoveHistories.{history-push_other, history-push_new, AreLinked-push, mover_in-next, IsSome-mover_in}
 
 -- the row of a key is the stored one, if there is one
 pub row_of-view : (a : Inside) (key : Bytes) (found : Option StoredRow) → lookup (same_key key) a.rows.entries ≡ found
@@ -63,7 +63,7 @@ pub FitsMoves-stored_of : (a : Inside) (key : Bytes) (home : ℕ) → IsSoundTab
 FitsMoves-stored_of a key home sound opened = by (lookup (same_key key) a.rows.entries) refl
   where
     by : (o : Option StoredRow) → lookup (same_key key) a.rows.entries ≡ o → FitsMoves a.regions a.homes.entries a.moves.items (key, unwrap_or o (fresh_row home))
-    by None absent = record { last = tt; counter = refl; home = opened }
+    by None absent = record { few = omega arith; last = tt; counter = refl; home = opened }
     by (Some row) found = FitsMoves-found a.regions a.homes.entries a.moves.items a.rows.entries key row sound.rows found
 
 exact : IsAntisymmetric (slice_cmp nat_cmp)
@@ -83,7 +83,7 @@ pub stored-written : (a : Inside) (key : Bytes) (value : Option Value) (home : �
 stored-written a key value home sound opened =
     let row = FitsMoves-stored_of a key home sound opened in
     AllIn-insert_entry same_key (FitsMoves a.regions a.homes.entries a.moves.items) (λ x y. (bytes_decides x y).0) a.rows.entries key (record (stored_of a.rows.entries key home) { value = value })
-    sound.rows (record { last = row.last; counter = row.counter; home = row.home })
+    sound.rows (record { few = row.few; last = row.last; counter = row.counter; home = row.home })
 
 -- so the table is as after the write
 pub state-written : (a : Inside) (key : Bytes) (value : Option Value) (home : ℕ) (rows : List (Bytes × StoredRow))
@@ -116,6 +116,7 @@ stored-pushed regions homes moves m (e ∷ rows) all =
     let row = all.0 in
     let same = sym (history-push_other moves m e.1.last row.last) in (
       record {
+        few = row.few;
         last = IsBelow-more moves m e.1.last row.last;
         counter = row.counter ∙ ap length same;
         home = row.home ∙ ap (home_after (opening_home regions homes e.0)) same;
@@ -142,11 +143,9 @@ abbrev pub moved_row : Inside → Bytes → ℕ → ℕ → StoredRow
 moved_row a key target place = record (stored_of a.rows.entries key target) { home = target; counter = (stored_of a.rows.entries key target).counter + 1; last = Some place }
 
 module _ (a : Inside) (key : Bytes) (target : ℕ) (by : TxnId) (sound : IsSoundTable a) where
-  -- no row has more moves than there are
-  pub counter-moved : (stored_of a.rows.entries key target).counter ≤ length a.moves.items
-  counter-moved =
-      let fits = stored_of-fits a key target sound in
-      omega (arith, fits.1, length-history a.moves.items (stored_of a.rows.entries key target).last sound.linked fits.0)
+  -- the stored row counts the moves of its key
+  pub counter-stored : (stored_of a.rows.entries key target).counter ≡ counter_of (table_view a).state key
+  counter-stored = (stored_of-fits a key target sound).1 ∙ ap (λ (r : Row). length r.moves) (sym (row_of-stored a key target))
 
   -- each move still follows an earlier one, or none
   pub linked-moved : AreLinked 0 (a.moves.items ++ pushed_move a key target by ∷ [])
@@ -177,14 +176,16 @@ module _ (a : Inside) (key : Bytes) (target : ℕ) (by : TxnId) (sound : IsSound
         ∙ λ i. insert (from_entries (rows-pushed a.regions a.homes.entries a.moves.items (pushed_move a key target by) a.rows.entries sound.rows i)) key (row-moved i)
 
     -- each row fits its moves
-    pub stored-moved : AllIn (FitsMoves a.regions a.homes.entries (a.moves.items ++ pushed_move a key target by ∷ [])) (insert_entry same_key a.rows.entries key (moved_row a key target place))
-    stored-moved =
+    pub stored-moved : counter_of (table_view a).state key + 1 < 2 ^ 32
+        → AllIn (FitsMoves a.regions a.homes.entries (a.moves.items ++ pushed_move a key target by ∷ [])) (insert_entry same_key a.rows.entries key (moved_row a key target place))
+    stored-moved few =
         let m = pushed_move a key target by in
         let fits = stored_of-fits a key target sound in
         let earlier = history a.moves.items (stored_of a.rows.entries key target).last in
         AllIn-insert_entry same_key (FitsMoves a.regions a.homes.entries (a.moves.items ++ m ∷ [])) (λ x y. (bytes_decides x y).0) a.rows.entries key (moved_row a key target place)
         (stored-pushed a.regions a.homes.entries a.moves.items m a.rows.entries sound.rows)
         (record {
+          few = omega (arith, counter-stored);
           last = omega (arith, at, length-append a.moves.items (m ∷ []));
           counter = omega (arith, fits.1, ap length longer, length-append earlier (moved_of m ∷ []));
           home = sym (ap (home_after (opening_home a.regions a.homes.entries key)) longer ∙ home_after-append (opening_home a.regions a.homes.entries key) earlier (moved_of m));
@@ -227,4 +228,4 @@ counter_of-few a key sound = by (lookup (same_key key) a.rows.entries) refl
     by None absent = omega (arith, ap length (moves_of-absent a key absent))
     by (Some row) found =
         let stored = FitsMoves-found a.regions a.homes.entries a.moves.items a.rows.entries key row sound.rows found in
-        omega (arith, ap length (moves_of-found a key row found), length-history a.moves.items row.last sound.linked stored.last, a.moves.ok.0, sound.few)
+        omega (arith, ap length (moves_of-found a key row found), stored.counter, stored.few)

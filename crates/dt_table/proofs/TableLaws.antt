@@ -1,5 +1,6 @@
 -- What the definitions of tables give at each key: after a write, a move, an effect, and before any transaction.
-use Rattle.std.proofs.Common.{◌≡◌, ℕ, zero, suc, ◌+◌, ◌<◌, Bool, true, false, cond, List, [], ◌∷◌, ◌++◌, map, length, slice_get, slice_index, ◌%◌, refl, sym, ap, ◌∙◌, arith, true≢false, length-append, Some, None, Option, unwrap_or}
+use Rattle.std.proofs.Common.{◌≡◌, ℕ, zero, suc, ◌+◌, ◌<◌, ◌≤◌, ◌^◌, Bool, true, false, cond, List, [], ◌∷◌, ◌++◌}
+use Rattle.std.proofs.Common.{map, length, slice_get, slice_index, ◌%◌, refl, sym, ap, ◌∙◌, arith, true≢false, length-append, Some, None, Option, unwrap_or}
 use Rattle.std.specs.Option.{option_map}
 use Rattle.std.specs.Cmp.Lexicographic.{nat_list_cmp_total, nat_list_eq_equiv, texts_ties, bytes_decides}
 use Rattle.std.specs.Map.{lookup}
@@ -9,7 +10,7 @@ use Rattle.dt_access.specs.Clash.{Bytes, same_key}
 use Rattle.dt_access.specs.Orders.{HasDistinctKeys}
 use Rattle.dt_access.specs.declared.TxnId.{TxnId}
 use Rattle.dt_text.specs.declared.Value.{Value}
-use Rattle.dt_table.specs.Table.{Moved, Row, Table, no_row, row_of, value_of, moves_of, counter_of, home_of, next_mover, opening_home, home_after, with_row, written, all_written, moved, maybe_moved, apply, opening}
+use Rattle.dt_table.specs.Table.{Moved, Row, Table, no_row, row_of, value_of, moves_of, counter_of, home_of, next_mover, opening_home, home_after, with_row, written, all_written, moved, maybe_moved, apply, opening, HasPlaceFor}
 use Rattle.dt_table.specs.declared.effect.Effect.{Effect}
 use Rattle.dt_table.proofs.Entries.{get-from_map}
 
@@ -139,6 +140,9 @@ pub row_of-all_written_other : (writes : List (Bytes × Option Value)) (t : Tabl
 row_of-all_written_other [] t q others = refl
 row_of-all_written_other (w ∷ writes) t q others = row_of-all_written_other writes (written t w.0 w.1) q others.1 ∙ row_of-written_other t w.0 w.1 q others.0
 
+pub counter_of-all_written : (writes : List (Bytes × Option Value)) (t : Table) (q : Bytes) → counter_of (all_written writes t) q ≡ counter_of t q
+counter_of-all_written writes t q = ap length (moves_of-all_written writes t q)
+
 -- ---- a move
 
 pub row_of-moved_same : (t : Table) (key : Bytes) (target : ℕ) (by : TxnId)
@@ -238,6 +242,20 @@ value_of-apply effect t q distinct = value_of-maybe_moved effect.moved (all_writ
 pub moves_of-apply : (effect : Effect) (t : Table) (q : Bytes) → moves_of (apply effect t) q ≡ moves_of t q ++ move_at q effect.moved
 moves_of-apply effect t q =
     moves_of-maybe_moved effect.moved (all_written effect.writes t) q ∙ ap (λ l. l ++ move_at q effect.moved) (moves_of-all_written effect.writes t q)
+
+-- where each key has a place left, an effect's move has one
+pub place_for : (move : Option (Bytes × ℕ × TxnId)) (t : Table) → ((key : Bytes) → counter_of t key + 1 < 2 ^ 32) → HasPlaceFor move t
+place_for None t left = tt
+place_for (Some m) t left = left m.0
+
+-- an effect adds one move at most
+pub counter_of-apply : (effect : Effect) (t : Table) (q : Bytes) → counter_of (apply effect t) q ≤ counter_of t q + 1
+counter_of-apply effect t q =
+    omega (arith, ap length (moves_of-apply effect t q), length-append (moves_of t q) (move_at q effect.moved), at_most effect.moved)
+  where
+    at_most : (move : Option (Bytes × ℕ × TxnId)) → length (move_at q move) ≤ 1
+    at_most None = omega arith
+    at_most (Some m) = elim (same_key q m.0) as (λ b. length (cond {A = List Moved} b (record { target = m.1; by = m.2 } ∷ []) []) ≤ 1) [ true ↦ omega arith | false ↦ omega arith ]
 
 pub regions-apply : (effect : Effect) (t : Table) → (apply effect t).regions ≡ t.regions
 regions-apply effect t = by effect.moved ∙ regions-all_written effect.writes t

@@ -49,8 +49,9 @@ abbrev pub AreLinked : ℕ → List StoredMove → Type 0
 AreLinked place [] = Unit {0}
 AreLinked place (m ∷ moves) = IsBelow place m.before × AreLinked (place + 1) moves
 
--- a stored row has the home and the counter that its moves give it
+-- a stored row has the home and the counter that its moves give it, and the counter has 32 bits
 pub record FitsMoves (regions : ℕ) (homes : List (Bytes × ℕ)) (moves : List StoredMove) (e : Bytes × StoredRow) : Type 0 where
+  pub few : e.1.counter < 2 ^ 32
   pub last : IsBelow (length moves) e.1.last
   pub counter : e.1.counter ≡ length (history moves e.1.last)
   pub home : e.1.home ≡ home_after (opening_home regions homes e.0) (history moves e.1.last)
@@ -63,12 +64,11 @@ table_view a = record {
     homes = a.homes.entries;
     rows = from_entries (map (λ e. (e.0, row_in a.moves.items e.1)) a.rows.entries);
   };
-  spare = min (spare a.rows) (min (vec_capacity a.moves - vec_len a.moves) (2 ^ 32 - 1 - vec_len a.moves));
+  spare = min (spare a.rows) (vec_capacity a.moves - vec_len a.moves);
 }
 
--- what every table keeps: there is a region, the moves are fewer than 4,294,967,296 and linked, and each row fits them
+-- what every table keeps: there is a region, the moves are linked, and each row fits them
 pub record IsSoundTable (a : Inside) : Type 0 where
   pub regions : 0 < a.regions
-  pub few : vec_len a.moves < 2 ^ 32
   pub linked : AreLinked 0 a.moves.items
   pub rows : AllIn (FitsMoves a.regions a.homes.entries a.moves.items) a.rows.entries

@@ -2,7 +2,7 @@
 -- One learns here what a transaction reads of a row (`value_of`, `home_of`, `counter_of`, `next_mover`), what an effect
 -- changes (`apply`), and what a report shows (`shown`). A key that was cleared keeps its moves, since the moves say where
 -- the key is mastered. Read next `Execution` of dt_txn, which runs a transaction on a table.
-use Rattle.std.specs.Prelude.{◌+◌, ◌%◌, ◌==◌, ℕ, List, [], ◌∷◌, ◌++◌, length, map, flat_map, slice_index, slice_get, Option, Some, None, unwrap_or, option_map, option_to_list, if◌then◌else◌, is_none, ◌&&◌}
+use Rattle.std.specs.Prelude.{◌+◌, ◌<◌, ◌^◌, ◌%◌, ◌==◌, ℕ, List, [], ◌∷◌, ◌++◌, length, map, flat_map, slice_index, slice_get, Option, Some, None, unwrap_or, option_map, option_to_list, if◌then◌else◌, is_none, ◌&&◌}
 use Rattle.std.specs.Ordering.{nat_cmp}
 use Rattle.std.specs.Cmp.Lexicographic.{slice_cmp}
 use Rattle.std.specs.Map.{lookup}
@@ -115,6 +115,11 @@ shown_row t (key, row) =
 -- what a report shows of a table, in ascending order of keys
 abbrev pub shown : Table → List Shown
 shown t = flat_map (shown_row t) (entries t.rows)
+
+-- a place is left for the move of an effect, if it has one: a key's moves are counted in 32 bits
+abbrev pub HasPlaceFor : Option (Bytes × ℕ × TxnId) → Table → Type 0
+HasPlaceFor None t = Unit {0}
+HasPlaceFor (Some m) t = counter_of t m.0 + 1 < 2 ^ 32
 
 -- how many places of room an effect takes at most: one for each write, and one for a move
 abbrev pub places_for : Effect → ℕ

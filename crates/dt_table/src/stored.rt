@@ -20,7 +20,7 @@ pub struct StoredRow {
     /// How many moves the row has.
     pub counter: u32,
     /// The place of the row's last move among the moves of all rows.
-    pub last: Option<u32>,
+    pub last: Option<usize>,
 }
 
 /// A move as a table keeps it, among those of all rows.
@@ -29,7 +29,7 @@ pub struct StoredMove {
     pub target: u8,
     pub by: TxnId,
     /// The place of the move of the same row that it follows.
-    pub before: Option<u32>,
+    pub before: Option<usize>,
 }
 
 /// The listed homes, by key.
@@ -108,7 +108,12 @@ pub fn put_value(
 }
 
 /// Notes that the key's last move stands at a place and leads to `home`. Gives the place of the move before it.
-pub fn put_move(rows: &mut IndexMap<Key, StoredRow>, key: Key, home: u8, place: u32) -> Option<u32>
+pub fn put_move(
+    rows: &mut IndexMap<Key, StoredRow>,
+    key: Key,
+    home: u8,
+    place: usize,
+) -> Option<usize>
     requires room { 0 < spare rows.old }
     requires counter { (stored_of rows.old.entries key home).counter + 1 < 2 ^ 32 }
     ensures rows { rows.new.entries ≡ insert_entry same_key rows.old.entries key (record (stored_of rows.old.entries key home) {
@@ -164,9 +169,9 @@ pub fn mover_of(moves: &[StoredMove], row: &StoredRow, number: u32) -> Option<Tx
     }
     let mut place = row.last?;
     for _later in number..row.counter {
-        place = moves[place as usize].before?;
+        place = moves[place].before?;
     }
-    Some(moves[place as usize].by)
+    Some(moves[place].by)
 }
 
 /// Who made the move of a row that follows its first `had` ones. None exactly where there is no such move.

@@ -1,7 +1,7 @@
 ghost use Rattle.std.specs.Prelude.{◌≡◌, ◌+◌, ◌-◌, ◌^◌, ◌<◌, ◌≤◌, ◌↔◌, ℕ, length, map, IsTrue, IsOk, IsSome, IfOk, OnOk, OnErr, None};
 ghost use Rattle.std.specs.Option.{option_copied};
 ghost use Rattle.dt_access.specs.Orders.{HasDistinctKeys};
-ghost use Rattle.dt_table.specs.Table.{value_of, home_of, counter_of, next_mover, written, moved, apply, opening, shown, places_for};
+ghost use Rattle.dt_table.specs.Table.{value_of, home_of, counter_of, next_mover, written, moved, apply, opening, shown, places_for, HasPlaceFor};
 
 use crate::effect::Effect;
 use crate::shown::{ShownList, shown_rows};
@@ -138,8 +138,7 @@ impl Table {
         }
     }
 
-    /// Makes room for so many writes and moves, of any keys. Nothing else changes, whatever the answer. A table keeps at
-    /// most 4,294,967,295 moves, so `NoMemory` comes also where more could follow.
+    /// Makes room for so many writes and moves, of any keys. Nothing else changes, whatever the answer.
     pub fn reserve(&mut self, places: u32) -> Result<(), NoMemory>
         ensures state { self.new.state ≡ self.old.state }
         ensures room { OnOk result (places ≤ self.new.spare) }
@@ -147,17 +146,16 @@ impl Table {
         ensures succeeds { places ≤ self.old.spare → IsOk result }
     {
         let places = places as usize;
-        if u32::MAX as usize - self.moves.len() < places {
-            return Err(NoMemory);
-        }
         self.rows.reserve(places)?;
         self.moves.reserve(places)?;
         Ok(())
     }
 
-    /// Makes the changes of a transaction. Takes no memory. All other keys stay as they were.
+    /// Makes the changes of a transaction. Takes no memory. All other keys stay as they were. A key that it moves has
+    /// fewer than 4,294,967,295 moves so far.
     pub fn apply(&mut self, effect: Effect)
-        requires { places_for effect ≤ self.old.spare }
+        requires room { places_for effect ≤ self.old.spare }
+        requires place { HasPlaceFor effect.moved self.old.state }
         ensures state { self.new.state ≡ apply effect self.old.state }
         ensures spare { self.old.spare ≤ self.new.spare + places_for effect }
     {
@@ -188,11 +186,12 @@ impl Table {
 
     // Moves a key.
     fn record_move(&mut self, key: Key, target: u8, by: TxnId)
-        requires { 0 < self.old.spare }
+        requires room { 0 < self.old.spare }
+        requires place { counter_of self.old.state key + 1 < 2 ^ 32 }
         ensures state { self.new.state ≡ moved self.old.state key target by }
         ensures spare { self.old.spare ≤ self.new.spare + 1 }
     {
-        let place = self.moves.len() as u32;
+        let place = self.moves.len();
         let before = put_move(&mut self.rows, key, target, place);
         let added = StoredMove { target, by, before };
         match self.moves.push(added) {

@@ -28,6 +28,9 @@ fn move_to(
     seq: u32,
 ) -> Result<(), Fail> {
     let key = Key::read(alloc, key)?;
+    if table.mastership(&key).counter == u32::MAX {
+        return Err(Fail::from("a place is left for a move"));
+    }
     table.reserve(1)?;
     table.apply(Effect {
         writes: Writes::new(alloc),

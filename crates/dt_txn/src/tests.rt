@@ -38,6 +38,9 @@ fn opened(alloc: Global) -> Result<Table, Fail> {
 fn moved(alloc: Global) -> Result<Table, Fail> {
     let mut table = opened(alloc)?;
     let key = Key::read(alloc, b"b")?;
+    if table.mastership(&key).counter == u32::MAX {
+        return Err(Fail::from("a place is left for a move"));
+    }
     table.reserve(1)?;
     table.apply(Effect {
         writes: Writes::new(alloc),

@@ -1,12 +1,14 @@
-use Rattle.std.proofs.Common.{◌≡◌, ℕ, ◌∷◌, [], ◌++◌, Option, ap, sym, subst, ◌∙◌, arith, length}
-use Rattle.dt_table.specs.Table.{TableView}
+use Rattle.std.proofs.Common.{◌≡◌, ℕ, ◌+◌, ◌<◌, ◌^◌, ◌∷◌, [], ◌++◌, Option, ap, sym, subst, ◌∙◌, arith, length}
+use Rattle.dt_table.specs.Table.{TableView, counter_of}
 use Rattle.dt_table.specs.StoredMovesInner.{AreLinked}
-use Rattle.dt_table.proofs.StoredRows.{counter-moved, linked-moved, stored-moved, state-moved}
+use Rattle.dt_table.proofs.StoredRows.{counter-stored, linked-moved, stored-moved, state-moved}
 use Rattle.dt_table.proofs.table.Table.record_move.Goals as goal
 
 pub put_move-before-requires-clause-counter : goal.put_move-before-requires-clause-counter
 put_move-before-requires-clause-counter c =
-    omega (arith, counter-moved c.self.inside c.args.key c.args.target c.args.by c.self.invariant, c.self.inside.moves.ok.0, ap (λ (k : TableView). k.spare) c.self.view_is)
+    let counts = counter-stored c.self.inside c.args.key c.args.target c.args.by c.self.invariant in
+    let place = c.requires.place in
+    omega (arith, counts ∙ ap (λ (t : TableView). counter_of t.state c.args.key) c.self.view_is)
 
 pub invariant_of-self : goal.invariant_of-self
 invariant_of-self c =
@@ -16,9 +18,9 @@ invariant_of-self c =
     ∙ ap (λ (b : Option ℕ). a.moves.items ++ record { target = c.args.target; by = c.args.by; before = b } ∷ []) c.put_move-before.ensures.before in
     record {
       regions = c.self.invariant.regions;
-      few = omega (arith, c.in-Ok.ensures.len, ap (λ (k : TableView). k.spare) c.self.view_is);
       linked = subst (AreLinked 0) (sym pushed) (linked-moved a c.args.key c.args.target c.args.by c.self.invariant);
-      rows = rw (c.put_move-before.ensures.rows, pushed) (stored-moved a c.args.key c.args.target c.args.by c.self.invariant c.len-place.result place);
+      rows = rw (c.put_move-before.ensures.rows, pushed) (stored-moved a c.args.key c.args.target c.args.by c.self.invariant c.len-place.result place
+          (subst (λ (t : TableView). counter_of t.state c.args.key + 1 < 2 ^ 32) (sym c.self.view_is) c.requires.place));
     }
 
 pub returns-clause-state : goal.returns-clause-state

@@ -8,7 +8,6 @@ invariant_of-self c =
     let sound = c.self.invariant in
     record {
       regions = sound.regions;
-      few = sound.few;
       linked = sound.linked;
       rows = rw c.put_value.ensures.rows (stored-written c.self.inside c.args.key c.args.value (opening_home c.self.inside.regions c.self.inside.homes.entries c.args.key) sound refl);
     }
