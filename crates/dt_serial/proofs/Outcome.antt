@@ -1,6 +1,7 @@
 -- One outcome: in each list whose transactions come after all that precedes them, a transaction does what it does in the
 -- history, and the table is the replay of the history for those of the list.
-use Rattle.std.proofs.Common.{◌≡◌, ◌≢◌, ◌<◌, ◌≤◌, ◌⊎◌, ℕ, zero, suc, Bool, true, false, cond, List, [], ◌∷◌, ◌++◌, length, take, slice_get, Some, None, refl, sym, ap, subst, ◌∙◌, append_assoc, append-nil, inl, inr, arith, le_antisymm, ◌↔◌}
+use Rattle.std.proofs.Common.{◌≡◌, ◌≢◌, ◌<◌, ◌≤◌, ◌⊎◌, ℕ, zero, suc, Bool, true, false, cond, List, [], ◌∷◌, ◌++◌, length, take, slice_get, Some, None, refl, sym, ap, subst, ◌∙◌}
+use Rattle.std.proofs.Common.{append_assoc, append-nil, inl, inr, arith, le_antisymm, ◌↔◌}
 use Rattle.std.specs.Prelude.{Option, option_map, filter}
 use Rattle.std.proofs.lemmas.Bool.{cases_Bool, both_ways, and_from, or_left}
 use Rattle.std.proofs.lemmas.List.{map-append}
@@ -75,7 +76,8 @@ module _ (procs : List ProcTree) (order : TxnId → TxnId → Type 0) (start : T
       ∙ ap (one procs y) before
 
   -- and then the table is the replay that has this transaction too
-  pub same_after : (y : Txn) (r : Spot txns y) (p q : TxnId → Bool) → IsPast order p y.id → q y.id ≡ true → ((i : TxnId) → i ≢ y.id → q i ≡ p i) → after procs y (replay procs p txns start start) ≡ replay procs q txns start start
+  pub same_after : (y : Txn) (r : Spot txns y) (p q : TxnId → Bool) → IsPast order p y.id → q y.id ≡ true → ((i : TxnId) → i ≢ y.id → q i ≡ p i)
+      → after procs y (replay procs p txns start start) ≡ replay procs q txns start start
   same_after y r p q pp own others =
       ap (λ e. apply e (replay procs p txns start start)) (ap (λ o. o.1) (same_one y r p pp))
       ∙ ap (apply effect) without
@@ -241,7 +243,8 @@ module _ (procs : List ProcTree) (order : TxnId → TxnId → Type 0) (start : T
           ap (λ b. option_map (λ m. m.by) (cond b (Some m) None)) (ap (is_among (txn_ids xs)) same ∙ pp.preceders by r) ∙ e
 
   -- when a transaction of such a list runs, its keys have been moved at least as often as it was annotated
-  pub counters_reached : (xs : List Txn) (y : Txn) (ys : List Txn) → AllIn (λ x. Has txns x) (xs ++ y ∷ ys) → IsDown order (txn_ids (xs ++ y ∷ ys)) → AllIn (λ a. a.counter ≤ counter_of (table_after procs xs start) a.key) y.access
+  pub counters_reached : (xs : List Txn) (y : Txn) (ys : List Txn) → AllIn (λ x. Has txns x) (xs ++ y ∷ ys) → IsDown order (txn_ids (xs ++ y ∷ ys))
+      → AllIn (λ a. a.counter ≤ counter_of (table_after procs xs start) a.key) y.access
   counters_reached xs y ys all down = all_put _ y.access (λ a ka. go a (a.counter) (anchor_at procs order start txns h y a (all_append_at all) ka))
     where
       all_append_at : AllIn (λ x. Has txns x) (xs ++ y ∷ ys) → Has txns y
