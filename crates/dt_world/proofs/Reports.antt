@@ -87,13 +87,15 @@ module _ {view : WorldView} {events : List Event} (led : LedTo view events) wher
           ∙ sym (order_new view.cluster led.valid view.workload led.fits events led.legal at region id item (subst (λ l. is_among l id ≡ false) before absent))
 
       pub seen_again : is_among keys id ≡ true → new ≡ order_of (take (at + 1) events)
-      seen_again there = inserted ∙ ap (λ b. cond b keys (keys ++ id ∷ [])) there ∙ before ∙ sym (order_again view.cluster led.valid view.workload led.fits events led.legal at region id item (subst (λ l. is_among l id ≡ true) before there))
+      seen_again there = inserted ∙ ap (λ b. cond b keys (keys ++ id ∷ [])) there ∙ before
+          ∙ sym (order_again view.cluster led.valid view.workload led.fits events led.legal at region id item (subst (λ l. is_among l id ≡ true) before there))
 
       pub rans_again : is_among keys id ≡ true → rans_at view events at ≡ rans_at view events (at + 1)
       rans_again there = ap (filter_map (ran_of view.cluster view.workload events)) (sym (order_again view.cluster led.valid view.workload led.fits events led.legal at region id item (subst (λ l. is_among l id ≡ true) before there)))
 
       pub rans_new : is_among keys id ≡ false → (r : Ran) → ran_at view.state region id ≡ Some r → rans_at view events at ++ r ∷ [] ≡ rans_at view events (at + 1)
-      rans_new absent r is = sym (rans_more view.cluster led.valid view.workload led.fits events led.legal at region id r item (subst (λ l. is_among l id ≡ false) before absent) (subst (λ w. ran_at w region id ≡ Some r) led.reached is))
+      rans_new absent r is = sym (rans_more view.cluster led.valid view.workload led.fits events led.legal at region id r item
+          (subst (λ l. is_among l id ≡ false) before absent) (subst (λ w. ran_at w region id ≡ Some r) led.reached is))
 
   pub seen_other : (at : ℕ) (event : Event) → slice_get events at ≡ Some event → executed_id event ≡ None → order_of (take at events) ≡ order_of (take (at + 1) events)
   seen_other at event item none = sym (order_other view.cluster led.valid view.workload led.fits events led.legal at event item none)
@@ -267,7 +269,8 @@ no_counts : (n : ℕ) (x : Node) → length x.submitted ≡ 0 → replicate n 0 
 no_counts zero x e = refl
 no_counts (suc n) x e = ap₂ (λ (a : ℕ) (l : List ℕ). a ∷ l) (sym e) (no_counts n x e)
 
-pub course_begins : (cluster : Cluster) (workload : Workload) → ◌≡◌ {A = SessionReplayView} (record { waits = replicate (length workload.sessions) None; submitted = replicate cluster.regions 0 }) (replay_of (opening_world cluster workload))
+pub course_begins : (cluster : Cluster) (workload : Workload)
+    → ◌≡◌ {A = SessionReplayView} (record { waits = replicate (length workload.sessions) None; submitted = replicate cluster.regions 0 }) (replay_of (opening_world cluster workload))
 course_begins cluster workload = ap₂ (λ (a : List (Option TxnId)) (b : List ℕ). record { waits = a; submitted = b }) (no_waits workload.sessions) (no_counts cluster.regions (opening_node cluster.regions (opening_table cluster)) refl)
 
 -- small steps

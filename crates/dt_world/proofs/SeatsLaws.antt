@@ -82,7 +82,8 @@ module _ (region : ℕ) (name : Bytes) where
           let there : ◌≡◌ {A = Option ℕ} (option_map suc (place_where (is_session region name) sessions)) None = rw n at none in
           absurd (cc)
 
-  with_where : (sessions : List Session) (places : List Place) (p : Place) → length places ≡ length sessions → (i : ℕ) → place_where (is_session region name) sessions ≡ Some i → with_place sessions places region name p ≡ set places i p
+  with_where : (sessions : List Session) (places : List Place) (p : Place) → length places ≡ length sessions → (i : ℕ) → place_where (is_session region name) sessions ≡ Some i
+      → with_place sessions places region name p ≡ set places i p
   with_where [] places p same i found = cc
   with_where (s ∷ sessions) [] p same i found = absurd (omega arith)
   with_where (s ∷ sessions) (q ∷ places) p same i found = go (cases_Bool (is_session region name s)) (place_where (is_session region name) sessions) refl (λ j f. with_where sessions places p (omega arith) j f)
@@ -109,7 +110,8 @@ module _ (region : ℕ) (name : Bytes) where
   pub no_session_of_none : (sessions : List Session) (places : List Place) → position (is_session region name) sessions ≡ None → session_at sessions places region name ≡ None
   no_session_of_none sessions places none = not_where sessions places (sym (position_is (is_session region name) sessions) ∙ none)
 
-  pub place_set : (sessions : List Session) (places : List Place) (p : Place) → length places ≡ length sessions → (i : ℕ) → position (is_session region name) sessions ≡ Some i → with_place sessions places region name p ≡ set places i p
+  pub place_set : (sessions : List Session) (places : List Place) (p : Place) → length places ≡ length sessions → (i : ℕ) → position (is_session region name) sessions ≡ Some i
+      → with_place sessions places region name p ≡ set places i p
   place_set sessions places p same i found = with_where sessions places p same i (sym (position_is (is_session region name) sessions) ∙ found)
 
 -- the place of a name among distinct names is that of its session
@@ -143,12 +145,14 @@ module _ (region : ℕ) (name : Bytes) (sessions : List Session) (once : Distinc
 
   module _ (i : ℕ) (found : position (same_key name) (map (λ s. s.name) sessions) ≡ Some i) (d : Session) where
     within : i < length sessions
-    within = let r : (i < length (map (λ s. s.name) sessions)) × (same_key name (get_or (map (λ s. s.name) sessions) i d.name) ≡ true) × ((k : ℕ) → k < i → same_key name (get_or (map (λ s. s.name) sessions) k d.name) ≡ false) =
+    within = let r : (i < length (map (λ s. s.name) sessions)) × (same_key name (get_or (map (λ s. s.name) sessions) i d.name) ≡ true)
+        × ((k : ℕ) → k < i → same_key name (get_or (map (λ s. s.name) sessions) k d.name) ≡ false) =
         position-Some (same_key name) (map (λ s. s.name) sessions) i d.name found in
         subst (λ n. i < n) (length-map sessions (λ s. s.name)) r.0
 
     named : (get_or sessions i d).name ≡ name
-    named = let r : (i < length (map (λ s. s.name) sessions)) × (same_key name (get_or (map (λ s. s.name) sessions) i d.name) ≡ true) × ((k : ℕ) → k < i → same_key name (get_or (map (λ s. s.name) sessions) k d.name) ≡ false) =
+    named = let r : (i < length (map (λ s. s.name) sessions)) × (same_key name (get_or (map (λ s. s.name) sessions) i d.name) ≡ true)
+        × ((k : ℕ) → k < i → same_key name (get_or (map (λ s. s.name) sessions) k d.name) ≡ false) =
         position-Some (same_key name) (map (λ s. s.name) sessions) i d.name found in
         sym (key_of_test name (get_or (map (λ s. s.name) sessions) i d.name) r.1 ∙ name_at i d)
 
@@ -176,7 +180,8 @@ module _ (region : ℕ) (name : Bytes) (sessions : List Session) (once : Distinc
       fails p [] e k d lt = absurd (omega arith)
       fails p (x ∷ xs) e k d lt = go (cases_Bool (p x)) (place_where p xs) refl k lt (fails p xs)
         where
-          go : (p x ≡ true) ⊎ (p x ≡ false) → (o : Option ℕ) → place_where p xs ≡ o → (k : ℕ) → k < length (x ∷ xs) → (place_where p xs ≡ None → (k : ℕ) (d : Bytes) → k < length xs → p (get_or xs k d) ≡ false)
+          go : (p x ≡ true) ⊎ (p x ≡ false) → (o : Option ℕ) → place_where p xs ≡ o → (k : ℕ) → k < length (x ∷ xs)
+              → (place_where p xs ≡ None → (k : ℕ) (d : Bytes) → k < length xs → p (get_or xs k d) ≡ false)
               → p (get_or (x ∷ xs) k d) ≡ false
           go (inl y) o is k lt f = let here : ◌≡◌ {A = Option ℕ} (Some 0) None = rw y at e in absurd (cc)
           go (inr n) (Some j) is k lt f = let there : ◌≡◌ {A = Option ℕ} (option_map suc (place_where p xs)) None = rw n at e in absurd (cc)
@@ -209,12 +214,14 @@ seat_at : (seats : List Seat) (i : ℕ) (x : Seat) → i < length seats → x �
 seat_at seats i x lt is = ap place_of_seat (is ∙ get_or_default seats i x (record { answered = 0; waits = None }) lt) ∙ sym (get_of_map place_of_seat seats i (record { answered = 0; waits = None }))
 
 pub wait_is : (workload : Workload) (seats : List Seat) (i : ℕ) (id : TxnId) (x : Seat) → i < length seats → x ≡ get_or seats i x
-    → ◌≡◌ {A = SeatsView} (record { workload = workload; places = map place_of_seat (set seats i (record { answered = x.answered; waits = Some id })) }) (after_wait (record { workload = workload; places = map place_of_seat seats }) i id)
+    → ◌≡◌ {A = SeatsView} (record { workload = workload; places = map place_of_seat (set seats i (record { answered = x.answered; waits = Some id })) })
+    (after_wait (record { workload = workload; places = map place_of_seat seats }) i id)
 wait_is workload seats i id x lt is = ap (λ l. record { workload = workload; places = l })
     (map-set place_of_seat seats i (record { answered = x.answered; waits = Some id }) ∙ ap (λ p. set (map place_of_seat seats) i (record { answered = p.answered; waits = Some id })) (seat_at seats i x lt is))
 
 pub answer_is : (workload : Workload) (seats : List Seat) (i : ℕ) (x : Seat) → i < length seats → x ≡ get_or seats i x
-    → ◌≡◌ {A = SeatsView} (record { workload = workload; places = map place_of_seat (set seats i (record { answered = x.answered + 1; waits = None })) }) (after_answer (record { workload = workload; places = map place_of_seat seats }) i)
+    → ◌≡◌ {A = SeatsView} (record { workload = workload; places = map place_of_seat (set seats i (record { answered = x.answered + 1; waits = None })) })
+    (after_answer (record { workload = workload; places = map place_of_seat seats }) i)
 answer_is workload seats i x lt is = ap (λ l. record { workload = workload; places = l })
     (map-set place_of_seat seats i (record { answered = x.answered + 1; waits = None }) ∙ ap (λ p. set (map place_of_seat seats) i (record { answered = p.answered + 1; waits = None })) (seat_at seats i x lt is))
 
