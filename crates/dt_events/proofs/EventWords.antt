@@ -25,7 +25,8 @@ short_at (w ∷ ws) zero d short within = short.0
 short_at (w ∷ ws) (suc i) d short within = short_at ws i d short.1 (omega arith)
 
 -- words of which one is no id are no ids
-pub no_ids : (words : List (Bor (List ℕ))) (i : ℕ) (d : Bor (List ℕ)) → i < length words → ((id : TxnId) → IsCounted id → (get_or words i d).now ≢ id_text id) → (ids : List TxnId) → AreIds ids → spelled words ≢ map id_text ids
+pub no_ids : (words : List (Bor (List ℕ))) (i : ℕ) (d : Bor (List ℕ)) → i < length words → ((id : TxnId) → IsCounted id → (get_or words i d).now ≢ id_text id) → (ids : List TxnId) → AreIds ids
+    → spelled words ≢ map id_text ids
 no_ids [] i d within none ids counted same = absurd (omega arith)
 no_ids (w ∷ ws) i d within none [] counted same = cc
 no_ids (w ∷ ws) zero d within none (id ∷ ids) counted same = none id counted.0 (same_head same)
@@ -45,7 +46,8 @@ pub no_words : (line : List ℕ) → words_of line ≡ None → (bares : List (L
 no_words line none bares (words, are, same) = let h = (exact line words).1 are in cc
 
 -- the words of a line are the only ones
-pub no_bare_words : (line : List ℕ) (words : List Word) → words_of line ≡ Some words → ((bares : List (List ℕ)) → map (bare_bytes line) words ≢ map (λ w. Some w) bares) → (bares : List (List ℕ)) → ¬ AreBareWords line bares
+pub no_bare_words : (line : List ℕ) (words : List Word) → words_of line ≡ Some words → ((bares : List (List ℕ)) → map (bare_bytes line) words ≢ map (λ w. Some w) bares)
+    → (bares : List (List ℕ)) → ¬ AreBareWords line bares
 no_bare_words line words found none bares (others, are, same) =
     let one : words ≡ others = same_Some _ _ (sym found ∙ (exact line others).1 are) in
     none bares (ap (map (bare_bytes line)) one ∙ same)
@@ -91,7 +93,8 @@ pub join-ids : (word : List ℕ) (ids : List TxnId) → join_with_byte 32 (word 
 join-ids word [] = sym (append-nil word)
 join-ids word (id ∷ ids) = ap (λ t. word ++ 32 ∷ t) (join-ids (id_text id) ids)
 
-pub ids_put_all : (text kind region : List ℕ) (ids : List TxnId) (k : ℕ) → length ids ≤ k → text ++ spaced_ids (drop k ids) ≡ (kind ++ 32 ∷ region) ++ spaced_ids ids → text ≡ join_with_byte 32 (kind ∷ region ∷ map id_text ids)
+pub ids_put_all : (text kind region : List ℕ) (ids : List TxnId) (k : ℕ) → length ids ≤ k → text ++ spaced_ids (drop k ids) ≡ (kind ++ 32 ∷ region) ++ spaced_ids ids
+    → text ≡ join_with_byte 32 (kind ∷ region ∷ map id_text ids)
 ids_put_all text kind region ids k past so_far =
     let none : drop k ids ≡ [] = grind (arith, common_steps) in
     sym (append-nil text) ∙ ap (λ t. text ++ spaced_ids t) (sym none) ∙ so_far ∙ append_assoc kind (32 ∷ region) (spaced_ids ids) ∙ ap (λ t. kind ++ 32 ∷ t) (sym (join-ids region ids))
@@ -99,6 +102,7 @@ ids_put_all text kind region ids k past so_far =
 -- ---- lines of a file
 
 -- nothing is left of the lines: what was read is all
-pub all_read : (lines all : List FileLine) (events : List (ℕ × Event)) → lines ≡ [] → ((rest : List (ℕ × Event)) → Pairwise IsNumberedEvent lines rest → Pairwise IsNumberedEvent all (events ++ rest)) → Pairwise IsNumberedEvent all events
+pub all_read : (lines all : List FileLine) (events : List (ℕ × Event)) → lines ≡ [] → ((rest : List (ℕ × Event)) → Pairwise IsNumberedEvent lines rest → Pairwise IsNumberedEvent all (events ++ rest))
+    → Pairwise IsNumberedEvent all events
 all_read [] all events none so_far = subst (Pairwise IsNumberedEvent all) (append-nil events) (so_far [] tt)
 all_read (l ∷ lines) all events none so_far = cc

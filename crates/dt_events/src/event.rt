@@ -1,5 +1,6 @@
 ghost use Rattle.std.specs.Prelude.{◌≡◌, IfOk};
 ghost use Rattle.dt_events.specs.Events.{region_of};
+ghost use Rattle.dt_events.specs.declared.event.Event.TheVariants.{Append, Deliver};
 
 use dt_access::{Ids, TryCopy, TxnId};
 use dt_text::{Name, NoMemory};
@@ -73,33 +74,24 @@ impl Event {
                 region: *region,
                 session: session.copy(alloc)?,
             }),
+            Event::Resolve { region, ids } => Ok(Event::Resolve {
+                region: *region,
+                ids: ids.copy(alloc)?,
+            }),
             Event::Append {
                 home,
                 source,
                 number,
-            } => Ok(Event::Append {
-                home: *home,
-                source: *source,
-                number: *number,
-            }),
+            } => Ok(appended(*home, *source, *number)),
             Event::Deliver {
                 region,
                 home,
                 first,
                 last,
-            } => Ok(Event::Deliver {
-                region: *region,
-                home: *home,
-                first: *first,
-                last: *last,
-            }),
+            } => Ok(delivered(*region, *home, *first, *last)),
             Event::Insert { region, home } => Ok(Event::Insert {
                 region: *region,
                 home: *home,
-            }),
-            Event::Resolve { region, ids } => Ok(Event::Resolve {
-                region: *region,
-                ids: ids.copy(alloc)?,
             }),
             Event::Execute { region, id } => Ok(Event::Execute {
                 region: *region,
@@ -110,6 +102,29 @@ impl Event {
                 session: session.copy(alloc)?,
             }),
         }
+    }
+}
+
+/// The event in which a home takes a request.
+fn appended(home: u8, source: u8, number: u32) -> Event
+    ensures { result ≡ Append home source number }
+{
+    Event::Append {
+        home,
+        source,
+        number,
+    }
+}
+
+/// The event in which a region receives entries of a home's log.
+fn delivered(region: u8, home: u8, first: u32, last: u32) -> Event
+    ensures { result ≡ Deliver region home first last }
+{
+    Event::Deliver {
+        region,
+        home,
+        first,
+        last,
     }
 }
 
