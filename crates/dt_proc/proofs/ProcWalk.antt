@@ -18,7 +18,7 @@ use Rattle.dt_syntax.specs.Grammar.{param_kinds, at, params_tokens, key_tokens, 
 use Rattle.dt_proc.specs.WalkInner.{WalkAnswers, params_told, keys_told}
 use Rattle.dt_syntax.specs.Limits.{AllSound, IsSmall}
 use Rattle.dt_proc.proofs.ExprSorts.{holds_ok, holds_after, sorts, writes}
-use Rattle.dt_syntax.proofs.Callers.{sound_left, sound_right}
+use Rattle.dt_syntax.proofs.Callers.{proc_cut, sound_left, sound_right}
 use Rattle.dt_proc.proofs.KeySorts.{HasParams, KeysMade, keys_make, ParamsMade, params_make}
 use Rattle.dt_proc.proofs.StatementSorts.{block_fits}
 
@@ -154,3 +154,38 @@ pub proc_told : (before : List ProcTree) (p : ProcSyntax) (s : Scope × List Kin
 unfolding after_keys
 proc_told before p s r b free ps ks is =
     told_after_keys before p s r free ps ks ∙ ap (λ t. after_ok {A = BlockTree} t (λ c. Ok (record { name = p.name; params = s.1; keys = r.1; body = c }))) is
+
+-- ---- the tokens of a procedure, part after part
+
+-- what is left from its statements on, from its keys on, and from its parameters on
+abbrev pub body_left : ProcSyntax → List Placed → List Placed
+body_left p rest = statements_tokens p.body ++ at p.end_at tok.End ∷ rest
+
+abbrev pub keys_left : ProcSyntax → List Placed → List Placed
+keys_left p rest = flat_map key_tokens (p.key ∷ p.more_keys) ++ at p.begin_at tok.Begin ∷ body_left p rest
+
+abbrev pub params_left : ProcSyntax → List Placed → List Placed
+params_left p rest = params_tokens p.params ++ at p.close_at tok.Close ∷ keys_left p rest
+
+-- this follows a first token, as a walk tells it
+abbrev pub Follows : List Placed → List Placed → Type 0
+Follows ts after = (t : Placed) (rest : List Placed) → t ∷ rest ≡ ts → after ≡ rest
+
+-- this is the name that comes first, as a walk tells it
+abbrev pub IsNamed : List Placed → ℕ → List ℕ → List Placed → Type 0
+IsNamed ts place name after =
+    (p : ℕ) (n : List ℕ) (rest : List Placed) → at p (tok.Name n) ∷ rest ≡ ts → (place ≡ p) × (name ≡ n) × (after ≡ rest)
+
+-- the name of a procedure, and what follows it, after the word
+pub name_read : (p : ProcSyntax) (rest ts one : List Placed) (place : ℕ) (name : List ℕ) (named : List Placed) → proc_tokens p ++ rest ≡ ts →
+    Follows ts one → IsNamed one place name named → (place ≡ p.name_at) × (name ≡ p.name) × (named ≡ at p.open_at tok.Open ∷ params_left p rest)
+name_read p rest ts one place name named e follows is =
+    is p.name_at p.name (at p.open_at tok.Open ∷ params_left p rest)
+    (sym (follows (at p.word_at tok.Proc) (at p.name_at (tok.Name p.name) ∷ at p.open_at tok.Open ∷ params_left p rest) (proc_cut p rest ts e)))
+
+-- the same, with the `(`
+pub head_read : (p : ProcSyntax) (rest ts one : List Placed) (place : ℕ) (name : List ℕ) (named opened : List Placed) → proc_tokens p ++ rest ≡ ts →
+    Follows ts one → IsNamed one place name named → Follows named opened → (place ≡ p.name_at) × (name ≡ p.name) × (params_left p rest ≡ opened)
+head_read p rest ts one place name named opened e follows is after =
+    let n = name_read p rest ts one place name named e follows is in
+    (n.0, n.1, sym (after (at p.open_at tok.Open) (params_left p rest) (sym n.2)))

@@ -13,10 +13,10 @@ use Rattle.dt_proc.specs.Tree.{ExprTree, GiveTree, StmtTree, BlockTree, done, th
 use Rattle.dt_proc.specs.Names.{Scope, meaning_in}
 use Rattle.dt_proc.specs.SecondPass.{Checked, Typed, after_ok, with_new_variable, as_new, as_written, needs, same_sort, check, check_all_items, check_block, check_statement}
 use Rattle.dt_proc.specs.declared.tree.Sort.TheVariants as sort
-use Rattle.dt_proc.specs.WalkInner.{WalkAnswers}
+use Rattle.dt_proc.specs.WalkInner.{WalkAnswers, StartsBlock, StartsElse, StartsIf}
 use Rattle.dt_syntax.specs.FrontsInner.{NoElse, EndsBlock}
-use Rattle.dt_syntax.specs.Grammar.{at, Statement, let_new, set_key, clear_key, when, choose, abort, give, Statements, nothing, first, statement_tokens, statements_tokens, IsStatement, AreStatements}
-use Rattle.dt_syntax.proofs.Callers.{head_is, begins_other, no_else}
+use Rattle.dt_syntax.specs.Grammar.{at, Syntax, syntax_tokens, IsLevel, Statement, let_new, set_key, clear_key, when, choose, abort, give, Statements, nothing, first, statement_tokens, statements_tokens, IsStatement, AreStatements}
+use Rattle.dt_syntax.proofs.Callers.{head_is, tail_is, begins_other, no_else}
 
 -- what was visible is visible still, before anything new
 pub record Grown (old new : Scope) : Type 0 where
@@ -168,3 +168,38 @@ pub ended : (outer scope : Scope) (told : Checked BlockTree) (block : BlockTree)
 ended outer scope told block [] e rest ends (ss, good, cut, is, grown) =
     absurd (omega (arith, ap length cut, length-append (statements_tokens ss) (at e tok.End ∷ rest)))
 ended outer scope told block (t ∷ ts) e rest ends left = steps_end outer scope told block t ts e rest ends left
+
+-- an `if`, after its word, with one block or with two
+pub if_starts : (ts rest : List Placed) → NoElse rest →
+    ((x : Syntax) × (b : ℕ) × (ss : Statements) × (e : ℕ) × IsLevel 0 x × AreStatements ss
+    × (syntax_tokens x ++ at b tok.Begin ∷ (statements_tokens ss ++ at e tok.End ∷ rest) ≡ ts))
+    ⊎ ((x : Syntax) × (b : ℕ) × (ss : Statements) × (e : ℕ) × (w : ℕ) × (o : ℕ) × (rs : Statements) × (f : ℕ) × IsLevel 0 x × AreStatements ss × AreStatements rs
+    × (syntax_tokens x ++ at b tok.Begin ∷ (statements_tokens ss ++ at e tok.End ∷ at w tok.Else ∷ at o tok.Begin ∷ (statements_tokens rs ++ at f tok.End ∷ rest)) ≡ ts)) →
+    StartsIf ts
+if_starts ts rest alone (inl (x, b, ss, e, level, good, cut)) = record {
+  test = x;
+  begin_at = b;
+  after = statements_tokens ss ++ at e tok.End ∷ rest;
+  good = level;
+  branches = record { block = record { all = ss; end_at = e; rest = rest; good = good; cut = refl }; follows = inl alone };
+  cut = cut;
+}
+if_starts ts rest alone (inr (x, b, ss, e, w, o, rs, f, level, good, others, cut)) =
+    let second = statements_tokens rs ++ at f tok.End ∷ rest in
+    record {
+      test = x;
+      begin_at = b;
+      after = statements_tokens ss ++ at e tok.End ∷ at w tok.Else ∷ at o tok.Begin ∷ second;
+      good = level;
+      branches = record {
+        block = record { all = ss; end_at = e; rest = at w tok.Else ∷ at o tok.Begin ∷ second; good = good; cut = refl };
+        follows = inr (record { word_at = w; begin_at = o; after = second; block = record { all = rs; end_at = f; rest = rest; good = others; cut = refl }; cut = refl });
+      };
+      cut = cut;
+    }
+
+-- where an `else` comes first, a block comes after it
+pub else_starts : (tail left after : List Placed) (p : ℕ) → NoElse tail ⊎ StartsElse tail → left ≡ tail → at p tok.Else ∷ after ≡ left →
+    (o : ℕ) × (inside : List Placed) × StartsBlock inside × (at o tok.Begin ∷ inside ≡ after)
+else_starts tail left after p (inl alone) is cut = absurd (subst NoElse (sym (cut ∙ is)) alone refl)
+else_starts tail left after p (inr s) is cut = (s.begin_at, s.after, s.block, tail_is _ _ _ _ (s.cut ∙ sym (cut ∙ is)))

@@ -11,12 +11,24 @@ use Rattle.dt_proc.specs.declared.error.ProcError.TheVariants as fault
 use Rattle.dt_proc.specs.declared.tree.Give.{Give}
 use Rattle.dt_proc.specs.declared.tree.Stmt.{Stmt}
 use Rattle.dt_proc.specs.Names.{Scope}
-use Rattle.dt_proc.specs.Tree.{GiveTree, StmtTree, BlockTree, ProcTree, variable}
+use Rattle.dt_proc.specs.Tree.{GiveTree, StmtTree, BlockTree, ProcTree}
 use Rattle.dt_lists.specs.Lists.{AllIn}
 use Rattle.dt_proc.specs.TreeViews.{expr_tree, give_tree, stmt_tree}
 use Rattle.dt_proc.specs.declared.tree.KeyDecl.{KeyDecl}
-use Rattle.dt_proc.specs.SecondPass.{Checked, Typed, after_ok, check_key, check_keys, with_new_key, check_params}
+use Rattle.dt_proc.specs.SecondPass.{Checked, Typed, after_ok, check_key, check_keys, with_new_key, check_params, made_by, needs, read_by}
+use Rattle.dt_proc.specs.declared.expressions.Prefix.{Prefix}
+use Rattle.dt_proc.specs.declared.expressions.Prefix.TheVariants as prefix
+use Rattle.dt_proc.specs.declared.expressions.Reading.{Reading}
+use Rattle.dt_proc.specs.declared.expressions.Reading.TheVariants as reading
+use Rattle.dt_proc.specs.declared.tree.Sort.TheVariants as sort
+use Rattle.dt_proc.specs.Tree as tree
+use Rattle.std.specs.List.{flat_map}
+use Rattle.dt_syntax.specs.FrontsInner.{FrontStops, NoElse, comma_param, joined_part}
 use Rattle.dt_syntax.specs.Grammar.{param_kinds, at, level_of, KeySyntax, Params, ProcSyntax, IsProc, proc_tokens, AreProcSyntaxes, procs_tokens}
+use Rattle.dt_syntax.specs.Grammar.{Bracketed, bracketed_tokens, KeyPart, part_tokens, key_tokens, kind_token, Param, param_tokens, params_tokens}
+use Rattle.dt_syntax.specs.Grammar.{Syntax, syntax_tokens, IsLevel, Links, links_tokens, AreLinks, Item, IsItem, item_tokens, items_tokens}
+use Rattle.dt_syntax.specs.Grammar.{Statement, IsStatement, statement_tokens, Statements, AreStatements, statements_tokens}
+use Rattle.dt_syntax.specs.Grammar.{makes_length, makes_text, reads_int, reads_text, reads_presence}
 use Rattle.dt_syntax.specs.declared.kinds.Kind.{Kind}
 use Rattle.std.specs.Borrow.{Bor}
 use Rattle.std.specs.Int.{w64}
@@ -38,9 +50,21 @@ abbrev pub number_shown : Result (ℕ × Bor (List Placed)) ProcError → Checke
 number_shown (Ok r) = Ok (r.0, r.1.now)
 number_shown (Err e) = Err e
 
-abbrev pub variable_shown : Result (ℕ × Sort) ProcError → Checked Typed
-variable_shown (Ok r) = Ok (variable r.0, r.1)
-variable_shown (Err e) = Err e
+abbrev pub typed_shown : Result (Expr × Sort) ProcError → Checked Typed
+typed_shown (Ok r) = Ok (expr_tree r.0, r.1)
+typed_shown (Err e) = Err e
+
+-- what is told of an operand with this before it, and of a row of which this is read
+abbrev pub prefix_told : Prefix → ℕ → Typed → Checked Typed
+prefix_told prefix.Len place a = made_by makes_length place a
+prefix_told prefix.Show place a = made_by makes_text place a
+prefix_told prefix.Minus place a = needs place sort.Int a (tree.negative a.0, sort.Int)
+prefix_told prefix.Not place a = needs place sort.Bool a (tree.opposite a.0, sort.Bool)
+
+abbrev pub read_told : Reading → ℕ → Typed
+read_told reading.Int key = read_by reads_int key
+read_told reading.Text key = read_by reads_text key
+read_told reading.Presence key = read_by reads_presence key
 
 abbrev pub operator_shown : Option (ℕ × Op × Bor (List Placed)) → Option (ℕ × Op × List Placed)
 operator_shown None = None
@@ -109,6 +133,184 @@ params_shown (Err e) = Err e
 abbrev pub proc_shown : Result (ProcTree × Bor (List Placed)) ProcError → Checked (ProcTree × List Placed)
 proc_shown (Ok r) = Ok (r.0, r.1.now)
 proc_shown (Err e) = Err e
+
+-- ---- what a walk needs of the tokens: the part of the grammar that it reads comes first, and what may follow it is behind
+
+pub record StartsName (ts : List Placed) : Type 0 where
+  pub place : ℕ
+  pub name : List ℕ
+  pub rest : List Placed
+  pub cut : at place (tok.Name name) ∷ rest ≡ ts
+
+pub record StartsKind (ts : List Placed) : Type 0 where
+  pub place : ℕ
+  pub kind : Kind
+  pub rest : List Placed
+  pub cut : at place (kind_token kind) ∷ rest ≡ ts
+
+-- a name in brackets
+pub record StartsBrackets (ts : List Placed) : Type 0 where
+  pub one : Bracketed
+  pub rest : List Placed
+  pub cut : bracketed_tokens one ++ rest ≡ ts
+
+-- a part of a key expression
+pub record StartsPart (ts : List Placed) : Type 0 where
+  pub one : KeyPart
+  pub rest : List Placed
+  pub cut : part_tokens one ++ rest ≡ ts
+
+-- more parts, up to the `;`
+pub record StartsMoreParts (ts : List Placed) : Type 0 where
+  pub more : List (ℕ × KeyPart)
+  pub end_at : ℕ
+  pub rest : List Placed
+  pub cut : flat_map joined_part more ++ at end_at tok.Semicolon ∷ rest ≡ ts
+
+-- a key, after its word
+pub record StartsKey (ts : List Placed) : Type 0 where
+  pub one : KeySyntax
+  pub rest : List Placed
+  pub cut : at one.name_at (tok.Name one.name) ∷ at one.is_at tok.Is
+      ∷ (part_tokens one.first ++ (flat_map joined_part one.more ++ at one.end_at tok.Semicolon ∷ rest)) ≡ ts
+
+-- keys, up to the `{`
+pub record StartsMoreKeys (ts : List Placed) : Type 0 where
+  pub more : List KeySyntax
+  pub begin_at : ℕ
+  pub rest : List Placed
+  pub cut : flat_map key_tokens more ++ at begin_at tok.Begin ∷ rest ≡ ts
+
+pub record StartsParam (ts : List Placed) : Type 0 where
+  pub one : Param
+  pub rest : List Placed
+  pub cut : param_tokens one ++ rest ≡ ts
+
+-- more parameters, up to the `)`
+pub record StartsMoreParams (ts : List Placed) : Type 0 where
+  pub more : List (ℕ × Param)
+  pub close_at : ℕ
+  pub rest : List Placed
+  pub cut : flat_map comma_param more ++ at close_at tok.Close ∷ rest ≡ ts
+
+-- parameters, up to the `)`
+pub record StartsParams (ts : List Placed) : Type 0 where
+  pub all : Params
+  pub close_at : ℕ
+  pub rest : List Placed
+  pub cut : params_tokens all ++ at close_at tok.Close ∷ rest ≡ ts
+
+-- an expression of the level
+pub record StartsExpr (level : ℕ) (ts : List Placed) : Type 0 where
+  pub one : Syntax
+  pub rest : List Placed
+  pub good : IsLevel level one
+  pub stops : FrontStops level rest
+  pub cut : syntax_tokens one ++ rest ≡ ts
+
+-- operators of the level, each with an operand
+pub record StartsLinks (level : ℕ) (ts : List Placed) : Type 0 where
+  pub all : Links
+  pub rest : List Placed
+  pub good : AreLinks level all
+  pub stops : FrontStops level rest
+  pub cut : links_tokens all ++ rest ≡ ts
+
+-- an expression in brackets, after the `(`
+pub record StartsInside (ts : List Placed) : Type 0 where
+  pub one : Syntax
+  pub close_at : ℕ
+  pub rest : List Placed
+  pub good : IsLevel 0 one
+  pub cut : syntax_tokens one ++ at close_at tok.Close ∷ rest ≡ ts
+
+-- an expression in brackets
+pub record StartsOpen (ts : List Placed) : Type 0 where
+  pub open_at : ℕ
+  pub after : List Placed
+  pub inside : StartsInside after
+  pub cut : at open_at tok.Open ∷ after ≡ ts
+
+pub record StartsItem (ts : List Placed) : Type 0 where
+  pub one : Item
+  pub rest : List Placed
+  pub good : IsItem one
+  pub stops : FrontStops 0 rest
+  pub cut : item_tokens one ++ rest ≡ ts
+
+-- items, up to the `;`
+pub record StartsItems (ts : List Placed) : Type 0 where
+  pub one : Item
+  pub more : List (ℕ × Item)
+  pub end_at : ℕ
+  pub rest : List Placed
+  pub good : IsItem one
+  pub others : AllIn (λ m. IsItem m.1) more
+  pub cut : items_tokens one more ++ at end_at tok.Semicolon ∷ rest ≡ ts
+
+-- NAME '=' expr ';'
+pub record StartsAssigned (ts : List Placed) : Type 0 where
+  pub name_at : ℕ
+  pub name : List ℕ
+  pub is_at : ℕ
+  pub value : Syntax
+  pub end_at : ℕ
+  pub rest : List Placed
+  pub good : IsLevel 0 value
+  pub cut : at name_at (tok.Name name) ∷ at is_at tok.Is ∷ (syntax_tokens value ++ at end_at tok.Semicolon ∷ rest) ≡ ts
+
+-- NAME ';'
+pub record StartsNamed (ts : List Placed) : Type 0 where
+  pub name_at : ℕ
+  pub name : List ℕ
+  pub end_at : ℕ
+  pub rest : List Placed
+  pub cut : at name_at (tok.Name name) ∷ at end_at tok.Semicolon ∷ rest ≡ ts
+
+-- TEXT ';'
+pub record StartsQuoted (ts : List Placed) : Type 0 where
+  pub text_at : ℕ
+  pub text : List ℕ
+  pub end_at : ℕ
+  pub rest : List Placed
+  pub cut : at text_at (tok.Text text) ∷ at end_at tok.Semicolon ∷ rest ≡ ts
+
+-- statements, up to the `}`
+pub record StartsBlock (ts : List Placed) : Type 0 where
+  pub all : Statements
+  pub end_at : ℕ
+  pub rest : List Placed
+  pub good : AreStatements all
+  pub cut : statements_tokens all ++ at end_at tok.End ∷ rest ≡ ts
+
+pub record StartsStatement (ts : List Placed) : Type 0 where
+  pub one : Statement
+  pub rest : List Placed
+  pub good : IsStatement one
+  pub follows : NoElse rest
+  pub cut : statement_tokens one ++ rest ≡ ts
+
+-- 'else' block
+pub record StartsElse (ts : List Placed) : Type 0 where
+  pub word_at : ℕ
+  pub begin_at : ℕ
+  pub after : List Placed
+  pub block : StartsBlock after
+  pub cut : at word_at tok.Else ∷ at begin_at tok.Begin ∷ after ≡ ts
+
+-- the first block of an `if`, after its `{`, and then the second, if one comes
+pub record StartsBranches (ts : List Placed) : Type 0 where
+  pub block : StartsBlock ts
+  pub follows : NoElse block.rest ⊎ StartsElse block.rest
+
+-- an `if`, after its word
+pub record StartsIf (ts : List Placed) : Type 0 where
+  pub test : Syntax
+  pub begin_at : ℕ
+  pub after : List Placed
+  pub good : IsLevel 0 test
+  pub branches : StartsBranches after
+  pub cut : syntax_tokens test ++ at begin_at tok.Begin ∷ after ≡ ts
 
 -- a procedure of the grammar comes first
 pub record StartsProc (ts : List Placed) : Type 0 where

@@ -3,7 +3,7 @@
 ghost use Rattle.std.specs.Prelude.{◌≡◌, ◌<◌, ◌≤◌, ℕ, List, ◌∷◌, ◌++◌, length, IfOk, IfSome};
 ghost use Rattle.dt_syntax.specs.declared.token.Placed.{Placed};
 ghost use Rattle.dt_syntax.specs.declared.token.Token.TheVariants as tok;
-ghost use Rattle.dt_syntax.specs.Grammar.{at, Bracketed, bracketed_tokens, Syntax, syntax_tokens, Links, links_tokens, IsLevel, AreLinks, minus, denial, makes_length, makes_text};
+ghost use Rattle.dt_syntax.specs.Grammar.{at, Bracketed, bracketed_tokens, Syntax, syntax_tokens, Links, links_tokens, IsLevel, AreLinks};
 ghost use Rattle.dt_proc.specs.Names.{meaning_in};
 ghost use Rattle.dt_proc.specs.Sound as sound;
 ghost use Rattle.dt_proc.specs.SecondPass.{after_ok};
@@ -11,11 +11,10 @@ ghost use Rattle.dt_proc.specs.SecondPass as checked;
 ghost use Rattle.dt_proc.specs.WalkInner as walked;
 ghost use Rattle.dt_syntax.specs.FrontsInner as fronts;
 ghost use Rattle.dt_proc.specs.TreeViews.{expr_tree};
-ghost use Rattle.dt_proc.specs.Tree as tree;
 
 use crate::builtin::binary;
 use crate::error::ProcError;
-use crate::fronts::{BROKEN, after_one, bracketed};
+use crate::fronts::{after_one, bracketed};
 use crate::scope::{Meaning, Scope};
 use crate::tree::{Expr, Op, Sort};
 use dt_syntax::{Placed, Token};
@@ -27,11 +26,12 @@ pub(crate) fn key_in_brackets<'a>(
     scope: &Scope,
     tokens: &'a [Placed],
 ) -> Result<(u32, &'a [Placed]), ProcError>
+    requires starts { walked.StartsBrackets tokens.now }
     ensures shorter { IfOk result (λ r. length r.1.now < length tokens.now) }
     ensures right { (b : Bracketed) (rest : List Placed) → bracketed_tokens b ++ rest ≡ tokens.now
         → walked.WalkAnswers (checked.key_of scope.now b) rest (walked.number_shown result) }
 {
-    let (place, name, rest) = bracketed(tokens)?;
+    let (place, name, rest) = bracketed(tokens);
     match scope.meaning(name) {
         Meaning::Key(number, _) => Ok((number, rest)),
         Meaning::Variable(_, _) => Err(ProcError::Kind(place)),
@@ -47,7 +47,8 @@ pub(crate) fn expression<'a>(
     tokens: &'a [Placed],
     level: u8,
 ) -> Result<(Expr, Sort, &'a [Placed]), ProcError>
-    requires { level ≤ 6 }
+    requires high { level ≤ 6 }
+    requires starts { walked.StartsExpr level tokens.now }
     ensures shorter { IfOk result (λ r. length r.2.now < length tokens.now) }
     ensures right { (x : Syntax) (rest : List Placed) → IsLevel level x → fronts.FrontStops level rest → syntax_tokens x ++ rest ≡ tokens.now
         → walked.WalkAnswers (checked.check scope.now x) rest (walked.expr_shown result) }
@@ -69,7 +70,8 @@ fn links<'a>(
     tokens: &'a [Placed],
     level: u8,
 ) -> Result<(Expr, Sort, &'a [Placed]), ProcError>
-    requires { level < 5 }
+    requires low { level < 5 }
+    requires starts { walked.StartsLinks level tokens.now }
     ensures shorter { IfOk result (λ r. length r.2.now ≤ length tokens.now) }
     ensures right { (ls : Links) (rest : List Placed) → AreLinks level ls → fronts.FrontStops level rest → links_tokens ls ++ rest ≡ tokens.now
         → walked.WalkAnswers (checked.check_links scope.now (expr_tree left, sort) ls) rest (walked.expr_shown result) }
@@ -121,27 +123,28 @@ fn operand<'a>(
 ) -> Result<(Expr, Sort, &'a [Placed]), ProcError>
     requires low { 5 ≤ level }
     requires high { level ≤ 6 }
+    requires starts { walked.StartsExpr level tokens.now }
     ensures shorter { IfOk result (λ r. length r.2.now < length tokens.now) }
     ensures right { (x : Syntax) (rest : List Placed) → IsLevel level x → fronts.FrontStops level rest → syntax_tokens x ++ rest ≡ tokens.now
         → walked.WalkAnswers (checked.check scope.now x) rest (walked.expr_shown result) }
 {
     let [first, rest @ ..] = tokens else {
-        return Err(BROKEN);
+        unreachable!();
     };
     match &first.token {
         Token::Int(number) => Ok((Expr::Int(*number), Sort::Int, rest)),
         Token::Text(text) => Ok((Expr::Text(text.copy(alloc)?), Sort::Text, rest)),
         Token::Truth(truth) => Ok((Expr::Bool(*truth), Sort::Bool, rest)),
         Token::Name(name) => variable(scope, first.place, name, rest),
-        Token::IntWord => int_of(scope, rest),
-        Token::TextWord => text_of(scope, rest),
-        Token::Has => presence_of(scope, rest),
+        Token::IntWord => read_row(scope, Reading::Int, rest),
+        Token::TextWord => read_row(scope, Reading::Text, rest),
+        Token::Has => read_row(scope, Reading::Presence, rest),
         Token::Open => inside(alloc, scope, rest),
-        Token::Len => length_of(alloc, scope, first.place, rest),
-        Token::Show => shown(alloc, scope, first.place, rest),
-        Token::Not => opposite(alloc, scope, first.place, rest),
-        Token::Op(_) => negative(alloc, scope, first.place, rest),
-        _ => Err(BROKEN),
+        Token::Len => of_brackets(alloc, scope, Prefix::Len, first.place, rest),
+        Token::Show => of_brackets(alloc, scope, Prefix::Show, first.place, rest),
+        Token::Not => of_atom(alloc, scope, Prefix::Not, first.place, rest),
+        Token::Op(_) => of_atom(alloc, scope, Prefix::Minus, first.place, rest),
+        _ => unreachable!(),
     }
 }
 
@@ -162,42 +165,33 @@ fn variable<'a>(
     }
 }
 
-/// The number in the row of the key in brackets.
-fn int_of<'a>(scope: &Scope, tokens: &'a [Placed]) -> Result<(Expr, Sort, &'a [Placed]), ProcError>
-    ensures shorter { IfOk result (λ r. length r.2.now < length tokens.now) }
-    ensures right { (b : Bracketed) (rest : List Placed) → bracketed_tokens b ++ rest ≡ tokens.now
-        → walked.WalkAnswers (after_ok (checked.key_of scope.now b) (λ k. Ok (tree.number_of k, Sort.Int))) rest (walked.expr_shown result) }
-{
-    match key_in_brackets(scope, tokens) {
-        Ok((key, rest)) => Ok((Expr::IntOf(key), Sort::Int, rest)),
-        Err(fault) => Err(fault),
-    }
+/// What is read of the row of a key.
+#[derive(Clone, Copy, Drop)]
+pub(crate) enum Reading {
+    /// Its number.
+    Int,
+    /// Its text.
+    Text,
+    /// Whether it has a value.
+    Presence,
 }
 
-/// The text in the row of the key in brackets.
-fn text_of<'a>(scope: &Scope, tokens: &'a [Placed]) -> Result<(Expr, Sort, &'a [Placed]), ProcError>
-    ensures shorter { IfOk result (λ r. length r.2.now < length tokens.now) }
-    ensures right { (b : Bracketed) (rest : List Placed) → bracketed_tokens b ++ rest ≡ tokens.now
-        → walked.WalkAnswers (after_ok (checked.key_of scope.now b) (λ k. Ok (tree.text_of k, Sort.Text))) rest (walked.expr_shown result) }
-{
-    match key_in_brackets(scope, tokens) {
-        Ok((key, rest)) => Ok((Expr::TextOf(key), Sort::Text, rest)),
-        Err(fault) => Err(fault),
-    }
-}
-
-/// Whether the row of the key in brackets has a value.
-fn presence_of<'a>(
+/// What is read of the row of the key in brackets.
+fn read_row<'a>(
     scope: &Scope,
+    reading: Reading,
     tokens: &'a [Placed],
 ) -> Result<(Expr, Sort, &'a [Placed]), ProcError>
+    requires starts { walked.StartsBrackets tokens.now }
     ensures shorter { IfOk result (λ r. length r.2.now < length tokens.now) }
     ensures right { (b : Bracketed) (rest : List Placed) → bracketed_tokens b ++ rest ≡ tokens.now
-        → walked.WalkAnswers (after_ok (checked.key_of scope.now b) (λ k. Ok (tree.has_value k, Sort.Bool))) rest (walked.expr_shown result) }
+        → walked.WalkAnswers (after_ok (checked.key_of scope.now b) (λ k. Ok (walked.read_told reading k))) rest (walked.expr_shown result) }
 {
-    match key_in_brackets(scope, tokens) {
-        Ok((key, rest)) => Ok((Expr::Has(key), Sort::Bool, rest)),
-        Err(fault) => Err(fault),
+    let (key, rest) = key_in_brackets(scope, tokens)?;
+    match reading {
+        Reading::Int => Ok((Expr::IntOf(key), Sort::Int, rest)),
+        Reading::Text => Ok((Expr::TextOf(key), Sort::Text, rest)),
+        Reading::Presence => Ok((Expr::Has(key), Sort::Bool, rest)),
     }
 }
 
@@ -208,94 +202,84 @@ fn inside<'a>(
     scope: &Scope,
     tokens: &'a [Placed],
 ) -> Result<(Expr, Sort, &'a [Placed]), ProcError>
+    requires starts { walked.StartsInside tokens.now }
     ensures shorter { IfOk result (λ r. length r.2.now < length tokens.now) }
     ensures right { (x : Syntax) (q : ℕ) (rest : List Placed) → IsLevel 0 x → syntax_tokens x ++ at q tok.Close ∷ rest ≡ tokens.now
         → walked.WalkAnswers (checked.check scope.now x) rest (walked.expr_shown result) }
 {
     let (expr, sort, rest) = expression(alloc, scope, tokens, 0)?;
-    Ok((expr, sort, after_one(rest)?))
+    Ok((expr, sort, after_one(rest)))
 }
 
-/// The length of the text in brackets.
+/// A word or sign before an operand.
+#[derive(Clone, Copy, Drop)]
+pub(crate) enum Prefix {
+    /// `len`, before an operand in brackets.
+    Len,
+    /// `show`, before an operand in brackets.
+    Show,
+    /// `-`.
+    Minus,
+    /// `not`.
+    Not,
+}
+
+/// What is made of an operand by what stands before it, at the place.
+fn made_of(
+    alloc: Global,
+    prefix: Prefix,
+    place: u32,
+    operand: Expr,
+    sort: Sort,
+) -> Result<(Expr, Sort), ProcError>
+    ensures { walked.PassGives (walked.prefix_told prefix place (expr_tree operand, sort)) (walked.typed_shown result) }
+{
+    match (prefix, sort) {
+        (Prefix::Len, Sort::Text) => Ok((Expr::Len(Box::new(alloc, operand)?), Sort::Int)),
+        (Prefix::Show, Sort::Int) => Ok((Expr::Show(Box::new(alloc, operand)?), Sort::Text)),
+        (Prefix::Minus, Sort::Int) => Ok((Expr::Neg(Box::new(alloc, operand)?), Sort::Int)),
+        (Prefix::Not, Sort::Bool) => Ok((Expr::Not(Box::new(alloc, operand)?), Sort::Bool)),
+        _ => Err(ProcError::Kind(place)),
+    }
+}
+
+/// What is made of the expression in brackets.
 #[cycle(levels)]
-fn length_of<'a>(
+fn of_brackets<'a>(
     alloc: Global,
     scope: &Scope,
+    prefix: Prefix,
     place: u32,
     tokens: &'a [Placed],
 ) -> Result<(Expr, Sort, &'a [Placed]), ProcError>
+    requires starts { walked.StartsOpen tokens.now }
     ensures shorter { IfOk result (λ r. length r.2.now < length tokens.now) }
     ensures right { (o : ℕ) (x : Syntax) (q : ℕ) (rest : List Placed) → IsLevel 0 x
         → at o tok.Open ∷ (syntax_tokens x ++ at q tok.Close ∷ rest) ≡ tokens.now
-        → walked.WalkAnswers (after_ok (checked.check scope.now x) (checked.made_by makes_length place)) rest (walked.expr_shown result) }
+        → walked.WalkAnswers (after_ok (checked.check scope.now x) (walked.prefix_told prefix place)) rest (walked.expr_shown result) }
 {
-    let (expr, sort, rest) = inside(alloc, scope, after_one(tokens)?)?;
-    match sort {
-        Sort::Text => Ok((Expr::Len(Box::new(alloc, expr)?), Sort::Int, rest)),
-        Sort::Int => Err(ProcError::Kind(place)),
-        Sort::Bool => Err(ProcError::Kind(place)),
-    }
+    let (operand, sort, rest) = inside(alloc, scope, after_one(tokens))?;
+    let (expr, sort) = made_of(alloc, prefix, place, operand, sort)?;
+    Ok((expr, sort, rest))
 }
 
-/// The printed form of the number in brackets.
+/// What is made of the atom.
 #[cycle(levels)]
-fn shown<'a>(
+fn of_atom<'a>(
     alloc: Global,
     scope: &Scope,
+    prefix: Prefix,
     place: u32,
     tokens: &'a [Placed],
 ) -> Result<(Expr, Sort, &'a [Placed]), ProcError>
-    ensures shorter { IfOk result (λ r. length r.2.now < length tokens.now) }
-    ensures right { (o : ℕ) (x : Syntax) (q : ℕ) (rest : List Placed) → IsLevel 0 x
-        → at o tok.Open ∷ (syntax_tokens x ++ at q tok.Close ∷ rest) ≡ tokens.now
-        → walked.WalkAnswers (after_ok (checked.check scope.now x) (checked.made_by makes_text place)) rest (walked.expr_shown result) }
-{
-    let (expr, sort, rest) = inside(alloc, scope, after_one(tokens)?)?;
-    match sort {
-        Sort::Int => Ok((Expr::Show(Box::new(alloc, expr)?), Sort::Text, rest)),
-        Sort::Text => Err(ProcError::Kind(place)),
-        Sort::Bool => Err(ProcError::Kind(place)),
-    }
-}
-
-/// The atom after a `not`, turned round.
-#[cycle(levels)]
-fn opposite<'a>(
-    alloc: Global,
-    scope: &Scope,
-    place: u32,
-    tokens: &'a [Placed],
-) -> Result<(Expr, Sort, &'a [Placed]), ProcError>
+    requires starts { walked.StartsExpr 6 tokens.now }
     ensures shorter { IfOk result (λ r. length r.2.now < length tokens.now) }
     ensures right { (x : Syntax) (rest : List Placed) → IsLevel 6 x → fronts.FrontStops 6 rest → syntax_tokens x ++ rest ≡ tokens.now
-        → walked.WalkAnswers (checked.check scope.now (denial place x)) rest (walked.expr_shown result) }
+        → walked.WalkAnswers (after_ok (checked.check scope.now x) (walked.prefix_told prefix place)) rest (walked.expr_shown result) }
 {
-    let (expr, sort, rest) = expression(alloc, scope, tokens, 6)?;
-    match sort {
-        Sort::Bool => Ok((Expr::Not(Box::new(alloc, expr)?), Sort::Bool, rest)),
-        Sort::Int => Err(ProcError::Kind(place)),
-        Sort::Text => Err(ProcError::Kind(place)),
-    }
-}
-
-/// The atom after a `-`, with the other sign.
-#[cycle(levels)]
-fn negative<'a>(
-    alloc: Global,
-    scope: &Scope,
-    place: u32,
-    tokens: &'a [Placed],
-) -> Result<(Expr, Sort, &'a [Placed]), ProcError>
-    ensures shorter { IfOk result (λ r. length r.2.now < length tokens.now) }
-    ensures right { (x : Syntax) (rest : List Placed) → IsLevel 6 x → fronts.FrontStops 6 rest → syntax_tokens x ++ rest ≡ tokens.now
-        → walked.WalkAnswers (checked.check scope.now (minus place x)) rest (walked.expr_shown result) }
-{
-    let (expr, sort, rest) = expression(alloc, scope, tokens, 6)?;
-    match sort {
-        Sort::Int => Ok((Expr::Neg(Box::new(alloc, expr)?), Sort::Int, rest)),
-        Sort::Text => Err(ProcError::Kind(place)),
-        Sort::Bool => Err(ProcError::Kind(place)),
-    }
+    let (operand, sort, rest) = expression(alloc, scope, tokens, 6)?;
+    let (expr, sort) = made_of(alloc, prefix, place, operand, sort)?;
+    Ok((expr, sort, rest))
 }
 
 /// What an operator gives.

@@ -1,53 +1,52 @@
 //! What comes first of some tokens, and what follows it.
 
-ghost use Rattle.std.specs.Prelude.{◌≡◌, ◌<◌, ℕ, List, [], ◌∷◌, ◌++◌, length, MatchResult, IfOk, IfSome, Ok};
+ghost use Rattle.std.specs.Prelude.{◌≡◌, ◌<◌, ℕ, List, [], ◌∷◌, ◌++◌, length, IfSome};
 ghost use Rattle.dt_syntax.specs.declared.token.Placed.{Placed};
 ghost use Rattle.dt_syntax.specs.declared.token.Token.TheVariants as tok;
-ghost use Rattle.dt_syntax.specs.Grammar.{at, Bracketed, bracketed_tokens, Syntax};
+ghost use Rattle.dt_syntax.specs.Grammar.{at, Bracketed, bracketed_tokens};
 ghost use Rattle.dt_proc.specs.WalkInner as walked;
 ghost use Rattle.dt_syntax.specs.declared.operator.Op.TheVariants as op;
 
-use crate::error::ProcError;
 use dt_syntax::{Placed, Token};
 use dt_text::Name;
 
-/// The answer where tokens are not in the grammar, which the first pass rules out.
-pub(crate) const BROKEN: ProcError = ProcError::Syntax(0);
-
 /// What follows the first token.
-pub(crate) fn after_one(tokens: &[Placed]) -> Result<&[Placed], ProcError>
-    ensures shorter { IfOk result (λ r. length r.now < length tokens.now) }
-    ensures right { (t : Placed) (rest : List Placed) → t ∷ rest ≡ tokens.now → MatchResult result (λ r. r.now ≡ rest) (λ e. ⊥) }
+pub(crate) fn after_one(tokens: &[Placed]) -> &[Placed]
+    requires { 0 < length tokens.now }
+    ensures shorter { length result.now < length tokens.now }
+    ensures right { (t : Placed) (rest : List Placed) → t ∷ rest ≡ tokens.now → result.now ≡ rest }
 {
-    match tokens {
-        [_, rest @ ..] => Ok(rest),
-        [] => Err(BROKEN),
-    }
+    let [_, rest @ ..] = tokens else {
+        unreachable!();
+    };
+    rest
 }
 
 /// The name that comes first, with its place, and what follows it.
-pub(crate) fn named(tokens: &[Placed]) -> Result<(u32, &Name, &[Placed]), ProcError>
-    ensures shorter { IfOk result (λ r. length r.2.now < length tokens.now) }
+pub(crate) fn named(tokens: &[Placed]) -> (u32, &Name, &[Placed])
+    requires starts { walked.StartsName tokens.now }
+    ensures shorter { length result.2.now < length tokens.now }
     ensures right { (p : ℕ) (n : List ℕ) (rest : List Placed) → at p (tok.Name n) ∷ rest ≡ tokens.now
-        → MatchResult result (λ r. (r.0 ≡ p) × (r.1.now ≡ n) × (r.2.now ≡ rest)) (λ e. ⊥) }
+        → (result.0 ≡ p) × (result.1.now ≡ n) × (result.2.now ≡ rest) }
 {
-    match tokens {
-        [first, rest @ ..] => match &first.token {
-            Token::Name(name) => Ok((first.place, name, rest)),
-            _ => Err(BROKEN),
-        },
-        [] => Err(BROKEN),
-    }
+    let [first, rest @ ..] = tokens else {
+        unreachable!();
+    };
+    let Token::Name(name) = &first.token else {
+        unreachable!();
+    };
+    (first.place, name, rest)
 }
 
 /// The name in brackets that comes first, with its place, and what follows the brackets.
-pub(crate) fn bracketed(tokens: &[Placed]) -> Result<(u32, &Name, &[Placed]), ProcError>
-    ensures shorter { IfOk result (λ r. length r.2.now < length tokens.now) }
+pub(crate) fn bracketed(tokens: &[Placed]) -> (u32, &Name, &[Placed])
+    requires starts { walked.StartsBrackets tokens.now }
+    ensures shorter { length result.2.now < length tokens.now }
     ensures right { (b : Bracketed) (rest : List Placed) → bracketed_tokens b ++ rest ≡ tokens.now
-        → MatchResult result (λ r. (r.0 ≡ b.name_at) × (r.1.now ≡ b.name) × (r.2.now ≡ rest)) (λ e. ⊥) }
+        → (result.0 ≡ b.name_at) × (result.1.now ≡ b.name) × (result.2.now ≡ rest) }
 {
-    let (place, name, rest) = named(after_one(tokens)?)?;
-    Ok((place, name, after_one(rest)?))
+    let (place, name, rest) = named(after_one(tokens));
+    (place, name, after_one(rest))
 }
 
 /// What follows a `,`, if one comes first.

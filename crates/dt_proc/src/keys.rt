@@ -14,7 +14,7 @@ ghost use Rattle.dt_proc.specs.WalkInner as walked;
 ghost use Rattle.dt_syntax.specs.FrontsInner as fronts;
 
 use crate::error::ProcError;
-use crate::fronts::{BROKEN, after_join, after_one, bracketed, named};
+use crate::fronts::{after_join, after_one, bracketed, named};
 use crate::scope::{Meaning, Scope, is_new};
 use crate::tree::{KeyDecl, KeyItem, KeyItems, Sort};
 use dt_syntax::{Placed, Token};
@@ -52,11 +52,12 @@ fn is_same(left: Sort, right: Sort) -> bool
 
 /// A shown parameter in brackets, as a part of a key expression.
 fn shown_part<'a>(scope: &Scope, tokens: &'a [Placed]) -> Result<(KeyItem, &'a [Placed]), ProcError>
+    requires starts { walked.StartsBrackets tokens.now }
     ensures shorter { IfOk result (λ r. length r.1.now < length tokens.now) }
     ensures right { (p : ℕ) (b : Bracketed) (rest : List Placed) → bracketed_tokens b ++ rest ≡ tokens.now
         → walked.WalkAnswers (checked.check_part scope.now (syn.show_part p b)) rest (walked.part_shown result) }
 {
-    let (place, name, rest) = bracketed(tokens)?;
+    let (place, name, rest) = bracketed(tokens);
     match param_of(scope, place, name, Sort::Int) {
         Ok(number) => Ok((KeyItem::Show(number), rest)),
         Err(fault) => Err(fault),
@@ -69,12 +70,13 @@ fn part<'a>(
     scope: &Scope,
     tokens: &'a [Placed],
 ) -> Result<(KeyItem, &'a [Placed]), ProcError>
+    requires starts { walked.StartsPart tokens.now }
     ensures shorter { IfOk result (λ r. length r.1.now < length tokens.now) }
     ensures right { (i : syn.KeyPart) (rest : List Placed) → syn.part_tokens i ++ rest ≡ tokens.now
         → walked.WalkAnswers (checked.check_part scope.now i) rest (walked.part_shown result) }
 {
     let [first, rest @ ..] = tokens else {
-        return Err(BROKEN);
+        unreachable!();
     };
     match &first.token {
         Token::Text(text) => Ok((KeyItem::Text(text.copy(alloc)?), rest)),
@@ -83,7 +85,7 @@ fn part<'a>(
             Err(fault) => Err(fault),
         },
         Token::Show => shown_part(scope, rest),
-        _ => Err(BROKEN),
+        _ => unreachable!(),
     }
 }
 
@@ -94,6 +96,7 @@ fn more_parts<'a>(
     items: &mut KeyItems,
     tokens: &'a [Placed],
 ) -> Result<&'a [Placed], ProcError>
+    requires starts { walked.StartsMoreParts tokens.now }
     ensures shorter { IfOk result (λ r. length r.now < length tokens.now) }
     ensures right { (more : List (ℕ × syn.KeyPart)) (e : ℕ) (rest : List Placed) → flat_map fronts.joined_part more ++ at e tok.Semicolon ∷ rest ≡ tokens.now
         → walked.WalkAnswers (after_ok (checked.check_parts scope.now more) (λ is. Ok (items.old ++ is))) rest (walked.left_with items.new result) }
@@ -104,7 +107,7 @@ fn more_parts<'a>(
             items.push(item)?;
             more_parts(alloc, scope, items, rest)
         }
-        None => after_one(tokens),
+        None => Ok(after_one(tokens)),
     }
 }
 
@@ -117,17 +120,18 @@ fn key<'a>(
     tokens: &'a [Placed],
 ) -> Result<&'a [Placed], ProcError>
     requires room { walked.HasRoom scope.old tokens.now }
+    requires starts { walked.StartsKey tokens.now }
     ensures shorter { IfOk result (λ r. length r.now < length tokens.now) }
     ensures room { IfOk result (λ r. walked.KeepsRoom scope.old tokens.now scope.new r.now) }
     ensures right { (k : syn.KeySyntax) (rest : List Placed) → k.write ≡ write
         → at k.name_at (tok.Name k.name) ∷ at k.is_at tok.Is ∷ (syn.part_tokens k.first ++ (flat_map fronts.joined_part k.more ++ at k.end_at tok.Semicolon ∷ rest)) ≡ tokens.now
         → walked.WalkAnswers (walked.key_told scope.old keys.old k) rest (walked.left_with_both scope.new keys.new result) }
 {
-    let (place, name, rest) = named(tokens)?;
+    let (place, name, rest) = named(tokens);
     if !is_new(scope, name) {
         return Err(ProcError::Twice(place));
     }
-    let (item, rest) = part(alloc, scope, after_one(rest)?)?;
+    let (item, rest) = part(alloc, scope, after_one(rest))?;
     let mut items = KeyItems::new(alloc);
     items.push(item)?;
     let rest = more_parts(alloc, scope, &mut items, rest)?;
@@ -144,12 +148,13 @@ pub(crate) fn more_keys<'a>(
     tokens: &'a [Placed],
 ) -> Result<&'a [Placed], ProcError>
     requires room { walked.HasRoom scope.old tokens.now }
+    requires starts { walked.StartsMoreKeys tokens.now }
     ensures room { IfOk result (λ r. walked.KeepsRoom scope.old tokens.now scope.new r.now) }
     ensures right { (ks : List syn.KeySyntax) (b : ℕ) (rest : List Placed) → flat_map syn.key_tokens ks ++ at b tok.Begin ∷ rest ≡ tokens.now
         → walked.WalkAnswers (walked.keys_told scope.old keys.old ks) rest (walked.left_with_both scope.new keys.new result) }
 {
     let [first, rest @ ..] = tokens else {
-        return Err(BROKEN);
+        unreachable!();
     };
     match &first.token {
         Token::Read => {

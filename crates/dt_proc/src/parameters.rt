@@ -1,6 +1,6 @@
 //! The second pass over parameters.
 
-ghost use Rattle.std.specs.Prelude.{◌≡◌, ◌<◌, ◌^◌, ℕ, List, [], ◌∷◌, ◌++◌, length, map, IfOk, OnOk, Ok, MatchResult};
+ghost use Rattle.std.specs.Prelude.{◌≡◌, ◌<◌, ◌^◌, ℕ, List, [], ◌∷◌, ◌++◌, length, map, IfOk, OnOk, Ok};
 ghost use Rattle.std.specs.List.{flat_map};
 ghost use Rattle.dt_syntax.specs.declared.token.Placed.{Placed};
 ghost use Rattle.dt_syntax.specs.declared.token.Token.TheVariants as tok;
@@ -13,7 +13,7 @@ ghost use Rattle.dt_proc.specs.WalkInner as walked;
 ghost use Rattle.dt_syntax.specs.FrontsInner as fronts;
 
 use crate::error::ProcError;
-use crate::fronts::{BROKEN, after_close, after_comma, after_one, named};
+use crate::fronts::{after_close, after_comma, after_one, named};
 use crate::scope::{Scope, is_new};
 use crate::tree::{Kind, Sort};
 use dt_syntax::{Placed, Token};
@@ -21,18 +21,19 @@ use dt_text::Listed;
 use std::alloc::Global;
 
 /// The kind that comes first, and what follows it.
-fn kind(tokens: &[Placed]) -> Result<(Kind, &[Placed]), ProcError>
-    ensures shorter { IfOk result (λ r. length r.1.now < length tokens.now) }
+fn kind(tokens: &[Placed]) -> (Kind, &[Placed])
+    requires starts { walked.StartsKind tokens.now }
+    ensures shorter { length result.1.now < length tokens.now }
     ensures right { (p : ℕ) (k : Kind) (rest : List Placed) → at p (syn.kind_token k) ∷ rest ≡ tokens.now
-        → MatchResult result (λ r. (r.0 ≡ k) × (r.1.now ≡ rest)) (λ e. ⊥) }
+        → (result.0 ≡ k) × (result.1.now ≡ rest) }
 {
-    match tokens {
-        [first, rest @ ..] => match &first.token {
-            Token::IntWord => Ok((Kind::Int, rest)),
-            Token::TextWord => Ok((Kind::Text, rest)),
-            _ => Err(BROKEN),
-        },
-        [] => Err(BROKEN),
+    let [first, rest @ ..] = tokens else {
+        unreachable!();
+    };
+    match &first.token {
+        Token::IntWord => (Kind::Int, rest),
+        Token::TextWord => (Kind::Text, rest),
+        _ => unreachable!(),
     }
 }
 
@@ -54,16 +55,17 @@ fn param<'a>(
     tokens: &'a [Placed],
 ) -> Result<&'a [Placed], ProcError>
     requires room { walked.HasRoom scope.old tokens.now }
+    requires starts { walked.StartsParam tokens.now }
     ensures shorter { IfOk result (λ r. length r.now < length tokens.now) }
     ensures room { IfOk result (λ r. walked.KeepsRoom scope.old tokens.now scope.new r.now) }
     ensures right { (p : syn.Param) (rest : List Placed) → syn.param_tokens p ++ rest ≡ tokens.now
         → walked.WalkAnswers (checked.check_param scope.old p) rest (walked.left_with scope.new result) × OnOk result (kinds.new ≡ kinds.old ++ p.kind ∷ []) }
 {
-    let (place, name, rest) = named(tokens)?;
+    let (place, name, rest) = named(tokens);
     if !is_new(scope, name) {
         return Err(ProcError::Twice(place));
     }
-    let (kind, rest) = kind(after_one(rest)?)?;
+    let (kind, rest) = kind(after_one(rest));
     scope.add_variable(alloc, name, sort_of(kind))?;
     kinds.push(kind)?;
     Ok(rest)
@@ -77,6 +79,7 @@ fn more_params<'a>(
     tokens: &'a [Placed],
 ) -> Result<&'a [Placed], ProcError>
     requires room { walked.HasRoom scope.old tokens.now }
+    requires starts { walked.StartsMoreParams tokens.now }
     ensures shorter { IfOk result (λ r. length r.now < length tokens.now) }
     ensures room { IfOk result (λ r. walked.KeepsRoom scope.old tokens.now scope.new r.now) }
     ensures right { (more : List (ℕ × syn.Param)) (q : ℕ) (rest : List Placed) → flat_map fronts.comma_param more ++ at q tok.Close ∷ rest ≡ tokens.now
@@ -88,7 +91,7 @@ fn more_params<'a>(
             let rest = param(alloc, scope, kinds, rest)?;
             more_params(alloc, scope, kinds, rest)
         }
-        None => after_one(tokens),
+        None => Ok(after_one(tokens)),
     }
 }
 
@@ -98,6 +101,7 @@ pub(crate) fn params(
     tokens: &[Placed],
 ) -> Result<(Scope, Listed<Kind>, &[Placed]), ProcError>
     requires short { length tokens.now < 2 ^ 32 }
+    requires starts { walked.StartsParams tokens.now }
     ensures room { IfOk result (λ r. walked.KeepsRoom (record { variables = []; keys = [] }) tokens.now r.0 r.2.now) }
     ensures right { (ps : syn.Params) (q : ℕ) (rest : List Placed) → syn.params_tokens ps ++ at q tok.Close ∷ rest ≡ tokens.now
         → walked.WalkAnswers (walked.params_told ps) rest (walked.params_shown result) }

@@ -40,11 +40,11 @@ fn proc<'a>(
     ensures right { (p : syn.ProcSyntax) (rest : List Placed) → syn.IsProc p → syn.proc_tokens p ++ rest ≡ tokens.now
         → walked.WalkAnswers (checked.check_proc before.now p) rest (walked.proc_shown result) }
 {
-    let (place, name, rest) = named(after_one(tokens)?)?;
+    let (place, name, rest) = named(after_one(tokens));
     if is_taken(before, name) {
         return Err(ProcError::Twice(place));
     }
-    let (mut scope, kinds, rest) = params(alloc, after_one(rest)?)?;
+    let (mut scope, kinds, rest) = params(alloc, after_one(rest))?;
     let mut keys = Listed::new(alloc);
     let rest = more_keys(alloc, &mut scope, &mut keys, rest)?;
     let (body, rest) = block(alloc, &mut scope, rest)?;

@@ -17,7 +17,7 @@ ghost use Rattle.dt_proc.specs.TreeViews.{expr_tree};
 
 use crate::error::ProcError;
 use crate::expressions::{expression, key_in_brackets};
-use crate::fronts::{BROKEN, after_comma, after_else, after_one, named};
+use crate::fronts::{after_comma, after_else, after_one, named};
 use crate::scope::{Meaning, Scope, is_new};
 use crate::tree::{Expr, Give, Gives, Sort, Stmt, Stmts};
 use dt_syntax::{Placed, Token};
@@ -26,6 +26,7 @@ use std::alloc::Global;
 
 /// The row of the key in brackets, as an item of `give`.
 fn row_of<'a>(scope: &Scope, tokens: &'a [Placed]) -> Result<(Give, &'a [Placed]), ProcError>
+    requires starts { walked.StartsBrackets tokens.now }
     ensures shorter { IfOk result (λ r. length r.1.now < length tokens.now) }
     ensures right { (b : Bracketed) (rest : List Placed) → bracketed_tokens b ++ rest ≡ tokens.now
         → walked.WalkAnswers (after_ok (checked.key_of scope.now b) (λ k. Ok (tree.row k))) rest (walked.gift_shown result) }
@@ -43,6 +44,7 @@ fn value_of<'a>(
     place: u32,
     tokens: &'a [Placed],
 ) -> Result<(Give, &'a [Placed]), ProcError>
+    requires starts { walked.StartsExpr 0 tokens.now }
     ensures shorter { IfOk result (λ r. length r.1.now < length tokens.now) }
     ensures right { (x : Syntax) (rest : List Placed) → IsLevel 0 x → fronts.FrontStops 0 rest → syntax_tokens x ++ rest ≡ tokens.now
         → walked.WalkAnswers (after_ok (checked.check scope.now x) (λ a. checked.needs_stored place a (tree.value a.0))) rest (walked.gift_shown result) }
@@ -61,12 +63,13 @@ fn item<'a>(
     scope: &Scope,
     tokens: &'a [Placed],
 ) -> Result<(Give, &'a [Placed]), ProcError>
+    requires starts { walked.StartsItem tokens.now }
     ensures shorter { IfOk result (λ r. length r.1.now < length tokens.now) }
     ensures right { (i : syn.Item) (rest : List Placed) → syn.IsItem i → fronts.FrontStops 0 rest → syn.item_tokens i ++ rest ≡ tokens.now
         → walked.WalkAnswers (checked.check_item scope.now i) rest (walked.gift_shown result) }
 {
     let [first, rest @ ..] = tokens else {
-        return Err(BROKEN);
+        unreachable!();
     };
     match &first.token {
         Token::Row => row_of(scope, rest),
@@ -80,6 +83,7 @@ fn items<'a>(
     scope: &Scope,
     tokens: &'a [Placed],
 ) -> Result<(Gives, &'a [Placed]), ProcError>
+    requires starts { walked.StartsItems tokens.now }
     ensures shorter { IfOk result (λ r. length r.1.now < length tokens.now) }
     ensures right { (i : syn.Item) (more : List (ℕ × syn.Item)) (e : ℕ) (rest : List Placed) → syn.IsItem i → AllIn (λ m. syn.IsItem m.1) more
         → syn.items_tokens i more ++ at e tok.Semicolon ∷ rest ≡ tokens.now
@@ -93,7 +97,7 @@ fn items<'a>(
         gives.push(give)?;
         rest = next;
     }
-    Ok((gives, after_one(rest)?))
+    Ok((gives, after_one(rest)))
 }
 
 /// A `let`, after its word.
@@ -103,19 +107,20 @@ fn let_step<'a>(
     tokens: &'a [Placed],
 ) -> Result<(Stmt, &'a [Placed]), ProcError>
     requires room { walked.HasRoom scope.old tokens.now }
+    requires starts { walked.StartsAssigned tokens.now }
     ensures shorter { IfOk result (λ r. length r.1.now < length tokens.now) }
     ensures room { IfOk result (λ r. walked.KeepsRoom scope.old tokens.now scope.new r.1.now) }
     ensures right { (p q : ℕ) (n : List ℕ) (i : ℕ) (x : Syntax) (e : ℕ) (rest : List Placed) → IsLevel 0 x
         → at q (tok.Name n) ∷ at i tok.Is ∷ (syntax_tokens x ++ at e tok.Semicolon ∷ rest) ≡ tokens.now
         → walked.WalkAnswers (checked.check_statement scope.old (syn.let_new p q n i x e)) rest (walked.step_shown scope.new result) }
 {
-    let (place, name, rest) = named(tokens)?;
+    let (place, name, rest) = named(tokens);
     if !is_new(scope, name) {
         return Err(ProcError::Twice(place));
     }
-    let (value, sort, rest) = expression(alloc, scope, after_one(rest)?, 0)?;
+    let (value, sort, rest) = expression(alloc, scope, after_one(rest), 0)?;
     scope.add_variable(alloc, name, sort)?;
-    Ok((Stmt::Let(value), after_one(rest)?))
+    Ok((Stmt::Let(value), after_one(rest)))
 }
 
 /// The number of the key that a name means, which may be written.
@@ -142,48 +147,48 @@ fn set_step<'a>(
     word: u32,
     tokens: &'a [Placed],
 ) -> Result<(Stmt, &'a [Placed]), ProcError>
+    requires starts { walked.StartsAssigned tokens.now }
     ensures shorter { IfOk result (λ r. length r.1.now < length tokens.now) }
     ensures right { (q : ℕ) (n : List ℕ) (i : ℕ) (x : Syntax) (e : ℕ) (rest : List Placed) → IsLevel 0 x
         → at q (tok.Name n) ∷ at i tok.Is ∷ (syntax_tokens x ++ at e tok.Semicolon ∷ rest) ≡ tokens.now
         → walked.WalkAnswers (checked.check_statement scope.now (syn.set_key word q n i x e)) rest (walked.step_shown scope.now result) }
 {
-    let (place, name, rest) = named(tokens)?;
+    let (place, name, rest) = named(tokens);
     let key = written(scope, place, name)?;
-    let (value, sort, rest) = expression(alloc, scope, after_one(rest)?, 0)?;
+    let (value, sort, rest) = expression(alloc, scope, after_one(rest), 0)?;
     match sort {
         Sort::Bool => Err(ProcError::Kind(word)),
-        Sort::Int => Ok((Stmt::Set(key, value), after_one(rest)?)),
-        Sort::Text => Ok((Stmt::Set(key, value), after_one(rest)?)),
+        Sort::Int => Ok((Stmt::Set(key, value), after_one(rest))),
+        Sort::Text => Ok((Stmt::Set(key, value), after_one(rest))),
     }
 }
 
 /// A `clear`, after its word.
 fn clear_step<'a>(scope: &Scope, tokens: &'a [Placed]) -> Result<(Stmt, &'a [Placed]), ProcError>
+    requires starts { walked.StartsNamed tokens.now }
     ensures shorter { IfOk result (λ r. length r.1.now < length tokens.now) }
     ensures right { (p q : ℕ) (n : List ℕ) (e : ℕ) (rest : List Placed) → at q (tok.Name n) ∷ at e tok.Semicolon ∷ rest ≡ tokens.now
         → walked.WalkAnswers (checked.check_statement scope.now (syn.clear_key p q n e)) rest (walked.step_shown scope.now result) }
 {
-    let (place, name, rest) = named(tokens)?;
+    let (place, name, rest) = named(tokens);
     let key = written(scope, place, name)?;
-    Ok((Stmt::Clear(key), after_one(rest)?))
+    Ok((Stmt::Clear(key), after_one(rest)))
 }
 
 /// An `abort`, after its word.
 fn abort_step<'a>(alloc: Global, tokens: &'a [Placed]) -> Result<(Stmt, &'a [Placed]), ProcError>
+    requires starts { walked.StartsQuoted tokens.now }
     ensures shorter { IfOk result (λ r. length r.1.now < length tokens.now) }
     ensures right { (s : names.Scope) (p q : ℕ) (t : List ℕ) (e : ℕ) (rest : List Placed) → at q (tok.Text t) ∷ at e tok.Semicolon ∷ rest ≡ tokens.now
         → walked.WalkAnswers (checked.check_statement s (syn.abort p q t e)) rest (walked.step_shown s result) }
 {
-    match tokens {
-        [first, rest @ ..] => match &first.token {
-            Token::Text(text) => {
-                let text = text.copy(alloc)?;
-                Ok((Stmt::Abort(text), after_one(rest)?))
-            }
-            _ => Err(BROKEN),
-        },
-        [] => Err(BROKEN),
-    }
+    let [first, rest @ ..] = tokens else {
+        unreachable!();
+    };
+    let Token::Text(text) = &first.token else {
+        unreachable!();
+    };
+    Ok((Stmt::Abort(text.copy(alloc)?), after_one(rest)))
 }
 
 /// A `give`, after its word.
@@ -192,6 +197,7 @@ fn give_step<'a>(
     scope: &Scope,
     tokens: &'a [Placed],
 ) -> Result<(Stmt, &'a [Placed]), ProcError>
+    requires starts { walked.StartsItems tokens.now }
     ensures shorter { IfOk result (λ r. length r.1.now < length tokens.now) }
     ensures right { (p : ℕ) (i : syn.Item) (more : List (ℕ × syn.Item)) (e : ℕ) (rest : List Placed) → syn.IsItem i → AllIn (λ m. syn.IsItem m.1) more
         → syn.items_tokens i more ++ at e tok.Semicolon ∷ rest ≡ tokens.now
@@ -211,6 +217,7 @@ pub(crate) fn block<'a>(
     tokens: &'a [Placed],
 ) -> Result<(Stmts, &'a [Placed]), ProcError>
     requires room { walked.HasRoom scope.old tokens.now }
+    requires starts { walked.StartsBlock tokens.now }
     ensures shorter { IfOk result (λ r. length r.1.now < length tokens.now) }
     ensures room { IfOk result (λ r. walked.KeepsRoom scope.old tokens.now scope.new r.1.now) }
     ensures right { (ss : syn.Statements) (e : ℕ) (rest : List Placed) → syn.AreStatements ss
@@ -226,7 +233,7 @@ pub(crate) fn block<'a>(
         rest = after;
     }
     scope.leave(outer);
-    Ok((stmts, after_one(rest)?))
+    Ok((stmts, after_one(rest)))
 }
 
 /// Whether a `}` comes first, or nothing.
@@ -247,13 +254,14 @@ fn step<'a>(
     tokens: &'a [Placed],
 ) -> Result<(Stmt, &'a [Placed]), ProcError>
     requires room { walked.HasRoom scope.old tokens.now }
+    requires starts { walked.StartsStatement tokens.now }
     ensures shorter { IfOk result (λ r. length r.1.now < length tokens.now) }
     ensures room { IfOk result (λ r. walked.KeepsRoom scope.old tokens.now scope.new r.1.now) }
     ensures right { (s : syn.Statement) (rest : List Placed) → syn.IsStatement s → fronts.NoElse rest → syn.statement_tokens s ++ rest ≡ tokens.now
         → walked.WalkAnswers (checked.check_statement scope.old s) rest (walked.step_shown scope.new result) }
 {
     let [first, rest @ ..] = tokens else {
-        return Err(BROKEN);
+        unreachable!();
     };
     match &first.token {
         Token::Let => let_step(alloc, scope, rest),
@@ -262,7 +270,7 @@ fn step<'a>(
         Token::If => if_step(alloc, scope, first.place, rest),
         Token::Abort => abort_step(alloc, rest),
         Token::Give => give_step(alloc, scope, rest),
-        _ => Err(BROKEN),
+        _ => unreachable!(),
     }
 }
 
@@ -275,6 +283,7 @@ fn if_step<'a>(
     tokens: &'a [Placed],
 ) -> Result<(Stmt, &'a [Placed]), ProcError>
     requires room { walked.HasRoom scope.old tokens.now }
+    requires starts { walked.StartsIf tokens.now }
     ensures shorter { IfOk result (λ r. length r.1.now < length tokens.now) }
     ensures room { IfOk result (λ r. walked.KeepsRoom scope.old tokens.now scope.new r.1.now) }
     ensures one { (x : Syntax) (b : ℕ) (ss : syn.Statements) (e : ℕ) (rest : List Placed) → IsLevel 0 x → syn.AreStatements ss → fronts.NoElse rest
@@ -288,7 +297,7 @@ fn if_step<'a>(
 {
     let (test, sort, rest) = expression(alloc, scope, tokens, 0)?;
     match sort {
-        Sort::Bool => branches(alloc, scope, test, after_one(rest)?),
+        Sort::Bool => branches(alloc, scope, test, after_one(rest)),
         Sort::Int => Err(ProcError::Kind(word)),
         Sort::Text => Err(ProcError::Kind(word)),
     }
@@ -303,6 +312,7 @@ fn branches<'a>(
     tokens: &'a [Placed],
 ) -> Result<(Stmt, &'a [Placed]), ProcError>
     requires room { walked.HasRoom scope.old tokens.now }
+    requires starts { walked.StartsBranches tokens.now }
     ensures shorter { IfOk result (λ r. length r.1.now < length tokens.now) }
     ensures room { IfOk result (λ r. walked.KeepsRoom scope.old tokens.now scope.new r.1.now) }
     ensures one { (ss : syn.Statements) (e : ℕ) (rest : List Placed) → syn.AreStatements ss → fronts.NoElse rest
@@ -315,7 +325,7 @@ fn branches<'a>(
     let (then, rest) = block(alloc, scope, tokens)?;
     match after_else(rest) {
         Some(rest) => {
-            let (otherwise, rest) = block(alloc, scope, after_one(rest)?)?;
+            let (otherwise, rest) = block(alloc, scope, after_one(rest))?;
             Ok((Stmt::If(test, then, otherwise), rest))
         }
         None => Ok((Stmt::If(test, then, Stmts::new(alloc)), rest)),

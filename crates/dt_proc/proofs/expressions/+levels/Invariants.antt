@@ -7,20 +7,14 @@ decreases-expression l = 16 * length l.tokens.now + (7 - l.level)
 abbrev pub decreases-inside : goal.decreases-inside
 decreases-inside l = 16 * length l.tokens.now + 8
 
-abbrev pub decreases-length_of : goal.decreases-length_of
-decreases-length_of l = 16 * length l.tokens.now + 8
-
 abbrev pub decreases-links : goal.decreases-links
 decreases-links l = 16 * length l.tokens.now + 8
 
-abbrev pub decreases-negative : goal.decreases-negative
-decreases-negative l = 16 * length l.tokens.now + 2
+abbrev pub decreases-of_atom : goal.decreases-of_atom
+decreases-of_atom l = 16 * length l.tokens.now + 2
+
+abbrev pub decreases-of_brackets : goal.decreases-of_brackets
+decreases-of_brackets l = 16 * length l.tokens.now + 8
 
 abbrev pub decreases-operand : goal.decreases-operand
 decreases-operand l = 16 * length l.tokens.now
-
-abbrev pub decreases-opposite : goal.decreases-opposite
-decreases-opposite l = 16 * length l.tokens.now + 2
-
-abbrev pub decreases-shown : goal.decreases-shown
-decreases-shown l = 16 * length l.tokens.now + 8

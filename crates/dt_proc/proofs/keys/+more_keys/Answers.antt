@@ -1,4 +1,4 @@
-use Rattle.std.proofs.Common.{◌∷◌, ◌++◌, sym, ◌∙◌, true, false}
+use Rattle.std.proofs.Common.{◌∷◌, ◌++◌, sym, ◌∙◌, true, false, arith}
 use Rattle.std.specs.List.{flat_map}
 use Rattle.std.proofs.lemmas.Result.{err_from_is_err_and}
 use Rattle.dt_syntax.specs.declared.token.Token.TheVariants as tok
@@ -41,3 +41,33 @@ returns-in_default-token-clause-right t c = λ ks b rest e.
     let n = key_none ks b rest c.first-item.result _ c.in_default-token.not-Read c.in_default-token.not-Write
     (e ∙ cut_first c.args.tokens.now c.first-item.result c.in-len1-up.len_at_least c.first-item.is) in
     (keys_end c.args.scope.now c.args.keys.now ks n.0, n.1)
+
+pub key-requires-clause-starts : goal.key-requires-clause-starts
+key-requires-clause-starts t c =
+    let s = c.requires.starts in
+    let k = key_first s.more s.begin_at s.rest c.first-item.result _ false c.in-Read.is (s.cut ∙ cut_first c.args.tokens.now c.first-item.result c.in-len1-up.len_at_least c.first-item.is) in
+    record { one = k.key; rest = flat_map key_tokens k.more ++ at s.begin_at tok.Begin ∷ s.rest; cut = k.cut }
+
+pub more_keys-requires : goal.more_keys-requires
+more_keys-requires t c =
+    let s = c.requires.starts in
+    let k = key_first s.more s.begin_at s.rest c.first-item.result _ false c.in-Read.is (s.cut ∙ cut_first c.args.tokens.now c.first-item.result c.in-len1-up.len_at_least c.first-item.is) in
+    let told = c.in_ok-rest-in-Read.ensures.right k.key (flat_map key_tokens k.more ++ at s.begin_at tok.Begin ∷ s.rest) k.mode k.cut in (
+      omega (arith, c.decreases, c.in_ok-rest-in-Read.ensures.shorter),
+      (omega (arith, c.requires.room, c.in_ok-rest-in-Read.ensures.room), record { more = k.more; begin_at = s.begin_at; rest = s.rest; cut = sym told.1 }),
+    )
+
+pub key-requires-in-Write-clause-starts : goal.key-requires-in-Write-clause-starts
+key-requires-in-Write-clause-starts t c =
+    let s = c.requires.starts in
+    let k = key_first s.more s.begin_at s.rest c.first-item.result _ true c.in-Write.is (s.cut ∙ cut_first c.args.tokens.now c.first-item.result c.in-len1-up.len_at_least c.first-item.is) in
+    record { one = k.key; rest = flat_map key_tokens k.more ++ at s.begin_at tok.Begin ∷ s.rest; cut = k.cut }
+
+pub more_keys-requires-in-Write : goal.more_keys-requires-in-Write
+more_keys-requires-in-Write t c =
+    let s = c.requires.starts in
+    let k = key_first s.more s.begin_at s.rest c.first-item.result _ true c.in-Write.is (s.cut ∙ cut_first c.args.tokens.now c.first-item.result c.in-len1-up.len_at_least c.first-item.is) in
+    let told = c.in_ok-rest-in-Write.ensures.right k.key (flat_map key_tokens k.more ++ at s.begin_at tok.Begin ∷ s.rest) k.mode k.cut in (
+      omega (arith, c.decreases, c.in_ok-rest-in-Write.ensures.shorter),
+      (omega (arith, c.requires.room, c.in_ok-rest-in-Write.ensures.room), record { more = k.more; begin_at = s.begin_at; rest = s.rest; cut = sym told.1 }),
+    )

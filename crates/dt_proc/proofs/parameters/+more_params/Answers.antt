@@ -1,4 +1,4 @@
-use Rattle.std.proofs.Common.{◌∷◌, ◌++◌, sym}
+use Rattle.std.proofs.Common.{◌∷◌, ◌++◌, Ok, sym, arith}
 use Rattle.std.specs.List.{flat_map}
 use Rattle.std.proofs.lemmas.Result.{err_from_is_err_and}
 use Rattle.dt_syntax.specs.declared.token.Token.TheVariants as tok
@@ -27,4 +27,21 @@ returns-in_ok-rest-in-Some-clause-right t c = λ more q rest e.
 pub returns-in-None-clause-right : goal.returns-in-None-clause-right
 returns-in-None-clause-right t c = λ more q rest e.
     let k = more_end tok.Comma param_tokens more q tok.Close rest c.args.tokens.now e c.in-None.ensures.right in
-    params_none c.args.scope.now c.args.kinds.now more rest c.after_one.result k.0 (c.after_one.ensures.right (at q tok.Close) rest k.1)
+    params_none c.args.scope.now c.args.kinds.now more rest (Ok c.after_one.result) k.0 (c.after_one.ensures.right (at q tok.Close) rest k.1)
+
+pub param-requires-clause-starts : goal.param-requires-clause-starts
+param-requires-clause-starts t c =
+    let s = c.requires.starts in
+    let comma = c.in-Some.ensures.right in
+    let k = more_next tok.Comma param_tokens s.more s.close_at tok.Close s.rest comma.0 c.in-Some.rest.now c.args.tokens.now no_comma_close s.cut comma.1 in
+    record { one = k.one; rest = flat_map comma_param k.more ++ at s.close_at tok.Close ∷ s.rest; cut = k.cut }
+
+pub more_params-requires : goal.more_params-requires
+more_params-requires t c =
+    let s = c.requires.starts in
+    let comma = c.in-Some.ensures.right in
+    let k = more_next tok.Comma param_tokens s.more s.close_at tok.Close s.rest comma.0 c.in-Some.rest.now c.args.tokens.now no_comma_close s.cut comma.1 in
+    let told = c.in_ok-rest-in-Some.ensures.right k.one (flat_map comma_param k.more ++ at s.close_at tok.Close ∷ s.rest) k.cut in (
+      omega (arith, c.decreases, c.in-Some.ensures.shorter, c.in_ok-rest-in-Some.ensures.shorter),
+      (omega (arith, c.requires.room, c.in-Some.ensures.shorter, c.in_ok-rest-in-Some.ensures.room), record { more = k.more; close_at = s.close_at; rest = s.rest; cut = sym told.0.1 }),
+    )

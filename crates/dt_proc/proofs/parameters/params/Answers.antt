@@ -37,4 +37,17 @@ returns-clause-right c = λ ps q rest e.
     )
 
 pub param-requires : goal.param-requires
-param-requires c = record { room = room_new _ _ c.new-scope.ensures c.requires.short }
+param-requires c = record {
+  room = room_new _ _ c.new-scope.ensures c.requires.short;
+  starts =
+      let s = c.requires.starts in
+      let k = params_first s.all s.close_at s.rest c.args.tokens.now s.cut c.in_default.ensures.right in
+      record { one = k.one; rest = flat_map comma_param k.more ++ at s.close_at tok.Close ∷ s.rest; cut = k.cut };
+}
+
+pub more_params-requires-clause-starts : goal.more_params-requires-clause-starts
+more_params-requires-clause-starts c =
+    let s = c.requires.starts in
+    let k = params_first s.all s.close_at s.rest c.args.tokens.now s.cut c.in_default.ensures.right in
+    let told = c.in_ok-rest.ensures.right k.one (flat_map comma_param k.more ++ at s.close_at tok.Close ∷ s.rest) k.cut in
+    record { more = k.more; close_at = s.close_at; rest = s.rest; cut = sym told.0.1 }

@@ -1,46 +1,39 @@
 use Rattle.std.proofs.Common.{inr, ◌∷◌, ◌++◌, ap, sym, ◌∙◌, Ok, Err, subst, length, ◌<◌, nat_eq}
-use Rattle.std.specs.List.{flat_map, list_any}
+use Rattle.std.specs.List.{list_any}
 use Rattle.std.specs.Cmp.Lexicographic.{pointwise}
 use Rattle.std.proofs.lemmas.Result.{err_from_is_err_and}
 use Rattle.dt_text.specs.Texts.{IsName}
-use Rattle.dt_syntax.specs.declared.token.Token.TheVariants as tok
 use Rattle.dt_proc.specs.Tree.{ProcTree}
-use Rattle.dt_syntax.specs.Grammar.{at, params_tokens, key_tokens, statements_tokens}
 use Rattle.dt_proc.specs.WalkInner.{WalkAnswers, keys_told}
-use Rattle.dt_proc.proofs.ProcWalk.{Free, proc_twice, proc_sound, params_first_fault, keys_first_fault, body_first_fault, proc_told}
-use Rattle.dt_syntax.proofs.Callers.{proc_cut, proc_longer}
+use Rattle.dt_proc.proofs.ProcWalk.{Free, proc_twice, proc_sound, params_first_fault, keys_first_fault, body_first_fault, proc_told, name_read, head_read, keys_left, body_left}
+use Rattle.dt_syntax.proofs.Callers.{proc_longer}
 use Rattle.dt_proc.proofs.reader.proc.Goals as goal
 
 pub returns-then-is_taken-clause-right : goal.returns-then-is_taken-clause-right
 returns-then-is_taken-clause-right c = λ p rest h e.
-    let tail = params_tokens p.params ++ at p.close_at tok.Close ∷ (flat_map key_tokens (p.key ∷ p.more_keys) ++ at p.begin_at tok.Begin ∷ (statements_tokens p.body ++ at p.end_at tok.End ∷ rest)) in
-    let one = c.in_ok-after_one.ensures.right (at p.word_at tok.Proc) (at p.name_at (tok.Name p.name) ∷ at p.open_at tok.Open ∷ tail) (proc_cut p rest c.args.tokens.now e) in
-    let name = c.in_ok-place.ensures.right p.name_at p.name (at p.open_at tok.Open ∷ tail) (sym one) in
-    inr (proc_twice c.args.before.now p c.in_ok-place.name.now c.in_ok-place.place (sym c.is_taken.ensures ∙ c.if-is_taken.true) name.1 name.0)
+    let name = name_read p rest c.args.tokens.now c.after_one.result.now c.named-place.result.0 c.named-place.result.1.now c.named-place.result.2.now e
+    c.after_one.ensures.right c.named-place.ensures.right in
+    inr (proc_twice c.args.before.now p c.named-place.result.1.now c.named-place.result.0 (sym c.is_taken.ensures ∙ c.if-is_taken.true) name.1 name.0)
 
 pub returns-in_err-scope-clause-right : goal.returns-in_err-scope-clause-right
 returns-in_err-scope-clause-right c = λ p rest h e.
-    let r = err_from_is_err_and c.from_residual-in_err-scope.result c.from_residual-in_err-scope.ensures.1 in
-    let tail = params_tokens p.params ++ at p.close_at tok.Close ∷ (flat_map key_tokens (p.key ∷ p.more_keys) ++ at p.begin_at tok.Begin ∷ (statements_tokens p.body ++ at p.end_at tok.End ∷ rest)) in
-    let one = c.in_ok-after_one.ensures.right (at p.word_at tok.Proc) (at p.name_at (tok.Name p.name) ∷ at p.open_at tok.Open ∷ tail) (proc_cut p rest c.args.tokens.now e) in
-    let name = c.in_ok-place.ensures.right p.name_at p.name (at p.open_at tok.Open ∷ tail) (sym one) in
-    let free : Free c.args.before.now p = ap (λ n. list_any (λ (q : ProcTree). pointwise nat_eq q.name n) c.args.before.now) (sym name.1) ∙ sym c.is_taken.ensures ∙ c.if-is_taken.false in
-    let opened = c.in_ok-after_one-2.ensures.right (at p.open_at tok.Open) tail (sym name.2) in
-    let keyed = flat_map key_tokens (p.key ∷ p.more_keys) ++ at p.begin_at tok.Begin ∷ (statements_tokens p.body ++ at p.end_at tok.End ∷ rest) in
-    let ps = c.in_err-scope.ensures.right p.params p.close_at keyed (sym opened) in
+    let r = err_from_is_err_and c.from_residual.result c.from_residual.ensures.1 in
+    let head = head_read p rest c.args.tokens.now c.after_one.result.now c.named-place.result.0 c.named-place.result.1.now c.named-place.result.2.now c.after_one-2.result.now e
+    c.after_one.ensures.right c.named-place.ensures.right c.after_one-2.ensures.right in
+    let free : Free c.args.before.now p = ap (λ n. list_any (λ (q : ProcTree). pointwise nat_eq q.name n) c.args.before.now) (sym head.1) ∙ sym c.is_taken.ensures ∙ c.if-is_taken.false in
+    let keyed = keys_left p rest in
+    let ps = c.in_err-scope.ensures.right p.params p.close_at keyed head.2 in
     rw (r.1, r.2) (params_first_fault c.args.before.now p keyed rest _ free ps)
 
 pub returns-in_err-rest-clause-right : goal.returns-in_err-rest-clause-right
 returns-in_err-rest-clause-right c = λ p rest h e.
     let r = err_from_is_err_and c.from_residual-in_err-rest.result c.from_residual-in_err-rest.ensures.1 in
-    let tail = params_tokens p.params ++ at p.close_at tok.Close ∷ (flat_map key_tokens (p.key ∷ p.more_keys) ++ at p.begin_at tok.Begin ∷ (statements_tokens p.body ++ at p.end_at tok.End ∷ rest)) in
-    let one = c.in_ok-after_one.ensures.right (at p.word_at tok.Proc) (at p.name_at (tok.Name p.name) ∷ at p.open_at tok.Open ∷ tail) (proc_cut p rest c.args.tokens.now e) in
-    let name = c.in_ok-place.ensures.right p.name_at p.name (at p.open_at tok.Open ∷ tail) (sym one) in
-    let free : Free c.args.before.now p = ap (λ n. list_any (λ (q : ProcTree). pointwise nat_eq q.name n) c.args.before.now) (sym name.1) ∙ sym c.is_taken.ensures ∙ c.if-is_taken.false in
-    let opened = c.in_ok-after_one-2.ensures.right (at p.open_at tok.Open) tail (sym name.2) in
-    let keyed = flat_map key_tokens (p.key ∷ p.more_keys) ++ at p.begin_at tok.Begin ∷ (statements_tokens p.body ++ at p.end_at tok.End ∷ rest) in
-    let ps = c.in_ok-scope.ensures.right p.params p.close_at keyed (sym opened) in
-    let inside = statements_tokens p.body ++ at p.end_at tok.End ∷ rest in
+    let head = head_read p rest c.args.tokens.now c.after_one.result.now c.named-place.result.0 c.named-place.result.1.now c.named-place.result.2.now c.after_one-2.result.now e
+    c.after_one.ensures.right c.named-place.ensures.right c.after_one-2.ensures.right in
+    let free : Free c.args.before.now p = ap (λ n. list_any (λ (q : ProcTree). pointwise nat_eq q.name n) c.args.before.now) (sym head.1) ∙ sym c.is_taken.ensures ∙ c.if-is_taken.false in
+    let keyed = keys_left p rest in
+    let ps = c.in_ok-scope.ensures.right p.params p.close_at keyed head.2 in
+    let inside = body_left p rest in
     let ks = c.in_err-rest.ensures.right (p.key ∷ p.more_keys) p.begin_at inside (sym ps.1) in
     let empty = subst (λ v. WalkAnswers (keys_told c.in_ok-scope.scope v (p.key ∷ p.more_keys)) inside (Err c.in_err-rest.field-0.0)) c.new-keys.ensures ks in
     rw (r.1, r.2) (keys_first_fault c.args.before.now p (c.in_ok-scope.scope, c.in_ok-scope.kinds) inside rest _ free ps.0 empty)
@@ -48,14 +41,12 @@ returns-in_err-rest-clause-right c = λ p rest h e.
 pub returns-in_err-body-clause-right : goal.returns-in_err-body-clause-right
 returns-in_err-body-clause-right c = λ p rest h e.
     let r = err_from_is_err_and c.from_residual-in_err-body.result c.from_residual-in_err-body.ensures.1 in
-    let tail = params_tokens p.params ++ at p.close_at tok.Close ∷ (flat_map key_tokens (p.key ∷ p.more_keys) ++ at p.begin_at tok.Begin ∷ (statements_tokens p.body ++ at p.end_at tok.End ∷ rest)) in
-    let one = c.in_ok-after_one.ensures.right (at p.word_at tok.Proc) (at p.name_at (tok.Name p.name) ∷ at p.open_at tok.Open ∷ tail) (proc_cut p rest c.args.tokens.now e) in
-    let name = c.in_ok-place.ensures.right p.name_at p.name (at p.open_at tok.Open ∷ tail) (sym one) in
-    let free : Free c.args.before.now p = ap (λ n. list_any (λ (q : ProcTree). pointwise nat_eq q.name n) c.args.before.now) (sym name.1) ∙ sym c.is_taken.ensures ∙ c.if-is_taken.false in
-    let opened = c.in_ok-after_one-2.ensures.right (at p.open_at tok.Open) tail (sym name.2) in
-    let keyed = flat_map key_tokens (p.key ∷ p.more_keys) ++ at p.begin_at tok.Begin ∷ (statements_tokens p.body ++ at p.end_at tok.End ∷ rest) in
-    let ps = c.in_ok-scope.ensures.right p.params p.close_at keyed (sym opened) in
-    let inside = statements_tokens p.body ++ at p.end_at tok.End ∷ rest in
+    let head = head_read p rest c.args.tokens.now c.after_one.result.now c.named-place.result.0 c.named-place.result.1.now c.named-place.result.2.now c.after_one-2.result.now e
+    c.after_one.ensures.right c.named-place.ensures.right c.after_one-2.ensures.right in
+    let free : Free c.args.before.now p = ap (λ n. list_any (λ (q : ProcTree). pointwise nat_eq q.name n) c.args.before.now) (sym head.1) ∙ sym c.is_taken.ensures ∙ c.if-is_taken.false in
+    let keyed = keys_left p rest in
+    let ps = c.in_ok-scope.ensures.right p.params p.close_at keyed head.2 in
+    let inside = body_left p rest in
     let ks = c.in_ok-rest.ensures.right (p.key ∷ p.more_keys) p.begin_at inside (sym ps.1) in
     let made = ap (λ v. keys_told c.in_ok-scope.scope v (p.key ∷ p.more_keys)) (sym c.new-keys.ensures) ∙ ks.0 in
     let b = c.in_err-body.ensures.right p.body p.end_at rest h (sym ks.1) in
@@ -67,13 +58,11 @@ new-requires c =
     let rest = c.requires.starts.rest in
     let h = c.requires.starts.good in
     let e = c.requires.starts.cut in
-    let tail = params_tokens p.params ++ at p.close_at tok.Close ∷ (flat_map key_tokens (p.key ∷ p.more_keys) ++ at p.begin_at tok.Begin ∷ (statements_tokens p.body ++ at p.end_at tok.End ∷ rest)) in
-    let one = c.in_ok-after_one.ensures.right (at p.word_at tok.Proc) (at p.name_at (tok.Name p.name) ∷ at p.open_at tok.Open ∷ tail) (proc_cut p rest c.args.tokens.now e) in
-    let name = c.in_ok-place.ensures.right p.name_at p.name (at p.open_at tok.Open ∷ tail) (sym one) in
-    let opened = c.in_ok-after_one-2.ensures.right (at p.open_at tok.Open) tail (sym name.2) in
-    let keyed = flat_map key_tokens (p.key ∷ p.more_keys) ++ at p.begin_at tok.Begin ∷ (statements_tokens p.body ++ at p.end_at tok.End ∷ rest) in
-    let ps = c.in_ok-scope.ensures.right p.params p.close_at keyed (sym opened) in
-    let inside = statements_tokens p.body ++ at p.end_at tok.End ∷ rest in
+    let head = head_read p rest c.args.tokens.now c.after_one.result.now c.named-place.result.0 c.named-place.result.1.now c.named-place.result.2.now c.after_one-2.result.now e
+    c.after_one.ensures.right c.named-place.ensures.right c.after_one-2.ensures.right in
+    let keyed = keys_left p rest in
+    let ps = c.in_ok-scope.ensures.right p.params p.close_at keyed head.2 in
+    let inside = body_left p rest in
     let ks = c.in_ok-rest.ensures.right (p.key ∷ p.more_keys) p.begin_at inside (sym ps.1) in
     let made = ap (λ v. keys_told c.in_ok-scope.scope v (p.key ∷ p.more_keys)) (sym c.new-keys.ensures) ∙ ks.0 in
     let b = c.in_ok-body.ensures.right p.body p.end_at rest h (sym ks.1) in
@@ -86,13 +75,11 @@ returns-clause-shorter c =
     let rest = c.requires.starts.rest in
     let h = c.requires.starts.good in
     let e = c.requires.starts.cut in
-    let tail = params_tokens p.params ++ at p.close_at tok.Close ∷ (flat_map key_tokens (p.key ∷ p.more_keys) ++ at p.begin_at tok.Begin ∷ (statements_tokens p.body ++ at p.end_at tok.End ∷ rest)) in
-    let one = c.in_ok-after_one.ensures.right (at p.word_at tok.Proc) (at p.name_at (tok.Name p.name) ∷ at p.open_at tok.Open ∷ tail) (proc_cut p rest c.args.tokens.now e) in
-    let name = c.in_ok-place.ensures.right p.name_at p.name (at p.open_at tok.Open ∷ tail) (sym one) in
-    let opened = c.in_ok-after_one-2.ensures.right (at p.open_at tok.Open) tail (sym name.2) in
-    let keyed = flat_map key_tokens (p.key ∷ p.more_keys) ++ at p.begin_at tok.Begin ∷ (statements_tokens p.body ++ at p.end_at tok.End ∷ rest) in
-    let ps = c.in_ok-scope.ensures.right p.params p.close_at keyed (sym opened) in
-    let inside = statements_tokens p.body ++ at p.end_at tok.End ∷ rest in
+    let head = head_read p rest c.args.tokens.now c.after_one.result.now c.named-place.result.0 c.named-place.result.1.now c.named-place.result.2.now c.after_one-2.result.now e
+    c.after_one.ensures.right c.named-place.ensures.right c.after_one-2.ensures.right in
+    let keyed = keys_left p rest in
+    let ps = c.in_ok-scope.ensures.right p.params p.close_at keyed head.2 in
+    let inside = body_left p rest in
     let ks = c.in_ok-rest.ensures.right (p.key ∷ p.more_keys) p.begin_at inside (sym ps.1) in
     let made = ap (λ v. keys_told c.in_ok-scope.scope v (p.key ∷ p.more_keys)) (sym c.new-keys.ensures) ∙ ks.0 in
     let b = c.in_ok-body.ensures.right p.body p.end_at rest h (sym ks.1) in
@@ -100,19 +87,38 @@ returns-clause-shorter c =
 
 pub returns-clause-right : goal.returns-clause-right
 returns-clause-right c = λ p rest h e.
-    let tail = params_tokens p.params ++ at p.close_at tok.Close ∷ (flat_map key_tokens (p.key ∷ p.more_keys) ++ at p.begin_at tok.Begin ∷ (statements_tokens p.body ++ at p.end_at tok.End ∷ rest)) in
-    let one = c.in_ok-after_one.ensures.right (at p.word_at tok.Proc) (at p.name_at (tok.Name p.name) ∷ at p.open_at tok.Open ∷ tail) (proc_cut p rest c.args.tokens.now e) in
-    let name = c.in_ok-place.ensures.right p.name_at p.name (at p.open_at tok.Open ∷ tail) (sym one) in
-    let free : Free c.args.before.now p = ap (λ n. list_any (λ (q : ProcTree). pointwise nat_eq q.name n) c.args.before.now) (sym name.1) ∙ sym c.is_taken.ensures ∙ c.if-is_taken.false in
-    let opened = c.in_ok-after_one-2.ensures.right (at p.open_at tok.Open) tail (sym name.2) in
-    let keyed = flat_map key_tokens (p.key ∷ p.more_keys) ++ at p.begin_at tok.Begin ∷ (statements_tokens p.body ++ at p.end_at tok.End ∷ rest) in
-    let ps = c.in_ok-scope.ensures.right p.params p.close_at keyed (sym opened) in
-    let inside = statements_tokens p.body ++ at p.end_at tok.End ∷ rest in
+    let head = head_read p rest c.args.tokens.now c.after_one.result.now c.named-place.result.0 c.named-place.result.1.now c.named-place.result.2.now c.after_one-2.result.now e
+    c.after_one.ensures.right c.named-place.ensures.right c.after_one-2.ensures.right in
+    let free : Free c.args.before.now p = ap (λ n. list_any (λ (q : ProcTree). pointwise nat_eq q.name n) c.args.before.now) (sym head.1) ∙ sym c.is_taken.ensures ∙ c.if-is_taken.false in
+    let keyed = keys_left p rest in
+    let ps = c.in_ok-scope.ensures.right p.params p.close_at keyed head.2 in
+    let inside = body_left p rest in
     let ks = c.in_ok-rest.ensures.right (p.key ∷ p.more_keys) p.begin_at inside (sym ps.1) in
     let made = ap (λ v. keys_told c.in_ok-scope.scope v (p.key ∷ p.more_keys)) (sym c.new-keys.ensures) ∙ ks.0 in
     let b = c.in_ok-body.ensures.right p.body p.end_at rest h (sym ks.1) in
-    let called = c.in_ok-copy.ensures.same ∙ name.1 in (
+    let called = c.in_ok-copy.ensures.same ∙ head.1 in (
       proc_told c.args.before.now p (c.in_ok-scope.scope, c.in_ok-scope.kinds) (c.more_keys.new.scope, c.more_keys.new.keys) c.in_ok-body.body free ps.0 made b.0.0
           ∙ ap Ok (sym (c.new.ensures.same ∙ λ i. record { name = called i; params = c.in_ok-scope.kinds; keys = c.more_keys.new.keys; body = c.in_ok-body.body })),
       b.0.1,
     )
+
+pub more_keys-requires-clause-starts : goal.more_keys-requires-clause-starts
+more_keys-requires-clause-starts c =
+    let p = c.requires.starts.one in
+    let rest = c.requires.starts.rest in
+    let e = c.requires.starts.cut in
+    let head = head_read p rest c.args.tokens.now c.after_one.result.now c.named-place.result.0 c.named-place.result.1.now c.named-place.result.2.now c.after_one-2.result.now e
+    c.after_one.ensures.right c.named-place.ensures.right c.after_one-2.ensures.right in
+    let ps = c.in_ok-scope.ensures.right p.params p.close_at (keys_left p rest) head.2 in
+    record { more = p.key ∷ p.more_keys; begin_at = p.begin_at; rest = body_left p rest; cut = sym ps.1 }
+
+pub block-requires-clause-starts : goal.block-requires-clause-starts
+block-requires-clause-starts c =
+    let p = c.requires.starts.one in
+    let rest = c.requires.starts.rest in
+    let e = c.requires.starts.cut in
+    let head = head_read p rest c.args.tokens.now c.after_one.result.now c.named-place.result.0 c.named-place.result.1.now c.named-place.result.2.now c.after_one-2.result.now e
+    c.after_one.ensures.right c.named-place.ensures.right c.after_one-2.ensures.right in
+    let ps = c.in_ok-scope.ensures.right p.params p.close_at (keys_left p rest) head.2 in
+    let ks = c.in_ok-rest.ensures.right (p.key ∷ p.more_keys) p.begin_at (body_left p rest) (sym ps.1) in
+    record { all = p.body; end_at = p.end_at; rest = rest; good = c.requires.starts.good; cut = sym ks.1 }

@@ -1,4 +1,4 @@
-use Rattle.std.proofs.Common.{[], ◌∷◌, ◌++◌, ap, sym, ◌∙◌, map, arith, Ok}
+use Rattle.std.proofs.Common.{[], ◌∷◌, ◌++◌, ap, sym, ◌∙◌, map, length, arith, Ok}
 use Rattle.std.specs.List.{flat_map}
 use Rattle.std.proofs.lemmas.Result.{err_from_is_err_and}
 use Rattle.std.proofs.lemmas.List.{map-append}
@@ -54,12 +54,43 @@ returns-in_err-give-2-clause-right c = λ i more e rest h hs is.
     (flat_map next_item n.more ++ at e tok.Semicolon ∷ rest) _ n
     (c.in_err-give-2.ensures.right n.item (flat_map next_item n.more ++ at e tok.Semicolon ∷ rest) n.good (items_stop n.more e rest) n.cut))
 
-pub returns-in_err-after_one-clause-right : goal.returns-in_err-after_one-clause-right
-returns-in_err-after_one-clause-right c = λ i more e rest h hs is.
-    let end = items_end c.args.scope.now (check_all_items c.args.scope.now i more) (map give_tree c.loop-after.gives) c.loop-after.rest.now e rest c.in_default.ensures.right (c.loop-after.invariant.right i more e rest h hs is) in
-    absurd (c.in_err-after_one.ensures.right (at e tok.Semicolon) rest end.1)
-
 pub returns-clause-right : goal.returns-clause-right
 returns-clause-right c = λ i more e rest h hs is.
     let end = items_end c.args.scope.now (check_all_items c.args.scope.now i more) (map give_tree c.loop-after.gives) c.loop-after.rest.now e rest c.in_default.ensures.right (c.loop-after.invariant.right i more e rest h hs is) in
-    (end.0 ∙ ap (λ v. Ok (map give_tree v)) (sym c.gives-3.view_is), c.in_ok-after_one.ensures.right (at e tok.Semicolon) rest end.1)
+    (end.0, c.after_one.ensures.right (at e tok.Semicolon) rest end.1)
+
+pub item-requires : goal.item-requires
+item-requires c =
+    let s = c.requires.starts in
+    record {
+      starts = record {
+        one = s.one;
+        rest = flat_map next_item s.more ++ at s.end_at tok.Semicolon ∷ s.rest;
+        good = s.good;
+        stops = items_stop s.more s.end_at s.rest;
+        cut = items_cut s.one s.more s.end_at s.rest c.args.tokens.now s.cut;
+      };
+    }
+
+pub item-requires-in-Some : goal.item-requires-in-Some
+item-requires-in-Some c =
+    let s = c.requires.starts in
+    let comma = c.in-Some.ensures.right in
+    let n = after_comma_next c.args.scope.now (check_all_items c.args.scope.now s.one s.more) (map give_tree c.loop-after.gives) c.loop-after.rest.now s.end_at s.rest
+    comma.0 c.in-Some.after.now comma.1 (c.loop-after.invariant.right s.one s.more s.end_at s.rest s.good s.others s.cut) in
+    record {
+      starts = record {
+        one = n.item;
+        rest = flat_map next_item n.more ++ at s.end_at tok.Semicolon ∷ s.rest;
+        good = n.good;
+        stops = items_stop n.more s.end_at s.rest;
+        cut = n.cut;
+      };
+    }
+
+pub after_one-requires : goal.after_one-requires
+after_one-requires c =
+    let s = c.requires.starts in
+    let end = items_end c.args.scope.now (check_all_items c.args.scope.now s.one s.more) (map give_tree c.loop-after.gives) c.loop-after.rest.now s.end_at s.rest
+    c.in_default.ensures.right (c.loop-after.invariant.right s.one s.more s.end_at s.rest s.good s.others s.cut) in
+    omega (arith, ap length end.1)

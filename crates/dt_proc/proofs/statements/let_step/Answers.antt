@@ -5,4 +5,4 @@ use Rattle.dt_proc.proofs.statements.let_step.Goals as goal
 pub returns-clause-room : goal.returns-clause-room
 returns-clause-room c =
     room_variable _ _ _ _ _ _ c.in_ok-add_variable.ensures
-    (omega (arith, c.in_ok-place.ensures.shorter, c.in_ok-after_one.ensures.shorter, c.in_ok-value.ensures.shorter, c.in_ok-after_one-2.ensures.shorter))
+    (omega (arith, c.named-place.ensures.shorter, c.after_one.ensures.shorter, c.in_ok-value.ensures.shorter, c.after_one-2.ensures.shorter))
