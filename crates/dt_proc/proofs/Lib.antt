@@ -1,6 +1,7 @@
 pub mod BlockJoin
 pub mod Callers
 pub mod Entries
+pub mod EveryOutcome
 pub mod ExprSorts
 pub mod ExprWalk
 pub mod Faults

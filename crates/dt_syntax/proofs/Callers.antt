@@ -1,6 +1,7 @@
--- What the proofs of crates above may cite of this crate's lemmas, and nothing else of its proofs. Of what the first pass lets
--- through: the tokens are in range, the limits hold, and they have one reading. Of the grammar: what the first token of a part
--- says of the part.
+-- What the proofs of crates above may cite of this crate's lemmas, and nothing else of its proofs. Of the first pass: it comes to
+-- an end at every text. Of what it lets through: the tokens are in range, the limits hold, and they have one reading. Of the
+-- grammar: what the first token of a part says of the part.
+pub use Rattle.dt_syntax.proofs.FirstPassEnds.{FirstPassEnds, first_pass_ends}
 pub use Rattle.dt_syntax.proofs.LimitsKept.{procs_small}
 pub use Rattle.dt_syntax.proofs.OneReading.{one_reading}
 pub use Rattle.dt_syntax.proofs.OneStop.{Read, Stop, end, many, one_stop, same_many, same_wrong, wrong}

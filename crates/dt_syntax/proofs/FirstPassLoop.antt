@@ -140,7 +140,7 @@ front_within text place t n lt is =
     let fits : Fits (length (drop place text)) (Some (t, n)) = subst (Fits (length (drop place text))) is (front_fits (drop place text)) in
     (fits.0, omega (arith, fits.1, length-drop place text))
 
-few_more : (earlier ts : List Placed) (t : Placed) → NoneTooMany earlier ts → is_too_many (backwards ts earlier) t.token ≡ false → NoneTooMany earlier (ts ++ t ∷ [])
+pub few_more : (earlier ts : List Placed) (t : Placed) → NoneTooMany earlier ts → is_too_many (backwards ts earlier) t.token ≡ false → NoneTooMany earlier (ts ++ t ∷ [])
 few_more earlier [] t few is = (is, tt)
 few_more earlier (u ∷ ts) t few is = (few.0, few_more (u ∷ earlier) ts t few.1 is)
 
@@ -148,7 +148,7 @@ pub backwards_more : (earlier ts : List Placed) (t : Placed) → backwards (ts +
 backwards_more earlier [] t = refl
 backwards_more earlier (u ∷ ts) t = backwards_more (u ∷ earlier) ts t
 
-run_more : (ts : List Placed) (t : Placed) (stack : List Sym) → run (expect.Procs ∷ []) ts ≡ Some stack →
+pub run_more : (ts : List Placed) (t : Placed) (stack : List Sym) → run (expect.Procs ∷ []) ts ≡ Some stack →
     run (expect.Procs ∷ []) (ts ++ t ∷ []) ≡ onward (advance stack t.token) (λ after. Some after)
 run_more ts t stack is = run_joined (expect.Procs ∷ []) ts (t ∷ []) ∙ ap (λ o. onward o (λ s. run s (t ∷ []))) is
 

@@ -1,4 +1,5 @@
 pub mod Callers
+pub mod FirstPassEnds
 pub mod FirstPassLoop
 pub mod LexerLemmas
 pub mod LimitsKept
