@@ -1,3 +1,4 @@
 pub mod EventWords
+pub mod EveryFile
 pub mod ReadBack
 pub mod Callers

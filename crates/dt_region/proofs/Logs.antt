@@ -1,5 +1,5 @@
 -- Logs and their inserted fronts: what they come to while logs grow and parts are inserted.
-use Rattle.std.proofs.Common.{◌≡◌, ◌<◌, ◌≤◌, ◌+◌, ℕ, zero, suc, List, [], ◌∷◌, ◌++◌, length, set, take, replicate, slice_get, Some, refl, sym, ap, ◌∙◌, inl, inr, arith}
+use Rattle.std.proofs.Common.{◌≡◌, ◌<◌, ◌≤◌, ◌+◌, ℕ, zero, suc, List, [], ◌∷◌, ◌++◌, length, length-append, set, take, replicate, slice_get, Some, refl, sym, ap, ◌∙◌, inl, inr, arith}
 use Rattle.std.specs.Prelude.{slice_index}
 use Rattle.std.proofs.lemmas.List.{take-append-le}
 use Rattle.std.proofs.lemmas.List.Sums.{sum_by-append, sum_by-set}
@@ -94,14 +94,10 @@ fronts_few lengths [] = omega arith
 fronts_few [] (log ∷ logs) = let later = fronts_few [] logs in rw (parts_cons [] (fronts [] logs), parts_cons log logs) (omega (arith, later))
 fronts_few (n ∷ lengths) (log ∷ logs) = let first = take_few log n in let later = fronts_few lengths logs in rw (parts_cons (take n log) (fronts lengths logs), parts_cons log logs) (omega (arith, first, later))
 
-pub length_more : (log : List Part) (part : Part) → length (log ++ part ∷ []) ≡ length log + 1
-length_more [] part = refl
-length_more (p ∷ log) part = ap suc (length_more log part) ∙ omega arith
-
 pub parts_with : (logs : View) (part : Part) → part.home < length logs → parts_in (with_part logs part) ≡ parts_in logs + 1
 parts_with logs part lt =
     let e = sum_by-set length logs part.home (log_at logs part.home ++ part ∷ []) [] lt in
-    let f = length_more (log_at logs part.home) part in
+    let f = length-append (log_at logs part.home) (part ∷ []) in
     omega (arith, e, f)
 
 -- one log has no more than all together

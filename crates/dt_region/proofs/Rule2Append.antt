@@ -1,6 +1,6 @@
 -- Rule 2: what an append makes of a region's fields is what the rule says, and keeps the region sound. Its scheduler has
 -- what it had.
-use Rattle.std.proofs.Common.{◌≡◌, ◌<◌, ◌≤◌, ◌+◌, ◌^◌, ℕ, Ok, true, List, [], ◌∷◌, ◌++◌, length, set, refl, sym, ap, subst, ◌∙◌, inl, inr, arith}
+use Rattle.std.proofs.Common.{◌≡◌, ◌<◌, ◌≤◌, ◌+◌, ◌^◌, ℕ, Ok, true, List, [], ◌∷◌, ◌++◌, length, length-append, set, refl, sym, ap, subst, ◌∙◌, inl, inr, arith}
 use Rattle.std.specs.Prelude.{slice_index}
 use Rattle.std.proofs.lemmas.List.{length-set, get_or-set_same, get_or-set_other}
 use Rattle.dt_lists.specs.Lists.{AllIn, Distinct, Either}
@@ -25,7 +25,7 @@ use Rattle.dt_region.specs.Sound.{IsSoundRegion, IsHeldPart}
 use Rattle.dt_region.specs.RegionInner.{AreWell}
 use Rattle.dt_region.proofs.Seen.{IsSeenAs}
 use Rattle.dt_region.proofs.Held.{hold_keeps, hold_holds, hold_foreign, hold_homes}
-use Rattle.dt_region.proofs.Logs.{length_more, fronts_grown, log_few, parts_with}
+use Rattle.dt_region.proofs.Logs.{fronts_grown, log_few, parts_with}
 
 ids_more : (log : List Part) (part : Part) → ids_of (log ++ part ∷ []) ≡ ids_of log ++ part.id ∷ []
 ids_more [] part = refl
@@ -65,11 +65,11 @@ module _ (s : RegionState) (sound : IsSoundRegion s) (source number : ℕ) (txn 
   own_log : length (log_at logs s.number) ≡ length (log_at s.logs s.number) + 1
   own_log =
       ap length (get_or-set_same s.logs s.number (log_at s.logs s.number ++ part ∷ []) [] (let a = sound.number in let b = sound.logs in omega (arith, a, b)))
-      ∙ length_more (log_at s.logs s.number) part
+      ∙ length-append (log_at s.logs s.number) (part ∷ [])
 
   no_shorter : (home : ℕ) → length (log_at s.logs home) ≤ length (log_at logs home)
   no_shorter home = elim (log_with_part s.logs part home) [
-    | inl e ↦ let a = length_more (log_at s.logs home) part in let b : length (log_at logs home) ≡ length (log_at s.logs home ++ part ∷ []) = ap length e.1 in omega (arith, a, b)
+    | inl e ↦ let a = length-append (log_at s.logs home) (part ∷ []) in let b : length (log_at logs home) ≡ length (log_at s.logs home ++ part ∷ []) = ap length e.1 in omega (arith, a, b)
     | inr e ↦ let b : length (log_at logs home) ≡ length (log_at s.logs home) = ap length e in omega (arith, b)
   ]
 

@@ -1,5 +1,6 @@
 pub mod Allowed
 pub mod Cuts
+pub mod Decided
 pub mod Numerals
 pub mod ReadingAt
 pub mod ReadingLaws
