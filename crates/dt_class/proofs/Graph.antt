@@ -1,0 +1,80 @@
+-- What links lead to is what edges lead to, and the lists of marked vertices are what is asked.
+use Rattle.std.proofs.Common.{◌≡◌, ℕ, ◌<◌, Bool, true, false, List, get_or, map, subst}
+use Rattle.std.specs.Prelude.{filter, Result, Ok, Err, IfOk}
+use Rattle.dt_lists.specs.Lists.{Has}
+use Rattle.dt_lists.specs.Chain.{Chain, here, onward}
+use Rattle.dt_lists.proofs.Callers.{any_map, any_image, any_of_image, all_put, chain_map, chain_before, filter_all, filter_each, has_filter, has_of_filtered}
+use Rattle.dt_class.specs.Graphs.{AdjView, IsEdge, IsInClass, AreVertices}
+use Rattle.dt_class.specs.Links.{edge_of, IsStep, LeadsBy}
+use Rattle.dt_class.specs.Finds.{FoundView, IsReach, IsReachOf, AreMarked}
+use Rattle.dt_class.specs.declared.link.Link.{Link}
+use Rattle.dt_class.specs.declared.link.Way.{Way}
+use Rattle.dt_class.specs.declared.link.Way.TheVariants.{Forth, Back}
+use Rattle.dt_class.proofs.Marks.{marked_within}
+
+-- what is Ok has Q, where it has P and that gives Q
+pub if_ok_map : {A E : Type 0} (P Q : A → Type 0) (r : Result A E) → ((x : A) → P x → Q x) → IfOk r P → IfOk r Q
+if_ok_map P Q (Ok x) f p = f x p
+if_ok_map P Q (Err e) f p = tt
+
+-- a chain of steps that are turned round leads back
+chain_turned : {A : Type 0} {Step Other : A → A → Type 0} {x y : A} → ((a b : A) → Step a b → Other b a) → Chain Step x y → Chain Other y x
+chain_turned f here = here
+chain_turned f (onward {y = y} {z = z} c e) = chain_before (f y z e) (chain_turned f c)
+
+-- the graph that links stand for
+abbrev graph_of : ℕ → List Link → AdjView
+graph_of count links = record { vertices = count; edges = map edge_of links }
+
+module _ (count : ℕ) (links : List Link) where
+  edge_of_step : (u v : ℕ) → IsStep Forth links u v → IsEdge (graph_of count links) u v
+  edge_of_step u v s = any_image (λ e. (e.source ≡ u) × (e.target ≡ v)) edge_of links s
+
+  step_of_edge : (u v : ℕ) → IsEdge (graph_of count links) u v → IsStep Forth links u v
+  step_of_edge u v e = any_of_image (λ e. (e.source ≡ u) × (e.target ≡ v)) edge_of links e
+
+  turned : (u v : ℕ) → IsStep Forth links u v → IsStep Back links v u
+  turned u v s = any_map _ _ links (λ l p. (p.1, p.0)) s
+
+  turned_back : (u v : ℕ) → IsStep Back links u v → IsStep Forth links v u
+  turned_back u v s = any_map _ _ links (λ l p. (p.1, p.0)) s
+
+  pub reach_of_graph : (way : Way) (u : ℕ) (found : FoundView) → IsReach way links count u found → IsReachOf (graph_of count links) way u found
+  reach_of_graph Forth u found r =
+      record {
+        vertices = r.vertices;
+        exact = λ v. (λ m. chain_map edge_of_step ((r.exact v).0 m), λ c. (r.exact v).1 (chain_map step_of_edge c));
+      }
+  reach_of_graph Back u found r =
+      record {
+        vertices = r.vertices;
+        exact =
+            λ v. (
+              λ m. chain_turned (λ a b s. edge_of_step b a (turned_back a b s)) ((r.exact v).0 m),
+              λ c. (r.exact v).1 (chain_turned (λ a b e. turned a b (step_of_edge a b e)) c),
+            );
+      }
+
+-- the marked vertices are those that are reached
+pub vertices_of_marks : (graph : AdjView) (way : Way) (u : ℕ) (found : FoundView) (list : List ℕ) → IsReachOf graph way u found → AreMarked found.marks list → AreVertices graph (LeadsBy way graph u) list
+vertices_of_marks graph way u found list r m =
+    record {
+      ascending = m.ascending;
+      within = all_put _ list (λ v h. subst (λ n. v < n) r.vertices (marked_within found.marks v ((m.members v).0 h)));
+      members = λ v. (λ h. (r.exact v).0 ((m.members v).0 h), λ c. (m.members v).1 ((r.exact v).1 c));
+    }
+
+-- those of what the vertex reaches that also reach it are its class
+pub class_of_marks : (graph : AdjView) (u : ℕ) (found : FoundView) (list : List ℕ) → AreVertices graph (LeadsBy Forth graph u) list → IsReachOf graph Back u found
+    → AreVertices graph (IsInClass graph u) (filter (λ v. get_or found.marks v false) list)
+class_of_marks graph u found list a r =
+    let test : ℕ → Bool = λ v. get_or found.marks v false in
+    record {
+      ascending = filter_each _ test list a.ascending;
+      within = filter_all _ test list a.within;
+      members =
+          λ v. (
+            λ h. let k : Has list v × (test v ≡ true) = has_of_filtered test list v h in ((a.members v).0 k.0, (r.exact v).0 k.1),
+            λ c. has_filter test list v ((a.members v).1 c.0) ((r.exact v).1 c.1),
+          );
+    }

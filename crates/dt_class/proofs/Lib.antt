@@ -1,0 +1,5 @@
+pub mod Kept
+pub mod Marks
+pub mod Follow
+pub mod Walk
+pub mod Graph
