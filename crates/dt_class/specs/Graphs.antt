@@ -32,3 +32,14 @@ pub record AreVertices (graph : AdjView) (P : ℕ → Type 0) (list : List ℕ) 
   pub ascending : EachThen (λ u v. u < v) list
   pub within : AllIn (λ v. v < graph.vertices) list
   pub members : (v : ℕ) → Has list v ↔ P v
+
+-- v is a vertex, whatever reaches v is in its class, and none of the blocked vertices reaches v: so nothing outside of
+-- the class of v reaches the class
+pub record IsSource (graph : AdjView) (blocked : List ℕ) (v : ℕ) : Type 0 where
+  pub vertex : v < graph.vertices
+  pub first : (u : ℕ) → Leads graph u v → IsInClass graph v u
+  pub free : ¬ (AnyIn (λ b. Leads graph b v) blocked)
+
+-- each vertex is reached from some blocked one
+abbrev pub AreAllBlocked : AdjView → List ℕ → Type 0
+AreAllBlocked graph blocked = (v : ℕ) → v < graph.vertices → AnyIn (λ b. Leads graph b v) blocked

@@ -1,10 +1,12 @@
-ghost use Rattle.std.specs.Prelude.{◌≡◌, ◌<◌, [], ◌∷◌, ◌++◌, IfOk, OnOk, OnErr};
-ghost use Rattle.dt_class.specs.Graphs.{AreVertices, IsInClass, Leads};
+ghost use Rattle.std.specs.Prelude.{◌≡◌, ◌<◌, ℕ, [], ◌∷◌, ◌++◌, IfOk, MatchOption, OnOk, OnErr};
+ghost use Rattle.dt_lists.specs.Lists.{AllIn};
+ghost use Rattle.dt_class.specs.Graphs.{AreAllBlocked, AreVertices, IsInClass, IsSource, Leads};
 ghost use Rattle.dt_class.specs.Finds.{IsReachOf};
 
 use crate::found::Found;
 use crate::link::{Link, Way};
 use crate::search::reached;
+use crate::source::last_start;
 use dt_text::NoMemory;
 use std::alloc::Global;
 use std::marker::Model;
@@ -70,8 +72,8 @@ impl Adj {
     {
         let links = self.links.as_slice();
         match way {
-            Way::Forth => reached(alloc, links, self.newest_from.as_slice(), way, vertex),
-            Way::Back => reached(alloc, links, self.newest_into.as_slice(), way, vertex),
+            Way::Forth => reached(alloc, links, self.newest_from.as_slice(), way, &[vertex]),
+            Way::Back => reached(alloc, links, self.newest_into.as_slice(), way, &[vertex]),
         }
     }
 
@@ -100,5 +102,21 @@ impl Adj {
         let ahead = self.found(alloc, Way::Back, vertex)?;
         class.retain(|member| ahead.has(*member));
         Ok(class)
+    }
+
+    /// A class that nothing outside of it reaches, and none of the blocked vertices, in ascending order; `None` exactly
+    /// where there is none, since the blocked ones reach every vertex.
+    pub fn source_class(&self, alloc: Global, blocked: &[u32]) -> Result<Option<Vec<u32>>, NoMemory>
+        requires { AllIn (λ v. v < self.now.vertices) blocked.now }
+        ensures { IfOk result (λ answer. MatchOption answer (AreAllBlocked self.now blocked.now)
+            (λ class. (v : ℕ) × IsSource self.now blocked.now v × AreVertices self.now (IsInClass self.now v) class.items)) }
+    {
+        let links = self.links.as_slice();
+        let newest = self.newest_from.as_slice();
+        let found = reached(alloc, links, newest, Way::Forth, blocked)?;
+        match last_start(links, newest, Way::Forth, found)? {
+            Some(vertex) => Ok(Some(self.ahead(alloc, vertex)?)),
+            None => Ok(None),
+        }
     }
 }

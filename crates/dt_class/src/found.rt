@@ -49,6 +49,13 @@ impl Found {
         self.order.get(place).copied()
     }
 
+    /// How many vertices are found.
+    pub fn len(&self) -> usize
+        ensures { result ≡ length self.now.order }
+    {
+        self.order.len()
+    }
+
     /// Adds the vertex, if it isn't found yet.
     pub fn add(&mut self, vertex: u32) -> Result<(), NoMemory>
         requires { vertex < length self.old.marks }

@@ -6,5 +6,6 @@ mod adj;
 mod found;
 mod link;
 mod search;
+mod source;
 
 pub use adj::Adj;
