@@ -3,7 +3,7 @@ use Rattle.std.proofs.Common.{◌≡◌, ◌≢◌, ℕ, zero, suc, ◌+◌, ◌
 use Rattle.dt_lists.specs.Lists.{Either, Has, IsFront}
 use Rattle.dt_lists.proofs.Callers.{any_at, either_le, either_nat, front_refl, front_trans}
 use Rattle.dt_class.specs.Links.{near_end, far_end, earlier_link, link_at, IsStep, IsNewest, AreChained}
-use Rattle.dt_class.specs.Finds.{FoundView, Adds, GainsSteps}
+use Rattle.dt_class.specs.Finds.{FoundView, AddsVertex, GainsSteps}
 use Rattle.dt_class.specs.declared.link.Link.{Link}
 use Rattle.dt_class.specs.declared.link.Way.{Way}
 
@@ -62,7 +62,7 @@ pub follow_begins : (way : Way) (links : List Link) (newest : List (Option ℕ))
 follow_begins way links newest v old chained lt = begins_at way links v old (get_or newest v None) (chained.newest_first v lt)
 
 -- one more link is followed, and then the newest one before it
-module _ (way : Way) (links : List Link) (v k : ℕ) (old new more : FoundView) (f : IsFollowed way links v old new (Some k)) (adds : Adds new (far_end way (link_at links k)) more) where
+module _ (way : Way) (links : List Link) (v k : ℕ) (old new more : FoundView) (f : IsFollowed way links v old new (Some k)) (adds : AddsVertex new (far_end way (link_at links k)) more) where
   -- what the followed links lead to, where none between the two places leads from v
   steps_more : (place : ℕ) → place ≤ k → ((i : ℕ) → place ≤ i → i < k → near_end way (link_at links i) ≢ v) → (t : ℕ) → Has more.order t ↔ (Has old.order t ⊎ IsStepFrom way links place v t)
   steps_more place le none t = (down, up)

@@ -4,7 +4,7 @@ use Rattle.std.proofs.Common.{◌≡◌, ℕ, zero, suc, ◌+◌, ◌<◌, ◌�
 use Rattle.std.proofs.lemmas.List.{get_or-set_same, get_or-set_other}
 use Rattle.dt_lists.specs.Lists.{AllIn, EachThen, Either, Has}
 use Rattle.dt_lists.proofs.Callers.{all_put, distinct_push, distinct_within, each_append, either_nat, has_more, has_last, has_longer, front_append, front_refl}
-use Rattle.dt_class.specs.Finds.{FoundView, IsMarked, IsFoundOf, Adds, AreMarked}
+use Rattle.dt_class.specs.Finds.{FoundView, IsMarked, IsFoundOf, AddsVertex, AreMarked}
 
 -- past the last mark nothing is marked
 pub marked_within : (marks : List Bool) (v : ℕ) → IsMarked marks v → v < length marks
@@ -31,7 +31,7 @@ found_more marks order v found lt unmarked =
         )
 
 -- a found vertex that was there already, and one that was not
-pub adds_none : (found : FoundView) (v : ℕ) → IsFoundOf found.marks found.order → get_or found.marks v false ≡ true → Adds found v found
+pub adds_none : (found : FoundView) (v : ℕ) → IsFoundOf found.marks found.order → get_or found.marks v false ≡ true → AddsVertex found v found
 adds_none found v is m =
     record {
       vertices = refl;
@@ -39,7 +39,7 @@ adds_none found v is m =
       members = λ u. (λ h. inl h, λ h. elim h [ inl k ↦ k | inr e ↦ subst (Has found.order) (sym e) ((is.members v).0 m) ]);
     }
 
-pub adds_one : (found : FoundView) (v : ℕ) → Adds found v (record { marks = set found.marks v true; order = found.order ++ v ∷ [] })
+pub adds_one : (found : FoundView) (v : ℕ) → AddsVertex found v (record { marks = set found.marks v true; order = found.order ++ v ∷ [] })
 adds_one found v =
     record {
       vertices = length-set found.marks v true;

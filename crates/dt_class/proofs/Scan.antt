@@ -5,25 +5,25 @@ use Rattle.dt_lists.specs.Lists.{AllIn, Has}
 use Rattle.dt_lists.specs.Chain.{Chain, here}
 use Rattle.dt_lists.proofs.Callers.{all_put, any_front, any_get, either_nat}
 use Rattle.dt_class.specs.Links.{IsStep}
-use Rattle.dt_class.specs.Finds.{FoundView, IsFoundOf, IsClosedUnder, IsFollowedIn, Adds, Spreads, GoesOn, Visits, IsLastStart}
+use Rattle.dt_class.specs.Finds.{FoundView, IsFoundOf, IsClosedUnder, IsFollowedIn, AddsVertex, Spreads, GoesOn, Visits, IsLastStart}
 use Rattle.dt_class.specs.declared.link.Link.{Link}
 use Rattle.dt_class.specs.declared.link.Way.{Way}
 use Rattle.dt_class.proofs.Walk.{closed_keeps}
 
 module _ (way : Way) (links : List Link) where
   -- what was closed is followed still when one more vertex is found
-  pub followed_still : (old more : FoundView) (v : ℕ) → IsClosedUnder way links old.order → Adds old v more → AllIn (IsFollowedIn way links more.order) (take (length old.order) more.order)
+  pub followed_still : (old more : FoundView) (v : ℕ) → IsClosedUnder way links old.order → AddsVertex old v more → AllIn (IsFollowedIn way links more.order) (take (length old.order) more.order)
   followed_still old more v closed adds =
       let front : take (length old.order) more.order ≡ old.order = ap (take (length old.order)) (sym adds.front.1) ∙ take_at old.order adds.front.0 (length old.order) refl in
       rw front (all_put _ old.order (λ u h t e. (adds.members t).1 (inl (closed u h t e))))
 
-  pub short_still : (old more : FoundView) (v : ℕ) → Adds old v more → length old.order ≤ length more.order
+  pub short_still : (old more : FoundView) (v : ℕ) → AddsVertex old v more → length old.order ≤ length more.order
   short_still old more v adds =
       let l : length more.order ≡ length old.order + length adds.front.0 = ap length (sym adds.front.1) ∙ length-append old.order adds.front.0 in
       omega (arith, l)
 
   -- one more vertex is found, and the search goes on from it
-  pub goes_on : (old more new : FoundView) (v : ℕ) → IsClosedUnder way links old.order → Adds old v more → Spreads way links more new → GoesOn way links old v new
+  pub goes_on : (old more new : FoundView) (v : ℕ) → IsClosedUnder way links old.order → AddsVertex old v more → Spreads way links more new → GoesOn way links old v new
   goes_on old more new v closed adds s =
       record {
         vertices = s.vertices ∙ adds.vertices;

@@ -6,7 +6,7 @@ use Rattle.dt_lists.specs.Lists.{AnyIn, AllIn, Has, IsFront}
 use Rattle.dt_lists.specs.Chain.{Chain, here, onward}
 use Rattle.dt_lists.proofs.Callers.{all_get, all_map, all_append, any_front, any_get, any_map, any_put, chain_keeps, front_refl, front_trans, has_last, has_longer, has_more, has_place}
 use Rattle.dt_class.specs.Links.{IsStep}
-use Rattle.dt_class.specs.Finds.{FoundView, IsFoundOf, IsClosedUnder, IsFollowedIn, Adds, GainsSteps, IsReach, Spreads}
+use Rattle.dt_class.specs.Finds.{FoundView, IsFoundOf, IsClosedUnder, IsFollowedIn, AddsVertex, GainsSteps, IsReach, Spreads}
 use Rattle.dt_class.specs.declared.link.Link.{Link}
 use Rattle.dt_class.specs.declared.link.Way.{Way}
 use Rattle.dt_class.proofs.Marks.{marked_within}
@@ -90,7 +90,7 @@ module _ (count : ℕ) (starts : List ℕ) where
   none_begun empty none vertices =
       record { vertices = vertices; members = λ v. (λ h. subst (λ order. Has order v) none h, λ h. absurd h) }
 
-  pub one_more_begun : (found more : FoundView) (place : ℕ) → place < length starts → IsBegun count starts place found → Adds found (get_or starts place 0) more → IsBegun count starts (place + 1) more
+  pub one_more_begun : (found more : FoundView) (place : ℕ) → place < length starts → IsBegun count starts place found → AddsVertex found (get_or starts place 0) more → IsBegun count starts (place + 1) more
   one_more_begun found more place lt begun adds =
       let v : ℕ = get_or starts place 0 in
       record {

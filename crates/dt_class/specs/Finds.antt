@@ -24,7 +24,7 @@ pub record IsFoundOf (marks : List Bool) (order : List ℕ) : Type 0 where
   pub members : (v : ℕ) → IsMarked marks v ↔ Has order v
 
 -- the vertex was added at the back of the order, or was there already
-pub record Adds (old : FoundView) (vertex : ℕ) (new : FoundView) : Type 0 where
+pub record AddsVertex (old : FoundView) (vertex : ℕ) (new : FoundView) : Type 0 where
   pub vertices : length new.marks ≡ length old.marks
   pub front : IsFront old.order new.order
   pub members : (v : ℕ) → Has new.order v ↔ (Has old.order v ⊎ (v ≡ vertex))

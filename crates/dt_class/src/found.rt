@@ -1,5 +1,5 @@
 ghost use Rattle.std.specs.Prelude.{◌≡◌, ◌<◌, [], false, length, get_or, replicate, slice_get, IfOk, OnOk};
-ghost use Rattle.dt_class.specs.Finds.{Adds, AreMarked, IsFoundOf};
+ghost use Rattle.dt_class.specs.Finds.{AddsVertex, AreMarked, IsFoundOf};
 
 use dt_text::NoMemory;
 use std::alloc::Global;
@@ -59,7 +59,7 @@ impl Found {
     /// Adds the vertex, if it isn't found yet.
     pub fn add(&mut self, vertex: u32) -> Result<(), NoMemory>
         requires { vertex < length self.old.marks }
-        ensures { OnOk result (Adds self.old vertex self.new) }
+        ensures { OnOk result (AddsVertex self.old vertex self.new) }
     {
         if !self.marks[vertex as usize] {
             self.order.push(vertex)?;

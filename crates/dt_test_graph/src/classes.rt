@@ -1,9 +1,23 @@
 //! Directed graphs: what a vertex reaches, what reaches it, and its class.
-ghost use Rattle.std.specs.Prelude.{◌≡◌};
+ghost use Rattle.std.specs.Prelude.{◌≡◌, ◌<◌, IfOk};
+ghost use Rattle.dt_lists.specs.Lists.{AllIn};
 
 use dt_class::Adj;
 use std::alloc::Global;
 use std::test::Fail;
+
+/// The graph of so many vertices with these edges, as far as they lead from vertices to vertices.
+fn graph(alloc: Global, vertices: u32, edges: &[(u32, u32)]) -> Result<Adj, Fail>
+    ensures { IfOk result (λ graph. graph.vertices ≡ vertices) }
+{
+    let mut graph = Adj::new(alloc, vertices)?;
+    for (source, target) in edges {
+        if *source < vertices && *target < vertices {
+            graph.edge(*source, *target)?;
+        }
+    }
+    Ok(graph)
+}
 
 /// What is asked of a vertex.
 #[derive(Clone, Copy)]
@@ -13,7 +27,7 @@ enum Ask {
     Class,
 }
 
-/// What the graph of so many vertices with these edges answers for a vertex; nothing for one that it hasn't.
+/// What a graph answers for a vertex; nothing for one that it hasn't.
 fn asked(
     alloc: Global,
     vertices: u32,
@@ -21,12 +35,7 @@ fn asked(
     ask: Ask,
     vertex: u32,
 ) -> Result<Vec<u32>, Fail> {
-    let mut graph = Adj::new(alloc, vertices)?;
-    for (source, target) in edges {
-        if *source < vertices && *target < vertices {
-            graph.edge(*source, *target)?;
-        }
-    }
+    let graph = graph(alloc, vertices, edges)?;
     if vertex >= vertices {
         return Ok(Vec::new(alloc));
     }
@@ -90,6 +99,55 @@ fn long_lines_are_followed_to_their_end(rt: HostRuntime) -> Result<(), Fail> {
         let edges = line(rt.alloc(), 500, closed)?;
         let found = asked(rt.alloc(), 500, edges.as_slice(), ask, vertex)?;
         assert_eq!(rt; found.len(), want);
+    }
+    Ok(())
+}
+
+/// Those of the numbers that are vertices.
+fn below(alloc: Global, vertices: u32, numbers: &[u32]) -> Result<Vec<u32>, Fail>
+    ensures { IfOk result (λ kept. AllIn (λ v. v < vertices) kept.items) }
+{
+    let mut kept = Vec::new(alloc);
+    for number in numbers {
+        if *number < vertices {
+            kept.push(*number)?;
+        }
+    }
+    Ok(kept)
+}
+
+/// A class of a graph that nothing outside reaches, and none of the blocked; no vertex where there is none.
+fn source(
+    alloc: Global,
+    vertices: u32,
+    edges: &[(u32, u32)],
+    blocked: &[u32],
+) -> Result<Vec<u32>, Fail> {
+    let graph = graph(alloc, vertices, edges)?;
+    let blocked = below(alloc, vertices, blocked)?;
+    Ok(match graph.source_class(alloc, blocked.as_slice())? {
+        Some(class) => class,
+        None => Vec::new(alloc),
+    })
+}
+
+#[test]
+fn classes_that_nothing_outside_reaches(rt: HostRuntime) -> Result<(), Fail> {
+    let ring = [(0, 1), (1, 2), (2, 0), (2, 3)];
+    let rings = [(1, 2), (2, 1), (3, 2), (3, 0), (0, 3)];
+    let rows: [(&[(u32, u32)], &[u32], &[u32]); 9] = [
+        (&ring, &[], &[0, 1, 2]),
+        (&ring, &[3], &[0, 1, 2]),
+        (&ring, &[1], &[]),
+        (&rings, &[], &[0, 3]),
+        (&rings, &[1, 2], &[0, 3]),
+        (&rings, &[0], &[]),
+        (&[(3, 3)], &[0, 1, 2], &[3]),
+        (&[], &[0, 2, 3], &[1]),
+        (&[], &[0, 1, 2, 3], &[]),
+    ];
+    for (edges, blocked, want) in rows {
+        assert_eq!(rt; source(rt.alloc(), 4, edges, blocked)?.as_slice(), want);
     }
     Ok(())
 }
