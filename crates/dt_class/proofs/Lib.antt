@@ -1,0 +1,6 @@
+pub mod Kept
+pub mod Marks
+pub mod Follow
+pub mod Walk
+pub mod Scan
+pub mod Graph
