@@ -34,3 +34,7 @@
 //! order), `specs/Agreement` (what all regions agree on). `specs/OneHome`, `specs/Eager` and `specs/Finished` name kinds of
 //! workloads and of lists. What a region does by itself in rules 1, 2 and 4 to 6 is defined below, in `dt_txn`.
 #![tactic(auto)]
+
+mod sessions;
+
+pub use sessions::{Seat, Sessions, Waiting};

@@ -18,7 +18,7 @@ use Rattle.dt_workload.specs.declared.Session.{Session}
 use Rattle.dt_workload.specs.declared.Wanted.{Wanted}
 use Rattle.dt_workload.specs.declared.Workload.{Workload}
 use Rattle.dt_session.specs.World.{World, Node, Place, Submission, no_node, node_at, received_logs, session_at, txn_of, with_place}
-use Rattle.dt_session.specs.Step.{IsLegal, MaySubmit, MayTry, attempt_for, body_of, called, next, next_attempt, node_submitted, submitted, upcoming_id, world_submitted}
+use Rattle.dt_session.specs.Step.{IsLegal, MaySubmit, MayTry, attempt_for, awaited_at, body_of, called, next, next_attempt, node_submitted, submitted, upcoming_id, world_submitted}
 use Rattle.dt_agreement.proofs.Callers.{transaction_found, next_keeps, ordered}
 use Rattle.dt_site.specs.declared.site.Origin.{Origin}
 use Rattle.dt_site.specs.Site.{SiteView, MakesAttempt, after_attempt, attempt, node_of}
@@ -30,7 +30,7 @@ use Rattle.dt_site.proofs.Standing.{Steps, here_is, inv, many_here, node_then, o
 pub record Submits (cluster : Cluster) (workload : Workload) (w : World) (region : ℕ) (name : Bytes) (session : Session) (place : Place) (call : Wanted) : Type 0 where
   pub found : session_at workload.sessions w.places region name ≡ Some (session, place)
   pub named : session.name ≡ name
-  pub may : MayTry cluster w region session place.answered place.waits
+  pub may : MayTry cluster.tries (length session.calls) place.answered (awaited_at w region place.waits)
   pub wants : slice_get session.calls place.answered ≡ Some call
 
 -- whose the attempt is
