@@ -62,8 +62,11 @@ impl Sessions {
         requires few { calls_in workload.now.sessions ≤ 20000 }
         ensures { IfOk result (λ sessions. sessions ≡ all_idle tries region workload.now) }
     {
+        let sessions = workload.sessions.as_slice();
         let mut seats = BTreeMap::new(alloc);
-        for session in workload.sessions.as_slice().iter().rev() {
+        // From the last one to the first.
+        for behind in 0..sessions.len() {
+            let session = &sessions[sessions.len() - 1 - behind];
             if session.region == region {
                 let seat = Seat {
                     calls: session.calls.copy(alloc)?,
@@ -79,7 +82,7 @@ impl Sessions {
     /// The numbers of the call and of the attempt, both from 1, that the session of this name may submit next. `last` is the
     /// outcome here of the attempt that it waits for, if there is one. `None` exactly where it may submit nothing.
     pub fn next(&self, session: &Name, last: Option<&Outcome>) -> Option<(u32, u32)>
-        ensures { IsNext self.now session.now (option_copied last) result }
+        ensures { IsNext self.now session.now (option_copied last.entry) result }
     {
         let seat = self.seats.get(session)?;
         let Some(waiting) = seat.waits else {
@@ -148,23 +151,33 @@ impl Sessions {
             .all(|seat| seat.answered as usize == seat.calls.len())
     }
 
-    /// Answers the session of this name, if it may be answered: it waits for nothing then, before its next call. `last` is
-    /// the outcome here of the attempt that it waits for, if there is one. Where it may not, nothing changes.
-    pub fn answer(&mut self, session: &Name, last: Option<&Outcome>) -> bool
-        ensures legal { IsTrue result ↔ MayBeAnswered self.old session.now (option_copied last) }
-        ensures answered { IsTrue result → self.new ≡ after_answer self.old session.now }
-        ensures same { ¬ (IsTrue result) → self.new ≡ self.old }
+    /// Whether the session of this name may be answered. `last` is the outcome here of the attempt that it waits for, if there
+    /// is one.
+    pub fn may_answer(&self, session: &Name, last: Option<&Outcome>) -> bool
+        ensures { IsTrue result ↔ MayBeAnswered self.now session.now (option_copied last.entry) }
     {
-        let tries = self.tries;
-        let Some(seat) = self.seats.get_mut(session) else {
+        let Some(seat) = self.seats.get(session) else {
             return false;
         };
         let Some(waiting) = seat.waits else {
             return false;
         };
-        if !is_last(tries, waiting.attempt, last) {
+        is_last(self.tries, waiting.attempt, last)
+    }
+
+    /// Answers the session of this name, if it may be answered: it waits for nothing then, before its next call. `last` is
+    /// the outcome here of the attempt that it waits for, if there is one. Where it may not, nothing changes.
+    pub fn answer(&mut self, session: &Name, last: Option<&Outcome>) -> bool
+        ensures legal { IsTrue result ↔ MayBeAnswered self.old session.now (option_copied last.entry) }
+        ensures answered { IsTrue result → self.new ≡ after_answer self.old session.now }
+        ensures same { ¬ (IsTrue result) → self.new ≡ self.old }
+    {
+        if !self.may_answer(session, last) {
             return false;
         }
+        let Some(seat) = self.seats.get_mut(session) else {
+            unreachable!()
+        };
         seat.answered += 1;
         seat.waits = None;
         true
@@ -173,14 +186,14 @@ impl Sessions {
 
 /// Whether an outcome is there, and stale.
 fn is_stale(last: Option<&Outcome>) -> bool
-    ensures { IsTrue result ↔ IsStale (option_copied last) }
+    ensures { IsTrue result ↔ IsStale (option_copied last.entry) }
 {
     matches!(last, Some(Outcome::Stale { .. }))
 }
 
 /// Whether an attempt of this number, with this outcome, ends its call.
 fn is_last(tries: u32, attempt: u32, last: Option<&Outcome>) -> bool
-    ensures { IsTrue result ↔ IsLast tries attempt (option_copied last) }
+    ensures { IsTrue result ↔ IsLast tries attempt (option_copied last.entry) }
 {
     match last {
         None => false,
