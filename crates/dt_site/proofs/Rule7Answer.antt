@@ -25,6 +25,10 @@ module _ {cluster : Cluster} {workload : Workload} {w : World} (k : IsReached cl
   pub answer_legal : IsLegal cluster workload w (Answer region name)
   answer_legal = record { regions = lr; allowed = subst (MayAnswer cluster w region) (sym found) may }
 
+  -- where the sessions stand then
+  pub answered_places : (next cluster workload w (Answer region name)).places ≡ places_answered workload w region session place
+  answered_places = ap (λ o. (answered workload w region o).places) found
+
   module _ (r : RegionView) (is : r ≡ with_event p.region p.region.state (Answer p.region.state.number name)) where
     node_made : node_of (in_region p r) ≡ node_at w region
     node_made = ap (λ x. node_of (in_region p x)) is ∙ s.node

@@ -1,12 +1,13 @@
 -- The sessions of a region that stand in a world: what they allow is what the rules allow there, and after each event they
 -- stand in the next world, the one that it is about changed and all others as they were.
 use Rattle.std.proofs.Common.{◌≡◌, ◌≢◌, ◌⊎◌, ◌<◌, ◌+◌, ℕ, Bool, true, false, cond, eq-eqb, List, [], ◌∷◌, length, map, get_or, Some, None, refl, sym, ap, ap₂, subst, ◌∙◌, inl, inr, arith}
-use Rattle.std.specs.Prelude.{Option, IsSome, option_map, option_and_then}
+use Rattle.std.specs.Prelude.{Option, IsSome, option_map, option_and_then, unwrap_or}
 use Rattle.std.specs.Ordering.{eq_by_cmp, nat_cmp}
 use Rattle.std.specs.Cmp.Lexicographic.{bytes_decides, slice_cmp, texts_ties}
 use Rattle.std.proofs.lemmas.Bool.{cases_Bool, false_from_ne_true}
 use Rattle.std.proofs.lemmas.Cmp.{eq_by_cmp_equiv, nat_list_cmp_total}
 use Rattle.std.proofs.lemmas.Map.{lookup-set_value}
+use Rattle.std.proofs.lemmas.Option.{some_pair_parts}
 use Rattle.std.specs.Map.{lookup, set_value}
 use Rattle.dt_lists.specs.Lists.{Distinct, Has}
 use Rattle.dt_lists.proofs.Callers.{all_get, has_map}
@@ -24,7 +25,7 @@ use Rattle.dt_session.specs.Step.{IsLegal, MayAnswer, MaySubmit, awaited_at, nex
 use Rattle.dt_session.specs.Tries.{MayEnd, MayTry}
 use Rattle.dt_session.specs.World.{World, Place, Submission, attempt_of, is_session, outcome_at, session_at, submission_of, with_place}
 use Rattle.dt_agreement.specs.Invariant.{IsPlaceOf}
-use Rattle.dt_agreement.proofs.Callers.{WaitsAt, attempt_found, next_found, session_found, session_of_test, test_of_key, waiting_for}
+use Rattle.dt_agreement.proofs.Callers.{WaitsAt, next_found, session_found, session_of_test, test_of_key, waiting_for}
 use Rattle.dt_site.specs.SessionsStandIn.{SessionsStandIn, no_sessions, place_in, places_of, seat_in}
 use Rattle.dt_site.specs.StandsIn.{IsReached}
 use Rattle.dt_site.proofs.Standing.{inv, order}
@@ -42,7 +43,7 @@ pub seat_changed : (change : Seat → Seat) (s : SessionsView) (name : Bytes) (s
     → seat_of (changed change s name (Some seat)) other ≡ cond (is_named name other) (Some (change seat)) (seat_of s other)
 seat_changed change s name seat found other =
     lookup-set_value (eq_by_cmp_equiv nat_list_cmp_total) (is_named name) (λ x y e. ap (λ n. is_named n y) (named_is name x e)) other (change seat) s.seats
-    (subst IsSome (sym found) tt)
+    (subst IsSome (sym found) refl)
 
 -- what a session's region is asked of the attempt that it waits for
 abbrev pub last_in : World → ℕ → Option TxnId → Option Outcome
@@ -141,7 +142,7 @@ module _ (region : ℕ) (name : Bytes) (place : Place) where
           → session_at (t ∷ sessions) (with_place (t ∷ sessions) (x ∷ places) region name place) region name ≡ Some (session, place)
       go (inl y) f =
           let is : ◌≡◌ {A = Option (Session × Place)} (Some (t, x)) (Some (session, was)) = rw y at e in
-          let same : t ≡ session = cc in
+          let same : t ≡ session = (some_pair_parts t session x was is).0 in
           rw y (rw y (ap (λ u. Some (u, place)) same))
       go (inr n) f = rw n (rw n (f (rw n at e)))
 
@@ -162,6 +163,10 @@ module _ (region : ℕ) (name : Bytes) (place : Place) where
       go (inl y) (inr z) f = rw y (rw z refl)
       go (inr y) (inl z) f = rw y (rw z refl)
       go (inr y) (inr z) f = rw y (rw z f)
+
+-- the attempt of an id that was submitted
+attempt_found : (w : World) (id : TxnId) (x : Submission) → submission_of w id ≡ Some x → attempt_of w id ≡ x.attempt
+attempt_found w id x e = ap (λ o. unwrap_or (option_map (λ s. s.attempt) o) 0) e
 
 -- after a legal event
 
@@ -201,7 +206,7 @@ module _ {cluster : Cluster} {workload : Workload} {w : World} (k : IsReached cl
 
   -- where one session of a region stands elsewhere, and its region keeps it so, those of each region stand in the next world
 
-  module _ {region : ℕ} (lr : region < cluster.regions) (name : Bytes) {session : Session} {place now : Place} (found : session_at workload.sessions w.places region name ≡ Some (session, place))
+  module _ {region : ℕ} (lr : region < cluster.regions) (name : Bytes) {session : Session} {place : Place} (now : Place) (found : session_at workload.sessions w.places region name ≡ Some (session, place))
       (moved : later.places ≡ with_place workload.sessions w.places region name now) where
     pub others_sessions : {other : ℕ} → other < cluster.regions → other ≢ region → {s : SessionsView} → SessionsStandIn cluster workload w other s → SessionsStandIn cluster workload later other s
     others_sessions {other} lo n s = record {
