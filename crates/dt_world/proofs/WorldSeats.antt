@@ -16,7 +16,7 @@ use Rattle.dt_workload.specs.declared.Session.{Session}
 use Rattle.dt_workload.specs.declared.Wanted.{Wanted}
 use Rattle.dt_workload.specs.Valid.{IsValidSession, WantedFits}
 use Rattle.dt_session.specs.World.{Place, Submission, attempt_of, idle_place, is_session, node_at, session_at}
-use Rattle.dt_session.specs.Step.{IsLegal, MayAnswer, MayEnd, MaySubmit, MayTry, body_of}
+use Rattle.dt_session.specs.Step.{IsLegal, MayAnswer, MayEnd, MaySubmit, MayTry, awaited_at, body_of}
 use Rattle.dt_events.specs.declared.Event.TheVariants.{Submit, Answer}
 use Rattle.dt_agreement.specs.Invariant.{IsPlaceOf}
 use Rattle.dt_agreement.proofs.Callers.{body_fits, WaitsAt, places_parallel, waiting_for, session_of_test, find_has}
@@ -128,7 +128,7 @@ module _ {cluster : Cluster} {seats : SeatsView} {sites : List SiteView} {steps 
     pub call_left : MayTryAt (view_in cluster seats sites steps) region i → (stand_of seats i).answered < length (session_of seats i).calls
     call_left m = go (stand_of seats i).waits refl m
       where
-        go : (o : Option TxnId) → (stand_of seats i).waits ≡ o → MayTry cluster (world_of sites seats.places) region (session_of seats i) (stand_of seats i).answered o
+        go : (o : Option TxnId) → (stand_of seats i).waits ≡ o → MayTry cluster.tries (length (session_of seats i).calls) (stand_of seats i).answered (awaited_at (world_of sites seats.places) region o)
             → (stand_of seats i).answered < length (session_of seats i).calls
         go None e t = t
         go (Some id) e t = (waits_at e).left

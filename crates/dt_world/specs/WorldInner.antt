@@ -7,7 +7,7 @@ use Rattle.dt_access.specs.declared.TxnId.{TxnId}
 use Rattle.dt_cluster.specs.declared.Cluster.{Cluster}
 use Rattle.dt_workload.specs.declared.Workload.{Workload}
 use Rattle.dt_session.specs.World.{World, Place, opening_table}
-use Rattle.dt_session.specs.Step.{MayEnd, MayTry, next_attempt}
+use Rattle.dt_session.specs.Step.{MayEnd, MayTry, awaited_at, next_attempt}
 use Rattle.dt_site.specs.Site.{SiteView, no_site, node_of, opening_site}
 use Rattle.dt_site.specs.StandsIn.{IsReached, StandsIn}
 use Rattle.dt_world.specs.WorldView.{WorldView}
@@ -58,11 +58,11 @@ HasCall view place = (stand_of (seats_in view) place).answered < length (session
 -- the session at a place may try its next attempt
 abbrev pub MayTryAt : WorldView → ℕ → ℕ → Type 0
 MayTryAt view region place =
-    MayTry view.cluster view.state region (session_of (seats_in view) place) (stand_of (seats_in view) place).answered (stand_of (seats_in view) place).waits
+    MayTry view.cluster.tries (length (session_of (seats_in view) place).calls) (stand_of (seats_in view) place).answered (awaited_at view.state region (stand_of (seats_in view) place).waits)
 
 -- the session at a place may be answered
 abbrev pub MayEndAt : WorldView → ℕ → ℕ → Type 0
-MayEndAt view region place = MayEnd view.cluster view.state region (stand_of (seats_in view) place).waits
+MayEndAt view region place = MayEnd view.cluster.tries (awaited_at view.state region (stand_of (seats_in view) place).waits)
 
 -- the number of the attempt that a session may make next, if it may make one
 abbrev pub IsNextAttempt : WorldView → ℕ → ℕ → Option ℕ → Type 0
