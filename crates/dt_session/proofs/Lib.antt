@@ -1,1 +1,2 @@
 mod SessionsLaws
+pub mod Callers

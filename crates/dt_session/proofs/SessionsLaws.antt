@@ -1,5 +1,5 @@
 -- The sessions of a region, gathered from a workload and found by their names.
-use Rattle.std.proofs.Common.{◌≡◌, ◌≢◌, ◌⊎◌, ◌<◌, ◌≤◌, ◌+◌, ◌-◌, ◌==◌, ◌^◌, ℕ, zero, suc, Bool, true, false, eq-eqb, eqb, eqb-true, List, [], ◌∷◌, length, map, get_or, drop, slice_get, Some, None, refl, sym, ap, subst, ◌∙◌, inl, inr, arith}
+use Rattle.std.proofs.Common.{◌≡◌, ◌≢◌, ◌⊎◌, ◌<◌, ◌≤◌, ◌+◌, ◌-◌, ◌==◌, ◌^◌, ℕ, zero, suc, Bool, true, false, cond, eq-eqb, eqb, eqb-true, List, [], ◌∷◌, length, map, get_or, drop, slice_get, Some, None, refl, sym, ap, subst, ◌∙◌, inl, inr, arith}
 use Rattle.std.specs.Prelude.{Option, IsSome, option_and_then, option_map}
 use Rattle.std.specs.List.{All, sum_by}
 use Rattle.std.specs.declared.cmp.Ordering.{Ordering}
@@ -14,7 +14,7 @@ use Rattle.std.proofs.lemmas.List.{drop_more}
 use Rattle.std.proofs.lemmas.List.Sums.{sum_by-cons}
 use Rattle.dt_lists.specs.Lists.{AllIn, Distinct}
 use Rattle.dt_lists.proofs.Callers.{all_get, all_map, has_map, place_within}
-use Rattle.dt_access.specs.Clash.{Bytes}
+use Rattle.dt_access.specs.Clash.{Bytes, same_key}
 use Rattle.dt_txn.specs.declared.Body.{Body}
 use Rattle.dt_txn.specs.declared.Outcome.{Outcome}
 use Rattle.dt_workload.specs.Valid.{calls_in, session_names}
@@ -24,6 +24,7 @@ use Rattle.dt_session.specs.declared.sessions.Seat.{Seat}
 use Rattle.dt_session.specs.Eager.{sessions_at, with_session}
 use Rattle.dt_session.specs.declared.sessions.Waiting.{Waiting}
 use Rattle.dt_session.specs.Sessions.{IsSoundSeat, MayBeAnswered, MayGo, MaySeatEnd, MaySeatTry, SessionsView, StandsWithin, idle_seat, is_named, seat_of}
+use Rattle.dt_session.specs.World.{Place, idle_place, session_at}
 use Rattle.dt_session.specs.Tries.{Awaited, IsLast, MayEnd, MayTry, body_of}
 
 -- one name is another
@@ -199,3 +200,48 @@ pub values_of_all : (P : Seat → Type 0) (entries : List (Bytes × Seat)) → A
 values_of_all P [] a k d lt = absurd (omega arith)
 values_of_all P (p ∷ entries) a zero d lt = a.0
 values_of_all P (p ∷ entries) a (suc k) d lt = values_of_all P entries a.1 k d (omega arith)
+
+-- before anything happens, a name finds the session of the workload that has it at the region
+
+idle_with : (name : Bytes) (s : Session) (sessions : List Session) → AllIn (λ t. s.name ≢ t.name) sessions
+    → lookup (is_named name) (map idle_seat (with_session s sessions)) ≡ cond (is_named name s.name) (Some (idle_seat s).1) (lookup (is_named name) (map idle_seat sessions))
+idle_with name s [] n = refl
+idle_with name s (t ∷ sessions) n = go (cases_Bool (is_lt (slice_cmp nat_cmp s.name t.name))) (cases_Bool (is_named name s.name)) (cases_Bool (is_named name t.name)) (idle_with name s sessions n.1)
+  where
+    go : (is_lt (slice_cmp nat_cmp s.name t.name) ≡ true) ⊎ (is_lt (slice_cmp nat_cmp s.name t.name) ≡ false)
+        → (is_named name s.name ≡ true) ⊎ (is_named name s.name ≡ false) → (is_named name t.name ≡ true) ⊎ (is_named name t.name ≡ false)
+        → lookup (is_named name) (map idle_seat (with_session s sessions)) ≡ cond (is_named name s.name) (Some (idle_seat s).1) (lookup (is_named name) (map idle_seat sessions))
+        → lookup (is_named name) (map idle_seat (with_session s (t ∷ sessions)))
+        ≡ cond (is_named name s.name) (Some (idle_seat s).1) (lookup (is_named name) (map idle_seat (t ∷ sessions)))
+    go (inl y) a b rest = rw y refl
+    go (inr m) (inl a) (inl b) rest = absurd (n.0 (sym (same_name name s.name a) ∙ same_name name t.name b))
+    go (inr m) (inl a) (inr b) rest = rw m (rw b (rest))
+    go (inr m) (inr a) (inl b) rest = rw m (rw a (rw b refl))
+    go (inr m) (inr a) (inr b) rest = rw m (rw b rest)
+
+names_of : (s : Session) (sessions : List Session) → AllIn (λ y. s.name ≢ y) (session_names sessions) → AllIn (λ t. s.name ≢ t.name) sessions
+names_of s [] a = tt
+names_of s (t ∷ sessions) a = (a.0, names_of s sessions a.1)
+
+pub idle_found : (region : ℕ) (name : Bytes) (sessions : List Session) → Distinct (session_names sessions)
+    → lookup (is_named name) (map idle_seat (sessions_at region sessions)) ≡ option_map (λ (x : Session × Place). (idle_seat x.0).1) (session_at sessions (map (λ s. idle_place) sessions) region name)
+idle_found region name [] once = refl
+idle_found region name (s ∷ sessions) once = go (cases_Bool (s.region == region)) (cases_Bool (same_key s.name name)) (idle_found region name sessions once.1)
+  where
+    away : AllIn (λ t. s.name ≢ t.name) (sessions_at region sessions)
+    away = region_all (λ t. s.name ≢ t.name) region sessions (names_of s sessions once.0)
+
+    named : same_key s.name name ≡ true → is_named name s.name ≡ true
+    named e = sym (texts_ties name s.name) ∙ (bytes_decides name s.name).1 (sym ((bytes_decides s.name name).0 e))
+
+    not_named : same_key s.name name ≡ false → is_named name s.name ≡ false
+    not_named e = false_from_ne_true (is_named name s.name) (λ y. let no : ◌≡◌ {A = Bool} true false = sym ((bytes_decides s.name name).1 (sym (same_name name s.name y))) ∙ e in cc)
+
+    go : ((s.region == region) ≡ true) ⊎ ((s.region == region) ≡ false) → (same_key s.name name ≡ true) ⊎ (same_key s.name name ≡ false)
+        → lookup (is_named name) (map idle_seat (sessions_at region sessions)) ≡ option_map (λ (x : Session × Place). (idle_seat x.0).1) (session_at sessions (map (λ t. idle_place) sessions) region name)
+        → lookup (is_named name) (map idle_seat (sessions_at region (s ∷ sessions)))
+        ≡ option_map (λ (x : Session × Place). (idle_seat x.0).1) (session_at (s ∷ sessions) (map (λ t. idle_place) (s ∷ sessions)) region name)
+    go (inl y) (inl z) rest = rw y (idle_with name s (sessions_at region sessions) away ∙ rw (named z) (rw z refl))
+    go (inl y) (inr z) rest = rw y (idle_with name s (sessions_at region sessions) away ∙ rw (not_named z) (rw z rest))
+    go (inr n) (inl z) rest = rw n (rw z rest)
+    go (inr n) (inr z) rest = rw n (rw z rest)
