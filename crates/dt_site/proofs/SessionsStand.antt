@@ -20,10 +20,11 @@ use Rattle.dt_workload.specs.declared.Session.{Session}
 use Rattle.dt_workload.specs.declared.Workload.{Workload}
 use Rattle.dt_session.specs.declared.sessions.Seat.{Seat}
 use Rattle.dt_session.specs.declared.sessions.Waiting.{Waiting}
-use Rattle.dt_session.specs.Sessions.{SessionsView, IsNext, MayBeAnswered, MayGo, MaySeatEnd, MaySeatTry, awaited_in, changed, is_named, numbers_next, seat_of, waits_of}
+use Rattle.dt_session.specs.Sessions.{SessionsView, IsNext, MayBeAnswered, MayGo, all_idle, idle_seat, MaySeatEnd, MaySeatTry, awaited_in, changed, is_named, numbers_next, seat_of, waits_of}
+use Rattle.dt_session.proofs.Callers.{idle_found}
 use Rattle.dt_session.specs.Step.{IsLegal, MayAnswer, MaySubmit, awaited_at, next, next_attempt}
 use Rattle.dt_session.specs.Tries.{MayEnd, MayTry}
-use Rattle.dt_session.specs.World.{World, Place, Submission, attempt_of, is_session, outcome_at, session_at, submission_of, with_place}
+use Rattle.dt_session.specs.World.{World, Place, Submission, attempt_of, idle_place, is_session, opening_world, outcome_at, session_at, submission_of, with_place}
 use Rattle.dt_agreement.specs.Invariant.{IsPlaceOf}
 use Rattle.dt_agreement.proofs.Callers.{WaitsAt, next_found, session_found, session_of_test, test_of_key, waiting_for}
 use Rattle.dt_site.specs.SessionsStandIn.{SessionsStandIn, no_sessions, place_in, places_of, seat_in}
@@ -266,3 +267,27 @@ module _ {cluster : Cluster} {workload : Workload} {w : World} (once : Distinct 
   pub places_are : places_of workload all ≡ w.places
   places_are = own_places (λ session. place_in (seat_of (get_or all session.region no_sessions) session.name)) workload.sessions w.places many once
       (λ t h p e. ap place_in (kept_here (k t.region (regions t h)) t.name e) ∙ place_of_seat w t p)
+
+-- before anything happens
+
+module _ (w : World) (region : ℕ) (name : Bytes) where
+  idle_as : (sessions : List Session)
+      → option_map (λ (x : Session × Place). (idle_seat x.0).1) (session_at sessions (map (λ s. idle_place) sessions) region name)
+      ≡ option_map (seat_in w) (session_at sessions (map (λ s. idle_place) sessions) region name)
+  idle_as [] = refl
+  idle_as (s ∷ sessions) = go (cases_Bool (is_session region name s)) (idle_as sessions)
+    where
+      go : (is_session region name s ≡ true) ⊎ (is_session region name s ≡ false)
+          → option_map (λ (x : Session × Place). (idle_seat x.0).1) (session_at sessions (map (λ t. idle_place) sessions) region name)
+          ≡ option_map (seat_in w) (session_at sessions (map (λ t. idle_place) sessions) region name)
+          → option_map (λ (x : Session × Place). (idle_seat x.0).1) (session_at (s ∷ sessions) (map (λ t. idle_place) (s ∷ sessions)) region name)
+          ≡ option_map (seat_in w) (session_at (s ∷ sessions) (map (λ t. idle_place) (s ∷ sessions)) region name)
+      go (inl y) ih = rw y refl
+      go (inr n) ih = rw n ih
+
+pub opening_sessions_stand : (cluster : Cluster) (workload : Workload) (region : ℕ) → Distinct (map (λ s. s.name) workload.sessions)
+    → SessionsStandIn cluster workload (opening_world cluster workload) region (all_idle cluster.tries region workload)
+opening_sessions_stand cluster workload region once = record {
+  tries = refl;
+  seats = λ name. idle_found region name workload.sessions once ∙ idle_as (opening_world cluster workload) region name workload.sessions;
+}

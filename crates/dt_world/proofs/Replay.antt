@@ -26,12 +26,12 @@ use Rattle.dt_session.specs.Agreement.{WaitsFor}
 use Rattle.dt_agreement.specs.Invariant.{Inv, IsExecutedAt, IsPlaceOf}
 use Rattle.dt_agreement.proofs.Callers.{answered_done, lookup_has, legal_agree, WaitsAt, places_parallel, from_region, submission_is_found, waiting_for}
 use Rattle.dt_agreement.proofs.Callers.{legal_keeps, legal_append, world_after_more, session_found, session_of_test, find_has, Submits, submits}
-use Rattle.dt_world.specs.Seats.{no_session}
+use Rattle.dt_world.specs.WorldSessions.{no_session}
 use Rattle.dt_world.specs.SessionReplay.{IsReply, after_reply, after_submission, replay_of, count_at, wait_at}
 use Rattle.dt_world.specs.WorldReport.{IsReplyOf, answered_session, replies_from, reply_for, reply_to}
 use Rattle.dt_world.proofs.Executions.{serial_is}
 use Rattle.dt_world.proofs.Growth.{NodeGrows, grows_past}
-use Rattle.dt_world.proofs.SeatsLaws.{no_session_of_none, place_set, session_of_place}
+use Rattle.dt_world.proofs.PlacesOfNames.{no_session_of_none, place_set, session_of_place}
 
 front_length : {A : Type 0} (xs ys : List A) → IsFront xs ys → length xs ≤ length ys
 front_length xs ys f = subst (λ l. length xs ≤ length l) f.1 (omega (arith, length-append xs f.0))

@@ -13,7 +13,7 @@ use Rattle.dt_world.specs.WorldInner.{site_at}
 use Rattle.dt_world.proofs.OneSite.{region_here, sound_here, same_lawful, same_view}
 use Rattle.dt_world.proofs.Rule3Deliver.{can_take, deliver_done, deliver_none, out_of_order, past_log}
 use Rattle.dt_world.proofs.WorldLaws.{a_site, behind, made_before, out_of_memory}
-use Rattle.dt_world.proofs.WorldSeats.{steps_few}
+use Rattle.dt_world.proofs.WorldFacts.{steps_few}
 use Rattle.dt_world.proofs.world.World.deliver.Goals as goal
 use Rattle.dt_world.proofs.world.World.deliver.Goals.{then-first-last-via-then-first-last, then-first-last-via-else-first-last+then-last-len}
 

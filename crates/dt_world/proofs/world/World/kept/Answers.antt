@@ -6,7 +6,7 @@ use Rattle.dt_region.specs.Region.{RegionView}
 use Rattle.dt_site.specs.Site.{SiteView, no_site}
 use Rattle.dt_world.specs.WorldView.{WorldView}
 use Rattle.dt_world.proofs.WorldLaws.{a_site, behind}
-use Rattle.dt_world.proofs.WorldSeats.{a_number}
+use Rattle.dt_world.proofs.WorldFacts.{a_number}
 use Rattle.dt_world.proofs.world.World.kept.Goals as goal
 
 pub index-requires : goal.index-requires

@@ -14,7 +14,7 @@ use Rattle.dt_world.proofs.Executions.{outcome_there, stands_among}
 use Rattle.dt_world.proofs.OneSite.{outcome_is}
 use Rattle.dt_world.proofs.Reports.{ran_found}
 use Rattle.dt_world.proofs.WorldLaws.{a_site, behind, read_at}
-use Rattle.dt_world.proofs.WorldSeats.{a_number}
+use Rattle.dt_world.proofs.WorldFacts.{a_number}
 use Rattle.dt_world.proofs.world.World.ran.Goals as goal
 
 pub unreachable-requires : goal.unreachable-requires

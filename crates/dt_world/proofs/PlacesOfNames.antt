@@ -1,4 +1,4 @@
--- Sessions and their places: the one of a name at a region is found by its place in the workload.
+-- Sessions by their places in the workload: the one of a name at a region is found there, by the names of all.
 use Rattle.std.proofs.Common.{eq-eqb, ◌≡◌, ◌≢◌, ◌<◌, ◌≤◌, ◌+◌, ◌⊎◌, ℕ, zero, suc, Bool, true, false, cond, ltb, List, [], ◌∷◌, ◌++◌, length, map, get_or, set, take}
 use Rattle.std.proofs.Common.{Some, None, refl, sym, ap, ap₂, subst, ◌∙◌, inl, inr, arith}
 use Rattle.std.specs.Prelude.{Option, option_map}
@@ -12,12 +12,8 @@ use Rattle.std.proofs.lemmas.List.Quantifiers.{position-Some}
 use Rattle.dt_lists.specs.Lists.{Distinct, Either, Has}
 use Rattle.dt_lists.proofs.Callers.{any_get, any_of_test, each_at, get_front, front_take, either_le, either_nat, get_of_map, place_of, place_within}
 use Rattle.dt_access.specs.Clash.{Bytes, same_key}
-use Rattle.dt_access.specs.declared.TxnId.{TxnId}
 use Rattle.dt_workload.specs.declared.Session.{Session}
-use Rattle.dt_workload.specs.declared.Workload.{Workload}
-use Rattle.dt_session.specs.World.{Place, idle_place, is_session, session_at, with_place}
-use Rattle.dt_world.specs.declared.seats.Seat.{Seat}
-use Rattle.dt_world.specs.Seats.{SeatsView, after_wait, after_answer, place_of as place_of_seat}
+use Rattle.dt_session.specs.World.{Place, is_session, session_at, with_place}
 use Rattle.dt_agreement.proofs.Callers.{key_of_test, test_of_key, session_of_test}
 
 -- the first place at which a test passes, by recursion
@@ -208,24 +204,7 @@ name_new xs n d once lt = false_from_ne_true (list_any (same_key (get_or xs n d)
         let is : get_or xs p.0 d ≡ r.0 = get_or_from_slice_get xs p.0 r.0 d here in
         distinct_places xs p.0 n d once (omega arith) lt (λ same. let eq : p.0 ≡ n = same in omega arith) (is ∙ sym (key_of_test (get_or xs n d) r.0 r.2))
 
--- one place of the sessions changes
-
-seat_at : (seats : List Seat) (i : ℕ) (x : Seat) → i < length seats → x ≡ get_or seats i x → place_of_seat x ≡ get_or (map place_of_seat seats) i idle_place
-seat_at seats i x lt is = ap place_of_seat (is ∙ get_or_default seats i x (record { answered = 0; waits = None }) lt) ∙ sym (get_of_map place_of_seat seats i (record { answered = 0; waits = None }))
-
-pub wait_is : (workload : Workload) (seats : List Seat) (i : ℕ) (id : TxnId) (x : Seat) → i < length seats → x ≡ get_or seats i x
-    → ◌≡◌ {A = SeatsView} (record { workload = workload; places = map place_of_seat (set seats i (record { answered = x.answered; waits = Some id })) })
-    (after_wait (record { workload = workload; places = map place_of_seat seats }) i id)
-wait_is workload seats i id x lt is = ap (λ l. record { workload = workload; places = l })
-    (map-set place_of_seat seats i (record { answered = x.answered; waits = Some id }) ∙ ap (λ p. set (map place_of_seat seats) i (record { answered = p.answered; waits = Some id })) (seat_at seats i x lt is))
-
-pub answer_is : (workload : Workload) (seats : List Seat) (i : ℕ) (x : Seat) → i < length seats → x ≡ get_or seats i x
-    → ◌≡◌ {A = SeatsView} (record { workload = workload; places = map place_of_seat (set seats i (record { answered = x.answered + 1; waits = None })) })
-    (after_answer (record { workload = workload; places = map place_of_seat seats }) i)
-answer_is workload seats i x lt is = ap (λ l. record { workload = workload; places = l })
-    (map-set place_of_seat seats i (record { answered = x.answered + 1; waits = None }) ∙ ap (λ p. set (map place_of_seat seats) i (record { answered = p.answered + 1; waits = None })) (seat_at seats i x lt is))
-
--- one more session is indexed
+-- one more name is indexed
 
 pub index_more : (sessions : List Session) (n : ℕ) (keys new : List Bytes) (name : Bytes) (d : Session) → Distinct (map (λ s. s.name) sessions) → n < length sessions
     → keys ≡ map (λ s. s.name) (take n sessions) → name ≡ (get_or sessions n d).name → new ≡ cond (list_any (same_key name) keys) keys (keys ++ name ∷ [])
@@ -235,9 +214,3 @@ index_more sessions n keys new name d once lt same named is =
     let fresh : list_any (same_key name) keys ≡ false = subst (λ l. list_any (same_key name) l ≡ false) (sym (same ∙ sym (take-map (λ s. s.name) n sessions)))
     (subst (λ x. list_any (same_key x) (take n (map (λ s. s.name) sessions)) ≡ false) at (name_new (map (λ s. s.name) sessions) n d.name once (subst (λ m. n < m) (sym (length-map sessions (λ s. s.name))) lt))) in
     is ∙ rw fresh (ap₂ (λ l x. l ++ x ∷ []) same named ∙ sym (map_push (λ s. s.name) (take n sessions) (get_or sessions n d)) ∙ ap (map (λ s. s.name)) (sym (take_more sessions n d lt)))
-
-pub idle_more : (sessions : List Session) (n : ℕ) (seats : List Seat) (d : Session) → n < length sessions → map place_of_seat seats ≡ map (λ s. idle_place) (take n sessions)
-    → map place_of_seat (seats ++ record { answered = 0; waits = None } ∷ []) ≡ map (λ s. idle_place) (take (n + 1) sessions)
-idle_more sessions n seats d lt same =
-    map_push place_of_seat seats (record { answered = 0; waits = None }) ∙ ap (λ l. l ++ idle_place ∷ []) same ∙ sym (map_push (λ s. idle_place) (take n sessions) (get_or sessions n d))
-    ∙ ap (map (λ s. idle_place)) (sym (take_more sessions n d lt))
