@@ -1,5 +1,6 @@
 -- The sessions of a region, gathered from a workload and found by their names.
-use Rattle.std.proofs.Common.{◌≡◌, ◌≢◌, ◌⊎◌, ◌<◌, ◌≤◌, ◌+◌, ◌-◌, ◌==◌, ◌^◌, ℕ, zero, suc, Bool, true, false, cond, eq-eqb, eqb, eqb-true, List, [], ◌∷◌, length, map, get_or, drop, slice_get, Some, None, refl, sym, ap, subst, ◌∙◌, inl, inr, arith}
+use Rattle.std.proofs.Common.{◌≡◌, ◌≢◌, ◌⊎◌, ◌<◌, ◌≤◌, ◌+◌, ◌-◌, ◌==◌, ◌^◌, ℕ, zero, suc, Bool, true, false, cond, eq-eqb, eqb, eqb-true, List, [], ◌∷◌}
+use Rattle.std.proofs.Common.{length, map, get_or, drop, slice_get, Some, None, refl, sym, ap, subst, ◌∙◌, inl, inr, arith}
 use Rattle.std.specs.Prelude.{Option, IsSome, option_and_then, option_map}
 use Rattle.std.specs.List.{All, sum_by}
 use Rattle.std.specs.declared.cmp.Ordering.{Ordering}

@@ -84,17 +84,17 @@ abbrev pub answered_seat : Seat → Seat
 answered_seat seat = record seat { answered = seat.answered + 1; waits = None }
 
 -- the sessions with the one of a name changed, if it is here
-abbrev pub changed : (Seat → Seat) → SessionsView → Bytes → Option Seat → SessionsView
-changed change s name None = s
-changed change s name (Some seat) = record s { seats = set_value (is_named name) s.seats (change seat) }
+abbrev pub with_changed : (Seat → Seat) → SessionsView → Bytes → Option Seat → SessionsView
+with_changed change s name None = s
+with_changed change s name (Some seat) = record s { seats = set_value (is_named name) s.seats (change seat) }
 
 -- the sessions after the one of a name submitted its next attempt, under this id
 abbrev pub after_wait : SessionsView → Bytes → TxnId → SessionsView
-after_wait s name id = changed (λ seat. waiting seat id) s name (seat_of s name)
+after_wait s name id = with_changed (λ seat. waiting seat id) s name (seat_of s name)
 
 -- the sessions after the one of a name was answered
 abbrev pub after_answer : SessionsView → Bytes → SessionsView
-after_answer s name = changed answered_seat s name (seat_of s name)
+after_answer s name = with_changed answered_seat s name (seat_of s name)
 
 -- the attempt that the session of a name waits for; none exactly where it is idle or not here
 abbrev pub waits_of : SessionsView → Bytes → Option TxnId

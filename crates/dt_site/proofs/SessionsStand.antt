@@ -20,7 +20,7 @@ use Rattle.dt_workload.specs.declared.Session.{Session}
 use Rattle.dt_workload.specs.declared.Workload.{Workload}
 use Rattle.dt_session.specs.declared.sessions.Seat.{Seat}
 use Rattle.dt_session.specs.declared.sessions.Waiting.{Waiting}
-use Rattle.dt_session.specs.Sessions.{SessionsView, IsNext, MayBeAnswered, MayGo, all_idle, idle_seat, MaySeatEnd, MaySeatTry, awaited_in, changed, is_named, numbers_next, seat_of, waits_of}
+use Rattle.dt_session.specs.Sessions.{SessionsView, IsNext, MayBeAnswered, MayGo, all_idle, idle_seat, MaySeatEnd, MaySeatTry, awaited_in, is_named, numbers_next, seat_of, waits_of, with_changed}
 use Rattle.dt_session.proofs.Callers.{idle_found}
 use Rattle.dt_session.specs.Step.{IsLegal, MayAnswer, MaySubmit, awaited_at, next, next_attempt}
 use Rattle.dt_session.specs.Tries.{MayEnd, MayTry}
@@ -41,7 +41,7 @@ is_it a b e = sym (texts_ties a b) ∙ (bytes_decides a b).1 e
 
 -- one seat changes, and the others stay
 pub seat_changed : (change : Seat → Seat) (s : SessionsView) (name : Bytes) (seat : Seat) → seat_of s name ≡ Some seat → (other : Bytes)
-    → seat_of (changed change s name (Some seat)) other ≡ cond (is_named name other) (Some (change seat)) (seat_of s other)
+    → seat_of (with_changed change s name (Some seat)) other ≡ cond (is_named name other) (Some (change seat)) (seat_of s other)
 seat_changed change s name seat found other =
     lookup-set_value (eq_by_cmp_equiv nat_list_cmp_total) (is_named name) (λ x y e. ap (λ n. is_named n y) (named_is name x e)) other (change seat) s.seats
     (subst IsSome (sym found) refl)
@@ -217,14 +217,14 @@ module _ {cluster : Cluster} {workload : Workload} {w : World} (k : IsReached cl
     }
 
     pub sessions_changed : (change : Seat → Seat) {s : SessionsView} → SessionsStandIn cluster workload w region s → change (seat_in w (session, place)) ≡ seat_in later (session, now)
-        → SessionsStandIn cluster workload later region (changed change s name (seat_of s name))
-    sessions_changed change {s} k' is = subst (λ o. SessionsStandIn cluster workload later region (changed change s name o)) (sym kept) (record { tries = k'.tries; seats = λ called. at called (cases_Bool (is_named name called)) })
+        → SessionsStandIn cluster workload later region (with_changed change s name (seat_of s name))
+    sessions_changed change {s} k' is = subst (λ o. SessionsStandIn cluster workload later region (with_changed change s name o)) (sym kept) (record { tries = k'.tries; seats = λ called. at called (cases_Bool (is_named name called)) })
       where
         kept : seat_of s name ≡ Some (seat_in w (session, place))
         kept = kept_here k' name found
 
         at : (called : Bytes) → (is_named name called ≡ true) ⊎ (is_named name called ≡ false)
-            → seat_of (changed change s name (Some (seat_in w (session, place)))) called ≡ option_map (seat_in later) (session_at workload.sessions later.places region called)
+            → seat_of (with_changed change s name (Some (seat_in w (session, place)))) called ≡ option_map (seat_in later) (session_at workload.sessions later.places region called)
         at called (inl y) =
             seat_changed change s name (seat_in w (session, place)) kept called ∙ ap (λ b. cond b (Some (change (seat_in w (session, place)))) (seat_of s called)) y ∙ ap Some is
             ∙ ap (option_map (seat_in later)) (sym (ap₂ (λ p n. session_at workload.sessions p region n) moved (sym (named_is name called y)) ∙ at_changed region name now workload.sessions w.places session place found))
