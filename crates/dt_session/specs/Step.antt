@@ -3,7 +3,7 @@
 -- a deadlocked group (5) and executes a transaction (6), and a session is answered (7). What a region does to its own state
 -- stands in dt_txn's `Replica`, when a session may try or be answered in `Tries`, and here is only what rests on other regions
 -- and on sessions. Read `Run` next.
-use Rattle.std.specs.Prelude.{◌≡◌, ◌<◌, ◌≤◌, ◌+◌, ℕ, [], ◌∷◌, ◌++◌, length, set, slice_get, Option, Some, None, option_map, option_and_then, if◌then◌else◌, ◌&&◌, ◌==◌, nat_le, nat_lt}
+use Rattle.std.specs.Prelude.{◌<◌, ◌≤◌, ◌+◌, ℕ, [], ◌∷◌, ◌++◌, length, set, slice_get, Option, Some, None, option_map, option_and_then, if◌then◌else◌, ◌&&◌, ◌==◌, nat_le, nat_lt}
 use Rattle.dt_access.specs.declared.TxnId.{TxnId}
 use Rattle.dt_events.specs.declared.Event.{Event}
 use Rattle.dt_events.specs.declared.Event.TheVariants.{Submit, Append, Deliver, Insert, Resolve, Execute, Answer}

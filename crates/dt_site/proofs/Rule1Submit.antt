@@ -1,16 +1,14 @@
 -- Rule 1: a session of the region submits its next call, or tries it again.
 use Rattle.std.specs.Prelude.{option_map, unwrap_or}
-use Rattle.std.proofs.Common.{◌≡◌, ◌≢◌, ◌<◌, ◌+◌, ℕ, List, [], ◌∷◌, ◌++◌, length, set, slice_get, Ok, Some, refl, sym, ap, ap₂, subst, ◌∙◌, inl, inr, append_assoc}
+use Rattle.std.proofs.Common.{◌≡◌, ◌<◌, ◌+◌, ℕ, List, [], ◌∷◌, ◌++◌, length, set, slice_get, Ok, Some, refl, sym, ap, ap₂, subst, ◌∙◌, inl, inr, append_assoc}
 use Rattle.std.proofs.lemmas.List.{length_push, get_or-set_same}
 use Rattle.dt_lists.specs.Lists.{Has}
 use Rattle.dt_lists.proofs.Callers.{has_last}
 use Rattle.dt_access.specs.Clash.{Bytes}
 use Rattle.dt_access.specs.declared.TxnId.{TxnId}
 use Rattle.dt_events.specs.declared.Event.TheVariants.{Submit}
-use Rattle.dt_proc.specs.Tree.{ProcTree}
-use Rattle.dt_txn.specs.declared.Body.{Body}
 use Rattle.dt_txn.specs.declared.Txn.{Txn}
-use Rattle.dt_txn.specs.Replica.{Replica, next_id, submission_for}
+use Rattle.dt_txn.specs.Replica.{next_id, submission_for}
 use Rattle.dt_region.specs.Region.{held, find_txn}
 use Rattle.dt_region.specs.Rules.{id_for, txn_for}
 use Rattle.dt_region.specs.Sound.{IsSoundRegion}
@@ -18,9 +16,9 @@ use Rattle.dt_cluster.specs.declared.Cluster.{Cluster}
 use Rattle.dt_workload.specs.declared.Session.{Session}
 use Rattle.dt_workload.specs.declared.Wanted.{Wanted}
 use Rattle.dt_workload.specs.declared.Workload.{Workload}
-use Rattle.dt_session.specs.World.{World, Node, Place, Submission, no_node, node_at, attempt_of, received_logs, session_at, submission_of, txn_of, with_place}
+use Rattle.dt_session.specs.World.{World, Place, Submission, no_node, node_at, attempt_of, received_logs, session_at, submission_of, txn_of, with_place}
 use Rattle.dt_session.specs.Step.{IsLegal, MaySubmit, MayTry, attempt_for, awaited_at, body_of, called, next, next_attempt, node_submitted, submitted, upcoming_id, world_submitted}
-use Rattle.dt_agreement.proofs.Callers.{from_region, next_keeps, ordered, submission_is_found}
+use Rattle.dt_agreement.proofs.Callers.{from_region, next_keeps, submission_is_found}
 use Rattle.dt_site.specs.declared.site.Origin.{Origin}
 use Rattle.dt_site.specs.Site.{SiteView, MakesAttempt, after_attempt, attempt, node_of}
 use Rattle.dt_site.specs.StandsIn.{IsReached, StandsIn}

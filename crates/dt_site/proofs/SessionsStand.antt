@@ -2,16 +2,14 @@
 -- stand in the next world, the one that it is about changed and all others as they were.
 use Rattle.std.proofs.Common.{◌≡◌, ◌≢◌, ◌⊎◌, ◌<◌, ◌+◌, ℕ, Bool, true, false, cond, eq-eqb, List, [], ◌∷◌, length, map, get_or, Some, None, refl, sym, ap, ap₂, subst, ◌∙◌, inl, inr, arith}
 use Rattle.std.specs.Prelude.{Option, IsSome, option_map, option_and_then, unwrap_or}
-use Rattle.std.specs.Ordering.{eq_by_cmp, nat_cmp}
-use Rattle.std.specs.Cmp.Lexicographic.{bytes_decides, slice_cmp, texts_ties}
+use Rattle.std.specs.Cmp.Lexicographic.{bytes_decides, texts_ties}
 use Rattle.std.proofs.lemmas.Bool.{cases_Bool, false_from_ne_true}
 use Rattle.std.proofs.lemmas.Cmp.{eq_by_cmp_equiv, nat_list_cmp_total}
 use Rattle.std.proofs.lemmas.Map.{lookup-set_value}
 use Rattle.std.proofs.lemmas.Option.{some_pair_parts}
-use Rattle.std.specs.Map.{lookup, set_value}
 use Rattle.dt_lists.specs.Lists.{Distinct, Has}
 use Rattle.dt_lists.proofs.Callers.{all_get, has_map}
-use Rattle.dt_access.specs.Clash.{Bytes, same_key}
+use Rattle.dt_access.specs.Clash.{Bytes}
 use Rattle.dt_access.specs.declared.TxnId.{TxnId}
 use Rattle.dt_events.specs.declared.Event.{Event}
 use Rattle.dt_txn.specs.declared.Outcome.{Outcome}
@@ -20,7 +18,7 @@ use Rattle.dt_workload.specs.declared.Session.{Session}
 use Rattle.dt_workload.specs.declared.Workload.{Workload}
 use Rattle.dt_session.specs.declared.sessions.Seat.{Seat}
 use Rattle.dt_session.specs.declared.sessions.Waiting.{Waiting}
-use Rattle.dt_session.specs.Sessions.{SessionsView, IsNext, MayBeAnswered, MayGo, all_idle, idle_seat, MaySeatEnd, MaySeatTry, awaited_in, is_named, numbers_next, seat_of, waits_of, with_changed}
+use Rattle.dt_session.specs.Sessions.{SessionsView, MayBeAnswered, MayGo, all_idle, idle_seat, MaySeatEnd, MaySeatTry, is_named, numbers_next, seat_of, waits_of, with_changed}
 use Rattle.dt_session.proofs.Callers.{idle_found}
 use Rattle.dt_session.specs.Step.{IsLegal, MayAnswer, MaySubmit, awaited_at, next, next_attempt}
 use Rattle.dt_session.specs.Tries.{MayEnd, MayTry}

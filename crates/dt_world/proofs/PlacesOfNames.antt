@@ -5,7 +5,7 @@ use Rattle.std.specs.Prelude.{Option, option_map}
 use Rattle.std.specs.List.{position, position_or_len}
 use Rattle.std.proofs.lemmas.Bool.{cases_Bool, false_from_ne_true}
 use Rattle.std.proofs.lemmas.Bool.Decides.{nat_tests}
-use Rattle.std.proofs.lemmas.List.{length-map, length-take, map-set, map_push, take-map, take_more, get_or_default}
+use Rattle.std.proofs.lemmas.List.{length-map, length-take, map_push, take-map, take_more, get_or_default}
 use Rattle.std.proofs.lemmas.Option.{slice_get-get_or, get_or_from_slice_get}
 use Rattle.std.specs.List.{list_any, slice_get}
 use Rattle.std.proofs.lemmas.List.Quantifiers.{position-Some}

@@ -1,6 +1,6 @@
 -- Rule 1 in a world: a session submits an attempt at its region's site, and its region keeps that it waits for it.
-use Rattle.std.proofs.Common.{◌≡◌, ◌≢◌, ◌<◌, ◌+◌, ℕ, List, length, set, slice_get, Ok, Some, None, refl, sym, ap, ap₂, subst, ◌∙◌, inl, inr}
-use Rattle.std.specs.Prelude.{Option, option_map}
+use Rattle.std.proofs.Common.{◌≡◌, ◌<◌, ℕ, List, set, Ok, Some, None, refl, sym, ap, subst, ◌∙◌, inl, inr}
+use Rattle.std.specs.Prelude.{Option}
 use Rattle.std.proofs.lemmas.List.{get_or-set_same, get_or-set_other, length-set}
 use Rattle.dt_lists.specs.Lists.{Either}
 use Rattle.dt_lists.proofs.Callers.{either_nat}
@@ -10,10 +10,9 @@ use Rattle.dt_events.specs.declared.Event.TheVariants.{Submit}
 use Rattle.dt_txn.specs.declared.Body.{Body}
 use Rattle.dt_region.specs.Sound.{IsSoundRegion}
 use Rattle.dt_cluster.specs.declared.Cluster.{Cluster}
-use Rattle.dt_session.specs.declared.sessions.Seat.{Seat}
 use Rattle.dt_session.specs.Sessions.{SessionsView, after_wait, attempt_next, waiting}
-use Rattle.dt_session.specs.World.{World, Place, session_at, with_place}
-use Rattle.dt_session.specs.Step.{IsLegal, attempt_for, body_of, next, next_attempt, upcoming_id}
+use Rattle.dt_session.specs.World.{World, Place, with_place}
+use Rattle.dt_session.specs.Step.{IsLegal, body_of, next, next_attempt, upcoming_id}
 use Rattle.dt_agreement.proofs.Callers.{session_found}
 use Rattle.dt_agreement.specs.Invariant.{IsPlaceOf}
 use Rattle.dt_site.specs.declared.Origin.{Origin}

@@ -1,10 +1,9 @@
 -- Rule 2 in a world: the transaction of a request is looked up at its source, and placed at the home's site.
-use Rattle.std.proofs.Common.{eqb-true, ◌≡◌, ◌≢◌, ◌<◌, ◌≤◌, ◌+◌, ℕ, Bool, true, false, eqb, List, [], length, get_or, set, slice_get, Ok, Some, refl, sym, ap, subst, ◌∙◌, inl, inr, arith}
+use Rattle.std.proofs.Common.{eqb-true, ◌≡◌, ◌<◌, ◌≤◌, ◌+◌, ℕ, Bool, true, false, eqb, List, [], length, get_or, set, slice_get, Ok, Some, refl, sym, ap, subst, ◌∙◌, arith}
 use Rattle.std.proofs.lemmas.Bool.{false_from_ne_true}
-use Rattle.dt_lists.specs.Lists.{Has, Either}
-use Rattle.dt_lists.proofs.Callers.{either_nat, has_place}
+use Rattle.dt_lists.specs.Lists.{Has}
+use Rattle.dt_lists.proofs.Callers.{has_place}
 use Rattle.dt_access.specs.declared.TxnId.{TxnId}
-use Rattle.dt_sched.specs.Sched.{parts_in}
 use Rattle.dt_events.specs.declared.Event.TheVariants.{Append}
 use Rattle.dt_txn.specs.declared.Txn.{Txn}
 use Rattle.dt_txn.specs.Replica.{taken_from}
@@ -13,11 +12,11 @@ use Rattle.dt_region.specs.Conditions.{CanAppend}
 use Rattle.dt_region.specs.Rules.{MakesAppend}
 use Rattle.dt_region.specs.Sound.{IsSoundRegion}
 use Rattle.dt_cluster.specs.declared.Cluster.{Cluster}
-use Rattle.dt_session.specs.World.{asked_of, logs_of, node_at, taken_of, txn_of}
+use Rattle.dt_session.specs.World.{asked_of, taken_of, txn_of}
 use Rattle.dt_session.specs.Step.{IsLegal}
 use Rattle.dt_agreement.proofs.Callers.{IsRequest, request_is, txn_id}
 use Rattle.dt_site.specs.declared.Origin.{Origin}
-use Rattle.dt_site.specs.Site.{SiteView, in_region}
+use Rattle.dt_site.specs.Site.{SiteView}
 use Rattle.dt_site.proofs.Callers.{append_legal, append_made, append_still, attempts_have, can_append, find_some, inv, is_turn, order}
 use Rattle.dt_world.specs.WorldSessions.{WorldSessions, places_in}
 use Rattle.dt_world.specs.WorldInner.{IsLawful, site_at, world_of}

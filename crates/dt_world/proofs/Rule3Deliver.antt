@@ -1,6 +1,6 @@
 -- Rule 3 in a world: the entries are taken from the home's site, from the delivery's own first place on, and handed to the
 -- site of the region.
-use Rattle.std.proofs.Common.{◌≡◌, ◌≢◌, ◌<◌, ◌≤◌, ◌+◌, ℕ, zero, suc, Bool, true, false, List, [], ◌∷◌, ◌++◌, length, map, set, take, drop, slice_get, Ok, Some, refl, sym, ap, ap₂, subst, ◌∙◌, arith}
+use Rattle.std.proofs.Common.{◌≡◌, ◌<◌, ◌≤◌, ◌+◌, ℕ, zero, suc, true, false, List, [], ◌∷◌, ◌++◌, length, map, set, take, drop, slice_get, Ok, Some, refl, sym, ap, subst, ◌∙◌, arith}
 use Rattle.std.proofs.lemmas.List.{length-take-le, map_push, take_more}
 use Rattle.std.proofs.lemmas.Option.{get_or_from_slice_get}
 use Rattle.dt_lists.specs.Lists.{AllIn}
@@ -8,7 +8,6 @@ use Rattle.dt_lists.proofs.Callers.{place_within, all_map}
 use Rattle.dt_access.specs.declared.Part.{Part}
 use Rattle.dt_log.specs.declared.Taken.{Taken}
 use Rattle.dt_sched.specs.Views.{log_at}
-use Rattle.dt_sched.specs.Sched.{parts_in}
 use Rattle.dt_events.specs.declared.Event.TheVariants.{Deliver}
 use Rattle.dt_txn.specs.declared.Entry.{Entry}
 use Rattle.dt_region.specs.Region.{RegionView, held}
@@ -17,10 +16,10 @@ use Rattle.dt_region.specs.Rules.{MakesDelivery}
 use Rattle.dt_region.specs.Sound.{IsSoundRegion}
 use Rattle.dt_cluster.specs.declared.Cluster.{Cluster}
 use Rattle.dt_workload.specs.declared.Workload.{Workload}
-use Rattle.dt_session.specs.World.{World, log_of, logs_of, txn_of}
+use Rattle.dt_session.specs.World.{World, log_of, txn_of}
 use Rattle.dt_session.specs.Step.{IsLegal}
 use Rattle.dt_site.specs.declared.Origin.{Origin}
-use Rattle.dt_site.specs.Site.{SiteView, in_region}
+use Rattle.dt_site.specs.Site.{SiteView}
 use Rattle.dt_site.proofs.Callers.{apart, can_deliver, deliver_legal, deliver_made, deliver_still, has_received, joins, own_log}
 use Rattle.dt_world.specs.WorldSessions.{WorldSessions, places_in}
 use Rattle.dt_world.specs.WorldInner.{IsLawful, site_at, world_of}

@@ -1,5 +1,5 @@
 -- Rule 7 in a world: a session is answered, its region's site keeps the event, and its region keeps that it goes on.
-use Rattle.std.proofs.Common.{◌≡◌, ◌≢◌, ◌<◌, ◌+◌, ℕ, List, length, set, Ok, Some, None, refl, sym, ap, subst, ◌∙◌, inl, inr}
+use Rattle.std.proofs.Common.{◌≡◌, ◌<◌, ◌+◌, ℕ, List, set, Ok, Some, None, refl, sym, ap, subst, ◌∙◌, inl, inr}
 use Rattle.std.specs.Prelude.{Option}
 use Rattle.std.proofs.lemmas.List.{get_or-set_same, get_or-set_other, length-set}
 use Rattle.dt_lists.specs.Lists.{Either}
@@ -16,10 +16,10 @@ use Rattle.dt_session.specs.Step.{IsLegal, MayAnswer, MayEnd, awaited_at, next}
 use Rattle.dt_agreement.proofs.Callers.{session_found}
 use Rattle.dt_agreement.specs.Invariant.{IsPlaceOf}
 use Rattle.dt_site.specs.declared.Origin.{Origin}
-use Rattle.dt_site.specs.SessionsStandIn.{SessionsStandIn, no_sessions, seat_in}
-use Rattle.dt_site.specs.Site.{SiteView, in_region}
-use Rattle.dt_site.proofs.Callers.{answer_legal, answer_made, answered_places, inv, others_sessions, places_answered, sessions_changed}
-use Rattle.dt_world.specs.WorldInner.{IsLawful, MayBeTold, sessions_of, site_at, view_in, world_of}
+use Rattle.dt_site.specs.SessionsStandIn.{SessionsStandIn, no_sessions}
+use Rattle.dt_site.specs.Site.{SiteView}
+use Rattle.dt_site.proofs.Callers.{answer_legal, answer_made, answered_places, inv, others_sessions, sessions_changed}
+use Rattle.dt_world.specs.WorldInner.{IsLawful, MayBeTold, sessions_of, view_in, world_of}
 use Rattle.dt_world.specs.WorldSessions.{WorldSessions, places_in}
 use Rattle.dt_world.proofs.WorldLaws.{IsBehind, IsMade, sessions_made}
 
@@ -28,7 +28,7 @@ module _ {cluster : Cluster} {sessions : WorldSessions} {sites : List SiteView} 
   w = world_of sites (places_in sessions)
 
   -- the sessions of each region, after this one was answered
-  pub abbrev later : List SessionsView
+  abbrev pub later : List SessionsView
   later = set sessions.by_region region (after_answer (sessions_of sessions.by_region region) name)
 
   module _ (session : Session) (place : Place) (found : session_at sessions.workload.sessions (places_in sessions) region name ≡ Some (session, place))

@@ -1,29 +1,28 @@
 -- What follows of a lawful world for the calls on it: its numbers are small, its regions are there, and what its regions keep of
 -- a session is what the rules ask.
-use Rattle.std.proofs.Common.{◌≡◌, ◌<◌, ◌≤◌, ◌+◌, ◌-◌, ◌^◌, ℕ, zero, suc, List, [], ◌∷◌, length, get_or, slice_get, Some, None, refl, sym, ap, subst, ◌∙◌, arith}
+use Rattle.std.proofs.Common.{◌≡◌, ◌<◌, ◌≤◌, ◌+◌, ◌-◌, ℕ, zero, suc, List, [], ◌∷◌, length, get_or, slice_get, Some, None, refl, sym, ap, subst, ◌∙◌, arith}
 use Rattle.std.specs.Prelude.{Option, IsSome, option_and_then, option_map}
 use Rattle.dt_lists.specs.Lists.{Has}
-use Rattle.dt_lists.proofs.Callers.{all_get, has_place, place_within}
+use Rattle.dt_lists.proofs.Callers.{all_get, has_place}
 use Rattle.dt_access.specs.Clash.{Bytes}
 use Rattle.dt_access.specs.declared.TxnId.{TxnId}
 use Rattle.dt_txn.specs.declared.Body.{Body}
 use Rattle.dt_txn.specs.declared.Outcome.{Outcome}
 use Rattle.dt_txn.specs.Transaction.{BodyFits}
-use Rattle.dt_region.specs.Region.{RegionView, outcome_of}
+use Rattle.dt_region.specs.Region.{outcome_of}
 use Rattle.dt_cluster.specs.declared.Cluster.{Cluster}
 use Rattle.dt_workload.specs.declared.Session.{Session}
 use Rattle.dt_workload.specs.declared.Wanted.{Wanted}
 use Rattle.dt_workload.specs.Valid.{IsValidSession, WantedFits}
 use Rattle.dt_session.specs.declared.sessions.Seat.{Seat}
 use Rattle.dt_session.specs.Sessions.{IsNext, MayBeAnswered, MayGo, SessionsView, numbers_next, seat_of, waits_of, wanted_of}
-use Rattle.dt_session.specs.World.{World, Place, outcome_at, session_at}
-use Rattle.dt_session.specs.Step.{IsLegal, MayAnswer, MaySubmit, MayTry, awaited_at, body_of, next_attempt}
-use Rattle.dt_events.specs.declared.Event.TheVariants.{Submit, Answer}
+use Rattle.dt_session.specs.World.{World, Place, session_at}
+use Rattle.dt_session.specs.Step.{MaySubmit, MayTry, awaited_at, body_of, next_attempt}
 use Rattle.dt_agreement.proofs.Callers.{body_fits, session_found, submits}
 use Rattle.dt_agreement.proofs.Callers as agreed
 use Rattle.dt_agreement.specs.Invariant.{IsPlaceOf}
 use Rattle.dt_site.specs.declared.Origin.{Origin}
-use Rattle.dt_site.specs.SessionsStandIn.{no_sessions, seat_in}
+use Rattle.dt_site.specs.SessionsStandIn.{seat_in}
 use Rattle.dt_site.specs.Site.{SiteView}
 use Rattle.dt_site.proofs.Callers.{inv, kept_here, last_in, may_answer, may_be_answered, may_go, may_submit, numbers_are, order, outcome_here}
 use Rattle.dt_world.specs.WorldInner.{IsLawful, IsNextOf, IsNextTry, MayBeTold, sessions_of, site_at, view_in, world_of}
@@ -35,6 +34,9 @@ pub sessions_at_place : (all : List SessionsView) (region : ℕ) (s : SessionsVi
 sessions_at_place [] region s lt e = absurd (omega arith)
 sessions_at_place (x ∷ all) zero s lt e = e
 sessions_at_place (x ∷ all) (suc region) s lt e = sessions_at_place all region s (omega arith) e
+
+some_same : {A : Type 0} {x y : A} → ◌≡◌ {A = Option A} (Some x) (Some y) → x ≡ y
+some_same e = cc
 
 -- the call of a session that there is
 call_there : (calls : List Wanted) (n : ℕ) → n < length calls → (call : Wanted) × (slice_get calls n ≡ Some call)
@@ -108,17 +110,17 @@ module _ {cluster : Cluster} {sessions : WorldSessions} {sites : List SiteView} 
               seat : seat_of here name ≡ Some (seat_in w (session, place))
               seat = kept_here (k.attended region lr) name e
 
-              numbers : (call, attempt) ≡ (place.answered + 1, next_attempt w place.waits)
+              numbers : ◌≡◌ {A = ℕ × ℕ} (call, attempt) (place.answered + 1, next_attempt w place.waits)
               numbers =
-                  let both : Some (call, attempt) ≡ Some (numbers_next (seat_in w (session, place))) = sym is.1 ∙ ap (option_map numbers_next) seat in
-                  let same : (call, attempt) ≡ numbers_next (seat_in w (session, place)) = cc in
+                  let both : ◌≡◌ {A = Option (ℕ × ℕ)} (Some (call, attempt)) (Some (numbers_next (seat_in w (session, place)))) = sym is.1 ∙ ap (option_map numbers_next) seat in
+                  let same : ◌≡◌ {A = ℕ × ℕ} (call, attempt) (numbers_next (seat_in w (session, place))) = some_same both in
                   same ∙ numbers_are w session place
 
               left : place.answered < length session.calls
               left =
                   let r = agreed.submits cluster k.reached.run.sound sessions.workload w (order k.reached) region name (subst (MaySubmit cluster w region) (sym e) m) (inv k.reached) in
-                  let same : Some (r.session, r.place) ≡ Some (session, place) = sym r.found ∙ e in
-                  let pair : (r.session, r.place) ≡ (session, place) = cc in
+                  let same : ◌≡◌ {A = Option (Session × Place)} (Some (r.session, r.place)) (Some (session, place)) = sym r.found ∙ e in
+                  let pair : ◌≡◌ {A = Session × Place} (r.session, r.place) (session, place) = some_same same in
                   subst (λ (x : Session × Place). x.1.answered < length x.0.calls) pair r.on.call
 
               wanted : (c : Wanted) × (slice_get session.calls place.answered ≡ Some c)
@@ -147,7 +149,7 @@ module _ {cluster : Cluster} {sessions : WorldSessions} {sites : List SiteView} 
         may = found.may;
         wants = found.wants;
         origin_is = λ i. record { session = same i; call = found.call_is i; attempt = found.attempt_is i };
-        body_is = let both : Some body ≡ Some (body_of found.wanted) = sym made ∙ ap (option_map body_of) wanted_here in cc;
+        body_is = some_same (sym made ∙ ap (option_map body_of) wanted_here);
       }
 
   -- what is submitted next fits the region

@@ -1,21 +1,18 @@
 -- What the type of a world keeps: what follows of it, and how it stays so when one site steps.
-use Rattle.std.proofs.Common.{◌≡◌, ◌≢◌, ◌<◌, ◌≤◌, ◌+◌, ◌==◌, ℕ, zero, suc, Bool, true, false, cond, List, [], ◌∷◌, ◌++◌, length, map, get_or, set, Result, Ok, Err, IsErrAnd, refl, sym, ap, ap₂, subst, ◌∙◌, inl, inr, arith}
+use Rattle.std.proofs.Common.{◌≡◌, ◌<◌, ◌≤◌, ◌+◌, ℕ, zero, suc, true, false, cond, List, [], ◌∷◌, ◌++◌, length, map, get_or, set, Result, Ok, Err, IsErrAnd, refl, sym, ap, ap₂, subst, ◌∙◌, inl, inr, arith}
 use Rattle.std.proofs.lemmas.List.{length-map, length_push, map-set, get_or-set_same, get_or-set_other}
 use Rattle.dt_lists.specs.Lists.{Either, Has}
 use Rattle.dt_lists.proofs.Callers.{all_get, either_nat, get_of_map}
-use Rattle.dt_sched.specs.Sched.{parts_in}
 use Rattle.dt_events.specs.Events.{region_of}
 use Rattle.dt_events.specs.declared.Event.{Event}
 use Rattle.dt_region.specs.Region.{RegionView}
-use Rattle.dt_region.specs.Rules.{with_event}
 use Rattle.dt_cluster.specs.declared.Cluster.{Cluster}
 use Rattle.dt_cluster.specs.Valid.{IsValidCluster}
-use Rattle.dt_workload.specs.declared.Workload.{Workload}
 use Rattle.dt_workload.specs.Valid.{IsValidSession, IsValidWorkload}
 use Rattle.dt_workload.specs.declared.Session.{Session}
 use Rattle.dt_session.specs.Sessions.{SessionsView}
 use Rattle.dt_agreement.proofs.Callers.{places_parallel}
-use Rattle.dt_session.specs.World.{World, Place, logs_of, node_at}
+use Rattle.dt_session.specs.World.{World, Place, node_at}
 use Rattle.dt_session.specs.Step.{IsLegal, next}
 use Rattle.dt_session.specs.Run.{AreLegal, world_after}
 use Rattle.dt_site.specs.declared.Origin.{Origin}
@@ -105,15 +102,12 @@ module _ {cluster : Cluster} {sessions : WorldSessions} {sites : List SiteView} 
       v = next cluster sessions.workload (world_of sites (places_in sessions)) event
 
       then_reached : IsReached cluster sessions.workload v
-      unfolding v
       then_reached = record { events = k.reached.events ++ event ∷ []; run = run_more k.reached event s.legal; after = after_more k.reached event }
 
       places_are_v : places_of sessions.workload later ≡ v.places
-      unfolding v
       places_are_v = places_are k.reached.run.fits.names_once at_region (sym (places_parallel cluster sessions.workload v (order then_reached) (inv then_reached))) later standing
 
       is : world_of (set sites region q) (places_of sessions.workload later) ≡ next cluster sessions.workload (world_of sites (places_in sessions)) event
-      unfolding v
       is = ap₂ (λ l p. record { nodes = l; places = p }) (map-set node_of sites region q) (places_are_v ∙ ap (λ x. x.places) s.is) ∙ sym s.is
 
       at : (r : ℕ) → r < cluster.regions → Either (r ≡ region) → StandsIn cluster.regions (next cluster sessions.workload (world_of sites (places_in sessions)) event) r (site_at (set sites region q) r)

@@ -1,4 +1,4 @@
-use Rattle.std.proofs.Common.{◌≡◌, ◌<◌, ◌+◌, Some, None, length, sym, subst, arith}
+use Rattle.std.proofs.Common.{◌≡◌, ◌<◌, Some, length, sym, subst, arith}
 use Rattle.std.specs.Option.{option_copied}
 use Rattle.dt_lists.specs.Lists.{AllIn}
 use Rattle.dt_session.specs.Sessions.{IsSoundSeat, SessionsView, answered_seat, seat_of}

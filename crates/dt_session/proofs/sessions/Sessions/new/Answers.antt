@@ -3,10 +3,8 @@ use Rattle.std.specs.Ordering.{nat_cmp}
 use Rattle.std.specs.Cmp.Lexicographic.{slice_cmp}
 use Rattle.std.specs.BTreeMap.{insert_entry}
 use Rattle.dt_lists.specs.Lists.{AllIn, Distinct}
-use Rattle.dt_access.specs.Clash.{Bytes}
 use Rattle.dt_workload.specs.Valid.{calls_in, session_names}
 use Rattle.dt_workload.specs.declared.Session.{Session}
-use Rattle.dt_session.specs.declared.sessions.Seat.{Seat}
 use Rattle.dt_session.specs.Eager.{sessions_at}
 use Rattle.dt_session.specs.Sessions.{IsSoundSeat, idle_seat}
 use Rattle.dt_session.proofs.SessionsLaws.{gathered, idle_sound, passed_over}

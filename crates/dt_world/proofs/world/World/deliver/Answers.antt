@@ -4,7 +4,6 @@ use Rattle.dt_lists.specs.Lists.{AllIn}
 use Rattle.dt_sched.specs.Views.{log_at}
 use Rattle.dt_txn.specs.declared.Entry.{Entry}
 use Rattle.dt_region.specs.Region.{RegionView, held}
-use Rattle.dt_region.specs.Sound.{IsSoundRegion}
 use Rattle.dt_site.proofs.Callers.{joins}
 use Rattle.dt_events.specs.declared.Event.TheVariants.{Deliver}
 use Rattle.dt_session.specs.Step.{IsLegal}

@@ -2,7 +2,6 @@ use Rattle.std.proofs.Common.{◌≡◌, get_or, Some, None, sym, ap, subst, ◌
 use Rattle.std.specs.List.{position}
 use Rattle.dt_access.specs.Clash.{same_key}
 use Rattle.dt_workload.specs.Valid.{session_names}
-use Rattle.dt_session.specs.World.{is_session}
 use Rattle.dt_workload.specs.declared.Session.{Session}
 use Rattle.dt_world.specs.WorldView.{WorldView}
 use Rattle.dt_world.proofs.PlacesOfNames.{place_found, place_elsewhere, place_unknown}
@@ -19,15 +18,15 @@ returns-then-as_slice-place g c =
     let found : position (same_key c.args.name.now) (session_names c.args.self.now.workload.sessions) ≡ Some c.in_ok-place.place =
     subst (λ l. position (same_key c.args.name.now) l ≡ Some c.in_ok-place.place) c.requires.names (sym c.get_index_of.ensures.index ∙ c.in_ok-place.was) in
     let d : Session = c.index-as_slice-place.result in
-    let there : d ≡ get_or c.args.self.now.workload.sessions c.in_ok-place.place d =
-    subst (λ l. d ≡ get_or l c.in_ok-place.place d) (c.as_slice.ensures ∙ ap (λ (v : WorldView). v.workload.sessions) c.self.view_is) c.index-as_slice-place.is in
-    sym (place_elsewhere c.args.region c.args.name.now c.args.self.now.workload.sessions c.requires.once c.in_ok-place.place found d (λ e. c.if-as_slice-place.true (ap (λ s. s.region) there ∙ e)))
+    let listed : c.as_slice.result.now ≡ c.args.self.now.workload.sessions = c.as_slice.ensures ∙ ap (λ (v : WorldView). v.workload.sessions) c.self.view_is in
+    sym (place_elsewhere c.args.region c.args.name.now c.args.self.now.workload.sessions c.requires.once c.in_ok-place.place found d
+    (λ e. c.if-as_slice-place.true (subst (λ l. (get_or l c.in_ok-place.place d).region ≡ c.args.region) (sym listed) e)))
 
 pub returns : goal.returns
 returns g c =
     let found : position (same_key c.args.name.now) (session_names c.args.self.now.workload.sessions) ≡ Some c.in_ok-place.place =
     subst (λ l. position (same_key c.args.name.now) l ≡ Some c.in_ok-place.place) c.requires.names (sym c.get_index_of.ensures.index ∙ c.in_ok-place.was) in
     let d : Session = c.index-as_slice-place.result in
-    let there : d ≡ get_or c.args.self.now.workload.sessions c.in_ok-place.place d =
-    subst (λ l. d ≡ get_or l c.in_ok-place.place d) (c.as_slice.ensures ∙ ap (λ (v : WorldView). v.workload.sessions) c.self.view_is) c.index-as_slice-place.is in
-    sym (place_found c.args.region c.args.name.now c.args.self.now.workload.sessions c.requires.once c.in_ok-place.place found d (ap (λ s. s.region) (sym there) ∙ c.if-as_slice-place.false))
+    let listed : c.as_slice.result.now ≡ c.args.self.now.workload.sessions = c.as_slice.ensures ∙ ap (λ (v : WorldView). v.workload.sessions) c.self.view_is in
+    sym (place_found c.args.region c.args.name.now c.args.self.now.workload.sessions c.requires.once c.in_ok-place.place found d
+    (subst (λ l. (get_or l c.in_ok-place.place d).region ≡ c.args.region) listed c.if-as_slice-place.false))

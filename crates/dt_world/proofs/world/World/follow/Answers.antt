@@ -1,7 +1,6 @@
-use Rattle.std.proofs.Common.{◌≡◌, ◌+◌, ◌≤◌, None, Some, [], ◌∷◌, ◌++◌, length, refl, sym, ap, subst, ◌∙◌, arith}
-use Rattle.std.specs.List.{position}
+use Rattle.std.proofs.Common.{◌≡◌, ◌+◌, ◌≤◌, [], ◌∷◌, ◌++◌, length, refl, sym, ap, subst, ◌∙◌, arith}
 use Rattle.dt_events.specs.declared.Event.TheVariants.{Submit, Answer}
-use Rattle.dt_session.specs.World.{is_session, node_at}
+use Rattle.dt_session.specs.World.{node_at}
 use Rattle.dt_world.specs.SessionReplay.{replay_at, count_at, replies_at}
 use Rattle.dt_world.specs.WorldView.{WorldView}
 use Rattle.dt_world.proofs.WorldLaws.{short}

@@ -2,12 +2,10 @@ use Rattle.std.proofs.lemmas.Grind.{common_steps}
 use Rattle.std.proofs.Common.{◌≡◌, ◌≤◌, ◌<◌, ◌-◌, Some, length, get_or, sym, ap, subst, ◌∙◌, arith}
 use Rattle.dt_txn.specs.declared.Outcome.{Outcome}
 use Rattle.dt_report.specs.declared.Ran.{Ran}
-use Rattle.dt_region.specs.Region.{outcome_of}
 use Rattle.dt_session.specs.World.{Submission, node_at, outcome_at, submission_of}
 use Rattle.dt_agreement.specs.Invariant.{IsExecutedAt}
 use Rattle.dt_site.specs.Site.{SiteView, attempt}
-use Rattle.dt_world.specs.SessionReplay.{ran_at}
-use Rattle.dt_world.specs.WorldInner.{site_at, world_of}
+use Rattle.dt_world.specs.WorldInner.{site_at}
 use Rattle.dt_world.specs.WorldReport.{ran}
 use Rattle.dt_world.specs.WorldView.{WorldView}
 use Rattle.dt_world.proofs.Executions.{outcome_there, stands_among}
