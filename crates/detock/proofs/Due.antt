@@ -28,8 +28,7 @@ use Rattle.detock.specs.declared.status.EventsCause.{EventsCause}
 use Rattle.detock.specs.declared.status.EventsCause.TheVariants.{TooLong, Form, Rule}
 use Rattle.detock.specs.Tasks.{Task, Replay, Run, Big, Asks, IsBuiltin, IsClusterFile, IsThreaded, NeedsThreads, AreAForm, builtin_word, task_words, cluster_word, workload_word, events_word}
 use Rattle.detock.specs.Loading.{HasFile, HasCluster, NamesThis, HoldCluster, HoldWorkload, HoldEvents, unnumbered}
-use Rattle.detock.specs.Headline.{HasMove}
-use Rattle.detock.specs.Causes.{AsksBuilt, AsksOn, AsksWith, IsNotBuilt, AreBadCluster, HasBadCluster, AreBadWorkload, HasBadWorkload, IsFirstIllegal, AreBadEvents, HasBadEvents, WasMissed, CouldNotRead, IsReplayable, IsDue}
+use Rattle.detock.specs.Causes.{AsksBuilt, AsksOn, AsksWith, AreBadCluster, HasBadCluster, AreBadWorkload, HasBadWorkload, IsFirstIllegal, AreBadEvents, HasBadEvents, WasMissed, CouldNotRead, IsReplayable, IsDue}
 use Rattle.detock.specs.RefusalCode.{IsRefusal}
 use Rattle.detock.proofs.WordForms.{two_bytes}
 
@@ -206,11 +205,6 @@ module _ (files : Files) (words : List Bytes) where
       let (bytes, one, other) = both_words files (workload_word s) (HoldWorkload c v) (HoldWorkload c w) a.loaded.workload_file (subst P pair b.loaded.workload_file) in
       (same.0, same.1, one_workload c (valid_cluster (cluster_word s) c a.loaded.cluster_word) bytes v w one.form other.form)
 
-  -- what is built has a workload that stays where it is
-  built : (t : Task) (c : Cluster) (v : Workload) → AsksWith (Some files) words t c v → ¬ HasMove v → IsNotBuilt (Some files) words → ⊥
-  built t c v a still (inl threads) = no_threads words t a.asks threads
-  built t c v a still (inr (s, d, w, b, moves)) = still (subst HasMove (sym (same_workload t s c d v w a b).2) moves)
-
   -- the word of a cluster's file that has a fault names no cluster
   no_named : (word : Option Bytes) (c : Cluster) (f : ClusterFault) → IsSomeAnd word (λ w. HasCluster (Some files) w c) → IsSomeAnd word (λ w. IsClusterFile w × HasFile (Some files) w (AreBadCluster f)) → ⊥
   no_named None c f is bad = is
@@ -276,7 +270,7 @@ module _ (files : Files) (words : List Bytes) where
 
   -- what can be done has no fault in its events
   doable : (is : IsReplayable (Some files) words) (l : ℕ) (c : EventsCause) → HasBadEvents (Some files) words l c → ⊥
-  doable is l c (s, d, w, has, still, bad) =
+  doable is l c (s, d, w, has, bad) =
       let same = same_workload is.task s is.cluster d is.workload w is.asks has in
       let P : Task × (Cluster × Workload) → Type 0 = λ q. IsSomeAnd (events_word q.0) (λ name. HasFile (Some files) name (AreBadEvents q.1.0 q.1.1 l c)) in
       let all : (s, (d, w)) ≡ (is.task, (is.cluster, is.workload)) = λ i. (sym same.0 i, (sym same.1 i, sym same.2 i)) in
@@ -285,7 +279,7 @@ module _ (files : Files) (words : List Bytes) where
 
   -- two faults of the events are one
   same_fault : (l m : ℕ) (c d : EventsCause) → HasBadEvents (Some files) words l c → HasBadEvents (Some files) words m d → BadEvents l c ≡ BadEvents m d
-  same_fault l m c d (t, a, v, has, still, bad) (s, b, w, also, quiet, too) =
+  same_fault l m c d (t, a, v, has, bad) (s, b, w, also, too) =
       let same = same_workload t s a b v w has also in
       let P : Task × (Cluster × Workload) → Type 0 = λ q. IsSomeAnd (events_word q.0) (λ name. HasFile (Some files) name (AreBadEvents q.1.0 q.1.1 m d)) in
       let all : (s, (b, w)) ≡ (t, (a, v)) = λ i. (sym same.0 i, (sym same.1 i, sym same.2 i)) in
@@ -303,46 +297,40 @@ module _ (files : Files) (words : List Bytes) where
   before : (s t : Status) → IsDue (Some files) words s → IsDue (Some files) words t → s ≡ t
   before Done Done is also = refl
   before Done BadWords is none = absurd (formed is.task is.asks.asks none)
-  before Done NotBuilt is not = absurd (built is.task is.cluster is.workload is.asks is.still not)
+  before Done NotBuilt is not = absurd (no_threads words is.task is.asks.asks not)
   before Done (BadCluster f) is bad = absurd (sound_cluster is.task is.cluster f (on is.task is.cluster is.workload is.asks) bad)
   before Done (BadWorkload l why) is bad = absurd (sound_workload is.task is.cluster is.workload l why is.asks bad)
   before Done (BadEvents l c) is bad = absurd (doable is l c bad)
   before BadWords BadWords none also = refl
-  before BadWords NotBuilt none (inl threads) = absurd (threaded threads none)
-  before BadWords NotBuilt none (inr (r, c, v, has, moves)) = absurd (formed r has.asks none)
+  before BadWords NotBuilt none threads = absurd (threaded threads none)
   before BadWords (BadCluster f) none (r, asks, bad) = absurd (formed r asks none)
   before BadWords (BadWorkload l why) none (r, c, asks, bad) = absurd (formed r asks.asks none)
-  before BadWords (BadEvents l c) none (r, d, v, has, still, bad) = absurd (formed r has.asks none)
+  before BadWords (BadEvents l c) none (r, d, v, has, bad) = absurd (formed r has.asks none)
   before NotBuilt NotBuilt not also = refl
-  before NotBuilt (BadCluster f) (inl threads) (r, asks, bad) = absurd (no_threads words r asks threads)
-  before NotBuilt (BadCluster f) (inr (r, c, v, has, moves)) bad = absurd (sound_cluster r c f (on r c v has) bad)
-  before NotBuilt (BadWorkload l why) (inl threads) (r, c, asks, bad) = absurd (no_threads words r asks.asks threads)
-  before NotBuilt (BadWorkload l why) (inr (r, c, v, has, moves)) bad = absurd (sound_workload r c v l why has bad)
-  before NotBuilt (BadEvents l c) not (r, d, v, has, still, bad) = absurd (built r d v has still not)
+  before NotBuilt (BadCluster f) threads (r, asks, bad) = absurd (no_threads words r asks threads)
+  before NotBuilt (BadWorkload l why) threads (r, c, asks, bad) = absurd (no_threads words r asks.asks threads)
+  before NotBuilt (BadEvents l c) not (r, d, v, has, bad) = absurd (no_threads words r has.asks not)
   before (BadCluster f) (BadCluster g) bad also = ap BadCluster (same_cluster_fault f g bad also)
   before (BadCluster f) (BadWorkload l why) bad (r, c, asks, worse) = absurd (sound_cluster r c f asks bad)
-  before (BadCluster f) (BadEvents l c) bad (r, d, v, has, still, worse) = absurd (sound_cluster r d f (on r d v has) bad)
+  before (BadCluster f) (BadEvents l c) bad (r, d, v, has, worse) = absurd (sound_cluster r d f (on r d v has) bad)
   before (BadWorkload l why) (BadWorkload m how) bad also = same_workload_fault l m why how bad also
-  before (BadWorkload l why) (BadEvents m c) bad (r, d, v, has, still, worse) = absurd (sound_workload r d v l why has bad)
+  before (BadWorkload l why) (BadEvents m c) bad (r, d, v, has, worse) = absurd (sound_workload r d v l why has bad)
   before (BadEvents l c) (BadEvents m d) bad also = same_fault l m c d bad also
   before BadWords Done none is = absurd (formed is.task is.asks.asks none)
-  before NotBuilt Done not is = absurd (built is.task is.cluster is.workload is.asks is.still not)
-  before NotBuilt BadWords (inl threads) none = absurd (threaded threads none)
-  before NotBuilt BadWords (inr (r, c, v, has, moves)) none = absurd (formed r has.asks none)
+  before NotBuilt Done not is = absurd (no_threads words is.task is.asks.asks not)
+  before NotBuilt BadWords threads none = absurd (threaded threads none)
   before (BadCluster f) Done bad is = absurd (sound_cluster is.task is.cluster f (on is.task is.cluster is.workload is.asks) bad)
   before (BadCluster f) BadWords (r, asks, bad) none = absurd (formed r asks none)
-  before (BadCluster f) NotBuilt (r, asks, bad) (inl threads) = absurd (no_threads words r asks threads)
-  before (BadCluster f) NotBuilt bad (inr (r, c, v, has, moves)) = absurd (sound_cluster r c f (on r c v has) bad)
+  before (BadCluster f) NotBuilt (r, asks, bad) threads = absurd (no_threads words r asks threads)
   before (BadWorkload l why) Done bad is = absurd (sound_workload is.task is.cluster is.workload l why is.asks bad)
   before (BadWorkload l why) BadWords (r, c, asks, bad) none = absurd (formed r asks.asks none)
-  before (BadWorkload l why) NotBuilt (r, c, asks, bad) (inl threads) = absurd (no_threads words r asks.asks threads)
-  before (BadWorkload l why) NotBuilt bad (inr (r, c, v, has, moves)) = absurd (sound_workload r c v l why has bad)
+  before (BadWorkload l why) NotBuilt (r, c, asks, bad) threads = absurd (no_threads words r asks.asks threads)
   before (BadWorkload l why) (BadCluster f) (r, c, asks, worse) bad = absurd (sound_cluster r c f asks bad)
   before (BadEvents l c) Done bad is = absurd (doable is l c bad)
-  before (BadEvents l c) BadWords (r, d, v, has, still, bad) none = absurd (formed r has.asks none)
-  before (BadEvents l c) NotBuilt (r, d, v, has, still, bad) not = absurd (built r d v has still not)
-  before (BadEvents l c) (BadCluster f) (r, d, v, has, still, worse) bad = absurd (sound_cluster r d f (on r d v has) bad)
-  before (BadEvents m c) (BadWorkload l why) (r, d, v, has, still, worse) bad = absurd (sound_workload r d v l why has bad)
+  before (BadEvents l c) BadWords (r, d, v, has, bad) none = absurd (formed r has.asks none)
+  before (BadEvents l c) NotBuilt (r, d, v, has, bad) not = absurd (no_threads words r has.asks not)
+  before (BadEvents l c) (BadCluster f) (r, d, v, has, worse) bad = absurd (sound_cluster r d f (on r d v has) bad)
+  before (BadEvents m c) (BadWorkload l why) (r, d, v, has, worse) bad = absurd (sound_workload r d v l why has bad)
   before NoMemory t none is = absurd none
   before (CannotRead word) t none is = absurd none
   before CannotWrite t none is = absurd none
@@ -365,7 +353,7 @@ missed_file before now (Some name) (file, is) = is.rose
 could_not : (words : List Bytes) (before now : FolderView) (word : ℕ) → CouldNotRead words before now word → Rose before.faults now.faults
 could_not words before now word (inl (is, task, asks, missed)) = missed_file before now (cluster_word task) missed
 could_not words before now word (inr (inl (is, task, cluster, asks, missed))) = missed_rose before now (workload_word task) missed
-could_not words before now word (inr (inr (is, task, cluster, workload, asks, still, missed))) = missed_rose before now (events_word task) missed
+could_not words before now word (inr (inr (is, task, cluster, workload, asks, missed))) = missed_rose before now (events_word task) missed
 
 -- a status that is no fault of a device is the one that is due
 module _ (words : List Bytes) (before now : FolderView) where
@@ -373,7 +361,7 @@ module _ (words : List Bytes) (before now : FolderView) where
   due_of None is status due some is_due still refused = cc
   due_of (Some files) is NoMemory due some is_due still refused = inr refl
   due_of (Some files) is BadWords due some is_due still refused = inl (one_due files words BadWords due refused is_due)
-  due_of (Some files) is NotBuilt due some is_due still refused = inl (one_due files words NotBuilt due (subst (λ told. IsNotBuilt told words) (sym is) refused) is_due)
+  due_of (Some files) is NotBuilt due some is_due still refused = inl (one_due files words NotBuilt due refused is_due)
   due_of (Some files) is (BadCluster f) due some is_due still refused = inl (one_due files words (BadCluster f) due (subst (λ told. HasBadCluster told words f) (sym is) refused) is_due)
   due_of (Some files) is (BadWorkload l why) due some is_due still refused = inl (one_due files words (BadWorkload l why) due (subst (λ told. HasBadWorkload told words l why) (sym is) refused) is_due)
   due_of (Some files) is (BadEvents l why) due some is_due still refused = inl (one_due files words (BadEvents l why) due (subst (λ told. HasBadEvents told words l why) (sym is) refused) is_due)

@@ -17,7 +17,7 @@ use Rattle.detock.specs.declared.status.EventsCause.{EventsCause}
 use Rattle.detock.specs.declared.status.EventsCause.TheVariants.{TooLong, Form, Rule}
 use Rattle.detock.specs.Tasks.{Task, Replay, IsClusterFile}
 use Rattle.detock.specs.Loading.{HasFile, HasCluster, HoldWorkload, HoldEvents, unnumbered}
-use Rattle.detock.specs.Headline.{HasMove, AreDone}
+use Rattle.detock.specs.Headline.{AreDone}
 use Rattle.detock.specs.Causes.{AsksBuilt, AsksOn, AsksWith, AreBadWorkload, AreBadEvents, WasMissed, IsReplayable}
 use Rattle.detock.specs.RefusalCode.{IsFileRefusal, IsClusterRefusal, IsWorkloadRefusal, IsEventsRefusal, IsStepRefusal, IsRefusal, AreMalformed}
 
@@ -70,25 +70,25 @@ module _ (words : List Bytes) (before : FolderView) (cluster_name name events_na
       malformed line (Rule n) bytes is = absurd is
 
       -- the events' file was refused
-      pub no_events : (loaded now : FolderView) (status : Status) → ¬ HasMove workload → Follows before loaded → IsEventsRefusal events_name loaded now status → IsRefusal words before now status
-      no_events loaded now NoMemory still follows is = tt
-      no_events loaded now (BadEvents line cause) still follows is =
+      pub no_events : (loaded now : FolderView) (status : Status) → Follows before loaded → IsEventsRefusal events_name loaded now status → IsRefusal words before now status
+      no_events loaded now NoMemory follows is = tt
+      no_events loaded now (BadEvents line cause) follows is =
           let here : HasFile before.told events_name (AreMalformed line cause) = subst (λ told. HasFile told events_name (AreMalformed line cause)) follows.told is in
-          (task, cluster, workload, with, still, file_more before.told events_name (AreMalformed line cause) (AreBadEvents cluster workload line cause) (malformed line cause) here)
-      no_events loaded now (CannotRead word) still follows (four, missed) =
-          inr (inr (four, task, cluster, workload, with, still, missed_later before loaded now events_name follows missed))
-      no_events loaded now status still follows is = absurd is
+          (task, cluster, workload, with, file_more before.told events_name (AreMalformed line cause) (AreBadEvents cluster workload line cause) (malformed line cause) here)
+      no_events loaded now (CannotRead word) follows (four, missed) =
+          inr (inr (four, task, cluster, workload, with, missed_later before loaded now events_name follows missed))
+      no_events loaded now status follows is = absurd is
 
       module _ (events : List (ℕ × Event)) (all : HasFile before.told events_name (HoldEvents events)) where
         -- an event was refused
-        pub not_legal : (now : FolderView) (status : Status) → ¬ HasMove workload → IsStepRefusal cluster workload events status → IsRefusal words before now status
-        not_legal now NoMemory still is = tt
-        not_legal now (BadEvents line TooLong) still is = absurd is
-        not_legal now (BadEvents line Form) still is = absurd is
-        not_legal now (BadEvents line (Rule n)) still is =
+        pub not_legal : (now : FolderView) (status : Status) → IsStepRefusal cluster workload events status → IsRefusal words before now status
+        not_legal now NoMemory is = tt
+        not_legal now (BadEvents line TooLong) is = absurd is
+        not_legal now (BadEvents line Form) is = absurd is
+        not_legal now (BadEvents line (Rule n)) is =
             let bad = file_more before.told events_name (HoldEvents events) (AreBadEvents cluster workload line (Rule n)) (λ bytes are. (events, are, is)) all in
-            (task, cluster, workload, with, still, bad)
-        not_legal now status still is = absurd is
+            (task, cluster, workload, with, bad)
+        not_legal now status is = absurd is
 
         -- the events are legal, so all regions agree on them
         pub headline : (Written : Bytes → Type 0) → IsValidCluster cluster → IsValidWorkload cluster workload → AreLegal cluster workload (unnumbered events)
@@ -115,18 +115,17 @@ module _ (words : List Bytes) (before : FolderView) (cluster_name name events_na
         headline_made (Err e) valid fits legal written = tt
 
         -- what was reported can be replayed
-        pub possible : {T E : Type 0} (r : Result T E) → ¬ HasMove workload → IfOk r (λ _. AreLegal cluster workload (unnumbered events)) → IfOk r (λ _. IsReplayable before.told words)
-        possible (Ok text) still legal = record {
+        pub possible : {T E : Type 0} (r : Result T E) → IfOk r (λ _. AreLegal cluster workload (unnumbered events)) → IfOk r (λ _. IsReplayable before.told words)
+        possible (Ok text) legal = record {
           task = task;
           cluster = cluster;
           workload = workload;
           asks = with;
-          still = still;
           events = events;
           events_file = all;
           legal = legal;
         }
-        possible (Err e) still legal = tt
+        possible (Err e) legal = tt
 
 -- an error that a `?` hands on as it is
 pub passed_on : {T U : Type 0} (r : Result T Status) (s : Result U Status) (field made status : Status) → r ≡ Err field → s ≡ Err made → made ≡ field → s ≡ Err status → r ≡ Err status

@@ -15,7 +15,7 @@ use Rattle.detock.specs.declared.status.Status.TheVariants.{Done, NoMemory, BadW
 use Rattle.detock.specs.declared.status.EventsCause.{EventsCause}
 use Rattle.detock.specs.Tasks.{AreAForm, NeedsThreads}
 use Rattle.detock.specs.Headline.{AreDone}
-use Rattle.detock.specs.Causes.{CouldNotRead, HasBadCluster, HasBadEvents, HasBadWorkload, IsDue, IsNotBuilt}
+use Rattle.detock.specs.Causes.{CouldNotRead, HasBadCluster, HasBadEvents, HasBadWorkload, IsDue}
 use Rattle.detock.specs.Statuses.{fault_line}
 
 module _ {F O : Type 0} (words : List Bytes) (seen : F → FolderView) (files files_after : F) (shown : O → SinkView) (out out_after : O) where
@@ -26,7 +26,7 @@ module _ {F O : Type 0} (words : List Bytes) (seen : F → FolderView) (files fi
     -- Each refusal comes only by its cause, tried in this order.
     pub bad_words : status ≡ BadWords → ¬ AreAForm words
     pub unread : status ≡ BadWords → files_after ≡ files
-    pub not_built : status ≡ NotBuilt → IsNotBuilt (seen files).told words
+    pub not_built : status ≡ NotBuilt → NeedsThreads words
     pub bad_cluster : (fault : ClusterFault) → status ≡ BadCluster fault → HasBadCluster (seen files).told words fault
     pub bad_workload : (line : ℕ) (cause : WorkloadCause) → status ≡ BadWorkload line cause → HasBadWorkload (seen files).told words line cause
     pub cannot_read : (word : ℕ) → status ≡ CannotRead word → CouldNotRead words (seen files) (seen files_after) word

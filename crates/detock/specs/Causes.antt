@@ -27,7 +27,6 @@ use Rattle.detock.specs.declared.status.EventsCause.{EventsCause}
 use Rattle.detock.specs.declared.status.EventsCause.TheVariants.{TooLong, Form, Rule}
 use Rattle.detock.specs.Tasks.{Task, Asks, AreAForm, IsClusterFile, IsThreaded, NeedsThreads, cluster_word, workload_word, events_word}
 use Rattle.detock.specs.Loading.{HasFile, HoldEvents, NamesThis, Loaded, HasEvents, file_limit, unnumbered}
-use Rattle.detock.specs.Headline.{HasMove}
 
 -- the words ask for a task that is built
 pub record AsksBuilt (words : List Bytes) (task : Task) : Type 0 where
@@ -43,12 +42,6 @@ pub record AsksOn (told : Option Files) (words : List Bytes) (task : Task) (clus
 pub record AsksWith (told : Option Files) (words : List Bytes) (task : Task) (cluster : Cluster) (workload : Workload) : Type 0 where
   pub asks : AsksBuilt words task
   pub loaded : Loaded told task cluster workload
-
--- what is asked for is not built yet: a task that is done by threads, or one whose workload moves something
-abbrev pub IsNotBuilt : Option Files → List Bytes → Type 0
-IsNotBuilt told words =
-    NeedsThreads words
-    ⊎ ((task : Task) × (cluster : Cluster) × (workload : Workload) × AsksWith told words task cluster workload × HasMove workload)
 
 -- what is wrong with the bytes of a cluster's file: they are too long, or they are no cluster, and this is their first fault
 abbrev pub AreBadCluster : ClusterFault → Bytes → Type 0
@@ -93,11 +86,11 @@ AreBadEvents cluster workload line Form bytes = (length bytes ≤ file_limit) ×
 AreBadEvents cluster workload line (Rule n) bytes =
     (events : List (ℕ × Event)) × HoldEvents events bytes × IsFirstIllegal cluster workload events line n
 
--- the task has its cluster and a workload without moves, and its events' file has this fault
+-- the task has its cluster and its workload, and its events' file has this fault
 abbrev pub HasBadEvents : Option Files → List Bytes → ℕ → EventsCause → Type 0
 HasBadEvents told words line cause =
     (task : Task) × (cluster : Cluster) × (workload : Workload) × AsksWith told words task cluster workload
-    × (¬ HasMove workload) × IsSomeAnd (events_word task) (λ name. HasFile told name (AreBadEvents cluster workload line cause))
+    × IsSomeAnd (events_word task) (λ name. HasFile told name (AreBadEvents cluster workload line cause))
 
 -- a load failed in this call, and the newest one that did is that of this name, where the folder tells it
 pub record WasMissed (before now : FolderView) (name : Bytes) : Type 0 where
@@ -105,7 +98,7 @@ pub record WasMissed (before now : FolderView) (name : Bytes) : Type 0 where
   pub newest : MissedLast now name
 
 -- a load failed in this call, and it was that of word 2, of a task whose word for a cluster names a file; or that of word 3, of
--- a task that has its cluster; or that of word 4, of one that has its cluster and a workload without moves
+-- a task that has its cluster; or that of word 4, of one that has its cluster and its workload
 abbrev pub CouldNotRead : List Bytes → FolderView → FolderView → ℕ → Type 0
 CouldNotRead words before now word =
     ((word ≡ 2) × (task : Task) × AsksBuilt words task
@@ -113,15 +106,14 @@ CouldNotRead words before now word =
     ⊎ ((word ≡ 3) × (task : Task) × (cluster : Cluster) × AsksOn before.told words task cluster
     × IsSomeAnd (workload_word task) (WasMissed before now))
     ⊎ ((word ≡ 4) × (task : Task) × (cluster : Cluster) × (workload : Workload) × AsksWith before.told words task cluster workload
-    × (¬ HasMove workload) × IsSomeAnd (events_word task) (WasMissed before now))
+    × IsSomeAnd (events_word task) (WasMissed before now))
 
--- a replay that can be done: all files are what they are to be, nothing is moved, and the events are legal
+-- a replay that can be done: all files are what they are to be, and the events are legal
 pub record IsReplayable (told : Option Files) (words : List Bytes) : Type 0 where
   pub task : Task
   pub cluster : Cluster
   pub workload : Workload
   pub asks : AsksWith told words task cluster workload
-  pub still : ¬ HasMove workload
   pub events : List (ℕ × Event)
   pub events_file : HasEvents told task events
   pub legal : AreLegal cluster workload (unnumbered events)
@@ -130,7 +122,7 @@ pub record IsReplayable (told : Option Files) (words : List Bytes) : Type 0 wher
 abbrev pub IsDue : Option Files → List Bytes → Status → Type 0
 IsDue told words Done = IsReplayable told words
 IsDue told words BadWords = ¬ AreAForm words
-IsDue told words NotBuilt = IsNotBuilt told words
+IsDue told words NotBuilt = NeedsThreads words
 IsDue told words (BadCluster fault) = HasBadCluster told words fault
 IsDue told words (BadWorkload line cause) = HasBadWorkload told words line cause
 IsDue told words (BadEvents line cause) = HasBadEvents told words line cause

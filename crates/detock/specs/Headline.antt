@@ -3,15 +3,12 @@
 -- It is put together of what was asked and loaded (Loading), and of what is reported: events that are legal, on which all
 -- regions agree, and the bytes of their report. Read next: Causes, for what is answered instead; then Answers, for all
 -- that a call promises.
-use Rattle.std.specs.Prelude.{◌≡◌, ℕ, List, Option, Bool, true, false, IsTrue}
-use Rattle.std.specs.List.{list_any}
+use Rattle.std.specs.Prelude.{◌≡◌, ℕ, List, Option}
 use Rattle.dt_access.specs.Clash.{Bytes}
 use Rattle.dt_outside.specs.Folder.{Files}
 use Rattle.dt_events.specs.declared.Event.{Event}
 use Rattle.dt_cluster.specs.declared.Cluster.{Cluster}
 use Rattle.dt_workload.specs.declared.Workload.{Workload}
-use Rattle.dt_workload.specs.declared.Wanted.{Wanted}
-use Rattle.dt_workload.specs.declared.workload.Wanted.TheVariants.{Call, Move}
 use Rattle.dt_session.specs.Run.{AreLegal}
 use Rattle.dt_session.specs.Agreement.{Agree}
 use Rattle.dt_report.specs.Report.{report_text}
@@ -59,16 +56,3 @@ IsDone told (Big size) Written = ⊥
 -- the words ask for a task, and it is done
 abbrev pub AreDone : Option Files → List Bytes → (Bytes → Type 0) → Type 0
 AreDone told words Written = (task : Task) × Asks words task × IsDone told task Written
-
--- whether it is a move
-abbrev pub is_move : Wanted → Bool
-is_move (Call proc args) = false
-is_move (Move key target) = true
-
--- whether a session of the workload wants a move
-abbrev pub moves : Workload → Bool
-moves workload = list_any (λ s. list_any is_move s.calls) workload.sessions
-
--- a session of the workload wants a move
-abbrev pub HasMove : Workload → Type 0
-HasMove workload = IsTrue (moves workload)

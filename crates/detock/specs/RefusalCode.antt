@@ -16,9 +16,9 @@ use Rattle.detock.specs.declared.status.EventsCause.TheVariants.{TooLong, Form, 
 use Rattle.dt_world.specs.declared.StepError.{StepError}
 use Rattle.dt_world.specs.declared.StepError.TheVariants.{Illegal}
 use Rattle.dt_world.specs.declared.StepError.TheVariants as step
-use Rattle.detock.specs.Tasks.{IsClusterFile, AreAForm}
+use Rattle.detock.specs.Tasks.{IsClusterFile, AreAForm, NeedsThreads}
 use Rattle.detock.specs.Loading.{HasFile, file_limit}
-use Rattle.detock.specs.Causes.{AreBadCluster, AreBadWorkload, IsFirstIllegal, IsNotBuilt, HasBadCluster, HasBadWorkload, HasBadEvents, CouldNotRead, WasMissed}
+use Rattle.detock.specs.Causes.{AreBadCluster, AreBadWorkload, IsFirstIllegal, HasBadCluster, HasBadWorkload, HasBadEvents, CouldNotRead, WasMissed}
 
 -- why a cluster's file was refused, by what is seen of the folder before its loading and now
 abbrev pub IsFileRefusal : Bytes → FolderView → FolderView → Status → Type 0
@@ -69,7 +69,7 @@ refusal_of line (step.NoMemory) = NoMemory
 abbrev pub IsRefusal : List Bytes → FolderView → FolderView → Status → Type 0
 IsRefusal words before now NoMemory = Unit {0}
 IsRefusal words before now BadWords = ¬ AreAForm words
-IsRefusal words before now NotBuilt = IsNotBuilt before.told words
+IsRefusal words before now NotBuilt = NeedsThreads words
 IsRefusal words before now (BadCluster fault) = HasBadCluster before.told words fault
 IsRefusal words before now (BadWorkload line cause) = HasBadWorkload before.told words line cause
 IsRefusal words before now (BadEvents line cause) = HasBadEvents before.told words line cause

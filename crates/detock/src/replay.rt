@@ -1,5 +1,4 @@
 ghost use Rattle.std.specs.Prelude.{◌≡◌, ◌≤◌, length, map, IfOk};
-ghost use Rattle.std.specs.List.{list_any};
 ghost use Rattle.dt_cluster.specs.Valid.{IsValidCluster};
 ghost use Rattle.dt_workload.specs.Valid.{IsValidWorkload};
 ghost use Rattle.dt_session.specs.Run.{AreLegal, world_after};
@@ -7,7 +6,7 @@ ghost use Rattle.dt_report.specs.Report.{report_text};
 ghost use Rattle.dt_world.specs.WorldReport.{report_of};
 ghost use Rattle.detock.specs.Tasks.{NeedsThreads, word_bytes};
 ghost use Rattle.detock.specs.Loading.{file_limit, unnumbered};
-ghost use Rattle.detock.specs.Headline.{AreDone, is_move, moves};
+ghost use Rattle.detock.specs.Headline.{AreDone};
 ghost use Rattle.detock.specs.Causes.{IsReplayable};
 ghost use Rattle.detock.specs.RefusalCode.{IsRefusal, IsStepRefusal, refusal_of};
 
@@ -20,7 +19,7 @@ use dt_outside::Folder;
 use dt_plain::PlainSched;
 use dt_report::print;
 use dt_text::NoMemory;
-use dt_workload::{Session, Wanted, Workload};
+use dt_workload::Workload;
 use dt_world::{StepError, World};
 use std::alloc::Global;
 
@@ -40,31 +39,8 @@ pub fn report<F: Folder>(alloc: Global, words: &[String], files: &mut F) -> Resu
     };
     let cluster = load_cluster(alloc, files, replay.cluster)?;
     let workload = load_workload(alloc, files, replay.workload, &cluster)?;
-    if has_move(&workload) {
-        return Err(Status::NotBuilt);
-    }
     let events = load_events(alloc, files, replay.events)?;
     report_of(alloc, &cluster, &workload, events)
-}
-
-/// Whether a session of the workload wants a move, which is not built yet.
-fn has_move(workload: &Workload) -> bool
-    ensures { result ≡ moves workload.now }
-{
-    workload.sessions.as_slice().iter().any(wants_move)
-}
-
-/// Whether one of the calls of a session is a move.
-fn wants_move(session: &Session) -> bool
-    ensures { result ≡ list_any is_move session.now.calls }
-{
-    session.calls.as_slice().iter().any(is_move)
-}
-
-fn is_move(call: &Wanted) -> bool
-    ensures { result ≡ is_move call.now }
-{
-    matches!(call, Wanted::Move(_, _))
 }
 
 /// The text of the report of these events, if each is legal after those before it.

@@ -11,7 +11,7 @@ use std::alloc::Global;
 use std::sync::Wait;
 use std::thread::Threads;
 
-/// Does what the words of the command line ask for: so far `replay`, of workloads without moves.
+/// Does what the words of the command line ask for: so far `replay`.
 ///
 /// The cluster's file is loaded and read, then the workload's, then that of the events, all of whose lines are read before any
 /// event is tried; then each event is tried in order; the report is made whole in memory, and then written to `out`. Each status

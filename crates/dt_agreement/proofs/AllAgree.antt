@@ -33,7 +33,7 @@ use Rattle.dt_cluster.specs.declared.Cluster.{Cluster}
 use Rattle.dt_workload.specs.declared.Session.{Session}
 use Rattle.dt_workload.specs.declared.Workload.{Workload}
 use Rattle.dt_session.specs.World.{World, Place, opening_table, node_at, logs_of, log_of, received_of, received_logs, view_at, txn_of, attempt_of, outcome_in, outcome_at, session_at}
-use Rattle.dt_session.specs.Step.{IsLast, MayEnd, MayAnswer, upcoming_id}
+use Rattle.dt_session.specs.Step.{IsLast, MayEnd, MayAnswer, awaited_at, upcoming_id}
 use Rattle.dt_session.specs.Run.{world_after, AreLegalFrom, executed_id, order_of, txns_of, serial_outcomes, ids_before}
 use Rattle.dt_session.specs.Agreement.{WaitsFor, IsAwaited, HasCause, ReceivedAlike, Agree}
 use Rattle.dt_agreement.specs.LegalRun.{IsLegalRun}
@@ -250,7 +250,7 @@ module _ {cluster : Cluster} {workload : Workload} {events : List Event} (run : 
 -- an id that is awaited where its session may be answered was executed there
 pub answered_done : (cluster : Cluster) (w : World) (region : ℕ) (o : Option (Session × Place)) (a : TxnId) → MayAnswer cluster w region o → WaitsFor o a → IsExecutedAt w region a
 answered_done cluster w region None a m f = absurd m
-answered_done cluster w region (Some (session, place)) a m f = go (outcome_at w region a) refl (subst (MayEnd cluster w region) f m)
+answered_done cluster w region (Some (session, place)) a m f = go (outcome_at w region a) refl (subst (λ waits. MayEnd cluster.tries (awaited_at w region waits)) f m)
   where
     go : (o : Option Outcome) → outcome_at w region a ≡ o → IsLast cluster.tries (attempt_of w a) o → IsExecutedAt w region a
     go None e l = absurd l

@@ -27,7 +27,7 @@ use Rattle.dt_cluster.specs.declared.Cluster.{Cluster}
 use Rattle.dt_workload.specs.Valid.{IsValidWorkload}
 use Rattle.dt_workload.specs.declared.Session.{Session}
 use Rattle.dt_workload.specs.declared.Workload.{Workload}
-use Rattle.dt_session.specs.World.{World, Place, Submission, node_at, asked_of, taken_of, log_of, logs_of, received_of, received_logs, submissions, txn_of, session_at}
+use Rattle.dt_session.specs.World.{World, Place, Submission, node_at, asked_of, taken_of, log_of, logs_of, received_of, received_logs, submission_of, submissions, txn_of, session_at}
 use Rattle.dt_session.specs.Step.{IsLegal, MaySubmit, placed, next}
 use Rattle.dt_session.specs.Run.{world_after, AreLegal, order_of}
 use Rattle.dt_session.specs.Agreement.{Agree}
@@ -75,6 +75,11 @@ module _ (cluster : Cluster) (ok : IsValidCluster cluster) (workload : Workload)
   pub next_txns : (w : World) (order : List TxnId) (event : Event) → IsLegal cluster workload w event → Inv cluster workload w order
       → (id : TxnId) (txn : Txn) → txn_of w id ≡ Some txn → txn_of (next cluster workload w event) id ≡ Some txn
   next_txns = later.next_txns ok fits
+
+  -- and the attempts of ids
+  pub next_found : (w : World) (order : List TxnId) (event : Event) → IsLegal cluster workload w event → Inv cluster workload w order
+      → (id : TxnId) (s : Submission) → submission_of w id ≡ Some s → submission_of (next cluster workload w event) id ≡ Some s
+  next_found = later.next_found ok fits
 
 -- what events do in a world that keeps the invariant
 

@@ -13,7 +13,7 @@ use Rattle.dt_cluster.specs.declared.Cluster.{Cluster}
 use Rattle.dt_workload.specs.declared.Session.{Session}
 use Rattle.dt_workload.specs.declared.Workload.{Workload}
 use Rattle.dt_session.specs.World.{World, Place, Submission, submission_of, session_at}
-use Rattle.dt_session.specs.Step.{MayAnswer, MayEnd}
+use Rattle.dt_session.specs.Step.{MayAnswer, MayEnd, awaited_at}
 use Rattle.dt_session.specs.Run.{world_after, AreLegalFrom, order_of, serial_outcomes, serial_outcome}
 use Rattle.dt_agreement.specs.LegalRun.{IsLegalRun}
 use Rattle.dt_agreement.specs.Invariant.{IsExecutedAt, IsPlaceOf, Inv}
@@ -49,7 +49,7 @@ answerable : (cluster : Cluster) (workload : Workload) (w : World) (region : ℕ
 answerable cluster workload w region name may = go (session_at workload.sessions w.places region name) refl may
   where
     of_waiting : (session : Session) (place : Place) (waits : Option TxnId) → session_at workload.sessions w.places region name ≡ Some (session, place)
-        → place.waits ≡ waits → MayEnd cluster w region waits → IsAnswerable workload w region name
+        → place.waits ≡ waits → MayEnd cluster.tries (awaited_at w region waits) → IsAnswerable workload w region name
     of_waiting session place None e f m = absurd m
     of_waiting session place (Some id) e f m = record { session = session; place = place; id = id; found = e; waits = f }
 

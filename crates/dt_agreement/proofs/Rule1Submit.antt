@@ -24,7 +24,7 @@ use Rattle.dt_workload.specs.declared.Workload.{Workload}
 use Rattle.dt_workload.specs.Valid.{WantedFits, IsValidSession, IsValidWorkload}
 use Rattle.dt_session.specs.World.{World, Node, Place, Submission, no_node, node_at, asked_of, taken_of, log_of, logs_of, submissions, submission_of, attempt_of, txn_of, session_at}
 use Rattle.dt_txn.specs.Asking.{ask}
-use Rattle.dt_session.specs.Step.{MayTry, MaySubmit, body_of, upcoming_id, next_attempt, attempt_for, node_submitted, world_submitted, called, submitted}
+use Rattle.dt_session.specs.Step.{MayTry, MaySubmit, awaited_at, body_of, upcoming_id, next_attempt, attempt_for, node_submitted, world_submitted, called, submitted}
 use Rattle.dt_session.specs.Run.{txns_of}
 use Rattle.dt_agreement.specs.Invariant.{IsSized, AreNumbered, has_home, requests, given_by, attempts_by, IsSubmissionOf, IsWaiting, IsPlaced, IsPlaceOf, SessionsMatch, Inv}
 use Rattle.dt_agreement.proofs.InvariantParts.{Sized, Numbered, Valid, Asked, Logs, parts_kept, lengths_kept, view_kept, sound_kept, tables_kept, ordered_kept}
@@ -67,13 +67,13 @@ module _ {cluster : Cluster} {workload : Workload} {w : World} {order : List Txn
       subst (λ x. submission_of w x ≡ Some p.submission) p.same (submission_is_found cluster.regions w i.nodes i.ids p.submission (from_region w region p.submission p.there))
 
   may_go_on : IsValidCluster cluster → (region : ℕ) (session : Session) (place : Place)
-      → MayTry cluster w region session place.answered place.waits → IsPlaceOf cluster.tries w session place → MayGoOn cluster w session place
+      → MayTry cluster.tries (length session.calls) place.answered (awaited_at w region place.waits) → IsPlaceOf cluster.tries w session place → MayGoOn cluster w session place
   may_go_on valid region session place may p = go place.waits may p.placed
     where
       tries : 1 ≤ cluster.tries
       tries = valid.tries
 
-      go : (waits : Option TxnId) → MayTry cluster w region session place.answered waits → IsPlaced cluster.tries (node_at w session.region).submitted session place.answered waits
+      go : (waits : Option TxnId) → MayTry cluster.tries (length session.calls) place.answered (awaited_at w region waits) → IsPlaced cluster.tries (node_at w session.region).submitted session place.answered waits
           → MayGoOn cluster w session (record { answered = place.answered; waits = waits })
       go None m q = record { call = m; from = omega arith; to = tries; attempts = omega (arith, q) }
       go (Some id) m q =

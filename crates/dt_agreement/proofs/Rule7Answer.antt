@@ -9,17 +9,17 @@ use Rattle.dt_workload.specs.declared.Workload.{Workload}
 use Rattle.dt_workload.specs.declared.Session.{Session}
 use Rattle.dt_workload.specs.Valid.{IsValidWorkload}
 use Rattle.dt_session.specs.World.{World, Place, node_at, session_at}
-use Rattle.dt_session.specs.Step.{MayAnswer, MayEnd, answered}
+use Rattle.dt_session.specs.Step.{MayAnswer, MayEnd, answered, awaited_at}
 use Rattle.dt_agreement.specs.Invariant.{IsPlaced, IsPlaceOf, Inv}
 use Rattle.dt_agreement.proofs.InvariantParts.{logs_kept, lengths_kept, ordered_kept}
 use Rattle.dt_agreement.proofs.Sessions.{session_found, place_changed}
 
 -- a session that is answered has not more answered calls than calls, and made not too many attempts
-placed_answered : (tries : ℕ) (cluster : Cluster) (w : World) (region : ℕ) (session : Session) (place : Place) → MayEnd cluster w region place.waits
+placed_answered : (tries : ℕ) (cluster : Cluster) (w : World) (region : ℕ) (session : Session) (place : Place) → MayEnd cluster.tries (awaited_at w region place.waits)
     → IsPlaceOf tries w session place → IsPlaceOf tries w session (record { answered = place.answered + 1; waits = None })
 placed_answered tries cluster w region session place may p = go place.waits may p.placed
   where
-    go : (waits : Option TxnId) → MayEnd cluster w region waits → IsPlaced tries (node_at w session.region).submitted session place.answered waits
+    go : (waits : Option TxnId) → MayEnd cluster.tries (awaited_at w region waits) → IsPlaced tries (node_at w session.region).submitted session place.answered waits
         → IsPlaceOf tries w session (record { answered = place.answered + 1; waits = None })
     go None m q = absurd m
     go (Some id) m q =

@@ -1,3 +1,4 @@
+pub mod Tries
 pub mod World
 pub mod Step
 pub mod Run
@@ -5,6 +6,8 @@ pub mod Agreement
 pub mod OneHome
 pub mod Eager
 pub mod Finished
+pub mod Sessions
+pub mod SessionsCode
 pub use Rattle.dt_txn.specs.Transaction
 pub use Rattle.dt_txn.specs.Execution
 pub use Rattle.dt_txn.specs.Staleness

@@ -1,58 +1,35 @@
 -- The seven rules. One learns here which event is legal in a world (`IsLegal`) and what each does (`next`): a session
 -- submits a call (1), a home places a part in its log (2), a log is delivered on (3), a region inserts a part (4), resolves
 -- a deadlocked group (5) and executes a transaction (6), and a session is answered (7). What a region does to its own state
--- stands in dt_txn's `Replica`, and here is only what rests on other regions and on sessions. Read `Run` next.
-use Rattle.std.specs.Prelude.{◌≡◌, ◌<◌, ◌≤◌, ◌+◌, ℕ, [], ◌∷◌, ◌++◌, length, set, slice_get, Option, Some, None, option_and_then, if◌then◌else◌, ◌&&◌, ◌==◌, nat_le, nat_lt}
+-- stands in dt_txn's `Replica`, when a session may try or be answered in `Tries`, and here is only what rests on other regions
+-- and on sessions. Read `Run` next.
+use Rattle.std.specs.Prelude.{◌<◌, ◌≤◌, ◌+◌, ℕ, [], ◌∷◌, ◌++◌, length, set, slice_get, Option, Some, None, option_map, option_and_then, if◌then◌else◌, ◌&&◌, ◌==◌, nat_le, nat_lt}
 use Rattle.dt_access.specs.declared.TxnId.{TxnId}
 use Rattle.dt_events.specs.declared.Event.{Event}
 use Rattle.dt_events.specs.declared.Event.TheVariants.{Submit, Append, Deliver, Insert, Resolve, Execute, Answer}
-use Rattle.dt_txn.specs.declared.Body.{Body}
-use Rattle.dt_txn.specs.declared.txn.Body.TheVariants.{Call, Move}
 use Rattle.dt_txn.specs.declared.Txn.{Txn}
-use Rattle.dt_txn.specs.declared.Outcome.{Outcome}
-use Rattle.dt_txn.specs.declared.outcome.Outcome.TheVariants.{Gave, Aborted, Stale}
 use Rattle.dt_txn.specs.Transaction.{part_of}
-use Rattle.dt_txn.specs.Staleness.{IsStaleOutcome}
 use Rattle.dt_txn.specs.Replica.{MayStep, next_id, submission_for, after_asking, after_taking, stepped}
 use Rattle.dt_cluster.specs.declared.Cluster.{Cluster}
 use Rattle.dt_workload.specs.declared.Workload.{Workload}
 use Rattle.dt_workload.specs.declared.Session.{Session}
 use Rattle.dt_workload.specs.declared.Wanted.{Wanted}
-use Rattle.dt_workload.specs.declared.Wanted.TheVariants as wanted
+pub use Rattle.dt_session.specs.Tries.{Awaited, IsLast, IsStale, MayEnd, MayTry, attempt_after, body_of}
 use Rattle.dt_session.specs.World.{World, Node, Place, Submission, node_at, with_node, asked_of, taken_of, log_of, received_of, received_logs, txn_of, attempt_of, outcome_at, session_at, with_place}
 
--- the outcome is there, and it is Stale
-abbrev pub IsStale : Option Outcome → Type 0
-IsStale None = ⊥
-IsStale (Some outcome) = IsStaleOutcome outcome
-
--- an attempt ends its call: its outcome is there, and it is not Stale or this was the last try
-abbrev pub IsLast : ℕ → ℕ → Option Outcome → Type 0
-IsLast tries attempt None = ⊥
-IsLast tries attempt (Some (Gave values)) = Unit {0}
-IsLast tries attempt (Some (Aborted cause)) = Unit {0}
-IsLast tries attempt (Some (Stale key had by)) = attempt ≡ tries
-
--- a session that waits for nothing may try its next call, if one is left; one that waits for an attempt may try again
--- where that is Stale at its region and was not the last try
-abbrev pub MayTry : Cluster → World → ℕ → Session → ℕ → Option TxnId → Type 0
-MayTry cluster w region session answered None = answered < length session.calls
-MayTry cluster w region session answered (Some id) = IsStale (outcome_at w region id) × (attempt_of w id < cluster.tries)
+-- the attempt that a session waits for, if it does, with its outcome at a region
+abbrev pub awaited_at : World → ℕ → Option TxnId → Option Awaited
+awaited_at w region waits = option_map (λ id. record { attempt = attempt_of w id; outcome = outcome_at w region id }) waits
 
 -- there is such a session, and it may submit
 abbrev pub MaySubmit : Cluster → World → ℕ → Option (Session × Place) → Type 0
 MaySubmit cluster w region None = ⊥
-MaySubmit cluster w region (Some (session, place)) = MayTry cluster w region session place.answered place.waits
-
--- a session may be answered where the attempt that it waits for ends its call at its region
-abbrev pub MayEnd : Cluster → World → ℕ → Option TxnId → Type 0
-MayEnd cluster w region None = ⊥
-MayEnd cluster w region (Some id) = IsLast cluster.tries (attempt_of w id) (outcome_at w region id)
+MaySubmit cluster w region (Some (session, place)) = MayTry cluster.tries (length session.calls) place.answered (awaited_at w region place.waits)
 
 -- there is such a session, and it may be answered
 abbrev pub MayAnswer : Cluster → World → ℕ → Option (Session × Place) → Type 0
 MayAnswer cluster w region None = ⊥
-MayAnswer cluster w region (Some (session, place)) = MayEnd cluster w region place.waits
+MayAnswer cluster w region (Some (session, place)) = MayEnd cluster.tries (awaited_at w region place.waits)
 
 -- the regions that an event names exist, in a cluster of so many
 abbrev pub RegionsExist : ℕ → Event → Type 0
@@ -94,15 +71,9 @@ rule_of (Resolve region ids) = 5
 rule_of (Execute region id) = 6
 rule_of (Answer region session) = 7
 
--- what a call or a move of a workload is to do
-abbrev pub body_of : Wanted → Body
-body_of (wanted.Call proc args) = Call proc args
-body_of (wanted.Move key target) = Move key target
-
 -- the number of the attempt that comes next: 1 for a new call, else one above that of the attempt that is waited for
 abbrev pub next_attempt : World → Option TxnId → ℕ
-next_attempt w None = 1
-next_attempt w (Some id) = attempt_of w id + 1
+next_attempt w waits = attempt_after (option_map (attempt_of w) waits)
 
 -- the id of a region's next submission
 abbrev pub upcoming_id : World → ℕ → TxnId

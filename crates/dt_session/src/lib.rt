@@ -1,5 +1,5 @@
-//! Worlds of regions and sessions: their states, their legal events, and what all regions agree on. There is no code here;
-//! `specs/` is the theory that the programs are proved against.
+//! Worlds of regions and sessions: their states, their legal events, and what all regions agree on. `specs/` is the theory that
+//! the programs are proved against. The only code is [`Sessions`], which keeps the sessions of one region.
 //!
 //! A cluster has some regions. Each keeps a log of its own and receives fronts of the logs of all others, and from what it
 //! received alone it decides what to execute, and in which order. A key has a home, the region whose log orders its uses;
@@ -30,7 +30,11 @@
 //! A key may be moved to another home by a transaction of its own. An attempt that was annotated before a move of one of
 //! its keys is then `Stale`: it does nothing, and its session may try again.
 //!
-//! Read next: `specs/World` (what a state is), `specs/Step` (the rules), `specs/Run` (lists of events and their serial
-//! order), `specs/Agreement` (what all regions agree on). `specs/OneHome`, `specs/Eager` and `specs/Finished` name kinds of
+//! Read next: `specs/World` (what a state is), `specs/Tries` (when a session may go on), `specs/Step` (the rules), `specs/Run` (lists of events and their serial
+//! order), `specs/Agreement` (what all regions agree on), `specs/Sessions` (the sessions of one region). `specs/OneHome`, `specs/Eager` and `specs/Finished` name kinds of
 //! workloads and of lists. What a region does by itself in rules 1, 2 and 4 to 6 is defined below, in `dt_txn`.
 #![tactic(auto)]
+
+mod sessions;
+
+pub use sessions::{Seat, Sessions, Waiting};

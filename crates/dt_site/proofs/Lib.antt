@@ -8,3 +8,4 @@ pub mod Rule3Deliver
 pub mod OwnSteps
 pub mod Rule7Answer
 pub mod Callers
+pub mod SessionsStand

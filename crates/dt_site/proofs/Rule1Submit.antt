@@ -1,15 +1,14 @@
 -- Rule 1: a session of the region submits its next call, or tries it again.
-use Rattle.std.proofs.Common.{◌≡◌, ◌≢◌, ◌<◌, ◌+◌, ℕ, List, [], ◌∷◌, ◌++◌, length, set, slice_get, Ok, Some, refl, sym, ap, ap₂, subst, ◌∙◌, inl, inr, append_assoc}
+use Rattle.std.specs.Prelude.{option_map, unwrap_or}
+use Rattle.std.proofs.Common.{◌≡◌, ◌<◌, ◌+◌, ℕ, List, [], ◌∷◌, ◌++◌, length, set, slice_get, Ok, Some, refl, sym, ap, ap₂, subst, ◌∙◌, inl, inr, append_assoc}
 use Rattle.std.proofs.lemmas.List.{length_push, get_or-set_same}
 use Rattle.dt_lists.specs.Lists.{Has}
 use Rattle.dt_lists.proofs.Callers.{has_last}
 use Rattle.dt_access.specs.Clash.{Bytes}
 use Rattle.dt_access.specs.declared.TxnId.{TxnId}
 use Rattle.dt_events.specs.declared.Event.TheVariants.{Submit}
-use Rattle.dt_proc.specs.Tree.{ProcTree}
-use Rattle.dt_txn.specs.declared.Body.{Body}
 use Rattle.dt_txn.specs.declared.Txn.{Txn}
-use Rattle.dt_txn.specs.Replica.{Replica, next_id, submission_for}
+use Rattle.dt_txn.specs.Replica.{next_id, submission_for}
 use Rattle.dt_region.specs.Region.{held, find_txn}
 use Rattle.dt_region.specs.Rules.{id_for, txn_for}
 use Rattle.dt_region.specs.Sound.{IsSoundRegion}
@@ -17,9 +16,9 @@ use Rattle.dt_cluster.specs.declared.Cluster.{Cluster}
 use Rattle.dt_workload.specs.declared.Session.{Session}
 use Rattle.dt_workload.specs.declared.Wanted.{Wanted}
 use Rattle.dt_workload.specs.declared.Workload.{Workload}
-use Rattle.dt_session.specs.World.{World, Node, Place, Submission, no_node, node_at, received_logs, session_at, txn_of, with_place}
-use Rattle.dt_session.specs.Step.{IsLegal, MaySubmit, MayTry, attempt_for, body_of, called, next, next_attempt, node_submitted, submitted, upcoming_id, world_submitted}
-use Rattle.dt_agreement.proofs.Callers.{transaction_found, next_keeps, ordered}
+use Rattle.dt_session.specs.World.{World, Place, Submission, no_node, node_at, attempt_of, received_logs, session_at, submission_of, txn_of, with_place}
+use Rattle.dt_session.specs.Step.{IsLegal, MaySubmit, MayTry, attempt_for, awaited_at, body_of, called, next, next_attempt, node_submitted, submitted, upcoming_id, world_submitted}
+use Rattle.dt_agreement.proofs.Callers.{from_region, next_keeps, submission_is_found}
 use Rattle.dt_site.specs.declared.site.Origin.{Origin}
 use Rattle.dt_site.specs.Site.{SiteView, MakesAttempt, after_attempt, attempt, node_of}
 use Rattle.dt_site.specs.StandsIn.{IsReached, StandsIn}
@@ -30,7 +29,7 @@ use Rattle.dt_site.proofs.Standing.{Steps, here_is, inv, many_here, node_then, o
 pub record Submits (cluster : Cluster) (workload : Workload) (w : World) (region : ℕ) (name : Bytes) (session : Session) (place : Place) (call : Wanted) : Type 0 where
   pub found : session_at workload.sessions w.places region name ≡ Some (session, place)
   pub named : session.name ≡ name
-  pub may : MayTry cluster w region session place.answered place.waits
+  pub may : MayTry cluster.tries (length session.calls) place.answered (awaited_at w region place.waits)
   pub wants : slice_get session.calls place.answered ≡ Some call
 
 -- whose the attempt is
@@ -81,14 +80,25 @@ module _ {cluster : Cluster} {workload : Workload} {w : World} (k : IsReached cl
   still : (r : ℕ) → received_logs (next cluster workload w (Submit region name)) r ≡ received_logs w r
   still r = ap (λ v. received_logs v r) submitted_is ∙ received_stay w region (node_submitted (node_at w region) new) places refl refl r
 
-  new_found : txn_of (next cluster workload w (Submit region name)) new.txn.id ≡ Some new.txn
-  new_found =
+  -- the attempt is found under its id
+  new_attempt : submission_of (next cluster workload w (Submit region name)) new.txn.id ≡ Some new
+  new_attempt =
       let later = next cluster workload w (Submit region name) in
       let kept = next_keeps cluster k.run.sound workload k.run.fits w (order k) (Submit region name) submit_legal (inv k) in
       let node_new : node_at (world_submitted workload w region session place new) region ≡ node_submitted (node_at w region) new =
       get_or-set_same w.nodes region (node_submitted (node_at w region) new) no_node (subst (λ n. region < n) (sym (inv k).nodes) lr) in
-      transaction_found cluster workload later (ordered (order k) (Submit region name)) kept region new
-      (subst (λ v. Has (node_at v region).submitted new) (sym submitted_is) (subst (λ n. Has n.submitted new) (sym node_new) (has_last (node_at w region).submitted new)))
+      submission_is_found cluster.regions later kept.nodes kept.ids new (from_region later region new
+      (subst (λ v. Has (node_at v region).submitted new) (sym submitted_is) (subst (λ n. Has n.submitted new) (sym node_new) (has_last (node_at w region).submitted new))))
+
+  new_found : txn_of (next cluster workload w (Submit region name)) new.txn.id ≡ Some new.txn
+  new_found = ap (option_map (λ s. s.txn)) new_attempt
+
+  -- so the session waits for the attempt of that number
+  pub waits_next : attempt_of (next cluster workload w (Submit region name)) (upcoming_id w region) ≡ next_attempt w place.waits
+  waits_next = ap (λ o. unwrap_or (option_map (λ s. s.attempt) o) 0) new_attempt
+
+  pub places_then : (next cluster workload w (Submit region name)).places ≡ places
+  places_then = ap (λ v. v.places) next_is
 
   known_now : (x : TxnId) (u : Txn) → held q.region.state x ≡ Some u → txn_of (next cluster workload w (Submit region name)) x ≡ Some u
   unfolding q

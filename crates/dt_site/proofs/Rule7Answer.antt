@@ -10,20 +10,24 @@ use Rattle.dt_cluster.specs.declared.Cluster.{Cluster}
 use Rattle.dt_workload.specs.declared.Session.{Session}
 use Rattle.dt_workload.specs.declared.Workload.{Workload}
 use Rattle.dt_session.specs.World.{World, Place, no_node, node_at, received_logs, session_at, with_place}
-use Rattle.dt_session.specs.Step.{IsLegal, MayAnswer, MayEnd, answered, next}
+use Rattle.dt_session.specs.Step.{IsLegal, MayAnswer, MayEnd, answered, awaited_at, next}
 use Rattle.dt_region.specs.Region.{held}
 use Rattle.dt_site.specs.Site.{SiteView, in_region, node_of}
 use Rattle.dt_site.specs.StandsIn.{IsReached, StandsIn}
-use Rattle.dt_site.proofs.Standing.{Steps, node_then, received_stay, txns_stay}
+use Rattle.dt_site.proofs.Standing.{Steps, node_then, txns_stay}
 
 -- the places after a session was answered
 abbrev pub places_answered : Workload → World → ℕ → Session → Place → List Place
 places_answered workload w region session place = with_place workload.sessions w.places region session.name (record { answered = place.answered + 1; waits = None })
 
 module _ {cluster : Cluster} {workload : Workload} {w : World} (k : IsReached cluster workload w) {region : ℕ} (lr : region < cluster.regions) {p : SiteView} (s : StandsIn cluster.regions w region p)
-    (name : Bytes) (session : Session) (place : Place) (found : session_at workload.sessions w.places region name ≡ Some (session, place)) (may : MayEnd cluster w region place.waits) where
+    (name : Bytes) (session : Session) (place : Place) (found : session_at workload.sessions w.places region name ≡ Some (session, place)) (may : MayEnd cluster.tries (awaited_at w region place.waits)) where
   pub answer_legal : IsLegal cluster workload w (Answer region name)
   answer_legal = record { regions = lr; allowed = subst (MayAnswer cluster w region) (sym found) may }
+
+  -- where the sessions stand then
+  pub answered_places : (next cluster workload w (Answer region name)).places ≡ places_answered workload w region session place
+  answered_places = ap (λ o. (answered workload w region o).places) found
 
   module _ (r : RegionView) (is : r ≡ with_event p.region p.region.state (Answer p.region.state.number name)) where
     node_made : node_of (in_region p r) ≡ node_at w region

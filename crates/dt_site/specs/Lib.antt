@@ -1,5 +1,6 @@
 pub mod Site
 pub mod StandsIn
+pub mod SessionsStandIn
 pub mod SiteCode
 pub use Rattle.dt_session.specs.World
 pub use Rattle.dt_session.specs.Step

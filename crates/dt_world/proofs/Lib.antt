@@ -1,7 +1,6 @@
 pub mod WorldLaws
-pub mod WorldSeats
-pub mod SeatsLaws
-pub mod Attempts
+pub mod WorldFacts
+pub mod PlacesOfNames
 pub mod Opening
 pub mod OneSite
 pub mod Rule1Submit

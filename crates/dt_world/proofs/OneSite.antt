@@ -1,6 +1,6 @@
 -- One site among all, reached by a call through the list: as it was where the call changed nothing, and stepped where the
 -- call was made.
-use Rattle.std.proofs.Common.{◌≡◌, ◌<◌, ◌+◌, ℕ, Bool, true, false, List, [], length, get_or, set, Ok, refl, sym, ap, subst, ◌∙◌}
+use Rattle.std.proofs.Common.{◌≡◌, ◌<◌, ℕ, Bool, true, false, List, [], set, Ok, refl, sym, ap, subst, ◌∙◌}
 use Rattle.std.proofs.lemmas.List.{set-get_or}
 use Rattle.dt_access.specs.declared.TxnId.{TxnId}
 use Rattle.dt_events.specs.declared.Event.{Event}
@@ -16,38 +16,38 @@ use Rattle.dt_session.specs.Step.{IsLegal}
 use Rattle.dt_site.specs.declared.Origin.{Origin}
 use Rattle.dt_site.specs.Site.{SiteView, in_region, no_site}
 use Rattle.dt_site.proofs.Callers.{a_region, execute_made, execute_refused, holds_valid, insert_made, insert_refused, outcome_here, resolve_made, resolve_refused}
-use Rattle.dt_world.specs.Seats.{SeatsView}
+use Rattle.dt_world.specs.WorldSessions.{WorldSessions, places_in}
 use Rattle.dt_world.specs.WorldInner.{IsLawful, site_at, view_in, world_of}
 use Rattle.dt_world.specs.WorldView.{WorldView}
 use Rattle.dt_world.proofs.WorldLaws.{IsBehind, IsMade, step_made}
 
 -- the list where a site is put back as it was
-pub put_back : {cluster : Cluster} {seats : SeatsView} {sites : List SiteView} {steps : ℕ} → IsLawful cluster seats sites steps → (region : ℕ) (p later : SiteView) → p ≡ site_at sites region → later ≡ p
-    → IsLawful cluster seats (set sites region later) steps
-put_back {cluster} {seats} {sites} {steps} k region p later is same =
-    subst (λ l. IsLawful cluster seats l steps) (sym (ap (set sites region) (same ∙ is) ∙ set-get_or sites region no_site)) k
+pub put_back : {cluster : Cluster} {sessions : WorldSessions} {sites : List SiteView} {steps : ℕ} → IsLawful cluster sessions sites steps → (region : ℕ) (p later : SiteView) → p ≡ site_at sites region → later ≡ p
+    → IsLawful cluster sessions (set sites region later) steps
+put_back {cluster} {sessions} {sites} {steps} k region p later is same =
+    subst (λ l. IsLawful cluster sessions l steps) (sym (ap (set sites region) (same ∙ is) ∙ set-get_or sites region no_site)) k
 
-pub put_back_view : (cluster : Cluster) (seats : SeatsView) (sites : List SiteView) (steps : ℕ) (region : ℕ) (p later : SiteView) → p ≡ site_at sites region → later ≡ p
-    → view_in cluster seats (set sites region later) steps ≡ view_in cluster seats sites steps
-put_back_view cluster seats sites steps region p later is same =
-    ap (λ l. view_in cluster seats l steps) (ap (set sites region) (same ∙ is) ∙ set-get_or sites region no_site)
+pub put_back_view : (cluster : Cluster) (sessions : WorldSessions) (sites : List SiteView) (steps : ℕ) (region : ℕ) (p later : SiteView) → p ≡ site_at sites region → later ≡ p
+    → view_in cluster sessions (set sites region later) steps ≡ view_in cluster sessions sites steps
+put_back_view cluster sessions sites steps region p later is same =
+    ap (λ l. view_in cluster sessions l steps) (ap (set sites region) (same ∙ is) ∙ set-get_or sites region no_site)
 
 -- a step that is refused changes nothing
 pub refused_same : (procs : List ProcTree) (r : RegionView) (event : Event) (on : Bool) (later : RegionView) → on ≡ false → MakesStep procs r event (Ok on) later → later ≡ r
 refused_same procs r event true later e m = cc
 refused_same procs r event false later e m = m.1
 
-module _ {cluster : Cluster} {seats : SeatsView} {sites : List SiteView} {steps : ℕ} (k : IsLawful cluster seats sites steps) {region : ℕ} (lr : region < cluster.regions)
+module _ {cluster : Cluster} {sessions : WorldSessions} {sites : List SiteView} {steps : ℕ} (k : IsLawful cluster sessions sites steps) {region : ℕ} (lr : region < cluster.regions)
     {r : RegionView} {origins : List Origin} (b : IsBehind sites region r origins) where
   -- the list where the region is as it was
   pub same_sites : (later : RegionView) → later ≡ r → set sites region (record { region = later; origins = origins }) ≡ sites
   same_sites later same = ap (set sites region) (b.site_is later ∙ ap (in_region (site_at sites region)) (same ∙ b.region_is)) ∙ set-get_or sites region no_site
 
-  pub same_lawful : (later : RegionView) → later ≡ r → IsLawful cluster seats (set sites region (record { region = later; origins = origins })) steps
-  same_lawful later same = subst (λ l. IsLawful cluster seats l steps) (sym (same_sites later same)) k
+  pub same_lawful : (later : RegionView) → later ≡ r → IsLawful cluster sessions (set sites region (record { region = later; origins = origins })) steps
+  same_lawful later same = subst (λ l. IsLawful cluster sessions l steps) (sym (same_sites later same)) k
 
-  pub same_view : (later : RegionView) → later ≡ r → view_in cluster seats (set sites region (record { region = later; origins = origins })) steps ≡ view_in cluster seats sites steps
-  same_view later same = ap (λ l. view_in cluster seats l steps) (same_sites later same)
+  pub same_view : (later : RegionView) → later ≡ r → view_in cluster sessions (set sites region (record { region = later; origins = origins })) steps ≡ view_in cluster sessions sites steps
+  same_view later same = ap (λ l. view_in cluster sessions l steps) (same_sites later same)
 
   pub holds_here : HoldsValid cluster.procs r.state
   holds_here = subst (λ x. HoldsValid cluster.procs x.state) (sym b.region_is) (holds_valid k.reached (k.stands region lr))
@@ -59,47 +59,47 @@ module _ {cluster : Cluster} {seats : SeatsView} {sites : List SiteView} {steps 
   sound_here = subst (λ x. IsSoundRegion x.state) (sym b.region_is) (k.stands region lr).sound
 
   -- the outcome that the region keeps, as the world shows it
-  pub outcome_is : {now : WorldView} → view_in cluster seats sites steps ≡ now → (id : TxnId) → outcome_of r.state id ≡ outcome_at now.state region id
+  pub outcome_is : {now : WorldView} → view_in cluster sessions sites steps ≡ now → (id : TxnId) → outcome_of r.state id ≡ outcome_at now.state region id
   outcome_is view id =
       ap (λ x. outcome_of x.state id) b.region_is ∙ outcome_here k.reached (k.stands region lr) id ∙ ap (λ (v : WorldView). outcome_at v.state region id) view
 
   -- rules 4 to 6
 
   module _ (home : ℕ) (lh : home < cluster.regions) (later : RegionView) (on : Bool) (m : MakesStep [] r (Insert r.state.number home) (Ok on) later) where
-    pub insert_done : on ≡ true → IsSoundRegion later.state → IsMade cluster seats sites steps (Insert region home) seats (set sites region (record { region = later; origins = origins }))
+    pub insert_done : on ≡ true → IsSoundRegion later.state → IsMade cluster sessions sites steps (Insert region home) sessions (set sites region (record { region = later; origins = origins }))
     insert_done e sound =
         let m' : MakesStep cluster.procs r (Insert r.state.number home) (Ok true) later = subst (λ y. MakesStep cluster.procs r (Insert r.state.number home) (Ok y) later) e m in
         let here = subst (λ x. MakesStep cluster.procs x (Insert x.state.number home) (Ok true) later) b.region_is m' in
-        subst (λ q. IsMade cluster seats sites steps (Insert region home) seats (set sites region q)) (sym (b.site_is later))
+        subst (λ q. IsMade cluster sessions sites steps (Insert region home) sessions (set sites region q)) (sym (b.site_is later))
         (step_made k (Insert region home) lr (insert_made k.reached lr (k.stands region lr) home lh later here sound) refl refl)
 
-    pub insert_not : on ≡ false → ¬ (IsLegal cluster seats.workload (world_of sites seats.places) (Insert region home))
+    pub insert_not : on ≡ false → ¬ (IsLegal cluster sessions.workload (world_of sites (places_in sessions)) (Insert region home))
     insert_not e =
         let m' : MakesStep cluster.procs r (Insert r.state.number home) (Ok false) later = subst (λ y. MakesStep cluster.procs r (Insert r.state.number home) (Ok y) later) e m in
         insert_refused k.reached lr (k.stands region lr) home lh later (subst (λ x. MakesStep cluster.procs x (Insert x.state.number home) (Ok false) later) b.region_is m')
 
   module _ (ids : List TxnId) (later : RegionView) (on : Bool) (m : MakesStep [] r (Resolve r.state.number ids) (Ok on) later) where
-    pub resolve_done : on ≡ true → IsSoundRegion later.state → IsMade cluster seats sites steps (Resolve region ids) seats (set sites region (record { region = later; origins = origins }))
+    pub resolve_done : on ≡ true → IsSoundRegion later.state → IsMade cluster sessions sites steps (Resolve region ids) sessions (set sites region (record { region = later; origins = origins }))
     resolve_done e sound =
         let m' : MakesStep cluster.procs r (Resolve r.state.number ids) (Ok true) later = subst (λ y. MakesStep cluster.procs r (Resolve r.state.number ids) (Ok y) later) e m in
         let here = subst (λ x. MakesStep cluster.procs x (Resolve x.state.number ids) (Ok true) later) b.region_is m' in
-        subst (λ q. IsMade cluster seats sites steps (Resolve region ids) seats (set sites region q)) (sym (b.site_is later))
+        subst (λ q. IsMade cluster sessions sites steps (Resolve region ids) sessions (set sites region q)) (sym (b.site_is later))
         (step_made k (Resolve region ids) lr (resolve_made k.reached lr (k.stands region lr) ids later here sound) refl refl)
 
-    pub resolve_not : on ≡ false → ¬ (IsLegal cluster seats.workload (world_of sites seats.places) (Resolve region ids))
+    pub resolve_not : on ≡ false → ¬ (IsLegal cluster sessions.workload (world_of sites (places_in sessions)) (Resolve region ids))
     resolve_not e =
         let m' : MakesStep cluster.procs r (Resolve r.state.number ids) (Ok false) later = subst (λ y. MakesStep cluster.procs r (Resolve r.state.number ids) (Ok y) later) e m in
         resolve_refused k.reached lr (k.stands region lr) ids later (subst (λ x. MakesStep cluster.procs x (Resolve x.state.number ids) (Ok false) later) b.region_is m')
 
   module _ (id : TxnId) (later : RegionView) (on : Bool) (m : MakesStep cluster.procs r (Execute r.state.number id) (Ok on) later) where
-    pub execute_done : on ≡ true → IsSoundRegion later.state → IsMade cluster seats sites steps (Execute region id) seats (set sites region (record { region = later; origins = origins }))
+    pub execute_done : on ≡ true → IsSoundRegion later.state → IsMade cluster sessions sites steps (Execute region id) sessions (set sites region (record { region = later; origins = origins }))
     execute_done e sound =
         let m' : MakesStep cluster.procs r (Execute r.state.number id) (Ok true) later = subst (λ y. MakesStep cluster.procs r (Execute r.state.number id) (Ok y) later) e m in
         let here = subst (λ x. MakesStep cluster.procs x (Execute x.state.number id) (Ok true) later) b.region_is m' in
-        subst (λ q. IsMade cluster seats sites steps (Execute region id) seats (set sites region q)) (sym (b.site_is later))
+        subst (λ q. IsMade cluster sessions sites steps (Execute region id) sessions (set sites region q)) (sym (b.site_is later))
         (step_made k (Execute region id) lr (execute_made k.reached lr (k.stands region lr) id later here sound) refl refl)
 
-    pub execute_not : on ≡ false → ¬ (IsLegal cluster seats.workload (world_of sites seats.places) (Execute region id))
+    pub execute_not : on ≡ false → ¬ (IsLegal cluster sessions.workload (world_of sites (places_in sessions)) (Execute region id))
     execute_not e =
         let m' : MakesStep cluster.procs r (Execute r.state.number id) (Ok false) later = subst (λ y. MakesStep cluster.procs r (Execute r.state.number id) (Ok y) later) e m in
         execute_refused k.reached lr (k.stands region lr) id later (subst (λ x. MakesStep cluster.procs x (Execute x.state.number id) (Ok false) later) b.region_is m')

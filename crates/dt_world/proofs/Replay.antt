@@ -20,18 +20,18 @@ use Rattle.dt_cluster.specs.Valid.{IsValidCluster}
 use Rattle.dt_workload.specs.declared.Workload.{Workload}
 use Rattle.dt_workload.specs.Valid.{IsValidWorkload}
 use Rattle.dt_session.specs.World.{World, Node, Place, asked_of, idle_place, is_session, no_node, node_at, opening_world, outcome_at, received_of, session_at, submission_of, taken_of, txn_of}
-use Rattle.dt_session.specs.Step.{IsLegal, MayAnswer, MayEnd, MaySubmit, answered, next, upcoming_id, node_submitted, placed, received, attempt_for}
+use Rattle.dt_session.specs.Step.{IsLegal, MayAnswer, MayEnd, MaySubmit, answered, awaited_at, next, upcoming_id, node_submitted, placed, received, attempt_for}
 use Rattle.dt_session.specs.Run.{AreLegal, AreLegalFrom, order_of, serial_outcome, world_after, world_from}
 use Rattle.dt_session.specs.Agreement.{WaitsFor}
 use Rattle.dt_agreement.specs.Invariant.{Inv, IsExecutedAt, IsPlaceOf}
 use Rattle.dt_agreement.proofs.Callers.{answered_done, lookup_has, legal_agree, WaitsAt, places_parallel, from_region, submission_is_found, waiting_for}
 use Rattle.dt_agreement.proofs.Callers.{legal_keeps, legal_append, world_after_more, session_found, session_of_test, find_has, Submits, submits}
-use Rattle.dt_world.specs.Seats.{no_session}
+use Rattle.dt_world.specs.WorldSessions.{no_session}
 use Rattle.dt_world.specs.SessionReplay.{IsReply, after_reply, after_submission, replay_of, count_at, wait_at}
 use Rattle.dt_world.specs.WorldReport.{IsReplyOf, answered_session, replies_from, reply_for, reply_to}
 use Rattle.dt_world.proofs.Executions.{serial_is}
 use Rattle.dt_world.proofs.Growth.{NodeGrows, grows_past}
-use Rattle.dt_world.proofs.SeatsLaws.{no_session_of_none, place_set, session_of_place}
+use Rattle.dt_world.proofs.PlacesOfNames.{no_session_of_none, place_set, session_of_place}
 
 front_length : {A : Type 0} (xs ys : List A) → IsFront xs ys → length xs ≤ length ys
 front_length xs ys f = subst (λ l. length xs ≤ length l) f.1 (omega (arith, length-append xs f.0))
@@ -184,11 +184,11 @@ module _ (cluster : Cluster) (ok : IsValidCluster cluster) (workload : Workload)
     found_own' : position (is_session region (get_or workload.sessions place no_session).name) workload.sessions ≡ Some place
     found_own' = subst (λ n. position (is_session region n) workload.sessions ≡ Some place) (sym session_is.0) found
 
-    may : MayEnd cluster (world_after cluster workload xs) region (get_or (world_after cluster workload xs).places place idle_place).waits
+    may : MayEnd cluster.tries (awaited_at (world_after cluster workload xs) region (get_or (world_after cluster workload xs).places place idle_place).waits)
     may = subst (MayAnswer cluster (world_after cluster workload xs) region) at_session (now_legal cluster ok workload fits xs ys (Answer region name) legal).allowed
 
     pub answer_waits : ¬ (wait_at (replay_of (world_after cluster workload xs)) place ≡ None)
-    answer_waits e = subst (MayEnd cluster (world_after cluster workload xs) region) (sym (wait_is (world_after cluster workload xs) place) ∙ e) may
+    answer_waits e = subst (λ o. MayEnd cluster.tries (awaited_at (world_after cluster workload xs) region o)) (sym (wait_is (world_after cluster workload xs) place) ∙ e) may
 
     pub answer_follows : replay_of (world_after cluster workload (xs ++ Answer region name ∷ [])) ≡ after_reply (replay_of (world_after cluster workload xs)) place
     answer_follows =

@@ -1,6 +1,6 @@
 -- Rule 3 in a world: the entries are taken from the home's site, from the delivery's own first place on, and handed to the
 -- site of the region.
-use Rattle.std.proofs.Common.{◌≡◌, ◌≢◌, ◌<◌, ◌≤◌, ◌+◌, ℕ, zero, suc, Bool, true, false, List, [], ◌∷◌, ◌++◌, length, map, set, take, drop, slice_get, Ok, Some, refl, sym, ap, ap₂, subst, ◌∙◌, arith}
+use Rattle.std.proofs.Common.{◌≡◌, ◌<◌, ◌≤◌, ◌+◌, ℕ, zero, suc, true, false, List, [], ◌∷◌, ◌++◌, length, map, set, take, drop, slice_get, Ok, Some, refl, sym, ap, subst, ◌∙◌, arith}
 use Rattle.std.proofs.lemmas.List.{length-take-le, map_push, take_more}
 use Rattle.std.proofs.lemmas.Option.{get_or_from_slice_get}
 use Rattle.dt_lists.specs.Lists.{AllIn}
@@ -8,7 +8,6 @@ use Rattle.dt_lists.proofs.Callers.{place_within, all_map}
 use Rattle.dt_access.specs.declared.Part.{Part}
 use Rattle.dt_log.specs.declared.Taken.{Taken}
 use Rattle.dt_sched.specs.Views.{log_at}
-use Rattle.dt_sched.specs.Sched.{parts_in}
 use Rattle.dt_events.specs.declared.Event.TheVariants.{Deliver}
 use Rattle.dt_txn.specs.declared.Entry.{Entry}
 use Rattle.dt_region.specs.Region.{RegionView, held}
@@ -17,25 +16,25 @@ use Rattle.dt_region.specs.Rules.{MakesDelivery}
 use Rattle.dt_region.specs.Sound.{IsSoundRegion}
 use Rattle.dt_cluster.specs.declared.Cluster.{Cluster}
 use Rattle.dt_workload.specs.declared.Workload.{Workload}
-use Rattle.dt_session.specs.World.{World, log_of, logs_of, txn_of}
+use Rattle.dt_session.specs.World.{World, log_of, txn_of}
 use Rattle.dt_session.specs.Step.{IsLegal}
 use Rattle.dt_site.specs.declared.Origin.{Origin}
-use Rattle.dt_site.specs.Site.{SiteView, in_region}
+use Rattle.dt_site.specs.Site.{SiteView}
 use Rattle.dt_site.proofs.Callers.{apart, can_deliver, deliver_legal, deliver_made, deliver_still, has_received, joins, own_log}
-use Rattle.dt_world.specs.Seats.{SeatsView}
+use Rattle.dt_world.specs.WorldSessions.{WorldSessions, places_in}
 use Rattle.dt_world.specs.WorldInner.{IsLawful, site_at, world_of}
 use Rattle.dt_world.proofs.WorldLaws.{IsBehind, IsMade, short, step_made, still_made}
 
-module _ {cluster : Cluster} {seats : SeatsView} {sites : List SiteView} {steps : ℕ} (k : IsLawful cluster seats sites steps) {region home first last : ℕ} (lr : region < cluster.regions) (lh : home < cluster.regions)
+module _ {cluster : Cluster} {sessions : WorldSessions} {sites : List SiteView} {steps : ℕ} (k : IsLawful cluster sessions sites steps) {region home first last : ℕ} (lr : region < cluster.regions) (lh : home < cluster.regions)
     (ordered : first ≤ last) (reaches : last ≤ length (log_at (site_at sites home).region.state.logs home)) where
-  home_log : log_at (site_at sites home).region.state.logs home ≡ log_of (world_of sites seats.places) home
+  home_log : log_at (site_at sites home).region.state.logs home ≡ log_of (world_of sites (places_in sessions)) home
   home_log = own_log k.reached (k.stands home lh)
 
-  within : last ≤ length (log_of (world_of sites seats.places) home)
+  within : last ≤ length (log_of (world_of sites (places_in sessions)) home)
   within = subst (λ l. last ≤ length l) home_log reaches
 
   -- a delivery that does not join
-  pub deliver_none : joins (length (log_at (site_at sites region).region.state.logs home)) first last ≡ false → IsMade cluster seats sites steps (Deliver region home first last) seats sites
+  pub deliver_none : joins (length (log_at (site_at sites region).region.state.logs home)) first last ≡ false → IsMade cluster sessions sites steps (Deliver region home first last) sessions sites
   deliver_none off = still_made k (Deliver region home first last) (deliver_legal k.reached lr (k.stands region lr) lh first last ordered within)
       (deliver_still k.reached lr (k.stands region lr) lh first last ordered within off)
       (subst (λ n. joins n first last ≡ false) (has_received k.reached lr (k.stands region lr) lh) off)
@@ -45,10 +44,10 @@ module _ {cluster : Cluster} {seats : SeatsView} {sites : List SiteView} {steps 
   module _ (on : joins (length (log_at (site_at sites region).region.state.logs home)) first last ≡ true) (entries : List Entry)
       (parts : map (λ e. e.part) entries ≡ drop first (take last (log_at (site_at sites home).region.state.logs home))) (txns : AllIn (λ e. held (site_at sites home).region.state e.part.id ≡ Some e.txn) entries)
       {r : RegionView} {origins : List Origin} (b : IsBehind sites region r origins) where
-    parts_are : map (λ e. e.part) entries ≡ drop first (take last (log_of (world_of sites seats.places) home))
+    parts_are : map (λ e. e.part) entries ≡ drop first (take last (log_of (world_of sites (places_in sessions)) home))
     parts_are = parts ∙ ap (λ l. drop first (take last l)) home_log
 
-    found : AllIn (λ e. txn_of (world_of sites seats.places) e.part.id ≡ Some e.txn) entries
+    found : AllIn (λ e. txn_of (world_of sites (places_in sessions)) e.part.id ≡ Some e.txn) entries
     found = all_map _ _ entries (λ e h. (k.stands home lh).known e.part.id e.txn h) txns
 
     pub can_take : steps < 4294967296 → CanDeliver r.state home first entries
@@ -57,10 +56,10 @@ module _ {cluster : Cluster} {seats : SeatsView} {sites : List SiteView} {steps 
         (omega (arith, (short k).parts, few)))
 
     pub deliver_done : (later : RegionView) (t : Taken) → MakesDelivery r home first entries (Ok t) later → IsSoundRegion later.state
-        → IsMade cluster seats sites steps (Deliver region home first last) seats (set sites region (record { region = later; origins = origins }))
+        → IsMade cluster sessions sites steps (Deliver region home first last) sessions (set sites region (record { region = later; origins = origins }))
     deliver_done later t m sound =
         let m' = subst (λ x. MakesDelivery x home first entries (Ok t) later) b.region_is m in
-        subst (λ q. IsMade cluster seats sites steps (Deliver region home first last) seats (set sites region q)) (sym (b.site_is later))
+        subst (λ q. IsMade cluster sessions sites steps (Deliver region home first last) sessions (set sites region q)) (sym (b.site_is later))
         (step_made k (Deliver region home first last) lr (deliver_made k.reached lr (k.stands region lr) lh first last ordered within entries parts_are found on later t m' sound) refl
         (subst (λ n. joins n first last ≡ true) (has_received k.reached lr (k.stands region lr) lh) on))
 
@@ -86,8 +85,8 @@ entries_more log first place items new e le at before is =
 pub out_of_order : {cluster : Cluster} {workload : Workload} {w : World} {region home first last : ℕ} → last < first → IsLegal cluster workload w (Deliver region home first last) → ⊥
 out_of_order lt l = absurd (omega (arith, lt, l.allowed.0))
 
-pub past_log : {cluster : Cluster} {seats : SeatsView} {sites : List SiteView} {steps : ℕ} → IsLawful cluster seats sites steps → {region home first last : ℕ} → home < cluster.regions
-    → length (log_at (site_at sites home).region.state.logs home) < last → ¬ (IsLegal cluster seats.workload (world_of sites seats.places) (Deliver region home first last))
+pub past_log : {cluster : Cluster} {sessions : WorldSessions} {sites : List SiteView} {steps : ℕ} → IsLawful cluster sessions sites steps → {region home first last : ℕ} → home < cluster.regions
+    → length (log_at (site_at sites home).region.state.logs home) < last → ¬ (IsLegal cluster sessions.workload (world_of sites (places_in sessions)) (Deliver region home first last))
 past_log k {region} {home} {first} {last} lh lt l =
     let far = subst (λ l. length l < last) (own_log k.reached (k.stands home lh)) lt in
     absurd (omega (arith, far, l.allowed.1))

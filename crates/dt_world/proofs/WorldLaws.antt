@@ -1,42 +1,43 @@
 -- What the type of a world keeps: what follows of it, and how it stays so when one site steps.
-use Rattle.std.proofs.Common.{◌≡◌, ◌≢◌, ◌<◌, ◌≤◌, ◌+◌, ◌==◌, ℕ, zero, suc, Bool, true, false, cond, List, [], ◌∷◌, ◌++◌, length, map, get_or, set, Result, Ok, Err, IsErrAnd, refl, sym, ap, ap₂, subst, ◌∙◌, inl, inr, arith}
+use Rattle.std.proofs.Common.{◌≡◌, ◌<◌, ◌≤◌, ◌+◌, ℕ, zero, suc, true, false, cond, List, [], ◌∷◌, ◌++◌, length, map, get_or, set, Result, Ok, Err, IsErrAnd, refl, sym, ap, ap₂, subst, ◌∙◌, inl, inr, arith}
 use Rattle.std.proofs.lemmas.List.{length-map, length_push, map-set, get_or-set_same, get_or-set_other}
-use Rattle.dt_lists.specs.Lists.{Either}
-use Rattle.dt_lists.proofs.Callers.{either_nat, get_of_map}
-use Rattle.dt_sched.specs.Sched.{parts_in}
+use Rattle.dt_lists.specs.Lists.{Either, Has}
+use Rattle.dt_lists.proofs.Callers.{all_get, either_nat, get_of_map}
 use Rattle.dt_events.specs.Events.{region_of}
 use Rattle.dt_events.specs.declared.Event.{Event}
 use Rattle.dt_region.specs.Region.{RegionView}
-use Rattle.dt_region.specs.Rules.{with_event}
 use Rattle.dt_cluster.specs.declared.Cluster.{Cluster}
 use Rattle.dt_cluster.specs.Valid.{IsValidCluster}
-use Rattle.dt_workload.specs.declared.Workload.{Workload}
-use Rattle.dt_workload.specs.Valid.{IsValidWorkload}
-use Rattle.dt_session.specs.World.{World, Place, logs_of, node_at}
+use Rattle.dt_workload.specs.Valid.{IsValidSession, IsValidWorkload}
+use Rattle.dt_workload.specs.declared.Session.{Session}
+use Rattle.dt_session.specs.Sessions.{SessionsView}
+use Rattle.dt_agreement.proofs.Callers.{places_parallel}
+use Rattle.dt_session.specs.World.{World, Place, node_at}
 use Rattle.dt_session.specs.Step.{IsLegal, next}
 use Rattle.dt_session.specs.Run.{AreLegal, world_after}
 use Rattle.dt_site.specs.declared.Origin.{Origin}
 use Rattle.dt_site.specs.Site.{SiteView, in_region, no_site, node_of}
+use Rattle.dt_site.specs.SessionsStandIn.{SessionsStandIn, places_of}
 use Rattle.dt_site.specs.StandsIn.{IsReached, StandsIn}
-use Rattle.dt_site.proofs.Callers.{IsShort, Steps, after_more, inv, legal_short, many_here, others_stand, run_more}
-use Rattle.dt_world.specs.Seats.{SeatsView}
+use Rattle.dt_site.proofs.Callers.{IsShort, Steps, after_more, inv, legal_short, many_here, order, others_stand, places_are, run_more, sessions_stay}
+use Rattle.dt_world.specs.WorldSessions.{WorldSessions, places_in}
 use Rattle.dt_world.specs.SessionReplay.{LedTo}
-use Rattle.dt_world.specs.WorldInner.{IsLawful, site_at, view_in, world_of}
+use Rattle.dt_world.specs.WorldInner.{IsLawful, sessions_of, site_at, view_in, world_of}
 use Rattle.dt_world.specs.WorldView.{Makes, WorldView, kept_next, made, takes_effect}
 use Rattle.dt_world.specs.declared.world.StepError.{StepError}
 use Rattle.dt_world.specs.declared.world.StepError.TheVariants.{NoMemory}
 
 -- the event was legal, and these sessions and sites are what it makes
-pub record IsMade (cluster : Cluster) (seats : SeatsView) (sites : List SiteView) (steps : ℕ) (event : Event) (later : SeatsView) (after : List SiteView) : Type 0 where
-  pub legal : IsLegal cluster seats.workload (world_of sites seats.places) event
+pub record IsMade (cluster : Cluster) (sessions : WorldSessions) (sites : List SiteView) (steps : ℕ) (event : Event) (later : WorldSessions) (after : List SiteView) : Type 0 where
+  pub legal : IsLegal cluster sessions.workload (world_of sites (places_in sessions)) event
   pub lawful : IsLawful cluster later after (steps + 1)
-  pub is : view_in cluster later after (steps + 1) ≡ made (view_in cluster seats sites steps) event
+  pub is : view_in cluster later after (steps + 1) ≡ made (view_in cluster sessions sites steps) event
 
 -- so it is for the world as it was seen before
-pub made_before : {cluster : Cluster} {seats : SeatsView} {sites : List SiteView} {steps : ℕ} {event : Event} {later : SeatsView} {after : List SiteView} {now : WorldView}
-    → view_in cluster seats sites steps ≡ now → IsMade cluster seats sites steps event later after
+pub made_before : {cluster : Cluster} {sessions : WorldSessions} {sites : List SiteView} {steps : ℕ} {event : Event} {later : WorldSessions} {after : List SiteView} {now : WorldView}
+    → view_in cluster sessions sites steps ≡ now → IsMade cluster sessions sites steps event later after
     → IsLegal now.cluster now.workload now.state event × (view_in cluster later after (steps + 1) ≡ made now event)
-made_before {cluster} {seats} {sites} {steps} {event} {later} {after} {now} view m =
+made_before {cluster} {sessions} {sites} {steps} {event} {later} {after} {now} view m =
     subst (λ v. IsLegal v.cluster v.workload v.state event × (view_in cluster later after (steps + 1) ≡ made v event)) view (m.legal, m.is)
 
 -- a site that was taken out of the list is the one at that place
@@ -45,37 +46,43 @@ read_at [] region p lt e = absurd (omega arith)
 read_at (x ∷ sites) zero p lt e = e
 read_at (x ∷ sites) (suc region) p lt e = read_at sites region p (omega arith) e
 
-module _ {cluster : Cluster} {seats : SeatsView} {sites : List SiteView} {steps : ℕ} (k : IsLawful cluster seats sites steps) where
+module _ {cluster : Cluster} {sessions : WorldSessions} {sites : List SiteView} {steps : ℕ} (k : IsLawful cluster sessions sites steps) where
   pub many_sites : length sites ≡ cluster.regions
   many_sites = sym (length-map sites node_of) ∙ (inv k.reached).nodes
 
   pub a_site : {region : ℕ} → region < cluster.regions → region < length sites
   a_site {region} lr = subst (λ n. region < n) (sym many_sites) lr
 
-  pub node_is : (q : ℕ) → node_at (world_of sites seats.places) q ≡ node_of (site_at sites q)
+  pub node_is : (q : ℕ) → node_at (world_of sites (places_in sessions)) q ≡ node_of (site_at sites q)
   node_is q = get_of_map node_of sites q no_site
 
   -- the lists of the world are short
-  pub short : IsShort (world_of sites seats.places) steps
+  pub short : IsShort (world_of sites (places_in sessions)) steps
   short = subst (λ w. IsShort w steps) (sym k.reached.after)
-      (subst (IsShort _) k.many (legal_short cluster k.reached.run.sound seats.workload k.reached.run.fits k.reached.events k.reached.run.legal))
+      (subst (IsShort _) k.many (legal_short cluster k.reached.run.sound sessions.workload k.reached.run.fits k.reached.events k.reached.run.legal))
 
   pub submitted_few : {region : ℕ} → region < cluster.regions → length (site_at sites region).region.state.submitted ≤ steps
   submitted_few {region} lr = subst (λ n. n ≤ steps) (many_here k.reached (k.stands region lr)) (short.submitted region)
 
-  kept_stays : (event : Event) (region : ℕ) (q : SiteView) → region_of event ≡ region → q.region.events ≡ (site_at sites region).region.events ++ event ∷ [] → takes_effect (world_of sites seats.places) event ≡ true
-      → map (λ p. p.region.events) (set sites region q) ≡ kept_next (world_of sites seats.places) (map (λ p. p.region.events) sites) event
+  kept_stays : (event : Event) (region : ℕ) (q : SiteView) → region_of event ≡ region → q.region.events ≡ (site_at sites region).region.events ++ event ∷ [] → takes_effect (world_of sites (places_in sessions)) event ≡ true
+      → map (λ p. p.region.events) (set sites region q) ≡ kept_next (world_of sites (places_in sessions)) (map (λ p. p.region.events) sites) event
   kept_stays event region q of kept effect =
       map-set (λ p. p.region.events) sites region q
       ∙ ap (set (map (λ p. p.region.events) sites) region) (kept ∙ ap (λ l. l ++ event ∷ []) (sym (get_of_map (λ p. p.region.events) sites region no_site)))
       ∙ ap (λ r. set (map (λ p. p.region.events) sites) r (get_or (map (λ p. p.region.events) sites) r [] ++ event ∷ [])) (sym of)
       ∙ sym (ap (λ b. cond b (set (map (λ p. p.region.events) sites) (region_of event) (get_or (map (λ p. p.region.events) sites) (region_of event) [] ++ event ∷ [])) (map (λ p. p.region.events) sites)) effect)
 
-  -- one site steps
+  -- the session of a name, wherever it is, is of one of the regions
+  at_region : (t : Session) → Has sessions.workload.sessions t → t.region < cluster.regions
+  at_region t h = (all_get (IsValidSession cluster.procs cluster.regions) sessions.workload.sessions k.reached.run.fits.sessions t h).region
 
-  pub step_made : (event : Event) {region : ℕ} → region < cluster.regions → {q : SiteView} {places : List Place} → Steps cluster seats.workload (world_of sites seats.places) event region (site_at sites region) q places
-      → region_of event ≡ region → takes_effect (world_of sites seats.places) event ≡ true → IsMade cluster seats sites steps event (record seats { places = places }) (set sites region q)
-  step_made event {region} lr {q} {places} s of effect = record {
+  -- one region steps, and these are the sessions that the regions keep then
+  pub sessions_made : (event : Event) {region : ℕ} → region < cluster.regions → {q : SiteView} {places : List Place} → Steps cluster sessions.workload (world_of sites (places_in sessions)) event region (site_at sites region) q places
+      → region_of event ≡ region → takes_effect (world_of sites (places_in sessions)) event ≡ true
+      → (later : List SessionsView) → length later ≡ cluster.regions
+      → ((r : ℕ) → r < cluster.regions → SessionsStandIn cluster sessions.workload (next cluster sessions.workload (world_of sites (places_in sessions)) event) r (sessions_of later r))
+      → IsMade cluster sessions sites steps event (record sessions { by_region = later }) (set sites region q)
+  sessions_made event {region} lr {q} {places} s of effect later many standing = record {
     legal = s.legal;
     lawful = record {
       reached = record {
@@ -85,22 +92,39 @@ module _ {cluster : Cluster} {seats : SeatsView} {sites : List SiteView} {steps 
       };
       many = length_push k.reached.events event ∙ ap (λ n. n + 1) k.many;
       stands = λ r lq. subst (λ w. StandsIn cluster.regions w r (site_at (set sites region q) r)) (sym is) (at r lq (either_nat r region));
+      listed = many;
+      attended = λ r lq. subst (λ w. SessionsStandIn cluster sessions.workload w r (sessions_of later r)) (sym is) (standing r lq);
     };
-    is = ap₂ (λ w (l : List (List Event)). record { cluster = cluster; workload = seats.workload; state = w; kept = l; steps = steps + 1 }) is (kept_stays event region q of s.kept effect);
+    is = ap₂ (λ w (l : List (List Event)). record { cluster = cluster; workload = sessions.workload; state = w; kept = l; steps = steps + 1 }) is (kept_stays event region q of s.kept effect);
   }
     where
-      is : world_of (set sites region q) places ≡ next cluster seats.workload (world_of sites seats.places) event
-      is = ap (λ l. record { nodes = l; places = places }) (map-set node_of sites region q) ∙ sym s.is
+      v : World
+      v = next cluster sessions.workload (world_of sites (places_in sessions)) event
 
-      at : (r : ℕ) → r < cluster.regions → Either (r ≡ region) → StandsIn cluster.regions (next cluster seats.workload (world_of sites seats.places) event) r (site_at (set sites region q) r)
-      at r lq (inl e) = subst (λ x. StandsIn cluster.regions (next cluster seats.workload (world_of sites seats.places) event) x (site_at (set sites region q) x)) (sym e)
-          (subst (λ x. StandsIn cluster.regions (next cluster seats.workload (world_of sites seats.places) event) region x) (sym (get_or-set_same sites region q no_site (a_site lr))) s.stands)
-      at r lq (inr n) = subst (λ x. StandsIn cluster.regions (next cluster seats.workload (world_of sites seats.places) event) r x) (sym (get_or-set_other sites region r q no_site n))
+      then_reached : IsReached cluster sessions.workload v
+      then_reached = record { events = k.reached.events ++ event ∷ []; run = run_more k.reached event s.legal; after = after_more k.reached event }
+
+      places_are_v : places_of sessions.workload later ≡ v.places
+      places_are_v = places_are k.reached.run.fits.names_once at_region (sym (places_parallel cluster sessions.workload v (order then_reached) (inv then_reached))) later standing
+
+      is : world_of (set sites region q) (places_of sessions.workload later) ≡ next cluster sessions.workload (world_of sites (places_in sessions)) event
+      is = ap₂ (λ l p. record { nodes = l; places = p }) (map-set node_of sites region q) (places_are_v ∙ ap (λ x. x.places) s.is) ∙ sym s.is
+
+      at : (r : ℕ) → r < cluster.regions → Either (r ≡ region) → StandsIn cluster.regions (next cluster sessions.workload (world_of sites (places_in sessions)) event) r (site_at (set sites region q) r)
+      at r lq (inl e) = subst (λ x. StandsIn cluster.regions (next cluster sessions.workload (world_of sites (places_in sessions)) event) x (site_at (set sites region q) x)) (sym e)
+          (subst (λ x. StandsIn cluster.regions (next cluster sessions.workload (world_of sites (places_in sessions)) event) region x) (sym (get_or-set_same sites region q no_site (a_site lr))) s.stands)
+      at r lq (inr n) = subst (λ x. StandsIn cluster.regions (next cluster sessions.workload (world_of sites (places_in sessions)) event) r x) (sym (get_or-set_other sites region r q no_site n))
           (others_stand k.reached s r n lq (site_at sites r) (k.stands r lq))
 
+  -- one site steps by itself, and all sessions stand as before
+  pub step_made : (event : Event) {region : ℕ} → region < cluster.regions → {q : SiteView} → Steps cluster sessions.workload (world_of sites (places_in sessions)) event region (site_at sites region) q (places_in sessions)
+      → region_of event ≡ region → takes_effect (world_of sites (places_in sessions)) event ≡ true → IsMade cluster sessions sites steps event sessions (set sites region q)
+  step_made event lr s of effect =
+      sessions_made event lr s of effect sessions.by_region k.listed (λ r lq. sessions_stay k.reached event s.legal (ap (λ v. v.places) s.is) lq (k.attended r lq))
+
   -- a legal event that takes no effect
-  pub still_made : (event : Event) → IsLegal cluster seats.workload (world_of sites seats.places) event → next cluster seats.workload (world_of sites seats.places) event ≡ world_of sites seats.places
-      → takes_effect (world_of sites seats.places) event ≡ false → IsMade cluster seats sites steps event seats sites
+  pub still_made : (event : Event) → IsLegal cluster sessions.workload (world_of sites (places_in sessions)) event → next cluster sessions.workload (world_of sites (places_in sessions)) event ≡ world_of sites (places_in sessions)
+      → takes_effect (world_of sites (places_in sessions)) event ≡ false → IsMade cluster sessions sites steps event sessions sites
   still_made event l same effect = record {
     legal = l;
     lawful = record {
@@ -111,13 +135,15 @@ module _ {cluster : Cluster} {seats : SeatsView} {sites : List SiteView} {steps 
       };
       many = length_push k.reached.events event ∙ ap (λ n. n + 1) k.many;
       stands = k.stands;
+      listed = k.listed;
+      attended = k.attended;
     };
-    is = ap₂ (λ w (l : List (List Event)). record { cluster = cluster; workload = seats.workload; state = w; kept = l; steps = steps + 1 }) (sym same)
+    is = ap₂ (λ w (l : List (List Event)). record { cluster = cluster; workload = sessions.workload; state = w; kept = l; steps = steps + 1 }) (sym same)
         (sym (ap (λ b. cond b (set (map (λ p. p.region.events) sites) (region_of event) (get_or (map (λ p. p.region.events) sites) (region_of event) [] ++ event ∷ [])) (map (λ p. p.region.events) sites)) effect));
   }
 
 -- the events of a report lead to the world
-pub led_by : {cluster : Cluster} {seats : SeatsView} {sites : List SiteView} {steps : ℕ} → IsLawful cluster seats sites steps → {now : WorldView} → view_in cluster seats sites steps ≡ now
+pub led_by : {cluster : Cluster} {sessions : WorldSessions} {sites : List SiteView} {steps : ℕ} → IsLawful cluster sessions sites steps → {now : WorldView} → view_in cluster sessions sites steps ≡ now
     → {events : List Event} → AreLegal now.cluster now.workload events → now.state ≡ world_after now.cluster now.workload events → LedTo now events
 led_by k view legal reached = record {
   valid = subst (λ (v : WorldView). IsValidCluster v.cluster) view k.reached.run.sound;

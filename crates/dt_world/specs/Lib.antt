@@ -2,8 +2,7 @@ pub mod WorldView
 pub mod WorldReport
 pub mod WorldInner
 pub mod WorldCode
-pub mod Seats
-pub mod SeatsCode
+pub mod WorldSessions
 pub mod SessionReplay
 pub use Rattle.dt_session.specs.World
 pub use Rattle.dt_session.specs.Step

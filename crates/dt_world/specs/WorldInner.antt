@@ -1,70 +1,74 @@
--- Only proofs need this file, and the private calls of a world. It says what the type of a world keeps of its own fields: of
--- the sessions with their places, of the sites of all regions, and of the number of steps (`IsLawful`). And it has words for
+-- Only proofs need this file, and the private calls of a world. It says what the type of a world keeps of its own fields: of the
+-- sessions that its regions keep, of the sites of all regions, and of the number of steps (`IsLawful`). And it has words for
 -- what the private calls answer of one session. Callers read `WorldView` instead.
-use Rattle.std.specs.Prelude.{◌≡◌, ◌<◌, ◌+◌, ℕ, List, length, map, get_or, Option, Some, None}
+use Rattle.std.specs.Prelude.{◌≡◌, ◌<◌, ◌+◌, ℕ, List, length, map, get_or, slice_get, Option, Some, None}
 use Rattle.std.specs.List.{range_with_len}
-use Rattle.dt_access.specs.declared.TxnId.{TxnId}
+use Rattle.dt_access.specs.Clash.{Bytes}
+use Rattle.dt_txn.specs.declared.Body.{Body}
 use Rattle.dt_cluster.specs.declared.Cluster.{Cluster}
-use Rattle.dt_workload.specs.declared.Workload.{Workload}
-use Rattle.dt_session.specs.World.{World, Place, opening_table}
-use Rattle.dt_session.specs.Step.{MayEnd, MayTry, next_attempt}
+use Rattle.dt_workload.specs.declared.Session.{Session}
+use Rattle.dt_workload.specs.declared.Wanted.{Wanted}
+use Rattle.dt_session.specs.Sessions.{SessionsView}
+use Rattle.dt_session.specs.World.{World, Place, opening_table, session_at}
+use Rattle.dt_session.specs.Step.{MayAnswer, MaySubmit, MayTry, awaited_at, body_of, next_attempt}
+use Rattle.dt_site.specs.declared.Origin.{Origin}
+use Rattle.dt_site.specs.SessionsStandIn.{SessionsStandIn, no_sessions}
 use Rattle.dt_site.specs.Site.{SiteView, no_site, node_of, opening_site}
 use Rattle.dt_site.specs.StandsIn.{IsReached, StandsIn}
 use Rattle.dt_world.specs.WorldView.{WorldView}
-use Rattle.dt_world.specs.Seats.{SeatsView, session_of, stand_of}
+use Rattle.dt_world.specs.WorldSessions.{WorldSessions, places_in}
 
 -- one of the sites
 abbrev pub site_at : List SiteView → ℕ → SiteView
 site_at sites region = get_or sites region no_site
+
+-- the sessions of one of the regions
+abbrev pub sessions_of : List SessionsView → ℕ → SessionsView
+sessions_of all region = get_or all region no_sessions
 
 -- the world of these sites and places
 abbrev pub world_of : List SiteView → List Place → World
 world_of sites places = record { nodes = map node_of sites; places = places }
 
 -- a world of these fields, as callers see it
-abbrev pub view_in : Cluster → SeatsView → List SiteView → ℕ → WorldView
-view_in cluster seats sites steps = record {
+abbrev pub view_in : Cluster → WorldSessions → List SiteView → ℕ → WorldView
+view_in cluster sessions sites steps = record {
   cluster = cluster;
-  workload = seats.workload;
-  state = world_of sites seats.places;
+  workload = sessions.workload;
+  state = world_of sites (places_in sessions);
   kept = map (λ p. p.region.events) sites;
   steps = steps;
 }
 
--- these sessions and sites are a world that so many legal events lead to, and each site stands in it
-pub record IsLawful (cluster : Cluster) (seats : SeatsView) (sites : List SiteView) (steps : ℕ) : Type 0 where
-  pub reached : IsReached cluster seats.workload (world_of sites seats.places)
+-- these sessions and sites are a world that so many legal events lead to, and each region's site and sessions stand in it
+pub record IsLawful (cluster : Cluster) (sessions : WorldSessions) (sites : List SiteView) (steps : ℕ) : Type 0 where
+  pub reached : IsReached cluster sessions.workload (world_of sites (places_in sessions))
   pub many : length reached.events ≡ steps
-  pub stands : (region : ℕ) → region < cluster.regions → StandsIn cluster.regions (world_of sites seats.places) region (site_at sites region)
+  pub stands : (region : ℕ) → region < cluster.regions → StandsIn cluster.regions (world_of sites (places_in sessions)) region (site_at sites region)
+  pub listed : length sessions.by_region ≡ cluster.regions
+  pub attended : (region : ℕ) → region < cluster.regions →
+      SessionsStandIn cluster sessions.workload (world_of sites (places_in sessions)) region (sessions_of sessions.by_region region)
 
 -- the sites of a cluster before anything happens
 abbrev pub opening_sites : Cluster → List SiteView
 opening_sites cluster = map (λ number. opening_site number cluster.regions (opening_table cluster)) (range_with_len 0 cluster.regions)
 
--- the sessions of a world
-abbrev pub seats_in : WorldView → SeatsView
-seats_in view = record { workload = view.workload; places = view.state.places }
+-- what a session of this name at a region submits next: its next call or the same again, and whose that is
+pub record IsNextTry (view : WorldView) (region : ℕ) (name : Bytes) (origin : Origin) (body : Body) : Type 0 where
+  pub session : Session
+  pub place : Place
+  pub call : Wanted
+  pub found : session_at view.workload.sessions view.state.places region name ≡ Some (session, place)
+  pub may : MayTry view.cluster.tries (length session.calls) place.answered (awaited_at view.state region place.waits)
+  pub wants : slice_get session.calls place.answered ≡ Some call
+  pub origin_is : origin ≡ record { session = name; call = place.answered + 1; attempt = next_attempt view.state place.waits }
+  pub body_is : body ≡ body_of call
 
--- there is a session at this place of the workload, and it is of the region
-pub record IsSeatOf (view : WorldView) (region place : ℕ) : Type 0 where
-  pub some : region < view.cluster.regions
-  pub there : place < length view.workload.sessions
-  pub here : (session_of (seats_in view) place).region ≡ region
+-- what the session submits next; none exactly where it may submit nothing
+abbrev pub IsNextOf : WorldView → ℕ → Bytes → Option (Origin × Body) → Type 0
+IsNextOf view region name None = ¬ (MaySubmit view.cluster view.state region (session_at view.workload.sessions view.state.places region name))
+IsNextOf view region name (Some (origin, body)) = IsNextTry view region name origin body
 
--- the session at a place has a call left
-abbrev pub HasCall : WorldView → ℕ → Type 0
-HasCall view place = (stand_of (seats_in view) place).answered < length (session_of (seats_in view) place).calls
-
--- the session at a place may try its next attempt
-abbrev pub MayTryAt : WorldView → ℕ → ℕ → Type 0
-MayTryAt view region place =
-    MayTry view.cluster view.state region (session_of (seats_in view) place) (stand_of (seats_in view) place).answered (stand_of (seats_in view) place).waits
-
--- the session at a place may be answered
-abbrev pub MayEndAt : WorldView → ℕ → ℕ → Type 0
-MayEndAt view region place = MayEnd view.cluster view.state region (stand_of (seats_in view) place).waits
-
--- the number of the attempt that a session may make next, if it may make one
-abbrev pub IsNextAttempt : WorldView → ℕ → ℕ → Option ℕ → Type 0
-IsNextAttempt view region place None = ¬ (MayTryAt view region place)
-IsNextAttempt view region place (Some attempt) = MayTryAt view region place × (attempt ≡ next_attempt view.state (stand_of (seats_in view) place).waits)
+-- the session of this name at a region may be answered
+abbrev pub MayBeTold : WorldView → ℕ → Bytes → Type 0
+MayBeTold view region name = MayAnswer view.cluster view.state region (session_at view.workload.sessions view.state.places region name)

@@ -5,12 +5,11 @@
 //! events came to: the replies, the executed attempts in the serial order, and the rows of each region. [`World::kept`] tells
 //! which events a region keeps.
 //!
-//! A world holds a [`Site`](dt_site::Site) for each region and a place for each session. A step finds the region that the
-//! event is of, and makes its call there; what the call needs of other regions, as the transaction of a request or the
-//! entries of a log, is looked up in their sites.
+//! A world holds, for each region, a [`Site`](dt_site::Site) and its [`Sessions`](dt_session::Sessions). A step finds the
+//! region that the event is of, and makes its call there; what the call needs of other regions, as the transaction of a request
+//! or the entries of a log, is looked up in their sites.
 #![tactic(auto)]
 
-mod seats;
 mod session_replay;
 mod world;
 

@@ -1,28 +1,29 @@
-ghost use Rattle.std.specs.Prelude.{◌≡◌, ◌↔◌, List, ◌&&◌, ◌+◌, ◌<◌, ◌≤◌, ℕ, nat_le, nat_lt, drop, filter_map, get_or, length, map, take, is_some, [], Some, IsTrue, IsOk, IfOk, OnOk, OnErr};
-ghost use Rattle.dt_lists.specs.Lists.{AllIn, Has};
+ghost use Rattle.std.specs.Prelude.{◌≡◌, ◌↔◌, List, ◌&&◌, ◌+◌, ◌<◌, ◌≤◌, ℕ, nat_le, nat_lt, drop, filter_map, get_or, length, map, option_and_then, position, take, [], Some, IsTrue, IsOk, IfOk, OnOk, OnErr};
+ghost use Rattle.dt_lists.specs.Lists.{AllIn, Distinct, Has};
+ghost use Rattle.std.specs.Option.{option_copied};
 ghost use Rattle.dt_access.specs.declared.TxnId.{TxnId};
 ghost use Rattle.dt_events.specs.declared.Event.{Event};
 ghost use Rattle.dt_events.specs.declared.Event.TheVariants.{Submit, Append, Deliver, Insert, Resolve, Execute, Answer};
 ghost use Rattle.dt_sched.specs.Views.{log_at};
 ghost use Rattle.dt_table.specs.Table.{shown};
-ghost use Rattle.dt_region.specs.Region.{held};
+ghost use Rattle.dt_region.specs.Region.{held, outcome_of};
 ghost use Rattle.dt_region.specs.Conditions.{IsTableFor};
 ghost use Rattle.dt_region.specs.Sound.{IsSoundRegion};
 ghost use Rattle.dt_cluster.specs.Valid.{IsValidCluster};
 ghost use Rattle.dt_cluster.specs.declared.Cluster.{Cluster};
-ghost use Rattle.dt_workload.specs.Valid.{IsValidWorkload};
+ghost use Rattle.dt_workload.specs.Valid.{IsValidWorkload, session_names};
 ghost use Rattle.dt_workload.specs.declared.Workload.{Workload};
-ghost use Rattle.dt_session.specs.World.{attempt_of, opening_table, outcome_at};
-ghost use Rattle.dt_session.specs.Step.{IsLegal, IsStale, next, rule_of};
+ghost use Rattle.dt_session.specs.Sessions.{waits_of};
+ghost use Rattle.dt_session.specs.World.{is_session, opening_table};
+ghost use Rattle.dt_session.specs.Step.{IsLegal, next, rule_of};
 ghost use Rattle.dt_session.specs.Run.{AreLegal, order_of, world_after};
 ghost use Rattle.dt_agreement.specs.Invariant.{IsExecutedAt};
-ghost use Rattle.dt_world.specs.Seats.{stand_of};
 ghost use Rattle.dt_world.specs.SessionReplay.{IsReply, LedTo, ran_at, rans_at, replay_at, replies_at};
-ghost use Rattle.dt_world.specs.WorldInner.{HasCall, IsNextAttempt, IsSeatOf, MayEndAt, opening_sites, seats_in};
+ghost use Rattle.dt_world.specs.WorldInner.{IsNextOf, MayBeTold, opening_sites};
 ghost use Rattle.dt_world.specs.WorldReport.{IsOutcomeOf, IsReplyOf, answered_name, report_of, replies_of, rans_of};
+ghost use Rattle.dt_world.specs.WorldSessions.{opening_sessions};
 ghost use Rattle.dt_world.specs.WorldView.{Makes, kept_next, kept_after, opening_view, own_events};
 
-use crate::seats::Seats;
 use crate::session_replay::SessionReplay;
 use dt_access::TxnId;
 use dt_cluster::Cluster;
@@ -30,10 +31,11 @@ use dt_events::Event;
 use dt_region::Region;
 use dt_report::{EventList, Ran, Rans, Replies, Reply, Report, Tables};
 use dt_sched::Scheduler;
+use dt_session::Sessions;
 use dt_site::{Origin, Site};
 use dt_table::Table;
 use dt_text::{Name, NoMemory};
-use dt_txn::{Entry, Outcome};
+use dt_txn::{Body, Entry, Outcome};
 use dt_workload::Workload;
 use indexmap::IndexSet;
 use std::alloc::Global;
@@ -66,7 +68,9 @@ impl From<NoMemory> for StepError {
 #[derive(Drop)]
 pub struct World<S: Scheduler + Drop> {
     cluster: Cluster,
-    seats: Seats,
+    workload: Workload,
+    /// The sessions of each region, by its number.
+    sessions: Vec<Sessions>,
     sites: Vec<Site<S>>,
     steps: u32,
 }
@@ -81,9 +85,9 @@ impl<S: Scheduler + Drop> Model for World<S> {
 
     ghost use Rattle.dt_world.specs.WorldInner.{IsLawful, view_in};
 
-    ghost view = { λ w. view_in w.cluster w.seats w.sites.items w.steps };
+    ghost view = { λ w. view_in w.cluster (record { workload = w.workload; by_region = w.sessions.items }) w.sites.items w.steps };
 
-    ghost invariant = { λ w. IsLawful w.cluster w.seats w.sites.items w.steps };
+    ghost invariant = { λ w. IsLawful w.cluster (record { workload = w.workload; by_region = w.sessions.items }) w.sites.items w.steps };
 }
 
 impl<S: Scheduler + Drop> World<S> {
@@ -95,7 +99,8 @@ impl<S: Scheduler + Drop> World<S> {
     {
         Ok(World {
             cluster: cluster.copy(alloc)?,
-            seats: Seats::new(alloc, workload.copy(alloc)?)?,
+            workload: workload.copy(alloc)?,
+            sessions: sessions(alloc, cluster, workload)?,
             sites: sites(alloc, cluster)?,
             steps: 0,
         })
@@ -152,20 +157,16 @@ impl<S: Scheduler + Drop> World<S> {
         if region >= self.cluster.regions {
             return Err(StepError::Illegal(1));
         }
-        let Some(place) = self.seats.find(region, name) else {
+        let Some((origin, body)) = self.next_attempt(alloc, region, name)? else {
             return Err(StepError::Illegal(1));
-        };
-        let Some(attempt) = self.next_attempt(region, place) else {
-            return Err(StepError::Illegal(1));
-        };
-        let body = self.seats.body(alloc, place)?;
-        let origin = Origin {
-            session: name.copy(alloc)?,
-            call: self.seats.seat(place).answered + 1,
-            attempt,
         };
         let id = self.sites[region as usize].submit(alloc, body, &self.cluster.procs, origin)?;
-        self.seats.wait(place, id);
+        let last = last_outcome(
+            &self.sessions[region as usize],
+            &self.sites[region as usize].region,
+            name,
+        );
+        self.sessions[region as usize].wait(name, id, last);
         self.steps += 1;
         Ok(())
     }
@@ -282,85 +283,52 @@ impl<S: Scheduler + Drop> World<S> {
         if region >= self.cluster.regions {
             return Err(StepError::Illegal(7));
         }
-        let Some(place) = self.seats.find(region, name) else {
-            return Err(StepError::Illegal(7));
-        };
-        if !self.may_end(region, place) {
+        if !self.may_answer(region, name) {
             return Err(StepError::Illegal(7));
         }
         self.sites[region as usize].region.answer(alloc, name)?;
-        self.seats.answer(place);
+        let last = last_outcome(
+            &self.sessions[region as usize],
+            &self.sites[region as usize].region,
+            name,
+        );
+        self.sessions[region as usize].answer(name, last);
         self.steps += 1;
         Ok(())
     }
 
-    /// The number of the attempt that the session at a place may make next. `None` exactly where it may make none.
-    fn next_attempt(&self, region: u8, place: usize) -> Option<u32>
-        requires { IsSeatOf self.now region place }
-        ensures { IsNextAttempt self.now region place result }
-    {
-        let Some(id) = self.seats.seat(place).waits else {
-            return if self.has_call(place) { Some(1) } else { None };
-        };
-        if !self.is_stale(region, id) {
-            return None;
-        }
-        let attempt = self.attempt(region, place, id);
-        if attempt >= self.cluster.tries {
-            return None;
-        }
-        Some(attempt + 1)
-    }
-
-    /// Whether the session at a place has a call left.
-    fn has_call(&self, place: usize) -> bool
-        requires { place < length self.now.workload.sessions }
-        ensures { IsTrue result ↔ HasCall self.now place }
-    {
-        let answered = self.seats.seat(place).answered as usize;
-        answered < self.seats.session(place).calls.len()
-    }
-
-    /// Whether the session at a place may be answered.
-    fn may_end(&self, region: u8, place: usize) -> bool
-        requires { IsSeatOf self.now region place }
-        ensures { IsTrue result ↔ MayEndAt self.now region place }
-    {
-        let Some(id) = self.seats.seat(place).waits else {
-            return false;
-        };
-        if self.is_stale(region, id) {
-            return self.attempt(region, place, id) == self.cluster.tries;
-        }
-        self.is_done(region, id)
-    }
-
-    /// Whether a region has executed an id.
-    fn is_done(&self, region: u8, id: TxnId) -> bool
+    /// What a session of a region may submit next, and whose it is. `None` exactly where it may submit nothing.
+    fn next_attempt(
+        &self,
+        alloc: Global,
+        region: u8,
+        name: &Name,
+    ) -> Result<Option<(Origin, Body)>, NoMemory>
         requires { region < self.now.cluster.regions }
-        ensures { result ≡ is_some (outcome_at self.now.state region id) }
+        ensures { IfOk result (IsNextOf self.now region name.now) }
     {
-        self.sites[region as usize].region.outcome(id).is_some()
+        let sessions = &self.sessions[region as usize];
+        let last = last_outcome(sessions, &self.sites[region as usize].region, name);
+        let Some((call, attempt)) = sessions.next(name, last) else {
+            return Ok(None);
+        };
+        let body = sessions.body(alloc, name, call)?;
+        let origin = Origin {
+            session: name.copy(alloc)?,
+            call,
+            attempt,
+        };
+        Ok(Some((origin, body)))
     }
 
-    /// Whether a region has executed an id, and it was stale.
-    fn is_stale(&self, region: u8, id: TxnId) -> bool
+    /// Whether a session of a region may be answered.
+    fn may_answer(&self, region: u8, name: &Name) -> bool
         requires { region < self.now.cluster.regions }
-        ensures { IsTrue result ↔ IsStale (outcome_at self.now.state region id) }
+        ensures { IsTrue result ↔ MayBeTold self.now region name.now }
     {
-        matches!(
-            self.sites[region as usize].region.outcome(id),
-            Some(Outcome::Stale { .. })
-        )
-    }
-
-    /// The number of the attempt that the session at a place waits for.
-    fn attempt(&self, region: u8, place: usize, id: TxnId) -> u32
-        requires seat { IsSeatOf self.now region place }
-        requires waits { (stand_of (seats_in self.now) place).waits ≡ Some id }
-        ensures { result ≡ attempt_of self.now.state id }
-    {
-        self.sites[region as usize].origin(id.seq).attempt
+        let sessions = &self.sessions[region as usize];
+        let last = last_outcome(sessions, &self.sites[region as usize].region, name);
+        sessions.may_answer(name, last)
     }
 
     /// The report of the events that led to this world, from its opening on.
@@ -461,11 +429,12 @@ impl<S: Scheduler + Drop> World<S> {
         requires { LedTo self.now events.now }
         ensures { IfOk result (λ replies. replies ≡ replies_of self.now.cluster self.now.workload events.now) }
     {
-        let sessions = self.seats.workload().sessions.len();
+        let names = names_of(alloc, &self.workload)?;
+        let sessions = self.workload.sessions.len();
         let mut replay = SessionReplay::new(alloc, sessions, self.cluster.regions)?;
         let mut replies = Replies::new(alloc);
         for at in 0..events.len() {
-            self.follow(alloc, &mut replay, &mut replies, events, at)?;
+            self.follow(alloc, &names, &mut replay, &mut replies, events, at)?;
         }
         Ok(replies)
     }
@@ -474,6 +443,7 @@ impl<S: Scheduler + Drop> World<S> {
     fn follow(
         &self,
         alloc: Global,
+        names: &IndexSet<Name>,
         replay: &mut SessionReplay,
         replies: &mut Replies,
         events: &[Event],
@@ -481,6 +451,7 @@ impl<S: Scheduler + Drop> World<S> {
     ) -> Result<(), NoMemory>
         requires led { LedTo self.now events.now }
         requires at { at < length events.now }
+        requires names { names.now.keys ≡ session_names self.now.workload.sessions }
         requires replay { replay.old ≡ replay_at self.now events.now at }
         requires replies { replies.old ≡ replies_at self.now events.now at }
         ensures replay { OnOk result (replay.new ≡ replay_at self.now events.now (at + 1)) }
@@ -488,7 +459,7 @@ impl<S: Scheduler + Drop> World<S> {
     {
         match &events[at] {
             Event::Submit { region, session } => {
-                let Some(place) = self.seats.find(*region, session) else {
+                let Some(place) = self.find(names, *region, session) else {
                     unreachable!()
                 };
                 // Names the steps, so that the proof has what is kept of their number.
@@ -497,7 +468,7 @@ impl<S: Scheduler + Drop> World<S> {
                 Ok(())
             }
             Event::Answer { region, session } => {
-                let Some(place) = self.seats.find(*region, session) else {
+                let Some(place) = self.find(names, *region, session) else {
                     unreachable!()
                 };
                 let Some(id) = replay.waits(place) else {
@@ -509,6 +480,20 @@ impl<S: Scheduler + Drop> World<S> {
             }
             _ => Ok(()),
         }
+    }
+
+    /// The place in the workload of the session of this name at a region, by the names of all sessions. `None` exactly where the
+    /// region has no such session.
+    fn find(&self, names: &IndexSet<Name>, region: u8, name: &Name) -> Option<usize>
+        requires names { names.now.keys ≡ session_names self.now.workload.sessions }
+        requires once { Distinct (session_names self.now.workload.sessions) }
+        ensures { result ≡ position (is_session region name.now) self.now.workload.sessions }
+    {
+        let place = names.get_index_of(name)?;
+        if self.workload.sessions.as_slice()[place].region != region {
+            return None;
+        }
+        Some(place)
     }
 
     /// The reply to a session of a region that waited for this attempt.
@@ -528,6 +513,45 @@ impl<S: Scheduler + Drop> World<S> {
             outcome: outcome.copy(alloc)?,
         })
     }
+}
+
+/// The sessions of all regions of a cluster before their first calls, by the region's number.
+fn sessions(
+    alloc: Global,
+    cluster: &Cluster,
+    workload: &Workload,
+) -> Result<Vec<Sessions>, NoMemory>
+    requires { IsValidWorkload cluster.now workload.now }
+    ensures { IfOk result (λ all. all.items ≡ opening_sessions cluster.now workload.now) }
+{
+    let mut all = Vec::new(alloc);
+    for region in 0..cluster.regions {
+        all.push(Sessions::new(alloc, workload, region, cluster.tries)?)?;
+    }
+    Ok(all)
+}
+
+/// The outcome at its region of the attempt that a session waits for, if there are both.
+fn last_outcome<'a, S: Scheduler>(
+    sessions: &Sessions,
+    region: &'a Region<S>,
+    name: &Name,
+) -> Option<&'a Outcome>
+    ensures { option_copied result ≡ option_and_then (outcome_of region.now.state) (waits_of sessions.now name.now) }
+{
+    region.outcome(sessions.waits(name)?)
+}
+
+/// The names of the sessions of a workload, in its order.
+fn names_of(alloc: Global, workload: &Workload) -> Result<IndexSet<Name>, NoMemory>
+    requires { Distinct (session_names workload.now.sessions) }
+    ensures { IfOk result (λ names. names.keys ≡ session_names workload.now.sessions) }
+{
+    let mut names = IndexSet::new(alloc);
+    for session in workload.sessions.as_slice() {
+        names.insert(session.name.copy(alloc)?)?;
+    }
+    Ok(names)
 }
 
 /// The sites of all regions of a cluster before anything happens, by number.

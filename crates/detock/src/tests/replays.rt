@@ -7,17 +7,121 @@ use std::thread::Threads;
 
 /// A replay, and how it ends; a line each.
 #[derive(Clone, Copy)]
-struct Case {
+pub(super) struct Case {
     /// What the case shows.
-    shows: &'static str,
+    pub shows: &'static str,
     /// The lines of the cluster's file, or the word of a built-in one.
-    cluster: &'static [&'static str],
-    workload: &'static [&'static str],
-    events: &'static [&'static str],
-    exit: u8,
+    pub cluster: &'static [&'static str],
+    pub workload: &'static [&'static str],
+    /// The first events, and those after them.
+    pub events: &'static [&'static str],
+    pub then: &'static [&'static str],
+    pub exit: u8,
     /// The report up to its events, or else the fault.
-    told: &'static [&'static str],
+    pub told: &'static [&'static str],
 }
+
+/// Three puts of one home.
+const THREE_PUTS: &[&str] = &[
+    "session x at 0",
+    "call put \"b\" 1",
+    "session y at 0",
+    "call put \"d\" 2",
+    "session z at 0",
+    "call put \"f\" 3",
+];
+
+/// They are asked for, and placed in the log of their home.
+const THREE_PUTS_BEGIN: &[&str] = &[
+    "submit 0 x",
+    "submit 0 y",
+    "submit 0 z",
+    "append 0 0 0",
+    "append 0 0 1",
+    "append 0 0 2",
+];
+
+/// Two transfers of two homes, in opposite ways.
+const CROSSING: &[&str] = &[
+    "session p at 0",
+    "call xfer \"b\" \"a\" 3",
+    "session q at 1",
+    "call xfer \"a\" \"b\" 4",
+];
+
+/// They stand in both logs in opposite orders, of which region 0 inserts its own.
+const CROSSING_BEGIN: &[&str] = &[
+    "submit 0 p",
+    "submit 1 q",
+    "append 0 0 0",
+    "append 1 1 0",
+    "append 0 1 0",
+    "append 1 0 0",
+    "deliver 0 1 0 2",
+    "deliver 1 0 0 2",
+    "insert 0 0",
+    "insert 0 0",
+];
+
+/// Two reads of a key, and a put.
+const TWO_READS: &[&str] = &[
+    "session x at 0",
+    "call get \"b\"",
+    "session y at 0",
+    "call get \"b\"",
+    "session z at 0",
+    "call put \"b\" 1",
+];
+
+/// All are inserted, and the second read is executed.
+const TWO_READS_BEGIN: &[&str] = &[
+    "submit 0 x",
+    "submit 0 y",
+    "submit 0 z",
+    "append 0 0 0",
+    "append 0 0 1",
+    "append 0 0 2",
+    "insert 0 0",
+    "insert 0 0",
+    "insert 0 0",
+    "execute 0 2.0",
+];
+
+/// A put, and three transfers in a circle, which it reaches.
+const CIRCLE: &[&str] = &[
+    "session u at 0",
+    "call put \"c\" 20",
+    "session p at 0",
+    "call xfer \"c\" \"a\" 1",
+    "session q at 1",
+    "call xfer \"a\" \"b\" 1",
+    "session s at 2",
+    "call xfer \"b\" \"c\" 1",
+];
+
+/// All parts are placed, and region 0 inserts them.
+const CIRCLE_BEGIN: &[&str] = &[
+    "submit 0 u",
+    "append 0 0 0",
+    "submit 0 p",
+    "submit 1 q",
+    "submit 2 s",
+    "append 0 0 1",
+    "append 1 1 0",
+    "append 2 2 0",
+    "append 0 2 0",
+    "append 1 0 0",
+    "append 2 1 0",
+    "deliver 0 1 0 2",
+    "deliver 0 2 0 2",
+    "insert 0 0",
+    "insert 0 0",
+    "insert 0 0",
+    "insert 0 1",
+    "insert 0 1",
+    "insert 0 2",
+    "insert 0 2",
+];
 
 /// Replays.
 const CASES: [Case; 17] = [
@@ -26,6 +130,7 @@ const CASES: [Case; 17] = [
         cluster: &[":1"],
         workload: &[],
         events: &[],
+        then: &[],
         exit: 0,
         told: &["replies", "order", "table 0"],
     },
@@ -40,6 +145,7 @@ const CASES: [Case; 17] = [
             "execute 0 1.0",
             "answer 0 a",
         ],
+        then: &[],
         exit: 0,
         told: &[
             "replies",
@@ -53,21 +159,9 @@ const CASES: [Case; 17] = [
     Case {
         shows: "repeated and lost deliveries change nothing",
         cluster: &[":2"],
-        workload: &[
-            "session x at 0",
-            "call put \"b\" 1",
-            "session y at 0",
-            "call put \"d\" 2",
-            "session z at 0",
-            "call put \"f\" 3",
-        ],
-        events: &[
-            "submit 0 x",
-            "submit 0 y",
-            "submit 0 z",
-            "append 0 0 0",
-            "append 0 0 1",
-            "append 0 0 2",
+        workload: THREE_PUTS,
+        events: THREE_PUTS_BEGIN,
+        then: &[
             "deliver 1 0 0 2",
             "deliver 1 0 0 2",
             "deliver 1 0 3 3",
@@ -96,23 +190,9 @@ const CASES: [Case; 17] = [
     Case {
         shows: "a delivery past the end of a log is refused",
         cluster: &[":2"],
-        workload: &[
-            "session x at 0",
-            "call put \"b\" 1",
-            "session y at 0",
-            "call put \"d\" 2",
-            "session z at 0",
-            "call put \"f\" 3",
-        ],
-        events: &[
-            "submit 0 x",
-            "submit 0 y",
-            "submit 0 z",
-            "append 0 0 0",
-            "append 0 0 1",
-            "append 0 0 2",
-            "deliver 1 0 0 4",
-        ],
+        workload: THREE_PUTS,
+        events: THREE_PUTS_BEGIN,
+        then: &["deliver 1 0 0 4"],
         exit: 6,
         told: &["detock: events line 7: rule 3"],
     },
@@ -140,6 +220,7 @@ const CASES: [Case; 17] = [
             "execute 0 2.0",
             "execute 1 1.0",
         ],
+        then: &[],
         exit: 0,
         told: &[
             "replies",
@@ -157,23 +238,9 @@ const CASES: [Case; 17] = [
     Case {
         shows: "calls over two homes deadlock and end alike",
         cluster: &["regions = 2", "[rows]", "a = 10", "b = 10"],
-        workload: &[
-            "session p at 0",
-            "call xfer \"b\" \"a\" 3",
-            "session q at 1",
-            "call xfer \"a\" \"b\" 4",
-        ],
-        events: &[
-            "submit 0 p",
-            "submit 1 q",
-            "append 0 0 0",
-            "append 1 1 0",
-            "append 0 1 0",
-            "append 1 0 0",
-            "deliver 0 1 0 2",
-            "deliver 1 0 0 2",
-            "insert 0 0",
-            "insert 0 0",
+        workload: CROSSING,
+        events: CROSSING_BEGIN,
+        then: &[
             "insert 0 1",
             "insert 0 1",
             "insert 1 0",
@@ -208,79 +275,27 @@ const CASES: [Case; 17] = [
     Case {
         shows: "a group is not resolved before it is known whole",
         cluster: &["regions = 2", "[rows]", "a = 10", "b = 10"],
-        workload: &[
-            "session p at 0",
-            "call xfer \"b\" \"a\" 3",
-            "session q at 1",
-            "call xfer \"a\" \"b\" 4",
-        ],
-        events: &[
-            "submit 0 p",
-            "submit 1 q",
-            "append 0 0 0",
-            "append 1 1 0",
-            "append 0 1 0",
-            "append 1 0 0",
-            "deliver 0 1 0 2",
-            "deliver 1 0 0 2",
-            "insert 0 0",
-            "insert 0 0",
-            "resolve 0 1.0 1.1",
-        ],
+        workload: CROSSING,
+        events: CROSSING_BEGIN,
+        then: &["resolve 0 1.0 1.1"],
         exit: 6,
         told: &["detock: events line 11: rule 5"],
     },
     Case {
         shows: "a member of a group is not executed before it is resolved",
         cluster: &["regions = 2", "[rows]", "a = 10", "b = 10"],
-        workload: &[
-            "session p at 0",
-            "call xfer \"b\" \"a\" 3",
-            "session q at 1",
-            "call xfer \"a\" \"b\" 4",
-        ],
-        events: &[
-            "submit 0 p",
-            "submit 1 q",
-            "append 0 0 0",
-            "append 1 1 0",
-            "append 0 1 0",
-            "append 1 0 0",
-            "deliver 0 1 0 2",
-            "deliver 1 0 0 2",
-            "insert 0 0",
-            "insert 0 0",
-            "execute 0 1.0",
-        ],
+        workload: CROSSING,
+        events: CROSSING_BEGIN,
+        then: &["execute 0 1.0"],
         exit: 6,
         told: &["detock: events line 11: rule 6"],
     },
     Case {
         shows: "reads do not wait for each other",
         cluster: &[":2"],
-        workload: &[
-            "session x at 0",
-            "call get \"b\"",
-            "session y at 0",
-            "call get \"b\"",
-            "session z at 0",
-            "call put \"b\" 1",
-        ],
-        events: &[
-            "submit 0 x",
-            "submit 0 y",
-            "submit 0 z",
-            "append 0 0 0",
-            "append 0 0 1",
-            "append 0 0 2",
-            "insert 0 0",
-            "insert 0 0",
-            "insert 0 0",
-            "execute 0 2.0",
-            "execute 0 1.0",
-            "execute 0 3.0",
-            "answer 0 y",
-        ],
+        workload: TWO_READS,
+        events: TWO_READS_BEGIN,
+        then: &["execute 0 1.0", "execute 0 3.0", "answer 0 y"],
         exit: 0,
         told: &[
             "replies",
@@ -297,64 +312,18 @@ const CASES: [Case; 17] = [
     Case {
         shows: "a put waits for the reads before it",
         cluster: &[":2"],
-        workload: &[
-            "session x at 0",
-            "call get \"b\"",
-            "session y at 0",
-            "call get \"b\"",
-            "session z at 0",
-            "call put \"b\" 1",
-        ],
-        events: &[
-            "submit 0 x",
-            "submit 0 y",
-            "submit 0 z",
-            "append 0 0 0",
-            "append 0 0 1",
-            "append 0 0 2",
-            "insert 0 0",
-            "insert 0 0",
-            "insert 0 0",
-            "execute 0 2.0",
-            "execute 0 3.0",
-        ],
+        workload: TWO_READS,
+        events: TWO_READS_BEGIN,
+        then: &["execute 0 3.0"],
         exit: 6,
         told: &["detock: events line 11: rule 6"],
     },
     Case {
         shows: "what stands outside a circle runs first",
         cluster: &["regions = 3", "[rows]", "a = 10", "b = 10", "c = 10"],
-        workload: &[
-            "session u at 0",
-            "call put \"c\" 20",
-            "session p at 0",
-            "call xfer \"c\" \"a\" 1",
-            "session q at 1",
-            "call xfer \"a\" \"b\" 1",
-            "session s at 2",
-            "call xfer \"b\" \"c\" 1",
-        ],
-        events: &[
-            "submit 0 u",
-            "append 0 0 0",
-            "submit 0 p",
-            "submit 1 q",
-            "submit 2 s",
-            "append 0 0 1",
-            "append 1 1 0",
-            "append 2 2 0",
-            "append 0 2 0",
-            "append 1 0 0",
-            "append 2 1 0",
-            "deliver 0 1 0 2",
-            "deliver 0 2 0 2",
-            "insert 0 0",
-            "insert 0 0",
-            "insert 0 0",
-            "insert 0 1",
-            "insert 0 1",
-            "insert 0 2",
-            "insert 0 2",
+        workload: CIRCLE,
+        events: CIRCLE_BEGIN,
+        then: &[
             "execute 0 1.0",
             "resolve 0 1.1 1.2 2.0",
             "execute 0 1.1",
@@ -386,39 +355,9 @@ const CASES: [Case; 17] = [
     Case {
         shows: "a circle waits for what reaches it from outside",
         cluster: &["regions = 3", "[rows]", "a = 10", "b = 10", "c = 10"],
-        workload: &[
-            "session u at 0",
-            "call put \"c\" 20",
-            "session p at 0",
-            "call xfer \"c\" \"a\" 1",
-            "session q at 1",
-            "call xfer \"a\" \"b\" 1",
-            "session s at 2",
-            "call xfer \"b\" \"c\" 1",
-        ],
-        events: &[
-            "submit 0 u",
-            "append 0 0 0",
-            "submit 0 p",
-            "submit 1 q",
-            "submit 2 s",
-            "append 0 0 1",
-            "append 1 1 0",
-            "append 2 2 0",
-            "append 0 2 0",
-            "append 1 0 0",
-            "append 2 1 0",
-            "deliver 0 1 0 2",
-            "deliver 0 2 0 2",
-            "insert 0 0",
-            "insert 0 0",
-            "insert 0 0",
-            "insert 0 1",
-            "insert 0 1",
-            "insert 0 2",
-            "insert 0 2",
-            "resolve 0 1.1 1.2 2.0",
-        ],
+        workload: CIRCLE,
+        events: CIRCLE_BEGIN,
+        then: &["resolve 0 1.1 1.2 2.0"],
         exit: 6,
         told: &["detock: events line 21: rule 5"],
     },
@@ -427,6 +366,7 @@ const CASES: [Case; 17] = [
         cluster: &[":1"],
         workload: &["session a at 0", "call put \"b\" 5"],
         events: &["submit 0 a", "append 0 0 0", "execute 0 1.0"],
+        then: &[],
         exit: 6,
         told: &["detock: events line 3: rule 6"],
     },
@@ -441,6 +381,7 @@ const CASES: [Case; 17] = [
             "execute 0 1.0",
             "answer 0 a",
         ],
+        then: &[],
         exit: 6,
         told: &["detock: events line 2: no event"],
     },
@@ -449,6 +390,7 @@ const CASES: [Case; 17] = [
         cluster: &[":1"],
         workload: &["session a at 0", "call put \"b\" 5"],
         events: &["answer 0 a", "", "# a comment", "answer 0"],
+        then: &[],
         exit: 6,
         told: &["detock: events line 4: no event"],
     },
@@ -457,6 +399,7 @@ const CASES: [Case; 17] = [
         cluster: &[":1"],
         workload: &["session a at 0", "call put \"b\" 5"],
         events: &["# a comment", "answer 0 a", "answer 0 a"],
+        then: &[],
         exit: 6,
         told: &["detock: events line 2: rule 7"],
     },
@@ -465,15 +408,23 @@ const CASES: [Case; 17] = [
         cluster: &[":1"],
         workload: &["session a at 0", "call put \"b\" 5"],
         events: &["resolve 2 1.0 1.1"],
+        then: &[],
         exit: 6,
         told: &["detock: events line 1: rule 5"],
     },
 ];
 
+/// The events of a case.
+fn events_of(alloc: Global, case: &Case) -> Result<Vec<u8>, Fail> {
+    let mut events = file_of(alloc, case.events)?;
+    events.extend_from_slice(file_of(alloc, case.then)?.as_slice())?;
+    Ok(events)
+}
+
 /// How a case is to end.
-fn wanted(alloc: Global, case: &Case) -> Result<Vec<u8>, Fail> {
+pub(super) fn wanted(alloc: Global, case: &Case) -> Result<Vec<u8>, Fail> {
     if case.exit == 0 {
-        return reported(alloc, case.told, file_of(alloc, case.events)?.as_slice());
+        return reported(alloc, case.told, events_of(alloc, case)?.as_slice());
     }
     let mut fault = format!(in alloc; "{} ", case.exit)?
         .as_bytes()
@@ -484,10 +435,14 @@ fn wanted(alloc: Global, case: &Case) -> Result<Vec<u8>, Fail> {
 }
 
 /// How a case ends.
-fn told<R: Threads + Wait + Sync>(rt: &R, alloc: Global, case: &Case) -> Result<Vec<u8>, Fail> {
+pub(super) fn told<R: Threads + Wait + Sync>(
+    rt: &R,
+    alloc: Global,
+    case: &Case,
+) -> Result<Vec<u8>, Fail> {
     let cluster = file_of(alloc, case.cluster)?;
     let workload = file_of(alloc, case.workload)?;
-    let events = file_of(alloc, case.events)?;
+    let events = events_of(alloc, case)?;
     replay(
         rt,
         alloc,

@@ -4,7 +4,6 @@ use Rattle.dt_outside.specs.Folder.{Files}
 use Rattle.detock.specs.TaskCode.{asked_for}
 use Rattle.detock.specs.Tasks.{word_bytes}
 use Rattle.detock.specs.Loading.{HasFile, HoldEvents, HoldWorkload}
-use Rattle.detock.specs.Headline.{HasMove}
 use Rattle.detock.specs.Causes.{AsksBuilt}
 use Rattle.detock.specs.RefusalCode.{IsRefusal}
 use Rattle.detock.specs.declared.status.Status.{Status}
@@ -43,13 +42,12 @@ returns-in_err-events-clause-refused g c = λ status is.
     let refused : c.load_events.result ≡ Err status = passed_on c.load_events.result c.from_residual-in_err-events.result _ made status c.in_err-events.was is_made same is in
     let asks : AsksBuilt (word_bytes c.args.words.now) (asked_for c.in-Some.replay) = record { asked = c.in-Some.ensures.0; built = λ threaded. threaded } in
     let W : Option Files → Type 0 = λ told. HasFile told c.in-Some.replay.workload.now (HoldWorkload c.in_ok-cluster.cluster c.in_ok-workload.workload) in
-    let still : ¬ HasMove c.in_ok-workload.workload = λ move. cc in
     let follows : Follows (g.F.Folder.seen c.args.files.now) (g.F.Folder.seen c.load_workload.new.files) = record {
       told = c.load_workload.ensures.same_told ∙ c.load_cluster.ensures.same_told;
       later = omega (arith, c.load_cluster.ensures.later, c.load_workload.ensures.later);
     } in
     no_events (word_bytes c.args.words.now) (g.F.Folder.seen c.args.files.now) _ _ _ asks _ c.in_ok-cluster.ensures.cluster _ (subst W c.load_cluster.ensures.same_told c.in_ok-workload.ensures.workload)
-    (g.F.Folder.seen c.load_workload.new.files) (g.F.Folder.seen c.load_events.new.files) status still follows
+    (g.F.Folder.seen c.load_workload.new.files) (g.F.Folder.seen c.load_events.new.files) status follows
     (c.load_events.ensures.refused status refused)
 
 pub returns-clause-done : goal.returns-clause-done
@@ -67,20 +65,18 @@ returns-clause-possible g c =
     let asks : AsksBuilt (word_bytes c.args.words.now) (asked_for c.in-Some.replay) = record { asked = c.in-Some.ensures.0; built = λ threaded. threaded } in
     let W : Option Files → Type 0 = λ told. HasFile told c.in-Some.replay.workload.now (HoldWorkload c.in_ok-cluster.cluster c.in_ok-workload.workload) in
     let P : Option Files → Type 0 = λ told. HasFile told c.in-Some.replay.events.now (HoldEvents c.in_ok-events.events.items) in
-    let still : ¬ HasMove c.in_ok-workload.workload = λ move. cc in
     possible (word_bytes c.args.words.now) (g.F.Folder.seen c.args.files.now) _ _ _ asks _ c.in_ok-cluster.ensures.cluster _
     (subst W c.load_cluster.ensures.same_told c.in_ok-workload.ensures.workload) c.in_ok-events.events.items
-    (subst P (c.load_workload.ensures.same_told ∙ c.load_cluster.ensures.same_told) c.in_ok-events.ensures.events) c.report_of.result still c.report_of.ensures.legal
+    (subst P (c.load_workload.ensures.same_told ∙ c.load_cluster.ensures.same_told) c.in_ok-events.ensures.events) c.report_of.result c.report_of.ensures.legal
 
 pub returns-clause-refused : goal.returns-clause-refused
 returns-clause-refused g c = λ status is.
     let asks : AsksBuilt (word_bytes c.args.words.now) (asked_for c.in-Some.replay) = record { asked = c.in-Some.ensures.0; built = λ threaded. threaded } in
     let W : Option Files → Type 0 = λ told. HasFile told c.in-Some.replay.workload.now (HoldWorkload c.in_ok-cluster.cluster c.in_ok-workload.workload) in
     let P : Option Files → Type 0 = λ told. HasFile told c.in-Some.replay.events.now (HoldEvents c.in_ok-events.events.items) in
-    let still : ¬ HasMove c.in_ok-workload.workload = λ move. cc in
     not_legal (word_bytes c.args.words.now) (g.F.Folder.seen c.args.files.now) _ _ _ asks _ c.in_ok-cluster.ensures.cluster _
     (subst W c.load_cluster.ensures.same_told c.in_ok-workload.ensures.workload) c.in_ok-events.events.items
-    (subst P (c.load_workload.ensures.same_told ∙ c.load_cluster.ensures.same_told) c.in_ok-events.ensures.events) (g.F.Folder.seen c.load_events.new.files) status still (c.report_of.ensures.refused status is)
+    (subst P (c.load_workload.ensures.same_told ∙ c.load_cluster.ensures.same_told) c.in_ok-events.ensures.events) (g.F.Folder.seen c.load_events.new.files) status (c.report_of.ensures.refused status is)
 
 pub returns-in_err-cluster-clause-unread : goal.returns-in_err-cluster-clause-unread
 returns-in_err-cluster-clause-unread g c = λ is.

@@ -10,7 +10,7 @@ use Rattle.dt_world.specs.WorldInner.{site_at}
 use Rattle.dt_world.proofs.OneSite.{region_here, same_lawful, same_view}
 use Rattle.dt_world.proofs.Rule2Append.{append_done, append_not, asked_held, can_place}
 use Rattle.dt_world.proofs.WorldLaws.{a_site, behind, made_before, out_of_memory}
-use Rattle.dt_world.proofs.WorldSeats.{steps_few}
+use Rattle.dt_world.proofs.WorldFacts.{steps_few}
 use Rattle.dt_world.proofs.world.World.append.Goals as goal
 
 pub asked-asked-requires : goal.asked-asked-requires

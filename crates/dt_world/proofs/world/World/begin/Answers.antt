@@ -3,10 +3,10 @@ use Rattle.dt_world.proofs.world.World.begin.Goals as goal
 
 pub invariant_of-result : goal.invariant_of-result
 invariant_of-result g c =
-    (begun_from c.in_ok-copy.field-0 c.args.cluster.now c.in_ok-copy-2.field-0 c.args.workload.now c.in_ok-new.field-0 c.in_ok-sites.field-0.items c.in_ok-copy.ensures c.in_ok-copy-2.ensures
-    c.requires.cluster c.requires.workload c.in_ok-new.ensures c.in_ok-sites.ensures.opening c.in_ok-sites.ensures.sound).0
+    (begun_from c.in_ok-copy.field-0 c.args.cluster.now c.in_ok-copy-2.field-0 c.args.workload.now c.in_ok-sessions.field-0.items c.in_ok-sites.field-0.items c.in_ok-copy.ensures c.in_ok-copy-2.ensures
+    c.requires.cluster c.requires.workload c.in_ok-sessions.ensures c.in_ok-sites.ensures.opening c.in_ok-sites.ensures.sound).0
 
 pub returns : goal.returns
 returns g c =
-    (begun_from c.in_ok-copy.field-0 c.args.cluster.now c.in_ok-copy-2.field-0 c.args.workload.now c.in_ok-new.field-0 c.in_ok-sites.field-0.items c.in_ok-copy.ensures c.in_ok-copy-2.ensures
-    c.requires.cluster c.requires.workload c.in_ok-new.ensures c.in_ok-sites.ensures.opening c.in_ok-sites.ensures.sound).1
+    (begun_from c.in_ok-copy.field-0 c.args.cluster.now c.in_ok-copy-2.field-0 c.args.workload.now c.in_ok-sessions.field-0.items c.in_ok-sites.field-0.items c.in_ok-copy.ensures c.in_ok-copy-2.ensures
+    c.requires.cluster c.requires.workload c.in_ok-sessions.ensures c.in_ok-sites.ensures.opening c.in_ok-sites.ensures.sound).1

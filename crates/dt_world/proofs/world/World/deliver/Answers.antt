@@ -4,7 +4,6 @@ use Rattle.dt_lists.specs.Lists.{AllIn}
 use Rattle.dt_sched.specs.Views.{log_at}
 use Rattle.dt_txn.specs.declared.Entry.{Entry}
 use Rattle.dt_region.specs.Region.{RegionView, held}
-use Rattle.dt_region.specs.Sound.{IsSoundRegion}
 use Rattle.dt_site.proofs.Callers.{joins}
 use Rattle.dt_events.specs.declared.Event.TheVariants.{Deliver}
 use Rattle.dt_session.specs.Step.{IsLegal}
@@ -13,7 +12,7 @@ use Rattle.dt_world.specs.WorldInner.{site_at}
 use Rattle.dt_world.proofs.OneSite.{region_here, sound_here, same_lawful, same_view}
 use Rattle.dt_world.proofs.Rule3Deliver.{can_take, deliver_done, deliver_none, out_of_order, past_log}
 use Rattle.dt_world.proofs.WorldLaws.{a_site, behind, made_before, out_of_memory}
-use Rattle.dt_world.proofs.WorldSeats.{steps_few}
+use Rattle.dt_world.proofs.WorldFacts.{steps_few}
 use Rattle.dt_world.proofs.world.World.deliver.Goals as goal
 use Rattle.dt_world.proofs.world.World.deliver.Goals.{then-first-last-via-then-first-last, then-first-last-via-else-first-last+then-last-len}
 

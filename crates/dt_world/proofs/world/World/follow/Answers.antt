@@ -1,7 +1,6 @@
-use Rattle.std.proofs.Common.{◌≡◌, ◌+◌, ◌≤◌, None, Some, [], ◌∷◌, ◌++◌, length, refl, sym, ap, subst, ◌∙◌, arith}
-use Rattle.std.specs.List.{position}
+use Rattle.std.proofs.Common.{◌≡◌, ◌+◌, ◌≤◌, [], ◌∷◌, ◌++◌, length, refl, sym, ap, subst, ◌∙◌, arith}
 use Rattle.dt_events.specs.declared.Event.TheVariants.{Submit, Answer}
-use Rattle.dt_session.specs.World.{is_session, node_at}
+use Rattle.dt_session.specs.World.{node_at}
 use Rattle.dt_world.specs.SessionReplay.{replay_at, count_at, replies_at}
 use Rattle.dt_world.specs.WorldView.{WorldView}
 use Rattle.dt_world.proofs.WorldLaws.{short}
@@ -13,24 +12,24 @@ use Rattle.dt_world.proofs.world.World.follow.Goals as goal
 pub unreachable-requires : goal.unreachable-requires
 unreachable-requires g c = follow_somewhere c.requires.led c.args.at c.in-Submit.region c.in-Submit.session
     (item_at c.args.events.now c.args.at c.index-events-at.result (Submit c.in-Submit.region c.in-Submit.session) c.requires.at c.index-events-at.is c.in-Submit.is)
-    (subst (λ (v : WorldView). position (is_session c.in-Submit.region c.in-Submit.session) v.workload.sessions ≡ None) c.self.view_is (sym c.find.ensures.place ∙ c.in_default-find.is))
+    (sym c.find.ensures ∙ c.in_default-find.is)
 
 pub submit-requires-clause-place : goal.submit-requires-clause-place
 submit-requires-clause-place g c = follow_place c.requires.led c.args.at c.in-Submit.region c.in-Submit.session
     (item_at c.args.events.now c.args.at c.index-events-at.result (Submit c.in-Submit.region c.in-Submit.session) c.requires.at c.index-events-at.is c.in-Submit.is) c.in-Some.place
-    (subst (λ (v : WorldView). position (is_session c.in-Submit.region c.in-Submit.session) v.workload.sessions ≡ Some c.in-Some.place) c.self.view_is (sym c.find.ensures.place ∙ c.in-Some.is)) c.args.replay.now c.requires.replay
+    (sym c.find.ensures ∙ c.in-Some.is) c.args.replay.now c.requires.replay
 
 pub submit-requires-clause-region : goal.submit-requires-clause-region
 submit-requires-clause-region g c = follow_region c.requires.led c.args.at c.in-Submit.region c.in-Submit.session
     (item_at c.args.events.now c.args.at c.index-events-at.result (Submit c.in-Submit.region c.in-Submit.session) c.requires.at c.index-events-at.is c.in-Submit.is) c.in-Some.place
-    (subst (λ (v : WorldView). position (is_session c.in-Submit.region c.in-Submit.session) v.workload.sessions ≡ Some c.in-Some.place) c.self.view_is (sym c.find.ensures.place ∙ c.in-Some.is)) c.args.replay.now c.requires.replay
+    (sym c.find.ensures ∙ c.in-Some.is) c.args.replay.now c.requires.replay
 
 pub submit-requires-clause-few : goal.submit-requires-clause-few
 submit-requires-clause-few g c =
     let a : count_at c.args.replay.now c.in-Submit.region + 1 ≤ length (node_at c.args.self.now.state c.in-Submit.region).submitted =
     follow_few c.requires.led c.args.at c.in-Submit.region c.in-Submit.session
     (item_at c.args.events.now c.args.at c.index-events-at.result (Submit c.in-Submit.region c.in-Submit.session) c.requires.at c.index-events-at.is c.in-Submit.is) c.in-Some.place
-    (subst (λ (v : WorldView). position (is_session c.in-Submit.region c.in-Submit.session) v.workload.sessions ≡ Some c.in-Some.place) c.self.view_is (sym c.find.ensures.place ∙ c.in-Some.is)) c.args.replay.now c.requires.replay in
+    (sym c.find.ensures ∙ c.in-Some.is) c.args.replay.now c.requires.replay in
     let b : length (node_at c.args.self.now.state c.in-Submit.region).submitted ≤ c.self.inside.steps =
     subst (λ (v : WorldView). length (node_at v.state c.in-Submit.region).submitted ≤ c.self.inside.steps) c.self.view_is ((short c.self.invariant).submitted c.in-Submit.region) in
     omega (arith, a, b)
@@ -38,42 +37,42 @@ submit-requires-clause-few g c =
 pub unreachable-requires-in_default-find-2 : goal.unreachable-requires-in_default-find-2
 unreachable-requires-in_default-find-2 g c = reply_somewhere c.requires.led c.args.at c.in-Answer.region c.in-Answer.session
     (item_at c.args.events.now c.args.at c.index-events-at.result (Answer c.in-Answer.region c.in-Answer.session) c.requires.at c.index-events-at.is c.in-Answer.is)
-    (subst (λ (v : WorldView). position (is_session c.in-Answer.region c.in-Answer.session) v.workload.sessions ≡ None) c.self.view_is (sym c.find-in-Answer.ensures.place ∙ c.in_default-find-2.is))
+    (sym c.find-in-Answer.ensures ∙ c.in_default-find-2.is)
 
 pub waits-requires : goal.waits-requires
 waits-requires g c = reply_place c.requires.led c.args.at c.in-Answer.region c.in-Answer.session
     (item_at c.args.events.now c.args.at c.index-events-at.result (Answer c.in-Answer.region c.in-Answer.session) c.requires.at c.index-events-at.is c.in-Answer.is) c.in-Some-find.place
-    (subst (λ (v : WorldView). position (is_session c.in-Answer.region c.in-Answer.session) v.workload.sessions ≡ Some c.in-Some-find.place) c.self.view_is (sym c.find-in-Answer.ensures.place ∙ c.in-Some-find.is)) c.args.replay.now
+    (sym c.find-in-Answer.ensures ∙ c.in-Some-find.is) c.args.replay.now
     c.requires.replay
 
 pub unreachable-requires-in_default-waits : goal.unreachable-requires-in_default-waits
 unreachable-requires-in_default-waits g c = reply_waits c.requires.led c.args.at c.in-Answer.region c.in-Answer.session
     (item_at c.args.events.now c.args.at c.index-events-at.result (Answer c.in-Answer.region c.in-Answer.session) c.requires.at c.index-events-at.is c.in-Answer.is) c.in-Some-find.place
-    (subst (λ (v : WorldView). position (is_session c.in-Answer.region c.in-Answer.session) v.workload.sessions ≡ Some c.in-Some-find.place) c.self.view_is (sym c.find-in-Answer.ensures.place ∙ c.in-Some-find.is)) c.args.replay.now
+    (sym c.find-in-Answer.ensures ∙ c.in-Some-find.is) c.args.replay.now
     c.requires.replay (sym c.waits.ensures ∙ c.in_default-waits.is)
 
 pub reply-requires-clause-region : goal.reply-requires-clause-region
 reply-requires-clause-region g c = reply_region c.requires.led c.args.at c.in-Answer.region c.in-Answer.session
     (item_at c.args.events.now c.args.at c.index-events-at.result (Answer c.in-Answer.region c.in-Answer.session) c.requires.at c.index-events-at.is c.in-Answer.is) c.in-Some-find.place
-    (subst (λ (v : WorldView). position (is_session c.in-Answer.region c.in-Answer.session) v.workload.sessions ≡ Some c.in-Some-find.place) c.self.view_is (sym c.find-in-Answer.ensures.place ∙ c.in-Some-find.is)) c.args.replay.now
+    (sym c.find-in-Answer.ensures ∙ c.in-Some-find.is) c.args.replay.now
     c.requires.replay
 
 pub reply-requires-clause-own : goal.reply-requires-clause-own
 reply-requires-clause-own g c = reply_own c.requires.led c.args.at c.in-Answer.region c.in-Answer.session
     (item_at c.args.events.now c.args.at c.index-events-at.result (Answer c.in-Answer.region c.in-Answer.session) c.requires.at c.index-events-at.is c.in-Answer.is) c.in-Some-find.place
-    (subst (λ (v : WorldView). position (is_session c.in-Answer.region c.in-Answer.session) v.workload.sessions ≡ Some c.in-Some-find.place) c.self.view_is (sym c.find-in-Answer.ensures.place ∙ c.in-Some-find.is)) c.args.replay.now
+    (sym c.find-in-Answer.ensures ∙ c.in-Some-find.is) c.args.replay.now
     c.requires.replay c.in-Some-waits.id (sym c.waits.ensures ∙ c.in-Some-waits.is)
 
 pub reply-requires-clause-executed : goal.reply-requires-clause-executed
 reply-requires-clause-executed g c = reply_executed c.requires.led c.args.at c.in-Answer.region c.in-Answer.session
     (item_at c.args.events.now c.args.at c.index-events-at.result (Answer c.in-Answer.region c.in-Answer.session) c.requires.at c.index-events-at.is c.in-Answer.is) c.in-Some-find.place
-    (subst (λ (v : WorldView). position (is_session c.in-Answer.region c.in-Answer.session) v.workload.sessions ≡ Some c.in-Some-find.place) c.self.view_is (sym c.find-in-Answer.ensures.place ∙ c.in-Some-find.is)) c.args.replay.now
+    (sym c.find-in-Answer.ensures ∙ c.in-Some-find.is) c.args.replay.now
     c.requires.replay c.in-Some-waits.id (sym c.waits.ensures ∙ c.in-Some-waits.is)
 
 pub returns-in-Some-clause-replay : goal.returns-in-Some-clause-replay
 returns-in-Some-clause-replay g c = c.submit.ensures ∙ follow_submitted c.requires.led c.args.at c.in-Submit.region c.in-Submit.session
     (item_at c.args.events.now c.args.at c.index-events-at.result (Submit c.in-Submit.region c.in-Submit.session) c.requires.at c.index-events-at.is c.in-Submit.is) c.in-Some.place
-    (subst (λ (v : WorldView). position (is_session c.in-Submit.region c.in-Submit.session) v.workload.sessions ≡ Some c.in-Some.place) c.self.view_is (sym c.find.ensures.place ∙ c.in-Some.is)) c.args.replay.now c.requires.replay
+    (sym c.find.ensures ∙ c.in-Some.is) c.args.replay.now c.requires.replay
 
 pub returns-in-Some-clause-replies : goal.returns-in-Some-clause-replies
 returns-in-Some-clause-replies g c = c.requires.replies ∙ plain_replies c.requires.led c.args.at (Submit c.in-Submit.region c.in-Submit.session)
@@ -83,7 +82,7 @@ pub returns-in_ok-reply-in-Answer-clause-replay : goal.returns-in_ok-reply-in-An
 returns-in_ok-reply-in-Answer-clause-replay g c = on_ok _ c.push.result
     (c.answer.ensures ∙ reply_followed c.requires.led c.args.at c.in-Answer.region c.in-Answer.session
     (item_at c.args.events.now c.args.at c.index-events-at.result (Answer c.in-Answer.region c.in-Answer.session) c.requires.at c.index-events-at.is c.in-Answer.is) c.in-Some-find.place
-    (subst (λ (v : WorldView). position (is_session c.in-Answer.region c.in-Answer.session) v.workload.sessions ≡ Some c.in-Some-find.place) c.self.view_is (sym c.find-in-Answer.ensures.place ∙ c.in-Some-find.is)) c.args.replay.now
+    (sym c.find-in-Answer.ensures ∙ c.in-Some-find.is) c.args.replay.now
     c.requires.replay)
 
 pub returns-in_ok-reply-in-Answer-clause-replies : goal.returns-in_ok-reply-in-Answer-clause-replies
@@ -91,7 +90,7 @@ returns-in_ok-reply-in-Answer-clause-replies g c = on_ok_map _ _ c.push.result
     (λ e. e ∙ ap (λ l. l ++ c.in_ok-reply-in-Answer.reply ∷ []) c.requires.replies
     ∙ reply_added c.requires.led c.args.at c.in-Answer.region c.in-Answer.session
     (item_at c.args.events.now c.args.at c.index-events-at.result (Answer c.in-Answer.region c.in-Answer.session) c.requires.at c.index-events-at.is c.in-Answer.is) c.in-Some-find.place
-    (subst (λ (v : WorldView). position (is_session c.in-Answer.region c.in-Answer.session) v.workload.sessions ≡ Some c.in-Some-find.place) c.self.view_is (sym c.find-in-Answer.ensures.place ∙ c.in-Some-find.is)) c.args.replay.now
+    (sym c.find-in-Answer.ensures ∙ c.in-Some-find.is) c.args.replay.now
     c.requires.replay c.in-Some-waits.id (sym c.waits.ensures ∙ c.in-Some-waits.is) c.in_ok-reply-in-Answer.reply c.in_ok-reply-in-Answer.ensures) c.push.ensures.added
 
 pub returns-in_default : goal.returns-in_default

@@ -1,4 +1,4 @@
-use Rattle.std.proofs.Common.{◌≡◌, ◌<◌, List, [], length, get_or, sym, ap, ◌∙◌, arith}
+use Rattle.std.proofs.Common.{◌<◌, List, [], length, get_or, sym, ap, ◌∙◌, arith}
 use Rattle.std.proofs.lemmas.Grind.{common_steps}
 use Rattle.dt_lists.proofs.Callers.{get_of_map}
 use Rattle.dt_events.specs.declared.Event.{Event}
@@ -6,7 +6,7 @@ use Rattle.dt_region.specs.Region.{RegionView}
 use Rattle.dt_site.specs.Site.{SiteView, no_site}
 use Rattle.dt_world.specs.WorldView.{WorldView}
 use Rattle.dt_world.proofs.WorldLaws.{a_site, behind}
-use Rattle.dt_world.proofs.WorldSeats.{a_number}
+use Rattle.dt_world.proofs.WorldFacts.{a_number}
 use Rattle.dt_world.proofs.world.World.kept.Goals as goal
 
 pub index-requires : goal.index-requires

@@ -2,19 +2,17 @@ use Rattle.std.proofs.lemmas.Grind.{common_steps}
 use Rattle.std.proofs.Common.{◌≡◌, ◌≤◌, ◌<◌, ◌-◌, Some, length, get_or, sym, ap, subst, ◌∙◌, arith}
 use Rattle.dt_txn.specs.declared.Outcome.{Outcome}
 use Rattle.dt_report.specs.declared.Ran.{Ran}
-use Rattle.dt_region.specs.Region.{outcome_of}
 use Rattle.dt_session.specs.World.{Submission, node_at, outcome_at, submission_of}
 use Rattle.dt_agreement.specs.Invariant.{IsExecutedAt}
 use Rattle.dt_site.specs.Site.{SiteView, attempt}
-use Rattle.dt_world.specs.SessionReplay.{ran_at}
-use Rattle.dt_world.specs.WorldInner.{site_at, world_of}
+use Rattle.dt_world.specs.WorldInner.{site_at}
 use Rattle.dt_world.specs.WorldReport.{ran}
 use Rattle.dt_world.specs.WorldView.{WorldView}
 use Rattle.dt_world.proofs.Executions.{outcome_there, stands_among}
 use Rattle.dt_world.proofs.OneSite.{outcome_is}
 use Rattle.dt_world.proofs.Reports.{ran_found}
 use Rattle.dt_world.proofs.WorldLaws.{a_site, behind, read_at}
-use Rattle.dt_world.proofs.WorldSeats.{a_number}
+use Rattle.dt_world.proofs.WorldFacts.{a_number}
 use Rattle.dt_world.proofs.world.World.ran.Goals as goal
 
 pub unreachable-requires : goal.unreachable-requires

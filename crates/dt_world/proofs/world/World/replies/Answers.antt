@@ -1,6 +1,5 @@
 use Rattle.std.proofs.Common.{◌≡◌, None, length, replicate, ap, subst, ◌∙◌}
 use Rattle.dt_session.specs.World.{opening_world}
-use Rattle.dt_workload.specs.declared.Workload.{Workload}
 use Rattle.dt_world.specs.SessionReplay.{replay_of}
 use Rattle.dt_world.specs.WorldView.{WorldView}
 use Rattle.dt_world.proofs.Reports.{course_begins, replies_whole}
@@ -9,9 +8,9 @@ use Rattle.dt_world.proofs.world.World.replies.Goals as goal
 pub loop-at-init : goal.loop-at-init
 loop-at-init g c = record {
   replay =
-      let many : c.len-sessions.result ≡ length c.self.inside.seats.workload.sessions = c.len-sessions.ensures ∙ ap (λ (w : Workload). length w.sessions) c.workload.ensures in
-      let opened : c.in_ok-replay.replay ≡ replay_of (opening_world c.self.inside.cluster c.self.inside.seats.workload) = c.in_ok-replay.ensures
-      ∙ ap (λ n. record { waits = replicate n None; submitted = replicate c.self.inside.cluster.regions 0 }) many ∙ course_begins c.self.inside.cluster c.self.inside.seats.workload in
+      let many : c.len-sessions.result ≡ length c.self.inside.workload.sessions = c.len-sessions.ensures in
+      let opened : c.in_ok-replay.replay ≡ replay_of (opening_world c.self.inside.cluster c.self.inside.workload) = c.in_ok-replay.ensures
+      ∙ ap (λ n. record { waits = replicate n None; submitted = replicate c.self.inside.cluster.regions 0 }) many ∙ course_begins c.self.inside.cluster c.self.inside.workload in
       subst (λ (v : WorldView). c.in_ok-replay.replay ≡ replay_of (opening_world v.cluster v.workload)) c.self.view_is opened;
   replies = c.new-replies.ensures;
 }

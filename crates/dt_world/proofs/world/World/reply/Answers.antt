@@ -1,15 +1,14 @@
-use Rattle.std.proofs.Common.{◌≡◌, ◌≤◌, ◌<◌, ◌-◌, Some, length, get_or, sym, ap, subst, ◌∙◌}
+use Rattle.std.proofs.Common.{◌≡◌, ◌≤◌, ◌-◌, Some, length, get_or, sym, ap, subst, ◌∙◌}
 use Rattle.dt_txn.specs.declared.Outcome.{Outcome}
 use Rattle.dt_session.specs.World.{Submission, node_at, outcome_at, submission_of}
 use Rattle.dt_agreement.specs.Invariant.{IsExecutedAt}
 use Rattle.dt_site.specs.Site.{SiteView, attempt}
-use Rattle.dt_world.specs.SessionReplay.{IsReply}
 use Rattle.dt_world.specs.WorldInner.{site_at}
 use Rattle.dt_world.specs.WorldView.{WorldView}
 use Rattle.dt_world.proofs.Executions.{outcome_there, stands_among}
 use Rattle.dt_world.proofs.OneSite.{outcome_is}
 use Rattle.dt_world.proofs.WorldLaws.{a_site, behind, read_at}
-use Rattle.dt_world.proofs.WorldSeats.{a_number}
+use Rattle.dt_world.proofs.WorldFacts.{a_number}
 use Rattle.dt_world.proofs.world.World.reply.Goals as goal
 
 pub unreachable-requires : goal.unreachable-requires

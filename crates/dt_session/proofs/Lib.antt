@@ -1,0 +1,2 @@
+mod SessionsLaws
+pub mod Callers

@@ -1,0 +1,248 @@
+-- The sessions of a region, gathered from a workload and found by their names.
+use Rattle.std.proofs.Common.{◌≡◌, ◌≢◌, ◌⊎◌, ◌<◌, ◌≤◌, ◌+◌, ◌-◌, ◌==◌, ℕ, zero, suc, Bool, true, false, cond, eq-eqb, eqb, eqb-true, List, [], ◌∷◌}
+use Rattle.std.proofs.Common.{length, map, get_or, drop, slice_get, Some, None, refl, sym, ap, subst, ◌∙◌, inl, inr, arith}
+use Rattle.std.specs.Prelude.{Option, IsSome, option_and_then, option_map}
+use Rattle.std.specs.List.{All}
+use Rattle.std.specs.declared.cmp.Ordering.{Ordering}
+use Rattle.std.specs.declared.cmp.Ordering.TheVariants.{Less, Equal, Greater}
+use Rattle.std.specs.Ordering.{is_lt, nat_cmp}
+use Rattle.std.specs.Cmp.Lexicographic.{bytes_decides, slice_cmp, texts_ties}
+use Rattle.std.specs.BTreeMap.{insert_entry}
+use Rattle.std.specs.Map.{lookup, set_value, values_of}
+use Rattle.std.proofs.lemmas.Bool.{cases_Bool, false_from_ne_true}
+use Rattle.std.proofs.lemmas.Option.{slice_get-get_or}
+use Rattle.std.proofs.lemmas.List.{drop_more}
+use Rattle.std.proofs.lemmas.List.Sums.{sum_by-cons}
+use Rattle.dt_lists.specs.Lists.{AllIn, Distinct}
+use Rattle.dt_lists.proofs.Callers.{place_within}
+use Rattle.dt_access.specs.Clash.{Bytes, same_key}
+use Rattle.dt_txn.specs.declared.Body.{Body}
+use Rattle.dt_txn.specs.declared.Outcome.{Outcome}
+use Rattle.dt_workload.specs.Valid.{calls_in, session_names}
+use Rattle.dt_workload.specs.declared.Session.{Session}
+use Rattle.dt_workload.specs.declared.Wanted.{Wanted}
+use Rattle.dt_session.specs.declared.sessions.Seat.{Seat}
+use Rattle.dt_session.specs.Eager.{sessions_at, with_session}
+use Rattle.dt_session.specs.declared.sessions.Waiting.{Waiting}
+use Rattle.dt_session.specs.Sessions.{IsSoundSeat, MayBeAnswered, MayGo, MaySeatEnd, MaySeatTry, SessionsView, StandsWithin, idle_seat, is_named, seat_of}
+use Rattle.dt_session.specs.World.{Place, idle_place, session_at}
+use Rattle.dt_session.specs.Tries.{Awaited, IsLast, MayEnd, MayTry, body_of}
+
+-- one name is another
+same_name : (a b : Bytes) → is_named a b ≡ true → a ≡ b
+same_name a b e = (bytes_decides a b).0 (texts_ties a b ∙ e)
+
+-- what holds of all sessions holds of those of a region
+
+with_all : (P : Session → Type 0) (s : Session) (sessions : List Session) → P s → AllIn P sessions → AllIn P (with_session s sessions)
+with_all P s [] p a = (p, tt)
+with_all P s (t ∷ sessions) p a = go (cases_Bool (is_lt (slice_cmp nat_cmp s.name t.name))) (with_all P s sessions p a.1)
+  where
+    go : (is_lt (slice_cmp nat_cmp s.name t.name) ≡ true) ⊎ (is_lt (slice_cmp nat_cmp s.name t.name) ≡ false) → AllIn P (with_session s sessions) → AllIn P (with_session s (t ∷ sessions))
+    go (inl y) rest = rw y (p, a)
+    go (inr n) rest = rw n (a.0, rest)
+
+region_all : (P : Session → Type 0) (region : ℕ) (sessions : List Session) → AllIn P sessions → AllIn P (sessions_at region sessions)
+region_all P region [] a = tt
+region_all P region (s ∷ sessions) a = go (cases_Bool (s.region == region)) (region_all P region sessions a.1)
+  where
+    go : ((s.region == region) ≡ true) ⊎ ((s.region == region) ≡ false) → AllIn P (sessions_at region sessions) → AllIn P (sessions_at region (s ∷ sessions))
+    go (inl y) rest = rw y (with_all P s (sessions_at region sessions) a.0 rest)
+    go (inr n) rest = rw n rest
+
+-- an idle session stands soundly, where it has not too many calls
+
+short_calls : (sessions : List Session) (few : ℕ) → calls_in sessions ≤ few → AllIn (λ s. length s.calls ≤ few) sessions
+short_calls [] few le = tt
+short_calls (s ∷ sessions) few le =
+    let sum : calls_in (s ∷ sessions) ≡ length s.calls + calls_in sessions = sum_by-cons (λ x. length x.calls) s sessions in
+    (omega (arith, le, sum), short_calls sessions few (omega (arith, le, sum)))
+
+map_all : (sessions : List Session) → AllIn (λ s. length s.calls ≤ 20000) sessions → AllIn (λ p. IsSoundSeat p.1) (map idle_seat sessions)
+map_all [] a = tt
+map_all (s ∷ sessions) a = (record { few = omega (arith, a.0); within = omega arith }, map_all sessions a.1)
+
+pub idle_sound : (region : ℕ) (sessions : List Session) → calls_in sessions ≤ 20000 → AllIn (λ p. IsSoundSeat p.1) (map idle_seat (sessions_at region sessions))
+idle_sound region sessions few = map_all (sessions_at region sessions) (region_all (λ s. length s.calls ≤ 20000) region sessions (short_calls sessions 20000 few))
+
+-- one session more is put among those of a region
+
+inserted : (s : Session) (sessions : List Session) → AllIn (λ t. s.name ≢ t.name) sessions
+    → insert_entry (slice_cmp nat_cmp) (map idle_seat sessions) s.name (idle_seat s).1 ≡ map idle_seat (with_session s sessions)
+inserted s [] n = refl
+inserted s (t ∷ sessions) n = go (slice_cmp nat_cmp s.name t.name) refl (inserted s sessions n.1)
+  where
+    go : (o : Ordering) → slice_cmp nat_cmp s.name t.name ≡ o → insert_entry (slice_cmp nat_cmp) (map idle_seat sessions) s.name (idle_seat s).1 ≡ map idle_seat (with_session s sessions)
+        → insert_entry (slice_cmp nat_cmp) (map idle_seat (t ∷ sessions)) s.name (idle_seat s).1 ≡ map idle_seat (with_session s (t ∷ sessions))
+    go Less e rest = rw e refl
+    go Equal e rest = let same : is_named s.name t.name ≡ true = rw e refl in absurd (n.0 (same_name s.name t.name same))
+    go Greater e rest = rw e (ap (λ l. idle_seat t ∷ l) rest)
+
+names_after : (sessions : List Session) (n : ℕ) (d : Session) → Distinct (session_names sessions) → n < length sessions → AllIn (λ t. (get_or sessions n d).name ≢ t.name) (drop (suc n) sessions)
+names_after [] n d once lt = absurd (omega arith)
+names_after (s ∷ sessions) zero d once lt = go sessions once.0
+  where
+    go : (ts : List Session) → AllIn (λ y. s.name ≢ y) (map (λ t. t.name) ts) → AllIn (λ t. s.name ≢ t.name) ts
+    go [] a = tt
+    go (t ∷ ts) a = (a.0, go ts a.1)
+names_after (s ∷ sessions) (suc n) d once lt = names_after sessions n d once.1 (omega arith)
+
+module _ (region : ℕ) (sessions : List Session) (once : Distinct (session_names sessions)) (n behind : ℕ) (at : behind < length sessions) (place : n ≡ length sessions - 1 - behind)
+    (s : Session) (is : s ≡ get_or sessions n s) where
+  within : n < length sessions
+  within = omega (arith, at, place)
+
+  parts : drop (length sessions - (behind + 1)) sessions ≡ s ∷ drop (length sessions - behind) sessions
+  parts =
+      let here : length sessions - (behind + 1) ≡ n = omega (arith, at, place) in
+      let next : n + 1 ≡ length sessions - behind = omega (arith, at, place) in
+      ap (λ k. drop k sessions) here ∙ drop_more sessions n s within ∙ ap (λ x. x ∷ drop (n + 1) sessions) (sym is) ∙ ap (λ k. s ∷ drop k sessions) next
+
+  -- it is one of the region's
+  pub gathered : s.region ≡ region → insert_entry (slice_cmp nat_cmp) (map idle_seat (sessions_at region (drop (length sessions - behind) sessions))) s.name (idle_seat s).1
+      ≡ map idle_seat (sessions_at region (drop (length sessions - (behind + 1)) sessions))
+  gathered here =
+      let after : suc n ≡ length sessions - behind = omega (arith, at, place) in
+      let new : AllIn (λ t. s.name ≢ t.name) (drop (length sessions - behind) sessions) =
+      subst (λ k. AllIn (λ t. s.name ≢ t.name) (drop k sessions)) after
+      (subst (λ x. AllIn (λ t. x.name ≢ t.name) (drop (suc n) sessions)) (sym is) (names_after sessions n s once within)) in
+      inserted s (sessions_at region (drop (length sessions - behind) sessions)) (region_all (λ t. s.name ≢ t.name) region (drop (length sessions - behind) sessions) new)
+      ∙ sym (ap (λ l. map idle_seat (sessions_at region l)) parts ∙ rw (eq-eqb s.region region here) refl)
+
+  -- it is not
+  pub passed_over : s.region ≢ region → sessions_at region (drop (length sessions - behind) sessions) ≡ sessions_at region (drop (length sessions - (behind + 1)) sessions)
+  passed_over away =
+      let not : eqb s.region region ≡ false = false_from_ne_true (eqb s.region region) (λ e. away (eqb-true s.region region e)) in
+      sym (ap (sessions_at region) parts ∙ rw not refl)
+
+-- a call that there is has its place
+pub a_call : (o : Option Seat) (seat : Seat) (call : ℕ) → o ≡ Some seat → IsSome (option_and_then (λ (x : Seat). slice_get x.calls (call - 1)) o) → call - 1 < length seat.calls
+a_call o seat call e some = go (slice_get seat.calls (call - 1)) refl (subst (λ x. IsSome (option_and_then (λ (y : Seat). slice_get y.calls (call - 1)) x)) e some)
+  where
+    go : (w : Option Wanted) → slice_get seat.calls (call - 1) ≡ w → IsSome w → call - 1 < length seat.calls
+    go None is h = cc
+    go (Some x) is h = place_within seat.calls (call - 1) x is
+
+-- a session that is found stands soundly, and where one that stands soundly is put in its place, all do
+
+pub found_sound : (entries : List (Bytes × Seat)) (name : Bytes) (seat : Seat) → AllIn (λ p. IsSoundSeat p.1) entries → lookup (is_named name) entries ≡ Some seat → IsSoundSeat seat
+found_sound [] name seat a e = cc
+found_sound (p ∷ entries) name seat a e = go (cases_Bool (is_named name p.0)) (found_sound entries name seat a.1)
+  where
+    go : (is_named name p.0 ≡ true) ⊎ (is_named name p.0 ≡ false) → (lookup (is_named name) entries ≡ Some seat → IsSoundSeat seat) → IsSoundSeat seat
+    go (inl y) f = let here : ◌≡◌ {A = Option Seat} (Some p.1) (Some seat) = rw y at e in let same : p.1 ≡ seat = cc in subst IsSoundSeat same a.0
+    go (inr n) f = f (rw n at e)
+
+pub put_sound : (entries : List (Bytes × Seat)) (name : Bytes) (seat : Seat) → AllIn (λ p. IsSoundSeat p.1) entries → IsSoundSeat seat → AllIn (λ p. IsSoundSeat p.1) (set_value (is_named name) entries seat)
+put_sound [] name seat a sound = tt
+put_sound (p ∷ entries) name seat a sound = go (cases_Bool (is_named name p.0)) (put_sound entries name seat a.1 sound)
+  where
+    go : (is_named name p.0 ≡ true) ⊎ (is_named name p.0 ≡ false) → AllIn (λ q. IsSoundSeat q.1) (set_value (is_named name) entries seat)
+        → AllIn (λ q. IsSoundSeat q.1) (set_value (is_named name) (p ∷ entries) seat)
+    go (inl y) rest = rw y (sound, a.1)
+    go (inr n) rest = rw n (a.0, rest)
+
+-- where a session stands, by what it waits for
+
+pub idle_within : (seat : Seat) → IsSoundSeat seat → seat.waits ≡ None → seat.answered ≤ length seat.calls
+idle_within seat sound e = subst (StandsWithin (length seat.calls) seat.answered) e sound.within
+
+pub waiting_within : (seat : Seat) (w : Waiting) → IsSoundSeat seat → seat.waits ≡ Some w → seat.answered < length seat.calls
+waiting_within seat w sound e = subst (StandsWithin (length seat.calls) seat.answered) e sound.within
+
+-- what is allowed of a session that is here, or is not
+
+module _ (s : SessionsView) (name : Bytes) (last : Option Outcome) where
+  pub not_here : seat_of s name ≡ None → MayBeAnswered s name last → ⊥
+  not_here e m = subst (λ o. MaySeatEnd s.tries o last) e m
+
+  module _ (seat : Seat) (found : seat_of s name ≡ Some seat) where
+    abbrev told : Option Waiting → Option Awaited
+    told o = option_map (λ x. record { attempt = x.attempt; outcome = last }) o
+
+    pub not_waiting : seat.waits ≡ None → MayBeAnswered s name last → ⊥
+    not_waiting e m = subst (λ o. MayEnd s.tries (told o)) e (subst (λ o. MaySeatEnd s.tries o last) found m)
+
+    pub ends : (w : Waiting) → seat.waits ≡ Some w → MayBeAnswered s name last → IsLast s.tries w.attempt last
+    ends w e m = subst (λ o. MayEnd s.tries (told o)) e (subst (λ o. MaySeatEnd s.tries o last) found m)
+
+    pub is_end : (w : Waiting) → seat.waits ≡ Some w → IsLast s.tries w.attempt last → MayBeAnswered s name last
+    is_end w e l = subst (λ o. MaySeatEnd s.tries o last) (sym found) (subst (λ o. MayEnd s.tries (told o)) (sym e) l)
+
+    -- one that may submit or be answered has a call left
+    pub call_to_try : IsSoundSeat seat → MayGo s name last → seat.answered < length seat.calls
+    call_to_try sound m = go seat.waits refl (subst (λ o. MaySeatTry s.tries o last) found m)
+      where
+        go : (o : Option Waiting) → seat.waits ≡ o → MayTry s.tries (length seat.calls) seat.answered (told o) → seat.answered < length seat.calls
+        go None e m = m
+        go (Some w) e m = waiting_within seat w sound e
+
+    pub call_to_end : IsSoundSeat seat → MayBeAnswered s name last → seat.answered < length seat.calls
+    call_to_end sound m = go seat.waits refl (subst (λ o. MaySeatEnd s.tries o last) found m)
+      where
+        go : (o : Option Waiting) → seat.waits ≡ o → MayEnd s.tries (told o) → seat.answered < length seat.calls
+        go None e m = absurd m
+        go (Some w) e m = waiting_within seat w sound e
+
+-- the call of a number is what the workload wants
+pub body_is : (o : Option Seat) (seat : Seat) (call : ℕ) (d wanted : Wanted) (body : Body) → o ≡ Some seat → call - 1 < length seat.calls → wanted ≡ get_or seat.calls (call - 1) d → body_of wanted ≡ body
+    → option_map body_of (option_and_then (λ (x : Seat). slice_get x.calls (call - 1)) o) ≡ Some body
+body_is o seat call d wanted body e lt is made =
+    ap (λ x. option_map body_of (option_and_then (λ (y : Seat). slice_get y.calls (call - 1)) x)) e
+    ∙ ap (option_map body_of) (slice_get-get_or seat.calls (call - 1) d lt ∙ ap Some (sym is)) ∙ ap Some made
+
+-- what holds of each value of a map holds along its entries, and back
+
+pub all_of_values : (P : Seat → Type 0) (entries : List (Bytes × Seat)) → All P (values_of entries) → AllIn (λ p. P p.1) entries
+all_of_values P [] a = tt
+all_of_values P (p ∷ entries) a = (a 0 p.1 (omega arith), all_of_values P entries (λ k d lt. a (suc k) d (omega arith)))
+
+pub values_of_all : (P : Seat → Type 0) (entries : List (Bytes × Seat)) → AllIn (λ p. P p.1) entries → All P (values_of entries)
+values_of_all P [] a k d lt = absurd (omega arith)
+values_of_all P (p ∷ entries) a zero d lt = a.0
+values_of_all P (p ∷ entries) a (suc k) d lt = values_of_all P entries a.1 k d (omega arith)
+
+-- before anything happens, a name finds the session of the workload that has it at the region
+
+idle_with : (name : Bytes) (s : Session) (sessions : List Session) → AllIn (λ t. s.name ≢ t.name) sessions
+    → lookup (is_named name) (map idle_seat (with_session s sessions)) ≡ cond (is_named name s.name) (Some (idle_seat s).1) (lookup (is_named name) (map idle_seat sessions))
+idle_with name s [] n = refl
+idle_with name s (t ∷ sessions) n = go (cases_Bool (is_lt (slice_cmp nat_cmp s.name t.name))) (cases_Bool (is_named name s.name)) (cases_Bool (is_named name t.name)) (idle_with name s sessions n.1)
+  where
+    go : (is_lt (slice_cmp nat_cmp s.name t.name) ≡ true) ⊎ (is_lt (slice_cmp nat_cmp s.name t.name) ≡ false)
+        → (is_named name s.name ≡ true) ⊎ (is_named name s.name ≡ false) → (is_named name t.name ≡ true) ⊎ (is_named name t.name ≡ false)
+        → lookup (is_named name) (map idle_seat (with_session s sessions)) ≡ cond (is_named name s.name) (Some (idle_seat s).1) (lookup (is_named name) (map idle_seat sessions))
+        → lookup (is_named name) (map idle_seat (with_session s (t ∷ sessions)))
+        ≡ cond (is_named name s.name) (Some (idle_seat s).1) (lookup (is_named name) (map idle_seat (t ∷ sessions)))
+    go (inl y) a b rest = rw y refl
+    go (inr m) (inl a) (inl b) rest = absurd (n.0 (sym (same_name name s.name a) ∙ same_name name t.name b))
+    go (inr m) (inl a) (inr b) rest = rw m (rw b (rest))
+    go (inr m) (inr a) (inl b) rest = rw m (rw a (rw b refl))
+    go (inr m) (inr a) (inr b) rest = rw m (rw b rest)
+
+names_of : (s : Session) (sessions : List Session) → AllIn (λ y. s.name ≢ y) (session_names sessions) → AllIn (λ t. s.name ≢ t.name) sessions
+names_of s [] a = tt
+names_of s (t ∷ sessions) a = (a.0, names_of s sessions a.1)
+
+pub idle_found : (region : ℕ) (name : Bytes) (sessions : List Session) → Distinct (session_names sessions)
+    → lookup (is_named name) (map idle_seat (sessions_at region sessions)) ≡ option_map (λ (x : Session × Place). (idle_seat x.0).1) (session_at sessions (map (λ s. idle_place) sessions) region name)
+idle_found region name [] once = refl
+idle_found region name (s ∷ sessions) once = go (cases_Bool (s.region == region)) (cases_Bool (same_key s.name name)) (idle_found region name sessions once.1)
+  where
+    away : AllIn (λ t. s.name ≢ t.name) (sessions_at region sessions)
+    away = region_all (λ t. s.name ≢ t.name) region sessions (names_of s sessions once.0)
+
+    named : same_key s.name name ≡ true → is_named name s.name ≡ true
+    named e = sym (texts_ties name s.name) ∙ (bytes_decides name s.name).1 (sym ((bytes_decides s.name name).0 e))
+
+    not_named : same_key s.name name ≡ false → is_named name s.name ≡ false
+    not_named e = false_from_ne_true (is_named name s.name) (λ y. let no : ◌≡◌ {A = Bool} true false = sym ((bytes_decides s.name name).1 (sym (same_name name s.name y))) ∙ e in cc)
+
+    go : ((s.region == region) ≡ true) ⊎ ((s.region == region) ≡ false) → (same_key s.name name ≡ true) ⊎ (same_key s.name name ≡ false)
+        → lookup (is_named name) (map idle_seat (sessions_at region sessions)) ≡ option_map (λ (x : Session × Place). (idle_seat x.0).1) (session_at sessions (map (λ t. idle_place) sessions) region name)
+        → lookup (is_named name) (map idle_seat (sessions_at region (s ∷ sessions)))
+        ≡ option_map (λ (x : Session × Place). (idle_seat x.0).1) (session_at (s ∷ sessions) (map (λ t. idle_place) (s ∷ sessions)) region name)
+    go (inl y) (inl z) rest = rw y (idle_with name s (sessions_at region sessions) away ∙ rw (named z) (rw z refl))
+    go (inl y) (inr z) rest = rw y (idle_with name s (sessions_at region sessions) away ∙ rw (not_named z) (rw z rest))
+    go (inr n) (inl z) rest = rw n (rw z rest)
+    go (inr n) (inr z) rest = rw n (rw z rest)

@@ -1,0 +1,203 @@
+ghost use Rattle.std.specs.Prelude.{◌≡◌, ◌↔◌, ◌≤◌, ◌<◌, ◌+◌, length, map, option_map, slice_get, IfOk, IsSome, IsTrue, Some};
+ghost use Rattle.std.specs.Option.{option_copied};
+ghost use Rattle.dt_lists.specs.Lists.{Distinct};
+ghost use Rattle.dt_workload.specs.Valid.{calls_in, session_names};
+ghost use Rattle.dt_session.specs.Sessions.{AreAllAnswered, IsNext, MayBeAnswered, MayGo, after_answer, after_wait, all_idle, waits_of, wanted_of};
+ghost use Rattle.dt_session.specs.Tries.{IsLast, IsStale, body_of};
+
+use dt_access::{TryCopy, TxnId};
+use dt_text::{Name, NoMemory};
+use dt_txn::{Body, Outcome};
+use dt_workload::{Bodies, Wanted, Workload};
+use std::alloc::Global;
+use std::collections::BTreeMap;
+use std::marker::Model;
+
+/// An attempt that a session waits for.
+#[derive(Clone, Copy)]
+pub struct Waiting {
+    pub id: TxnId,
+    /// The number of the attempt in its call, from 1.
+    pub attempt: u32,
+}
+
+/// A session: what it wants, and where it stands.
+#[derive(Drop)]
+pub struct Seat {
+    pub calls: Bodies,
+    /// How many of its calls are answered.
+    pub answered: u32,
+    /// The attempt that it waits for, if it does.
+    pub waits: Option<Waiting>,
+}
+
+/// The sessions of one region, found by their names.
+///
+/// Contracts see how often a call may be tried (`tries`), and as `seats` each session with its name, in byte order of names.
+#[derive(Drop)]
+pub struct Sessions {
+    tries: u32,
+    seats: BTreeMap<Name, Seat>,
+}
+
+impl Model for Sessions {
+    ghost use Rattle.dt_lists.specs.Lists.{AllIn};
+    ghost use Rattle.dt_session.specs.Sessions.{IsSoundSeat, SessionsView};
+    ghost use Rattle.dt_session.specs.SessionsCode.{sessions_code};
+
+    ghost Value = { SessionsView };
+
+    ghost coded = { sessions_code };
+
+    ghost view = { λ s. record { tries = s.tries; seats = s.seats.entries } };
+
+    ghost invariant = { λ s. AllIn (λ p. IsSoundSeat p.1) s.seats.entries };
+}
+
+impl Sessions {
+    /// The sessions of a workload that are at this region, before their first calls. A call may be tried so often. No two
+    /// sessions of the workload have one name, and it has at most 20,000 calls, as each workload of a cluster.
+    pub fn new(alloc: Global, workload: &Workload, region: u8, tries: u32) -> Result<Self, NoMemory>
+        requires names { Distinct (session_names workload.now.sessions) }
+        requires few { calls_in workload.now.sessions ≤ 20000 }
+        ensures { IfOk result (λ sessions. sessions ≡ all_idle tries region workload.now) }
+    {
+        let sessions = workload.sessions.as_slice();
+        let mut seats = BTreeMap::new(alloc);
+        // From the last one to the first.
+        for behind in 0..sessions.len() {
+            let session = &sessions[sessions.len() - 1 - behind];
+            if session.region == region {
+                let seat = Seat {
+                    calls: session.calls.copy(alloc)?,
+                    answered: 0,
+                    waits: None,
+                };
+                seats.insert(session.name.copy(alloc)?, seat)?;
+            }
+        }
+        Ok(Sessions { tries, seats })
+    }
+
+    /// The numbers of the call and of the attempt, both from 1, that the session of this name may submit next. `last` is the
+    /// outcome here of the attempt that it waits for, if there is one. `None` exactly where it may submit nothing.
+    pub fn next(&self, session: &Name, last: Option<&Outcome>) -> Option<(u32, u32)>
+        ensures { IsNext self.now session.now (option_copied last.entry) result }
+    {
+        let seat = self.seats.get(session)?;
+        let Some(waiting) = seat.waits else {
+            return if (seat.answered as usize) < seat.calls.len() {
+                Some((seat.answered + 1, 1))
+            } else {
+                None
+            };
+        };
+        if !is_stale(last) || waiting.attempt >= self.tries {
+            return None;
+        }
+        Some((seat.answered + 1, waiting.attempt + 1))
+    }
+
+    /// Lets the session of this name wait for its next attempt, which got this id. `next` gives its numbers.
+    pub fn wait(&mut self, session: &Name, id: TxnId, last: Option<&Outcome>)
+        requires { MayGo self.old session.now (option_copied last) }
+        ensures { self.new ≡ after_wait self.old session.now id }
+    {
+        let Some((_, attempt)) = self.next(session, last) else {
+            unreachable!()
+        };
+        let Some(seat) = self.seats.get_mut(session) else {
+            unreachable!()
+        };
+        seat.waits = Some(Waiting { id, attempt });
+    }
+
+    /// The attempt that the session of this name waits for. `None` exactly where it is idle or not here.
+    pub fn waits(&self, session: &Name) -> Option<TxnId>
+        ensures { result ≡ waits_of self.now session.now }
+    {
+        let waiting = self.seats.get(session)?.waits?;
+        Some(waiting.id)
+    }
+
+    /// What the call of this number, from 1, of the session of this name is to do.
+    pub fn body(&self, alloc: Global, session: &Name, call: u32) -> Result<Body, NoMemory>
+        requires from { 1 ≤ call }
+        requires there { IsSome (wanted_of self.now session.now call) }
+        ensures { IfOk result (λ body. option_map body_of (wanted_of self.now session.now call) ≡ Some body) }
+    {
+        let Some(seat) = self.seats.get(session) else {
+            unreachable!()
+        };
+        match &seat.calls.as_slice()[call as usize - 1] {
+            Wanted::Call(proc, args) => Ok(Body::Call(*proc, args.copy(alloc)?)),
+            Wanted::Move(key, target) => Ok(Body::Move(key.copy(alloc)?, *target)),
+        }
+    }
+
+    /// The name of the session at this place, from 0, in byte order of names. `None` exactly at or past their number.
+    pub fn name(&self, index: u32) -> Option<&Name>
+        ensures { option_copied result ≡ slice_get (map (λ p. p.0) self.now.seats) index }
+    {
+        self.seats.keys().nth(index as usize)
+    }
+
+    /// Whether every call of every session is answered.
+    pub fn all_answered(&self) -> bool
+        ensures { IsTrue result ↔ AreAllAnswered self.now }
+    {
+        self.seats
+            .values()
+            .all(|seat| seat.answered as usize == seat.calls.len())
+    }
+
+    /// Whether the session of this name may be answered. `last` is the outcome here of the attempt that it waits for, if there
+    /// is one.
+    pub fn may_answer(&self, session: &Name, last: Option<&Outcome>) -> bool
+        ensures { IsTrue result ↔ MayBeAnswered self.now session.now (option_copied last.entry) }
+    {
+        let Some(seat) = self.seats.get(session) else {
+            return false;
+        };
+        let Some(waiting) = seat.waits else {
+            return false;
+        };
+        is_last(self.tries, waiting.attempt, last)
+    }
+
+    /// Answers the session of this name, if it may be answered: it waits for nothing then, before its next call. `last` is
+    /// the outcome here of the attempt that it waits for, if there is one. Where it may not, nothing changes.
+    pub fn answer(&mut self, session: &Name, last: Option<&Outcome>) -> bool
+        ensures legal { IsTrue result ↔ MayBeAnswered self.old session.now (option_copied last.entry) }
+        ensures answered { IsTrue result → self.new ≡ after_answer self.old session.now }
+        ensures same { ¬ (IsTrue result) → self.new ≡ self.old }
+    {
+        if !self.may_answer(session, last) {
+            return false;
+        }
+        let Some(seat) = self.seats.get_mut(session) else {
+            unreachable!()
+        };
+        seat.answered += 1;
+        seat.waits = None;
+        true
+    }
+}
+
+/// Whether an outcome is there, and stale.
+fn is_stale(last: Option<&Outcome>) -> bool
+    ensures { IsTrue result ↔ IsStale (option_copied last.entry) }
+{
+    matches!(last, Some(Outcome::Stale { .. }))
+}
+
+/// Whether an attempt of this number, with this outcome, ends its call.
+fn is_last(tries: u32, attempt: u32, last: Option<&Outcome>) -> bool
+    ensures { IsTrue result ↔ IsLast tries attempt (option_copied last.entry) }
+{
+    match last {
+        None => false,
+        Some(Outcome::Stale { .. }) => attempt == tries,
+        Some(_) => true,
+    }
+}

@@ -1,0 +1,177 @@
+-- What follows of a lawful world for the calls on it: its numbers are small, its regions are there, and what its regions keep of
+-- a session is what the rules ask.
+use Rattle.std.proofs.Common.{◌≡◌, ◌<◌, ◌≤◌, ◌+◌, ◌-◌, ℕ, zero, suc, List, [], ◌∷◌, length, get_or, slice_get, Some, None, refl, sym, ap, subst, ◌∙◌, arith}
+use Rattle.std.specs.Prelude.{Option, IsSome, option_and_then, option_map}
+use Rattle.dt_lists.specs.Lists.{Has}
+use Rattle.dt_lists.proofs.Callers.{all_get, has_place}
+use Rattle.dt_access.specs.Clash.{Bytes}
+use Rattle.dt_access.specs.declared.TxnId.{TxnId}
+use Rattle.dt_txn.specs.declared.Body.{Body}
+use Rattle.dt_txn.specs.declared.Outcome.{Outcome}
+use Rattle.dt_txn.specs.Transaction.{BodyFits}
+use Rattle.dt_region.specs.Region.{outcome_of}
+use Rattle.dt_cluster.specs.declared.Cluster.{Cluster}
+use Rattle.dt_workload.specs.declared.Session.{Session}
+use Rattle.dt_workload.specs.declared.Wanted.{Wanted}
+use Rattle.dt_workload.specs.Valid.{IsValidSession, WantedFits}
+use Rattle.dt_session.specs.declared.sessions.Seat.{Seat}
+use Rattle.dt_session.specs.Sessions.{IsNext, MayBeAnswered, MayGo, SessionsView, numbers_next, seat_of, waits_of, wanted_of}
+use Rattle.dt_session.specs.World.{World, Place, session_at}
+use Rattle.dt_session.specs.Step.{MaySubmit, MayTry, awaited_at, body_of, next_attempt}
+use Rattle.dt_agreement.proofs.Callers.{body_fits, session_found, submits}
+use Rattle.dt_agreement.proofs.Callers as agreed
+use Rattle.dt_agreement.specs.Invariant.{IsPlaceOf}
+use Rattle.dt_site.specs.declared.Origin.{Origin}
+use Rattle.dt_site.specs.SessionsStandIn.{seat_in}
+use Rattle.dt_site.specs.Site.{SiteView}
+use Rattle.dt_site.proofs.Callers.{inv, kept_here, last_in, may_answer, may_be_answered, may_go, may_submit, numbers_are, order, outcome_here}
+use Rattle.dt_world.specs.WorldInner.{IsLawful, IsNextOf, IsNextTry, MayBeTold, sessions_of, site_at, view_in, world_of}
+use Rattle.dt_world.specs.WorldSessions.{WorldSessions, places_in}
+use Rattle.dt_world.specs.WorldView.{WorldView}
+
+-- sessions that were taken out of the list are those at that place
+pub sessions_at_place : (all : List SessionsView) (region : ℕ) (s : SessionsView) → region < length all → s ≡ get_or all region s → s ≡ sessions_of all region
+sessions_at_place [] region s lt e = absurd (omega arith)
+sessions_at_place (x ∷ all) zero s lt e = e
+sessions_at_place (x ∷ all) (suc region) s lt e = sessions_at_place all region s (omega arith) e
+
+some_same : {A : Type 0} {x y : A} → ◌≡◌ {A = Option A} (Some x) (Some y) → x ≡ y
+some_same e = cc
+
+-- the call of a session that there is
+call_there : (calls : List Wanted) (n : ℕ) → n < length calls → (call : Wanted) × (slice_get calls n ≡ Some call)
+call_there [] n lt = absurd (omega arith)
+call_there (c ∷ calls) zero lt = (c, refl)
+call_there (c ∷ calls) (suc n) lt = call_there calls n (omega arith)
+
+module _ {cluster : Cluster} {sessions : WorldSessions} {sites : List SiteView} {steps : ℕ} (k : IsLawful cluster sessions sites steps) {region : ℕ} (lr : region < cluster.regions) (name : Bytes) where
+  abbrev w : World
+  w = world_of sites (places_in sessions)
+
+  abbrev here : SessionsView
+  here = sessions_of sessions.by_region region
+
+  abbrev found_at : Option (Session × Place)
+  found_at = session_at sessions.workload.sessions (places_in sessions) region name
+
+  -- the region's outcomes are those of the world
+  outcomes_here : (waits : Option TxnId) → option_and_then (outcome_of (site_at sites region).region.state) waits ≡ last_in w region waits
+  outcomes_here None = refl
+  outcomes_here (Some id) = outcome_here k.reached (k.stands region lr) id
+
+  module _ (last : Option Outcome) (told : last ≡ option_and_then (outcome_of (site_at sites region).region.state) (waits_of here name)) where
+    last_is : last ≡ last_in w region (waits_of here name)
+    last_is = told ∙ outcomes_here (waits_of here name)
+
+    pub go_submit : MayGo here name last → MaySubmit cluster w region found_at
+    go_submit m = may_submit (k.attended region lr) name (subst (MayGo here name) last_is m)
+
+    pub submit_go : MaySubmit cluster w region found_at → MayGo here name last
+    submit_go m = subst (MayGo here name) (sym last_is) (may_go (k.attended region lr) name m)
+
+    pub told_end : MayBeAnswered here name last → MayBeTold (view_in cluster sessions sites steps) region name
+    told_end m = may_answer (k.attended region lr) name (subst (MayBeAnswered here name) last_is m)
+
+    pub end_told : MayBeTold (view_in cluster sessions sites steps) region name → MayBeAnswered here name last
+    end_told m = subst (MayBeAnswered here name) (sym last_is) (may_be_answered (k.attended region lr) name m)
+
+    -- nothing may be submitted where the region's sessions give nothing
+    pub none_next : IsNext here name last None → IsNextOf (view_in cluster sessions sites steps) region name None
+    none_next n m = n (submit_go m)
+
+    module _ (call attempt : ℕ) (is : IsNext here name last (Some (call, attempt))) where
+      -- where they give numbers, these are of the session's next call and attempt
+      record Found : Type 0 where
+        session : Session
+        place : Place
+        wanted : Wanted
+        found : found_at ≡ Some (session, place)
+        may : MayTry cluster.tries (length session.calls) place.answered (awaited_at w region place.waits)
+        wants : slice_get session.calls place.answered ≡ Some wanted
+        call_is : call ≡ place.answered + 1
+        attempt_is : attempt ≡ next_attempt w place.waits
+
+      found : Found
+      found = go found_at refl (go_submit is.0)
+        where
+          go : (o : Option (Session × Place)) → found_at ≡ o → MaySubmit cluster w region o → Found
+          go None e m = absurd m
+          go (Some (session, place)) e m = record {
+            session = session;
+            place = place;
+            wanted = wanted.0;
+            found = e;
+            may = m;
+            wants = wanted.1;
+            call_is = ap (λ n. n.0) numbers;
+            attempt_is = ap (λ n. n.1) numbers;
+          }
+            where
+              seat : seat_of here name ≡ Some (seat_in w (session, place))
+              seat = kept_here (k.attended region lr) name e
+
+              numbers : ◌≡◌ {A = ℕ × ℕ} (call, attempt) (place.answered + 1, next_attempt w place.waits)
+              numbers =
+                  let both : ◌≡◌ {A = Option (ℕ × ℕ)} (Some (call, attempt)) (Some (numbers_next (seat_in w (session, place)))) = sym is.1 ∙ ap (option_map numbers_next) seat in
+                  let same : ◌≡◌ {A = ℕ × ℕ} (call, attempt) (numbers_next (seat_in w (session, place))) = some_same both in
+                  same ∙ numbers_are w session place
+
+              left : place.answered < length session.calls
+              left =
+                  let r = agreed.submits cluster k.reached.run.sound sessions.workload w (order k.reached) region name (subst (MaySubmit cluster w region) (sym e) m) (inv k.reached) in
+                  let same : ◌≡◌ {A = Option (Session × Place)} (Some (r.session, r.place)) (Some (session, place)) = sym r.found ∙ e in
+                  let pair : ◌≡◌ {A = Session × Place} (r.session, r.place) (session, place) = some_same same in
+                  subst (λ (x : Session × Place). x.1.answered < length x.0.calls) pair r.on.call
+
+              wanted : (c : Wanted) × (slice_get session.calls place.answered ≡ Some c)
+              wanted = call_there session.calls place.answered left
+
+      -- the call is one of the session's
+      pub from_one : 1 ≤ call
+      from_one = let c : call ≡ found.place.answered + 1 = found.call_is in omega (arith, c)
+
+      wanted_here : wanted_of here name call ≡ Some found.wanted
+      wanted_here =
+          ap (option_and_then (λ (x : Seat). slice_get x.calls (call - 1))) (kept_here (k.attended region lr) name found.found)
+          ∙ ap (slice_get found.session.calls) (let c : call ≡ found.place.answered + 1 = found.call_is in let e : call - 1 ≡ found.place.answered = omega (arith, c) in e) ∙ found.wants
+
+      pub call_there_is : IsSome (wanted_of here name call)
+      call_there_is = subst IsSome (sym wanted_here) refl
+
+      -- so with what that call is to do, it is the session's next try
+      pub next_try : (body : Body) (copied : Bytes) → copied ≡ name → option_map body_of (wanted_of here name call) ≡ Some body
+          → IsNextOf (view_in cluster sessions sites steps) region name (Some (record { session = copied; call = call; attempt = attempt }, body))
+      next_try body copied same made = record {
+        session = found.session;
+        place = found.place;
+        call = found.wanted;
+        found = found.found;
+        may = found.may;
+        wants = found.wants;
+        origin_is = λ i. record { session = same i; call = found.call_is i; attempt = found.attempt_is i };
+        body_is = some_same (sym made ∙ ap (option_map body_of) wanted_here);
+      }
+
+  -- what is submitted next fits the region
+  pub fits_here : {origin : Origin} {body : Body} → IsNextTry (view_in cluster sessions sites steps) region name origin body → BodyFits cluster.procs (site_at sites region).region.state.regions body
+  fits_here {origin} {body} t =
+      let member : Has sessions.workload.sessions t.session =
+      (session_found (IsPlaceOf cluster.tries w) sessions.workload.sessions (places_in sessions) region name t.session t.place (inv k.reached).sessions.places t.found).0 in
+      let valid : IsValidSession cluster.procs cluster.regions t.session = all_get (IsValidSession cluster.procs cluster.regions) sessions.workload.sessions k.reached.run.fits.sessions t.session member in
+      let called : Has t.session.calls t.call = has_place t.session.calls t.place.answered t.call t.wants in
+      let fits : WantedFits cluster.procs cluster.regions t.call = all_get (WantedFits cluster.procs cluster.regions) t.session.calls valid.calls t.call called in
+      subst (λ n. BodyFits cluster.procs n body) (sym (k.stands region lr).many) (subst (BodyFits cluster.procs cluster.regions) (sym t.body_is) (body_fits cluster cluster.regions t.call fits))
+
+-- the same of the world as it is seen
+
+module _ {cluster : Cluster} {sessions : WorldSessions} {sites : List SiteView} {steps : ℕ} (k : IsLawful cluster sessions sites steps) {now : WorldView} (view : view_in cluster sessions sites steps ≡ now) where
+  -- a region of the world is among the regions
+  pub a_number : {region : ℕ} → region < now.cluster.regions → region < cluster.regions
+  a_number {region} lt = subst (λ (v : WorldView). region < v.cluster.regions) (sym view) lt
+
+  pub steps_few : now.steps < 4294967295 → steps < 4294967295
+  steps_few lt = subst (λ (v : WorldView). v.steps < 4294967295) (sym view) lt
+
+  -- a region has its sessions in the list
+  pub some_sessions : {region : ℕ} → region < cluster.regions → region < length sessions.by_region
+  some_sessions {region} lr = subst (λ n. region < n) (sym k.listed) lr

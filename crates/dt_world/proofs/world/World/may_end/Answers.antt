@@ -1,5 +1,0 @@
-use Rattle.dt_world.proofs.WorldSeats.{a_place}
-use Rattle.dt_world.proofs.world.World.may_end.Goals as goal
-
-pub seat-requires : goal.seat-requires
-seat-requires g c = a_place c.self.invariant c.self.view_is c.requires.there
