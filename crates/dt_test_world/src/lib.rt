@@ -7,4 +7,6 @@ mod cases;
 #[cfg(test)]
 mod regions;
 #[cfg(test)]
+mod sessions;
+#[cfg(test)]
 mod worlds;
