@@ -9,13 +9,46 @@ use Rattle.dt_lists.specs.Lists.{AllIn, Has, Pairwise, Either}
 use Rattle.dt_lists.proofs.Callers.{either_not, either_and, either_and3, either_or, either_same, either_all, either_has, either_nat, either_le, either_true, either_list}
 use Rattle.dt_text.specs.Texts.{IsKey, IsName, IsStr, is_key_byte, is_name_byte, is_text_byte}
 use Rattle.dt_text.specs.Numbers.{ReadsSignedNumber}
-use Rattle.dt_text.proofs.Callers.{SpellsBelow, either_bytes, either_key, either_lt, either_name, either_spelled, either_str, minus_none, minus_some, plain_none, plain_some}
+use Rattle.dt_text.proofs.Callers.{decimal_value, minus_none, minus_some, plain_none, plain_some}
 use Rattle.dt_text.specs.declared.Value.{Value}
 use Rattle.dt_text.specs.declared.Value.TheVariants.{Int, Text}
 use Rattle.dt_text.specs.Texts.{Bytes}
 use Rattle.dt_workload.specs.Lines.{Said, bare, quoted, Form, session_line, call_line, move_line, argument_word, form_words, IsArgument, IsForm}
 
+-- ---- bytes, keys and names
+
+pub either_bytes : (a b : Bytes) → Either (a ≡ b)
+either_bytes a b = either_list a b either_nat
+
+pub either_lt : (a b : ℕ) → Either (a < b)
+either_lt a b = grind arith
+
+pub either_key : (bs : Bytes) → Either (IsKey bs)
+either_key bs = either_and3 _ _ _ (either_lt 0 (length bs)) (either_le (length bs) 64) (either_true (list_all is_key_byte bs))
+
+pub either_name : (bs : Bytes) → Either (IsName bs)
+either_name bs = either_and3 _ _ _ (either_lt 0 (length bs)) (either_le (length bs) 32) (either_true (list_all is_name_byte bs))
+
+either_str : (bs : Bytes) → Either (IsStr bs)
+either_str bs = either_and _ _ (either_le (length bs) 256) (either_true (list_all is_text_byte bs))
+
 -- ---- numbers
+
+-- a word spells a number below the bound
+abbrev SpellsBelow : ℕ → Bytes → Type 0
+SpellsBelow bound word = (n : ℕ) × (n < bound) × (word ≡ decimal n)
+
+either_spelled : (bound : ℕ) → bound ≤ 2 ^ 64 → (word : Bytes) → Either (SpellsBelow bound word)
+either_spelled bound fits word =
+    by (either_lt (digits_value 10 word) bound) (either_bytes word (decimal (digits_value 10 word)))
+  where
+    value : (n : ℕ) → n < bound → word ≡ decimal n → digits_value 10 word ≡ n
+    value n small is = ap (digits_value 10) is ∙ decimal_value n (omega (arith, small, fits))
+
+    by : Either (digits_value 10 word < bound) → Either (word ≡ decimal (digits_value 10 word)) → Either (SpellsBelow bound word)
+    by (inl small) (inl is) = inl (digits_value 10 word, small, is)
+    by (inl small) (inr not_so) = inr (λ (n, below, is). not_so (is ∙ ap decimal (sym (value n below is))))
+    by (inr large) same = inr (λ (n, below, is). large (subst (λ m. m < bound) (sym (value n below is)) below))
 
 fits_plain : (n : ℕ) → (r : Option ℤ) × SomeIff r (FitsSigned w64 (pos n)) (pos n)
 fits_plain n = by (either_lt n (2 ^ 63))

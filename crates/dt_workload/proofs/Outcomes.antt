@@ -34,8 +34,7 @@ use Rattle.dt_workload.specs.declared.workload.Session.{Session}
 use Rattle.dt_workload.specs.declared.workload.Workload.{Workload}
 use Rattle.dt_workload.specs.declared.error.WorkloadCause.{WorkloadCause}
 use Rattle.dt_workload.specs.declared.error.WorkloadCause.TheVariants as cause
-use Rattle.dt_workload.proofs.Decisions.{SayForm, either_form}
-use Rattle.dt_text.proofs.Callers.{either_bytes, either_lt, either_key, either_name}
+use Rattle.dt_workload.proofs.Decisions.{either_bytes, either_lt, either_key, either_name, SayForm, either_form}
 use Rattle.dt_workload.proofs.Forms.{no_form}
 use Rattle.dt_workload.proofs.Steps.{none_read, line_read, named_word, all_at}
 
