@@ -70,5 +70,8 @@ precedes_transitive = transitive_by IsSooner sooner_breaks_ties
 pub precedes_decided : (view : View) (u t : TxnId) → Either (Precedes view u t)
 precedes_decided = decided_by IsSooner sooner_breaks_ties
 
+pub comparable : (view : View) (u t : TxnId) → u ≢ t → Reaches view u t ⊎ Reaches view t u → Precedes view u t ⊎ Precedes view t u
+comparable = comparable_by IsSooner sooner_breaks_ties
+
 pub comparable_in_log : (view : View) (home : ℕ) (p q : Part) → Has (log_at view home) p → Has (log_at view home) q → p.id ≢ q.id → clash p.keys q.keys ≡ true → Precedes view p.id q.id ⊎ Precedes view q.id p.id
 comparable_in_log = comparable_in_log_by IsSooner sooner_breaks_ties

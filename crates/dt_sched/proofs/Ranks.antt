@@ -1,9 +1,9 @@
 -- Ranks: the rank of a transaction in a view is that of each of its parts, so a longer view says the same. By rank and id a
 -- strict total order is made, which breaks ties.
-use Rattle.std.proofs.Common.{◌≡◌, ◌≢◌, ◌<◌, ◌⊎◌, ◌↔◌, ℕ, true, List, [], ◌∷◌, map, get_or, refl, sym, ap, subst, ◌∙◌, inl, inr, arith}
-use Rattle.std.specs.List.{filter, flat_map}
+use Rattle.std.proofs.Common.{◌≡◌, ◌≢◌, ◌<◌, ◌⊎◌, ℕ, true, List, [], ◌∷◌, map, get_or, refl, sym, subst, ◌∙◌, inl, inr, arith}
+use Rattle.std.specs.List.{filter}
 use Rattle.dt_lists.specs.Lists.{AnyIn, Has, Either, IsFront}
-use Rattle.dt_lists.proofs.Callers.{any_at, any_get, any_put, any_append, any_append_left, any_append_right, any_front, all_get, pairwise_any, has_filter, of_filter, either_or, either_and, either_nat}
+use Rattle.dt_lists.proofs.Callers.{any_at, any_get, any_append, any_append_left, any_append_right, any_front, all_get, pairwise_any, has_filter, of_filter, either_or, either_and, either_nat}
 use Rattle.dt_access.specs.Ids.{Before, same_id}
 use Rattle.dt_access.specs.declared.TxnId.{TxnId}
 use Rattle.dt_access.specs.declared.Part.{Part}

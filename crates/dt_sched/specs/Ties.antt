@@ -1,14 +1,14 @@
 -- How ties are broken. Where edges go round, no member of the group comes first by them, so each region orders the group by
 -- an order of its own. Regions agree by it if it is a strict total order which every view computes alike. The laws of views
 -- hold for any such order; the store's own is by rank, then by id (`IsSooner`), which can be told from the parts alone.
-use Rattle.std.specs.Prelude.{◌≡◌, ◌≢◌, ◌⊎◌, ◌↔◌}
+use Rattle.std.specs.Prelude.{◌≡◌, ◌≢◌, ◌⊎◌, ◌↔◌, Bool, true}
 use Rattle.dt_lists.specs.Lists.{Either}
 use Rattle.dt_access.specs.declared.TxnId.{TxnId}
 use Rattle.dt_sched.specs.Views.{View, IsLonger, IsPresent, IsWellFormed}
 
--- what orders two transactions in a view
-abbrev pub Order : Type 1
-Order = View → TxnId → TxnId → Type 0
+-- what a test of two transactions in a view says of them
+abbrev pub Says : (View → TxnId → TxnId → Bool) → View → TxnId → TxnId → Type 0
+Says test view u t = test view u t ≡ true
 
 -- the order breaks ties: in each view it is a strict total order, which is decided, and of transactions that have parts in
 -- a view a longer view says the same

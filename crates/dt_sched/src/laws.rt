@@ -1,44 +1,51 @@
 //! What holds of the dependency graph of every view. Each law is the contract of a function that does nothing.
-ghost use Rattle.std.specs.Prelude.{◌≡◌, ◌≢◌, ◌⊎◌, ◌↔◌, ℕ, List, [], ◌∷◌, true};
+ghost use Rattle.std.specs.Prelude.{◌≡◌, ◌≢◌, ◌⊎◌, ◌↔◌, ℕ, Bool, List, [], ◌∷◌, true};
 ghost use Rattle.dt_lists.specs.Lists.{AllIn, Either, Has, IsWithin};
 ghost use Rattle.dt_access.specs.Clash.{clash};
 ghost use Rattle.dt_access.specs.declared.Part.{Part};
 ghost use Rattle.dt_access.specs.declared.TxnId.{TxnId};
 ghost use Rattle.dt_sched.specs.Decide.{HasNothingToDo, IsDownward, IsExecutable, IsResolvable};
 ghost use Rattle.dt_sched.specs.Views.{Edge, HasOneHomeEach, IsClass, IsClosed, IsLonger, IsPresent, IsSooner, IsWellFormed, Precedes, PrecedesBy, Reaches, StandsAlike, View, log_at};
-ghost use Rattle.dt_sched.specs.Ties.{BreaksTies};
+ghost use Rattle.dt_sched.specs.Ties.{BreaksTies, Says};
 
 /// A closed transaction stands in every longer view as it stands in the shorter one: it is closed there too, with the
 /// same edges into it, the same that reach it, the same class and the same that precede it. So two regions that both
-/// have it closed agree on its class and, whatever breaks ties, on what precedes it, however much of the logs each has.
+/// have it closed agree on its class and on what precedes it, however much of the logs each of them has.
 pub fn closed_views()
     ensures longer { (short long : View) → IsLonger short long → IsWellFormed long →
         (t : TxnId) → IsClosed short t → StandsAlike short long t }
     ensures same_class { (left right whole : View) → IsLonger left whole → IsLonger right whole → IsWellFormed whole →
         (t : TxnId) → IsClosed left t → IsClosed right t → (ids : List TxnId) → IsClass left t ids ↔ IsClass right t ids }
-    ensures same_preceders { (order : View → TxnId → TxnId → Type 0) → BreaksTies order →
+    ensures same_preceders { (left right whole : View) → IsLonger left whole → IsLonger right whole → IsWellFormed whole →
+        (u t : TxnId) → IsClosed left t → IsClosed right t → Precedes left u t ↔ Precedes right u t }
+{}
+
+/// Rank and id break ties: they make a strict total order of transactions, which every view computes alike. Any other test
+/// that breaks ties would serve as well: "precedes" by it is a strict order, which compares any two of which one reaches
+/// the other, and two regions agree by it on what precedes a transaction that both have closed.
+pub fn ties()
+    ensures own { BreaksTies IsSooner }
+    ensures transitive { (test : View → TxnId → TxnId → Bool) → BreaksTies (Says test) →
+        (view : View) (u v t : TxnId) → PrecedesBy (Says test) view u v → PrecedesBy (Says test) view v t → PrecedesBy (Says test) view u t }
+    ensures comparable { (test : View → TxnId → TxnId → Bool) → BreaksTies (Says test) →
+        (view : View) (u t : TxnId) → u ≢ t → Reaches view u t ⊎ Reaches view t u →
+        PrecedesBy (Says test) view u t ⊎ PrecedesBy (Says test) view t u }
+    ensures same_preceders { (test : View → TxnId → TxnId → Bool) → BreaksTies (Says test) →
         (left right whole : View) → IsLonger left whole → IsLonger right whole → IsWellFormed whole →
-        (u t : TxnId) → IsClosed left t → IsClosed right t → PrecedesBy order left u t ↔ PrecedesBy order right u t }
+        (u t : TxnId) → IsClosed left t → IsClosed right t → PrecedesBy (Says test) left u t ↔ PrecedesBy (Says test) right u t }
 {}
 
-/// Rank and id break ties: they make a strict total order of transactions, which every view computes alike.
-pub fn ties_are_broken()
-    ensures { BreaksTies IsSooner }
-{}
-
-/// Whatever breaks ties, in every view "precedes" is a strict order. It orders any two transactions of which one reaches
-/// the other, and any two whose parts clash in one log: between these there is an edge.
+/// In every view "precedes" is a strict order. It orders any two transactions of which one reaches the other, and any
+/// two whose parts clash in one log: between these there is an edge.
 pub fn order()
-    ensures irreflexive { (order : View → TxnId → TxnId → Type 0) (view : View) (t : TxnId) → ¬ (PrecedesBy order view t t) }
-    ensures transitive { (order : View → TxnId → TxnId → Type 0) → BreaksTies order →
-        (view : View) (u v t : TxnId) → PrecedesBy order view u v → PrecedesBy order view v t → PrecedesBy order view u t }
-    ensures comparable { (order : View → TxnId → TxnId → Type 0) → BreaksTies order →
-        (view : View) (u t : TxnId) → u ≢ t → Reaches view u t ⊎ Reaches view t u → PrecedesBy order view u t ⊎ PrecedesBy order view t u }
+    ensures irreflexive { (view : View) (t : TxnId) → ¬ (Precedes view t t) }
+    ensures transitive { (view : View) (u v t : TxnId) → Precedes view u v → Precedes view v t → Precedes view u t }
+    ensures comparable { (view : View) (u t : TxnId) → u ≢ t → Reaches view u t ⊎ Reaches view t u →
+        Precedes view u t ⊎ Precedes view t u }
     ensures edge_in_log { (view : View) (home : ℕ) (p q : Part) → Has (log_at view home) p → Has (log_at view home) q →
         p.id ≢ q.id → clash p.keys q.keys ≡ true → Edge view p.id q.id ⊎ Edge view q.id p.id }
-    ensures comparable_in_log { (order : View → TxnId → TxnId → Type 0) → BreaksTies order →
-        (view : View) (home : ℕ) (p q : Part) → Has (log_at view home) p → Has (log_at view home) q →
-        p.id ≢ q.id → clash p.keys q.keys ≡ true → PrecedesBy order view p.id q.id ⊎ PrecedesBy order view q.id p.id }
+    ensures comparable_in_log { (view : View) (home : ℕ) (p q : Part) → Has (log_at view home) p → Has (log_at view home) q →
+        p.id ≢ q.id → clash p.keys q.keys ≡ true → Precedes view p.id q.id ⊎ Precedes view q.id p.id }
 {}
 
 /// What reaches what is decided in every view, and so is what is executable and what is resolvable. Each transaction

@@ -33,7 +33,5 @@
 mod laws;
 mod scheduler;
 
-pub use laws::{
-    closed_views, drained, one_home_each, order, reach_is_decided, stability, ties_are_broken,
-};
+pub use laws::{closed_views, drained, one_home_each, order, reach_is_decided, stability, ties};
 pub use scheduler::Scheduler;

@@ -1,4 +1,4 @@
-use Rattle.dt_sched.proofs.Closed.{stands_alike, class_agrees, preceders_agree_by}
+use Rattle.dt_sched.proofs.Closed.{stands_alike, class_agrees, preceders_agree}
 use Rattle.dt_sched.proofs.laws.closed_views.Goals as goal
 
 pub returns-clause-longer : goal.returns-clause-longer
@@ -8,4 +8,4 @@ pub returns-clause-same_class : goal.returns-clause-same_class
 returns-clause-same_class c = class_agrees
 
 pub returns-clause-same_preceders : goal.returns-clause-same_preceders
-returns-clause-same_preceders c = λ order ties left right whole l r w. preceders_agree_by left right whole l r w order ties
+returns-clause-same_preceders c = preceders_agree
