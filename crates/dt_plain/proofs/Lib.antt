@@ -1,5 +1,4 @@
 pub mod Scan
-pub mod RankScan
 pub mod Same
 pub mod Growth
 pub mod Walk

@@ -12,13 +12,7 @@ use dt_text::NoMemory;
 use std::alloc::Global;
 
 /// Whether `other`, which reaches `id`, is no obstacle to executing it.
-fn is_no_obstacle(
-    graph: &Graph,
-    ahead: &[TxnId],
-    done: &[TxnId],
-    id: TxnId,
-    other: TxnId,
-) -> bool
+fn is_no_obstacle(graph: &Graph, ahead: &[TxnId], done: &[TxnId], id: TxnId, other: TxnId) -> bool
     ensures { IsTrue result ↔ IsNoObstacle graph.now ahead.now done.now id other }
 {
     other == id || has(done, other) || has(ahead, other) && !graph.is_sooner(other, id)
