@@ -4,7 +4,7 @@ ghost use Rattle.dt_lists.specs.Lists.{AllIn, Either, Has, IsWithin};
 ghost use Rattle.dt_access.specs.Clash.{clash};
 ghost use Rattle.dt_access.specs.declared.Part.{Part};
 ghost use Rattle.dt_access.specs.declared.TxnId.{TxnId};
-ghost use Rattle.dt_sched.specs.Decide.{HasNothingToDo, IsDownward, IsExecutable, IsResolvable};
+ghost use Rattle.dt_sched.specs.Decide.{HasNothingToDo, HasNothingToDoBy, IsDownward, IsExecutable, IsExecutableBy, IsResolvable};
 ghost use Rattle.dt_sched.specs.Views.{Edge, HasOneHomeEach, IsClass, IsClosed, IsLonger, IsPresent, IsSooner, IsWellFormed, Precedes, PrecedesBy, Reaches, StandsAlike, View, log_at};
 ghost use Rattle.dt_sched.specs.Ties.{BreaksTies, Says};
 
@@ -22,7 +22,8 @@ pub fn closed_views()
 
 /// Rank and id break ties: they make a strict total order of transactions, which every view computes alike. Any other test
 /// that breaks ties would serve as well: "precedes" by it is a strict order, which compares any two of which one reaches
-/// the other, and two regions agree by it on what precedes a transaction that both have closed.
+/// the other, two regions agree by it on what precedes a transaction that both have closed, what is executable stays so
+/// until it is done, and where nothing is left to do, what is done is just what is closed.
 pub fn ties()
     ensures own { BreaksTies IsSooner }
     ensures transitive { (test : View → TxnId → TxnId → Bool) → BreaksTies (Says test) →
@@ -33,6 +34,13 @@ pub fn ties()
     ensures same_preceders { (test : View → TxnId → TxnId → Bool) → BreaksTies (Says test) →
         (left right whole : View) → IsLonger left whole → IsLonger right whole → IsWellFormed whole →
         (u t : TxnId) → IsClosed left t → IsClosed right t → PrecedesBy (Says test) left u t ↔ PrecedesBy (Says test) right u t }
+    ensures stays_executable { (test : View → TxnId → TxnId → Bool) → BreaksTies (Says test) →
+        (short long : View) → IsLonger short long → IsWellFormed long →
+        (resolved more : List (List TxnId)) (done later : List TxnId) → IsWithin resolved more → IsWithin done later →
+        (t : TxnId) → IsExecutableBy (Says test) short resolved done t → ¬ (Has later t) → IsExecutableBy (Says test) long more later t }
+    ensures drained { (test : View → TxnId → TxnId → Bool) → BreaksTies (Says test) →
+        (view : View) (resolved : List (List TxnId)) (done : List TxnId) → AllIn (IsClosed view) done →
+        HasNothingToDoBy (Says test) view resolved done → (t : TxnId) → Has done t ↔ IsClosed view t }
 {}
 
 /// In every view "precedes" is a strict order. It orders any two transactions of which one reaches the other, and any
