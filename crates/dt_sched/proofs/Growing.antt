@@ -42,8 +42,12 @@ has_with_part view part home p h = elim (log_with_part view part home) [
   | inr e ↦ inr (subst (λ log. Has log p) e h)
 ]
 
+-- in all logs of the view, parts of one id have the same f
+abbrev HasSame : {A : Type 0} → (Part → A) → View → Type 0
+HasSame f view = (home other : ℕ) → AllIn (λ p. AllIn (λ q. p.id ≡ q.id → f p ≡ f q) (log_at view other)) (log_at view home)
+
 -- what the parts of one id have alike, they have alike with a new part of which that is so
-module _ (view : View) (part : Part) {A : Type 0} (f : Part → A) (among : (home other : ℕ) → AllIn (λ p. AllIn (λ q. p.id ≡ q.id → f p ≡ f q) (log_at view other)) (log_at view home)) (new : AllIn (AllIn (λ p. p.id ≡ part.id → f p ≡ f part)) view) where
+module _ (view : View) (part : Part) {A : Type 0} (f : Part → A) (among : HasSame f view) (new : AllIn (AllIn (λ p. p.id ≡ part.id → f p ≡ f part)) view) where
   with_new : (home : ℕ) (p : Part) → Has (log_at view home) p → p.id ≡ part.id → f p ≡ f part
   with_new home p h = all_get (λ p. p.id ≡ part.id → f p ≡ f part) (log_at view home) (all_at _ [] view home tt new) p h
 
@@ -53,7 +57,7 @@ module _ (view : View) (part : Part) {A : Type 0} (f : Part → A) (among : (hom
   pair home other p q (inr h) (inl g) s = with_new home p h (s ∙ ap (λ x. x.id) g) ∙ sym (ap f g)
   pair home other p q (inr h) (inr k) s = all_get _ (log_at view other) (all_get _ (log_at view home) (among home other) p h) q k s
 
-  all_alike : (home other : ℕ) → AllIn (λ p. AllIn (λ q. p.id ≡ q.id → f p ≡ f q) (log_at (with_part view part) other)) (log_at (with_part view part) home)
+  all_alike : HasSame f (with_part view part)
   all_alike home other = all_put _ (log_at (with_part view part) home) (λ p h. all_put _ (log_at (with_part view part) other) (λ q k. pair home other p q (has_with_part view part home p h) (has_with_part view part other q k)))
 
 pub with_part_well_formed : (view : View) (part : Part) → IsWellFormed view → CanInsert view part → IsWellFormed (with_part view part)

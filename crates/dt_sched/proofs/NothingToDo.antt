@@ -15,6 +15,10 @@ use Rattle.dt_sched.proofs.Closed.{closed_before, complete_of_closed}
 use Rattle.dt_sched.proofs.Classes.{pick_ids, class_of, class_unique, several_in_class, in_own_class}
 use Rattle.dt_sched.proofs.Decisions.{has_id_decided, has_class_decided}
 
+-- some id is executable where the order breaks ties, or some class is resolvable
+abbrev IsSomethingToDo : (View → TxnId → TxnId → Type 0) → View → List (List TxnId) → List TxnId → Type 0
+IsSomethingToDo order view resolved done = ((u : TxnId) × IsExecutableBy order view resolved done u) ⊎ ((ids : List TxnId) × IsResolvable view resolved done ids)
+
 -- where an order breaks ties
 module _ (order : View → TxnId → TxnId → Type 0) (ties : BreaksTies order) where
   -- what reaches a member of a class from outside precedes each member
@@ -53,23 +57,23 @@ module _ (order : View → TxnId → TxnId → Type 0) (ties : BreaksTies order)
 
   -- where some closed id is not done, some id is executable or some class is resolvable
   something_to_do : (view : View) (resolved : List (List TxnId)) (done : List TxnId) (t : TxnId) → IsClosed view t → ¬ (Has done t)
-      → ((u : TxnId) × IsExecutableBy order view resolved done u) ⊎ ((ids : List TxnId) × IsResolvable view resolved done ids)
+      → IsSomethingToDo order view resolved done
   something_to_do view resolved done t closed waiting = at (pick_ids (λ u. IsClosed view u × ¬ (Has done u)) open_decided (ids_in view))
     where
       open_decided : (u : TxnId) → Either (IsClosed view u × ¬ (Has done u))
       open_decided u = either_and (IsClosed view u) (¬ (Has done u)) (closed_decided view u) (either_not (Has done u) (has_id_decided done u))
 
-      at : (ids : List TxnId) × IsPicked Before (λ u. Has (ids_in view) u × (IsClosed view u × ¬ (Has done u))) ids → ((u : TxnId) × IsExecutableBy order view resolved done u) ⊎ ((ids : List TxnId) × IsResolvable view resolved done ids)
+      at : (ids : List TxnId) × IsPicked Before (λ u. Has (ids_in view) u × (IsClosed view u × ¬ (Has done u))) ids → IsSomethingToDo order view resolved done
       at r = from r.0 r.1.members
         where
           listed : (u : TxnId) → IsClosed view u → Has (ids_in view) u
           listed u c = has_of_present view u (present_of_complete view u (complete_of_closed view u c))
 
-          from : (ids : List TxnId) → ((u : TxnId) → Has ids u ↔ Has (ids_in view) u × (IsClosed view u × ¬ (Has done u))) → ((u : TxnId) × IsExecutableBy order view resolved done u) ⊎ ((ids : List TxnId) × IsResolvable view resolved done ids)
+          from : (ids : List TxnId) → ((u : TxnId) → Has ids u ↔ Has (ids_in view) u × (IsClosed view u × ¬ (Has done u))) → IsSomethingToDo order view resolved done
           from [] m = absurd ((m t).1 (listed t closed, (closed, waiting)))
           from (x ∷ xs) m = first (least (PrecedesBy order view) (λ t p. p.0 refl) (transitive_by order ties view) (decided_by order ties view) x xs)
             where
-              first : (s : TxnId) × IsLeast (PrecedesBy order view) (x ∷ xs) s → ((u : TxnId) × IsExecutableBy order view resolved done u) ⊎ ((ids : List TxnId) × IsResolvable view resolved done ids)
+              first : (s : TxnId) × IsLeast (PrecedesBy order view) (x ∷ xs) s → IsSomethingToDo order view resolved done
               first s = elim (executable_or_resolvable view resolved done s.0 its.1.0 its.1.1 before) [ inl e ↦ inl (s.0, e) | inr c ↦ inr c ]
                 where
                   its : Has (ids_in view) s.0 × (IsClosed view s.0 × ¬ (Has done s.0))
