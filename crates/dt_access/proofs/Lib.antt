@@ -1,5 +1,8 @@
 pub mod Ids
 pub mod KeyOrder
-pub mod Clashes
+pub mod GranuleLaws
+pub mod Units
+pub mod ClashLaws
+pub mod RowClashes
 pub mod IdTexts
 pub mod Callers
