@@ -19,6 +19,18 @@ pub fn is_granule(key: &Key) -> bool
     granule_bytes(key.bytes()).len() == key.bytes().len()
 }
 
+/// The bytes of a key's unit in a cluster of this version. Takes no memory.
+pub fn unit_bytes(version: u8, key: &Key) -> &[u8]
+    ensures same { result.now ≡ unit_of version key.now }
+    ensures some { 0 < length result.now }
+{
+    if version == 2 {
+        granule_bytes(key.bytes())
+    } else {
+        key.bytes()
+    }
+}
+
 /// The bytes of the granule of a key. Takes no memory.
 pub(crate) fn granule_bytes(key: &[u8]) -> &[u8]
     ensures { result.now ≡ granule_of key.now }

@@ -5,4 +5,5 @@ pub mod MoveHistories
 pub mod StoredUnits
 pub mod OpeningTable
 pub mod SortedEntries
+pub mod ShownKeys
 pub mod TableLaws

@@ -45,18 +45,22 @@ values-written values key value =
 -- ---- units
 
 module _ (a : Inside) where
-  abbrev units : List (Bytes × StoredUnit)
+  abbrev pub units : List (Bytes × StoredUnit)
   units = by_bytes a.units.entries
 
-  abbrev moves : List StoredMove
+  abbrev pub moves : List StoredMove
   moves = a.moves.items
 
-  abbrev state : Table
+  abbrev pub state : Table
   state = (table_view a).state
 
   -- the stored unit of a key
-  abbrev unit_in : Bytes → Option StoredUnit
+  abbrev pub unit_in : Bytes → Option StoredUnit
   unit_in key = lookup (same_key (unit_of a.version key)) units
+
+  -- a look-up by the bytes of the key's unit finds it
+  pub unit_found : (key unit : Bytes) (found : Option StoredUnit) → unit ≡ unit_of a.version key → found ≡ lookup (same_key unit) units → unit_in key ≡ found
+  unit_found key unit found same is = ap (λ u. lookup (same_key u) units) (sym same) ∙ sym is
 
   -- it has the moves of the key
   moves_of-view : (key : Bytes) (found : Option StoredUnit) → unit_in key ≡ found → moves_of state key ≡ unwrap_or (option_map (λ s. history moves s.last) found) []
@@ -181,7 +185,7 @@ module _ (a : Inside) (unit : Bytes) (target : ℕ) (by : TxnId) (sound : IsSoun
     grown = ap (λ (n : ℕ). history longer (Some n)) at ∙ history-push_new a.moves.items (pushed_move a unit target by)
 
     -- the unit has one move more
-    histories-moved : histories_of longer (insert_entry same_key (by_bytes a.units.entries) unit (moved_unit a unit target place)) ≡ (moved (table_view a).state unit target by).moves
+    pub histories-moved : histories_of longer (insert_entry same_key (by_bytes a.units.entries) unit (moved_unit a unit target place)) ≡ (moved (table_view a).state unit target by).moves
     histories-moved =
         insert-from_map nat_list_cmp_total texts_ties (λ (s : StoredUnit). history longer s.last) nat_list_eq_equiv exact (by_bytes a.units.entries) unit (moved_unit a unit target place)
         ∙ (λ i. insert (from_entries (histories-pushed a.version a.regions (by_bytes a.homes.entries) a.moves.items (pushed_move a unit target by) (by_bytes a.units.entries) sound.units i)) (sym is_unit i)

@@ -135,7 +135,7 @@ homes-apply effect t = keeps (λ (u : Table). u.homes) effect t (λ u key target
 -- ---- before any transaction
 
 pub moves_of-opening : (version regions : ℕ) (homes : List (Bytes × ℕ)) (rows : List (Bytes × Value)) (q : Bytes) → moves_of (opening version regions homes rows) q ≡ []
-moves_of-opening version regions homes rows q = ap (λ o. unwrap_or o []) (get-empty {X = List Moved} {R = slice_cmp nat_cmp} (unit_of version q))
+moves_of-opening version regions homes rows q = ap (λ o. unwrap_or o []) (get-empty {X = List Moved} (slice_cmp nat_cmp) (unit_of version q))
 
 -- ---- homes are regions
 

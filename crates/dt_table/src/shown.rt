@@ -1,4 +1,7 @@
 ghost use Rattle.std.specs.Prelude.{◌≡◌, ◌++◌, IfOk, OnOk};
+ghost use Rattle.std.specs.List.{IsDistinct};
+ghost use Rattle.std.specs.Map.{keys_of};
+ghost use Rattle.dt_access.specs.Clash.{same_key};
 ghost use Rattle.dt_lists.specs.Lists.{AllIn};
 ghost use Rattle.dt_text.specs.Texts.{IsKey};
 ghost use Rattle.dt_table.specs.StoredUnitInner.{by_bytes, has_value, moved_without_value, with_value};
@@ -27,7 +30,8 @@ pub fn keys_with_value(
     alloc: Global,
     values: &IndexMap<Key, Option<Value>>,
 ) -> Result<Vec<Key>, NoMemory>
-    ensures { IfOk result (λ keys. keys.items ≡ with_value values.now.entries) }
+    ensures keys { IfOk result (λ keys. keys.items ≡ with_value values.now.entries) }
+    ensures once { IsDistinct same_key (keys_of values.now.entries) }
 {
     let mut keys = Vec::new(alloc);
     for (key, value) in values {
@@ -46,7 +50,8 @@ pub fn add_moved_units(
     units: &IndexMap<Vec<u8>, StoredUnit>,
 ) -> Result<(), NoMemory>
     requires { AllIn (λ e. IsKey e.0) (by_bytes units.now.entries) }
-    ensures { OnOk result (keys.new.items ≡ keys.old.items ++ moved_without_value values.now.entries (by_bytes units.now.entries)) }
+    ensures keys { OnOk result (keys.new.items ≡ keys.old.items ++ moved_without_value values.now.entries (by_bytes units.now.entries)) }
+    ensures once { IsDistinct same_key (keys_of (by_bytes units.now.entries)) }
 {
     for (unit, stored) in units {
         let key = Key::new(alloc, unit.as_slice())?;

@@ -8,9 +8,9 @@ use crate::effect::Effect;
 use crate::shown::{Shown, ShownList, add_moved_units, keys_with_value};
 use crate::stored::{StoredMove, StoredUnit, mover_of, next_mover_of, opening_values, put_value};
 use crate::units::{
-    index_homes, opening_home, put_unit, stored_or_fresh, stored_unit, unit_bytes,
+    index_homes, opening_home, put_unit, stored_or_fresh, stored_unit,
 };
-use dt_access::TxnId;
+use dt_access::{TxnId, unit_bytes};
 use dt_text::{Key, NoMemory, Value};
 use indexmap::IndexMap;
 use std::alloc::Global;

@@ -4,7 +4,6 @@ ghost use Rattle.std.specs.Option.{option_copied};
 ghost use Rattle.std.specs.Map.{lookup};
 ghost use Rattle.indexmap.specs.IndexMap.{insert_entry, spare};
 ghost use Rattle.dt_access.specs.Clash.{same_key};
-ghost use Rattle.dt_access.specs.Granules.{granule_of, unit_of};
 ghost use Rattle.dt_access.specs.Orders.{HasDistinctKeys};
 ghost use Rattle.dt_table.specs.Table.{opening_home as opening_home_of};
 ghost use Rattle.dt_table.specs.StoredUnitInner.{by_bytes, stored_of};
@@ -13,30 +12,6 @@ use crate::stored::StoredUnit;
 use dt_text::{Key, NoMemory};
 use indexmap::IndexMap;
 use std::alloc::Global;
-
-/// The bytes of a key's unit. Takes no memory.
-pub fn unit_bytes(version: u8, key: &Key) -> &[u8]
-    ensures same { result.now ≡ unit_of version key.now }
-    ensures some { 0 < length result.now }
-{
-    if version == 2 {
-        granule_bytes(key.bytes())
-    } else {
-        key.bytes()
-    }
-}
-
-// The granule of a key with these bytes.
-fn granule_bytes(key: &[u8]) -> &[u8]
-    requires { 0 < length key.now }
-    ensures same { result.now ≡ granule_of key.now }
-    ensures some { 0 < length result.now }
-{
-    match key[1..].iter().position(|byte| *byte == b'/') {
-        Some(place) => &key[..place + 1],
-        None => key,
-    }
-}
 
 /// The listed homes, by unit.
 pub fn index_homes(alloc: Global, homes: &[(Key, u8)]) -> Result<IndexMap<Vec<u8>, u8>, NoMemory>

@@ -1,30 +1,15 @@
-use Rattle.std.proofs.Common.{◌≡◌, ℕ, ◌∷◌, [], ◌++◌, Option, ap, sym, subst, ◌∙◌, arith, length}
-use Rattle.dt_table.specs.Table.{TableView}
-use Rattle.dt_table.specs.StoredMovesInner.{AreLinked}
-use Rattle.dt_table.proofs.StoredRows.{counter-moved, linked-moved, stored-moved, state-moved}
+use Rattle.std.proofs.Common.{◌≡◌, ℕ, ◌+◌, ◌<◌, ◌^◌, List, ◌∷◌, [], ◌++◌, Option, Some, ap, sym, subst, ◌∙◌, arith, length}
+use Rattle.indexmap.specs.IndexMap.{insert_entry}
+use Rattle.dt_access.specs.Clash.{Bytes, same_key}
+use Rattle.dt_access.specs.declared.TxnId.{TxnId}
+use Rattle.dt_text.specs.Texts.{IsKey}
+use Rattle.dt_table.specs.Table.{TableView, IsUnit, counter_of}
+use Rattle.dt_table.specs.StoredUnitInner.{by_bytes, stored_of}
+use Rattle.dt_table.specs.StoredMovesInner.{AreLinked, histories_of, table_view}
+use Rattle.dt_table.specs.declared.stored.StoredMove.{StoredMove}
+use Rattle.dt_table.specs.declared.stored.StoredUnit.{StoredUnit}
+use Rattle.dt_table.proofs.StoredUnits.{counter-stored, linked-moved, units-moved, histories-moved}
 use Rattle.dt_table.proofs.table.Table.record_move.Goals as goal
 
-pub put_move-before-requires-clause-counter : goal.put_move-before-requires-clause-counter
-put_move-before-requires-clause-counter c =
-    omega (arith, counter-moved c.self.inside c.args.key c.args.target c.args.by c.self.invariant, c.self.inside.moves.ok.0, ap (λ (k : TableView). k.spare) c.self.view_is)
-
-pub invariant_of-self : goal.invariant_of-self
-invariant_of-self c =
-    let a = c.self.inside in
-    let place : c.len-place.result ≡ length a.moves.items = c.len-place.ensures ∙ a.moves.ok.0 in
-    let pushed = c.in-Ok.ensures.items
-    ∙ ap (λ (b : Option ℕ). a.moves.items ++ record { target = c.args.target; by = c.args.by; before = b } ∷ []) c.put_move-before.ensures.before in
-    record {
-      regions = c.self.invariant.regions;
-      few = omega (arith, c.in-Ok.ensures.len, ap (λ (k : TableView). k.spare) c.self.view_is);
-      linked = subst (AreLinked 0) (sym pushed) (linked-moved a c.args.key c.args.target c.args.by c.self.invariant);
-      rows = rw (c.put_move-before.ensures.rows, pushed) (stored-moved a c.args.key c.args.target c.args.by c.self.invariant c.len-place.result place);
-    }
-
 pub returns-clause-state : goal.returns-clause-state
-returns-clause-state c =
-    let a = c.self.inside in
-    let place : c.len-place.result ≡ length a.moves.items = c.len-place.ensures ∙ a.moves.ok.0 in
-    let pushed = c.in-Ok.ensures.items
-    ∙ ap (λ (b : Option ℕ). a.moves.items ++ record { target = c.args.target; by = c.args.by; before = b } ∷ []) c.put_move-before.ensures.before in
-    rw (← c.self.view_is) (state-moved a c.args.key c.args.target c.args.by c.self.invariant c.len-place.result place _ _ c.put_move-before.ensures.rows pushed)
+returns-clause-state c = ?
