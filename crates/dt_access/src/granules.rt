@@ -1,5 +1,6 @@
 ghost use Rattle.std.specs.Prelude.{◌≡◌, ◌↔◌, IsTrue, IfOk};
-ghost use Rattle.dt_access.specs.Granules.{granule_of};
+ghost use Rattle.dt_text.specs.Texts.{IsKey};
+ghost use Rattle.dt_access.specs.Granules.{granule_of, unit_of};
 
 use dt_text::{Key, NoMemory};
 use std::alloc::Global;
@@ -22,7 +23,7 @@ pub fn is_granule(key: &Key) -> bool
 /// The bytes of a key's unit in a cluster of this version. Takes no memory.
 pub fn unit_bytes(version: u8, key: &Key) -> &[u8]
     ensures same { result.now ≡ unit_of version key.now }
-    ensures some { 0 < length result.now }
+    ensures key { IsKey result.now }
 {
     if version == 2 {
         granule_bytes(key.bytes())

@@ -107,21 +107,25 @@ module _ {V : Type 0} (keep : Bytes → V → Bool) where
 
 -- ---- sets of keys
 
-keys_of-set : (ks : List Bytes) → keys_of (map (λ k. (k, tt)) ks) ≡ ks
+-- a key in a set, which gives it nothing
+abbrev in_set : Bytes → Bytes × Unit {0}
+in_set k = (k, tt)
+
+abbrev there : Option (Unit {0})
+there = Some tt
+
+keys_of-set : (ks : List Bytes) → keys_of (map in_set ks) ≡ ks
 keys_of-set [] = refl
 keys_of-set (k ∷ ks) = ap (λ l. k ∷ l) (keys_of-set ks)
 
 -- a set has a key where the list has it
-get-set : (ks : List Bytes) (q : Bytes) → get (set_of_keys ks) q ≡ cond (list_any (same_key q) ks) (Some tt) None
-get-set ks q = get-from_entries nat_list_cmp_total (map (λ k. (k, tt)) ks) q ∙ find-lookup (map (λ k. (k, tt)) ks) q ∙ at ks
+get-set : (ks : List Bytes) (q : Bytes) → get (set_of_keys ks) q ≡ cond (list_any (same_key q) ks) there None
+get-set ks q = get-from_entries nat_list_cmp_total (map in_set ks) q ∙ find-lookup (map in_set ks) q ∙ at ks
   where
-    at : (ks : List Bytes) → lookup (same_key q) (map (λ k. (k, tt)) ks) ≡ cond (list_any (same_key q) ks) (Some tt) None
+    at : (ks : List Bytes) → lookup (same_key q) (map in_set ks) ≡ cond (list_any (same_key q) ks) there None
     at [] = refl
     at (k ∷ ks) =
-        elim (same_key q k) as (λ b. cond b (Some tt) (lookup (same_key q) (map (λ k. (k, tt)) ks)) ≡ cond (b || list_any (same_key q) ks) (Some tt) None) [ true ↦ refl | false ↦ at ks ]
-
-tied_same : (q x : Bytes) → eq_by_cmp order q x ≡ true → q ≡ x
-tied_same q x e = (bytes_decides q x).0 (texts_ties q x ∙ e)
+        elim (same_key q k) as (λ b. cond b there (lookup (same_key q) (map in_set ks)) ≡ cond (b || list_any (same_key q) ks) there None) [ true ↦ refl | false ↦ at ks ]
 
 -- keys of a map
 any-keys : {X : Type 0} (m : FinMap order X) (q : Bytes) → list_any (same_key q) (keys m) ≡ is_some (get m q)
@@ -234,12 +238,12 @@ module _ (a : Inside) (sound : IsSoundTable a) (vd : IsDistinct same_key (keys_o
   same_sets : set_of_keys collected ≡ retain_keys (set_of_keys (keys t.values ++ keys t.moves)) (is_shown t)
   same_sets = same_map nat_list_cmp_total exact _ _ (λ q.
       get-set collected q
-      ∙ ap (λ b. cond b (Some tt) None) (any-collected q)
+      ∙ ap (λ b. cond b there None) (any-collected q)
       ∙ both (is_shown t q) (list_any (same_key q) (keys t.values ++ keys t.moves))
       ∙ sym (get-retain_keys (set_of_keys (keys t.values ++ keys t.moves)) (is_shown t) q (λ x e. ap (is_shown t) (sym (exact q x e)))
       ∙ ap (λ o. cond (is_shown t q) o None) (get-set (keys t.values ++ keys t.moves) q)))
     where
-      both : (b c : Bool) → cond (b && c) (Some tt) None ≡ cond b (cond c (Some tt) None) None
+      both : (b c : Bool) → cond (b && c) there None ≡ cond b (cond c there None) None
       both true c = refl
       both false c = refl
 
@@ -247,8 +251,7 @@ module _ (a : Inside) (sound : IsSoundTable a) (vd : IsDistinct same_key (keys_o
   pub shown_in_order : (ks : List Bytes) → IsPermutation collected ks → IsSortedBy (λ x y. is_lt (order x y)) ks
       → ks ≡ keys (retain_keys (set_of_keys (keys t.values ++ keys t.moves)) (is_shown t))
   shown_in_order ks moves sorted =
-      let pair = λ (k : Bytes). (k, tt) in
       sym (keys_of-set ks)
-      ∙ ap keys_of (in_order-sorted (map pair collected) (map pair ks) (IsPermutation-map pair collected ks moves)
-      (subst (IsDistinct same_key) (sym (keys_of-set collected)) collected_distinct) (IsSortedBy-map pair (λ x y. is_lt (order x.0 y.0)) ks sorted))
+      ∙ ap keys_of (in_order-sorted (map in_set collected) (map in_set ks) (IsPermutation-map in_set collected ks moves)
+      (subst (IsDistinct same_key) (sym (keys_of-set collected)) collected_distinct) (IsSortedBy-map in_set (λ x y. is_lt (order x.0 y.0)) ks sorted))
       ∙ ap keys same_sets

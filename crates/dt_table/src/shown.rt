@@ -31,7 +31,7 @@ pub fn keys_with_value(
     values: &IndexMap<Key, Option<Value>>,
 ) -> Result<Vec<Key>, NoMemory>
     ensures keys { IfOk result (λ keys. keys.items ≡ with_value values.now.entries) }
-    ensures once { IsDistinct same_key (keys_of values.now.entries) }
+    ensures once { OnOk result (IsDistinct same_key (keys_of values.now.entries)) }
 {
     let mut keys = Vec::new(alloc);
     for (key, value) in values {
@@ -51,7 +51,7 @@ pub fn add_moved_units(
 ) -> Result<(), NoMemory>
     requires { AllIn (λ e. IsKey e.0) (by_bytes units.now.entries) }
     ensures keys { OnOk result (keys.new.items ≡ keys.old.items ++ moved_without_value values.now.entries (by_bytes units.now.entries)) }
-    ensures once { IsDistinct same_key (keys_of (by_bytes units.now.entries)) }
+    ensures once { OnOk result (IsDistinct same_key (keys_of (by_bytes units.now.entries))) }
 {
     for (unit, stored) in units {
         let key = Key::new(alloc, unit.as_slice())?;
