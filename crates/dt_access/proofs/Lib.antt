@@ -4,5 +4,7 @@ pub mod GranuleLaws
 pub mod Units
 pub mod ClashLaws
 pub mod RowClashes
+pub mod Search
+pub mod ClashParts
 pub mod IdTexts
 pub mod Callers

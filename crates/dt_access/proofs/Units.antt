@@ -1,5 +1,5 @@
 -- What clashes is of one unit, and what moves a unit clashes with all that uses it.
-use Rattle.std.proofs.Common.{◌≡◌, ◌≢◌, ◌⊎◌, ℕ, Bool, true, false, cond, ◌==◌, ◌&&◌, ◌||◌, refl, ap, ap₂, sym, ◌∙◌, subst, inl, inr, eqb-true}
+use Rattle.std.proofs.Common.{◌≡◌, ◌≢◌, ◌⊎◌, ℕ, Bool, true, false, cond, ◌==◌, ◌&&◌, ◌||◌, refl, ap, ap₂, subst, inl, inr}
 use Rattle.std.proofs.Math.Bool.{or_comm}
 use Rattle.std.proofs.lemmas.Bool.{and_parts, and_from, or_left, or_right}
 use Rattle.std.specs.Cmp.Lexicographic.{bytes_decides}
@@ -7,10 +7,10 @@ use Rattle.std.proofs.lemmas.Cmp.{nat_list_eq_equiv}
 use Rattle.dt_access.specs.Granules.{Bytes, granule_of, unit_of, mode_of_move}
 use Rattle.dt_access.specs.Clash.{same_key, same_granule, is_write, is_whole, rows_clash, granules_clash, uses_clash}
 use Rattle.dt_access.specs.declared.access.Mode.{Mode}
-use Rattle.dt_access.specs.declared.access.Mode.TheVariants.{Read, Write, Whole}
+use Rattle.dt_access.specs.declared.access.Mode.TheVariants.{Write, Whole}
 
 -- a test that holds of one of two cases
-either_case : (a b : Bool) → (a || b) ≡ true → (a ≡ true) ⊎ (b ≡ true)
+pub either_case : (a b : Bool) → (a || b) ≡ true → (a ≡ true) ⊎ (b ≡ true)
 either_case true b e = inl refl
 either_case false b e = inr e
 

@@ -1,7 +1,7 @@
-ghost use Rattle.std.specs.Prelude.{◌≡◌, [], ◌∷◌, ◌++◌, IsTrue, ◌↔◌};
+ghost use Rattle.std.specs.Prelude.{◌≡◌, ◌≤◌, [], ◌∷◌, ◌++◌, length};
 ghost use Rattle.dt_access.specs.Clash.{clash};
-ghost use Rattle.dt_access.specs.Meeting.{begins_with, has_granule, meet_on_row, takes_from};
-ghost use Rattle.dt_access.specs.Orders.{HasAscendingKeys, KeyBefore};
+ghost use Rattle.dt_access.specs.Meeting.{EndsAt, begins_with, has_granule, is_below, meet_on_row, takes_from};
+ghost use Rattle.dt_access.specs.Orders.{HasAscendingKeys};
 
 use crate::access::Mode;
 use crate::granules::granule_bytes;
@@ -64,9 +64,27 @@ fn has_granule(keys: &[(Key, Mode)], granule: &[u8]) -> bool
     requires { HasAscendingKeys keys.now }
     ensures { result ≡ has_granule keys.now granule.now }
 {
-    let itself = keys.partition_point(|entry| entry.0.bytes() < granule);
-    let rows = keys.partition_point(|entry| is_before_rows(entry.0.bytes(), granule));
+    let itself = place_of(keys, granule);
+    let rows = place_of_rows(keys, granule);
     begins_with(&keys[itself..], granule) || begins_with(&keys[rows..], granule)
+}
+
+/// The place of the first key that is not less than the granule, or the number of keys.
+fn place_of(keys: &[(Key, Mode)], granule: &[u8]) -> usize
+    requires { HasAscendingKeys keys.now }
+    ensures within { result ≤ length keys.now }
+    ensures first { EndsAt granule.now keys.now result }
+{
+    keys.partition_point(|entry| entry.0.bytes().cmp(granule).is_lt())
+}
+
+/// The place of the first key that is not less than those that begin with the granule and a `/`, or the number of keys.
+fn place_of_rows(keys: &[(Key, Mode)], granule: &[u8]) -> usize
+    requires { HasAscendingKeys keys.now }
+    ensures within { result ≤ length keys.now }
+    ensures first { EndsAt (granule.now ++ 47 ∷ []) keys.now result }
+{
+    keys.partition_point(|entry| is_before_rows(entry, granule))
 }
 
 /// Whether the first key of a list is of the granule.
@@ -80,11 +98,12 @@ fn begins_with(keys: &[(Key, Mode)], granule: &[u8]) -> bool
 }
 
 /// Whether a key is less than all keys that begin with the granule and a `/`.
-fn is_before_rows(key: &[u8], granule: &[u8]) -> bool
-    ensures { IsTrue result ↔ KeyBefore key.now (granule.now ++ 47 ∷ []) }
+fn is_before_rows(entry: &(Key, Mode), granule: &[u8]) -> bool
+    ensures { result ≡ is_below entry.now.0 (granule.now ++ 47 ∷ []) }
 {
+    let key = entry.0.bytes();
     match key.strip_prefix(granule) {
-        Some(rest) => rest < b"/".as_slice(),
-        None => key < granule,
+        Some(rest) => rest.cmp(b"/".as_slice()).is_lt(),
+        None => key.cmp(granule).is_lt(),
     }
 }

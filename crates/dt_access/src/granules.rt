@@ -1,4 +1,4 @@
-ghost use Rattle.std.specs.Prelude.{◌≡◌, ◌↔◌, IsTrue, IfOk};
+ghost use Rattle.std.specs.Prelude.{◌≡◌, ◌↔◌, ◌==◌, IsTrue, IfOk, position};
 ghost use Rattle.dt_text.specs.Texts.{IsKey};
 ghost use Rattle.dt_access.specs.Granules.{granule_of, unit_of};
 
@@ -39,8 +39,15 @@ pub(crate) fn granule_bytes(key: &[u8]) -> &[u8]
     let Some((_, rest)) = key.split_first() else {
         return key;
     };
-    match rest.iter().position(|byte| *byte == b'/') {
+    match slash_place(rest) {
         Some(place) => &key[..place + 1],
         None => key,
     }
+}
+
+/// The place of the first `/`, if there is one.
+fn slash_place(bytes: &[u8]) -> Option<usize>
+    ensures { result ≡ position (λ b. b == 47) bytes.now }
+{
+    bytes.iter().position(|byte| *byte == b'/')
 }

@@ -1,4 +1,5 @@
 pub mod Scan
+pub mod RankScan
 pub mod Same
 pub mod Growth
 pub mod Walk

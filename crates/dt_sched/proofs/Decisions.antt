@@ -6,7 +6,8 @@ use Rattle.dt_access.specs.declared.TxnId.{TxnId}
 use Rattle.dt_sched.specs.Views.{View, Reaches, IsComplete, IsClosed, Precedes, IsClass}
 use Rattle.dt_sched.specs.Decide.{IsExecutable, IsResolvable}
 use Rattle.dt_access.proofs.Callers.{either_id}
-use Rattle.dt_sched.proofs.Reach.{each_reaching_decided, precedes_decided, complete_decided, closed_decided}
+use Rattle.dt_sched.proofs.Reach.{each_reaching_decided, complete_decided, closed_decided}
+use Rattle.dt_sched.proofs.Precedence.{precedes_decided}
 use Rattle.dt_sched.proofs.Classes.{class_of, class_unique, some_class_decided}
 
 pub has_id_decided : (ids : List TxnId) (t : TxnId) → Either (Has ids t)

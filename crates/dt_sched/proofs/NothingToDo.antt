@@ -7,8 +7,8 @@ use Rattle.dt_access.specs.declared.TxnId.{TxnId}
 use Rattle.dt_sched.specs.Views.{View, Reaches, IsComplete, IsClosed, Precedes, IsClass}
 use Rattle.dt_sched.specs.Decide.{IsExecutable, IsResolvable, HasNothingToDo}
 use Rattle.dt_access.proofs.Callers.{either_id}
-use Rattle.dt_sched.proofs.Reach.{ids_in, has_of_present, present_of_complete, reach_decided, precedes_decided, closed_decided}
-use Rattle.dt_sched.proofs.Precedence.{precedes_irreflexive, precedes_transitive}
+use Rattle.dt_sched.proofs.Reach.{ids_in, has_of_present, present_of_complete, reach_decided, closed_decided}
+use Rattle.dt_sched.proofs.Precedence.{precedes_decided, precedes_irreflexive, precedes_transitive}
 use Rattle.dt_sched.proofs.Closed.{closed_before, complete_of_closed}
 use Rattle.dt_sched.proofs.Classes.{pick_ids, class_of, class_unique, several_in_class, in_own_class}
 use Rattle.dt_sched.proofs.Decisions.{has_id_decided, has_class_decided}
