@@ -1,5 +1,5 @@
 -- What other crates use of calls: of their keys, and of what they write.
-use Rattle.std.proofs.Common.{◌≡◌, ℕ, true, List, [], ◌∷◌, map, slice_get, Some, Ok, Err, refl, sym, ap, ap₂, subst, ◌∙◌}
+use Rattle.std.proofs.Common.{◌≡◌, ℕ, true, false, List, [], ◌∷◌, map, slice_get, Some, Ok, Err, refl, sym, ap, ap₂, subst, ◌∙◌}
 use Rattle.std.specs.Prelude.{Option, None, Result}
 use Rattle.dt_lists.specs.Lists.{AnyIn, AllIn, EachThen}
 use Rattle.dt_lists.proofs.Callers.{all_map, all_any, each_image}
