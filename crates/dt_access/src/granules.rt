@@ -1,5 +1,6 @@
 ghost use Rattle.std.specs.Prelude.{◌≡◌, ◌↔◌, ◌==◌, IsTrue, IfOk, position};
-ghost use Rattle.dt_access.specs.Granules.{granule_of};
+ghost use Rattle.dt_text.specs.Texts.{IsKey};
+ghost use Rattle.dt_access.specs.Granules.{granule_of, unit_of};
 
 use dt_text::{Key, NoMemory};
 use std::alloc::Global;
@@ -17,6 +18,18 @@ pub fn is_granule(key: &Key) -> bool
     ensures { IsTrue result ↔ (granule_of key.now ≡ key.now) }
 {
     granule_bytes(key.bytes()).len() == key.bytes().len()
+}
+
+/// The bytes of a key's unit in a cluster of this version. Takes no memory.
+pub fn unit_bytes(version: u8, key: &Key) -> &[u8]
+    ensures same { result.now ≡ unit_of version key.now }
+    ensures key { IsKey result.now }
+{
+    if version == 2 {
+        granule_bytes(key.bytes())
+    } else {
+        key.bytes()
+    }
 }
 
 /// The bytes of the granule of a key. Takes no memory.

@@ -1,11 +1,11 @@
 -- What other crates use of calls: of their keys, and of what they write.
-use Rattle.std.proofs.Common.{◌≡◌, ℕ, true, List, [], ◌∷◌, map, slice_get, Some, Ok, Err, refl, sym, ap, ap₂, subst, ◌∙◌}
+use Rattle.std.proofs.Common.{◌≡◌, ℕ, true, false, List, [], ◌∷◌, map, slice_get, Some, Ok, Err, refl, sym, ap, ap₂, subst, ◌∙◌}
 use Rattle.std.specs.Prelude.{Option, None, Result}
 use Rattle.dt_lists.specs.Lists.{AnyIn, AllIn, EachThen}
 use Rattle.dt_lists.proofs.Callers.{all_map, all_any, each_image}
 use Rattle.dt_text.specs.Texts.{IsKey}
 use Rattle.dt_text.specs.declared.Value.{Value}
-use Rattle.dt_access.specs.Clash.{Bytes}
+use Rattle.dt_access.specs.Clash.{Bytes, is_whole}
 use Rattle.dt_access.specs.Orders.{KeyBefore, HasAscendingKeys}
 use Rattle.dt_access.specs.declared.Mode.{Mode}
 use Rattle.dt_access.specs.declared.Mode.TheVariants.{Write}
@@ -18,7 +18,7 @@ use Rattle.dt_eval.specs.Data.{RunState, declared_key}
 use Rattle.dt_eval.specs.Statements.{after_block}
 use Rattle.dt_eval.specs.Meaning.{keys_of, names_of, meaning, finish_of, run_opening, writes_in}
 use Rattle.dt_eval.specs.Calls.{CallFits, keys_if, meaning_if, call_keys, call_meaning}
-use Rattle.dt_eval.proofs.KeyLaws.{keys_ascend, keys_all, keys_write, written_use}
+use Rattle.dt_eval.proofs.KeyLaws.{keys_ascend, keys_all, keys_narrow, keys_write, written_use}
 use Rattle.dt_eval.proofs.RowLaws.{Keeps, IsWrittenIn, sets_any, sets_sound, block_keeps, with_value_keys, with_value_written, opening_written, opening_keys, writes_written, writes_ascend}
 
 -- of one procedure
@@ -60,6 +60,14 @@ call_keys_ascend procs number args = go (slice_get procs number)
   where
     go : (p : Option ProcTree) → HasAscendingKeys (keys_if p args)
     go (Some body) = keys_ascend body args
+    go None = tt
+
+-- no key of a call takes a whole granule
+pub call_keys_narrow : (procs : List ProcTree) (number : ℕ) (args : List Value) → AllIn (λ u. is_whole u.1 ≡ false) (call_keys procs number args)
+call_keys_narrow procs number args = go (slice_get procs number)
+  where
+    go : (p : Option ProcTree) → AllIn (λ u. is_whole u.1 ≡ false) (keys_if p args)
+    go (Some body) = keys_narrow body args
     go None = tt
 
 -- each key of a call that fits is a key

@@ -1,6 +1,6 @@
 -- The list of the keys of a call: it ascends, and holds each key that a declaration gives, with Write if any declaration of
 -- it is.
-use Rattle.std.proofs.Common.{◌≡◌, ◌<◌, ◌≤◌, ◌+◌, ◌⊎◌, ℕ, length, take, drop, set, ◌++◌, ap₂, add-one, append_assoc, arith, zero, suc, Bool, true, List, []}
+use Rattle.std.proofs.Common.{◌≡◌, ◌<◌, ◌≤◌, ◌+◌, ◌⊎◌, ℕ, length, take, drop, set, ◌++◌, ap₂, add-one, append_assoc, arith, zero, suc, Bool, true, false, List, []}
 use Rattle.std.proofs.Common.{◌∷◌, map, get_or, slice_get, Some, refl, sym, ap, subst, ◌∙◌, inl, inr}
 use Rattle.std.specs.List.{fold}
 use Rattle.std.proofs.Math.Seq.{drop-cons}
@@ -13,11 +13,11 @@ use Rattle.dt_lists.specs.Lists.{AnyIn, AllIn, Pairwise}
 use Rattle.dt_lists.proofs.Callers.{place_within}
 use Rattle.dt_lists.proofs.Callers.{all_map}
 use Rattle.dt_text.specs.declared.Value.{Value}
-use Rattle.dt_access.specs.Clash.{Bytes}
+use Rattle.dt_access.specs.Clash.{Bytes, is_whole}
 use Rattle.dt_access.specs.Orders.{KeyBefore, HasAscendingKeys}
 use Rattle.dt_access.proofs.Callers.{key_before_flip}
 use Rattle.dt_access.specs.declared.Mode.{Mode}
-use Rattle.dt_access.specs.declared.Mode.TheVariants.{Read, Write}
+use Rattle.dt_access.specs.declared.Mode.TheVariants.{Read, Write, Whole}
 use Rattle.dt_proc.specs.declared.tree.KeyDecl.{KeyDecl}
 use Rattle.dt_proc.specs.declared.tree.KeyItem.{KeyItem}
 use Rattle.dt_proc.specs.declared.tree.KeyItem.TheVariants as item
@@ -114,8 +114,40 @@ merged_left : (m n : Mode) → m ≡ Write → merged m n ≡ Write
 merged_left m n e = ap (λ x. merged x n) e
 
 merged_right : (m n : Mode) → n ≡ Write → merged m n ≡ Write
-merged_right Read n e = e
+merged_right Read n e = ap (merged Read) e
 merged_right Write n e = refl
+merged_right Whole n e = refl
+
+-- no key of a procedure takes a whole granule
+abbrev IsNarrow : Bytes × Mode → Type 0
+IsNarrow u = is_whole u.1 ≡ false
+
+merged_narrow : (m n : Mode) → is_whole (merged m n) ≡ false
+merged_narrow Read Read = refl
+merged_narrow Read Write = refl
+merged_narrow Read Whole = refl
+merged_narrow Write n = refl
+merged_narrow Whole n = refl
+
+with_use_narrow : (vs : List (Bytes × Mode)) (u : Bytes × Mode) → AllIn IsNarrow vs → IsNarrow u → AllIn IsNarrow (with_use vs u)
+with_use_narrow [] u all narrow = (narrow, tt)
+with_use_narrow (v ∷ vs) u all narrow = go (slice_cmp nat_cmp u.0 v.0) (with_use_narrow vs u all.1 narrow)
+  where
+    go : (o : Ordering) → AllIn IsNarrow (with_use vs u) → AllIn IsNarrow (placed_use o u v vs (with_use vs u))
+    go Less later = (narrow, all)
+    go Equal later = (merged_narrow v.1 u.1, all.1)
+    go Greater later = (all.0, later)
+
+uses_narrow : (args : List Value) (ds : List KeyDecl) (vs : List (Bytes × Mode)) → AllIn IsNarrow vs → AllIn IsNarrow (fold with_use vs (map (use_of args) ds))
+uses_narrow args [] vs all = all
+uses_narrow args (d ∷ ds) vs all = uses_narrow args ds (with_use vs (use_of args d)) (with_use_narrow vs (use_of args d) all (declared d.write))
+  where
+    declared : (write : Bool) → is_whole (mode_of write) ≡ false
+    declared true = refl
+    declared false = refl
+
+pub keys_narrow : (proc : ProcTree) (args : List Value) → AllIn (λ u. is_whole u.1 ≡ false) (keys_of proc args)
+keys_narrow proc args = uses_narrow args proc.keys [] tt
 
 -- a key that some declaration gives with `write` has mode Write
 pub keys_write : (key : Bytes) (proc : ProcTree) (args : List Value) → AnyIn (λ u. (u.0 ≡ key) × (u.1 ≡ Write)) (map (use_of args) proc.keys) → AnyIn (λ u. (u.0 ≡ key) × (u.1 ≡ Write)) (keys_of proc args)

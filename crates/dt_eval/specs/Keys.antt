@@ -13,7 +13,7 @@ use Rattle.dt_text.specs.declared.Value.{Value}
 use Rattle.dt_text.specs.declared.Value.TheVariants as val
 use Rattle.dt_access.specs.Clash.{Bytes}
 use Rattle.dt_access.specs.declared.Mode.{Mode}
-use Rattle.dt_access.specs.declared.Mode.TheVariants.{Read, Write}
+use Rattle.dt_access.specs.declared.Mode.TheVariants.{Read, Write, Whole}
 use Rattle.dt_proc.specs.declared.tree.KeyItem.{KeyItem}
 use Rattle.dt_proc.specs.declared.tree.KeyItem.TheVariants.{Text, Param, Show}
 use Rattle.dt_proc.specs.declared.tree.KeyDecl.{KeyDecl}
@@ -58,10 +58,13 @@ abbrev pub mode_of : Bool → Mode
 mode_of true = Write
 mode_of false = Read
 
--- Write if either is
+-- Write if either allows more than to read
 abbrev pub merged : Mode → Mode → Mode
-merged Read m = m
+merged Read Read = Read
+merged Read Write = Write
+merged Read Whole = Write
 merged Write m = Write
+merged Whole m = Write
 
 -- the key and the mode of a declaration
 abbrev pub use_of : List Value → KeyDecl → Bytes × Mode

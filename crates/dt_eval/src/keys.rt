@@ -151,9 +151,13 @@ fn add_use(uses: &mut Vec<(Key, Mode)>, key: Key, mode: Mode) -> Result<(), NoMe
     Ok(())
 }
 
-/// `Write` if either mode is.
+/// `Write` if either mode allows more than to read.
 fn merged(first: Mode, second: Mode) -> Mode
     ensures { result ≡ merged first second }
 {
-    if first.is_write() { first } else { second }
+    if first.is_write() || second.is_write() {
+        Mode::Write
+    } else {
+        Mode::Read
+    }
 }

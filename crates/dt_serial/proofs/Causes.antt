@@ -1,8 +1,10 @@
 -- Why a transaction has its outcome.
-use Rattle.std.proofs.Common.{◌≡◌, ◌⊎◌, ℕ, List, [], ◌∷◌, ◌++◌, length, slice_get, Some, sym, ap, subst, inl, inr, arith}
+use Rattle.std.proofs.Common.{◌≡◌, ◌⊎◌, ℕ, List, [], ◌∷◌, ◌++◌, length, slice_get, Some, refl, sym, ap, subst, ◌∙◌, inl, inr, arith}
 use Rattle.dt_lists.specs.Lists.{AllIn, Has}
 use Rattle.dt_lists.proofs.Callers.{any_map, any_append_left, all_put, Spot, spot_has, get_front}
 use Rattle.dt_access.specs.Clash.{Bytes}
+use Rattle.dt_access.specs.Granules.{unit_of}
+use Rattle.dt_access.proofs.Callers.{unit_again}
 use Rattle.dt_access.specs.declared.TxnId.{TxnId}
 use Rattle.dt_proc.specs.Tree.{ProcTree}
 use Rattle.dt_table.specs.Table.{Table, Moved, moves_of}
@@ -16,18 +18,21 @@ use Rattle.dt_txn.proofs.Callers.{own_fresh}
 use Rattle.dt_serial.specs.Order.{IsLive}
 use Rattle.dt_serial.specs.Evidence.{MadeMove, own_outcome, IsGrounded, HasReason}
 use Rattle.dt_serial.proofs.One.{mover_at, IsStaleAt, live_or_stale, one_live}
-use Rattle.dt_serial.proofs.Runs.{table_after_append, outcomes_append, outcome_at, IsOutcomeAt, outcome_get, moves_grow, IsMoveAt, numbered_move}
+use Rattle.dt_serial.proofs.Rows.{same_moves}
+use Rattle.dt_serial.proofs.Runs.{version_after, table_after_append, outcomes_append, outcome_at, IsOutcomeAt, outcome_get, moves_grow, IsMoveAt, numbered_move}
 
 -- the move of each number was made by one of the run
 pub move_made : (procs : List ProcTree) (xs : List Txn) (start : Table) (key : Bytes) (i : ℕ) (m : Moved) → moves_of start key ≡ [] → slice_get (moves_of (table_after procs xs start) key) i ≡ Some m → MadeMove procs xs start key i m.by
 move_made procs xs start key i m none e =
-    let r : IsMoveAt procs xs start key i m = numbered_move procs xs start key i m (omega (arith, ap length none)) e in
+    let r : IsMoveAt procs start.version xs start key i m = numbered_move procs start.version xs start key i m refl (omega (arith, ap length none)) e in
     record {
       mover = r.mover;
+      moved = r.makes.moved;
       target = m.target;
       there = spot_has xs r.mover r.at;
       id = r.makes.by;
       body = r.makes.body;
+      same = r.makes.same;
       gave = subst (Has (outcomes procs xs start)) (λ j. (r.makes.by j, r.makes.gave j)) (outcome_at procs xs start r.mover r.at);
       number = e;
     }
@@ -36,10 +41,12 @@ move_made procs xs start key i m none e =
 pub made_stays : (procs : List ProcTree) (xs ys : List Txn) (start : Table) (key : Bytes) (had : ℕ) (by : TxnId) → MadeMove procs xs start key had by → MadeMove procs (xs ++ ys) start key had by
 made_stays procs xs ys start key had by m = record {
   mover = m.mover;
+  moved = m.moved;
   target = m.target;
   there = any_append_left _ xs ys m.there;
   id = m.id;
   body = m.body;
+  same = m.same;
   gave = subst (λ l. Has l (by, Gave [])) (sym (outcomes_append procs xs ys start)) (any_append_left _ (outcomes procs xs start) _ m.gave);
   number = subst (λ t. slice_get (moves_of t key) had ≡ Some (record { target = m.target; by = by })) (sym (table_after_append procs xs ys start)) (get_front _ _ had _ (moves_grow procs ys (table_after procs xs start) key) m.number);
 }
@@ -47,12 +54,18 @@ made_stays procs xs ys start key had by m = record {
 module _ (procs : List ProcTree) (start : Table) (unmoved : (key : Bytes) → moves_of start key ≡ []) (txns : List Txn) where
   stale_reason : (x : Txn) (s : Spot txns x) (o : Outcome) → IsStaleAt x.access (table_after procs s.front start) o → IsGrounded procs s.front txns start x o
   stale_reason x s o w =
-      let m : (m : Moved) × (slice_get (moves_of (table_after procs s.front start) w.entry.key) w.entry.counter ≡ Some m) × (m.by ≡ w.by) = mover_at (moves_of (table_after procs s.front start) w.entry.key) w.entry.counter w.by w.next in
-      let made : MadeMove procs s.front start w.entry.key w.entry.counter w.by
-      = subst (MadeMove procs s.front start w.entry.key w.entry.counter) m.2 (move_made procs s.front start w.entry.key w.entry.counter m.0 (unmoved w.entry.key) m.1) in
-      let stays : MadeMove procs txns start w.entry.key w.entry.counter w.by
-      = subst (λ l. MadeMove procs l start w.entry.key w.entry.counter w.by) (sym s.is) (made_stays procs s.front (x ∷ s.rest) start w.entry.key w.entry.counter w.by made) in
-      subst (IsGrounded procs s.front txns start x) (sym w.is) (any_map _ _ x.access (λ a e. (ap (λ b. b.key) e, ap (λ b. b.counter) e)) w.there, made, stays)
+      let t : Table = table_after procs s.front start in
+      let key : Bytes = w.entry.key in
+      let had : ℕ = w.entry.counter in
+      let unit : Bytes = unit_of start.version key in
+      let version : t.version ≡ start.version = version_after procs start.version s.front start refl in
+      let seen : moves_of t key ≡ moves_of t unit = same_moves t start.version key unit version (sym (unit_again start.version key)) in
+      let m : (m : Moved) × (slice_get (moves_of t key) had ≡ Some m) × (m.by ≡ w.by) = mover_at (moves_of t key) had w.by w.next in
+      let there : slice_get (moves_of t unit) had ≡ Some m.0 = ap (λ ms. slice_get ms had) (sym seen) ∙ m.1 in
+      let made : MadeMove procs s.front start unit had w.by = subst (MadeMove procs s.front start unit had) m.2 (move_made procs s.front start unit had m.0 (unmoved unit) there) in
+      let stays : MadeMove procs txns start unit had w.by = subst (λ l. MadeMove procs l start unit had w.by) (sym s.is) (made_stays procs s.front (x ∷ s.rest) start unit had w.by made) in
+      let told : o ≡ Stale unit had w.by = w.is ∙ ap (λ v. Stale (unit_of v key) had w.by) version in
+      subst (IsGrounded procs s.front txns start x) (sym told) (any_map _ _ x.access (λ a e. (ap (λ b. unit_of start.version b.key) e, ap (λ b. b.counter) e)) w.there, made, stays)
 
   live_reason : (x : Txn) (s : Spot txns x) (o : Outcome) → own_outcome procs x (table_after procs s.front start) ≡ o → IsLive x (table_after procs s.front start) → ¬ (IsStaleOutcome o) → IsGrounded procs s.front txns start x o
   live_reason x s (Gave values) e live fresh = tt

@@ -1,27 +1,27 @@
 -- A serial run and an order that fits it: the moves of a key, who is stale, and who is ordered.
-use Rattle.std.proofs.Common.{◌≡◌, ◌≢◌, ◌<◌, ◌≤◌, ◌⊎◌, ℕ, zero, suc, Bool, true, cond, List, ◌∷◌, ◌++◌, length, slice_get, Some, None, refl, sym, ap, subst, ◌∙◌, inl, inr, arith}
+use Rattle.std.proofs.Common.{◌≡◌, ◌≢◌, ◌<◌, ◌≤◌, ◌⊎◌, ℕ, zero, suc, Bool, true, cond, false, List, ◌∷◌, ◌++◌, length, slice_get, Some, None, refl, sym, ap, subst, ◌∙◌, inl, inr, arith}
 use Rattle.std.specs.Prelude.{Option, option_map}
-use Rattle.std.specs.Cmp.Lexicographic.{bytes_decides}
-use Rattle.std.proofs.lemmas.Bool.{cases_lt, and_from, and_parts, or_left, cases_order}
+use Rattle.std.proofs.lemmas.Bool.{cases_lt, cases_order}
 use Rattle.std.proofs.lemmas.List.{map-append}
 use Rattle.std.proofs.lemmas.Option.{slice_get_within, slice_get-get_or}
 use Rattle.dt_lists.specs.Lists.{AllIn, Has, EachThen, Either}
 use Rattle.dt_lists.proofs.Callers.{any_get, all_get, all_put, each_map, each_across, has_map, Spot, spot_has, each_of_steps, each_at, PassesAtFront}
 use Rattle.dt_lists.proofs.Callers.{if_passes, get_filtered}
-use Rattle.dt_access.proofs.Callers.{either_id}
+use Rattle.dt_access.proofs.Callers.{either_id, units_of_clash}
 use Rattle.dt_access.specs.Ids.{is_among}
-use Rattle.dt_access.specs.Clash.{Bytes, is_write, uses_clash}
+use Rattle.dt_access.specs.Clash.{Bytes, is_whole, uses_clash}
+use Rattle.dt_access.specs.Granules.{unit_of}
 use Rattle.dt_access.specs.declared.TxnId.{TxnId}
 use Rattle.dt_access.specs.declared.Access.{Access}
-use Rattle.dt_access.specs.declared.Mode.TheVariants.{Write}
 use Rattle.dt_proc.specs.Tree.{ProcTree}
 use Rattle.dt_table.specs.Table.{Table, Moved, moves_of, counter_of, next_mover}
 use Rattle.dt_txn.specs.declared.txn.Txn.{Txn}
 use Rattle.dt_txn.specs.Serial.{table_after}
-use Rattle.dt_serial.specs.Order.{txn_ids, Ordered, IsDown, FollowsMove, IsLive, MayWrite, KeepsToKeys, IsHistory}
+use Rattle.dt_serial.specs.Order.{txn_ids, Ordered, IsDown, FollowsMove, IsLive, ChangesBy, MayChange, KeepsToKeys, IsHistory}
 use Rattle.dt_serial.specs.Replay.{replay}
-use Rattle.dt_serial.proofs.One.{live_entries, IsMoveOf, change_of_one}
-use Rattle.dt_serial.proofs.Runs.{table_after_append, IsMoveAt, numbered_move, mover_in, replay_append, replay_all, replay_none, chosen_moves, replay_moves}
+use Rattle.dt_serial.proofs.One.{live_entries, IsMoveOf, change_of_one, clash_of_change, unit_of_change}
+use Rattle.dt_serial.proofs.Rows.{same_moves}
+use Rattle.dt_serial.proofs.Runs.{version_after, table_after_append, IsMoveAt, numbered_move, mover_in, replay_append, replay_all, replay_none, chosen_moves, replay_moves}
 use Rattle.dt_serial.proofs.Past.{among_of_has, not_among, IsPast, past_of_down, same_past, down_preceders}
 
 module _ (procs : List ProcTree) (order : TxnId → TxnId → Type 0) (start : Table) (txns : List Txn) (h : IsHistory procs order start txns) where
@@ -53,8 +53,16 @@ module _ (procs : List ProcTree) (order : TxnId → TxnId → Type 0) (start : T
   no_moves : (key : Bytes) → counter_of start key ≡ 0
   no_moves key = ap length (h.unmoved key)
 
-  pub keys_at : (x : Txn) → Has txns x → KeepsToKeys procs x
-  keys_at x k = all_get (KeepsToKeys procs) txns h.keys x k
+  pub keys_at : (x : Txn) → Has txns x → KeepsToKeys procs start.version x
+  keys_at x k = all_get (KeepsToKeys procs start.version) txns h.keys x k
+
+  -- the version stays
+  pub version_at : (xs : List Txn) → (table_after procs xs start).version ≡ start.version
+  version_at xs = version_after procs start.version xs start refl
+
+  -- keys of one unit have the same moves
+  pub moves_same : (xs : List Txn) (a b : Bytes) → unit_of start.version a ≡ unit_of start.version b → moves_of (table_after procs xs start) a ≡ moves_of (table_after procs xs start) b
+  moves_same xs a b same = same_moves (table_after procs xs start) start.version a b (version_at xs) same
 
   pub anchor_at : (x : Txn) (a : Access) → Has txns x → Has x.access a → FollowsMove order (moves_of (table_after procs txns start) a.key) a.counter x.id
   anchor_at x a k e = all_get _ x.access (all_get _ txns h.anchored x k) a e
@@ -65,25 +73,25 @@ module _ (procs : List ProcTree) (order : TxnId → TxnId → Type 0) (start : T
   pub record IsMoveNumber (key : Bytes) (i : ℕ) (m : Moved) : Type 0 where
     pub mover : Txn
     pub at : Spot txns mover
-    pub makes : IsMoveOf procs mover (table_after procs at.front start) key m
-    pub may : MayWrite mover key
-    pub counters : AllIn (λ a. a.key ≡ key → a.counter ≡ i) mover.access
+    pub makes : IsMoveOf procs start.version mover (table_after procs at.front start) key m
+    pub may : MayChange start.version mover key
+    pub counters : AllIn (λ a. unit_of start.version a.key ≡ unit_of start.version key → a.counter ≡ i) mover.access
 
   pub index : (key : Bytes) (i : ℕ) (m : Moved) → slice_get (moves_of (table_after procs txns start) key) i ≡ Some m → IsMoveNumber key i m
   index key i m e =
-      let r : IsMoveAt procs txns start key i m = numbered_move procs txns start key i m (omega (arith, no_moves key)) e in
+      let r : IsMoveAt procs start.version txns start key i m = numbered_move procs start.version txns start key i m refl (omega (arith, no_moves key)) e in
       let there : Has txns r.mover = spot_has txns r.mover r.at in
       record {
         mover = r.mover;
         at = r.at;
         makes = r.makes;
-        may = (change_of_one procs r.mover (table_after procs r.at.front start) key (keys_at r.mover there) r.makes.changes).1;
+        may = (change_of_one procs start.version r.mover (table_after procs r.at.front start) key (keys_at r.mover there) r.makes.changes).1;
         counters = all_put _ r.mover.access (λ a k same. exact r a.counter
-            (subst (λ c. c ≤ a.counter) (ap (counter_of (table_after procs r.at.front start)) same ∙ r.number) (all_get _ r.mover.access (live_entries r.mover (table_after procs r.at.front start) r.makes.live) a k))
-            (subst (λ q. FollowsMove order (moves_of (table_after procs txns start) q) a.counter r.mover.id) same (anchor_at r.mover a there k)));
+            (subst (λ c. c ≤ a.counter) (ap length (moves_same r.at.front a.key key same) ∙ r.number) (all_get _ r.mover.access (live_entries r.mover (table_after procs r.at.front start) r.makes.live) a k))
+            (subst (λ ms. FollowsMove order ms a.counter r.mover.id) (moves_same txns a.key key same) (anchor_at r.mover a there k)));
       }
     where
-      exact : (r : IsMoveAt procs txns start key i m) (c : ℕ) → i ≤ c → FollowsMove order (moves_of (table_after procs txns start) key) c r.mover.id → c ≡ i
+      exact : (r : IsMoveAt procs start.version txns start key i m) (c : ℕ) → i ≤ c → FollowsMove order (moves_of (table_after procs txns start) key) c r.mover.id → c ≡ i
       exact r zero le f = omega arith
       exact r (suc c) le f = close (cases_lt c i)
         where
@@ -102,11 +110,12 @@ module _ (procs : List ProcTree) (order : TxnId → TxnId → Type 0) (start : T
       step : (i : ℕ) (a b : Moved) → slice_get (moves_of (table_after procs txns start) key) i ≡ Some a → slice_get (moves_of (table_after procs txns start) key) (suc i) ≡ Some b → order a.by b.by
       step i a b p q =
           let r : IsMoveNumber key (suc i) b = index key (suc i) b q in
-          let e : (e : Access) × Has r.mover.access e × ((e.key ≡ key) × (e.mode ≡ Write)) = any_get _ r.mover.access r.may in
-          let number : (e.0).counter ≡ suc i = all_get _ r.mover.access r.counters e.0 e.1 e.2.0 in
+          let e : (e : Access) × Has r.mover.access e × ChangesBy start.version key e = any_get _ r.mover.access r.may in
+          let unit : unit_of start.version (e.0).key ≡ unit_of start.version key = unit_of_change start.version key e.0 e.2 in
+          let number : (e.0).counter ≡ suc i = all_get _ r.mover.access r.counters e.0 e.1 unit in
           let f : FollowsMove order (moves_of (table_after procs txns start) key) (suc i) r.mover.id
           = subst (λ c. FollowsMove order (moves_of (table_after procs txns start) key) c r.mover.id) number
-          (subst (λ k. FollowsMove order (moves_of (table_after procs txns start) k) (e.0).counter r.mover.id) e.2.0 (anchor_at r.mover e.0 (spot_has txns r.mover r.at) e.1)) in
+          (subst (λ ms. FollowsMove order ms (e.0).counter r.mover.id) (moves_same txns (e.0).key key unit) (anchor_at r.mover e.0 (spot_has txns r.mover r.at) e.1)) in
           let same : f.0 ≡ a = cc (f.1, p) in
           subst (λ c. order c b.by) (ap (λ c. c.by) same) (subst (order (f.0).by) r.makes.by f.2)
 
@@ -114,15 +123,15 @@ module _ (procs : List ProcTree) (order : TxnId → TxnId → Type 0) (start : T
   pub follower : (x : Txn) (a : Access) (m : Moved) → Has txns x → Has x.access a → slice_get (moves_of (table_after procs txns start) a.key) a.counter ≡ Some m → m.by ≢ x.id → Ordered order m.by x.id
   follower x a m k ka e ne =
       let r : IsMoveNumber a.key a.counter m = index a.key a.counter m e in
-      let w : (w : Access) × Has r.mover.access w × ((w.key ≡ a.key) × (w.mode ≡ Write)) = any_get _ r.mover.access r.may in
-      let number : (w.0).counter ≡ a.counter = all_get _ r.mover.access r.counters w.0 w.1 w.2.0 in
-      let clash : uses_clash ((w.0).key, (w.0).mode) (a.key, a.mode) ≡ true = and_from _ _ ((bytes_decides (w.0).key a.key).1 w.2.0) (or_left _ _ (ap is_write w.2.1)) in
+      let w : (w : Access) × Has r.mover.access w × ChangesBy start.version a.key w = any_get _ r.mover.access r.may in
+      let number : (w.0).counter ≡ a.counter = all_get _ r.mover.access r.counters w.0 w.1 (unit_of_change start.version a.key w.0 w.2) in
+      let clash : uses_clash ((w.0).key, (w.0).mode) (a.key, a.mode) ≡ true = clash_of_change start.version a.key w.0 a w.2 (inl refl) in
       subst (λ i. Ordered order i x.id) r.makes.by (h.shared r.mover x (spot_has txns r.mover r.at) k (λ s. ne (sym r.makes.by ∙ s)) w.0 a w.1 ka number clash)
 
   -- replays of pasts
 
   pub replayed_moves : (p : TxnId → Bool) (key : Bytes) → moves_of (replay procs p txns start start) key ≡ chosen_moves p (moves_of (table_after procs txns start) key)
-  replayed_moves p key = replay_moves procs p txns start start key (h.unmoved key ∙ sym (ap (chosen_moves p) (h.unmoved key)))
+  replayed_moves p key = replay_moves procs start.version p txns start start key refl refl (h.unmoved key ∙ sym (ap (chosen_moves p) (h.unmoved key)))
 
   -- a choice that is closed under the order chooses of the moves of a key a front
   pub closed_front : (p : TxnId → Bool) → ((u v : TxnId) → order u v → p v ≡ true → p u ≡ true) → (key : Bytes) → PassesAtFront (λ m. p m.by) (moves_of (table_after procs txns start) key)
@@ -167,8 +176,8 @@ module _ (procs : List ProcTree) (order : TxnId → TxnId → Type 0) (start : T
   there_before ms c d m le e = let lt : d < length ms = slice_get_within ms d m e in (_, slice_get-get_or ms c m (omega arith))
 
   -- where a live transaction was annotated with fewer moves of a key than another one, it precedes that one
-  pub across_fewer : (x y : Txn) (s : Spot txns x) (a b : Access) → IsLive x (table_after procs s.front start) → Has txns y → Has x.access a → Has y.access b → a.key ≡ b.key → a.counter < b.counter → order x.id y.id
-  across_fewer x y s a b live ky ka kb same lt = go b.counter lt (subst (λ k. FollowsMove order (moves_of (table_after procs txns start) k) b.counter y.id) (sym same) (anchor_at y b ky kb))
+  pub across_fewer : (x y : Txn) (s : Spot txns x) (a b : Access) → IsLive x (table_after procs s.front start) → Has txns y → Has x.access a → Has y.access b → unit_of start.version a.key ≡ unit_of start.version b.key → a.counter < b.counter → order x.id y.id
+  across_fewer x y s a b live ky ka kb same lt = go b.counter lt (subst (λ ms. FollowsMove order ms b.counter y.id) (moves_same txns b.key a.key (sym same)) (anchor_at y b ky kb))
     where
       joined : (d : ℕ) (n m : Moved) → a.counter ≤ d → slice_get (moves_of (table_after procs txns start) a.key) a.counter ≡ Some n → slice_get (moves_of (table_after procs txns start) a.key) d ≡ Some m → (n ≡ m) ⊎ order n.by m.by
       joined d n m le p q = elim (cases_lt a.counter d) [
@@ -197,8 +206,11 @@ module _ (procs : List ProcTree) (order : TxnId → TxnId → Type 0) (start : T
       → Has y.access b → uses_clash (a.key, a.mode) (b.key, b.mode) ≡ true → Ordered order x.id y.id
   across x y s r a b lx ly ne ka kb clash = go (cases_order a.counter b.counter)
     where
-      same : a.key ≡ b.key
-      same = (bytes_decides a.key b.key).0 (and_parts _ _ clash).0
+      narrow : (z : Txn) → Has txns z → (e : Access) → Has z.access e → start.version ≢ 2 → is_whole e.mode ≡ false
+      narrow z k e ke = all_get _ z.access (keys_at z k).whole e ke
+
+      same : unit_of start.version a.key ≡ unit_of start.version b.key
+      same = units_of_clash start.version (a.key, a.mode) (b.key, b.mode) (λ n. (narrow x (spot_has txns x s) a ka n, narrow y (spot_has txns y r) b kb n)) clash
 
       go : (a.counter ≡ b.counter) ⊎ ((a.counter < b.counter) ⊎ (b.counter < a.counter)) → Ordered order x.id y.id
       go (inl e) = h.shared x y (spot_has txns x s) (spot_has txns y r) ne a b ka kb e clash

@@ -3,22 +3,21 @@
 use Rattle.std.proofs.Common.{◌≡◌, ◌≢◌, ◌<◌, ◌≤◌, ◌⊎◌, ℕ, zero, suc, Bool, true, false, cond, List, [], ◌∷◌, ◌++◌, length, take, slice_get, Some, None, refl, sym, ap, subst, ◌∙◌}
 use Rattle.std.proofs.Common.{append_assoc, append-nil, inl, inr, arith, le_antisymm, ◌↔◌}
 use Rattle.std.specs.Prelude.{Option, option_map, filter}
-use Rattle.std.proofs.lemmas.Bool.{cases_Bool, both_ways, and_from, or_left}
+use Rattle.std.proofs.lemmas.Bool.{cases_Bool, both_ways}
 use Rattle.std.proofs.lemmas.List.{map-append}
 use Rattle.std.proofs.Math.Seq.{take-append_seam}
-use Rattle.std.specs.Cmp.Lexicographic.{bytes_decides}
 use Rattle.std.proofs.lemmas.Option.{slice_get_within}
 use Rattle.dt_lists.specs.Lists.{AnyIn, AllIn, Has, IsFront, Distinct, Either}
 use Rattle.dt_lists.proofs.Callers.{any_map, any_get, any_put, any_of_image, any_append, any_append_left, all_get, all_put, all_append_left, all_map}
 use Rattle.dt_lists.proofs.Callers.{each_append_right, has_map, Spot, spot, spot_has, has_middle, if_passes, get_filtered, front_filtered, same_by_key}
 use Rattle.dt_lists.proofs.Callers.{of_filter, has_filter}
 use Rattle.dt_access.proofs.Callers.{either_id}
-use Rattle.dt_sched.proofs.Callers.{uses_of_clash}
+use Rattle.dt_access.proofs.Callers.{uses_of_clash}
 use Rattle.dt_access.specs.Ids.{is_among}
-use Rattle.dt_access.specs.Clash.{Bytes, is_write, uses_clash, clash}
+use Rattle.dt_access.specs.Clash.{Bytes, uses_clash, clash}
+use Rattle.dt_access.specs.Granules.{unit_of}
 use Rattle.dt_access.specs.declared.TxnId.{TxnId}
 use Rattle.dt_access.specs.declared.Access.{Access}
-use Rattle.dt_access.specs.declared.Mode.TheVariants.{Write}
 use Rattle.dt_proc.specs.Tree.{ProcTree}
 use Rattle.dt_table.specs.declared.Effect.{Effect}
 use Rattle.dt_table.specs.Table.{Table, Moved, value_of, moves_of, counter_of, next_mover, apply}
@@ -28,36 +27,36 @@ use Rattle.dt_txn.specs.declared.outcome.Outcome.{Outcome}
 use Rattle.dt_txn.specs.Execution.{one}
 use Rattle.dt_txn.specs.Serial.{after, outcomes, table_after}
 use Rattle.dt_txn.specs.Staleness.{IsStaleOutcome}
-use Rattle.dt_serial.specs.Order.{txn_ids, Ordered, IsDown, FollowsMove, IsLive, Changes, MayWrite, IsHistory, uses_in}
+use Rattle.dt_serial.specs.Order.{txn_ids, Ordered, IsDown, FollowsMove, IsLive, Changes, ChangesBy, MayChange, IsHistory, uses_in}
 use Rattle.dt_serial.specs.Replay.{replay}
 use Rattle.dt_serial.proofs.Rows.{either_changes}
-use Rattle.dt_serial.proofs.One.{mover_at, one_alike, live_entries, live_of_outcome, change_of_one}
-use Rattle.dt_serial.proofs.Runs.{table_after_append, outcomes_ids, outcome_at, AlongRun, along_put, replay_append, replay_alike, replay_none, replay_value, replay_swap}
+use Rattle.dt_serial.proofs.One.{clash_of_change, mover_at, one_alike, live_entries, live_of_outcome, change_of_one}
+use Rattle.dt_serial.proofs.Runs.{table_after_append, outcomes_ids, outcome_at, AlongRun, along_put, replay_append, replay_version, replay_alike, replay_none, replay_value, replay_swap}
 use Rattle.dt_serial.proofs.Past.{has_of_among, among_of_has, not_among, among_same, IsPast, past_of_down, same_past, down_front, down_closed, filter_ids, down_filter}
 use Rattle.dt_serial.proofs.History.{down_at, past_at, apart_at, replay_at, keys_at, anchor_at, IsMoveNumber, index, follower, live_before, same_movers, across, closed_front, replayed_moves, replayed_mover}
 
 module _ (procs : List ProcTree) (order : TxnId → TxnId → Type 0) (start : Table) (txns : List Txn) (h : IsHistory procs order start txns) where
   -- two live transactions that change one row are ordered
-  changers : (x y : Txn) (s : Spot txns x) (r : Spot txns y) (key : Bytes) → x.id ≢ y.id → Changes (one procs x (table_after procs s.front start)).1 key → IsLive y (table_after procs r.front start)
-      → AnyIn (λ b. b.key ≡ key) y.access → Ordered order x.id y.id
+  changers : (x y : Txn) (s : Spot txns x) (r : Spot txns y) (key : Bytes) → x.id ≢ y.id → Changes start.version (one procs x (table_after procs s.front start)).1 key
+      → IsLive y (table_after procs r.front start) → AnyIn (λ b. (b.key ≡ key) ⊎ ChangesBy start.version key b) y.access → Ordered order x.id y.id
   changers x y s r key ne cx ly ky =
-      let lx : IsLive x (table_after procs s.front start) × MayWrite x key = change_of_one procs x (table_after procs s.front start) key (keys_at procs order start txns h x (spot_has txns x s)) cx in
-      let a : (a : Access) × Has x.access a × ((a.key ≡ key) × (a.mode ≡ Write)) = any_get _ x.access lx.1 in
-      let b : (b : Access) × Has y.access b × (b.key ≡ key) = any_get _ y.access ky in
-      let clash : uses_clash ((a.0).key, (a.0).mode) ((b.0).key, (b.0).mode) ≡ true = and_from _ _ ((bytes_decides (a.0).key (b.0).key).1 (a.2.0 ∙ sym b.2)) (or_left _ _ (ap is_write a.2.1)) in
+      let lx : IsLive x (table_after procs s.front start) × MayChange start.version x key = change_of_one procs start.version x (table_after procs s.front start) key (keys_at procs order start txns h x (spot_has txns x s)) cx in
+      let a : (a : Access) × Has x.access a × ChangesBy start.version key a = any_get _ x.access lx.1 in
+      let b : (b : Access) × Has y.access b × ((b.key ≡ key) ⊎ ChangesBy start.version key b) = any_get _ y.access ky in
+      let clash : uses_clash ((a.0).key, (a.0).mode) ((b.0).key, (b.0).mode) ≡ true = clash_of_change start.version key a.0 b.0 a.2 b.2 in
       across procs order start txns h x y s r a.0 b.0 lx.0 ly ne a.1 b.1 clash
 
   -- after any two pasts of it, a live transaction sees the same values
   same_values : (y : Txn) (r : Spot txns y) (p q : TxnId → Bool) → IsPast order p y.id → IsPast order q y.id → IsLive y (table_after procs r.front start)
       → AllIn (λ a. value_of (replay procs p txns start start) a.key ≡ value_of (replay procs q txns start start) a.key) y.access
-  same_values y r p q pp pq ly = all_put _ y.access (λ a ka. replay_value procs p q txns start start start a.key
-      (along_put procs _ txns start (λ x s. at a ka x s (either_changes (one procs x (table_after procs s.front start)).1 a.key) (either_id x.id y.id))) refl)
+  same_values y r p q pp pq ly = all_put _ y.access (λ a ka. replay_value procs start.version p q txns start start start a.key
+      (along_put procs _ txns start (λ x s. at a ka x s (either_changes start.version (one procs x (table_after procs s.front start)).1 a.key) (either_id x.id y.id))) refl)
     where
-      at : (a : Access) → Has y.access a → (x : Txn) (s : Spot txns x) → Either (Changes (one procs x (table_after procs s.front start)).1 a.key) → Either (x.id ≡ y.id)
-          → (¬ (Changes (one procs x (table_after procs s.front start)).1 a.key)) ⊎ (p x.id ≡ q x.id)
+      at : (a : Access) → Has y.access a → (x : Txn) (s : Spot txns x) → Either (Changes start.version (one procs x (table_after procs s.front start)).1 a.key) → Either (x.id ≡ y.id)
+          → (¬ (Changes start.version (one procs x (table_after procs s.front start)).1 a.key)) ⊎ (p x.id ≡ q x.id)
       at a ka x s (inr n) own = inl n
       at a ka x s (inl c) (inl own) = inr (ap p own ∙ pp.absent ∙ sym (ap q own ∙ pq.absent))
-      at a ka x s (inl c) (inr ne) = inr (same_past order p q y.id x.id pp pq (changers x y s r a.key ne c ly (key_of y.access a ka)))
+      at a ka x s (inl c) (inr ne) = inr (same_past order p q y.id x.id pp pq (changers x y s r a.key ne c ly (any_map _ _ y.access (λ b e. inl e) (key_of y.access a ka))))
         where
           key_of : (access : List Access) (a : Access) → Has access a → AnyIn (λ b. b.key ≡ a.key) access
           key_of [] a k = k
@@ -71,6 +70,7 @@ module _ (procs : List ProcTree) (order : TxnId → TxnId → Type 0) (start : T
       let pq : IsPast order q y.id = past_at procs order start txns h y r in
       let before : replay procs q txns start start ≡ table_after procs r.front start = replay_at procs order start txns h y r in
       one_alike procs y (replay procs p txns start start) (replay procs q txns start start)
+      (replay_version procs start.version p txns start start refl ∙ sym (replay_version procs start.version q txns start start refl))
       (same_movers procs order start txns h y p q (spot_has txns y r) pp pq)
       (λ live. same_values y r p q pp pq (subst (IsLive y) before live))
       ∙ ap (one procs y) before
@@ -81,7 +81,7 @@ module _ (procs : List ProcTree) (order : TxnId → TxnId → Type 0) (start : T
   same_after y r p q pp own others =
       ap (λ e. apply e (replay procs p txns start start)) (ap (λ o. o.1) (same_one y r p pp))
       ∙ ap (apply effect) without
-      ∙ replay_swap procs effect p r.rest (after procs y here) (replay procs p r.front start start) apart
+      ∙ replay_swap procs start.version effect p r.rest (after procs y here) (replay procs p r.front start start) (replay_version procs start.version p r.front start start refl) apart
       ∙ sym with_it
     where
       here : Table
@@ -109,14 +109,14 @@ module _ (procs : List ProcTree) (order : TxnId → TxnId → Type 0) (start : T
           ∙ ap (λ t. replay procs q r.rest (after procs y here) (apply effect t)) (replay_alike procs q p r.front start start (all_put _ r.front (λ x k. others x.id (not_front x k))))
           ∙ replay_alike procs q p r.rest (after procs y here) _ (all_put _ r.rest (λ x k. others x.id (not_rest x k)))
 
-      apart : AlongRun procs (λ x t. p x.id ≡ true → (key : Bytes) → Changes (one procs x t).1 key → ¬ (Changes effect key)) r.rest (after procs y here)
+      apart : AlongRun procs (λ x t. p x.id ≡ true → (key : Bytes) → Changes start.version (one procs x t).1 key → ¬ (Changes start.version effect key)) r.rest (after procs y here)
       apart = along_put procs _ r.rest (after procs y here) (λ x s chosen key cx cy.
           let whole : Spot txns x = record { front = r.front ++ y ∷ s.front; rest = s.rest; is = r.is ∙ ap (λ l. r.front ++ y ∷ l) s.is ∙ sym (append_assoc r.front (y ∷ s.front) (x ∷ s.rest)) } in
           let table : table_after procs whole.front start ≡ table_after procs s.front (after procs y here) = table_after_append procs r.front (y ∷ s.front) start in
-          let changed : Changes (one procs x (table_after procs whole.front start)).1 key = subst (λ t. Changes (one procs x t).1 key) (sym table) cx in
-          let ly : IsLive y here × MayWrite y key = change_of_one procs y here key (keys_at procs order start txns h y (spot_has txns y r)) cy in
+          let changed : Changes start.version (one procs x (table_after procs whole.front start)).1 key = subst (λ t. Changes start.version (one procs x t).1 key) (sym table) cx in
+          let ly : IsLive y here × MayChange start.version y key = change_of_one procs start.version y here key (keys_at procs order start txns h y (spot_has txns y r)) cy in
           let k : Has r.rest x = spot_has r.rest x s in
-          let ordered : Ordered order x.id y.id = changers x y whole r key (not_rest x k) changed ly.0 (any_map _ _ y.access (λ a w. w.0) ly.1) in
+          let ordered : Ordered order x.id y.id = changers x y whole r key (not_rest x k) changed ly.0 (any_map _ _ y.access (λ b w. inr w) ly.1) in
           let alike : p x.id ≡ is_among (txn_ids r.front) x.id = same_past order p (is_among (txn_ids r.front)) y.id x.id pp (past_at procs order start txns h y r) ordered in
           let absent : is_among (txn_ids r.front) x.id ≡ false = not_among (txn_ids r.front) x.id (λ f. apart_at procs order start txns h y r x.id f (inr (has_map (λ z. z.id) r.rest x k))) in
           cc (chosen, alike, absent))
@@ -335,7 +335,10 @@ module _ (procs : List ProcTree) (order : TxnId → TxnId → Type 0) (start : T
 
   -- the move of each number was made by one that was annotated with this number
   pub move_numbered : (key : Bytes) (i : ℕ) (m : Moved) → slice_get (moves_of (table_after procs txns start) key) i ≡ Some m
-      → AnyIn (λ x. (x.id ≡ m.by) × (x.body ≡ Move key m.target) × AllIn (λ a. a.key ≡ key → a.counter ≡ i) x.access) txns
+      → AnyIn (λ x. (x.id ≡ m.by) × (x.body ≡ Move (unit_of start.version key) m.target)
+      × AllIn (λ a. unit_of start.version a.key ≡ unit_of start.version key → a.counter ≡ i) x.access) txns
   move_numbered key i m e =
       let r : IsMoveNumber procs order start txns h key i m = index procs order start txns h key i m e in
-      any_put _ txns r.mover (spot_has txns r.mover r.at) (r.makes.by, r.makes.body, r.counters)
+      let there : Has txns r.mover = spot_has txns r.mover r.at in
+      let unit : unit_of start.version r.makes.moved ≡ r.makes.moved = (keys_at procs order start txns h r.mover there).moves r.makes.moved m.target r.makes.body in
+      any_put _ txns r.mover there (r.makes.by, r.makes.body ∙ ap (λ k. Move k m.target) (sym unit ∙ r.makes.same), r.counters)

@@ -1,123 +1,183 @@
--- What an effect does to the rows of a table, one key at a time.
-use Rattle.std.proofs.Common.{◌≡◌, ◌≢◌, ℕ, true, false, cond, List, [], ◌∷◌, ◌++◌, Some, None, IsSomeAnd, nat_cmp, refl, sym, ap, subst, ◌∙◌, inl, inr}
+-- What an effect does to a table, at one key and at one unit.
+use Rattle.std.proofs.Common.{◌≡◌, ◌≢◌, ℕ, true, false, cond, List, [], ◌∷◌, ◌++◌, Some, None, IsSomeAnd, refl, sym, ap, subst, ◌∙◌, inl, inr}
 use Rattle.std.specs.Prelude.{Option, unwrap_or}
-use Rattle.std.specs.Ordering.{eq_by_cmp}
-use Rattle.std.specs.Cmp.Lexicographic.{slice_cmp, bytes_decides, texts_ties}
-use Rattle.std.specs.FinMap.{get, get-insert}
-use Rattle.std.proofs.lemmas.Cmp.{nat_list_cmp_total}
+use Rattle.std.specs.Cmp.Lexicographic.{bytes_decides}
+use Rattle.std.specs.FinMap.{get}
 use Rattle.std.proofs.lemmas.Bool.{false_from_ne_true}
 use Rattle.dt_lists.specs.Lists.{AnyIn, Either}
 use Rattle.dt_lists.proofs.Callers.{either_list, either_nat, either_any, either_or}
-use Rattle.dt_access.specs.Clash.{Bytes}
+use Rattle.dt_access.specs.Clash.{Bytes, same_key}
+use Rattle.dt_access.specs.Granules.{unit_of}
 use Rattle.dt_access.specs.declared.TxnId.{TxnId}
 use Rattle.dt_text.specs.declared.Value.{Value}
 use Rattle.dt_table.specs.declared.Effect.{Effect}
-use Rattle.dt_table.specs.Table.{Table, Row, no_row, row_of, value_of, moves_of, with_row, written, all_written, moved, maybe_moved, apply}
-use Rattle.dt_table.proofs.Callers.{homes-apply, regions-apply, same_table, value_of-maybe_moved}
+use Rattle.dt_table.specs.Table.{Table, Moved, value_of, moves_of, written, all_written, maybe_moved, apply}
+use Rattle.dt_table.proofs.Callers.{get-put, homes-apply, regions-apply, same_table, version-apply}
 use Rattle.dt_serial.specs.Order.{Changes}
 
 pub either_key : (a b : Bytes) → Either (a ≡ b)
 either_key a b = either_list a b either_nat
 
-key_same : (a b : Bytes) → a ≡ b → eq_by_cmp (slice_cmp nat_cmp) a b ≡ true
-key_same a b e = sym (texts_ties a b) ∙ (bytes_decides a b).1 e
+key_same : (a b : Bytes) → a ≡ b → same_key a b ≡ true
+key_same a b e = (bytes_decides a b).1 e
 
-key_other : (a b : Bytes) → a ≢ b → eq_by_cmp (slice_cmp nat_cmp) a b ≡ false
-key_other a b n = false_from_ne_true _ (λ e. n ((bytes_decides a b).0 (texts_ties a b ∙ e)))
+key_other : (a b : Bytes) → a ≢ b → same_key a b ≡ false
+key_other a b n = false_from_ne_true _ (λ e. n ((bytes_decides a b).0 e))
 
--- the row at a key of a table where a key has got a row
-get_same : (t : Table) (key : Bytes) (row : Row) (q : Bytes) → q ≡ key → get (with_row t key row).rows q ≡ Some row
-get_same t key row q e = get-insert nat_list_cmp_total t.rows key row q ∙ ap (λ b. cond b (Some row) (get t.rows q)) (key_same q key e)
-
-get_other : (t : Table) (key : Bytes) (row : Row) (q : Bytes) → q ≢ key → get (with_row t key row).rows q ≡ get t.rows q
-get_other t key row q n = get-insert nat_list_cmp_total t.rows key row q ∙ ap (λ b. cond b (Some row) (get t.rows q)) (key_other q key n)
-
--- an effect leaves the rows that it does not change
-
-all_written_keeps : (ws : List (Bytes × Option Value)) (t : Table) (q : Bytes) → ¬ (AnyIn (λ w. w.0 ≡ q) ws) → get (all_written ws t).rows q ≡ get t.rows q
-all_written_keeps [] t q n = refl
-all_written_keeps (w ∷ ws) t q n = all_written_keeps ws (written t w.0 w.1) q (λ a. n (inr a)) ∙ get_other t w.0 _ q (λ e. n (inl (sym e)))
-
-maybe_moved_keeps : (m : Option (Bytes × ℕ × TxnId)) (t : Table) (q : Bytes) → ¬ (IsSomeAnd m (λ x. x.0 ≡ q)) → get (maybe_moved m t).rows q ≡ get t.rows q
-maybe_moved_keeps None t q n = refl
-maybe_moved_keeps (Some m) t q n = get_other t m.0 _ q (λ e. n (sym e))
-
-pub apply_keeps : (e : Effect) (t : Table) (q : Bytes) → ¬ (Changes e q) → get (apply e t).rows q ≡ get t.rows q
-apply_keeps e t q n = maybe_moved_keeps e.moved (all_written e.writes t) q (λ m. n (inr m)) ∙ all_written_keeps e.writes t q (λ w. n (inl w))
-
--- what an effect makes of a row hangs on that row alone
-
-row_alike : (t u : Table) (q : Bytes) → get t.rows q ≡ get u.rows q → row_of t q ≡ row_of u q
-row_alike t u q e = ap (λ r. unwrap_or r no_row) e
-
-written_alike : (t u : Table) (key : Bytes) (v : Option Value) (q : Bytes) → get t.rows q ≡ get u.rows q → get (written t key v).rows q ≡ get (written u key v).rows q
-written_alike t u key v q e = at (either_key q key)
-  where
-    at : Either (q ≡ key) → get (written t key v).rows q ≡ get (written u key v).rows q
-    at (inl s) = get_same t key _ q s
-        ∙ ap Some (subst (λ k. ◌≡◌ {A = Row} (record { value = v; moves = moves_of t k }) (record { value = v; moves = moves_of u k })) s (λ i. record { value = v; moves = (row_alike t u q e i).moves })) ∙ sym (get_same u key _ q s)
-    at (inr n) = get_other t key _ q n ∙ e ∙ sym (get_other u key _ q n)
-
-all_written_alike : (ws : List (Bytes × Option Value)) (t u : Table) (q : Bytes) → get t.rows q ≡ get u.rows q → get (all_written ws t).rows q ≡ get (all_written ws u).rows q
-all_written_alike [] t u q e = e
-all_written_alike (w ∷ ws) t u q e = all_written_alike ws (written t w.0 w.1) (written u w.0 w.1) q (written_alike t u w.0 w.1 q e)
-
--- the row of a key with one move more
-abbrev moved_row : Table → ℕ → TxnId → Bytes → Row
-moved_row t target by key = record { value = value_of t key; moves = moves_of t key ++ record { target = target; by = by } ∷ [] }
-
-moved_alike : (t u : Table) (key : Bytes) (target : ℕ) (by : TxnId) (q : Bytes) → get t.rows q ≡ get u.rows q → get (moved t key target by).rows q ≡ get (moved u key target by).rows q
-moved_alike t u key target by q e = at (either_key q key)
-  where
-    at : Either (q ≡ key) → get (moved t key target by).rows q ≡ get (moved u key target by).rows q
-    at (inl s) = get_same t key _ q s
-        ∙ ap Some (subst (λ k. ◌≡◌ {A = Row} (moved_row t target by k) (moved_row u target by k)) s
-        (λ i. record { value = (row_alike t u q e i).value; moves = (row_alike t u q e i).moves ++ record { target = target; by = by } ∷ [] })) ∙ sym (get_same u key _ q s)
-    at (inr n) = get_other t key _ q n ∙ e ∙ sym (get_other u key _ q n)
-
-maybe_moved_alike : (m : Option (Bytes × ℕ × TxnId)) (t u : Table) (q : Bytes) → get t.rows q ≡ get u.rows q → get (maybe_moved m t).rows q ≡ get (maybe_moved m u).rows q
-maybe_moved_alike None t u q e = e
-maybe_moved_alike (Some m) t u q e = moved_alike t u m.0 m.1 m.2 q e
-
-pub apply_alike : (f : Effect) (t u : Table) (q : Bytes) → get t.rows q ≡ get u.rows q → get (apply f t).rows q ≡ get (apply f u).rows q
-apply_alike f t u q e = maybe_moved_alike f.moved (all_written f.writes t) (all_written f.writes u) q (all_written_alike f.writes t u q e)
-
-pub either_changes : (e : Effect) (q : Bytes) → Either (Changes e q)
-either_changes e q = either_or _ _ (either_any _ e.writes (λ w. either_key w.0 q)) (by_move e.moved)
-  where
-    by_move : (m : Option (Bytes × ℕ × TxnId)) → Either (IsSomeAnd m (λ x. x.0 ≡ q))
-    by_move None = inr (λ e. e)
-    by_move (Some m) = either_key m.0 q
-
--- effects that change no common row may change places
-pub apply_swap : (e f : Effect) (t : Table) → ((q : Bytes) → Changes e q → ¬ (Changes f q)) → apply e (apply f t) ≡ apply f (apply e t)
-apply_swap e f t apart = same_table _ _
-    (regions-apply e (apply f t) ∙ regions-apply f t ∙ sym (regions-apply f (apply e t) ∙ regions-apply e t))
-    (homes-apply e (apply f t) ∙ homes-apply f t ∙ sym (homes-apply f (apply e t) ∙ homes-apply e t))
-    (λ q. at q (either_changes e q))
-  where
-    at : (q : Bytes) → Either (Changes e q) → get (apply e (apply f t)).rows q ≡ get (apply f (apply e t)).rows q
-    at q (inl c) = apply_alike e (apply f t) t q (apply_keeps f t q (apart q c)) ∙ sym (apply_keeps f (apply e t) q (apart q c))
-    at q (inr n) = apply_keeps e (apply f t) q n ∙ sym (apply_alike f (apply e t) t q (apply_keeps e t q n))
+-- keys of one unit have the same moves
+pub same_moves : (t : Table) (version : ℕ) (a b : Bytes) → t.version ≡ version → unit_of version a ≡ unit_of version b → moves_of t a ≡ moves_of t b
+same_moves t version a b is same =
+    ap (λ v. unwrap_or (get t.moves (unit_of v a)) []) is ∙ ap (λ u. unwrap_or (get t.moves u) []) same ∙ ap (λ v. unwrap_or (get t.moves (unit_of v b)) []) (sym is)
 
 -- values
 
-value_of_get : (t u : Table) (q : Bytes) → get t.rows q ≡ get u.rows q → value_of t q ≡ value_of u q
-value_of_get t u q e = ap (λ r. (unwrap_or r no_row).value) e
-
-pub apply_keeps_value : (e : Effect) (t : Table) (q : Bytes) → ¬ (Changes e q) → value_of (apply e t) q ≡ value_of t q
-apply_keeps_value e t q n = value_of_get (apply e t) t q (apply_keeps e t q n)
-
-written_value : (t u : Table) (key : Bytes) (v : Option Value) (q : Bytes) → value_of t q ≡ value_of u q → value_of (written t key v) q ≡ value_of (written u key v) q
-written_value t u key v q e = at (either_key q key)
+values_of_apply : (e : Effect) (t : Table) → (apply e t).values ≡ (all_written e.writes t).values
+values_of_apply e t = by e.moved
   where
-    at : Either (q ≡ key) → value_of (written t key v) q ≡ value_of (written u key v) q
-    at (inl s) = ap (λ r. (unwrap_or r no_row).value) (get_same t key _ q s) ∙ ap (λ r. (unwrap_or r no_row).value) (sym (get_same u key _ q s))
-    at (inr n) = value_of_get (written t key v) t q (get_other t key _ q n) ∙ e ∙ sym (value_of_get (written u key v) u q (get_other u key _ q n))
+    by : (m : Option (Bytes × ℕ × TxnId)) → (maybe_moved m (all_written e.writes t)).values ≡ (all_written e.writes t).values
+    by None = refl
+    by (Some m) = refl
 
-all_written_value : (ws : List (Bytes × Option Value)) (t u : Table) (q : Bytes) → value_of t q ≡ value_of u q → value_of (all_written ws t) q ≡ value_of (all_written ws u) q
-all_written_value [] t u q e = e
-all_written_value (w ∷ ws) t u q e = all_written_value ws (written t w.0 w.1) (written u w.0 w.1) q (written_value t u w.0 w.1 q e)
+written_other : (t : Table) (key : Bytes) (v : Option Value) (q : Bytes) → q ≢ key → get (written t key v).values q ≡ get t.values q
+written_other t key v q n = get-put t.values key v q ∙ ap (λ b. cond b (Some v) (get t.values q)) (key_other q key n)
+
+written_same : (t : Table) (key : Bytes) (v : Option Value) (q : Bytes) → q ≡ key → get (written t key v).values q ≡ Some v
+written_same t key v q e = get-put t.values key v q ∙ ap (λ b. cond b (Some v) (get t.values q)) (key_same q key e)
+
+-- writes leave the values of other keys
+all_written_keeps : (ws : List (Bytes × Option Value)) (t : Table) (q : Bytes) → ¬ (AnyIn (λ w. w.0 ≡ q) ws) → get (all_written ws t).values q ≡ get t.values q
+all_written_keeps [] t q n = refl
+all_written_keeps (w ∷ ws) t q n = all_written_keeps ws (written t w.0 w.1) q (λ a. n (inr a)) ∙ written_other t w.0 w.1 q (λ e. n (inl (sym e)))
+
+-- and what they make of a value hangs on that value alone
+written_alike : (t u : Table) (key : Bytes) (v : Option Value) (q : Bytes) → get t.values q ≡ get u.values q → get (written t key v).values q ≡ get (written u key v).values q
+written_alike t u key v q e = at (either_key q key)
+  where
+    at : Either (q ≡ key) → get (written t key v).values q ≡ get (written u key v).values q
+    at (inl s) = written_same t key v q s ∙ sym (written_same u key v q s)
+    at (inr n) = written_other t key v q n ∙ e ∙ sym (written_other u key v q n)
+
+all_written_alike : (ws : List (Bytes × Option Value)) (t u : Table) (q : Bytes) → get t.values q ≡ get u.values q → get (all_written ws t).values q ≡ get (all_written ws u).values q
+all_written_alike [] t u q e = e
+all_written_alike (w ∷ ws) t u q e = all_written_alike ws (written t w.0 w.1) (written u w.0 w.1) q (written_alike t u w.0 w.1 q e)
+
+values_kept : (e : Effect) (t : Table) (q : Bytes) → ¬ (AnyIn (λ w. w.0 ≡ q) e.writes) → get (apply e t).values q ≡ get t.values q
+values_kept e t q n = ap (λ m. get m q) (values_of_apply e t) ∙ all_written_keeps e.writes t q n
+
+values_alike : (f : Effect) (t u : Table) (q : Bytes) → get t.values q ≡ get u.values q → get (apply f t).values q ≡ get (apply f u).values q
+values_alike f t u q e = ap (λ m. get m q) (values_of_apply f t) ∙ all_written_alike f.writes t u q e ∙ sym (ap (λ m. get m q) (values_of_apply f u))
+
+-- moves
+
+-- writes leave all but the values
+written_rest : (ws : List (Bytes × Option Value)) (t : Table) → all_written ws t ≡ record t { values = (all_written ws t).values }
+written_rest [] t = refl
+written_rest (w ∷ ws) t = written_rest ws (written t w.0 w.1)
+
+-- the effect moves this unit
+abbrev MovesAt : ℕ → Effect → Bytes → Type 0
+MovesAt version e unit = IsSomeAnd e.moved (λ m. unit_of version m.0 ≡ unit)
+
+-- what stands at a unit after a move, if there is one
+abbrev moves_after : Table → Option (Bytes × ℕ × TxnId) → Bytes → Option (List Moved)
+moves_after t None w = get t.moves w
+moves_after t (Some m) w = cond (same_key w (unit_of t.version m.0)) (Some (moves_of t m.0 ++ record { target = m.1; by = m.2 } ∷ [])) (get t.moves w)
+
+moves_at : (e : Effect) (t : Table) (w : Bytes) → get (apply e t).moves w ≡ moves_after t e.moved w
+moves_at e t w = ap (λ (x : Table). get (maybe_moved e.moved x).moves w) (written_rest e.writes t) ∙ by e.moved
+  where
+    by : (m : Option (Bytes × ℕ × TxnId)) → get (maybe_moved m (record t { values = (all_written e.writes t).values })).moves w ≡ moves_after t m w
+    by None = refl
+    by (Some m) = get-put t.moves (unit_of t.version m.0) (moves_of t m.0 ++ record { target = m.1; by = m.2 } ∷ []) w
+
+-- an effect leaves the moves of other units
+moves_kept : (e : Effect) (t : Table) (version : ℕ) (w : Bytes) → t.version ≡ version → ¬ (MovesAt version e w) → get (apply e t).moves w ≡ get t.moves w
+moves_kept e t version w is n = moves_at e t w ∙ by e.moved n
+  where
+    by : (m : Option (Bytes × ℕ × TxnId)) → ¬ (IsSomeAnd m (λ x. unit_of version x.0 ≡ w)) → moves_after t m w ≡ get t.moves w
+    by None n = refl
+    by (Some m) n =
+        ap (λ b. cond b (Some (moves_of t m.0 ++ record { target = m.1; by = m.2 } ∷ [])) (get t.moves w))
+        (key_other w (unit_of t.version m.0) (λ s. n (sym (s ∙ ap (λ v. unit_of v m.0) is))))
+
+-- and what it makes of the moves of a unit hangs on these moves alone
+moves_alike : (f : Effect) (t u : Table) (w : Bytes) → t.version ≡ u.version → get t.moves w ≡ get u.moves w → get (apply f t).moves w ≡ get (apply f u).moves w
+moves_alike f t u w is e = moves_at f t w ∙ by f.moved ∙ sym (moves_at f u w)
+  where
+    by : (m : Option (Bytes × ℕ × TxnId)) → moves_after t m w ≡ moves_after u m w
+    by None = e
+    by (Some m) = at (either_key w (unit_of t.version m.0))
+      where
+        made : List Moved
+        made = record { target = m.1; by = m.2 } ∷ []
+
+        at : Either (w ≡ unit_of t.version m.0)
+            → cond (same_key w (unit_of t.version m.0)) (Some (moves_of t m.0 ++ made)) (get t.moves w) ≡ cond (same_key w (unit_of u.version m.0)) (Some (moves_of u m.0 ++ made)) (get u.moves w)
+        at (inl s) =
+            let there : w ≡ unit_of u.version m.0 = s ∙ ap (λ v. unit_of v m.0) is in
+            ap (λ b. cond b (Some (moves_of t m.0 ++ made)) (get t.moves w)) (key_same w (unit_of t.version m.0) s)
+            ∙ ap (λ k. Some (unwrap_or (get t.moves k) [] ++ made)) (sym s)
+            ∙ ap (λ o. Some (unwrap_or o [] ++ made)) e
+            ∙ ap (λ k. Some (unwrap_or (get u.moves k) [] ++ made)) there
+            ∙ sym (ap (λ b. cond b (Some (moves_of u m.0 ++ made)) (get u.moves w)) (key_same w (unit_of u.version m.0) there))
+        at (inr n) =
+            ap (λ b. cond b (Some (moves_of t m.0 ++ made)) (get t.moves w)) (key_other w (unit_of t.version m.0) n)
+            ∙ e
+            ∙ sym (ap (λ b. cond b (Some (moves_of u m.0 ++ made)) (get u.moves w)) (key_other w (unit_of u.version m.0) (λ s. n (s ∙ sym (ap (λ v. unit_of v m.0) is)))))
+
+either_writes : (e : Effect) (q : Bytes) → Either (AnyIn (λ w. w.0 ≡ q) e.writes)
+either_writes e q = either_any _ e.writes (λ w. either_key w.0 q)
+
+either_moves : (version : ℕ) (e : Effect) (w : Bytes) → Either (MovesAt version e w)
+either_moves version e w = by e.moved
+  where
+    by : (m : Option (Bytes × ℕ × TxnId)) → Either (IsSomeAnd m (λ x. unit_of version x.0 ≡ w))
+    by None = inr (λ e. e)
+    by (Some m) = either_key (unit_of version m.0) w
+
+pub either_changes : (version : ℕ) (e : Effect) (q : Bytes) → Either (Changes version e q)
+either_changes version e q = either_or _ _ (either_writes e q) (either_moves version e (unit_of version q))
+
+-- effects that change nothing of a common key may change places
+pub apply_swap : (e f : Effect) (t : Table) → ((q : Bytes) → Changes t.version e q → ¬ (Changes t.version f q)) → apply e (apply f t) ≡ apply f (apply e t)
+apply_swap e f t apart = same_table _ _
+    (version-apply e (apply f t) ∙ version-apply f t ∙ sym (version-apply f (apply e t) ∙ version-apply e t))
+    (regions-apply e (apply f t) ∙ regions-apply f t ∙ sym (regions-apply f (apply e t) ∙ regions-apply e t))
+    (homes-apply e (apply f t) ∙ homes-apply f t ∙ sym (homes-apply f (apply e t) ∙ homes-apply e t))
+    (λ q. at_key q (either_writes e q))
+    (λ w. at_unit w (either_moves t.version e w))
+  where
+    at_key : (q : Bytes) → Either (AnyIn (λ w. w.0 ≡ q) e.writes) → get (apply e (apply f t)).values q ≡ get (apply f (apply e t)).values q
+    at_key q (inl c) =
+        let n : ¬ (AnyIn (λ w. w.0 ≡ q) f.writes) = λ d. apart q (inl c) (inl d) in
+        values_alike e (apply f t) t q (values_kept f t q n) ∙ sym (values_kept f (apply e t) q n)
+    at_key q (inr n) = values_kept e (apply f t) q n ∙ sym (values_alike f (apply e t) t q (values_kept e t q n))
+
+    both_move : (w : Bytes) (m n : Option (Bytes × ℕ × TxnId)) → IsSomeAnd m (λ x. unit_of t.version x.0 ≡ w) → IsSomeAnd n (λ x. unit_of t.version x.0 ≡ w)
+        → (q : Bytes) × IsSomeAnd m (λ x. unit_of t.version x.0 ≡ unit_of t.version q) × IsSomeAnd n (λ x. unit_of t.version x.0 ≡ unit_of t.version q)
+    both_move w None n a b = absurd a
+    both_move w (Some m) None a b = absurd b
+    both_move w (Some m) (Some n) a b = (m.0, refl, b ∙ sym a)
+
+    at_unit : (w : Bytes) → Either (MovesAt t.version e w) → get (apply e (apply f t)).moves w ≡ get (apply f (apply e t)).moves w
+    at_unit w (inl c) =
+        let n : ¬ (MovesAt t.version f w) = λ d. let r = both_move w e.moved f.moved c d in apart r.0 (inr r.1) (inr r.2) in
+        moves_alike e (apply f t) t w (version-apply f t) (moves_kept f t t.version w refl n) ∙ sym (moves_kept f (apply e t) t.version w (version-apply e t) n)
+    at_unit w (inr n) =
+        moves_kept e (apply f t) t.version w (version-apply f t) n ∙ sym (moves_alike f (apply e t) t w (version-apply e t) (moves_kept e t t.version w refl n))
+
+-- what is read
+
+pub apply_keeps_value : (version : ℕ) (e : Effect) (t : Table) (q : Bytes) → ¬ (Changes version e q) → value_of (apply e t) q ≡ value_of t q
+apply_keeps_value version e t q n = ap (λ r. unwrap_or r None) (values_kept e t q (λ w. n (inl w)))
 
 pub apply_value : (f : Effect) (t u : Table) (q : Bytes) → value_of t q ≡ value_of u q → value_of (apply f t) q ≡ value_of (apply f u) q
-apply_value f t u q e = value_of-maybe_moved f.moved (all_written f.writes t) q ∙ all_written_value f.writes t u q e ∙ sym (value_of-maybe_moved f.moved (all_written f.writes u) q)
+apply_value f t u q e = ap (λ m. unwrap_or (get m q) None) (values_of_apply f t) ∙ by f.writes t u e ∙ sym (ap (λ m. unwrap_or (get m q) None) (values_of_apply f u))
+  where
+    step : (t u : Table) (key : Bytes) (v : Option Value) → value_of t q ≡ value_of u q → Either (q ≡ key) → value_of (written t key v) q ≡ value_of (written u key v) q
+    step t u key v e (inl s) = ap (λ r. unwrap_or r None) (written_same t key v q s) ∙ sym (ap (λ r. unwrap_or r None) (written_same u key v q s))
+    step t u key v e (inr n) = ap (λ r. unwrap_or r None) (written_other t key v q n) ∙ e ∙ sym (ap (λ r. unwrap_or r None) (written_other u key v q n))
+
+    by : (ws : List (Bytes × Option Value)) (t u : Table) → value_of t q ≡ value_of u q → value_of (all_written ws t) q ≡ value_of (all_written ws u) q
+    by [] t u e = e
+    by (w ∷ ws) t u e = by ws (written t w.0 w.1) (written u w.0 w.1) (step t u w.0 w.1 e (either_key q w.0))

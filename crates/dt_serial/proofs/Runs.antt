@@ -17,7 +17,7 @@ use Rattle.dt_txn.specs.Execution.{one}
 use Rattle.dt_txn.specs.Serial.{after, outcomes, table_after}
 use Rattle.dt_serial.specs.Order.{txn_ids, FollowsMove, Changes}
 use Rattle.dt_serial.specs.Replay.{replay}
-use Rattle.dt_table.proofs.Callers.{move_at, moves_of-apply}
+use Rattle.dt_table.proofs.Callers.{move_at, moves_of-apply, version-apply}
 use Rattle.dt_serial.proofs.Rows.{apply_value, apply_keeps_value, apply_swap}
 use Rattle.dt_serial.proofs.One.{IsMoveOf, move_of_one, move_at_cases}
 
@@ -55,12 +55,21 @@ outcome_get procs (x ∷ xs) t r (inr h) =
 
 -- moves only get more
 
-pub after_moves : (procs : List ProcTree) (x : Txn) (t : Table) (key : Bytes) → moves_of (after procs x t) key ≡ moves_of t key ++ move_at key (one procs x t).1.moved
-after_moves procs x t key = moves_of-apply (one procs x t).1 t key
+-- the version stays
+pub after_version : (procs : List ProcTree) (version : ℕ) (x : Txn) (t : Table) → t.version ≡ version → (after procs x t).version ≡ version
+after_version procs version x t is = version-apply (one procs x t).1 t ∙ is
+
+pub version_after : (procs : List ProcTree) (version : ℕ) (xs : List Txn) (t : Table) → t.version ≡ version → (table_after procs xs t).version ≡ version
+version_after procs version [] t is = is
+version_after procs version (x ∷ xs) t is = version_after procs version xs (after procs x t) (after_version procs version x t is)
+
+pub after_moves : (procs : List ProcTree) (version : ℕ) (x : Txn) (t : Table) (key : Bytes) → t.version ≡ version
+    → moves_of (after procs x t) key ≡ moves_of t key ++ move_at version key (one procs x t).1.moved
+after_moves procs version x t key is = moves_of-apply (one procs x t).1 t key ∙ ap (λ v. moves_of t key ++ move_at v key (one procs x t).1.moved) is
 
 pub moves_grow : (procs : List ProcTree) (xs : List Txn) (t : Table) (key : Bytes) → IsFront (moves_of t key) (moves_of (table_after procs xs t) key)
 moves_grow procs [] t key = front_refl (moves_of t key)
-moves_grow procs (x ∷ xs) t key = front_trans _ _ _ (move_at key (one procs x t).1.moved, sym (after_moves procs x t key)) (moves_grow procs xs (after procs x t) key)
+moves_grow procs (x ∷ xs) t key = front_trans _ _ _ (move_at t.version key (one procs x t).1.moved, sym (after_moves procs t.version x t key refl)) (moves_grow procs xs (after procs x t) key)
 
 -- what follows a move goes on following it while more moves are made
 pub follows_longer : (order : TxnId → TxnId → Type 0) (ms ns : List Moved) (c : ℕ) (t : TxnId) → IsFront ms ns → FollowsMove order ms c t → FollowsMove order ns c t
@@ -68,42 +77,42 @@ follows_longer order ms ns zero t front f = f
 follows_longer order ms ns (suc c) t front f = (f.0, get_front ms ns c f.0 front f.1, f.2)
 
 -- where in a run the move of this number was made
-pub record IsMoveAt (procs : List ProcTree) (xs : List Txn) (t : Table) (key : Bytes) (i : ℕ) (m : Moved) : Type 0 where
+pub record IsMoveAt (procs : List ProcTree) (version : ℕ) (xs : List Txn) (t : Table) (key : Bytes) (i : ℕ) (m : Moved) : Type 0 where
   pub mover : Txn
   pub at : Spot xs mover
   pub number : counter_of (table_after procs at.front t) key ≡ i
-  pub makes : IsMoveOf procs mover (table_after procs at.front t) key m
+  pub makes : IsMoveOf procs version mover (table_after procs at.front t) key m
 
-pub numbered_move : (procs : List ProcTree) (xs : List Txn) (t : Table) (key : Bytes) (i : ℕ) (m : Moved) → counter_of t key ≤ i → slice_get (moves_of (table_after procs xs t) key) i ≡ Some m → IsMoveAt procs xs t key i m
-numbered_move procs [] t key i m low e = let lt : i < length (moves_of t key) = slice_get_within (moves_of t key) i m e in absurd (omega arith)
-numbered_move procs (x ∷ xs) t key i m low e = go (cases_lt i (counter_of (after procs x t) key)) (numbered_move procs xs (after procs x t) key i m)
+pub numbered_move : (procs : List ProcTree) (version : ℕ) (xs : List Txn) (t : Table) (key : Bytes) (i : ℕ) (m : Moved) → t.version ≡ version → counter_of t key ≤ i → slice_get (moves_of (table_after procs xs t) key) i ≡ Some m → IsMoveAt procs version xs t key i m
+numbered_move procs version [] t key i m is low e = let lt : i < length (moves_of t key) = slice_get_within (moves_of t key) i m e in absurd (omega arith)
+numbered_move procs version (x ∷ xs) t key i m is low e = go (cases_lt i (counter_of (after procs x t) key)) (numbered_move procs version xs (after procs x t) key i m (after_version procs version x t is))
   where
-    here : counter_of (after procs x t) key ≡ counter_of t key + length (move_at key (one procs x t).1.moved)
-    here = ap length (after_moves procs x t key) ∙ length-append (moves_of t key) (move_at key (one procs x t).1.moved)
+    here : counter_of (after procs x t) key ≡ counter_of t key + length (move_at version key (one procs x t).1.moved)
+    here = ap length (after_moves procs version x t key is) ∙ length-append (moves_of t key) (move_at version key (one procs x t).1.moved)
 
-    made : i < counter_of (after procs x t) key → (move_at key (one procs x t).1.moved ≡ []) ⊎ ((n : Moved) × (move_at key (one procs x t).1.moved ≡ n ∷ [])) → IsMoveAt procs (x ∷ xs) t key i m
-    made lt (inl none) = let n : length (move_at key (one procs x t).1.moved) ≡ 0 = ap length none in absurd (omega (arith, here))
+    made : i < counter_of (after procs x t) key → (move_at version key (one procs x t).1.moved ≡ []) ⊎ ((n : Moved) × (move_at version key (one procs x t).1.moved ≡ n ∷ [])) → IsMoveAt procs version (x ∷ xs) t key i m
+    made lt (inl none) = let n : length (move_at version key (one procs x t).1.moved) ≡ 0 = ap length none in absurd (omega (arith, here))
     made lt (inr r) =
-        let n : length (move_at key (one procs x t).1.moved) ≡ 1 = ap length r.1 in
+        let n : length (move_at version key (one procs x t).1.moved) ≡ 1 = ap length r.1 in
         let number : counter_of t key ≡ i = omega (arith, here) in
         let seam : slice_get (moves_of t key ++ r.0 ∷ []) (counter_of t key) ≡ Some r.0 = get_seam (moves_of t key) r.0 [] in
         let there : slice_get (moves_of (after procs x t) key) i ≡ Some r.0
-        = subst (λ l. slice_get l i ≡ Some r.0) (sym (after_moves procs x t key ∙ ap (λ l. moves_of t key ++ l) r.1)) (subst (λ j. slice_get (moves_of t key ++ r.0 ∷ []) j ≡ Some r.0) number seam) in
+        = subst (λ l. slice_get l i ≡ Some r.0) (sym (after_moves procs version x t key is ∙ ap (λ l. moves_of t key ++ l) r.1)) (subst (λ j. slice_get (moves_of t key ++ r.0 ∷ []) j ≡ Some r.0) number seam) in
         let last : slice_get (moves_of (table_after procs xs (after procs x t)) key) i ≡ Some r.0 = get_front _ _ i r.0 (moves_grow procs xs (after procs x t) key) there in
         let same : r.0 ≡ m = cc in
-        record { mover = x; at = record { front = []; rest = xs; is = refl }; number = number; makes = move_of_one procs x t key m (r.1 ∙ ap (λ z. z ∷ []) same) }
+        record { mover = x; at = record { front = []; rest = xs; is = refl }; number = number; makes = move_of_one procs version x t key m (r.1 ∙ ap (λ z. z ∷ []) same) }
 
     go : (i < counter_of (after procs x t) key) ⊎ (counter_of (after procs x t) key ≤ i)
-        → (counter_of (after procs x t) key ≤ i → slice_get (moves_of (table_after procs xs (after procs x t)) key) i ≡ Some m → IsMoveAt procs xs (after procs x t) key i m) → IsMoveAt procs (x ∷ xs) t key i m
-    go (inl lt) later = made lt (move_at_cases (one procs x t).1.moved key)
+        → (counter_of (after procs x t) key ≤ i → slice_get (moves_of (table_after procs xs (after procs x t)) key) i ≡ Some m → IsMoveAt procs version xs (after procs x t) key i m) → IsMoveAt procs version (x ∷ xs) t key i m
+    go (inl lt) later = made lt (move_at_cases version (one procs x t).1.moved key)
     go (inr le) later =
-        let r : IsMoveAt procs xs (after procs x t) key i m = later le e in
+        let r : IsMoveAt procs version xs (after procs x t) key i m = later le e in
         record { mover = r.mover; at = record { front = x ∷ r.at.front; rest = r.at.rest; is = ap (λ l. x ∷ l) r.at.is }; number = r.number; makes = r.makes }
 
 -- the mover of a later move is among those that ran
 pub mover_in : (procs : List ProcTree) (xs : List Txn) (t : Table) (key : Bytes) (i : ℕ) (m : Moved) → counter_of t key ≤ i → slice_get (moves_of (table_after procs xs t) key) i ≡ Some m → Has (txn_ids xs) m.by
 mover_in procs xs t key i m low e =
-    let r : IsMoveAt procs xs t key i m = numbered_move procs xs t key i m low e in
+    let r : IsMoveAt procs t.version xs t key i m = numbered_move procs t.version xs t key i m refl low e in
     subst (Has (txn_ids xs)) r.makes.by (has_map (λ x. x.id) xs r.mover (spot_has xs r.mover r.at))
 
 -- so after a run from a table without moves each mover is among those that ran
@@ -125,6 +134,14 @@ pub replay_append : (procs : List ProcTree) (p : TxnId → Bool) (xs ys : List T
 replay_append procs p [] ys t c = refl
 replay_append procs p (x ∷ xs) ys t c = replay_append procs p xs ys (after procs x t) _
 
+pub replay_version : (procs : List ProcTree) (version : ℕ) (p : TxnId → Bool) (xs : List Txn) (t c : Table) → c.version ≡ version → (replay procs p xs t c).version ≡ version
+replay_version procs version p [] t c is = is
+replay_version procs version p (x ∷ xs) t c is = replay_version procs version p xs (after procs x t) _ (by (p x.id))
+  where
+    by : (b : Bool) → (cond b (apply (one procs x t).1 c) c).version ≡ version
+    by true = version-apply (one procs x t).1 c ∙ is
+    by false = is
+
 pub replay_alike : (procs : List ProcTree) (p q : TxnId → Bool) (xs : List Txn) (t c : Table) → AllIn (λ x. p x.id ≡ q x.id) xs → replay procs p xs t c ≡ replay procs q xs t c
 replay_alike procs p q [] t c all = refl
 replay_alike procs p q (x ∷ xs) t c all = replay_alike procs p q xs (after procs x t) _ all.1 ∙ ap (λ b. replay procs q xs (after procs x t) (cond b (apply (one procs x t).1 c) c)) all.0
@@ -141,58 +158,58 @@ replay_none procs p (x ∷ xs) t c all = ap (λ b. replay procs p xs (after proc
 abbrev pub chosen_moves : (TxnId → Bool) → List Moved → List Moved
 chosen_moves p moves = filter (λ m. p m.by) moves
 
-pub replay_moves : (procs : List ProcTree) (p : TxnId → Bool) (xs : List Txn) (t c : Table) (key : Bytes) → moves_of c key ≡ chosen_moves p (moves_of t key)
+pub replay_moves : (procs : List ProcTree) (version : ℕ) (p : TxnId → Bool) (xs : List Txn) (t c : Table) (key : Bytes) → t.version ≡ version → c.version ≡ version → moves_of c key ≡ chosen_moves p (moves_of t key)
     → moves_of (replay procs p xs t c) key ≡ chosen_moves p (moves_of (table_after procs xs t) key)
-replay_moves procs p [] t c key e = e
-replay_moves procs p (x ∷ xs) t c key e = replay_moves procs p xs (after procs x t) _ key (go (cases_Bool (p x.id)) (move_at_cases (one procs x t).1.moved key))
+replay_moves procs version p [] t c key is same e = e
+replay_moves procs version p (x ∷ xs) t c key is same e = replay_moves procs version p xs (after procs x t) _ key (after_version procs version x t is) (replay_version procs version p (x ∷ []) t c same) (go (cases_Bool (p x.id)) (move_at_cases version (one procs x t).1.moved key))
   where
     made : List Moved
-    made = move_at key (one procs x t).1.moved
+    made = move_at version key (one procs x t).1.moved
 
     goal : moves_of (cond (p x.id) (apply (one procs x t).1 c) c) key ≡ chosen_moves p (moves_of t key) ++ chosen_moves p made → moves_of (cond (p x.id) (apply (one procs x t).1 c) c) key ≡ chosen_moves p (moves_of (after procs x t) key)
-    goal s = s ∙ sym (filter-append (λ m. p m.by) (moves_of t key) made) ∙ ap (chosen_moves p) (sym (after_moves procs x t key))
+    goal s = s ∙ sym (filter-append (λ m. p m.by) (moves_of t key) made) ∙ ap (chosen_moves p) (sym (after_moves procs version x t key is))
 
-    kept : p x.id ≡ true → (move_at key (one procs x t).1.moved ≡ []) ⊎ ((m : Moved) × (move_at key (one procs x t).1.moved ≡ m ∷ [])) → chosen_moves p made ≡ made
+    kept : p x.id ≡ true → (move_at version key (one procs x t).1.moved ≡ []) ⊎ ((m : Moved) × (move_at version key (one procs x t).1.moved ≡ m ∷ [])) → chosen_moves p made ≡ made
     kept y (inl none) = ap (chosen_moves p) none ∙ sym none
     kept y (inr r) =
-        let by : p (r.0).by ≡ true = ap p (sym (move_of_one procs x t key r.0 r.1).by) ∙ y in
+        let by : p (r.0).by ≡ true = ap p (sym (move_of_one procs version x t key r.0 r.1).by) ∙ y in
         ap (chosen_moves p) r.1 ∙ ap (λ b. cond b (r.0 ∷ []) []) by ∙ sym r.1
 
-    dropped : p x.id ≡ false → (move_at key (one procs x t).1.moved ≡ []) ⊎ ((m : Moved) × (move_at key (one procs x t).1.moved ≡ m ∷ [])) → chosen_moves p made ≡ []
+    dropped : p x.id ≡ false → (move_at version key (one procs x t).1.moved ≡ []) ⊎ ((m : Moved) × (move_at version key (one procs x t).1.moved ≡ m ∷ [])) → chosen_moves p made ≡ []
     dropped n (inl none) = ap (chosen_moves p) none
     dropped n (inr r) =
-        let by : p (r.0).by ≡ false = ap p (sym (move_of_one procs x t key r.0 r.1).by) ∙ n in
+        let by : p (r.0).by ≡ false = ap p (sym (move_of_one procs version x t key r.0 r.1).by) ∙ n in
         ap (chosen_moves p) r.1 ∙ ap (λ b. cond b (r.0 ∷ []) []) by
 
-    go : (p x.id ≡ true) ⊎ (p x.id ≡ false) → (move_at key (one procs x t).1.moved ≡ []) ⊎ ((m : Moved) × (move_at key (one procs x t).1.moved ≡ m ∷ []))
+    go : (p x.id ≡ true) ⊎ (p x.id ≡ false) → (move_at version key (one procs x t).1.moved ≡ []) ⊎ ((m : Moved) × (move_at version key (one procs x t).1.moved ≡ m ∷ []))
         → moves_of (cond (p x.id) (apply (one procs x t).1 c) c) key ≡ chosen_moves p (moves_of (after procs x t) key)
-    go (inl y) s = goal (ap (λ b. moves_of (cond b (apply (one procs x t).1 c) c) key) y ∙ moves_of-apply (one procs x t).1 c key ∙ ap₂ ◌++◌ e (sym (kept y s)))
+    go (inl y) s = goal (ap (λ b. moves_of (cond b (apply (one procs x t).1 c) c) key) y ∙ moves_of-apply (one procs x t).1 c key ∙ ap (λ v. moves_of c key ++ move_at v key (one procs x t).1.moved) same ∙ ap₂ ◌++◌ e (sym (kept y s)))
     go (inr n) s = goal (ap (λ b. moves_of (cond b (apply (one procs x t).1 c) c) key) n ∙ e ∙ sym (append-nil (chosen_moves p (moves_of t key))) ∙ ap (λ l. chosen_moves p (moves_of t key) ++ l) (sym (dropped n s)))
 
 -- two replays read the same value of a key if they choose alike among those that change its row
-pub replay_value : (procs : List ProcTree) (p q : TxnId → Bool) (xs : List Txn) (t c d : Table) (key : Bytes) → AlongRun procs (λ x t. (¬ (Changes (one procs x t).1 key)) ⊎ (p x.id ≡ q x.id)) xs t
+pub replay_value : (procs : List ProcTree) (version : ℕ) (p q : TxnId → Bool) (xs : List Txn) (t c d : Table) (key : Bytes) → AlongRun procs (λ x t. (¬ (Changes version (one procs x t).1 key)) ⊎ (p x.id ≡ q x.id)) xs t
     → value_of c key ≡ value_of d key → value_of (replay procs p xs t c) key ≡ value_of (replay procs q xs t d) key
-replay_value procs p q [] t c d key all e = e
-replay_value procs p q (x ∷ xs) t c d key all e = replay_value procs p q xs (after procs x t) _ _ key all.1 (go all.0)
+replay_value procs version p q [] t c d key all e = e
+replay_value procs version p q (x ∷ xs) t c d key all e = replay_value procs version p q xs (after procs x t) _ _ key all.1 (go all.0)
   where
-    keeps : (b : Bool) (u : Table) → ¬ (Changes (one procs x t).1 key) → value_of (cond b (apply (one procs x t).1 u) u) key ≡ value_of u key
-    keeps true u n = apply_keeps_value (one procs x t).1 u key n
+    keeps : (b : Bool) (u : Table) → ¬ (Changes version (one procs x t).1 key) → value_of (cond b (apply (one procs x t).1 u) u) key ≡ value_of u key
+    keeps true u n = apply_keeps_value version (one procs x t).1 u key n
     keeps false u n = refl
 
     both : (b : Bool) → value_of (cond b (apply (one procs x t).1 c) c) key ≡ value_of (cond b (apply (one procs x t).1 d) d) key
     both true = apply_value (one procs x t).1 c d key e
     both false = e
 
-    go : (¬ (Changes (one procs x t).1 key)) ⊎ (p x.id ≡ q x.id) → value_of (cond (p x.id) (apply (one procs x t).1 c) c) key ≡ value_of (cond (q x.id) (apply (one procs x t).1 d) d) key
+    go : (¬ (Changes version (one procs x t).1 key)) ⊎ (p x.id ≡ q x.id) → value_of (cond (p x.id) (apply (one procs x t).1 c) c) key ≡ value_of (cond (q x.id) (apply (one procs x t).1 d) d) key
     go (inl n) = keeps (p x.id) c n ∙ e ∙ sym (keeps (q x.id) d n)
     go (inr same) = both (p x.id) ∙ ap (λ b. value_of (cond b (apply (one procs x t).1 d) d) key) same
 
 -- an effect may come before a replay in which no chosen one changes a row that it changes
-pub replay_swap : (procs : List ProcTree) (f : Effect) (p : TxnId → Bool) (xs : List Txn) (t c : Table)
-    → AlongRun procs (λ x t. p x.id ≡ true → (key : Bytes) → Changes (one procs x t).1 key → ¬ (Changes f key)) xs t → apply f (replay procs p xs t c) ≡ replay procs p xs t (apply f c)
-replay_swap procs f p [] t c all = refl
-replay_swap procs f p (x ∷ xs) t c all = replay_swap procs f p xs (after procs x t) _ all.1 ∙ ap (replay procs p xs (after procs x t)) (go (p x.id) all.0)
+pub replay_swap : (procs : List ProcTree) (version : ℕ) (f : Effect) (p : TxnId → Bool) (xs : List Txn) (t c : Table) → c.version ≡ version
+    → AlongRun procs (λ x t. p x.id ≡ true → (key : Bytes) → Changes version (one procs x t).1 key → ¬ (Changes version f key)) xs t → apply f (replay procs p xs t c) ≡ replay procs p xs t (apply f c)
+replay_swap procs version f p [] t c is all = refl
+replay_swap procs version f p (x ∷ xs) t c is all = replay_swap procs version f p xs (after procs x t) _ (replay_version procs version p (x ∷ []) t c is) all.1 ∙ ap (replay procs p xs (after procs x t)) (go (p x.id) all.0)
   where
-    go : (b : Bool) → (b ≡ true → (key : Bytes) → Changes (one procs x t).1 key → ¬ (Changes f key)) → apply f (cond b (apply (one procs x t).1 c) c) ≡ cond b (apply (one procs x t).1 (apply f c)) (apply f c)
-    go true apart = apply_swap f (one procs x t).1 c (λ key cf cx. apart refl key cx cf)
+    go : (b : Bool) → (b ≡ true → (key : Bytes) → Changes version (one procs x t).1 key → ¬ (Changes version f key)) → apply f (cond b (apply (one procs x t).1 c) c) ≡ cond b (apply (one procs x t).1 (apply f c)) (apply f c)
+    go true apart = apply_swap f (one procs x t).1 c (λ key cf cx. apart refl key (subst (λ v. Changes v (one procs x t).1 key) is cx) (subst (λ v. Changes v f key) is cf))
     go false apart = refl

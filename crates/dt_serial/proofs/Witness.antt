@@ -1,16 +1,16 @@
--- A history can be met: a move of a key, one that was annotated after it, and one that was annotated before it and is
+-- A history can be met: a move of a unit, one that was annotated after it, and one that was annotated before it and is
 -- stale. The last two are not ordered, and a region may run them either way round.
-use Rattle.std.proofs.Common.{◌≡◌, ◌≢◌, ◌⊎◌, ℕ, true, cond, List, [], ◌∷◌, ◌++◌, slice_get, None, refl, sym, ap, ◌∙◌, inl, inr, arith}
+use Rattle.std.proofs.Common.{◌≡◌, ◌≢◌, ◌⊎◌, ℕ, true, cond, List, [], ◌∷◌, ◌++◌, slice_get, None, refl, sym, ap, subst, ◌∙◌, inl, inr, arith}
 use Rattle.std.specs.Prelude.{option_map}
 use Rattle.std.specs.Cmp.Lexicographic.{bytes_decides}
 use Rattle.dt_lists.specs.Lists.{AllIn, Has}
 use Rattle.dt_lists.proofs.Callers.{all_get, get_front}
 use Rattle.dt_access.specs.Clash.{Bytes, same_key, uses_clash}
+use Rattle.dt_access.specs.Granules.{mode_of_move, unit_of}
 use Rattle.dt_access.specs.declared.TxnId.{TxnId}
 use Rattle.dt_access.specs.declared.Access.{Access}
-use Rattle.dt_access.specs.declared.Mode.TheVariants.{Write}
 use Rattle.dt_proc.specs.Tree.{ProcTree}
-use Rattle.dt_table.specs.Table.{Table, Moved, moves_of}
+use Rattle.dt_table.specs.Table.{Table, Moved, IsUnit, moves_of}
 use Rattle.dt_txn.specs.declared.txn.Body.TheVariants.{Move}
 use Rattle.dt_txn.specs.declared.txn.Txn.{Txn}
 use Rattle.dt_txn.specs.Execution.{stale_at}
@@ -18,19 +18,20 @@ use Rattle.dt_txn.specs.Serial.{after, table_after}
 use Rattle.dt_serial.specs.Order.{Ordered, FollowsMove, IsHistory, IsPart, IsDown, IsLive, KeepsToKeys}
 use Rattle.dt_table.proofs.Callers.{move_at}
 use Rattle.dt_serial.proofs.One.{one_live}
+use Rattle.dt_serial.proofs.Valid.{move_narrow}
 use Rattle.dt_serial.proofs.Runs.{after_moves, moves_grow}
 
-abbrev use_of : Bytes → ℕ → Access
-use_of key counter = record { key = key; mode = Write; home = counter; counter = counter }
+abbrev use_of : ℕ → Bytes → ℕ → Access
+use_of version key counter = record { key = key; mode = mode_of_move version; home = counter; counter = counter }
 
-abbrev mover : Bytes → Txn
-mover key = record { id = record { seq = 1; region = 0 }; body = Move key 1; access = use_of key 0 ∷ [] }
+abbrev mover : ℕ → Bytes → Txn
+mover version key = record { id = record { seq = 1; region = 0 }; rank = 5; body = Move key 1; access = use_of version key 0 ∷ [] }
 
-abbrev later : Bytes → Txn
-later key = record { id = record { seq = 2; region = 0 }; body = Move key 0; access = use_of key 1 ∷ [] }
+abbrev later : ℕ → Bytes → Txn
+later version key = record { id = record { seq = 2; region = 0 }; rank = 5; body = Move key 0; access = use_of version key 1 ∷ [] }
 
-abbrev stale : Bytes → Txn
-stale key = record { id = record { seq = 1; region = 1 }; body = Move key 2; access = use_of key 0 ∷ [] }
+abbrev stale : ℕ → Bytes → Txn
+stale version key = record { id = record { seq = 1; region = 1 }; rank = 5; body = Move key 2; access = use_of version key 0 ∷ [] }
 
 -- the first move precedes the two others
 abbrev First : TxnId → TxnId → Type 0
@@ -40,9 +41,13 @@ no_later : (t : TxnId) → t ≡ record { seq = 1; region = 0 } → ¬ ((t ≡ r
 no_later t e (inl f) = let s : ◌≡◌ {A = ℕ} 1 2 = ap (λ i. i.seq) (sym e ∙ f) in omega arith
 no_later t e (inr f) = let s : ◌≡◌ {A = ℕ} 0 1 = ap (λ i. i.region) (sym e ∙ f) in omega arith
 
-move_keeps : (procs : List ProcTree) (key : Bytes) (id : TxnId) (target counter : ℕ) → KeepsToKeys procs (record { id = id; body = Move key target; access = use_of key counter ∷ [] })
-move_keeps procs key id target counter reads q (inl e) = absurd e
-move_keeps procs key id target counter reads q (inr e) = inl (e, refl)
+move_keeps : (procs : List ProcTree) (version : ℕ) (key : Bytes) (id : TxnId) (target counter : ℕ) → IsUnit version key
+    → KeepsToKeys procs version (record { id = id; rank = 5; body = Move key target; access = use_of version key counter ∷ [] })
+move_keeps procs version key id target counter unit = record {
+  changes = λ reads q c. elim c [ inl e ↦ absurd e | inr e ↦ inl (inr (e, refl)) ];
+  moves = λ k t is. let same : key ≡ k = cc in subst (IsUnit version) same unit;
+  whole = (move_narrow version, tt);
+}
 
 mover_not_later : ◌≢◌ {A = TxnId} (record { seq = 1; region = 0 }) (record { seq = 2; region = 0 })
 mover_not_later e = let s : ◌≡◌ {A = ℕ} 1 2 = ap (λ i. i.seq) e in omega arith
@@ -68,57 +73,58 @@ stale_first = record {
 abbrev CanBeShared : Txn → Txn → Type 0
 CanBeShared x y = x.id ≢ y.id → (a b : Access) → Has x.access a → Has y.access b → a.counter ≡ b.counter → uses_clash (a.key, a.mode) (b.key, b.mode) ≡ true → Ordered First x.id y.id
 
-differ : (key : Bytes) (a b : Access) → Has (use_of key 1 ∷ []) a → Has (use_of key 0 ∷ []) b → ¬ (a.counter ≡ b.counter)
-differ key a b (inl e) (inl f) s = let r : ◌≡◌ {A = ℕ} 1 0 = ap (λ c. c.counter) e ∙ s ∙ sym (ap (λ c. c.counter) f) in omega arith
-differ key a b (inl e) (inr f) s = f
-differ key a b (inr e) f s = e
+differ : (version : ℕ) (key : Bytes) (a b : Access) → Has (use_of version key 1 ∷ []) a → Has (use_of version key 0 ∷ []) b → ¬ (a.counter ≡ b.counter)
+differ version key a b (inl e) (inl f) s = let r : ◌≡◌ {A = ℕ} 1 0 = ap (λ c. c.counter) e ∙ s ∙ sym (ap (λ c. c.counter) f) in omega arith
+differ version key a b (inl e) (inr f) s = f
+differ version key a b (inr e) f s = e
 
-pairs : (key : Bytes) → AllIn (λ x. AllIn (CanBeShared x) (mover key ∷ later key ∷ stale key ∷ [])) (mover key ∷ later key ∷ stale key ∷ [])
-pairs key = (
+pairs : (version : ℕ) (key : Bytes)
+    → AllIn (λ x. AllIn (CanBeShared x) (mover version key ∷ later version key ∷ stale version key ∷ [])) (mover version key ∷ later version key ∷ stale version key ∷ [])
+pairs version key = (
   (λ ne a b ha hb e c. absurd (ne refl), (λ ne a b ha hb e c. inl (refl, inl refl), (λ ne a b ha hb e c. inl (refl, inr refl), tt))),
   (
-    (λ ne a b ha hb e c. inr (refl, inl refl), (λ ne a b ha hb e c. absurd (ne refl), (λ ne a b ha hb e c. absurd (differ key a b ha hb e), tt))),
+    (λ ne a b ha hb e c. inr (refl, inl refl), (λ ne a b ha hb e c. absurd (ne refl), (λ ne a b ha hb e c. absurd (differ version key a b ha hb e), tt))),
     (
-      (λ ne a b ha hb e c. inr (refl, inr refl), (λ ne a b ha hb e c. absurd (differ key b a hb ha (sym e)), (λ ne a b ha hb e c. absurd (ne refl), tt))),
+      (λ ne a b ha hb e c. inr (refl, inr refl), (λ ne a b ha hb e c. absurd (differ version key b a hb ha (sym e)), (λ ne a b ha hb e c. absurd (ne refl), tt))),
       tt,
     ),
   ),
 )
 
-module _ (procs : List ProcTree) (start : Table) (unmoved : (key : Bytes) → moves_of start key ≡ []) (key : Bytes) where
+module _ (procs : List ProcTree) (start : Table) (unmoved : (key : Bytes) → moves_of start key ≡ []) (key : Bytes) (unit : IsUnit start.version key) where
   made : Moved
   made = record { target = 1; by = record { seq = 1; region = 0 } }
 
-  live : IsLive (mover key) start
-  live = ap (λ l. stale_at (use_of key 0) (option_map (λ m. m.by) (slice_get l 0)) None) (unmoved key)
+  live : IsLive (mover start.version key) start
+  live = ap (λ l. stale_at (unit_of start.version key) 0 (option_map (λ m. m.by) (slice_get l 0)) None) (unmoved key)
 
-  moved_once : moves_of (after procs (mover key) start) key ≡ made ∷ []
+  moved_once : moves_of (after procs (mover start.version key) start) key ≡ made ∷ []
   unfolding made
   moved_once =
-      after_moves procs (mover key) start key
-      ∙ ap (λ e. moves_of start key ++ move_at key e.1.moved) (one_live procs (mover key) start live)
-      ∙ ap (λ l. l ++ cond (same_key key key) (made ∷ []) []) (unmoved key)
-      ∙ ap (λ b. cond b (made ∷ []) []) ((bytes_decides key key).1 refl)
+      after_moves procs start.version (mover start.version key) start key refl
+      ∙ ap (λ e. moves_of start key ++ move_at start.version key e.1.moved) (one_live procs (mover start.version key) start live)
+      ∙ ap (λ l. l ++ cond (same_key (unit_of start.version key) (unit_of start.version key)) (made ∷ []) []) (unmoved key)
+      ∙ ap (λ b. cond b (made ∷ []) []) ((bytes_decides (unit_of start.version key) (unit_of start.version key)).1 refl)
 
-  first_move : (txns : List Txn) → FollowsMove First (moves_of (table_after procs txns (after procs (mover key) start)) key) 1 (later key).id
+  first_move : (txns : List Txn) → FollowsMove First (moves_of (table_after procs txns (after procs (mover start.version key) start)) key) 1 (later start.version key).id
   unfolding made
-  first_move txns = (made, get_front _ _ 0 made (moves_grow procs txns (after procs (mover key) start) key) (ap (λ l. slice_get l 0) moved_once), (refl, inl refl))
+  first_move txns = (made, get_front _ _ 0 made (moves_grow procs txns (after procs (mover start.version key) start) key) (ap (λ l. slice_get l 0) moved_once), (refl, inl refl))
 
-  anchored_later : (txns : List Txn) → AllIn (λ a. FollowsMove First (moves_of (table_after procs txns (after procs (mover key) start)) a.key) a.counter (later key).id) (later key).access
+  anchored_later : (txns : List Txn) → AllIn (λ a. FollowsMove First (moves_of (table_after procs txns (after procs (mover start.version key) start)) a.key) a.counter (later start.version key).id) (later start.version key).access
   anchored_later txns = (first_move txns, tt)
 
-  pub history : IsHistory procs First start (mover key ∷ later key ∷ stale key ∷ [])
+  pub history : IsHistory procs First start (mover start.version key ∷ later start.version key ∷ stale start.version key ∷ [])
   history = record {
     transitive = λ u v t r s. absurd (no_later v s.0 r.1);
     unmoved = unmoved;
-    keys = (move_keeps procs key (mover key).id 1 0, (move_keeps procs key (later key).id 0 1, (move_keeps procs key (stale key).id 2 0, tt)));
+    keys = (move_keeps procs start.version key (mover start.version key).id 1 0 unit, (move_keeps procs start.version key (later start.version key).id 0 1 unit, (move_keeps procs start.version key (stale start.version key).id 2 0 unit, tt)));
     down = later_first;
-    anchored = ((tt, tt), (anchored_later (later key ∷ stale key ∷ []), ((tt, tt), tt)));
-    shared = λ x y hx hy. all_get (CanBeShared x) (mover key ∷ later key ∷ stale key ∷ []) (all_get (λ z. AllIn (CanBeShared z) (mover key ∷ later key ∷ stale key ∷ [])) (mover key ∷ later key ∷ stale key ∷ []) (pairs key) x hx) y hy;
+    anchored = ((tt, tt), (anchored_later (later start.version key ∷ stale start.version key ∷ []), ((tt, tt), tt)));
+    shared = λ x y hx hy. all_get (CanBeShared x) (mover start.version key ∷ later start.version key ∷ stale start.version key ∷ []) (all_get (λ z. AllIn (CanBeShared z) (mover start.version key ∷ later start.version key ∷ stale start.version key ∷ [])) (mover start.version key ∷ later start.version key ∷ stale start.version key ∷ []) (pairs start.version key) x hx) y hy;
   }
 
   -- both orders of the last two are parts of it
-  pub either_way : IsPart procs First start (mover key ∷ later key ∷ stale key ∷ []) (mover key ∷ later key ∷ stale key ∷ []) × IsPart procs First start (mover key ∷ later key ∷ stale key ∷ []) (mover key ∷ stale key ∷ later key ∷ [])
+  pub either_way : IsPart procs First start (mover start.version key ∷ later start.version key ∷ stale start.version key ∷ []) (mover start.version key ∷ later start.version key ∷ stale start.version key ∷ []) × IsPart procs First start (mover start.version key ∷ later start.version key ∷ stale start.version key ∷ []) (mover start.version key ∷ stale start.version key ∷ later start.version key ∷ [])
   either_way = (
     record { fits = history; members = (inl refl, (inr (inl refl), (inr (inr (inl refl)), tt))); down = later_first },
     record { fits = history; members = (inl refl, (inr (inr (inl refl)), (inr (inl refl), tt))); down = stale_first },

@@ -8,4 +8,5 @@ pub use Rattle.dt_txn.specs.Serial
 pub use Rattle.dt_table.specs.Table
 pub use Rattle.dt_access.specs.Ids
 pub use Rattle.dt_access.specs.Clash
+pub use Rattle.dt_access.specs.Granules
 pub use Rattle.dt_lists.specs.Lists

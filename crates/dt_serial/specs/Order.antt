@@ -1,10 +1,11 @@
 -- When an order of ids fits a serial run of transactions (`IsHistory`), and when a list of its transactions is one that a
 -- region may have run (`IsPart`). These two words carry all laws of this crate: a part has the outcomes, the moves and the
 -- table of its history, whatever order it took where the order of ids leaves it free. Read next src/laws.rt.
-use Rattle.std.specs.Prelude.{◌≡◌, ◌≢◌, ◌⊎◌, ℕ, zero, suc, Bool, true, List, [], map, slice_get, Option, Some, None, IsSomeAnd}
+use Rattle.std.specs.Prelude.{◌≡◌, ◌≢◌, ◌⊎◌, ℕ, zero, suc, Bool, true, false, List, [], map, slice_get, Option, Some, None, IsSomeAnd}
 use Rattle.dt_lists.specs.Lists.{AnyIn, AllIn, Has, Distinct}
 use Rattle.dt_access.specs.Ids.{StandsBefore}
-use Rattle.dt_access.specs.Clash.{Bytes, uses_clash}
+use Rattle.dt_access.specs.Clash.{Bytes, is_whole, uses_clash}
+use Rattle.dt_access.specs.Granules.{mode_of_move, unit_of}
 use Rattle.dt_access.specs.declared.TxnId.{TxnId}
 use Rattle.dt_access.specs.declared.Access.{Access}
 use Rattle.dt_access.specs.declared.Mode.{Mode}
@@ -12,7 +13,8 @@ use Rattle.dt_access.specs.declared.Mode.TheVariants.{Write}
 use Rattle.dt_text.specs.declared.Value.{Value}
 use Rattle.dt_proc.specs.Tree.{ProcTree}
 use Rattle.dt_table.specs.declared.Effect.{Effect}
-use Rattle.dt_table.specs.Table.{Table, Moved, moves_of}
+use Rattle.dt_table.specs.Table.{Table, Moved, IsUnit, moves_of}
+use Rattle.dt_txn.specs.declared.txn.Body.TheVariants.{Move}
 use Rattle.dt_txn.specs.declared.txn.Txn.{Txn}
 use Rattle.dt_txn.specs.Execution.{result_of, stale_of, see}
 use Rattle.dt_txn.specs.Serial.{table_after}
@@ -36,7 +38,7 @@ FollowsMove order moves zero t = Unit {0}
 FollowsMove order moves (suc c) t = (m : Moved) × (slice_get moves c ≡ Some m) × order m.by t
 
 -- each transaction comes after the moves that it was annotated with: for each key that it uses, after as many of the
--- table's moves of that key
+-- table's moves of that key's unit
 abbrev pub IsAnchored : (TxnId → TxnId → Type 0) → Table → List Txn → Type 0
 IsAnchored order table txns = AllIn (λ x. AllIn (λ a. FollowsMove order (moves_of table a.key) a.counter x.id) x.access) txns
 
@@ -47,27 +49,34 @@ IsShared order txns =
     → (a b : Access) → Has x.access a → Has y.access b → a.counter ≡ b.counter → uses_clash (a.key, a.mode) (b.key, b.mode) ≡ true
     → Ordered order x.id y.id
 
--- on this table the transaction is live: none of its keys was moved since it was annotated
+-- on this table the transaction is live: the unit of none of its keys was moved since it was annotated
 abbrev pub IsLive : Txn → Table → Type 0
 IsLive x t = stale_of x.access (see x t) ≡ None
 
--- the effect changes the row of this key
-abbrev pub Changes : Effect → Bytes → Type 0
-Changes effect key = AnyIn (λ w. w.0 ≡ key) effect.writes ⊎ IsSomeAnd effect.moved (λ m. m.0 ≡ key)
+-- in this version, the effect changes what is seen of this key: it writes it, or it moves its unit
+abbrev pub Changes : ℕ → Effect → Bytes → Type 0
+Changes version effect key = AnyIn (λ w. w.0 ≡ key) effect.writes ⊎ IsSomeAnd effect.moved (λ m. unit_of version m.0 ≡ unit_of version key)
 
--- the transaction uses this key and may write it
-abbrev pub MayWrite : Txn → Bytes → Type 0
-MayWrite x key = AnyIn (λ a. (a.key ≡ key) × (a.mode ≡ Write)) x.access
+-- by this entry a transaction may change what is seen of this key: it may write it, or move its unit
+abbrev pub ChangesBy : ℕ → Bytes → Access → Type 0
+ChangesBy version key a = ((a.key ≡ key) × (a.mode ≡ Write)) ⊎ ((unit_of version a.key ≡ unit_of version key) × (a.mode ≡ mode_of_move version))
 
--- whatever it reads, the transaction changes only keys that it may write
-abbrev pub KeepsToKeys : List ProcTree → Txn → Type 0
-KeepsToKeys procs x = (reads : List (Bytes × Option Value)) (key : Bytes) → Changes (result_of procs x.id x.body reads).1 key → MayWrite x key
+-- the transaction has an entry by which it may change what is seen of this key
+abbrev pub MayChange : ℕ → Txn → Bytes → Type 0
+MayChange version x key = AnyIn (ChangesBy version key) x.access
+
+-- the transaction keeps to its keys: whatever it reads, it changes only what it may change; what it moves is a unit; and
+-- it takes granules as a whole in version 2 alone
+pub record KeepsToKeys (procs : List ProcTree) (version : ℕ) (x : Txn) : Type 0 where
+  pub changes : (reads : List (Bytes × Option Value)) (key : Bytes) → Changes version (result_of procs x.id x.body reads).1 key → MayChange version x key
+  pub moves : (key : Bytes) (target : ℕ) → x.body ≡ Move key target → IsUnit version key
+  pub whole : AllIn (λ a. version ≢ 2 → is_whole a.mode ≡ false) x.access
 
 -- the transactions ran one after another from a table without moves, and the order fits that run
 pub record IsHistory (procs : List ProcTree) (order : TxnId → TxnId → Type 0) (start : Table) (txns : List Txn) : Type 0 where
   pub transitive : (u v t : TxnId) → order u v → order v t → order u t
   pub unmoved : (key : Bytes) → moves_of start key ≡ []
-  pub keys : AllIn (KeepsToKeys procs) txns
+  pub keys : AllIn (KeepsToKeys procs start.version) txns
   pub down : IsDown order (txn_ids txns)
   pub anchored : IsAnchored order (table_after procs txns start) txns
   pub shared : IsShared order txns

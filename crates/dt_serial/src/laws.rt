@@ -4,6 +4,7 @@ ghost use Rattle.std.specs.Prelude.{◌≡◌, ◌≢◌, ◌⊎◌, ◌↔◌, 
 ghost use Rattle.dt_lists.specs.Lists.{AllIn, AnyIn, EachThen, Has, IsFront};
 ghost use Rattle.dt_access.specs.Ids.{is_among};
 ghost use Rattle.dt_access.specs.Clash.{Bytes, clash};
+ghost use Rattle.dt_access.specs.Granules.{unit_of};
 ghost use Rattle.dt_access.specs.declared.TxnId.{TxnId};
 ghost use Rattle.dt_table.specs.Table.{Moved, Table, counter_of, moves_of, next_mover};
 ghost use Rattle.dt_proc.specs.Tree.{ProcTree};
@@ -35,19 +36,20 @@ pub fn one_table()
         table_after procs txns start ≡ table_after procs (filter (λ x. is_among (txn_ids txns) x.id) history) start }
 {}
 
-/// The movers of a key precede one another in the order of their moves, and each of them is a move that was annotated
-/// with the number of moves before its own. After a part of the history the moves of a key are the first ones of the
-/// history, made by members of the part. A transaction of a part sees at a key that it uses the mover that follows its
-/// annotated moves in the whole history, if that one precedes it, and else none: so whether it is stale, and by whom,
-/// hangs on the history and the order alone.
-pub fn moves_of_a_key()
+/// The moves of a key are those of its unit. Their movers precede one another in the order of the moves, and each of them
+/// is a move of the unit that was annotated with the number of moves before its own. After a part of the history the moves
+/// of a unit are the first ones of the history, made by members of the part. A transaction of a part sees at a key that it
+/// uses the mover that follows its annotated moves in the whole history, if that one precedes it, and else none: so whether
+/// it is stale, and by whom, hangs on the history and the order alone.
+pub fn moves_of_a_unit()
     ensures in_order { (procs : List ProcTree) (precedes : TxnId → TxnId → Bool) (start : Table) (history : List Txn) →
         IsHistory procs (ByTest precedes) start history → (key : Bytes) →
         EachThen (λ m n. ByTest precedes m.by n.by) (moves_of (table_after procs history start) key) }
     ensures numbered { (procs : List ProcTree) (precedes : TxnId → TxnId → Bool) (start : Table) (history : List Txn) →
         IsHistory procs (ByTest precedes) start history → (key : Bytes) (i : ℕ) (m : Moved) →
         slice_get (moves_of (table_after procs history start) key) i ≡ Some m →
-        AnyIn (λ x. (x.id ≡ m.by) × (x.body ≡ Move key m.target) × AllIn (λ a. a.key ≡ key → a.counter ≡ i) x.access) history }
+        AnyIn (λ x. (x.id ≡ m.by) × (x.body ≡ Move (unit_of start.version key) m.target)
+        × AllIn (λ a. unit_of start.version a.key ≡ unit_of start.version key → a.counter ≡ i) x.access) history }
     ensures first { (procs : List ProcTree) (precedes : TxnId → TxnId → Bool) (start : Table) (history txns : List Txn) →
         IsPart procs (ByTest precedes) start history txns → (key : Bytes) →
         IsFront (moves_of (table_after procs txns start) key) (moves_of (table_after procs history start) key) }
@@ -60,8 +62,8 @@ pub fn moves_of_a_key()
         ((next_mover (table_after procs history start) a.key a.counter ≡ Some by) × ByTest precedes by x.id)) x.access }
 {}
 
-/// When a transaction of a part of a history runs, no key that it uses has been moved less often than it was annotated
-/// with. If it is not stale, they have been moved just as often.
+/// When a transaction of a part of a history runs, the unit of no key that it uses has been moved less often than it was
+/// annotated with. If it is not stale, they have been moved just as often.
 pub fn reached_counters()
     ensures reached { (procs : List ProcTree) (precedes : TxnId → TxnId → Bool) (start : Table) (history front : List Txn) (x : Txn) (rest : List Txn) →
         IsPart procs (ByTest precedes) start history (front ++ x ∷ rest) →

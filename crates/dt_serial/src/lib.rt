@@ -11,8 +11,8 @@
 //! - A *part* of a history (`IsPart`) is what one region may have run: some of its transactions, in an order of the
 //!   region's own, each after all that precedes it.
 //! - The laws hold of every part. `one_outcome`: each transaction has the outcome that it has in the history. `one_table`:
-//!   the table hangs on which transactions are in the part, and not on their order. `moves_of_a_key`: the moves of a key
-//!   are the first ones that it has in the history. `reached_counters`: no key was moved less often than a transaction
+//!   the table hangs on which transactions are in the part, and not on their order. `moves_of_a_unit`: the moves of a unit
+//!   are the first ones that it has in the history. `reached_counters`: no unit was moved less often than a transaction
 //!   that runs was annotated with. `across_moves` orders transactions on both sides of a move. `reasons`: an abort or a
 //!   stale attempt has its cause.
 //!
@@ -23,10 +23,14 @@
 //! was annotated before it is stale after it, and changes nothing. But the move precedes that payment or follows it
 //! everywhere alike, so it is stale in all parts or in none.
 //!
+//! Of units and of what clashes the laws use four things, which are facts of dt_access: what clashes is of one unit; a move's
+//! entry clashes with each entry of its unit; entries of one key clash where one of them may write; and it does not matter
+//! which of two entries comes first. So they hold in both versions, where a unit is a key and where it is a granule.
+//!
 //! Read `specs/Order.antt` first, then `src/laws.rt`. That the regions of a legal run execute parts of one history is
 //! shown in the crate of the agreement, above this one.
 #![tactic(auto)]
 
 mod laws;
 
-pub use laws::{across_moves, moves_of_a_key, one_outcome, one_table, reached_counters, reasons};
+pub use laws::{across_moves, moves_of_a_unit, one_outcome, one_table, reached_counters, reasons};

@@ -1,9 +1,9 @@
 pub mod Callers
 pub mod Entries
+pub mod ByBytes
 pub mod MoveHistories
-pub mod StoredRows
-pub mod ChangedInPlace
+pub mod StoredUnits
 pub mod OpeningTable
 pub mod SortedEntries
-pub mod ShownRows
+pub mod ShownKeys
 pub mod TableLaws

@@ -1,4 +1,4 @@
--- What a push to the list of all moves does to the history of each row, and how a history is walked back.
+-- What a push to the list of all moves does to the history of each unit, and how a history is walked back.
 use Rattle.std.proofs.Common.{◌≡◌, ℕ, zero, suc, ◌+◌, ◌<◌, ◌≤◌, List, [], ◌∷◌, ◌++◌, length, get_or, slice_get, ◌↔◌, is_some, IsSome, true, true≢false, refl, sym, ap, subst, ◌∙◌, arith, Option, Some, None, length-append, add-zero, add-one}
 use Rattle.std.proofs.Math.ListN.{get_or-append}
 use Rattle.std.proofs.Math.Seq.{get_or-append_seam}
@@ -39,7 +39,7 @@ below_all : (ms : List StoredMove) (last : Option ℕ) → IsBelow (length ms) l
 below_all ms None below = tt
 below_all ms (Some place) below = omega (arith, length-histories_after [] ms)
 
--- a push leaves the history of each row whose last move stands in the list
+-- a push leaves the history of each unit whose last move stands in the list
 pub history-push_other : (ms : List StoredMove) (m : StoredMove) (last : Option ℕ) → IsBelow (length ms) last → history (ms ++ m ∷ []) last ≡ history ms last
 history-push_other ms m last below =
     ap (λ hs. history_at hs last) (histories_after-push [] ms m)
@@ -84,10 +84,6 @@ history-walked ms p d linked within =
     let place : p ≡ 0 + p = omega arith in
     ap (λ (n : ℕ). get_or (histories_after [] ms) n []) place ∙ walked [] ms p d linked within
 
-more_below : (k n : ℕ) (last : Option ℕ) → k ≤ n → IsBelow k last → IsBelow n last
-more_below k n None le below = tt
-more_below k n (Some place) le below = omega arith
-
 -- the move at each place follows an earlier one, or none
 linked_at : (place : ℕ) (ms : List StoredMove) (p : ℕ) (d : StoredMove) → AreLinked place ms → p < length ms → IsBelow (place + p) (get_or ms p d).before
 linked_at place [] p d linked within = absurd (omega arith)
@@ -95,25 +91,6 @@ linked_at place (m ∷ ms) zero d linked within = subst (λ n. IsBelow n m.befor
 linked_at place (m ∷ ms) (suc p) d linked within =
     let next : (place + 1) + p ≡ place + suc p = omega arith in
     subst (λ n. IsBelow n (get_or ms p d).before) next (linked_at (place + 1) ms p d linked.1 (omega arith))
-
-length-history_below : (ms : List StoredMove) → AreLinked 0 ms → (n : ℕ) (last : Option ℕ) → n ≤ length ms → IsBelow n last → length (history ms last) ≤ n
-length-history_below ms linked n None le below = omega arith
-length-history_below ms linked zero (Some p) le below = absurd (omega arith)
-length-history_below [] linked (suc n) (Some p) le below = absurd (omega arith)
-length-history_below (m ∷ ms) linked (suc n) (Some p) le below =
-    let all = m ∷ ms in
-    let within : p < length all = omega arith in
-    let earlier : IsBelow n (get_or all p m).before = more_below (0 + p) n (get_or all p m).before (omega arith) (linked_at 0 all p m linked within) in
-    omega (
-      arith,
-      ap length (history-walked all p m linked within),
-      length-append (history all (get_or all p m).before) (moved_of (get_or all p m) ∷ []),
-      length-history_below all linked n (get_or all p m).before (omega arith) earlier,
-    )
-
--- no row has more moves than there are
-pub length-history : (ms : List StoredMove) (last : Option ℕ) → AreLinked 0 ms → IsBelow (length ms) last → length (history ms last) ≤ length ms
-length-history ms last linked below = length-history_below ms linked (length ms) last (omega arith) below
 
 module _ (ms : List StoredMove) (p : ℕ) (d : StoredMove) (linked : AreLinked 0 ms) (within : p < length ms) where
   -- one step back: the history is one shorter

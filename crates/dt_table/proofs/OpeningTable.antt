@@ -1,18 +1,12 @@
--- A list with distinct keys is entered into a map entry by entry, and the table that opens so.
+-- A list with distinct keys is entered into a map entry by entry.
 use Rattle.std.proofs.Common.{◌≡◌, ℕ, zero, suc, ◌+◌, ◌<◌, false, cond, List, [], ◌∷◌, ◌++◌, map, length, take, get_or, refl, sym, ap, ◌∙◌, arith, Some}
 use Rattle.std.proofs.lemmas.List.{map-id, map-append, take_more}
-use Rattle.std.specs.FinMap.{from_entries}
 use Rattle.indexmap.specs.IndexMap.{insert_entry}
 use Rattle.dt_lists.specs.Lists.{AllIn}
 use Rattle.dt_access.specs.Clash.{Bytes, same_key}
 use Rattle.dt_access.specs.Orders.{HasDistinctKeys}
 use Rattle.dt_text.specs.declared.Value.{Value}
-use Rattle.dt_table.specs.Table.{Table, Row, opening}
-use Rattle.dt_table.specs.StoredRowInner.{opening_row}
-use Rattle.dt_table.specs.StoredMovesInner.{row_in, FitsMoves}
 use Rattle.dt_table.proofs.TableLaws.{same_key-other}
-use Rattle.dt_table.specs.declared.stored.StoredMove.{StoredMove}
-use Rattle.dt_table.specs.declared.stored.StoredRow.{StoredRow}
 
 at_place : {A : Type 0} (P : Bytes → Type 0) (xs : List (Bytes × A)) (i : ℕ) (d : Bytes × A) → AllIn P (map (λ e. e.0) xs) → i < length xs → P (get_or xs i d).0
 at_place P [] i d all within = absurd (omega arith)
@@ -46,30 +40,6 @@ next-entry xs i d distinct within =
     let x = get_or xs i d in
     ap (λ es. insert_entry same_key es x.0 x.1) (sym (map-id (take i xs))) ∙ map-next (λ e. e) (λ _. refl) xs i d distinct within ∙ map-id (take (i + 1) xs)
 
-pub next-opening_row : (regions : ℕ) (homes : List (Bytes × ℕ)) (rows : List (Bytes × Value)) (i : ℕ) (d : Bytes × Value) → HasDistinctKeys rows → i < length rows
-    → insert_entry same_key (map (opening_row regions homes) (take i rows)) (get_or rows i d).0 (opening_row regions homes (get_or rows i d)).1 ≡ map (opening_row regions homes) (take (i + 1) rows)
-next-opening_row regions homes rows i d distinct within = map-next (opening_row regions homes) (λ _. refl) rows i d distinct within
-
--- ---- the table that opens so
-
--- shows the values that are listed, and no move
-shown-opened : (regions : ℕ) (homes : List (Bytes × ℕ)) (rows : List (Bytes × Value))
-    → map {B = Bytes × Row} (λ e. (e.0, row_in [] e.1)) (map (opening_row regions homes) rows) ≡ map (λ r. (r.0, record { value = Some r.1; moves = [] })) rows
-shown-opened regions homes [] = refl
-shown-opened regions homes (r ∷ rows) = ap (λ l. (r.0, record { value = Some r.1; moves = [] }) ∷ l) (shown-opened regions homes rows)
-
-pub state-opened : (regions : ℕ) (homes : List (Bytes × ℕ)) (rows : List (Bytes × Value)) (index : List (Bytes × ℕ)) (stored : List (Bytes × StoredRow)) (moves : List StoredMove)
-    → index ≡ homes → stored ≡ map (opening_row regions index) rows → moves ≡ []
-    → ◌≡◌ {A = Table} (record { regions = regions; homes = index; rows = from_entries (map (λ e. (e.0, row_in moves e.1)) stored) }) (opening regions homes rows)
-state-opened regions homes rows index stored moves same is none =
-    (λ i. record { regions = regions; homes = same i; rows = from_entries (map (λ e. (e.0, row_in (none i) e.1)) (is i)) })
-    ∙ ap (λ es. record { regions = regions; homes = homes; rows = from_entries es }) (shown-opened regions index rows)
-
--- and each row fits its moves
-stored-opening : (regions : ℕ) (homes : List (Bytes × ℕ)) (rows : List (Bytes × Value)) → AllIn (FitsMoves regions homes []) (map (opening_row regions homes) rows)
-stored-opening regions homes [] = tt
-stored-opening regions homes (r ∷ rows) = (record { last = tt; counter = refl; home = refl }, stored-opening regions homes rows)
-
-pub stored-opened : (regions : ℕ) (homes : List (Bytes × ℕ)) (rows : List (Bytes × Value)) (stored : List (Bytes × StoredRow)) (moves : List StoredMove)
-    → stored ≡ map (opening_row regions homes) rows → moves ≡ [] → AllIn (FitsMoves regions homes moves) stored
-stored-opened regions homes rows stored moves is none = rw (is, none) (stored-opening regions homes rows)
+pub next-opening_value : (rows : List (Bytes × Value)) (i : ℕ) (d : Bytes × Value) → HasDistinctKeys rows → i < length rows
+    → insert_entry same_key (map (λ r. (r.0, Some r.1)) (take i rows)) (get_or rows i d).0 (Some (get_or rows i d).1) ≡ map (λ r. (r.0, Some r.1)) (take (i + 1) rows)
+next-opening_value rows i d distinct within = map-next (λ r. (r.0, Some r.1)) (λ _. refl) rows i d distinct within

@@ -9,19 +9,24 @@ use Rattle.dt_access.specs.contracts.id.TxnId as id
 use Rattle.dt_access.specs.declared.TxnId.{TxnId}
 use Rattle.dt_text.specs.contracts.value.Value as value
 use Rattle.dt_text.specs.declared.Value.{Value}
-use Rattle.dt_table.specs.Table.{Moved, Row, Table, TableView}
+use Rattle.dt_table.specs.Table.{Moved, Table, TableView}
 
 abbrev moved_code : Coded Moved
 moved_code = code_by (ℕ × TxnId) (coded× coded_ℕ id.the_row.coded) (λ m. (m.target, m.by)) (λ p. record { target = p.0; by = p.1 }) (λ _. refl)
 
-abbrev row_code : Coded Row
-row_code = code_by (Option Value × List Moved) (coded× (coded_option value.the_row.coded) (coded_list moved_code)) (λ r. (r.value, r.moves)) (λ p. record { value = p.0; moves = p.1 }) (λ _. refl)
+abbrev values_code : Coded (map.FinMap (slice_cmp nat_cmp) (Option Value))
+values_code = map.code (coded_list coded_ℕ) (coded_option value.the_row.coded)
+
+abbrev moves_code : Coded (map.FinMap (slice_cmp nat_cmp) (List Moved))
+moves_code = map.code (coded_list coded_ℕ) (coded_list moved_code)
 
 -- a table is stored as its fields
 abbrev pub table_code : Coded Table
-table_code = code_by (ℕ × (List (Bytes × ℕ) × map.FinMap (slice_cmp nat_cmp) Row))
-    (coded× coded_ℕ (coded× (coded_list (coded× (coded_list coded_ℕ) coded_ℕ)) (map.code (coded_list coded_ℕ) row_code)))
-    (λ t. (t.regions, (t.homes, t.rows))) (λ p. record { regions = p.0; homes = p.1.0; rows = p.1.1 }) (λ _. refl)
+table_code = code_by (ℕ × (ℕ × (List (Bytes × ℕ) × (map.FinMap (slice_cmp nat_cmp) (Option Value) × map.FinMap (slice_cmp nat_cmp) (List Moved)))))
+    (coded× coded_ℕ (coded× coded_ℕ (coded× (coded_list (coded× (coded_list coded_ℕ) coded_ℕ)) (coded× values_code moves_code))))
+    (λ t. (t.version, (t.regions, (t.homes, (t.values, t.moves)))))
+    (λ p. record { version = p.0; regions = p.1.0; homes = p.1.1.0; values = p.1.1.1.0; moves = p.1.1.1.1 })
+    (λ _. refl)
 
 -- and with its room
 abbrev pub table_view_code : Coded TableView

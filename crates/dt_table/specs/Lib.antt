@@ -1,4 +1,4 @@
 pub mod Table
 pub mod CodesInner
-pub mod StoredRowInner
+pub mod StoredUnitInner
 pub mod StoredMovesInner

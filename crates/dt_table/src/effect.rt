@@ -6,6 +6,6 @@ use dt_text::Key;
 pub struct Effect {
     /// The new values, or none, of keys.
     pub writes: Writes,
-    /// A key's new home, and the mover.
+    /// A unit's new home, and the mover.
     pub moved: Option<(Key, u8, TxnId)>,
 }

@@ -1,64 +1,73 @@
-ghost use Rattle.std.specs.Prelude.{◌≡◌, IfOk, map, flat_map};
-ghost use Rattle.std.specs.Map.Iter.{deref_pair};
-ghost use Rattle.dt_table.specs.StoredRowInner.{in_key_order, is_shown, shown_as, shown_stored};
+ghost use Rattle.std.specs.Prelude.{◌≡◌, ◌++◌, IfOk, OnOk};
+ghost use Rattle.std.specs.List.{IsDistinct};
+ghost use Rattle.std.specs.Map.{keys_of};
+ghost use Rattle.dt_access.specs.Clash.{same_key};
+ghost use Rattle.dt_lists.specs.Lists.{AllIn};
+ghost use Rattle.dt_text.specs.Texts.{IsKey};
+ghost use Rattle.dt_table.specs.StoredUnitInner.{by_bytes, has_value, moved_without_value, with_value};
 
-use crate::stored::StoredRow;
+use crate::stored::StoredUnit;
 use dt_text::{Key, Listed, NoMemory, Value};
 use indexmap::IndexMap;
 use std::alloc::Global;
 
-/// A row as a report shows it.
+/// A key as a report shows it.
 #[derive(Drop)]
 pub struct Shown {
     pub key: Key,
     pub value: Option<Value>,
     /// The present home.
     pub home: u8,
-    /// How often the row was moved.
+    /// How often its unit was moved.
     pub moves: u32,
 }
 
-/// Rows as a report shows them.
+/// Keys as a report shows them.
 pub type ShownList = Listed<Shown>;
 
-/// What a report shows of these rows, in ascending order of keys.
-pub fn shown_rows(alloc: Global, rows: &IndexMap<Key, StoredRow>) -> Result<ShownList, NoMemory>
-    ensures { IfOk result (λ list. list ≡ flat_map shown_stored (in_key_order rows.now.entries)) }
+/// The keys that have a value.
+pub fn keys_with_value(
+    alloc: Global,
+    values: &IndexMap<Key, Option<Value>>,
+) -> Result<Vec<Key>, NoMemory>
+    ensures keys { IfOk result (λ keys. keys.items ≡ with_value values.now.entries) }
+    ensures once { OnOk result (IsDistinct same_key (keys_of values.now.entries)) }
 {
-    let sorted = sorted_by_key(alloc, rows)?;
-    let mut list = ShownList::new(alloc);
-    for (key, row) in &sorted {
-        if row.value.is_some() || row.counter > 0 {
-            list.push(shown_copy(alloc, key, row)?)?;
+    let mut keys = Vec::new(alloc);
+    for (key, value) in values {
+        if value.is_some() {
+            keys.push(key.copy(alloc)?)?;
         }
     }
-    Ok(list)
+    Ok(keys)
 }
 
-// The rows with their keys, in ascending order of keys.
-fn sorted_by_key(
+/// Adds the units that were moved and have no value as keys.
+pub fn add_moved_units(
     alloc: Global,
-    rows: &IndexMap<Key, StoredRow>,
-) -> Result<Vec<(&Key, &StoredRow)>, NoMemory>
-    ensures { IfOk result (λ sorted. map deref_pair sorted.items ≡ in_key_order rows.now.entries) }
+    keys: &mut Vec<Key>,
+    values: &IndexMap<Key, Option<Value>>,
+    units: &IndexMap<Vec<u8>, StoredUnit>,
+) -> Result<(), NoMemory>
+    requires { AllIn (λ e. IsKey e.0) (by_bytes units.now.entries) }
+    ensures keys { OnOk result (keys.new.items ≡ keys.old.items ++ moved_without_value values.now.entries (by_bytes units.now.entries)) }
+    ensures once { OnOk result (IsDistinct same_key (keys_of (by_bytes units.now.entries))) }
 {
-    let mut sorted: Vec<(&Key, &StoredRow)> = rows.iter().collect(alloc)?;
-    sorted.sort_by(|left, right| left.0.cmp(right.0))?;
-    Ok(sorted)
+    for (unit, stored) in units {
+        let key = Key::new(alloc, unit.as_slice())?;
+        if stored.counter > 0 && !has_value(values, &key) {
+            keys.push(key)?;
+        }
+    }
+    Ok(())
 }
 
-// The row of a key, as a report shows it.
-fn shown_copy(alloc: Global, key: &Key, row: &StoredRow) -> Result<Shown, NoMemory>
-    ensures { IfOk result (λ copied. copied ≡ shown_as (key.now, row.now)) }
+// Whether a key has a value.
+fn has_value(values: &IndexMap<Key, Option<Value>>, key: &Key) -> bool
+    ensures { result ≡ has_value values.now.entries key.now }
 {
-    let value = match &row.value {
-        Some(value) => Some(value.copy(alloc)?),
-        None => None,
-    };
-    Ok(Shown {
-        key: key.copy(alloc)?,
-        value,
-        home: row.home,
-        moves: row.counter,
-    })
+    match values.get(key) {
+        Some(value) => value.is_some(),
+        None => false,
+    }
 }

@@ -1,48 +1,51 @@
-ghost use Rattle.std.specs.Prelude.{◌≡◌, ◌+◌, ◌-◌, ◌^◌, ◌<◌, ◌≤◌, ◌↔◌, ℕ, length, map, IsTrue, IsOk, IsSome, IfOk, OnOk, OnErr, None};
+ghost use Rattle.std.specs.Prelude.{◌≡◌, ◌+◌, ◌^◌, ◌<◌, ◌≤◌, ◌↔◌, ℕ, IsOk, IsSome, IfOk, OnOk};
 ghost use Rattle.std.specs.Option.{option_copied};
 ghost use Rattle.dt_access.specs.Orders.{HasDistinctKeys};
-ghost use Rattle.dt_table.specs.Table.{value_of, home_of, counter_of, next_mover, written, moved, apply, opening, shown, places_for};
+ghost use Rattle.dt_text.specs.Texts.{IsKey};
+ghost use Rattle.dt_table.specs.Table.{value_of, home_of, counter_of, next_mover, written, moved, apply, opening, shown, shown_at, places_for, IsUnit, MovesUnit, HasPlaceFor};
 
 use crate::effect::Effect;
-use crate::shown::{ShownList, shown_rows};
-use crate::stored::{
-    StoredMove, StoredRow, index_homes, mover_of, next_mover_of, opening_home, opening_rows,
-    put_move, put_value,
+use crate::shown::{Shown, ShownList, add_moved_units, keys_with_value};
+use crate::stored::{StoredMove, StoredUnit, mover_of, next_mover_of, opening_values, put_value};
+use crate::units::{
+    index_homes, opening_home, put_unit, stored_or_fresh, stored_unit,
 };
-use dt_access::TxnId;
+use dt_access::{TxnId, unit_bytes};
 use dt_text::{Key, NoMemory, Value};
 use indexmap::IndexMap;
 use std::alloc::Global;
 use std::marker::Model;
 
-/// Where a row is mastered.
+/// Where a key is mastered.
 #[derive(Clone, Copy, Debug, PartialEq, Eq)]
 pub struct Mastership {
-    /// The region that orders what touches the row.
+    /// The region that orders what touches the key.
     pub home: u8,
-    /// How often the row was moved.
+    /// How often the key's unit was moved.
     pub counter: u32,
 }
 
-/// What a table has of one row.
+/// What a table has of one key.
 #[derive(Drop)]
 pub struct TableRow<'a> {
     /// Its value, or none.
     pub value: Option<&'a Value>,
-    /// How often it was moved.
+    /// How often its unit was moved.
     pub counter: u32,
     /// Who made the move that was asked for, if there is one.
     pub mover: Option<TxnId>,
 }
 
-/// The rows of a region.
+/// The table of a region.
 ///
 /// Contracts see its `state`, and as `spare` how many writes and moves it has room for, so that `apply` takes no memory.
 #[derive(Drop)]
 pub struct Table {
+    version: u8,
     regions: u8,
-    homes: IndexMap<Key, u8>,
-    rows: IndexMap<Key, StoredRow>,
+    homes: IndexMap<Vec<u8>, u8>,
+    values: IndexMap<Key, Option<Value>>,
+    units: IndexMap<Vec<u8>, StoredUnit>,
     moves: Vec<StoredMove>,
 }
 
@@ -62,10 +65,11 @@ impl Model for Table {
 }
 
 impl Table {
-    /// A table before any transaction, of a cluster with so many regions: these rows have these values, and none was
-    /// moved. A key that `homes` does not list has its first byte modulo `regions` as its home.
+    /// A table before any transaction, of a cluster of this version with so many regions: these rows have these values,
+    /// and no unit was moved. A unit that `homes` does not list has its first byte modulo `regions` as its home.
     pub fn new(
         alloc: Global,
+        version: u8,
         regions: u8,
         homes: &[(Key, u8)],
         rows: &[(Key, Value)],
@@ -73,73 +77,82 @@ impl Table {
         requires regions { 0 < regions }
         requires homes { HasDistinctKeys homes.now }
         requires rows { HasDistinctKeys rows.now }
-        ensures { IfOk result (λ table. table.state ≡ opening regions homes.now rows.now) }
+        ensures { IfOk result (λ table. table.state ≡ opening version regions homes.now rows.now) }
     {
-        let homes = index_homes(alloc, homes)?;
-        let rows = opening_rows(alloc, regions, &homes, rows)?;
         Ok(Table {
+            version,
             regions,
-            homes,
-            rows,
+            homes: index_homes(alloc, homes)?,
+            values: opening_values(alloc, rows)?,
+            units: IndexMap::new(alloc),
             moves: Vec::new(alloc),
         })
+    }
+
+    /// The version of the cluster that the table is of.
+    pub fn version(&self) -> u8
+        ensures { result ≡ self.now.state.version }
+    {
+        self.version
     }
 
     /// The value of a key. None exactly where it has none.
     pub fn get(&self, key: &Key) -> Option<&Value>
         ensures { option_copied result ≡ value_of self.now.state key.now }
     {
-        self.rows.get(key)?.value.as_ref()
+        self.values.get(key)?.as_ref()
     }
 
-    /// The present home of a key, and how often it was moved.
+    /// The present home of a key, and how often its unit was moved.
     pub fn mastership(&self, key: &Key) -> Mastership
         ensures home { result.home ≡ home_of self.now.state key.now }
         ensures counter { result.counter ≡ counter_of self.now.state key.now }
     {
-        match self.rows.get(key) {
-            Some(row) => Mastership {
-                home: row.home,
-                counter: row.counter,
+        let unit = unit_bytes(self.version, key);
+        match stored_unit(&self.units, unit) {
+            Some(stored) => Mastership {
+                home: stored.home,
+                counter: stored.counter,
             },
             None => Mastership {
-                home: opening_home(&self.homes, self.regions, key),
+                home: opening_home(&self.homes, self.regions, unit),
                 counter: 0,
             },
         }
     }
 
-    /// Who made the move `number` of a key, counted from 1. None exactly where there is no such move.
+    /// Who made the move `number` of a key's unit, counted from 1. None exactly where there is no such move.
     pub fn mover(&self, key: &Key, number: u32) -> Option<TxnId>
         ensures mover { (before : ℕ) → number ≡ before + 1 → result ≡ next_mover self.now.state key.now before }
         ensures some { IsSome result ↔ ((0 < number) × (number ≤ counter_of self.now.state key.now)) }
         ensures few { counter_of self.now.state key.now < 2 ^ 32 }
     {
-        mover_of(&self.moves, self.rows.get(key)?, number)
+        let stored = stored_unit(&self.units, unit_bytes(self.version, key))?;
+        mover_of(&self.moves, stored, number)
     }
 
-    /// What the table has of a key, by one look-up. The mover is that of the move which follows the first `had` ones.
+    /// What the table has of a key. The mover is that of the move of its unit which follows the first `had` ones.
     pub fn row(&self, key: &Key, had: u32) -> TableRow<'_>
         ensures value { option_copied result.value ≡ value_of self.now.state key.now }
         ensures counter { result.counter ≡ counter_of self.now.state key.now }
         ensures mover { result.mover ≡ next_mover self.now.state key.now had }
     {
-        match self.rows.get(key) {
-            Some(row) => TableRow {
-                value: row.value.as_ref(),
-                counter: row.counter,
-                mover: next_mover_of(&self.moves, row, had),
+        let value = self.get(key);
+        match stored_unit(&self.units, unit_bytes(self.version, key)) {
+            Some(stored) => TableRow {
+                value,
+                counter: stored.counter,
+                mover: next_mover_of(&self.moves, stored, had),
             },
             None => TableRow {
-                value: None,
+                value,
                 counter: 0,
                 mover: None,
             },
         }
     }
 
-    /// Makes room for so many writes and moves, of any keys. Nothing else changes, whatever the answer. A table keeps at
-    /// most 4,294,967,295 moves, so `NoMemory` comes also where more could follow.
+    /// Makes room for so many writes and moves, of any keys. Nothing else changes, whatever the answer.
     pub fn reserve(&mut self, places: u32) -> Result<(), NoMemory>
         ensures state { self.new.state ≡ self.old.state }
         ensures room { OnOk result (places ≤ self.new.spare) }
@@ -147,17 +160,18 @@ impl Table {
         ensures succeeds { places ≤ self.old.spare → IsOk result }
     {
         let places = places as usize;
-        if u32::MAX as usize - self.moves.len() < places {
-            return Err(NoMemory);
-        }
-        self.rows.reserve(places)?;
+        self.values.reserve(places)?;
+        self.units.reserve(places)?;
         self.moves.reserve(places)?;
         Ok(())
     }
 
-    /// Makes the changes of a transaction. Takes no memory. All other keys stay as they were.
+    /// Makes the changes of a transaction. Takes no memory. All other keys and units stay as they were. What it moves is
+    /// a unit with fewer than 4,294,967,295 moves so far.
     pub fn apply(&mut self, effect: Effect)
-        requires { places_for effect ≤ self.old.spare }
+        requires room { places_for effect ≤ self.old.spare }
+        requires unit { MovesUnit self.old.state.version effect.moved }
+        requires place { HasPlaceFor effect.moved self.old.state }
         ensures state { self.new.state ≡ apply effect self.old.state }
         ensures spare { self.old.spare ≤ self.new.spare + places_for effect }
     {
@@ -165,16 +179,40 @@ impl Table {
         for (key, value) in writes.into_vec() {
             self.write(key, value);
         }
-        if let Some((key, target, by)) = moved {
-            self.record_move(key, target, by);
+        if let Some((unit, target, by)) = moved {
+            self.record_move(unit, target, by);
         }
     }
 
-    /// What a report shows: each key with a value or a move, in ascending order of keys.
+    /// What a report shows: each key that has a value or is a unit with a move, in ascending order of keys.
     pub fn shown(&self, alloc: Global) -> Result<ShownList, NoMemory>
         ensures { IfOk result (λ list. list ≡ shown self.now.state) }
     {
-        shown_rows(alloc, &self.rows)
+        let mut keys = keys_with_value(alloc, &self.values)?;
+        add_moved_units(alloc, &mut keys, &self.values, &self.units)?;
+        keys.sort()?;
+        let mut list = ShownList::new(alloc);
+        for key in keys {
+            list.push(self.shown_at(alloc, key)?)?;
+        }
+        Ok(list)
+    }
+
+    // A key, as a report shows it.
+    fn shown_at(&self, alloc: Global, key: Key) -> Result<Shown, NoMemory>
+        ensures { IfOk result (λ shown. shown ≡ shown_at self.now.state key) }
+    {
+        let value = match self.get(&key) {
+            Some(value) => Some(value.copy(alloc)?),
+            None => None,
+        };
+        let Mastership { home, counter } = self.mastership(&key);
+        Ok(Shown {
+            key,
+            value,
+            home,
+            moves: counter,
+        })
     }
 
     // Gives a key its value or none.
@@ -183,18 +221,31 @@ impl Table {
         ensures state { self.new.state ≡ written self.old.state key value }
         ensures spare { self.old.spare ≤ self.new.spare + 1 }
     {
-        put_value(&mut self.rows, &self.homes, self.regions, key, value);
+        put_value(&mut self.values, key, value);
     }
 
-    // Moves a key.
-    fn record_move(&mut self, key: Key, target: u8, by: TxnId)
-        requires { 0 < self.old.spare }
-        ensures state { self.new.state ≡ moved self.old.state key target by }
+    // Moves a unit.
+    fn record_move(&mut self, unit: Key, target: u8, by: TxnId)
+        requires room { 0 < self.old.spare }
+        requires key { IsKey unit }
+        requires unit { IsUnit self.old.state.version unit }
+        requires place { counter_of self.old.state unit + 1 < 2 ^ 32 }
+        ensures state { self.new.state ≡ moved self.old.state unit target by }
         ensures spare { self.old.spare ≤ self.new.spare + 1 }
     {
-        let place = self.moves.len() as u32;
-        let before = put_move(&mut self.rows, key, target, place);
-        let added = StoredMove { target, by, before };
+        let bytes = unit.into_bytes();
+        let before = stored_or_fresh(&self.units, bytes.as_slice(), target);
+        let stored = StoredUnit {
+            home: target,
+            counter: before.counter + 1,
+            last: Some(self.moves.len()),
+        };
+        put_unit(&mut self.units, bytes, stored);
+        let added = StoredMove {
+            target,
+            by,
+            before: before.last,
+        };
         match self.moves.push(added) {
             Ok(()) => (),
             Err(_) => unreachable!(),

@@ -1,5 +1,8 @@
 //! Rows: their values, homes and moves after changes, and which of them are shown.
-use dt_access::{TxnId, Writes};
+ghost use Rattle.std.specs.Prelude.{◌≡◌, IsTrue};
+ghost use Rattle.dt_table.specs.Table.{IsUnit};
+
+use dt_access::{TxnId, Writes, is_granule};
 use dt_table::{Effect, Table};
 use dt_text::{Key, NoMemory, Value, put_u64, put_value};
 use std::alloc::Global;
@@ -24,11 +27,11 @@ fn key_of(alloc: Global, bytes: &[u8]) -> Result<Key, Fail> {
     Ok(Key::read(alloc, bytes)?)
 }
 
-/// A table of three regions, with a row `b` and a home for `ab`.
-fn opened(alloc: Global) -> Result<Table, Fail> {
+/// A table of three regions in this version, with a row `b` and a home for `ab`.
+fn opened(alloc: Global, version: u8) -> Result<Table, Fail> {
     let homes = [(Key::read(alloc, b"ab")?, 0)];
     let rows = [(Key::read(alloc, b"b")?, Value::Int(7))];
-    Ok(Table::new(alloc, 3, homes.as_slice(), rows.as_slice())?)
+    Ok(Table::new(alloc, version, 3, homes.as_slice(), rows.as_slice())?)
 }
 
 /// Gives a key a value or none.
@@ -43,10 +46,23 @@ fn put(table: &mut Table, alloc: Global, key: Key, value: Option<Value>) -> Resu
     Ok(())
 }
 
-/// Moves a key, by the transaction of this number in region 0.
+/// Whether a key is a unit of this version.
+fn is_unit(version: u8, key: &Key) -> bool
+    ensures { IsTrue result → IsUnit version key.now }
+{
+    if version == 2 {
+        return is_granule(key);
+    }
+    true
+}
+
+/// Moves a unit, by the transaction of this number in region 0.
 fn move_to(table: &mut Table, alloc: Global, key: Key, target: u8, seq: u32) -> Result<(), Fail> {
+    if !is_unit(table.version(), &key) {
+        return Err(Fail::from("a unit is moved"));
+    }
     if table.mastership(&key).counter > 1000 {
-        return Err(Fail::from("a key has few moves"));
+        return Err(Fail::from("a unit has few moves"));
     }
     table.reserve(1)?;
     table.apply(Effect {
@@ -108,9 +124,14 @@ fn put_shown(alloc: Global, out: &mut Vec<u8>, table: &Table) -> Result<(), NoMe
     Ok(())
 }
 
-/// What a key has, and what a table shows, after these changes of keys.
-fn told(alloc: Global, changes: &[(&[u8], Change)], key: &[u8]) -> Result<Vec<u8>, Fail> {
-    let mut table = opened(alloc)?;
+/// What a key has, and what a table of this version shows, after these changes of keys.
+fn told(
+    alloc: Global,
+    version: u8,
+    changes: &[(&[u8], Change)],
+    key: &[u8],
+) -> Result<Vec<u8>, Fail> {
+    let mut table = opened(alloc, version)?;
     for (changed, how) in changes {
         make(&mut table, alloc, changed, *how)?;
     }
@@ -167,14 +188,66 @@ const ROWS: [(&[(&[u8], Change)], &[u8], &[u8]); 10] = [
 #[test]
 fn rows_have_what_the_changes_gave_them(rt: HostRuntime) -> Result<(), Fail> {
     for (changes, key, want) in ROWS {
-        assert_eq!(rt; told(rt.alloc(), changes, key)?.as_slice(), want);
+        assert_eq!(rt; told(rt.alloc(), 1, changes, key)?.as_slice(), want);
+    }
+    Ok(())
+}
+
+/// A version, changes, a key, and what is told of them.
+const UNITS: [(u8, &[(&[u8], Change)], &[u8], &[u8]); 6] = [
+    // In version 1 a move of `b` leaves `b/1` where it is.
+    (
+        1,
+        &[(b"b/1", Change::Put(1)), (b"b", Change::Move(1, 9))],
+        b"b/1",
+        b"1@2 - -; b=7@1*1; b/1=1@2*0",
+    ),
+    // In version 2 it takes `b/1` along, and also a key that is written later, or never.
+    (
+        2,
+        &[(b"b/1", Change::Put(1)), (b"b", Change::Move(1, 9))],
+        b"b/1",
+        b"1@1 - 9 -; b=7@1*1; b/1=1@1*1",
+    ),
+    (
+        2,
+        &[(b"b", Change::Move(1, 9)), (b"b/x/y", Change::Put(3))],
+        b"b/2",
+        b"none@1 - 9 -; b=7@1*1; b/x/y=3@1*1",
+    ),
+    // But not `b-1` or `b.`, which stand between `b` and `b/` in byte order.
+    (
+        2,
+        &[(b"b-1", Change::Put(2)), (b"b", Change::Move(1, 9))],
+        b"b-1",
+        b"2@2 - -; b=7@1*1; b-1=2@2*0",
+    ),
+    // A unit that was moved is shown once, where it stands among the keys.
+    (
+        2,
+        &[
+            (b"c/1", Change::Put(4)),
+            (b"c", Change::Move(2, 5)),
+            (b"c", Change::Move(1, 6)),
+        ],
+        b"c/1",
+        b"4@1 - 5 6 -; b=7@2*0; c=none@1*2; c/1=4@1*2",
+    ),
+    // A listed home is that of all keys of its unit.
+    (2, &[(b"ab/1", Change::Put(1))], b"ab/2", b"none@0 - -; ab/1=1@0*0; b=7@2*0"),
+];
+
+#[test]
+fn a_move_takes_along_all_keys_of_its_unit(rt: HostRuntime) -> Result<(), Fail> {
+    for (version, changes, key, want) in UNITS {
+        assert_eq!(rt; told(rt.alloc(), version, changes, key)?.as_slice(), want);
     }
     Ok(())
 }
 
 /// How much is told of a key after so many moves of it, each with a write of another key.
 fn length_of_many(alloc: Global, count: u32) -> Result<usize, Fail> {
-    let mut table = opened(alloc)?;
+    let mut table = opened(alloc, 1)?;
     for number in 0..count {
         let key = format!(in alloc; "k{number}")?;
         make(&mut table, alloc, key.as_bytes(), Change::Put(1))?;

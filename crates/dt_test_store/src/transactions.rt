@@ -1,7 +1,7 @@
 //! Transactions that move a key: their homes and parts, and what they come to.
 ghost use Rattle.std.specs.Prelude.{◌≡◌, IfOk, map};
 ghost use Rattle.dt_access.specs.Orders.{HasAscendingKeys};
-ghost use Rattle.dt_txn.specs.Transaction.{CanRun, used_of, uses_of};
+ghost use Rattle.dt_txn.specs.Transaction.{CanRun, HasItsUses, used_of};
 
 use dt_access::{Part, TxnId, Writes, put_id};
 use dt_proc::{Procs, builtin_procs};
@@ -20,14 +20,14 @@ const MOVER: TxnId = TxnId { seq: 1, region: 1 };
 /// A table of three regions, in which the key `b` has the value 5 at its home, region 2.
 fn opened(alloc: Global) -> Result<Table, Fail> {
     let rows = [(Key::read(alloc, b"b")?, Value::Int(5))];
-    Ok(Table::new(alloc, 3, &[], rows.as_slice())?)
+    Ok(Table::new(alloc, 1, 3, &[], rows.as_slice())?)
 }
 
 /// The same table after the key `b` was moved to region 1.
 fn moved(alloc: Global) -> Result<Table, Fail> {
     let mut table = opened(alloc)?;
     let key = Key::read(alloc, b"b")?;
-    if table.mastership(&key).counter > 1000 {
+    if table.version() == 2 || table.mastership(&key).counter > 1000 {
         return Err(Fail::from("a key has few moves"));
     }
     table.reserve(1)?;
@@ -41,12 +41,12 @@ fn moved(alloc: Global) -> Result<Table, Fail> {
 /// The transaction that moves a key to a region, by the table before any move.
 fn a_move(alloc: Global, procs: &Procs, key: &[u8; 1], target: u8) -> Result<Txn, Fail>
     ensures body { IfOk result (λ txn. CanRun procs.now txn.body) }
-    ensures uses { IfOk result (λ txn. map used_of txn.access ≡ uses_of procs.now txn.body) }
+    ensures uses { IfOk result (λ txn. HasItsUses procs.now txn) }
     ensures ascending { IfOk result (λ txn. HasAscendingKeys (map used_of txn.access)) }
 {
     let body = Body::Move(Key::read(alloc, key)?, target);
     let table = opened(alloc)?;
-    Ok(annotate(alloc, ID, body, procs, &table)?)
+    Ok(annotate(alloc, ID, 5, body, procs, &table)?)
 }
 
 /// Adds a part: its home, its keys with their modes, and all homes.

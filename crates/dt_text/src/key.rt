@@ -88,6 +88,15 @@ impl Key {
         self.bytes.as_slice()
     }
 
+    /// Gives the bytes of the key. Takes no memory.
+    pub fn into_bytes(self) -> Vec<u8>
+        ensures same { result.items ≡ self }
+        ensures key { IsKey self }
+    {
+        let Key { bytes } = self;
+        bytes
+    }
+
     /// A key with the same bytes.
     pub fn copy(&self, alloc: Global) -> Result<Self, NoMemory>
         ensures same { IfOk result (λ key. key ≡ self.now) }

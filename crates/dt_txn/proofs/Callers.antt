@@ -1,6 +1,7 @@
--- What the proofs of crates above may cite of this crate, and nothing else of `proofs/`: when a body can be run, what an
--- annotated access list comes to, what homes come to, and that what a body gives is never stale.
-pub use Rattle.dt_txn.proofs.Formed.{can_run, formed}
+-- What the proofs of crates above may cite of this crate, and nothing else of `proofs/`: when a body can be run, that a valid
+-- transaction moves a unit, what an annotated access list comes to, what homes come to, and that what a body gives is never
+-- stale.
+pub use Rattle.dt_txn.proofs.Formed.{can_run, formed, moves_unit}
 pub use Rattle.dt_txn.proofs.HomeSets.{with_number_all}
 pub use Rattle.dt_txn.proofs.PartKeys.{annotated_uses}
 pub use Rattle.dt_txn.proofs.Stale.{own_fresh}

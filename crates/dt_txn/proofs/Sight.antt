@@ -7,8 +7,10 @@ use Rattle.dt_access.specs.declared.Mode.{Mode}
 use Rattle.dt_text.specs.declared.Value.{Value}
 use Rattle.dt_proc.specs.Tree.{ProcTree}
 use Rattle.dt_txn.specs.declared.txn.Body.{Body}
+use Rattle.dt_txn.specs.declared.txn.Body.TheVariants.{Call, Move}
+use Rattle.dt_txn.specs.declared.txn.Txn.{Txn}
 use Rattle.dt_txn.specs.declared.outcome.Seen.{Seen}
-use Rattle.dt_txn.specs.Transaction.{used_of, uses_of}
+use Rattle.dt_txn.specs.Transaction.{HasItsUses, keys_used, used_of, uses_of}
 use Rattle.dt_txn.specs.Execution.{reads_of}
 use Rattle.dt_access.specs.Clash.{Bytes}
 use Rattle.dt_table.specs.Table.{Table, Moved, next_mover, counter_of, moves_of}
@@ -22,8 +24,13 @@ reads_keys [] seen e = refl
 reads_keys (a ∷ access) [] e = absurd (omega arith)
 reads_keys (a ∷ access) (s ∷ seen) e = ap (λ (keys : List Bytes). a.key ∷ keys) (reads_keys access seen (omega arith))
 
--- what a transaction reads are the rows that its body uses
-pub reads_are_uses : (procs : List ProcTree) (body : Body) (access entries : List Access) (seen items : List Seen) (reads : List (Bytes × Option Value)) → reads ≡ reads_of entries items
-    → entries ≡ access → items ≡ seen → length seen ≡ length access → map used_of access ≡ uses_of procs body → map (λ r. r.0) reads ≡ map (λ u. u.0) (uses_of procs body)
-reads_are_uses procs body access entries seen items reads r e s long uses =
-    rw (r, e, s) (reads_keys access seen long ∙ ap (λ (us : List (Bytes × Mode)). map (λ u. u.0) us) uses)
+-- in each version a body uses the same keys
+keys_of_uses : (procs : List ProcTree) (version : ℕ) (body : Body) → map (λ u. u.0) (uses_of procs version body) ≡ keys_used procs body
+keys_of_uses procs version (Call proc args) = refl
+keys_of_uses procs version (Move key target) = refl
+
+-- what a transaction reads are the keys that its body uses
+pub reads_are_uses : (procs : List ProcTree) (txn : Txn) (entries : List Access) (seen items : List Seen) (reads : List (Bytes × Option Value)) → reads ≡ reads_of entries items
+    → entries ≡ txn.access → items ≡ seen → length seen ≡ length txn.access → HasItsUses procs txn → map (λ r. r.0) reads ≡ keys_used procs txn.body
+reads_are_uses procs txn entries seen items reads r e s long uses =
+    rw (r, e, s) (reads_keys txn.access seen long ∙ ap (λ (us : List (Bytes × Mode)). map (λ u. u.0) us) uses.1 ∙ keys_of_uses procs uses.0 txn.body)

@@ -4,6 +4,7 @@ use Rattle.std.specs.Prelude.{Option, option_map}
 use Rattle.std.proofs.lemmas.Bool.{cases_order}
 use Rattle.dt_lists.specs.Lists.{AnyIn}
 use Rattle.dt_access.specs.Clash.{Bytes}
+use Rattle.dt_access.specs.Granules.{unit_of}
 use Rattle.dt_access.specs.declared.TxnId.{TxnId}
 use Rattle.dt_access.specs.declared.Access.{Access}
 use Rattle.dt_text.specs.declared.Value.{Value}
@@ -34,23 +35,23 @@ next_mover_some t key had more = at (moves_of t key) had more
 -- an entry whose key has no more moves than it was annotated with is passed
 passed : (t : Table) (a : Access) (access : List Access) → counter_of t a.key ≤ a.counter
     → stale_of (a ∷ access) (map (seen_of t) (a ∷ access)) ≡ stale_of access (map (seen_of t) access)
-passed t a access few = ap (λ m. stale_at a m (stale_of access (map (seen_of t) access))) (next_mover_none t a.key a.counter few)
+passed t a access few = ap (λ m. stale_at (unit_of t.version a.key) a.counter m (stale_of access (map (seen_of t) access))) (next_mover_none t a.key a.counter few)
 
 -- the outcome tells the first entry whose key has more
 first_stale : (t : Table) (access : List Access) (entry : Access) → IsFirstMoved t access entry
-    → (by : TxnId) × (next_mover t entry.key entry.counter ≡ Some by) × (stale_of access (map (seen_of t) access) ≡ Some (Stale entry.key entry.counter by))
+    → (by : TxnId) × (next_mover t entry.key entry.counter ≡ Some by) × (stale_of access (map (seen_of t) access) ≡ Some (Stale (unit_of t.version entry.key) entry.counter by))
 first_stale t [] entry first = absurd first
 first_stale t (a ∷ access) entry (inl here) =
     let next : (by : TxnId) × (next_mover t a.key a.counter ≡ Some by) = next_mover_some t a.key a.counter here.1 in
-    let stale : stale_of (a ∷ access) (map (seen_of t) (a ∷ access)) ≡ Some (Stale a.key a.counter next.0)
-    = ap (λ m. stale_at a m (stale_of access (map (seen_of t) access))) next.1 in (
+    let stale : stale_of (a ∷ access) (map (seen_of t) (a ∷ access)) ≡ Some (Stale (unit_of t.version a.key) a.counter next.0)
+    = ap (λ m. stale_at (unit_of t.version a.key) a.counter m (stale_of access (map (seen_of t) access))) next.1 in (
       next.0,
       subst (λ (e : Access). next_mover t e.key e.counter ≡ Some next.0) (sym here.0) next.1,
-      stale ∙ ap (λ (e : Access). Some (Stale e.key e.counter next.0)) (sym here.0),
+      stale ∙ ap (λ (e : Access). Some (Stale (unit_of t.version e.key) e.counter next.0)) (sym here.0),
     )
 first_stale t (a ∷ access) entry (inr later) =
     let rest : (by : TxnId) × (next_mover t entry.key entry.counter ≡ Some by)
-    × (stale_of access (map (seen_of t) access) ≡ Some (Stale entry.key entry.counter by)) = first_stale t access entry later.1 in
+    × (stale_of access (map (seen_of t) access) ≡ Some (Stale (unit_of t.version entry.key) entry.counter by)) = first_stale t access entry later.1 in
     (rest.0, rest.1, passed t a access later.0 ∙ rest.2)
 
 any_of_first : (t : Table) (access : List Access) (entry : Access) → IsFirstMoved t access entry → AnyIn (IsMovedSince t) access
@@ -87,10 +88,10 @@ own_fresh procs id (Move key target) reads k = k
 
 module _ (procs : List ProcTree) (txn : Txn) (t : Table) where
   pub one_first : (entry : Access) → IsFirstMoved t txn.access entry
-      → (by : TxnId) × (next_mover t entry.key entry.counter ≡ Some by) × (one procs txn t ≡ (Stale entry.key entry.counter by, no_effect))
+      → (by : TxnId) × (next_mover t entry.key entry.counter ≡ Some by) × (one procs txn t ≡ (Stale (unit_of t.version entry.key) entry.counter by, no_effect))
   one_first entry first =
       let stale : (by : TxnId) × (next_mover t entry.key entry.counter ≡ Some by)
-      × (stale_of txn.access (see txn t) ≡ Some (Stale entry.key entry.counter by)) = first_stale t txn.access entry first in
+      × (stale_of txn.access (see txn t) ≡ Some (Stale (unit_of t.version entry.key) entry.counter by)) = first_stale t txn.access entry first in
       (stale.0, stale.1, ap (λ s. unless_stale s (result_of procs txn.id txn.body (reads_of txn.access (see txn t)))) stale.2)
 
   pub one_otherwise : ¬ (AnyIn (IsMovedSince t) txn.access) → one procs txn t ≡ result_of procs txn.id txn.body (reads_of txn.access (see txn t))
@@ -106,7 +107,7 @@ module _ (procs : List ProcTree) (txn : Txn) (t : Table) where
       by : FirstOrNone t txn.access → IsStaleOutcome (one procs txn t).0 ↔ AnyIn (IsMovedSince t) txn.access
       by (inl first) =
           let stale : (by : TxnId) × (next_mover t (first.0).key (first.0).counter ≡ Some by)
-          × (one procs txn t ≡ (Stale (first.0).key (first.0).counter by, no_effect)) = one_first first.0 first.1 in
+          × (one procs txn t ≡ (Stale (unit_of t.version (first.0).key) (first.0).counter by, no_effect)) = one_first first.0 first.1 in
           (λ _. any_of_first t txn.access first.0 first.1, λ _. subst (λ (r : Outcome × Effect). IsStaleOutcome r.0) (sym stale.2) tt)
       by (inr fresh) = (
         λ stale. absurd (own_fresh procs txn.id txn.body (reads_of txn.access (see txn t))

@@ -1,10 +1,11 @@
 -- What one transaction comes to on a table: its outcome and its effect. It is defined through what the transaction sees of
 -- the rows that it uses (`see`), so that two tables that look alike there give alike results; on this stands everything
--- that says that regions agree. A transaction is stale, and changes nothing, where a row that it uses was moved since it
--- was annotated (Staleness.antt says exactly when); a call has the result of its procedure, and a move gives its key a new
--- home. Read next Serial.antt, which runs one transaction after another.
-use Rattle.std.specs.Prelude.{List, [], ◌∷◌, map, Option, Some, None}
+-- that says that regions agree. A transaction is stale, and changes nothing, where the unit of a key that it uses was moved
+-- since it was annotated (Staleness.antt says exactly when); a call has the result of its procedure, and a move gives its
+-- unit a new home. Read next Serial.antt, which runs one transaction after another.
+use Rattle.std.specs.Prelude.{ℕ, List, [], ◌∷◌, map, Option, Some, None}
 use Rattle.dt_access.specs.Clash.{Bytes}
+use Rattle.dt_access.specs.Granules.{unit_of}
 use Rattle.dt_access.specs.declared.TxnId.{TxnId}
 use Rattle.dt_access.specs.declared.Access.{Access}
 use Rattle.dt_text.specs.declared.Value.{Value}
@@ -21,10 +22,15 @@ use Rattle.dt_txn.specs.declared.outcome.Seen.{Seen}
 use Rattle.dt_txn.specs.declared.outcome.Outcome.{Outcome}
 use Rattle.dt_txn.specs.declared.outcome.Outcome.TheVariants.{Gave, Aborted, Stale}
 
--- what is seen of the row of an access entry: its value, its number of moves, and the mover of the move that follows
--- the annotated ones
+-- what is seen at an access entry: the unit of its key, the key's value, the number of moves of the unit, and the mover of
+-- the move that follows the annotated ones
 abbrev pub seen_of : Table → Access → Seen
-seen_of t a = record { value = value_of t a.key; counter = counter_of t a.key; mover = next_mover t a.key a.counter }
+seen_of t a = record {
+  unit = unit_of t.version a.key;
+  value = value_of t a.key;
+  counter = counter_of t a.key;
+  mover = next_mover t a.key a.counter;
+}
 
 -- what a transaction sees in a table, in the order of its access list
 abbrev pub see : Txn → Table → List Seen
@@ -34,16 +40,17 @@ see txn t = map (seen_of t) txn.access
 abbrev pub no_effect : Effect
 no_effect = record { writes = []; moved = None }
 
--- the outcome Stale of an entry whose key has a next mover, else what the later entries give
-abbrev pub stale_at : Access → Option TxnId → Option Outcome → Option Outcome
-stale_at a None later = later
-stale_at a (Some by) later = Some (Stale a.key a.counter by)
+-- the outcome Stale at an entry that was annotated with `had` moves of this unit, which has a next mover; else what the
+-- later entries give
+abbrev pub stale_at : Bytes → ℕ → Option TxnId → Option Outcome → Option Outcome
+stale_at unit had None later = later
+stale_at unit had (Some by) later = Some (Stale unit had by)
 
--- the outcome Stale of the first key that was moved since it was annotated, if there is one
+-- the outcome Stale of the first key whose unit was moved since it was annotated, if there is one
 abbrev pub stale_of : List Access → List Seen → Option Outcome
 stale_of [] seen = None
 stale_of (a ∷ access) [] = None
-stale_of (a ∷ access) (s ∷ seen) = stale_at a s.mover (stale_of access seen)
+stale_of (a ∷ access) (s ∷ seen) = stale_at s.unit a.counter s.mover (stale_of access seen)
 
 -- the rows that a transaction reads, from what it saw
 abbrev pub reads_of : List Access → List Seen → List (Bytes × Option Value)
@@ -56,7 +63,7 @@ abbrev pub of_finish : Finish → Outcome × Effect
 of_finish (finish.Gave values writes) = (Gave values, record { writes = writes; moved = None })
 of_finish (finish.Aborted cause) = (Aborted cause, no_effect)
 
--- what a body gives where nothing is stale: a call has its procedure's result, and a move gives its key a new home
+-- what a body gives where nothing is stale: a call has its procedure's result, and a move gives its unit a new home
 abbrev pub result_of : List ProcTree → TxnId → Body → List (Bytes × Option Value) → Outcome × Effect
 result_of procs id (Call proc args) reads = of_finish (call_meaning procs proc args reads)
 result_of procs id (Move key target) reads = (Gave [], record { writes = []; moved = Some (key, target, id) })
@@ -66,8 +73,8 @@ abbrev pub unless_stale : Option Outcome → Outcome × Effect → Outcome × Ef
 unless_stale None result = result
 unless_stale (Some stale) result = (stale, no_effect)
 
--- the outcome and the effect of a transaction, from what it saw: Stale and none at all where one of its keys was moved
--- since it was annotated, else those of its body by these procedures
+-- the outcome and the effect of a transaction, from what it saw: Stale and none at all where the unit of one of its keys
+-- was moved since it was annotated, else those of its body by these procedures
 abbrev pub execution : List ProcTree → Txn → List Seen → Outcome × Effect
 execution procs txn seen = unless_stale (stale_of txn.access seen) (result_of procs txn.id txn.body (reads_of txn.access seen))
 

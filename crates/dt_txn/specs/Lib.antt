@@ -14,4 +14,5 @@ pub use Rattle.dt_sched.specs.Views
 pub use Rattle.dt_sched.specs.Decide
 pub use Rattle.dt_access.specs.Ids
 pub use Rattle.dt_access.specs.Clash
+pub use Rattle.dt_access.specs.Granules
 pub use Rattle.dt_lists.specs.Lists

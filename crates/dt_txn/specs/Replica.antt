@@ -47,9 +47,9 @@ opening_replica regions table = record {
 abbrev pub next_id : ℕ → ℕ → TxnId
 next_id region submitted = record { seq = submitted + 1; region = region }
 
--- what a region submits for a body: the transaction of its next id, annotated by its own table
-abbrev pub submission_for : List ProcTree → ℕ → ℕ → Replica → Body → Txn
-submission_for procs region submitted here body = annotate procs (next_id region submitted) body here.table
+-- what a region submits for a body of this rank: the transaction of its next id, annotated by its own table
+abbrev pub submission_for : List ProcTree → ℕ → ℕ → Replica → ℕ → Body → Txn
+submission_for procs region submitted here rank body = annotate procs (next_id region submitted) rank body here.table
 
 -- the region after it submitted a transaction: each home of it is asked for its part
 abbrev pub after_asking : Replica → Txn → Replica

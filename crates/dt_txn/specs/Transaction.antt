@@ -1,35 +1,41 @@
--- A transaction: what is to be done, and what the submitting region knew of each row that it uses. One learns here how a
--- body is annotated by a table (`annotate`), which regions are its homes, and which part each home orders in its log.
+-- A transaction: what is to be done, its rank among those that it is deadlocked with, and what the submitting region knew
+-- of each key that it uses. One learns here how a body is annotated by a table (`annotate`), which regions are its homes,
+-- and which part each home orders in its log. A move takes along all that is of the unit that it moves.
 -- A transaction can be executed anywhere, since all that its meaning needs is the body, the procedures and a table. Read
 -- next Execution.antt, which runs it, and Replica.antt, which places it.
 use Rattle.std.specs.Prelude.{◌≡◌, ◌<◌, ◌==◌, nat_lt, ℕ, List, [], ◌∷◌, ◌++◌, map, filter, if◌then◌else◌}
 use Rattle.dt_lists.specs.Lists.{AllIn}
 use Rattle.dt_access.specs.Clash.{Bytes}
+use Rattle.dt_access.specs.Granules.{mode_of_move}
 use Rattle.dt_access.specs.declared.TxnId.{TxnId}
 use Rattle.dt_access.specs.declared.Mode.{Mode}
-use Rattle.dt_access.specs.declared.Mode.TheVariants.{Write}
 use Rattle.dt_access.specs.declared.Access.{Access}
 use Rattle.dt_access.specs.declared.Part.{Part}
 use Rattle.dt_access.specs.Orders.{HasAscendingKeys}
 use Rattle.dt_proc.specs.Tree.{ProcTree}
 use Rattle.dt_eval.specs.Calls.{CallFits, call_keys}
-use Rattle.dt_table.specs.Table.{Table, home_of, counter_of}
+use Rattle.dt_table.specs.Table.{Table, IsUnit, home_of, counter_of}
 use Rattle.dt_txn.specs.declared.txn.Body.{Body}
 use Rattle.dt_txn.specs.declared.txn.Body.TheVariants.{Call, Move}
 use Rattle.dt_txn.specs.declared.txn.Txn.{Txn}
 
--- the keys that a body uses by these procedures, in ascending order, each with its mode
-abbrev pub uses_of : List ProcTree → Body → List (Bytes × Mode)
-uses_of procs (Call proc args) = call_keys procs proc args
-uses_of procs (Move key target) = (key, Write) ∷ []
+-- the keys that a body uses by these procedures in this version, in ascending order, each with its mode
+abbrev pub uses_of : List ProcTree → ℕ → Body → List (Bytes × Mode)
+uses_of procs version (Call proc args) = call_keys procs proc args
+uses_of procs version (Move key target) = (key, mode_of_move version) ∷ []
+
+-- the keys alone, which are those of either version
+abbrev pub keys_used : List ProcTree → Body → List Bytes
+keys_used procs (Call proc args) = map (λ u. u.0) (call_keys procs proc args)
+keys_used procs (Move key target) = key ∷ []
 
 -- a use of a key, with the home and the number of moves that a table gives it
 abbrev pub annotated : Table → Bytes × Mode → Access
 annotated t used = record { key = used.0; mode = used.1; home = home_of t used.0; counter = counter_of t used.0 }
 
--- the transaction of this id for a body, as a region with these procedures and this table submits it
-abbrev pub annotate : List ProcTree → TxnId → Body → Table → Txn
-annotate procs id body t = record { id = id; body = body; access = map (annotated t) (uses_of procs body) }
+-- the transaction of this id and rank for a body, as a region with these procedures and this table submits it
+abbrev pub annotate : List ProcTree → TxnId → ℕ → Body → Table → Txn
+annotate procs id rank body t = record { id = id; rank = rank; body = body; access = map (annotated t) (uses_of procs t.version body) }
 
 -- the set with one more number, as an ascending list
 abbrev pub with_number : ℕ → List ℕ → List ℕ
@@ -63,6 +69,7 @@ entries_at (Move key target) home access = access
 abbrev pub part_of : Txn → ℕ → Part
 part_of txn home = record {
   id = txn.id;
+  rank = txn.rank;
   home = home;
   keys = map used_of (entries_at txn.body home txn.access);
   homes = homes_of txn;
@@ -77,10 +84,14 @@ abbrev pub CanRun : List ProcTree → Body → Type 0
 CanRun procs (Call proc args) = CallFits procs proc args
 CanRun procs (Move key target) = Unit {0}
 
--- the body's call can be run, or its move leads to a region
-abbrev pub BodyFits : List ProcTree → ℕ → Body → Type 0
-BodyFits procs regions (Call proc args) = CallFits procs proc args
-BodyFits procs regions (Move key target) = target < regions
+-- the body's call can be run, or its move leads a unit of this version to a region
+abbrev pub BodyFits : List ProcTree → ℕ → ℕ → Body → Type 0
+BodyFits procs version regions (Call proc args) = CallFits procs proc args
+BodyFits procs version regions (Move key target) = IsUnit version key × (target < regions)
+
+-- the access list has the keys that the body uses, in their modes of some version
+abbrev pub HasItsUses : List ProcTree → Txn → Type 0
+HasItsUses procs txn = (version : ℕ) × (map used_of txn.access ≡ uses_of procs version txn.body)
 
 -- what every transaction of a cluster with so many regions is: its access list is in ascending order of distinct keys, and
 -- its homes are regions
@@ -88,9 +99,9 @@ pub record IsTransaction (regions : ℕ) (txn : Txn) : Type 0 where
   pub ascending : HasAscendingKeys (map used_of txn.access)
   pub homes : AllIn (λ home. home < regions) (homes_of txn)
 
--- a transaction is valid for these procedures, in a cluster with so many regions: its body fits, it uses the keys of its
--- body in their modes, and its homes are regions
-pub record IsValid (procs : List ProcTree) (regions : ℕ) (txn : Txn) : Type 0 where
-  pub body : BodyFits procs regions txn.body
-  pub uses : map used_of txn.access ≡ uses_of procs txn.body
+-- a transaction is valid for these procedures, in a cluster of this version with so many regions: its body fits, it uses
+-- the keys of its body in their modes, and its homes are regions
+pub record IsValid (procs : List ProcTree) (version : ℕ) (regions : ℕ) (txn : Txn) : Type 0 where
+  pub body : BodyFits procs version regions txn.body
+  pub uses : map used_of txn.access ≡ uses_of procs version txn.body
   pub homes : AllIn (λ home. home < regions) (homes_of txn)

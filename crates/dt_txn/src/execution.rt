@@ -1,17 +1,17 @@
 ghost use Rattle.std.specs.Prelude.{◌≡◌, IfOk, length, map};
 ghost use Rattle.std.specs.Option.{option_copied};
 ghost use Rattle.dt_eval.specs.Calls.{CallFits, call_keys, call_meaning};
-ghost use Rattle.dt_txn.specs.Transaction.{CanRun, used_of, uses_of};
+ghost use Rattle.dt_txn.specs.Transaction.{CanRun, HasItsUses, keys_used};
 ghost use Rattle.dt_txn.specs.Execution.{execution, see, one, reads_of, result_of, stale_of, of_finish, no_effect};
 
 use crate::called::called;
 use crate::outcome::{Outcome, Seen, Seens};
 use crate::txn::{Body, Txn};
-use dt_access::{Access, TryCopy, Writes};
+use dt_access::{Access, TryCopy, Writes, unit_bytes};
 use dt_eval::{Finish, Reads, Values, run};
 use dt_proc::Procs;
 use dt_table::{Effect, Table};
-use dt_text::{NoMemory, Value};
+use dt_text::{Key, NoMemory, Value};
 use std::alloc::Global;
 
 /// What a transaction sees in a table, for each entry of its access list, in order.
@@ -22,6 +22,7 @@ pub fn see(alloc: Global, txn: &Txn, table: &Table) -> Result<Seens, NoMemory>
     for entry in txn.access.as_slice() {
         let row = table.row(&entry.key, entry.counter);
         seen.push(Seen {
+            unit: Key::new(alloc, unit_bytes(table.version(), &entry.key))?,
             value: copied(alloc, row.value)?,
             counter: row.counter,
             mover: row.mover,
@@ -40,7 +41,8 @@ fn copied(alloc: Global, value: Option<&Value>) -> Result<Option<Value>, NoMemor
     }
 }
 
-/// What a transaction comes to, by these procedures, on every table in which it sees this: its outcome, and the changes that it makes.
+/// What a transaction comes to, by these procedures, on every table in which it sees this: its outcome, and the changes that
+/// it makes.
 pub fn execute_seen(
     alloc: Global,
     txn: &Txn,
@@ -48,7 +50,7 @@ pub fn execute_seen(
     seen: &Seens,
 ) -> Result<(Outcome, Effect), NoMemory>
     requires body { CanRun procs.now txn.now.body }
-    requires uses { map used_of txn.now.access ≡ uses_of procs.now txn.now.body }
+    requires uses { HasItsUses procs.now txn.now }
     requires seen { length seen.now ≡ length txn.now.access }
     ensures { IfOk result (λ r. r ≡ execution procs.now txn.now seen.now) }
 {
@@ -67,7 +69,7 @@ pub fn execute(
     table: &Table,
 ) -> Result<(Outcome, Effect), NoMemory>
     requires body { CanRun procs.now txn.now.body }
-    requires uses { map used_of txn.now.access ≡ uses_of procs.now txn.now.body }
+    requires uses { HasItsUses procs.now txn.now }
     ensures { IfOk result (λ r. r ≡ one procs.now txn.now table.now.state) }
 {
     let seen = see(alloc, txn, table)?;
@@ -84,7 +86,7 @@ fn no_effect(alloc: Global) -> Effect
     }
 }
 
-/// The outcome Stale of the first key that was moved since it was annotated, if there is one.
+/// The outcome Stale of the first key whose unit was moved since it was annotated, if there is one.
 fn stale(alloc: Global, access: &[Access], seen: &[Seen]) -> Result<Option<Outcome>, NoMemory>
     requires { length seen.now ≡ length access.now }
     ensures { IfOk result (λ stale. stale ≡ stale_of access.now seen.now) }
@@ -92,7 +94,7 @@ fn stale(alloc: Global, access: &[Access], seen: &[Seen]) -> Result<Option<Outco
     for (place, entry) in access.iter().enumerate() {
         if let Some(by) = seen[place].mover {
             return Ok(Some(Outcome::Stale {
-                key: entry.key.copy(alloc)?,
+                key: seen[place].unit.copy(alloc)?,
                 had: entry.counter,
                 by,
             }));
@@ -121,7 +123,7 @@ fn result_of(
     reads: &Reads,
 ) -> Result<(Outcome, Effect), NoMemory>
     requires body { CanRun procs.now txn.now.body }
-    requires reads { map (λ read. read.0) reads.now ≡ map (λ used. used.0) (uses_of procs.now txn.now.body) }
+    requires reads { map (λ read. read.0) reads.now ≡ keys_used procs.now txn.now.body }
     ensures { IfOk result (λ r. r ≡ result_of procs.now txn.now.id txn.now.body reads.now) }
 {
     match &txn.body {

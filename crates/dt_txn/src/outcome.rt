@@ -12,7 +12,7 @@ pub enum Outcome {
     Gave(Values),
     /// Its procedure aborted, and it changed nothing.
     Aborted(Cause),
-    /// A row was moved since the transaction was annotated, so it changed nothing: the key, the number of moves that
+    /// A unit was moved since the transaction was annotated, so it changed nothing: the unit, the number of moves that
     /// it was annotated with, and the transaction that made the next one.
     Stale { key: Key, had: u32, by: TxnId },
 }
@@ -34,12 +34,14 @@ impl Outcome {
     }
 }
 
-/// What a transaction sees of one row that it uses.
+/// What a transaction sees of one key that it uses.
 #[derive(Drop)]
 pub struct Seen {
-    /// Its value, or none.
+    /// The key's unit.
+    pub unit: Key,
+    /// The key's value, or none.
     pub value: Option<Value>,
-    /// How often it was moved.
+    /// How often the unit was moved.
     pub counter: u32,
     /// Who made the move that follows the annotated ones, if there is one.
     pub mover: Option<TxnId>,

@@ -86,6 +86,7 @@ pub fn part_at(alloc: Global, txn: &Txn, home: u8) -> Result<Part, NoMemory>
 {
     Ok(Part {
         id: txn.id,
+        rank: txn.rank,
         home,
         keys: keys_at(alloc, &txn.body, home, txn.access.as_slice())?,
         homes: homes(alloc, txn)?,

@@ -11,7 +11,7 @@ use std::alloc::Global;
 pub enum Body {
     /// Calls the procedure of this number.
     Call(u32, Args),
-    /// Moves a key to a home.
+    /// Moves the unit of this key to a home.
     Move(Key, u8),
 }
 
@@ -31,8 +31,10 @@ impl Body {
 #[derive(Drop)]
 pub struct Txn {
     pub id: TxnId,
+    /// From 0 to 9. Of those that are deadlocked with each other the lesser one goes first.
+    pub rank: u8,
     pub body: Body,
-    /// The rows that it uses, in ascending order of keys, with what the submitting region knew of them.
+    /// The keys that it uses, in ascending order, with what the submitting region knew of them.
     pub access: Accesses,
 }
 
@@ -43,6 +45,7 @@ impl Txn {
     {
         Ok(Txn {
             id: self.id,
+            rank: self.rank,
             body: self.body.copy(alloc)?,
             access: self.access.copy(alloc)?,
         })

@@ -42,6 +42,6 @@ returns c =
     let next : c.args.number ≡ (c.args.number - 1) + 1 = omega arith in
     let mover = option_map (λ (m : Moved). m.by) in
     sym (
-    mover_in-next (history moves c.args.row.now.last) c.args.number (c.args.number - 1) next
+    mover_in-next (history moves c.args.unit.now.last) c.args.number (c.args.number - 1) next
     ∙ ap mover (sym c.loop-later.invariant.same ∙ ap (slice_get (history moves (Some place))) (sym all) ∙ last-walked moves place no_move c.requires.linked c.loop-later.invariant.within)
     )

@@ -5,6 +5,6 @@ use Rattle.dt_table.proofs.stored.mover_of.Given as goal
 abbrev pub invariant-loop-later : goal.invariant-loop-later
 invariant-loop-later l = record {
   within : l.place < length l.moves;
-  left : length (history l.moves (Some l.place)) + l._later ≡ l.number + l.row.counter;
-  same : slice_get (history l.moves (Some l.place)) (l.number - 1) ≡ slice_get (history l.moves l.row.last) (l.number - 1);
+  left : length (history l.moves (Some l.place)) + l._later ≡ l.number + l.unit.counter;
+  same : slice_get (history l.moves (Some l.place)) (l.number - 1) ≡ slice_get (history l.moves l.unit.last) (l.number - 1);
 }

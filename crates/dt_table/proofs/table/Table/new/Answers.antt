@@ -1,15 +1,13 @@
-use Rattle.std.proofs.Common.{arith, subst, sym}
-use Rattle.dt_table.specs.StoredMovesInner.{AreLinked}
-use Rattle.dt_table.proofs.OpeningTable.{state-opened, stored-opened}
+use Rattle.std.proofs.Common.{ap, ap₂}
+use Rattle.std.specs.FinMap.{from_entries}
+use Rattle.std.specs.Ordering.{nat_cmp}
+use Rattle.std.specs.Cmp.Lexicographic.{slice_cmp}
+use Rattle.dt_table.specs.StoredUnitInner.{by_bytes}
+use Rattle.dt_table.specs.StoredMovesInner.{histories_of}
 use Rattle.dt_table.proofs.table.Table.new.Goals as goal
 
-pub invariant_of-result : goal.invariant_of-result
-invariant_of-result c = record {
-  regions = c.requires.regions;
-  few = omega (arith, c.new.ensures.len);
-  linked = subst (AreLinked 0) (sym c.new.ensures.items) tt;
-  rows = stored-opened c.args.regions c.in_ok-homes.homes.entries c.args.rows.now c.in_ok-rows.rows.entries c.new.result.items c.in_ok-rows.ensures c.new.ensures.items;
-}
-
 pub returns : goal.returns
-returns c = state-opened c.args.regions c.args.homes.now c.args.rows.now c.in_ok-homes.homes.entries c.in_ok-rows.rows.entries c.new.result.items c.in_ok-homes.ensures c.in_ok-rows.ensures c.new.ensures.items
+returns c =
+    let values = ap (from_entries {R = slice_cmp nat_cmp}) c.in_ok-opening_values.ensures in
+    let moves = ap₂ histories_of c.new-2.ensures.items (ap by_bytes c.new.ensures.empty) in
+    λ i. record { version = c.args.version; regions = c.args.regions; homes = c.in_ok-index_homes.ensures i; values = values i; moves = moves i }

@@ -1,30 +1,52 @@
-use Rattle.std.proofs.Common.{◌≡◌, ℕ, ◌∷◌, [], ◌++◌, Option, ap, sym, subst, ◌∙◌, arith, length}
-use Rattle.dt_table.specs.Table.{TableView}
-use Rattle.dt_table.specs.StoredMovesInner.{AreLinked}
-use Rattle.dt_table.proofs.StoredRows.{counter-moved, linked-moved, stored-moved, state-moved}
+use Rattle.std.proofs.Common.{◌≡◌, ℕ, ◌+◌, ◌<◌, ◌^◌, ◌∷◌, [], ◌++◌, Option, Some, ap, ap₂, sym, subst, ◌∙◌, arith, length}
+use Rattle.indexmap.specs.IndexMap.{insert_entry}
+use Rattle.dt_access.specs.Clash.{Bytes, same_key}
+use Rattle.dt_table.specs.Table.{TableView, IsUnit, counter_of}
+use Rattle.dt_table.specs.StoredUnitInner.{by_bytes, stored_of}
+use Rattle.dt_table.specs.StoredMovesInner.{AreLinked, histories_of, table_view}
+use Rattle.dt_table.specs.declared.stored.StoredUnit.{StoredUnit}
+use Rattle.dt_table.proofs.StoredUnits.{counter-stored, linked-moved, units-moved, histories-moved}
 use Rattle.dt_table.proofs.table.Table.record_move.Goals as goal
 
-pub put_move-before-requires-clause-counter : goal.put_move-before-requires-clause-counter
-put_move-before-requires-clause-counter c =
-    omega (arith, counter-moved c.self.inside c.args.key c.args.target c.args.by c.self.invariant, c.self.inside.moves.ok.0, ap (λ (k : TableView). k.spare) c.self.view_is)
+pub overflow_add-stored : goal.overflow_add-stored
+overflow_add-stored c =
+    let a = c.self.inside in
+    let unit = c.args.unit in
+    let bytes = c.as_slice.ensures.value ∙ c.into_bytes-bytes.ensures.same in
+    let stored = c.stored_or_fresh-before.ensures ∙ ap (λ (u : Bytes). stored_of (by_bytes a.units.entries) u c.args.target) bytes in
+    let is_unit = subst (λ (t : TableView). IsUnit t.state.version unit) (sym c.self.view_is) c.requires.unit in
+    let place = subst (λ (t : TableView). counter_of t.state unit + 1 < 2 ^ 32) (sym c.self.view_is) c.requires.place in
+    omega (arith, ap (λ (s : StoredUnit). s.counter) stored, counter-stored a unit c.args.target c.args.by c.self.invariant is_unit, place)
 
 pub invariant_of-self : goal.invariant_of-self
 invariant_of-self c =
     let a = c.self.inside in
-    let place : c.len-place.result ≡ length a.moves.items = c.len-place.ensures ∙ a.moves.ok.0 in
-    let pushed = c.in-Ok.ensures.items
-    ∙ ap (λ (b : Option ℕ). a.moves.items ++ record { target = c.args.target; by = c.args.by; before = b } ∷ []) c.put_move-before.ensures.before in
+    let unit = c.args.unit in
+    let sound = c.self.invariant in
+    let bytes = c.as_slice.ensures.value ∙ c.into_bytes-bytes.ensures.same in
+    let stored = c.stored_or_fresh-before.ensures ∙ ap (λ (u : Bytes). stored_of (by_bytes a.units.entries) u c.args.target) bytes in
+    let is_unit = subst (λ (t : TableView). IsUnit t.state.version unit) (sym c.self.view_is) c.requires.unit in
+    let few = subst (λ (t : TableView). counter_of t.state unit + 1 < 2 ^ 32) (sym c.self.view_is) c.requires.place in
+    let at : c.len.result ≡ length a.moves.items = c.len.ensures ∙ a.moves.ok.0 in
+    let pushed = c.in-Ok.ensures.items ∙ ap (λ (s : StoredUnit). a.moves.items ++ record { target = c.args.target; by = c.args.by; before = s.last } ∷ []) stored in
+    let put = c.put_unit.ensures.units
+    ∙ (λ i. insert_entry same_key (by_bytes a.units.entries) (c.into_bytes-bytes.ensures.same i) (record { home = c.args.target; counter = (stored i).counter + 1; last = Some c.len.result })) in
     record {
-      regions = c.self.invariant.regions;
-      few = omega (arith, c.in-Ok.ensures.len, ap (λ (k : TableView). k.spare) c.self.view_is);
-      linked = subst (AreLinked 0) (sym pushed) (linked-moved a c.args.key c.args.target c.args.by c.self.invariant);
-      rows = rw (c.put_move-before.ensures.rows, pushed) (stored-moved a c.args.key c.args.target c.args.by c.self.invariant c.len-place.result place);
+      regions = sound.regions;
+      linked = subst (AreLinked 0) (sym pushed) (linked-moved a unit c.args.target c.args.by sound is_unit);
+      units = rw (put, pushed) (units-moved a unit c.args.target c.args.by sound is_unit c.len.result at c.requires.key few);
     }
 
 pub returns-clause-state : goal.returns-clause-state
 returns-clause-state c =
     let a = c.self.inside in
-    let place : c.len-place.result ≡ length a.moves.items = c.len-place.ensures ∙ a.moves.ok.0 in
-    let pushed = c.in-Ok.ensures.items
-    ∙ ap (λ (b : Option ℕ). a.moves.items ++ record { target = c.args.target; by = c.args.by; before = b } ∷ []) c.put_move-before.ensures.before in
-    rw (← c.self.view_is) (state-moved a c.args.key c.args.target c.args.by c.self.invariant c.len-place.result place _ _ c.put_move-before.ensures.rows pushed)
+    let unit = c.args.unit in
+    let bytes = c.as_slice.ensures.value ∙ c.into_bytes-bytes.ensures.same in
+    let stored = c.stored_or_fresh-before.ensures ∙ ap (λ (u : Bytes). stored_of (by_bytes a.units.entries) u c.args.target) bytes in
+    let is_unit = subst (λ (t : TableView). IsUnit t.state.version unit) (sym c.self.view_is) c.requires.unit in
+    let at : c.len.result ≡ length a.moves.items = c.len.ensures ∙ a.moves.ok.0 in
+    let pushed = c.in-Ok.ensures.items ∙ ap (λ (s : StoredUnit). a.moves.items ++ record { target = c.args.target; by = c.args.by; before = s.last } ∷ []) stored in
+    let put = c.put_unit.ensures.units
+    ∙ (λ i. insert_entry same_key (by_bytes a.units.entries) (c.into_bytes-bytes.ensures.same i) (record { home = c.args.target; counter = (stored i).counter + 1; last = Some c.len.result })) in
+    let moves = ap₂ histories_of pushed put ∙ histories-moved a unit c.args.target c.args.by c.self.invariant is_unit c.len.result at in
+    rw (← c.self.view_is) (λ i. record (table_view a).state { moves = moves i })

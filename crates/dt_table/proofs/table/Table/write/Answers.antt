@@ -1,18 +1,13 @@
-use Rattle.std.proofs.Common.{refl}
-use Rattle.dt_table.specs.Table.{opening_home}
-use Rattle.dt_table.proofs.StoredRows.{state-written, stored-written}
+use Rattle.std.proofs.Common.{ap, ◌∙◌}
+use Rattle.std.specs.FinMap.{from_entries}
+use Rattle.std.specs.Ordering.{nat_cmp}
+use Rattle.std.specs.Cmp.Lexicographic.{slice_cmp}
+use Rattle.dt_table.specs.StoredMovesInner.{table_view}
+use Rattle.dt_table.proofs.StoredUnits.{values-written}
 use Rattle.dt_table.proofs.table.Table.write.Goals as goal
-
-pub invariant_of-self : goal.invariant_of-self
-invariant_of-self c =
-    let sound = c.self.invariant in
-    record {
-      regions = sound.regions;
-      few = sound.few;
-      linked = sound.linked;
-      rows = rw c.put_value.ensures.rows (stored-written c.self.inside c.args.key c.args.value (opening_home c.self.inside.regions c.self.inside.homes.entries c.args.key) sound refl);
-    }
 
 pub returns-clause-state : goal.returns-clause-state
 returns-clause-state c =
-    rw (← c.self.view_is) (state-written c.self.inside c.args.key c.args.value (opening_home c.self.inside.regions c.self.inside.homes.entries c.args.key) _ c.put_value.ensures.rows)
+    let a = c.self.inside in
+    let values = ap (from_entries {R = slice_cmp nat_cmp}) c.put_value.ensures.values ∙ values-written a.values.entries c.args.key c.args.value in
+    rw (← c.self.view_is) (λ i. record (table_view a).state { values = values i })

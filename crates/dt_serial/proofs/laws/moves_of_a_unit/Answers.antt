@@ -3,7 +3,7 @@ use Rattle.dt_serial.specs.Order.{ByTest}
 use Rattle.dt_serial.proofs.Runs.{movers_ran}
 use Rattle.dt_serial.proofs.History.{chain}
 use Rattle.dt_serial.proofs.Outcome.{move_numbered, moves_front, flag_up, flag_down}
-use Rattle.dt_serial.proofs.laws.moves_of_a_key.Goals as goal
+use Rattle.dt_serial.proofs.laws.moves_of_a_unit.Goals as goal
 
 pub returns-clause-in_order : goal.returns-clause-in_order
 returns-clause-in_order c procs precedes start history fits key = chain procs (ByTest precedes) start history fits key

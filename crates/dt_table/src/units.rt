@@ -1,0 +1,71 @@
+//! Maps by units: each is looked up by a unit's bytes, which are the front of a key, so no look-up takes memory.
+ghost use Rattle.std.specs.Prelude.{◌≡◌, ◌+◌, ◌<◌, ◌≤◌, IfOk, length};
+ghost use Rattle.std.specs.Option.{option_copied};
+ghost use Rattle.std.specs.Map.{lookup};
+ghost use Rattle.indexmap.specs.IndexMap.{insert_entry, spare};
+ghost use Rattle.dt_access.specs.Clash.{same_key};
+ghost use Rattle.dt_access.specs.Orders.{HasDistinctKeys};
+ghost use Rattle.dt_table.specs.Table.{opening_home as opening_home_of};
+ghost use Rattle.dt_table.specs.StoredUnitInner.{by_bytes, stored_of};
+
+use crate::stored::StoredUnit;
+use dt_text::{Key, NoMemory};
+use indexmap::IndexMap;
+use std::alloc::Global;
+
+/// The listed homes, by unit.
+pub fn index_homes(alloc: Global, homes: &[(Key, u8)]) -> Result<IndexMap<Vec<u8>, u8>, NoMemory>
+    requires { HasDistinctKeys homes.now }
+    ensures { IfOk result (λ index. by_bytes index.entries ≡ homes.now) }
+{
+    let mut index = IndexMap::with_capacity(alloc, homes.len())?;
+    for (unit, home) in homes {
+        index.insert(Vec::from_slice(alloc, unit.bytes())?, *home)?;
+    }
+    Ok(index)
+}
+
+/// The home of a unit that was never moved.
+pub fn opening_home(homes: &IndexMap<Vec<u8>, u8>, regions: u8, unit: &[u8]) -> u8
+    requires regions { 0 < regions }
+    requires unit { 0 < length unit.now }
+    ensures { result ≡ opening_home_of regions (by_bytes homes.now.entries) unit.now }
+{
+    match homes.get(unit) {
+        Some(home) => *home,
+        None => unit[0] % regions,
+    }
+}
+
+/// The stored unit of these bytes, if it is stored.
+pub fn stored_unit<'a>(units: &'a IndexMap<Vec<u8>, StoredUnit>, unit: &[u8]) -> Option<&'a StoredUnit>
+    ensures { option_copied result ≡ lookup (same_key unit.now) (by_bytes units.now.entries) }
+{
+    units.get(unit)
+}
+
+/// The stored unit of these bytes, or else a fresh one with this home.
+pub fn stored_or_fresh(units: &IndexMap<Vec<u8>, StoredUnit>, unit: &[u8], home: u8) -> StoredUnit
+    ensures { result ≡ stored_of (by_bytes units.now.entries) unit.now home }
+{
+    match stored_unit(units, unit) {
+        Some(stored) => *stored,
+        None => StoredUnit {
+            home,
+            counter: 0,
+            last: None,
+        },
+    }
+}
+
+/// Puts a unit in its place, which takes no memory where there is room.
+pub fn put_unit(units: &mut IndexMap<Vec<u8>, StoredUnit>, unit: Vec<u8>, stored: StoredUnit)
+    requires { 0 < spare units.old }
+    ensures units { by_bytes units.new.entries ≡ insert_entry same_key (by_bytes units.old.entries) unit.items stored }
+    ensures room { spare units.old ≤ spare units.new + 1 }
+{
+    match units.insert(unit, stored) {
+        Ok(_) => (),
+        Err(_) => unreachable!(),
+    }
+}
