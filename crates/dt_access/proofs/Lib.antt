@@ -1,5 +1,10 @@
 pub mod Ids
 pub mod KeyOrder
-pub mod Clashes
+pub mod GranuleLaws
+pub mod Units
+pub mod ClashLaws
+pub mod RowClashes
+pub mod Search
+pub mod ClashParts
 pub mod IdTexts
 pub mod Callers

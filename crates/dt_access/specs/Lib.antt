@@ -1,3 +1,5 @@
 pub mod Ids
+pub mod Granules
 pub mod Clash
 pub mod Orders
+pub mod Meeting

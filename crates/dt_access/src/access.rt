@@ -1,23 +1,32 @@
 ghost use Rattle.std.specs.Prelude.{◌≡◌, IfOk};
-ghost use Rattle.dt_access.specs.Clash.{is_write};
+ghost use Rattle.dt_access.specs.Clash.{is_whole, is_write};
 
 use crate::copies::TryCopy;
 use dt_text::{Key, NoMemory};
 use std::alloc::Global;
 
-/// What a transaction does with a row: it reads it, or it may also write it.
+/// What a transaction does with a row: it reads it, it may also write it, or it takes the row's whole granule, as a move
+/// does that takes along all rows of it.
 #[derive(Clone, Copy, Debug, PartialEq, Eq)]
 pub enum Mode {
     Read,
     Write,
+    Whole,
 }
 
 impl Mode {
-    /// Whether the row may be written.
+    /// Whether the mode allows more than to read the row. Takes no memory.
     pub fn is_write(&self) -> bool
         ensures { result ≡ is_write self.now }
     {
-        matches!(self, Mode::Write)
+        !matches!(self, Mode::Read)
+    }
+
+    /// Whether the mode takes all rows of the key's granule. Takes no memory.
+    pub fn is_whole(&self) -> bool
+        ensures { result ≡ is_whole self.now }
+    {
+        matches!(self, Mode::Whole)
     }
 }
 

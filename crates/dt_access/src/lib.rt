@@ -1,8 +1,11 @@
-//! What a transaction wants of the rows: ids, access lists, the parts that homes order, and when two parts clash.
+//! What a transaction wants of the rows: ids, granules of keys, access lists, the parts that homes order, and when two
+//! parts clash.
 #![tactic(auto)]
 
 mod access;
+mod clashes;
 mod copies;
+mod granules;
 mod homes;
 mod id;
 mod keys;
@@ -11,10 +14,12 @@ mod part;
 mod writes;
 
 pub use access::{Access, Mode};
+pub use clashes::clash;
 pub use copies::TryCopy;
+pub use granules::{granule, is_granule};
 pub use homes::Homes;
 pub use id::{TxnId, put_id, read_id};
 pub use keys::Keys;
 pub use lists::Ids;
-pub use part::{Part, clash};
+pub use part::Part;
 pub use writes::Writes;

@@ -1,20 +1,18 @@
 ghost use Rattle.std.specs.Prelude.{◌≡◌, IfOk};
-ghost use Rattle.dt_access.specs.Clash.{clash};
-ghost use Rattle.dt_access.specs.Orders.{HasAscendingKeys};
 
-use crate::access::Mode;
 use crate::copies::TryCopy;
 use crate::homes::Homes;
 use crate::id::TxnId;
 use crate::keys::Keys;
-use dt_text::{Key, NoMemory};
+use dt_text::NoMemory;
 use std::alloc::Global;
-use std::cmp::Ordering;
 
-/// The part of a transaction that one home orders: its keys that are homed there.
+/// The part of a transaction that one home orders: its keys that are homed there. Each part tells the transaction's rank,
+/// from 0 (first) to 9, and all its homes.
 #[derive(Debug, Drop)]
 pub struct Part {
     pub id: TxnId,
+    pub rank: u8,
     pub home: u8,
     pub keys: Keys,
     pub homes: Homes,
@@ -27,6 +25,7 @@ impl Part {
     {
         Ok(Part {
             id: self.id,
+            rank: self.rank,
             home: self.home,
             keys: self.keys.copy(alloc)?,
             homes: self.homes.copy(alloc)?,
@@ -38,37 +37,4 @@ impl TryCopy for Part {
     fn copy(&self, alloc: Global) -> Result<Self, NoMemory> {
         Part::copy(self, alloc)
     }
-}
-
-/// Whether two parts clash: some key is in both, and at least one of them may write it. Takes no
-/// memory, and time linear in the keys of both.
-pub fn clash(left: &Part, right: &Part) -> bool
-    ensures { result ≡ clash left.now.keys right.now.keys }
-{
-    keys_clash(left.keys.as_slice(), right.keys.as_slice())
-}
-
-/// Whether two ascending lists of keys clash, found by going along both.
-fn keys_clash(mut left: &[(Key, Mode)], mut right: &[(Key, Mode)]) -> bool
-    requires left_ascends { HasAscendingKeys left.now }
-    requires right_ascends { HasAscendingKeys right.now }
-    ensures { result ≡ clash left.now right.now }
-{
-    while let Some(((left_key, left_mode), left_rest)) = left.split_first() {
-        let Some(((right_key, right_mode), right_rest)) = right.split_first() else {
-            return false;
-        };
-        match left_key.cmp(right_key) {
-            Ordering::Less => left = left_rest,
-            Ordering::Greater => right = right_rest,
-            Ordering::Equal => {
-                if left_mode.is_write() || right_mode.is_write() {
-                    return true;
-                }
-                left = left_rest;
-                right = right_rest;
-            }
-        }
-    }
-    false
 }

@@ -4,12 +4,11 @@ use Rattle.std.proofs.Common.{◌≡◌, ◌≤◌, ◌↔◌, Bool, true, false
 use Rattle.dt_text.specs.declared.NoMemory.{NoMemory}
 use Rattle.dt_lists.specs.Lists.{AllIn, Has, Either}
 use Rattle.dt_lists.proofs.Callers.{all_get, all_put, chain_join}
-use Rattle.dt_access.specs.Ids.{Before}
 use Rattle.dt_access.specs.declared.TxnId.{TxnId}
-use Rattle.dt_sched.specs.Views.{View, Precedes, IsClass}
+use Rattle.dt_sched.specs.Views.{View, IsSooner, Precedes, IsClass}
 use Rattle.dt_sched.specs.Decide.{IsExecutable, IsResolvable}
-use Rattle.dt_access.proofs.Callers.{either_id, before_decided}
-use Rattle.dt_sched.proofs.Callers.{has_id_decided, class_unique, class_of_member}
+use Rattle.dt_access.proofs.Callers.{either_id}
+use Rattle.dt_sched.proofs.Callers.{has_id_decided, class_unique, class_of_member, sooner_breaks_ties}
 use Rattle.dt_plain.proofs.Scan.{refuted}
 use Rattle.dt_plain.proofs.Same.{no_id}
 use Rattle.dt_plain.proofs.Walk.{has_at}
@@ -42,10 +41,10 @@ module _ (view : View) (resolved : List (List TxnId)) (done : List TxnId) (t : T
   not_done b k e = no_answer (λ x. x.waiting (k.0 e))
 
   -- what an executable id has behind it is no obstacle
-  no_obstacle : (behind ahead : List TxnId) → AreBehind view t behind → AreAhead view t ahead → IsExecutable view resolved done t → (u : TxnId) → Has behind u → IsNoObstacle ahead done t u
-  no_obstacle behind ahead r a x u h = at (either_id u t) (has_id_decided ahead u) (before_decided u t)
+  no_obstacle : (behind ahead : List TxnId) → AreBehind view t behind → AreAhead view t ahead → IsExecutable view resolved done t → (u : TxnId) → Has behind u → IsNoObstacle view ahead done t u
+  no_obstacle behind ahead r a x u h = at (either_id u t) (has_id_decided ahead u) (sooner_breaks_ties.decided view u t)
     where
-      at : Either (u ≡ t) → Either (Has ahead u) → Either (Before u t) → IsNoObstacle ahead done t u
+      at : Either (u ≡ t) → Either (Has ahead u) → Either (IsSooner view u t) → IsNoObstacle view ahead done t u
       at (inl e) f g = inl e
       at (inr ne) (inl f) (inl g) = inr (inl (x.preceders u (ne, (r.members u).0 h, inr g)))
       at (inr ne) (inl f) (inr ng) = inr (inr (f, ng))
@@ -58,7 +57,7 @@ module _ (view : View) (resolved : List (List TxnId)) (done : List TxnId) (t : T
       no_answer (λ x. refuted b k e (all_put _ behind (λ u h. (x.closed u ((r.members u).0 h), no_obstacle behind ahead r a x u h))))
 
   -- what is no obstacle is done, if it precedes
-  done_unless : (ahead : List TxnId) (u : TxnId) → AreAhead view t ahead → IsNoObstacle ahead done t u → Precedes view u t → Has done u
+  done_unless : (ahead : List TxnId) (u : TxnId) → AreAhead view t ahead → IsNoObstacle view ahead done t u → Precedes view u t → Has done u
   done_unless ahead u a (inl e) p = absurd (p.0 e)
   done_unless ahead u a (inr (inl d)) p = d
   done_unless ahead u a (inr (inr m)) p = elim p.2 [ inl n ↦ absurd (n ((a.members u).0 m.0)) | inr b ↦ absurd (m.1 b) ]

@@ -1,3 +1,4 @@
 pub mod PlainSchedView
 pub mod Links
 pub mod Graphs
+pub mod Ranks

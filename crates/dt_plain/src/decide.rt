@@ -12,17 +12,17 @@ use dt_text::NoMemory;
 use std::alloc::Global;
 
 /// Whether `other`, which reaches `id`, is no obstacle to executing it.
-fn is_no_obstacle(ahead: &[TxnId], done: &[TxnId], id: TxnId, other: TxnId) -> bool
-    ensures { IsTrue result ↔ IsNoObstacle ahead.now done.now id other }
+fn is_no_obstacle(graph: &Graph, ahead: &[TxnId], done: &[TxnId], id: TxnId, other: TxnId) -> bool
+    ensures { IsTrue result ↔ IsNoObstacle graph.now ahead.now done.now id other }
 {
-    other == id || has(done, other) || has(ahead, other) && !other.before(&id)
+    other == id || has(done, other) || has(ahead, other) && !graph.is_sooner(other, id)
 }
 
 /// Whether `other`, which reaches `id`, is complete and no obstacle to executing it.
 fn is_clear(graph: &Graph, ahead: &[TxnId], done: &[TxnId], id: TxnId, other: TxnId) -> bool
     ensures { IsTrue result ↔ IsClear graph.now ahead.now done.now id other }
 {
-    graph.is_complete(other) && is_no_obstacle(ahead, done, id, other)
+    graph.is_complete(other) && is_no_obstacle(graph, ahead, done, id, other)
 }
 
 /// Whether all of `behind` is complete and no obstacle to executing `id`.

@@ -2,11 +2,12 @@ ghost use Rattle.std.specs.Prelude.{◌≡◌, ◌↔◌, IsTrue, IfOk, OnOk, ma
 ghost use Rattle.dt_sched.specs.Surroundings.{MakesEdge, EdgeInto, EdgeWithin, AreBehind, AreAhead, ArePresent};
 ghost use Rattle.dt_plain.specs.Graphs.{Gains, AreEdges, GetsIds, turned_link};
 ghost use Rattle.dt_lists.specs.Lists.{AllIn, Distinct};
-ghost use Rattle.dt_sched.specs.Views.{IsComplete, IsClass};
+ghost use Rattle.dt_sched.specs.Views.{IsComplete, IsClass, IsSooner};
 
 use crate::class::common;
 use crate::complete::{are_complete, is_complete};
 use crate::ids::add_once;
+use crate::ranks::is_sooner;
 use crate::search::{Link, reached};
 use dt_access::{Ids, Part, TxnId, clash};
 use dt_text::{Listed, NoMemory};
@@ -144,6 +145,13 @@ impl<'a> Graph<'a> {
         ensures { IsTrue result ↔ AllIn (IsComplete self.now) ids.now }
     {
         are_complete(self.logs, ids)
+    }
+
+    /// Whether the one transaction is sooner than the other: by rank, then by id.
+    pub fn is_sooner(&self, left: TxnId, right: TxnId) -> bool
+        ensures { IsTrue result ↔ IsSooner self.now left right }
+    {
+        is_sooner(self.logs, left, right)
     }
 
     /// All that reaches the transaction, itself with them.

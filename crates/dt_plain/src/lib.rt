@@ -7,6 +7,7 @@ mod decide;
 mod graph;
 mod ids;
 mod plain;
+mod ranks;
 mod search;
 
 pub use plain::PlainSched;

@@ -4,7 +4,10 @@ use Rattle.dt_lists.specs.Lists.{AnyIn, SomeThen, Has}
 use Rattle.dt_lists.proofs.Callers.{any_at, any_from_at, any_get, all_get, some_get, each_of_image, any_front, some_back, chain_join, chain_step}
 use Rattle.dt_access.specs.declared.TxnId.{TxnId}
 use Rattle.dt_access.specs.declared.Part.{Part}
-use Rattle.dt_sched.specs.Views.{View, log_at, HasPart, IsLonger, AreClashing, Edge, here, onward, Reaches, HasParts, IsComplete, IsClosed, Mutual, Precedes, IsClass, IsWellFormed, StandsAlike}
+use Rattle.dt_sched.specs.Views.{View, log_at, HasPart, IsLonger, AreClashing, Edge, here, onward, Reaches, HasParts, IsComplete, IsClosed, IsPresent, IsSooner, Mutual, PrecedesBy, Precedes, IsClass, IsWellFormed, StandsAlike}
+use Rattle.dt_sched.specs.Ties.{BreaksTies}
+use Rattle.dt_sched.proofs.Reach.{reach_decided, reach_source}
+use Rattle.dt_sched.proofs.Ranks.{sooner_breaks_ties}
 use Rattle.dt_sched.proofs.Longer.{log_longer, edge_longer, reaches_longer, complete_longer}
 
 -- the home of an edge, and back
@@ -80,26 +83,49 @@ module _ (short long : View) (l : IsLonger short long) (w : IsWellFormed long) w
     λ k. record { ascending = k.ascending; members = λ u. (λ h. (mutual_stays u t c).1 ((k.members u).0 h), λ m. (k.members u).1 ((mutual_stays u t c).0 m)) },
   )
 
-  pub preceders_stay : (u t : TxnId) → IsClosed short t → Precedes short u t ↔ Precedes long u t
-  preceders_stay u t c = (longer_precedes, shorter_precedes)
+-- whatever breaks ties, a closed id keeps what precedes it
+module _ (order : View → TxnId → TxnId → Type 0) (ties : BreaksTies order) (short long : View) (l : IsLonger short long) (w : IsWellFormed long) where
+  -- of two that reach each other, both have parts
+  tie_stays : (u t : TxnId) → u ≢ t → Reaches short u t → Reaches short t u → order short u t ↔ order long u t
+  tie_stays u t ne r back = ties.alike short long l w u t (present u t ne r) (present t u (λ e. ne (sym e)) back)
     where
-      longer_precedes : Precedes short u t → Precedes long u t
-      longer_precedes p = (p.0, reaches_longer short long l u t p.1, elim p.2 [ inl n ↦ inl (λ s. n (reached_back u t c p.1 s)) | inr b ↦ inr b ])
+      present : (x y : TxnId) → x ≢ y → Reaches short x y → IsPresent short x
+      present x y apart along = elim (reach_source short along) [ inl same ↦ absurd (apart same) | inr p ↦ p ]
 
-      shorter_precedes : Precedes long u t → Precedes short u t
-      shorter_precedes p = (p.0, reaches_back p.1 c, elim p.2 [ inl n ↦ inl (λ s. n (reaches_longer short long l t u s)) | inr b ↦ inr b ])
+  pub preceders_stay_by : (u t : TxnId) → IsClosed short t → PrecedesBy order short u t ↔ PrecedesBy order long u t
+  preceders_stay_by u t c = (longer_precedes, shorter_precedes)
+    where
+      longer_precedes : PrecedesBy order short u t → PrecedesBy order long u t
+      longer_precedes p = elim (reach_decided short t u) [
+        | inl back ↦ (p.0, reaches_longer short long l u t p.1, elim p.2 [ inl n ↦ absurd (n back) | inr b ↦ inr ((tie_stays u t p.0 p.1 back).0 b) ])
+        | inr n ↦ (p.0, reaches_longer short long l u t p.1, inl (λ s. n (reached_back short long l w u t c p.1 s)))
+      ]
 
-  pub stands_alike : (t : TxnId) → IsClosed short t → StandsAlike short long t
-  stands_alike t c = record {
-    closed = closed_stays t c;
-    edges = λ u. edges_stay u t c;
-    reaching = λ u. reaching_stays u t c;
-    both_ways = λ u. mutual_stays u t c;
-    class = class_stays t c;
-    preceders = λ u. preceders_stay u t c;
-  }
+      shorter_precedes : PrecedesBy order long u t → PrecedesBy order short u t
+      shorter_precedes p =
+          let into : Reaches short u t = reaches_back short long l w p.1 c in (
+            p.0,
+            into,
+            elim (reach_decided short t u) [
+              | inl back ↦ elim p.2 [ inl n ↦ absurd (n (reaches_longer short long l t u back)) | inr b ↦ inr ((tie_stays u t p.0 into back).1 b) ]
+              | inr n ↦ inl n
+            ],
+          )
 
--- two views of the same logs that both have t closed agree on its class and on its preceders
+pub preceders_stay : (short long : View) → IsLonger short long → IsWellFormed long → (u t : TxnId) → IsClosed short t → Precedes short u t ↔ Precedes long u t
+preceders_stay = preceders_stay_by IsSooner sooner_breaks_ties
+
+pub stands_alike : (short long : View) → IsLonger short long → IsWellFormed long → (t : TxnId) → IsClosed short t → StandsAlike short long t
+stands_alike short long l w t c = record {
+  closed = closed_stays short long l w t c;
+  edges = λ u. edges_stay short long l w u t c;
+  reaching = λ u. reaching_stays short long l w u t c;
+  both_ways = λ u. mutual_stays short long l w u t c;
+  class = class_stays short long l w t c;
+  preceders = λ u. preceders_stay short long l w u t c;
+}
+
+-- two views of the same logs that both have t closed agree on its class
 module _ (left right whole : View) (l : IsLonger left whole) (r : IsLonger right whole) (w : IsWellFormed whole) where
   pub class_agrees : (t : TxnId) → IsClosed left t → IsClosed right t → (ids : List TxnId) → IsClass left t ids ↔ IsClass right t ids
   class_agrees t c d ids = (
@@ -107,8 +133,12 @@ module _ (left right whole : View) (l : IsLonger left whole) (r : IsLonger right
     λ k. (class_stays left whole l w t c ids).1 ((class_stays right whole r w t d ids).0 k),
   )
 
-  pub preceders_agree : (u t : TxnId) → IsClosed left t → IsClosed right t → Precedes left u t ↔ Precedes right u t
-  preceders_agree u t c d = (
-    λ p. (preceders_stay right whole r w u t d).1 ((preceders_stay left whole l w u t c).0 p),
-    λ p. (preceders_stay left whole l w u t c).1 ((preceders_stay right whole r w u t d).0 p),
+  -- and on its preceders, whatever breaks ties
+  pub preceders_agree_by : (order : View → TxnId → TxnId → Type 0) → BreaksTies order → (u t : TxnId) → IsClosed left t → IsClosed right t → PrecedesBy order left u t ↔ PrecedesBy order right u t
+  preceders_agree_by order ties u t c d = (
+    λ p. (preceders_stay_by order ties right whole r w u t d).1 ((preceders_stay_by order ties left whole l w u t c).0 p),
+    λ p. (preceders_stay_by order ties left whole l w u t c).1 ((preceders_stay_by order ties right whole r w u t d).0 p),
   )
+
+  pub preceders_agree : (u t : TxnId) → IsClosed left t → IsClosed right t → Precedes left u t ↔ Precedes right u t
+  preceders_agree = preceders_agree_by IsSooner sooner_breaks_ties

@@ -3,10 +3,13 @@ use Rattle.std.proofs.Common.{◌≤◌, ◌⊎◌, List, length, subst, inl, in
 use Rattle.dt_lists.specs.Lists.{AllIn, Has, Either}
 use Rattle.dt_lists.proofs.Callers.{all_get, all_put, either_or, either_implies, either_same, either_all, either_has, either_le, either_list}
 use Rattle.dt_access.specs.declared.TxnId.{TxnId}
-use Rattle.dt_sched.specs.Views.{View, Reaches, IsComplete, IsClosed, Precedes, IsClass}
-use Rattle.dt_sched.specs.Decide.{IsExecutable, IsResolvable}
+use Rattle.dt_sched.specs.Views.{View, Reaches, IsComplete, IsClosed, IsSooner, PrecedesBy, IsClass}
+use Rattle.dt_sched.specs.Ties.{BreaksTies}
+use Rattle.dt_sched.specs.Decide.{IsExecutable, IsExecutableBy, IsResolvable}
 use Rattle.dt_access.proofs.Callers.{either_id}
-use Rattle.dt_sched.proofs.Reach.{each_reaching_decided, precedes_decided, complete_decided, closed_decided}
+use Rattle.dt_sched.proofs.Reach.{each_reaching_decided, complete_decided, closed_decided}
+use Rattle.dt_sched.proofs.Precedence.{decided_by}
+use Rattle.dt_sched.proofs.Ranks.{sooner_breaks_ties}
 use Rattle.dt_sched.proofs.Classes.{class_of, class_unique, some_class_decided}
 
 pub has_id_decided : (ids : List TxnId) (t : TxnId) → Either (Has ids t)
@@ -14,12 +17,6 @@ has_id_decided ids t = either_has ids t either_id
 
 pub has_class_decided : (resolved : List (List TxnId)) (ids : List TxnId) → Either (Has resolved ids)
 has_class_decided resolved ids = either_has resolved ids (λ a b. either_list a b either_id)
-
--- all that precedes t is done
-pub preceders_done_decided : (view : View) (done : List TxnId) (t : TxnId) → Either ((u : TxnId) → Precedes view u t → Has done u)
-preceders_done_decided view done t = either_same ((u : TxnId) → Reaches view u t → Precedes view u t → Has done u) ((u : TxnId) → Precedes view u t → Has done u)
-    (λ f u p. f u p.1 p) (λ f u r p. f u p)
-    (each_reaching_decided view t (λ u. Precedes view u t → Has done u) (λ u. either_implies (Precedes view u t) (Has done u) (precedes_decided view u t) (has_id_decided done u)))
 
 -- the class of t is resolved, if it has two members
 pub settled_decided : (view : View) (resolved : List (List TxnId)) (t : TxnId) → Either ((ids : List TxnId) → IsClass view t ids → 2 ≤ length ids → Has resolved ids)
@@ -30,16 +27,26 @@ settled_decided view resolved t =
     (λ f. f c.0 c.1)
     (either_implies (2 ≤ length c.0) (Has resolved c.0) (either_le 2 (length c.0)) (has_class_decided resolved c.0))
 
+-- where an order breaks ties, it is decided whether all that precedes t is done, and whether t is executable
+module _ (order : View → TxnId → TxnId → Type 0) (ties : BreaksTies order) where
+  preceders_done_decided : (view : View) (done : List TxnId) (t : TxnId) → Either ((u : TxnId) → PrecedesBy order view u t → Has done u)
+  preceders_done_decided view done t = either_same ((u : TxnId) → Reaches view u t → PrecedesBy order view u t → Has done u) ((u : TxnId) → PrecedesBy order view u t → Has done u)
+      (λ f u p. f u p.1 p) (λ f u r p. f u p)
+      (each_reaching_decided view t (λ u. PrecedesBy order view u t → Has done u) (λ u. either_implies (PrecedesBy order view u t) (Has done u) (decided_by order ties view u t) (has_id_decided done u)))
+
+  pub executable_decided_by : (view : View) (resolved : List (List TxnId)) (done : List TxnId) (t : TxnId) → Either (IsExecutableBy order view resolved done t)
+  executable_decided_by view resolved done t = join (closed_decided view t) (has_id_decided done t) (preceders_done_decided view done t) (settled_decided view resolved t)
+    where
+      join : Either (IsClosed view t) → Either (Has done t) → Either ((u : TxnId) → PrecedesBy order view u t → Has done u)
+          → Either ((ids : List TxnId) → IsClass view t ids → 2 ≤ length ids → Has resolved ids) → Either (IsExecutableBy order view resolved done t)
+      join (inl c) (inr w) (inl p) (inl s) = inl (record { closed = c; waiting = w; preceders = p; settled = s })
+      join (inr n) w p s = inr (λ x. n x.closed)
+      join (inl c) (inl d) p s = inr (λ x. x.waiting d)
+      join (inl c) (inr w) (inr n) s = inr (λ x. n x.preceders)
+      join (inl c) (inr w) (inl p) (inr n) = inr (λ x. n x.settled)
+
 pub executable_decided : (view : View) (resolved : List (List TxnId)) (done : List TxnId) (t : TxnId) → Either (IsExecutable view resolved done t)
-executable_decided view resolved done t = join (closed_decided view t) (has_id_decided done t) (preceders_done_decided view done t) (settled_decided view resolved t)
-  where
-    join : Either (IsClosed view t) → Either (Has done t) → Either ((u : TxnId) → Precedes view u t → Has done u)
-        → Either ((ids : List TxnId) → IsClass view t ids → 2 ≤ length ids → Has resolved ids) → Either (IsExecutable view resolved done t)
-    join (inl c) (inr w) (inl p) (inl s) = inl (record { closed = c; waiting = w; preceders = p; settled = s })
-    join (inr n) w p s = inr (λ x. n x.closed)
-    join (inl c) (inl d) p s = inr (λ x. x.waiting d)
-    join (inl c) (inr w) (inr n) s = inr (λ x. n x.preceders)
-    join (inl c) (inr w) (inl p) (inr n) = inr (λ x. n x.settled)
+executable_decided = executable_decided_by IsSooner sooner_breaks_ties
 
 -- everything outside that reaches the ids is done
 pub outside_done_decided : (view : View) (done ids : List TxnId) → Either ((u t : TxnId) → Has ids t → Reaches view u t → Has ids u ⊎ Has done u)

@@ -42,8 +42,22 @@ has_with_part view part home p h = elim (log_with_part view part home) [
   | inr e ↦ inr (subst (λ log. Has log p) e h)
 ]
 
+-- what the parts of one id have alike, they have alike with a new part of which that is so
+module _ (view : View) (part : Part) {A : Type 0} (f : Part → A) (among : (home other : ℕ) → AllIn (λ p. AllIn (λ q. p.id ≡ q.id → f p ≡ f q) (log_at view other)) (log_at view home)) (new : AllIn (AllIn (λ p. p.id ≡ part.id → f p ≡ f part)) view) where
+  with_new : (home : ℕ) (p : Part) → Has (log_at view home) p → p.id ≡ part.id → f p ≡ f part
+  with_new home p h = all_get (λ p. p.id ≡ part.id → f p ≡ f part) (log_at view home) (all_at _ [] view home tt new) p h
+
+  pair : (home other : ℕ) (p q : Part) → (p ≡ part) ⊎ Has (log_at view home) p → (q ≡ part) ⊎ Has (log_at view other) q → p.id ≡ q.id → f p ≡ f q
+  pair home other p q (inl e) (inl g) s = ap f (e ∙ sym g)
+  pair home other p q (inl e) (inr k) s = ap f e ∙ sym (with_new other q k (sym s ∙ ap (λ x. x.id) e))
+  pair home other p q (inr h) (inl g) s = with_new home p h (s ∙ ap (λ x. x.id) g) ∙ sym (ap f g)
+  pair home other p q (inr h) (inr k) s = all_get _ (log_at view other) (all_get _ (log_at view home) (among home other) p h) q k s
+
+  all_alike : (home other : ℕ) → AllIn (λ p. AllIn (λ q. p.id ≡ q.id → f p ≡ f q) (log_at (with_part view part) other)) (log_at (with_part view part) home)
+  all_alike home other = all_put _ (log_at (with_part view part) home) (λ p h. all_put _ (log_at (with_part view part) other) (λ q k. pair home other p q (has_with_part view part home p h) (has_with_part view part other q k)))
+
 pub with_part_well_formed : (view : View) (part : Part) → IsWellFormed view → CanInsert view part → IsWellFormed (with_part view part)
-with_part_well_formed view part w c = record { once = once; homed = homed; alike = alike }
+with_part_well_formed view part w c = record { once = once; homed = homed; alike = alike; ranked = ranked }
   where
     once : (home : ℕ) → Distinct (ids_of (log_at (with_part view part) home))
     once home = elim (log_with_part view part home) [
@@ -58,17 +72,11 @@ with_part_well_formed view part w c = record { once = once; homed = homed; alike
       | inr e ↦ subst (AllIn (λ p. (p.home ≡ home) × Has p.homes home)) (sym e) (w.homed home)
     ]
 
-    old : (home : ℕ) (p : Part) → Has (log_at view home) p → p.id ≡ part.id → p.homes ≡ part.homes
-    old home p h = all_get (λ p. p.id ≡ part.id → p.homes ≡ part.homes) (log_at view home) (all_at _ [] view home tt c.alike) p h
-
-    pair : (home other : ℕ) (p q : Part) → (p ≡ part) ⊎ Has (log_at view home) p → (q ≡ part) ⊎ Has (log_at view other) q → p.id ≡ q.id → p.homes ≡ q.homes
-    pair home other p q (inl e) (inl f) s = ap (λ x. x.homes) (e ∙ sym f)
-    pair home other p q (inl e) (inr k) s = ap (λ x. x.homes) e ∙ sym (old other q k (sym s ∙ ap (λ x. x.id) e))
-    pair home other p q (inr h) (inl f) s = old home p h (s ∙ ap (λ x. x.id) f) ∙ sym (ap (λ x. x.homes) f)
-    pair home other p q (inr h) (inr k) s = all_get _ (log_at view other) (all_get _ (log_at view home) (w.alike home other) p h) q k s
-
     alike : (home other : ℕ) → AllIn (λ p. AllIn (λ q. p.id ≡ q.id → p.homes ≡ q.homes) (log_at (with_part view part) other)) (log_at (with_part view part) home)
-    alike home other = all_put _ (log_at (with_part view part) home) (λ p h. all_put _ (log_at (with_part view part) other) (λ q k. pair home other p q (has_with_part view part home p h) (has_with_part view part other q k)))
+    alike = all_alike view part (λ p. p.homes) w.alike c.alike
+
+    ranked : (home other : ℕ) → AllIn (λ p. AllIn (λ q. p.id ≡ q.id → p.rank ≡ q.rank) (log_at (with_part view part) other)) (log_at (with_part view part) home)
+    ranked = all_alike view part (λ p. p.rank) w.ranked c.ranked
 
 -- a view of empty logs is well formed
 empty_log : (regions home : ℕ) → log_at (replicate regions []) home ≡ []
@@ -81,4 +89,5 @@ empty_well_formed regions = record {
   once = λ home. subst (λ log. Distinct (ids_of log)) (sym (empty_log regions home)) tt;
   homed = λ home. subst (AllIn (λ p. (p.home ≡ home) × Has p.homes home)) (sym (empty_log regions home)) tt;
   alike = λ home other. subst (AllIn (λ p. AllIn (λ q. p.id ≡ q.id → p.homes ≡ q.homes) (log_at (replicate regions []) other))) (sym (empty_log regions home)) tt;
+  ranked = λ home other. subst (AllIn (λ p. AllIn (λ q. p.id ≡ q.id → p.rank ≡ q.rank) (log_at (replicate regions []) other))) (sym (empty_log regions home)) tt;
 }

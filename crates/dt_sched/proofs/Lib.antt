@@ -1,7 +1,7 @@
-pub mod Clash
 pub mod Longer
 pub mod Closed
 pub mod Reach
+pub mod Ranks
 pub mod Precedence
 pub mod Classes
 pub mod Decisions

@@ -40,4 +40,6 @@ well_formed_front short long l w = record {
   homed = λ home. all_front _ (log_at short home) (log_at long home) (log_longer short long l home) (w.homed home);
   alike = λ home other. all_front _ (log_at short home) (log_at long home) (log_longer short long l home)
       (all_map _ _ (log_at long home) (λ p a. all_front _ (log_at short other) (log_at long other) (log_longer short long l other) a) (w.alike home other));
+  ranked = λ home other. all_front _ (log_at short home) (log_at long home) (log_longer short long l home)
+      (all_map _ _ (log_at long home) (λ p a. all_front _ (log_at short other) (log_at long other) (log_longer short long l other) a) (w.ranked home other));
 }

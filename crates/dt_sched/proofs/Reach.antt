@@ -2,14 +2,13 @@
 use Rattle.std.proofs.Common.{◌≡◌, ◌≢◌, ◌⊎◌, true, List, [], ◌∷◌, ◌++◌, refl, sym, subst, inl, inr}
 use Rattle.dt_lists.specs.Lists.{AllIn, Has, Either}
 use Rattle.dt_lists.proofs.Callers.{any_map, any_put, any_image, any_of_image, any_append, any_append_left, any_append_right, some_get, all_get, all_put}
-use Rattle.dt_lists.proofs.Callers.{either_not, either_and, either_and3, either_or, either_implies, either_same, either_any, either_all, either_some}
+use Rattle.dt_lists.proofs.Callers.{either_not, either_and, either_and3, either_implies, either_same, either_any, either_all, either_some}
 use Rattle.dt_lists.proofs.Callers.{either_true, chain_decided}
-use Rattle.dt_access.specs.Ids.{Before}
 use Rattle.dt_access.specs.Clash.{clash}
 use Rattle.dt_access.specs.declared.TxnId.{TxnId}
 use Rattle.dt_access.specs.declared.Part.{Part}
-use Rattle.dt_sched.specs.Views.{View, ids_of, log_at, HasPart, AreClashing, Edge, here, onward, Reaches, IsPresent, HasParts, IsComplete, IsClosed, Mutual, Precedes}
-use Rattle.dt_access.proofs.Callers.{either_id, before_decided}
+use Rattle.dt_sched.specs.Views.{View, ids_of, log_at, HasPart, AreClashing, Edge, here, onward, Reaches, IsPresent, HasParts, IsComplete, IsClosed, Mutual}
+use Rattle.dt_access.proofs.Callers.{either_id}
 
 -- the ids that have a part in the view
 abbrev pub ids_in : View → List TxnId
@@ -66,11 +65,6 @@ complete_decided view t = either_any _ view (λ log. either_any _ log (λ p. eit
 
 pub mutual_decided : (view : View) (u t : TxnId) → Either (Mutual view u t)
 mutual_decided view u t = either_and (Reaches view u t) (Reaches view t u) (reach_decided view u t) (reach_decided view t u)
-
-pub precedes_decided : (view : View) (u t : TxnId) → Either (Precedes view u t)
-precedes_decided view u t = either_and3 (u ≢ t) (Reaches view u t) ((¬ (Reaches view t u)) ⊎ Before u t)
-    (either_not (u ≡ t) (either_id u t)) (reach_decided view u t)
-    (either_or (¬ (Reaches view t u)) (Before u t) (either_not (Reaches view t u) (reach_decided view t u)) (before_decided u t))
 
 -- what is decided of each id is decided of all that reach t
 pub each_reaching_decided : (view : View) (t : TxnId) (P : TxnId → Type 0) → ((u : TxnId) → Either (P u)) → Either ((u : TxnId) → Reaches view u t → P u)

@@ -3,10 +3,12 @@ use Rattle.std.proofs.Common.{List, inl, inr}
 use Rattle.dt_lists.specs.Lists.{AllIn, Has, IsWithin}
 use Rattle.dt_lists.proofs.Callers.{all_get, all_put, all_map, within_get}
 use Rattle.dt_access.specs.declared.TxnId.{TxnId}
-use Rattle.dt_sched.specs.Views.{View, IsLonger, IsComplete, IsClosed, IsWellFormed}
-use Rattle.dt_sched.specs.Decide.{IsExecutable, IsResolvable}
+use Rattle.dt_sched.specs.Views.{View, IsLonger, IsComplete, IsClosed, IsSooner, IsWellFormed}
+use Rattle.dt_sched.specs.Ties.{BreaksTies}
+use Rattle.dt_sched.specs.Decide.{IsExecutable, IsExecutableBy, IsResolvable}
 use Rattle.dt_sched.proofs.Longer.{complete_longer}
-use Rattle.dt_sched.proofs.Closed.{complete_of_closed, closed_stays, reaching_stays, class_stays, preceders_stay}
+use Rattle.dt_sched.proofs.Closed.{complete_of_closed, closed_stays, reaching_stays, class_stays, preceders_stay_by}
+use Rattle.dt_sched.proofs.Ranks.{sooner_breaks_ties}
 use Rattle.dt_sched.proofs.Classes.{in_own_class}
 
 -- the members of a resolvable class are closed
@@ -20,14 +22,6 @@ module _ (short long : View) (l : IsLonger short long) (w : IsWellFormed long) w
   -- closed ids stay closed
   pub all_closed_stays : (ids : List TxnId) → AllIn (IsClosed short) ids → AllIn (IsClosed long) ids
   all_closed_stays ids a = all_map (IsClosed short) (IsClosed long) ids (λ t c. closed_stays short long l w t c) a
-
-  pub executable_stays : (resolved more : List (List TxnId)) (done later : List TxnId) (t : TxnId) → IsWithin resolved more → IsWithin done later → ¬ (Has later t) → IsExecutable short resolved done t → IsExecutable long more later t
-  executable_stays resolved more done later t wr wd n x = record {
-    closed = closed_stays short long l w t x.closed;
-    waiting = n;
-    preceders = λ u p. within_get done later wd u (x.preceders u ((preceders_stay short long l w u t x.closed).1 p));
-    settled = λ ids c two. within_get resolved more wr ids (x.settled ids ((class_stays short long l w t x.closed ids).1 c) two);
-  }
 
   pub resolvable_stays : (resolved more : List (List TxnId)) (done later ids : List TxnId) → AllIn (IsClosed short) done → IsWithin done later → ¬ (Has more ids) → IsResolvable short resolved done ids → IsResolvable long more later ids
   resolvable_stays resolved more done later ids c wd n x =
@@ -43,3 +37,17 @@ module _ (short long : View) (l : IsLonger short long) (w : IsWellFormed long) w
           | inr d ↦ inr (within_get done later wd u d)
         ];
       }
+
+-- where an order breaks ties, what is executable stays so until it is done
+pub executable_stays_by : (order : View → TxnId → TxnId → Type 0) → BreaksTies order → (short long : View) → IsLonger short long → IsWellFormed long
+    → (resolved more : List (List TxnId)) (done later : List TxnId) (t : TxnId) → IsWithin resolved more → IsWithin done later → ¬ (Has later t) → IsExecutableBy order short resolved done t → IsExecutableBy order long more later t
+executable_stays_by order ties short long l w resolved more done later t wr wd n x = record {
+  closed = closed_stays short long l w t x.closed;
+  waiting = n;
+  preceders = λ u p. within_get done later wd u (x.preceders u ((preceders_stay_by order ties short long l w u t x.closed).1 p));
+  settled = λ ids c two. within_get resolved more wr ids (x.settled ids ((class_stays short long l w t x.closed ids).1 c) two);
+}
+
+pub executable_stays : (short long : View) → IsLonger short long → IsWellFormed long
+    → (resolved more : List (List TxnId)) (done later : List TxnId) (t : TxnId) → IsWithin resolved more → IsWithin done later → ¬ (Has later t) → IsExecutable short resolved done t → IsExecutable long more later t
+executable_stays = executable_stays_by IsSooner sooner_breaks_ties

@@ -4,18 +4,23 @@
 use Rattle.std.specs.Prelude.{◌⊎◌, ◌≤◌, List, length}
 use Rattle.dt_lists.specs.Lists.{AllIn, Has, EachThen, Distinct}
 use Rattle.dt_access.specs.declared.TxnId.{TxnId}
-use Rattle.dt_sched.specs.Views.{View, Reaches, IsComplete, IsClosed, Precedes, IsClass, IsWellFormed}
+use Rattle.dt_sched.specs.Views.{View, Reaches, IsComplete, IsClosed, IsSooner, PrecedesBy, Precedes, IsClass, IsWellFormed}
 
--- t may be executed at a region that inserted this view, resolved these classes and has done these ids
-pub record IsExecutable (view : View) (resolved : List (List TxnId)) (done : List TxnId) (t : TxnId) : Type 0 where
+-- t may be executed at a region that inserted this view, resolved these classes and has done these ids, where the order
+-- breaks ties
+pub record IsExecutableBy (order : View → TxnId → TxnId → Type 0) (view : View) (resolved : List (List TxnId)) (done : List TxnId) (t : TxnId) : Type 0 where
   -- all that it depends on is known
   pub closed : IsClosed view t
   -- it runs once
   pub waiting : ¬ (Has done t)
   -- all that precedes it has run
-  pub preceders : (u : TxnId) → Precedes view u t → Has done u
+  pub preceders : (u : TxnId) → PrecedesBy order view u t → Has done u
   -- if it is deadlocked with others, their group was resolved
   pub settled : (ids : List TxnId) → IsClass view t ids → 2 ≤ length ids → Has resolved ids
+
+-- and so it may where the sooner one comes first
+abbrev pub IsExecutable : View → List (List TxnId) → List TxnId → TxnId → Type 0
+IsExecutable view resolved done t = IsExecutableBy IsSooner view resolved done t
 
 -- the ids are a deadlocked group that a region which inserted this view may resolve now
 pub record IsResolvable (view : View) (resolved : List (List TxnId)) (done : List TxnId) (ids : List TxnId) : Type 0 where
@@ -30,10 +35,15 @@ pub record IsResolvable (view : View) (resolved : List (List TxnId)) (done : Lis
   -- everything outside that reaches it has run
   pub before : (u t : TxnId) → Has ids t → Reaches view u t → Has ids u ⊎ Has done u
 
--- nothing is left to do for a region that inserted this view, resolved these classes and has done these ids
-pub record HasNothingToDo (view : View) (resolved : List (List TxnId)) (done : List TxnId) : Type 0 where
-  pub none_executable : (t : TxnId) → ¬ (IsExecutable view resolved done t)
+-- nothing is left to do for a region that inserted this view, resolved these classes and has done these ids, where the
+-- order breaks ties
+pub record HasNothingToDoBy (order : View → TxnId → TxnId → Type 0) (view : View) (resolved : List (List TxnId)) (done : List TxnId) : Type 0 where
+  pub none_executable : (t : TxnId) → ¬ (IsExecutableBy order view resolved done t)
   pub none_resolvable : (ids : List TxnId) → ¬ (IsResolvable view resolved done ids)
+
+-- and so it is where the sooner one comes first
+abbrev pub HasNothingToDo : View → List (List TxnId) → List TxnId → Type 0
+HasNothingToDo view resolved done = HasNothingToDoBy IsSooner view resolved done
 
 -- all that precedes a done id is done
 abbrev pub IsDownward : View → List TxnId → Type 0

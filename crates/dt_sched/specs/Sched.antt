@@ -35,6 +35,8 @@ pub record CanInsert (view : View) (part : Part) : Type 0 where
   pub few : parts_in view < 4294967295
   -- all parts of its id name the same homes
   pub alike : AllIn (AllIn (λ p. p.id ≡ part.id → p.homes ≡ part.homes)) view
+  -- and have the same rank
+  pub ranked : AllIn (AllIn (λ p. p.id ≡ part.id → p.rank ≡ part.rank)) view
 
 -- the view with the part at the back of the log of its home
 abbrev pub with_part : View → Part → View

@@ -3,11 +3,10 @@
 -- resolved. A scheduler answers from such lists; what the answers mean stands in Decide.antt, in terms of `Reaches` alone.
 use Rattle.std.specs.Prelude.{◌≡◌, ◌≢◌, ◌⊎◌, ◌↔◌, ◌≤◌, List, length, true}
 use Rattle.dt_lists.specs.Lists.{AnyIn, AllIn, SomeThen, Has, Distinct}
-use Rattle.dt_access.specs.Ids.{Before}
 use Rattle.dt_access.specs.Clash.{clash}
 use Rattle.dt_access.specs.declared.TxnId.{TxnId}
 use Rattle.dt_access.specs.declared.Part.{Part}
-use Rattle.dt_sched.specs.Views.{View, IsPresent, HasParts, IsComplete, AreClashing, Reaches}
+use Rattle.dt_sched.specs.Views.{View, IsPresent, HasParts, IsComplete, AreClashing, Reaches, IsSooner}
 
 -- where p stands before q in a log, it makes an edge: they are of different transactions, and clash
 abbrev pub MakesEdge : Part → Part → Type 0
@@ -40,13 +39,13 @@ pub record AreAhead (view : View) (t : TxnId) (ids : List TxnId) : Type 0 where
 abbrev pub ShowsComplete : View → TxnId → Part → Type 0
 ShowsComplete view t p = (p.id ≡ t) × HasParts view p.homes t
 
--- of what reaches t, u is no obstacle to executing t: it is t, or done, or t reaches it too and its id isn't less
-abbrev pub IsNoObstacle : List TxnId → List TxnId → TxnId → TxnId → Type 0
-IsNoObstacle ahead done t u = (u ≡ t) ⊎ (Has done u ⊎ (Has ahead u × ¬ (Before u t)))
+-- of what reaches t, u is no obstacle to executing t: it is t, or done, or t reaches it too and it isn't sooner
+abbrev pub IsNoObstacle : View → List TxnId → List TxnId → TxnId → TxnId → Type 0
+IsNoObstacle view ahead done t u = (u ≡ t) ⊎ (Has done u ⊎ (Has ahead u × ¬ (IsSooner view u t)))
 
 -- of what reaches t, u is complete and no obstacle to executing t
 abbrev pub IsClear : View → List TxnId → List TxnId → TxnId → TxnId → Type 0
-IsClear view ahead done t u = IsComplete view u × IsNoObstacle ahead done t u
+IsClear view ahead done t u = IsComplete view u × IsNoObstacle view ahead done t u
 
 -- the ids are several, all complete, and not resolved before
 abbrev pub AreCandidates : View → List (List TxnId) → List TxnId → Type 0

@@ -1,10 +1,12 @@
 -- The dependency graph. Each home keeps a log of the parts of transactions that use its rows; what a region has inserted
 -- of all logs is its view. Two parts that clash in one log make an edge from the earlier to the later. Logs of several
--- homes may disagree, so edges can go round; ids then break the tie. What a region may do with it: Decide.antt.
-use Rattle.std.specs.Prelude.{◌≡◌, ◌≢◌, ◌⊎◌, ◌↔◌, ℕ, List, [], get_or, map, length, true}
+-- homes may disagree, so edges can go round; ranks then break the tie, and ids where ranks are the same. That any order
+-- serves for this which every view computes alike: Ties.antt. What a region may do with it: Decide.antt.
+use Rattle.std.specs.Prelude.{◌≡◌, ◌≢◌, ◌<◌, ◌⊎◌, ◌↔◌, ℕ, List, [], get_or, map, length, true}
+use Rattle.std.specs.List.{filter, flat_map}
 use Rattle.dt_lists.specs.Lists.{AnyIn, AllIn, SomeThen, Has, IsFront, Pairwise, Distinct}
 pub use Rattle.dt_lists.specs.Chain.{Chain, here, onward}
-use Rattle.dt_access.specs.Ids.{Before, AreAscending}
+use Rattle.dt_access.specs.Ids.{Before, AreAscending, same_id}
 use Rattle.dt_access.specs.Clash.{clash}
 use Rattle.dt_access.specs.declared.TxnId.{TxnId}
 use Rattle.dt_access.specs.declared.Part.{Part}
@@ -61,9 +63,25 @@ IsClosed view t = (u : TxnId) → Reaches view u t → IsComplete view u
 abbrev pub Mutual : View → TxnId → TxnId → Type 0
 Mutual view u t = Reaches view u t × Reaches view t u
 
--- u precedes t: it reaches t, and where t reaches it too, its id is the lesser one
+-- the parts of t in the view, in the order of homes
+abbrev pub parts_with : View → TxnId → List Part
+parts_with view t = flat_map (filter (λ p. same_id p.id t)) view
+
+-- the rank of t in the view: that of its first part, as all its parts have the same; 0 where it has none
+abbrev pub rank_of : View → TxnId → ℕ
+rank_of view t = get_or (map (λ p. p.rank) (parts_with view t)) 0 0
+
+-- u is sooner than t: it has the lesser rank, or the same rank and the lesser id
+abbrev pub IsSooner : View → TxnId → TxnId → Type 0
+IsSooner view u t = (rank_of view u < rank_of view t) ⊎ ((rank_of view u ≡ rank_of view t) × Before u t)
+
+-- u precedes t where the order breaks ties: it reaches t, and where t reaches it too, it comes first in the order
+abbrev pub PrecedesBy : (View → TxnId → TxnId → Type 0) → View → TxnId → TxnId → Type 0
+PrecedesBy order view u t = (u ≢ t) × Reaches view u t × ((¬ (Reaches view t u)) ⊎ order view u t)
+
+-- u precedes t: it reaches t, and where t reaches it too, it is the sooner one
 abbrev pub Precedes : View → TxnId → TxnId → Type 0
-Precedes view u t = (u ≢ t) × Reaches view u t × ((¬ (Reaches view t u)) ⊎ Before u t)
+Precedes view u t = PrecedesBy IsSooner view u t
 
 -- the ids are the class of t, in ascending order: all that reach t and that t reaches
 pub record IsClass (view : View) (t : TxnId) (ids : List TxnId) : Type 0 where
@@ -71,11 +89,12 @@ pub record IsClass (view : View) (t : TxnId) (ids : List TxnId) : Type 0 where
   pub members : (u : TxnId) → Has ids u ↔ Mutual view u t
 
 -- the view is that of logs: in a log each id stands once, at a home that its part names, and all parts of one
--- transaction name the same homes
+-- transaction name the same homes and the same rank
 pub record IsWellFormed (view : View) : Type 0 where
   pub once : (home : ℕ) → Distinct (ids_of (log_at view home))
   pub homed : (home : ℕ) → AllIn (λ p. (p.home ≡ home) × Has p.homes home) (log_at view home)
   pub alike : (home other : ℕ) → AllIn (λ p. AllIn (λ q. p.id ≡ q.id → p.homes ≡ q.homes) (log_at view other)) (log_at view home)
+  pub ranked : (home other : ℕ) → AllIn (λ p. AllIn (λ q. p.id ≡ q.id → p.rank ≡ q.rank) (log_at view other)) (log_at view home)
 
 -- each transaction of the view has one home
 abbrev pub HasOneHomeEach : View → Type 0

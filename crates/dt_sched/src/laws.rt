@@ -1,11 +1,12 @@
 //! What holds of the dependency graph of every view. Each law is the contract of a function that does nothing.
-ghost use Rattle.std.specs.Prelude.{◌≡◌, ◌≢◌, ◌⊎◌, ◌↔◌, ℕ, List, [], ◌∷◌, true};
+ghost use Rattle.std.specs.Prelude.{◌≡◌, ◌≢◌, ◌⊎◌, ◌↔◌, ℕ, Bool, List, [], ◌∷◌, true};
 ghost use Rattle.dt_lists.specs.Lists.{AllIn, Either, Has, IsWithin};
 ghost use Rattle.dt_access.specs.Clash.{clash};
 ghost use Rattle.dt_access.specs.declared.Part.{Part};
 ghost use Rattle.dt_access.specs.declared.TxnId.{TxnId};
-ghost use Rattle.dt_sched.specs.Decide.{HasNothingToDo, IsDownward, IsExecutable, IsResolvable};
-ghost use Rattle.dt_sched.specs.Views.{Edge, HasOneHomeEach, IsClass, IsClosed, IsLonger, IsPresent, IsWellFormed, Precedes, Reaches, StandsAlike, View, log_at};
+ghost use Rattle.dt_sched.specs.Decide.{HasNothingToDo, HasNothingToDoBy, IsDownward, IsExecutable, IsExecutableBy, IsResolvable};
+ghost use Rattle.dt_sched.specs.Views.{Edge, HasOneHomeEach, IsClass, IsClosed, IsLonger, IsPresent, IsSooner, IsWellFormed, Precedes, PrecedesBy, Reaches, StandsAlike, View, log_at};
+ghost use Rattle.dt_sched.specs.Ties.{BreaksTies, Says};
 
 /// A closed transaction stands in every longer view as it stands in the shorter one: it is closed there too, with the
 /// same edges into it, the same that reach it, the same class and the same that precede it. So two regions that both
@@ -17,6 +18,29 @@ pub fn closed_views()
         (t : TxnId) → IsClosed left t → IsClosed right t → (ids : List TxnId) → IsClass left t ids ↔ IsClass right t ids }
     ensures same_preceders { (left right whole : View) → IsLonger left whole → IsLonger right whole → IsWellFormed whole →
         (u t : TxnId) → IsClosed left t → IsClosed right t → Precedes left u t ↔ Precedes right u t }
+{}
+
+/// Rank and id break ties: they make a strict total order of transactions, which every view computes alike. Any other test
+/// that breaks ties would serve as well: "precedes" by it is a strict order, which compares any two of which one reaches
+/// the other, two regions agree by it on what precedes a transaction that both have closed, what is executable stays so
+/// until it is done, and where nothing is left to do, what is done is just what is closed.
+pub fn ties()
+    ensures own { BreaksTies IsSooner }
+    ensures transitive { (test : View → TxnId → TxnId → Bool) → BreaksTies (Says test) →
+        (view : View) (u v t : TxnId) → PrecedesBy (Says test) view u v → PrecedesBy (Says test) view v t → PrecedesBy (Says test) view u t }
+    ensures comparable { (test : View → TxnId → TxnId → Bool) → BreaksTies (Says test) →
+        (view : View) (u t : TxnId) → u ≢ t → Reaches view u t ⊎ Reaches view t u →
+        PrecedesBy (Says test) view u t ⊎ PrecedesBy (Says test) view t u }
+    ensures same_preceders { (test : View → TxnId → TxnId → Bool) → BreaksTies (Says test) →
+        (left right whole : View) → IsLonger left whole → IsLonger right whole → IsWellFormed whole →
+        (u t : TxnId) → IsClosed left t → IsClosed right t → PrecedesBy (Says test) left u t ↔ PrecedesBy (Says test) right u t }
+    ensures stays_executable { (test : View → TxnId → TxnId → Bool) → BreaksTies (Says test) →
+        (short long : View) → IsLonger short long → IsWellFormed long →
+        (resolved more : List (List TxnId)) (done later : List TxnId) → IsWithin resolved more → IsWithin done later →
+        (t : TxnId) → IsExecutableBy (Says test) short resolved done t → ¬ (Has later t) → IsExecutableBy (Says test) long more later t }
+    ensures drained { (test : View → TxnId → TxnId → Bool) → BreaksTies (Says test) →
+        (view : View) (resolved : List (List TxnId)) (done : List TxnId) → AllIn (IsClosed view) done →
+        HasNothingToDoBy (Says test) view resolved done → (t : TxnId) → Has done t ↔ IsClosed view t }
 {}
 
 /// In every view "precedes" is a strict order. It orders any two transactions of which one reaches the other, and any

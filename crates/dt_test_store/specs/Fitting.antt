@@ -3,9 +3,9 @@
 use Rattle.std.specs.Prelude.{◌≡◌, ◌<◌, List, length}
 use Rattle.dt_access.specs.declared.Part.{Part}
 
--- where the other part is of the same transaction, it names the same homes
+-- where the other part is of the same transaction, it names the same homes and has the same rank
 abbrev pub IsAlike : Part → Part → Type 0
-IsAlike part other = other.id ≡ part.id → other.homes ≡ part.homes
+IsAlike part other = other.id ≡ part.id → (other.homes ≡ part.homes) × (other.rank ≡ part.rank)
 
 -- the log has fewer than a hundred parts
 abbrev pub IsShort : List Part → Type 0

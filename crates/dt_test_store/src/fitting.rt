@@ -59,7 +59,8 @@ fn same_homes(left: &[u8], right: &[u8]) -> bool
 fn is_alike(part: &Part, other: &Part) -> bool
     ensures { IsTrue result ↔ IsAlike part.now other.now }
 {
-    other.id != part.id || same_homes(other.homes.as_slice(), part.homes.as_slice())
+    other.id != part.id
+        || same_homes(other.homes.as_slice(), part.homes.as_slice()) && other.rank == part.rank
 }
 
 fn log_is_alike(log: &[Part], part: &Part) -> bool

@@ -10,14 +10,22 @@ use dt_text::{Key, Listed, NoMemory};
 use std::alloc::Global;
 use std::test::Fail;
 
-/// A part with one key: the sequence number and the region of its id, its home, the key with its mode, and the least
-/// and the greatest of its homes.
-type Row<'a> = (u32, u8, u8, &'a [u8; 1], Mode, u8, u8);
+/// A part with one key: the sequence number and the region of its id, its rank, its home, the key with its mode, and the
+/// least and the greatest of its homes.
+type Row<'a> = (u32, u8, u8, u8, &'a [u8], Mode, u8, u8);
+
+/// A short key.
+fn key_of(alloc: Global, bytes: &[u8]) -> Result<Key, Fail> {
+    if bytes.len() > 128 {
+        return Err(Fail::from("a key is short"));
+    }
+    Ok(Key::read(alloc, bytes)?)
+}
 
 fn part_of(alloc: Global, row: &Row) -> Result<Part, Fail> {
-    let (seq, region, home, key, mode, least, greatest) = *row;
+    let (seq, region, rank, home, key, mode, least, greatest) = *row;
     let mut keys = Keys::new(alloc);
-    keys.push((Key::read(alloc, key)?, mode))?;
+    keys.push((key_of(alloc, key)?, mode))?;
     let mut homes = Homes::new(alloc);
     homes.push(least)?;
     if least < greatest {
@@ -25,6 +33,7 @@ fn part_of(alloc: Global, row: &Row) -> Result<Part, Fail> {
     }
     Ok(Part {
         id: TxnId { seq, region },
+        rank,
         home,
         keys,
         homes,
@@ -148,44 +157,71 @@ fn told(alloc: Global, rows: &[Row]) -> Result<Vec<u8>, Fail> {
 }
 
 /// Parts, and what is done with them.
-const CASES: [(&[Row<'static>], &[u8]); 4] = [
+const CASES: [(&[Row<'static>], &[u8]); 7] = [
     // Two that wait for each other run once resolved, in the order of their ids.
     (
         &[
-            (1, 0, 0, b"b", Mode::Write, 0, 1),
-            (1, 1, 0, b"b", Mode::Write, 0, 1),
-            (1, 1, 1, b"a", Mode::Write, 0, 1),
-            (1, 0, 1, b"a", Mode::Write, 0, 1),
+            (1, 0, 5, 0, b"b", Mode::Write, 0, 1),
+            (1, 1, 5, 0, b"b", Mode::Write, 0, 1),
+            (1, 1, 5, 1, b"a", Mode::Write, 0, 1),
+            (1, 0, 5, 1, b"a", Mode::Write, 0, 1),
         ],
         b"ready, resolve 1.0 1.1; ready 1.0, execute 1.0; ready 1.1, execute 1.1; ready, ",
+    ),
+    // Of a group the lesser rank runs first, whatever the ids are.
+    (
+        &[
+            (1, 0, 5, 0, b"b", Mode::Write, 0, 1),
+            (1, 1, 2, 0, b"b", Mode::Write, 0, 1),
+            (1, 1, 2, 1, b"a", Mode::Write, 0, 1),
+            (1, 0, 5, 1, b"a", Mode::Write, 0, 1),
+        ],
+        b"ready, resolve 1.0 1.1; ready 1.1, execute 1.1; ready 1.0, execute 1.0; ready, ",
+    ),
+    // No rank helps past what stands earlier in a log, where nothing waits for each other.
+    (
+        &[
+            (1, 0, 9, 0, b"b", Mode::Write, 0, 0),
+            (2, 0, 0, 0, b"b", Mode::Write, 0, 0),
+        ],
+        b"ready 1.0, execute 1.0; ready 2.0, execute 2.0; ready, ",
+    ),
+    // What takes a granule as a whole waits for what reads a row of it, and not for what writes `b-1`.
+    (
+        &[
+            (1, 0, 5, 0, b"b/1", Mode::Read, 0, 0),
+            (2, 0, 5, 0, b"b-1", Mode::Write, 0, 0),
+            (3, 0, 5, 0, b"b", Mode::Whole, 0, 0),
+        ],
+        b"ready 1.0 2.0, execute 2.0; ready 1.0, execute 1.0; ready 3.0, execute 3.0; ready, ",
     ),
     // A group waits for what reaches it from outside.
     (
         &[
-            (1, 0, 0, b"c", Mode::Write, 0, 0),
-            (2, 0, 0, b"c", Mode::Write, 0, 1),
-            (1, 2, 0, b"c", Mode::Write, 0, 2),
-            (1, 1, 1, b"a", Mode::Write, 1, 2),
-            (2, 0, 1, b"a", Mode::Write, 0, 1),
-            (1, 2, 2, b"b", Mode::Write, 0, 2),
-            (1, 1, 2, b"b", Mode::Write, 1, 2),
+            (1, 0, 5, 0, b"c", Mode::Write, 0, 0),
+            (2, 0, 5, 0, b"c", Mode::Write, 0, 1),
+            (1, 2, 5, 0, b"c", Mode::Write, 0, 2),
+            (1, 1, 5, 1, b"a", Mode::Write, 1, 2),
+            (2, 0, 5, 1, b"a", Mode::Write, 0, 1),
+            (1, 2, 5, 2, b"b", Mode::Write, 0, 2),
+            (1, 1, 5, 2, b"b", Mode::Write, 1, 2),
         ],
         b"ready 1.0, execute 1.0; ready, resolve 1.1 1.2 2.0; ready 1.1, execute 1.1; ready 1.2, execute 1.2; ready 2.0, execute 2.0; ready, ",
     ),
     // Reads run in any order, and a write after both.
     (
         &[
-            (1, 0, 0, b"b", Mode::Read, 0, 0),
-            (2, 0, 0, b"b", Mode::Read, 0, 0),
-            (3, 0, 0, b"b", Mode::Write, 0, 0),
+            (1, 0, 5, 0, b"b", Mode::Read, 0, 0),
+            (2, 0, 5, 0, b"b", Mode::Read, 0, 0),
+            (3, 0, 5, 0, b"b", Mode::Write, 0, 0),
         ],
         b"ready 1.0 2.0, execute 2.0; ready 1.0, execute 1.0; ready 3.0, execute 3.0; ready, ",
     ),
     // Nothing is complete while a home lacks its part.
     (
         &[
-            (1, 0, 0, b"b", Mode::Write, 0, 1),
-            (1, 1, 0, b"b", Mode::Write, 0, 1),
+            (1, 0, 5, 0, b"b", Mode::Write, 0, 1),
+            (1, 1, 5, 0, b"b", Mode::Write, 0, 1),
         ],
         b"ready, ",
     ),

@@ -12,6 +12,7 @@ fn part(alloc: Global, seq: u32) -> Result<Part, Fail> {
     homes.push(0)?;
     Ok(Part {
         id: TxnId { seq, region: 0 },
+        rank: 5,
         home: 0,
         keys: Keys::new(alloc),
         homes,

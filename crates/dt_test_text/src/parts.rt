@@ -1,45 +1,176 @@
-//! Ids, parts and lists of keys: their text, their copies, and which parts clash.
-ghost use Rattle.std.specs.Prelude.{◌<◌, ◌^◌, length};
+//! Ids, granules, parts and lists of keys: their text, their copies, and which parts clash.
+ghost use Rattle.std.specs.Prelude.{◌<◌, ◌^◌, IsTrue, length};
+ghost use Rattle.dt_lists.specs.Lists.{AllIn};
+ghost use Rattle.dt_access.specs.Orders.{KeyBefore};
 
 use dt_access::{
-    Access, Homes, Ids, Keys, Mode, Part, TryCopy, TxnId, Writes, clash, put_id, read_id,
+    Access, Homes, Ids, Keys, Mode, Part, TryCopy, TxnId, Writes, clash, granule, is_granule,
+    put_id, read_id,
 };
 use dt_text::{Key, Value};
 use std::alloc::Global;
+use std::cmp::Ordering;
 use std::test::Fail;
 
-/// A part with one key.
-fn part_of(alloc: Global, key: &[u8; 1], mode: Mode) -> Result<Part, Fail> {
+/// A short key.
+fn key_of(alloc: Global, bytes: &[u8]) -> Result<Key, Fail> {
+    if bytes.len() > 200 {
+        return Err(Fail::from("a test reads few bytes"));
+    }
+    Ok(Key::read(alloc, bytes)?)
+}
+
+/// Whether the key is greater than all of the keys.
+fn is_above(keys: &[(Key, Mode)], key: &Key) -> bool
+    ensures { IsTrue result → AllIn (λ e. KeyBefore e.0 key.now) keys.now }
+{
+    for entry in keys {
+        if entry.0.cmp(key) != Ordering::Less {
+            return false;
+        }
+    }
+    true
+}
+
+/// Adds a key that is greater than those that are held.
+fn add_key(keys: &mut Keys, key: Key, mode: Mode) -> Result<(), Fail> {
+    if !is_above(keys.as_slice(), &key) {
+        return Err(Fail::from("the keys of a part ascend"));
+    }
+    keys.push((key, mode))?;
+    Ok(())
+}
+
+/// A key and how it is used.
+type Use<'a> = (&'a [u8], Mode);
+
+/// A part that uses these keys so, in ascending order.
+fn part_of(alloc: Global, uses: &[Use]) -> Result<Part, Fail> {
     let mut keys = Keys::new(alloc);
-    keys.push((Key::read(alloc, key)?, mode))?;
+    for (key, mode) in uses {
+        add_key(&mut keys, key_of(alloc, key)?, *mode)?;
+    }
     let mut homes = Homes::new(alloc);
     homes.push(1)?;
     Ok(Part {
         id: TxnId { seq: 1, region: 0 },
+        rank: 5,
         home: 1,
         keys,
         homes,
     })
 }
 
-/// Whether a part that uses one key so clashes with a part that uses a key so.
-fn clashes(alloc: Global, left: (&[u8; 1], Mode), right: (&[u8; 1], Mode)) -> Result<bool, Fail> {
-    let left = part_of(alloc, left.0, left.1)?;
-    let right = part_of(alloc, right.0, right.1)?;
-    Ok(clash(&left, &right.copy(alloc)?))
+/// Whether parts that use keys so clash, and whether they do where they are told the other way round.
+fn clashes(alloc: Global, left: &[Use], right: &[Use]) -> Result<(bool, bool), Fail> {
+    let left = part_of(alloc, left)?;
+    let right = part_of(alloc, right)?;
+    Ok((clash(&left, &right.copy(alloc)?), clash(&right, &left)))
+}
+
+/// Uses of two parts, and whether these clash.
+const CLASHES: [(&[Use<'static>], &[Use<'static>], bool); 22] = [
+    // On one key, unless both read it.
+    (&[(b"b", Mode::Read)], &[(b"b", Mode::Read)], false),
+    (&[(b"b", Mode::Read)], &[(b"b", Mode::Write)], true),
+    (&[(b"b", Mode::Write)], &[(b"b", Mode::Write)], true),
+    (&[(b"b", Mode::Write)], &[(b"c", Mode::Write)], false),
+    // On a granule that is taken as a whole, with each row of it.
+    (&[(b"b", Mode::Whole)], &[(b"b", Mode::Read)], true),
+    (&[(b"b", Mode::Whole)], &[(b"b", Mode::Whole)], true),
+    (&[(b"b", Mode::Whole)], &[(b"b/1", Mode::Read)], true),
+    (&[(b"b", Mode::Whole)], &[(b"b/1/x", Mode::Write)], true),
+    (&[(b"b/1", Mode::Whole)], &[(b"b/2", Mode::Read)], true),
+    (&[(b"b", Mode::Write)], &[(b"b/1", Mode::Write)], false),
+    (&[(b"b/1", Mode::Write)], &[(b"b/2", Mode::Write)], false),
+    // What only begins like the granule is no row of it.
+    (&[(b"b", Mode::Whole)], &[(b"b-1", Mode::Write)], false),
+    (&[(b"b", Mode::Whole)], &[(b"b.1", Mode::Write)], false),
+    (&[(b"b", Mode::Whole)], &[(b"b0", Mode::Write)], false),
+    (&[(b"b", Mode::Whole)], &[(b"bb/1", Mode::Write)], false),
+    // The granule and its rows need not stand side by side.
+    (
+        &[(b"b", Mode::Whole)],
+        &[(b"b-1", Mode::Write), (b"b/1", Mode::Read)],
+        true,
+    ),
+    (
+        &[(b"b-1", Mode::Whole)],
+        &[
+            (b"b", Mode::Write),
+            (b"b-1", Mode::Read),
+            (b"b/1", Mode::Write),
+        ],
+        true,
+    ),
+    (
+        &[(b"b", Mode::Whole)],
+        &[
+            (b"a", Mode::Write),
+            (b"b-1", Mode::Write),
+            (b"b0", Mode::Write),
+        ],
+        false,
+    ),
+    (
+        &[
+            (b"a", Mode::Read),
+            (b"b/1", Mode::Whole),
+            (b"c", Mode::Read),
+        ],
+        &[
+            (b"b", Mode::Read),
+            (b"b-1", Mode::Read),
+            (b"b.1", Mode::Read),
+        ],
+        true,
+    ),
+    // A `/` at the front begins a granule of its own.
+    (&[(b"/x/y", Mode::Whole)], &[(b"/x", Mode::Read)], true),
+    (
+        &[(b"/x", Mode::Whole)],
+        &[(b"/", Mode::Write), (b"/y", Mode::Write)],
+        false,
+    ),
+    (&[(b"//", Mode::Whole)], &[(b"/", Mode::Read)], true),
+];
+
+#[test]
+fn parts_clash_on_a_row_or_on_a_granule(rt: HostRuntime) -> Result<(), Fail> {
+    for (left, right, want) in CLASHES {
+        assert_eq!(rt; clashes(rt.alloc(), left, right)?, (want, want));
+    }
+    Ok(())
+}
+
+/// The granule of a key, and a `!` where the key is its own.
+fn granule_told(alloc: Global, key: &[u8]) -> Result<Vec<u8>, Fail> {
+    let key = key_of(alloc, key)?;
+    let mut out = granule(alloc, &key)?.bytes().to_vec(alloc)?;
+    if is_granule(&key) {
+        out.push(b'!')?;
+    }
+    Ok(out)
 }
 
 #[test]
-fn parts_clash_on_one_key_unless_both_read_it(rt: HostRuntime) -> Result<(), Fail> {
-    let rows = [
-        ((b"b", Mode::Read), (b"b", Mode::Read), false),
-        ((b"b", Mode::Read), (b"b", Mode::Write), true),
-        ((b"b", Mode::Write), (b"b", Mode::Read), true),
-        ((b"b", Mode::Write), (b"b", Mode::Write), true),
-        ((b"b", Mode::Write), (b"c", Mode::Write), false),
+fn a_granule_ends_before_the_first_slash_with_a_byte_before_it(
+    rt: HostRuntime,
+) -> Result<(), Fail> {
+    let rows: [(&[u8], &[u8]); 10] = [
+        (b"b", b"b!"),
+        (b"b/1", b"b"),
+        (b"b/1/x", b"b"),
+        (b"b-1", b"b-1!"),
+        (b"a/", b"a"),
+        (b"/", b"/!"),
+        (b"//", b"/"),
+        (b"/x", b"/x!"),
+        (b"/x/y", b"/x"),
+        (b"//x", b"/"),
     ];
-    for (left, right, want) in rows {
-        assert_eq!(rt; clashes(rt.alloc(), left, right)?, want);
+    for (key, want) in rows {
+        assert_eq!(rt; granule_told(rt.alloc(), key)?.as_slice(), want);
     }
     Ok(())
 }
@@ -106,10 +237,11 @@ fn ids_are_copied(alloc: Global) -> Result<bool, Fail> {
 
 /// Whether a part is copied with its keys and its homes.
 fn part_is_copied(alloc: Global) -> Result<bool, Fail> {
-    let part = part_of(alloc, b"b", Mode::Read)?;
+    let part = part_of(alloc, &[(b"b", Mode::Read)])?;
     let copied = part.copy(alloc)?;
     Ok(
         copied.id == part.id
+            && copied.rank == part.rank
             && copied.home == part.home
             && copied.keys.copy(alloc)?.as_slice() == part.keys.as_slice()
             && copied.homes.copy(alloc)?.as_slice() == part.homes.as_slice(),

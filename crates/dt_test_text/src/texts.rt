@@ -142,13 +142,14 @@ fn words_of(alloc: Global, line: &[u8]) -> Result<Vec<u8>, Fail>
 fn keys_names_and_texts_are_read_or_refused_by_the_first_cause(
     rt: HostRuntime,
 ) -> Result<(), Fail> {
-    let rows: [(What, &[u8], &[u8]); 22] = [
+    let rows: [(What, &[u8], &[u8]); 23] = [
         (What::Key, b"", b"no bytes"),
         (What::Key, b"stock/7", b"stock/7"),
         (What::Key, b"a-z_0.9/", b"a-z_0.9/"),
-        (What::Key, &[b'a'; 64], &[b'a'; 64]),
-        (What::Key, &[b'a'; 65], b"too many bytes"),
-        (What::Key, &[b' '; 65], b"too many bytes"),
+        (What::Key, &[b'a'; 65], &[b'a'; 65]),
+        (What::Key, &[b'a'; 128], &[b'a'; 128]),
+        (What::Key, &[b'a'; 129], b"too many bytes"),
+        (What::Key, &[b' '; 129], b"too many bytes"),
         (What::Key, b"a B", b"bad byte at 1"),
         (What::Key, b"A", b"bad byte at 0"),
         (What::Key, b"ab\xc3\xa4", b"bad byte at 2"),

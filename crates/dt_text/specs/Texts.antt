@@ -1,5 +1,5 @@
 -- What a key, a name and a text may be. Contracts see each of them as its bytes; the type's invariant says which bytes
--- these may be, so whoever holds a `Key` holds an `IsKey`. The limits (64, 32 and 256 bytes) keep every count of the
+-- these may be, so whoever holds a `Key` holds an `IsKey`. The limits (128, 32 and 256 bytes) keep every count of the
 -- store within 32 bits. How they are printed stands in Printed.antt, how a line is cut into words in Words.antt.
 use Rattle.std.specs.Prelude.{ℕ, ◌<◌, ◌≤◌, Bool, ◌&&◌, ◌||◌, ◌==◌, nat_le, not, List, length, Option, position, IsTrue}
 use Rattle.std.specs.List.{list_all}
@@ -24,9 +24,9 @@ is_key_byte b = is_letter_or_digit b || b == 47 || b == 95 || b == 46 || b == 45
 abbrev pub is_text_byte : ℕ → Bool
 is_text_byte b = nat_le 32 b && nat_le b 126
 
--- a key: 1 to 64 bytes, each allowed in keys
+-- a key: 1 to 128 bytes, each allowed in keys
 abbrev pub IsKey : List ℕ → Type 0
-IsKey bs = (0 < length bs) × (length bs ≤ 64) × IsTrue (list_all is_key_byte bs)
+IsKey bs = (0 < length bs) × (length bs ≤ 128) × IsTrue (list_all is_key_byte bs)
 
 -- a name: 1 to 32 bytes, each allowed in names
 abbrev pub IsName : List ℕ → Type 0

@@ -15,7 +15,7 @@ use std::cmp::Ordering;
 use std::hash::{Hash, Hasher};
 use std::marker::Model;
 
-/// The name of a row: 1 to 64 bytes out of `a-z`, `0-9`, `/`, `_`, `.` and `-`.
+/// The name of a row: 1 to 128 bytes out of `a-z`, `0-9`, `/`, `_`, `.` and `-`.
 ///
 /// Contracts see its bytes. Keys are ordered by their bytes, a proper prefix being less.
 #[derive(Debug, Drop)]
@@ -33,7 +33,7 @@ impl Model for Key {
 
 impl Key {
     /// The longest key, in bytes.
-    pub const LONGEST: usize = 64;
+    pub const LONGEST: usize = 128;
 
     /// Reads a key, which has exactly these bytes. The causes of a refusal are tried in the
     /// order of `KeyError`.
@@ -42,11 +42,11 @@ impl Key {
         requires { length bytes.now < 2 ^ 32 }
         ensures ok { IfOk result (λ key. (key ≡ bytes.now) × IsKey key) }
         ensures empty { (result ≡ Err KeyError.Empty) ↔ (bytes.now ≡ []) }
-        ensures long { (result ≡ Err KeyError.Long) ↔ (64 < length bytes.now) }
+        ensures long { (result ≡ Err KeyError.Long) ↔ (128 < length bytes.now) }
 
         // Where the length fits, the first byte that no key has is named.
         ensures bad_byte { (place : ℕ) → (result ≡ Err (KeyError.BadByte place))
-            ↔ ((length bytes.now ≤ 64) × (first_outside is_key_byte bytes.now ≡ Some place)) }
+            ↔ ((length bytes.now ≤ 128) × (first_outside is_key_byte bytes.now ≡ Some place)) }
         ensures no_memory { result ≡ Err KeyError.NoMemory → IsKey bytes.now }
     {
         if bytes.is_empty() {

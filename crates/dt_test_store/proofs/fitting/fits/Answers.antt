@@ -1,4 +1,5 @@
 use Rattle.std.proofs.Common.{◌*◌, ◌≤◌, length, arith}
+use Rattle.dt_lists.proofs.Callers.{all_map}
 use Rattle.dt_sched.specs.Sched.{parts_in}
 use Rattle.dt_test_store.proofs.Fits.{tested, refuted}
 use Rattle.dt_test_store.proofs.Fits.{few_parts}
@@ -12,5 +13,6 @@ returns c alike =
       within = tested _ (rw c.as_slice-2.ensures.same at c.are_below.ensures) c.if-not-are_below.false;
       fresh = refuted _ c.is_at.ensures c.if-is_at.false;
       few = omega (arith, few);
-      alike = c.are_alike.ensures.0 alike;
+      alike = all_map _ _ c.args.logs.now (λ log a. all_map _ _ log (λ p same of. (same of).0) a) (c.are_alike.ensures.0 alike);
+      ranked = all_map _ _ c.args.logs.now (λ log a. all_map _ _ log (λ p same of. (same of).1) a) (c.are_alike.ensures.0 alike);
     }

@@ -1,25 +1,25 @@
 use Rattle.std.proofs.Common.{sym, ◌∙◌}
-use Rattle.dt_access.proofs.Clashes.{clash-less, clash-greater, clash-found, clash-equal, clash-none}
-use Rattle.dt_access.proofs.part.keys_clash.Goals as goal
-use Rattle.dt_access.proofs.part.keys_clash.Goals.{then-is_write-via-then-is_write, then-is_write-via-else-is_write+then-is_write-2}
+use Rattle.dt_access.proofs.RowClashes.{row-less, row-greater, row-found, row-equal, row-none}
+use Rattle.dt_access.proofs.clashes.meet_on_row.Goals as goal
+use Rattle.dt_access.proofs.clashes.meet_on_row.Goals.{then-is_write-via-then-is_write, then-is_write-via-else-is_write+then-is_write-2}
 use Rattle.std.proofs.lemmas.Bool.{or_left, or_right, or_from}
 
 pub loop-left_key-preserved-in-Less : goal.loop-left_key-preserved-in-Less
 loop-left_key-preserved-in-Less c =
     let i = c.loop-left_key.invariant in
-    let s = clash-less _ _ _ _ _ _ c.in-Some.ensures.cases.0 c.in-Some-split_first.ensures.cases.0 i.0 i.1 (sym c.cmp.ensures ∙ c.in-Less.is) in
+    let s = row-less _ _ _ _ _ _ c.in-Some.ensures.cases.0 c.in-Some-split_first.ensures.cases.0 i.0 i.1 (sym c.cmp.ensures ∙ c.in-Less.is) in
     (s.0, s.1, s.2 ∙ i.2)
 
 pub loop-left_key-preserved-in-Greater : goal.loop-left_key-preserved-in-Greater
 loop-left_key-preserved-in-Greater c =
     let i = c.loop-left_key.invariant in
-    let s = clash-greater _ _ _ _ _ _ c.in-Some.ensures.cases.0 c.in-Some-split_first.ensures.cases.0 i.0 i.1 (sym c.cmp.ensures ∙ c.in-Greater.is) in
+    let s = row-greater _ _ _ _ _ _ c.in-Some.ensures.cases.0 c.in-Some-split_first.ensures.cases.0 i.0 i.1 (sym c.cmp.ensures ∙ c.in-Greater.is) in
     (s.0, s.1, s.2 ∙ i.2)
 
 pub returns-then-is_write : goal.returns-then-is_write
 returns-then-is_write c =
     let i = c.loop-left_key.invariant in
-    let found = clash-found _ _ _ _ _ _ c.in-Some.ensures.cases.0 c.in-Some-split_first.ensures.cases.0 i.0 i.1 (sym c.cmp.ensures ∙ c.in-Equal.is) in
+    let found = row-found _ _ _ _ _ _ c.in-Some.ensures.cases.0 c.in-Some-split_first.ensures.cases.0 i.0 i.1 (sym c.cmp.ensures ∙ c.in-Equal.is) in
     found (elim c.then-is_write.branch [
       | then-is_write-via-then-is_write w ↦ or_left _ _ (sym c.is_write.ensures ∙ w.if-is_write.true)
       | then-is_write-via-else-is_write+then-is_write-2 w ↦ or_right _ _ (sym w.is_write-else-is_write.ensures ∙ w.if-is_write-2.true)
@@ -29,9 +29,9 @@ pub loop-left_key-preserved : goal.loop-left_key-preserved
 loop-left_key-preserved c =
     let i = c.loop-left_key.invariant in
     let reads = or_from _ _ (sym c.is_write.ensures ∙ c.if-is_write.false) (sym c.is_write-else-is_write.ensures ∙ c.if-is_write-2.false) in
-    let s = clash-equal _ _ _ _ _ _ c.in-Some.ensures.cases.0 c.in-Some-split_first.ensures.cases.0 i.0 i.1 (sym c.cmp.ensures ∙ c.in-Equal.is) reads in
+    let s = row-equal _ _ _ _ _ _ c.in-Some.ensures.cases.0 c.in-Some-split_first.ensures.cases.0 i.0 i.1 (sym c.cmp.ensures ∙ c.in-Equal.is) reads in
     (s.0, s.1, s.2 ∙ i.2)
 
 pub returns-in_default-split_first : goal.returns-in_default-split_first
 returns-in_default-split_first c =
-    clash-none c.loop-left_key.left.now c.loop-left_key.right.now c.in_default-split_first.ensures.cases ∙ c.loop-left_key.invariant.2
+    row-none c.loop-left_key.left.now c.loop-left_key.right.now c.in_default-split_first.ensures.cases ∙ c.loop-left_key.invariant.2

@@ -1,15 +1,12 @@
--- That two lists of keys clash does not hang on which comes first.
-use Rattle.std.proofs.Common.{◌≡◌, true, ◌&&◌, List, ap₂, ◌∙◌}
-use Rattle.std.proofs.Math.Bool.{or_comm}
+-- Two lists of uses clash where some use of the one clashes with some use of the other, and it does not hang on which list
+-- comes first.
+use Rattle.std.proofs.Common.{◌≡◌, true, List, ◌∙◌}
 use Rattle.std.specs.List.{list_any}
-use Rattle.std.proofs.lemmas.Cmp.{nat_list_eq_equiv}
 use Rattle.dt_lists.specs.Lists.{AnyIn, Has}
 use Rattle.dt_lists.proofs.Callers.{any_map, any_get, any_put, any_of_test, test_of_any}
-use Rattle.dt_access.specs.Clash.{Bytes, is_write, uses_clash, clash}
+use Rattle.dt_access.specs.Clash.{Bytes, uses_clash, clash}
 use Rattle.dt_access.specs.declared.access.Mode.{Mode}
-
-pub uses_clash_symmetric : (a b : Bytes × Mode) → uses_clash a b ≡ uses_clash b a
-uses_clash_symmetric a b = ap₂ ◌&&◌ (nat_list_eq_equiv.symm a.0 b.0) (or_comm (is_write a.1) (is_write b.1))
+use Rattle.dt_access.proofs.Units.{uses_clash_symmetric}
 
 -- some use of the one list clashes with some use of the other
 pub uses_of_clash : (left right : List (Bytes × Mode)) → clash left right ≡ true → AnyIn (λ a. AnyIn (λ b. uses_clash a b ≡ true) right) left

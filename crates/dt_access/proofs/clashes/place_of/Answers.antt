@@ -1,0 +1,10 @@
+use Rattle.std.proofs.Common.{rules}
+use Rattle.std.proofs.lemmas.List.Sorted.{IsPartitionPoint-from_clause}
+use Rattle.dt_access.specs.Meeting.{is_below}
+use Rattle.dt_access.proofs.Search.{parted}
+use Rattle.dt_access.proofs.clashes.place_of.Goals as goal
+
+pub returns-clause-first : goal.returns-clause-first
+returns-clause-first c =
+    let g = c.args.granule.now in
+    IsPartitionPoint-from_clause (λ x. is_below x.0 g) _ _ c.partition_point.ensures.partitioned (parted g c.args.keys.now c.requires) (λ a r q k. search rules)

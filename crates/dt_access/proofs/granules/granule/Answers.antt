@@ -1,0 +1,7 @@
+use Rattle.std.proofs.Common.{subst, sym}
+use Rattle.dt_text.specs.Texts.{IsKey}
+use Rattle.dt_access.proofs.GranuleLaws.{granule_is_key}
+use Rattle.dt_access.proofs.granules.granule.Goals as goal
+
+pub new-requires : goal.new-requires
+new-requires c = subst IsKey (sym c.granule_bytes.ensures) (granule_is_key c.bytes.result.now (subst IsKey (sym c.bytes.ensures.same) c.bytes.ensures.key))

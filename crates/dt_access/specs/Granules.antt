@@ -1,0 +1,21 @@
+-- Granules: the keys that belong together. The key of a customer, say `ann`, and those of the customer's rows, `ann/balance`
+-- and `ann/limit`, are one granule. In version 1 of a cluster each key has a home and moves of its own; in version 2 a
+-- granule has them, so that one move takes along all its rows. What clashes by granules stands in Clash.antt.
+use Rattle.std.specs.Prelude.{ℕ, if◌then◌else◌, not, ◌==◌, [], ◌∷◌}
+use Rattle.std.specs.List.{take_while}
+pub use Rattle.dt_text.specs.Texts.{Bytes}
+use Rattle.dt_access.specs.declared.access.Mode.{Mode}
+use Rattle.dt_access.specs.declared.access.Mode.TheVariants.{Write, Whole}
+
+-- the granule of a key: what stands before the first `/` that has a byte before it, or the whole key where there is none
+abbrev pub granule_of : Bytes → Bytes
+granule_of [] = []
+granule_of (first ∷ rest) = first ∷ take_while (λ b. not (b == 47)) rest
+
+-- the unit of a key, which has a home and moves: in version 2 of a cluster its granule, else the key itself
+abbrev pub unit_of : ℕ → Bytes → Bytes
+unit_of version key = if version == 2 then granule_of key else key
+
+-- how a move uses the key that it moves: it writes it, or, where units are granules, it takes the granule as a whole
+abbrev pub mode_of_move : ℕ → Mode
+mode_of_move version = if version == 2 then Whole else Write
