@@ -7,7 +7,7 @@ use Rattle.dt_lists.specs.Lists.{AllIn, Pairwise, Either}
 use Rattle.dt_lists.proofs.Callers.{either_le, either_or, either_same, same_head, same_tail}
 use Rattle.dt_text.specs.Texts.{Bytes, IsName}
 use Rattle.dt_text.specs.Lines.{FileLine, lines_of}
-use Rattle.dt_text.specs.Words.{words_of}
+use Rattle.dt_text.specs.Reading.{words_of}
 use Rattle.dt_text.specs.declared.Word.{Word}
 use Rattle.dt_text.proofs.Callers.{either_bytes, either_name, either_spelled}
 use Rattle.dt_access.specs.declared.TxnId.{TxnId}
@@ -92,8 +92,8 @@ either_group : (ws : List Bytes) → Either (Spells AreTwoOrMore (map id_text) w
 either_group ws = by (either_le 2 (length ws)) (either_ids ws)
   where
     by : Either (2 ≤ length ws) → Either (Spells (AllIn IsCounted) (map id_text) ws) → Either (Spells AreTwoOrMore (map id_text) ws)
-    by (inl two) (inl (ids, all, is)) = inl (ids, (omega (arith, two, ap length is, length-map id_text ids), all), is)
-    by (inr few) more = inr (λ (ids, both, is). few (omega (arith, both.0, ap length is, length-map id_text ids)))
+    by (inl two) (inl (ids, all, is)) = inl (ids, (omega (arith, two, ap length is, length-map ids id_text), all), is)
+    by (inr few) more = inr (λ (ids, both, is). few (omega (arith, both.0, ap length is, length-map ids id_text)))
     by (inl two) (inr other) = inr (λ (ids, both, is). other (ids, both.1, is))
 
 -- ---- the words of an event, kind by kind
@@ -199,7 +199,7 @@ either_line line = by (words_of line) refl
         bare (inl (bares, same)) = event (either_event bares)
           where
             event : Either (SaysEvent bares) → Either (HasEventForm line)
-            event (inl (e, written, spelled)) = inl (e, written, subst (AreBareWords line) spelled (are_bare_words line words bares is same))
+            event (inl (e, written, spelled)) = inl (e, (written, subst (AreBareWords line) spelled (are_bare_words line words bares is same)))
             event (inr other) = inr (λ (e, h). other (e, h.0, one_line line bares (event_words e) (are_bare_words line words bares is same) h.1))
 
 -- ---- files
