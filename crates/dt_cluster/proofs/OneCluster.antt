@@ -189,7 +189,7 @@ value_or_bad (array ds) v c h k = h
 value_or_bad (table ms) v c h k = h
 
 row_or_bad : (e : Entry) (c : ClusterCause) → ((r : Bytes × Value) × IsRow e r) → IsBadRow e c → ⊥
-row_or_bad e c (r, is) (inl bad) = bad.1 (subst (IsHomeKey version) is.0 is.1)
+row_or_bad e c (r, is) (inl bad) = bad.1 (subst IsKey is.0 is.1)
 row_or_bad e c (r, is) (inr bad) = value_or_bad e.1 r.1 c is.2 bad.1
 
 one_no_value : (d : Data) (b c : ClusterCause) → IsNoValue d b → IsNoValue d c → b ≡ c
