@@ -45,45 +45,57 @@ end_comes text before stack t (Some place) is start =
     inr (inl (place, record { before = before; after = []; well = starts_well text before [] stack t; told = inl is }))
 end_comes text before stack t None is (inl start) =
     let tokens : (tokens_of text).tokens ≡ before = t.cut ∙ append-nil before in
-    inl (before, record {
-      whole = λ i. record { tokens = tokens i; bad = is i };
-      grammar = read_whole before (t.read ∙ ap (λ s. Some s) start);
-      few = t.few;
-    })
+    inl (
+      before,
+      record {
+        whole = λ i. record { tokens = tokens i; bad = is i };
+        grammar = read_whole before (t.read ∙ ap (λ s. Some s) start);
+        few = t.few;
+      },
+    )
 end_comes text before stack t None is (inr other) =
-    inr (inl (length text, record {
-      before = before;
-      after = [];
-      well = starts_well text before [] stack t;
-      told = inr (is, refl, λ g. other (same_stack stack (expect.Procs ∷ []) (sym t.read ∙ grammar_read before g)));
-    }))
+    inr (inl (
+      length text,
+      record {
+        before = before;
+        after = [];
+        well = starts_well text before [] stack t;
+        told = inr (is, refl, λ g. other (same_stack stack (expect.Procs ∷ []) (sym t.read ∙ grammar_read before g)));
+      },
+    ))
 
 -- a token comes next: it is refused, or is one too many, or the others are tried after it
 token_comes : (text : List ℕ) (before : List Placed) (one : Placed) (after : List Placed) (stack : List Sym) → Tried text before (one ∷ after) stack →
     (next : Option (List Sym)) → advance stack one.token ≡ next → (many : Bool) → is_too_many (backwards before []) one.token ≡ many →
     ((s : List Sym) → Tried text (before ++ one ∷ []) after s → FirstPassEnds text) → FirstPassEnds text
 token_comes text before one after stack t None is many same onward_from =
-    inr (inl (one.place, record {
-      before = before;
-      after = one ∷ after;
-      well = starts_well text before (one ∷ after) stack t;
-      told = (
-        refl,
-        λ begins.
-            let goes = beginning_read (before ++ one ∷ []) begins in
-            never goes.0 (sym (run_more before one stack t.read ∙ ap (λ o. onward o (λ s. Some s)) is) ∙ goes.1),
-      );
-    }))
+    inr (inl (
+      one.place,
+      record {
+        before = before;
+        after = one ∷ after;
+        well = starts_well text before (one ∷ after) stack t;
+        told = (
+          refl,
+          λ begins.
+              let goes = beginning_read (before ++ one ∷ []) begins in
+              never goes.0 (sym (run_more before one stack t.read ∙ ap (λ o. onward o (λ s. Some s)) is) ∙ goes.1),
+        );
+      },
+    ))
 token_comes text before one after stack t (Some next) is true same onward_from =
-    inr (inr (one.place, record {
-      before = before;
-      token = one;
-      after = after;
-      well = starts_well text before (one ∷ after) stack t;
-      goes_on = read_begins (before ++ one ∷ []) next (run_more before one stack t.read ∙ ap (λ o. onward o (λ s. Some s)) is);
-      too_many = same;
-      stands = refl;
-    }))
+    inr (inr (
+      one.place,
+      record {
+        before = before;
+        token = one;
+        after = after;
+        well = starts_well text before (one ∷ after) stack t;
+        goes_on = read_begins (before ++ one ∷ []) next (run_more before one stack t.read ∙ ap (λ o. onward o (λ s. Some s)) is);
+        too_many = same;
+        stands = refl;
+      },
+    ))
 token_comes text before one after stack t (Some next) is false same onward_from =
     onward_from next (record {
       cut = t.cut ∙ sym (append_assoc before (one ∷ []) after);
