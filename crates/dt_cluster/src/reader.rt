@@ -79,7 +79,15 @@ fn is_known(name: &[u8]) -> bool
 {
     matches!(
         name,
-        b"regions" | b"version" | b"workers" | b"tries" | b"drop" | b"repeat" | b"procs" | b"homes" | b"rows"
+        b"regions"
+            | b"version"
+            | b"workers"
+            | b"tries"
+            | b"drop"
+            | b"repeat"
+            | b"procs"
+            | b"homes"
+            | b"rows"
     )
 }
 

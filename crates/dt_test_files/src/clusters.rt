@@ -100,7 +100,10 @@ const FILES: [(&[u8], &str); 83] = [
     (b"regions = 8\nversion = 0", "entry version Range"),
     (b"regions = 8\nversion = \"2\"", "entry version Kind"),
     (b"version = 3\nregions = 9", "entry regions Range"),
-    (b"workers = 0\nversion = 3\nregions = 1", "entry version Range"),
+    (
+        b"workers = 0\nversion = 3\nregions = 1",
+        "entry version Range",
+    ),
     (b"regions = 2\n[homes]\n\"b/1\" = 0", "2 4 3 0 0 8 b/1@0"),
     (
         b"regions = 2\nversion = 2\n[homes]\n\"b/1\" = 0",

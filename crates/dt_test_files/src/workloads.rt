@@ -199,7 +199,10 @@ fn in_version_2_a_move_is_of_a_granule(rt: HostRuntime) -> Result<(), Fail> {
         Err(ClusterError::NoMemory) => return Err(Fail::from(NoMemory)),
     };
     for (file, words) in rows {
-        assert_eq!(rt; told_in(rt.alloc(), &cluster, file)?.as_slice(), words.as_bytes());
+        assert_eq!(rt;
+            told_in(rt.alloc(), &cluster, file)?.as_slice(),
+            words.as_bytes()
+        );
     }
     Ok(())
 }

@@ -64,7 +64,9 @@ impl Draft {
         match read_form(alloc, line)? {
             Some(Form::Session(word, region)) => self.begin(alloc, cluster, word, region),
             Some(Form::Call(rank, word, args)) => self.call(alloc, cluster, rank, word, args),
-            Some(Form::Move(rank, word, region)) => self.move_key(alloc, cluster, rank, word, region),
+            Some(Form::Move(rank, word, region)) => self.move_key(
+                alloc, cluster, rank, word, region,
+            ),
             None => Err(Refusal::Cause(WorkloadCause::Form)),
         }
     }

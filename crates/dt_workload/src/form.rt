@@ -137,11 +137,7 @@ fn rank_after(word: &[u8], kind: &[u8]) -> Option<u8>
         return Some(5);
     }
     let rank = read_u32(after_slash(word, kind)?)?;
-    if rank < 10 {
-        Some(rank as u8)
-    } else {
-        None
-    }
+    if rank < 10 { Some(rank as u8) } else { None }
 }
 
 /// What follows the kind and a `/` in a word, if it begins so.
