@@ -31,6 +31,8 @@ cluster_valid bytes c h =
 -- the built-in cluster of 1 to 8 regions can be
 pub builtin_valid : (regions : ℕ) → 1 ≤ regions → regions ≤ 8 → IsValidCluster (builtin_cluster regions)
 builtin_valid regions some few = record {
+  some_version = omega arith;
+  known_version = omega arith;
   some = some;
   few = few;
   some_worker = omega arith;
@@ -41,6 +43,7 @@ builtin_valid regions some few = record {
   repeat = omega arith;
   procs = builtin_sound;
   home_keys = tt;
+  home_units = tt;
   homes_once = tt;
   homes = tt;
   row_keys = tt;

@@ -13,8 +13,8 @@ use Rattle.dt_proc.proofs.Callers.{one_outcome}
 use Rattle.toml.specs.Data.{Data, string, integer, float, boolean, datetime, array, table, Members, get_member}
 use Rattle.dt_text.specs.Texts.{Bytes}
 use Rattle.dt_cluster.specs.Document.{Entry, IsDocument, entries_of, AreEntries, AreEntriesAt, IsNoTable, IsFirstFaulty}
-use Rattle.dt_cluster.specs.Numbers.{NumberEntry, GivesNumber, IsAtFault, HasNumber, HasBadNumber, regions_entry, workers_entry, tries_entry, drop_entry, repeat_entry}
-use Rattle.dt_cluster.specs.Rows.{IsHome, IsNoHome, IsBadHome, IsValue, IsNoValue, IsRow, IsBadRow}
+use Rattle.dt_cluster.specs.Numbers.{NumberEntry, GivesNumber, IsAtFault, HasNumber, HasBadNumber, regions_entry, version_entry, workers_entry, tries_entry, drop_entry, repeat_entry}
+use Rattle.dt_cluster.specs.Rows.{IsHomeKey, IsHome, IsNoHome, IsBadHome, IsValue, IsNoValue, IsRow, IsBadRow}
 use Rattle.dt_cluster.specs.File.{IsKnown, AreKnown, IsUnknownFault, HasNumbers, number_entries, IsNumberFault, GivesProcs, IsToldAs, IsProcsFaultAt, HasProcs}
 use Rattle.dt_cluster.specs.File.{IsProcsFault, HasHomes, IsHomesFault, HasRows, IsRowsFault, IsClusterOf, IsFaultOf, IsCluster, IsClusterFault}
 use Rattle.dt_cluster.specs.declared.cluster.Cluster.{Cluster}
@@ -134,15 +134,15 @@ each_left Is (x ∷ xs) (y ∷ ys) h = ((y, h.0), each_left Is xs ys h.1)
 
 -- ---- homes and rows
 
-one_home : (regions : ℕ) (e : Entry) (h k : Bytes × ℕ) → IsHome regions e h → IsHome regions e k → h ≡ k
-one_home regions e h k is is' =
+one_home : (version regions : ℕ) (e : Entry) (h k : Bytes × ℕ) → IsHome version regions e h → IsHome version regions e k → h ≡ k
+one_home version regions e h k is is' =
     let names : h.0 ≡ k.0 = is.0 ∙ sym is'.0 in
     let homes : h.1 ≡ k.1 = pos-is (integer-is (sym is.2 ∙ is'.2)) in
     λ i. (names i, homes i)
 
-home_or_bad : (regions : ℕ) (e : Entry) (c : ClusterCause) → ((h : Bytes × ℕ) × IsHome regions e h) → IsBadHome regions e c → ⊥
-home_or_bad regions e c (h, is) (inl bad) = bad.1 (subst IsKey is.0 is.1)
-home_or_bad regions e c (h, is) (inr bad) = (subst (λ d. IsNoHome regions d c) is.2 bad.1).1 h.1 refl is.3
+home_or_bad : (version regions : ℕ) (e : Entry) (c : ClusterCause) → ((h : Bytes × ℕ) × IsHome version regions e h) → IsBadHome version regions e c → ⊥
+home_or_bad version regions e c (h, is) (inl bad) = bad.1 (subst (IsHomeKey version) is.0 is.1)
+home_or_bad version regions e c (h, is) (inr bad) = (subst (λ d. IsNoHome regions d c) is.2 bad.1).1 h.1 refl is.3
 
 one_no_home : (regions : ℕ) (d : Data) (b c : ClusterCause) → IsNoHome regions d b → IsNoHome regions d c → b ≡ c
 one_no_home regions (integer z) b c h k = h.0 ∙ sym k.0
@@ -153,11 +153,11 @@ one_no_home regions (datetime t) b c h k = h ∙ sym k
 one_no_home regions (array ds) b c h k = h ∙ sym k
 one_no_home regions (table ms) b c h k = h ∙ sym k
 
-one_bad_home : (regions : ℕ) (e : Entry) (b c : ClusterCause) → IsBadHome regions e b → IsBadHome regions e c → b ≡ c
-one_bad_home regions e b c (inl h) (inl k) = h.0 ∙ sym k.0
-one_bad_home regions e b c (inl h) (inr k) = absurd (h.1 k.0)
-one_bad_home regions e b c (inr h) (inl k) = absurd (k.1 h.0)
-one_bad_home regions e b c (inr h) (inr k) = one_no_home regions e.1 b c h.1 k.1
+one_bad_home : (version regions : ℕ) (e : Entry) (b c : ClusterCause) → IsBadHome version regions e b → IsBadHome version regions e c → b ≡ c
+one_bad_home version regions e b c (inl h) (inl k) = h.0 ∙ sym k.0
+one_bad_home version regions e b c (inl h) (inr k) = absurd (h.1 k.0)
+one_bad_home version regions e b c (inr h) (inl k) = absurd (k.1 h.0)
+one_bad_home version regions e b c (inr h) (inr k) = one_no_home regions e.1 b c h.1 k.1
 
 one_value : (d : Data) (v w : Value) → IsValue d v → IsValue d w → v ≡ w
 one_value (integer z) (Int x) (Int y) h k = ap Int (h.0 ∙ sym k.0)
@@ -270,37 +270,37 @@ FineNumber top e = (n : ℕ) × HasNumber top e n
 number_apart : (top : Members) (e : NumberEntry) (c : ClusterCause) → FineNumber top e → HasBadNumber top e c → ⊥
 number_apart top e c fine bad = number_or_fault e (get_member e.name top) fine.0 c fine.1 bad
 
-numbers_or_fault : (top : Members) (r w t d p : ℕ) (f : ClusterFault) → HasNumbers top r w t d p → IsNumberFault top f → ⊥
-numbers_or_fault top r w t d p f has (name, why, is, bad) =
+numbers_or_fault : (top : Members) (r v w t d p : ℕ) (f : ClusterFault) → HasNumbers top r v w t d p → IsNumberFault top f → ⊥
+numbers_or_fault top r v w t d p f has (name, why, is, bad) =
     fine_or_bad (λ e. e.name) (FineNumber top) (HasBadNumber top) (number_apart top) number_entries name why
-    ((r, has.0), ((w, has.1), ((t, has.2), ((d, has.3), ((p, has.4), tt))))) bad
+    ((r, has.0), ((v, has.1), ((w, has.2), ((t, has.3), ((d, has.4), ((p, has.5), tt)))))) bad
 
 one_numbers_fault : (top : Members) (f g : ClusterFault) → IsNumberFault top f → IsNumberFault top g → f ≡ g
 one_numbers_fault top f g (m, why, is, bad) (n, why', is', bad') =
     let same = one_bad (λ e. e.name) (FineNumber top) (HasBadNumber top) (number_apart top) (λ e b c h k. one_number_fault e (get_member e.name top) b c h k) number_entries m n why why' bad bad' in
     is ∙ (λ i. record { place = place.Entry (same.0 i); cause = same.1 i }) ∙ sym is'
 
-abbrev FineHome : ℕ → Entry → Type 0
-FineHome regions e = (h : Bytes × ℕ) × IsHome regions e h
+abbrev FineHome : ℕ → ℕ → Entry → Type 0
+FineHome version regions e = (h : Bytes × ℕ) × IsHome version regions e h
 
-homes_or_fault : (top : Members) (regions : ℕ) (homes : List (Bytes × ℕ)) (f : ClusterFault) → HasHomes top regions homes → IsHomesFault top regions f → ⊥
-homes_or_fault top regions homes f (xs, are, pairs) (inl none) = no_list_at (get_member (codes "homes") top) xs none.0 are
-homes_or_fault top regions homes f (xs, are, pairs) (inr (name, why, is, (ys, are', bad))) =
-    fine_or_bad (λ e. e.0) (FineHome regions) (IsBadHome regions) (home_or_bad regions) xs name why (each_left (IsHome regions) xs homes pairs)
-    (subst (λ es. IsFirstFaulty (λ e. e.0) (FineHome regions) (IsBadHome regions) es name why) (one_list_at (get_member (codes "homes") top) ys xs are' are) bad)
+homes_or_fault : (top : Members) (version regions : ℕ) (homes : List (Bytes × ℕ)) (f : ClusterFault) → HasHomes top version regions homes → IsHomesFault top version regions f → ⊥
+homes_or_fault top version regions homes f (xs, are, pairs) (inl none) = no_list_at (get_member (codes "homes") top) xs none.0 are
+homes_or_fault top version regions homes f (xs, are, pairs) (inr (name, why, is, (ys, are', bad))) =
+    fine_or_bad (λ e. e.0) (FineHome version regions) (IsBadHome version regions) (home_or_bad version regions) xs name why (each_left (IsHome version regions) xs homes pairs)
+    (subst (λ es. IsFirstFaulty (λ e. e.0) (FineHome version regions) (IsBadHome version regions) es name why) (one_list_at (get_member (codes "homes") top) ys xs are' are) bad)
 
-one_homes_fault : (top : Members) (regions : ℕ) (f g : ClusterFault) → IsHomesFault top regions f → IsHomesFault top regions g → f ≡ g
-one_homes_fault top regions f g (inl h) (inl k) = h.1 ∙ sym k.1
-one_homes_fault top regions f g (inl h) (inr (n, why, is, (xs, are, bad))) = absurd (no_list_at (get_member (codes "homes") top) xs h.0 are)
-one_homes_fault top regions f g (inr (n, why, is, (xs, are, bad))) (inl k) = absurd (no_list_at (get_member (codes "homes") top) xs k.0 are)
-one_homes_fault top regions f g (inr (m, why, is, (xs, are, bad))) (inr (n, why', is', (ys, are', bad'))) =
-    let same = one_bad (λ e. e.0) (FineHome regions) (IsBadHome regions) (home_or_bad regions) (one_bad_home regions) xs m n why why' bad
-    (subst (λ es. IsFirstFaulty (λ e. e.0) (FineHome regions) (IsBadHome regions) es n why') (one_list_at (get_member (codes "homes") top) ys xs are' are) bad') in
+one_homes_fault : (top : Members) (version regions : ℕ) (f g : ClusterFault) → IsHomesFault top version regions f → IsHomesFault top version regions g → f ≡ g
+one_homes_fault top version regions f g (inl h) (inl k) = h.1 ∙ sym k.1
+one_homes_fault top version regions f g (inl h) (inr (n, why, is, (xs, are, bad))) = absurd (no_list_at (get_member (codes "homes") top) xs h.0 are)
+one_homes_fault top version regions f g (inr (n, why, is, (xs, are, bad))) (inl k) = absurd (no_list_at (get_member (codes "homes") top) xs k.0 are)
+one_homes_fault top version regions f g (inr (m, why, is, (xs, are, bad))) (inr (n, why', is', (ys, are', bad'))) =
+    let same = one_bad (λ e. e.0) (FineHome version regions) (IsBadHome version regions) (home_or_bad version regions) (one_bad_home version regions) xs m n why why' bad
+    (subst (λ es. IsFirstFaulty (λ e. e.0) (FineHome version regions) (IsBadHome version regions) es n why') (one_list_at (get_member (codes "homes") top) ys xs are' are) bad') in
     is ∙ (λ i. record { place = place.Home (same.0 i); cause = same.1 i }) ∙ sym is'
 
-one_homes : (top : Members) (regions : ℕ) (h k : List (Bytes × ℕ)) → HasHomes top regions h → HasHomes top regions k → h ≡ k
-one_homes top regions h k (xs, are, pairs) (ys, are', pairs') =
-    one_right (IsHome regions) (one_home regions) xs h k pairs (subst (λ es. Pairwise (IsHome regions) es k) (one_list_at (get_member (codes "homes") top) ys xs are' are) pairs')
+one_homes : (top : Members) (version regions : ℕ) (h k : List (Bytes × ℕ)) → HasHomes top version regions h → HasHomes top version regions k → h ≡ k
+one_homes top version regions h k (xs, are, pairs) (ys, are', pairs') =
+    one_right (IsHome version regions) (one_home version regions) xs h k pairs (subst (λ es. Pairwise (IsHome version regions) es k) (one_list_at (get_member (codes "homes") top) ys xs are' are) pairs')
 
 abbrev FineRow : Entry → Type 0
 FineRow e = (r : Bytes × Value) × IsRow e r
@@ -329,22 +329,26 @@ one_rows top r s (xs, are, pairs) (ys, are', pairs') =
 one_of_document : (top : Members) (c d : Cluster) → IsClusterOf top c → IsClusterOf top d → c ≡ d
 one_of_document top c d is is' =
     let regions : c.regions ≡ d.regions = one_number regions_entry (get_member regions_entry.name top) c.regions d.regions is.numbers.0 is'.numbers.0 in
-    let workers : c.workers ≡ d.workers = one_number workers_entry (get_member workers_entry.name top) c.workers d.workers is.numbers.1 is'.numbers.1 in
-    let tries : c.tries ≡ d.tries = one_number tries_entry (get_member tries_entry.name top) c.tries d.tries is.numbers.2 is'.numbers.2 in
-    let drop : c.drop ≡ d.drop = one_number drop_entry (get_member drop_entry.name top) c.drop d.drop is.numbers.3 is'.numbers.3 in
-    let repeat : c.repeat ≡ d.repeat = one_number repeat_entry (get_member repeat_entry.name top) c.repeat d.repeat is.numbers.4 is'.numbers.4 in
+    let version : c.version ≡ d.version = one_number version_entry (get_member version_entry.name top) c.version d.version is.numbers.1 is'.numbers.1 in
+    let workers : c.workers ≡ d.workers = one_number workers_entry (get_member workers_entry.name top) c.workers d.workers is.numbers.2 is'.numbers.2 in
+    let tries : c.tries ≡ d.tries = one_number tries_entry (get_member tries_entry.name top) c.tries d.tries is.numbers.3 is'.numbers.3 in
+    let drop : c.drop ≡ d.drop = one_number drop_entry (get_member drop_entry.name top) c.drop d.drop is.numbers.4 is'.numbers.4 in
+    let repeat : c.repeat ≡ d.repeat = one_number repeat_entry (get_member repeat_entry.name top) c.repeat d.repeat is.numbers.5 is'.numbers.5 in
     let procs : c.procs ≡ d.procs = one_procs (get_member (codes "procs") top) c.procs d.procs is.procs is'.procs in
-    let homes : c.homes ≡ d.homes = one_homes top c.regions c.homes d.homes is.homes (subst (λ r. HasHomes top r d.homes) (sym regions) is'.homes) in
+    let homes : c.homes ≡ d.homes = one_homes top c.version c.regions c.homes d.homes is.homes
+    (subst (λ v. HasHomes top v c.regions d.homes) (sym version) (subst (λ r. HasHomes top d.version r d.homes) (sym regions) is'.homes)) in
     let rows : c.rows ≡ d.rows = one_rows top c.rows d.rows is.rows is'.rows in
-    λ i. record { regions = regions i; workers = workers i; tries = tries i; drop = drop i; repeat = repeat i; procs = procs i; homes = homes i; rows = rows i }
+    λ i. record { version = version i; regions = regions i; workers = workers i; tries = tries i; drop = drop i; repeat = repeat i; procs = procs i; homes = homes i; rows = rows i }
 
 cluster_or_fault : (top : Members) (c : Cluster) (f : ClusterFault) → IsClusterOf top c → IsFaultOf top f → ⊥
 cluster_or_fault top c f is (inl unknown) = known_or_fault top f is.known unknown
-cluster_or_fault top c f is (inr (known, inl number)) = numbers_or_fault top c.regions c.workers c.tries c.drop c.repeat f is.numbers number
-cluster_or_fault top c f is (inr (known, inr (r, w, t, d, p, has, inl procs))) = procs_or_fault (get_member (codes "procs") top) c.procs f is.procs procs
-cluster_or_fault top c f is (inr (known, inr (r, w, t, d, p, has, inr (ps, inl homes)))) =
-    homes_or_fault top c.regions c.homes f is.homes (subst (λ n. IsHomesFault top n f) (one_number regions_entry (get_member regions_entry.name top) r c.regions has.0 is.numbers.0) homes)
-cluster_or_fault top c f is (inr (known, inr (r, w, t, d, p, has, inr (ps, inr (hs, rows))))) = rows_or_fault top c.rows f is.rows rows
+cluster_or_fault top c f is (inr (known, inl number)) = numbers_or_fault top c.regions c.version c.workers c.tries c.drop c.repeat f is.numbers number
+cluster_or_fault top c f is (inr (known, inr (r, v, w, t, d, p, has, inl procs))) = procs_or_fault (get_member (codes "procs") top) c.procs f is.procs procs
+cluster_or_fault top c f is (inr (known, inr (r, v, w, t, d, p, has, inr (ps, inl homes)))) =
+    homes_or_fault top c.version c.regions c.homes f is.homes
+    (subst (λ n. IsHomesFault top n c.regions f) (one_number version_entry (get_member version_entry.name top) v c.version has.1 is.numbers.1)
+    (subst (λ n. IsHomesFault top v n f) (one_number regions_entry (get_member regions_entry.name top) r c.regions has.0 is.numbers.0) homes))
+cluster_or_fault top c f is (inr (known, inr (r, v, w, t, d, p, has, inr (ps, inr (hs, rows))))) = rows_or_fault top c.rows f is.rows rows
 
 -- faults that are told in two steps are one, where those of each step are and the steps are apart
 staged : (Bad Later : ClusterFault → Type 0) (Fine : Type 0) → ((f g : ClusterFault) → Bad f → Bad g → f ≡ g) → ((f : ClusterFault) → Fine → Bad f → ⊥)
@@ -354,34 +358,36 @@ staged Bad Later Fine one apart later f g (inl h) (inr k) = absurd (apart f k.0 
 staged Bad Later Fine one apart later f g (inr h) (inl k) = absurd (apart g h.0 k)
 staged Bad Later Fine one apart later f g (inr h) (inr k) = later f g h.1 k.1
 
-abbrev AfterProcs : Members → ℕ → ClusterFault → Type 0
-AfterProcs top regions fault =
-    IsHomesFault top regions fault ⊎ (((homes : List (Bytes × ℕ)) × HasHomes top regions homes) × IsRowsFault top fault)
+abbrev AfterProcs : Members → ℕ → ℕ → ClusterFault → Type 0
+AfterProcs top version regions fault =
+    IsHomesFault top version regions fault ⊎ (((homes : List (Bytes × ℕ)) × HasHomes top version regions homes) × IsRowsFault top fault)
 
-abbrev AfterNumbers : Members → ℕ → ClusterFault → Type 0
-AfterNumbers top regions fault =
-    IsProcsFault top fault ⊎ (((procs : List ProcTree) × HasProcs top procs) × AfterProcs top regions fault)
+abbrev AfterNumbers : Members → ℕ → ℕ → ClusterFault → Type 0
+AfterNumbers top version regions fault =
+    IsProcsFault top fault ⊎ (((procs : List ProcTree) × HasProcs top procs) × AfterProcs top version regions fault)
 
 abbrev AfterKnown : Members → ClusterFault → Type 0
 AfterKnown top fault =
-    IsNumberFault top fault ⊎ ((regions workers tries drop repeat : ℕ) × HasNumbers top regions workers tries drop repeat × AfterNumbers top regions fault)
+    IsNumberFault top fault ⊎ ((regions version workers tries drop repeat : ℕ) × HasNumbers top regions version workers tries drop repeat × AfterNumbers top version regions fault)
 
-one_after_procs : (top : Members) (regions : ℕ) (f g : ClusterFault) → AfterProcs top regions f → AfterProcs top regions g → f ≡ g
-one_after_procs top regions =
-    staged (IsHomesFault top regions) (IsRowsFault top) ((homes : List (Bytes × ℕ)) × HasHomes top regions homes)
-    (one_homes_fault top regions) (λ f fine bad. homes_or_fault top regions fine.0 f fine.1 bad) (one_rows_fault top)
+one_after_procs : (top : Members) (version regions : ℕ) (f g : ClusterFault) → AfterProcs top version regions f → AfterProcs top version regions g → f ≡ g
+one_after_procs top version regions =
+    staged (IsHomesFault top version regions) (IsRowsFault top) ((homes : List (Bytes × ℕ)) × HasHomes top version regions homes)
+    (one_homes_fault top version regions) (λ f fine bad. homes_or_fault top version regions fine.0 f fine.1 bad) (one_rows_fault top)
 
-one_after_numbers : (top : Members) (regions : ℕ) (f g : ClusterFault) → AfterNumbers top regions f → AfterNumbers top regions g → f ≡ g
-one_after_numbers top regions =
-    staged (IsProcsFault top) (AfterProcs top regions) ((procs : List ProcTree) × HasProcs top procs)
-    (one_procs_fault (get_member (codes "procs") top)) (λ f fine bad. procs_or_fault (get_member (codes "procs") top) fine.0 f fine.1 bad) (one_after_procs top regions)
+one_after_numbers : (top : Members) (version regions : ℕ) (f g : ClusterFault) → AfterNumbers top version regions f → AfterNumbers top version regions g → f ≡ g
+one_after_numbers top version regions =
+    staged (IsProcsFault top) (AfterProcs top version regions) ((procs : List ProcTree) × HasProcs top procs)
+    (one_procs_fault (get_member (codes "procs") top)) (λ f fine bad. procs_or_fault (get_member (codes "procs") top) fine.0 f fine.1 bad) (one_after_procs top version regions)
 
 one_after_known : (top : Members) (f g : ClusterFault) → AfterKnown top f → AfterKnown top g → f ≡ g
 one_after_known top f g (inl h) (inl k) = one_numbers_fault top f g h k
-one_after_known top f g (inl h) (inr (r, w, t, d, p, has, later)) = absurd (numbers_or_fault top r w t d p f has h)
-one_after_known top f g (inr (r, w, t, d, p, has, later)) (inl k) = absurd (numbers_or_fault top r w t d p g has k)
-one_after_known top f g (inr (r, w, t, d, p, has, later)) (inr (r', w', t', d', p', has', later')) =
-    one_after_numbers top r f g later (subst (λ n. AfterNumbers top n g) (one_number regions_entry (get_member regions_entry.name top) r' r has'.0 has.0) later')
+one_after_known top f g (inl h) (inr (r, v, w, t, d, p, has, later)) = absurd (numbers_or_fault top r v w t d p f has h)
+one_after_known top f g (inr (r, v, w, t, d, p, has, later)) (inl k) = absurd (numbers_or_fault top r v w t d p g has k)
+one_after_known top f g (inr (r, v, w, t, d, p, has, later)) (inr (r', v', w', t', d', p', has', later')) =
+    one_after_numbers top v r f g later
+    (subst (λ n. AfterNumbers top n r g) (one_number version_entry (get_member version_entry.name top) v' v has'.1 has.1)
+    (subst (λ n. AfterNumbers top v' n g) (one_number regions_entry (get_member regions_entry.name top) r' r has'.0 has.0) later'))
 
 one_fault_of : (top : Members) (f g : ClusterFault) → IsFaultOf top f → IsFaultOf top g → f ≡ g
 one_fault_of top = staged (IsUnknownFault top) (AfterKnown top) (AreKnown top) (one_unknown_fault top) (known_or_fault top) (one_after_known top)

@@ -9,6 +9,7 @@ use Rattle.std.specs.Cmp.Lexicographic.{slice_cmp}
 use Rattle.std.specs.List.{AllByRecursion}
 use Rattle.std.specs.List.Sorted.{IsStrictlySortedBy}
 use Rattle.dt_lists.specs.Lists.{AllIn, Distinct, Pairwise}
+use Rattle.dt_access.specs.Granules.{unit_of}
 use Rattle.dt_text.specs.Texts.{IsKey, IsStr}
 use Rattle.dt_text.specs.declared.value.Value.{Value}
 use Rattle.dt_text.specs.declared.value.Value.TheVariants.{Int, Text}
@@ -16,7 +17,7 @@ use Rattle.dt_proc.specs.Sound.{AreProcs}
 use Rattle.toml.specs.Data.{Data, string, integer, float, boolean, datetime, array, table, Members, get_member}
 use Rattle.dt_text.specs.Texts.{Bytes}
 use Rattle.dt_cluster.specs.Document.{Entry, AreEntries, AreEntriesAt}
-use Rattle.dt_cluster.specs.Numbers.{NumberEntry, GivesNumber, within, regions_entry, workers_entry, tries_entry, drop_entry, repeat_entry}
+use Rattle.dt_cluster.specs.Numbers.{NumberEntry, GivesNumber, within, regions_entry, version_entry, workers_entry, tries_entry, drop_entry, repeat_entry}
 use Rattle.dt_cluster.specs.Rows.{IsHome, IsRow, IsValue}
 use Rattle.dt_cluster.specs.File.{HasNumbers, HasHomes, HasRows}
 use Rattle.dt_cluster.specs.Valid.{IsRowValue, IsDrop, IsValidCluster}
@@ -39,6 +40,12 @@ is_within least greatest n h = (grind (arith, nat_tests), grind (arith, nat_test
 
 regions_within : (d : Option Data) (n : ℕ) → GivesNumber regions_entry d n → (1 ≤ n) × (n ≤ 8)
 regions_within d n h = given_allowed regions_entry (λ n. (1 ≤ n) × (n ≤ 8)) (λ n e. absurd cc) (is_within 1 8) d n h
+
+version_within : (d : Option Data) (n : ℕ) → GivesNumber version_entry d n → (1 ≤ n) × (n ≤ 2)
+version_within d n h = given_allowed version_entry (λ n. (1 ≤ n) × (n ≤ 2)) (λ n e. rw (← same_some 1 n e) (omega arith, omega arith)) (is_within 1 2) d n h
+  where
+    same_some : (a b : ℕ) → Some a ≡ Some b → a ≡ b
+    same_some a b e = cc
 
 workers_within : (d : Option Data) (n : ℕ) → GivesNumber workers_entry d n → (1 ≤ n) × (n ≤ 16)
 workers_within d n h = given_allowed workers_entry (λ n. (1 ≤ n) × (n ≤ 16)) (λ n e. rw (← same_some 4 n e) (omega arith, omega arith)) (is_within 1 16) d n h
@@ -115,23 +122,27 @@ is_row_value (array ds) v h = absurd h
 is_row_value (table ms) v h = absurd h
 
 -- what a file gives can be
-pub given_valid : (top : Members) (cluster : Cluster) → HasNumbers top cluster.regions cluster.workers cluster.tries cluster.drop cluster.repeat
-    → AreProcs cluster.procs → HasHomes top cluster.regions cluster.homes → HasRows top cluster.rows → IsValidCluster cluster
+pub given_valid : (top : Members) (cluster : Cluster) → HasNumbers top cluster.regions cluster.version cluster.workers cluster.tries cluster.drop cluster.repeat
+    → AreProcs cluster.procs → HasHomes top cluster.version cluster.regions cluster.homes → HasRows top cluster.rows → IsValidCluster cluster
 given_valid top cluster numbers procs homes rows =
     let r = regions_within _ cluster.regions numbers.0 in
-    let w = workers_within _ cluster.workers numbers.1 in
-    let t = tries_within _ cluster.tries numbers.2 in
+    let w = workers_within _ cluster.workers numbers.2 in
+    let v = version_within _ cluster.version numbers.1 in
+    let t = tries_within _ cluster.tries numbers.3 in
     record {
+      some_version = v.0;
+      known_version = v.1;
       some = r.0;
       few = r.1;
       some_worker = w.0;
       few_workers = w.1;
       tries = t.0;
       few_tries = t.1;
-      drop = drop_within _ cluster.drop numbers.3;
-      repeat = repeat_within _ cluster.repeat numbers.4;
+      drop = drop_within _ cluster.drop numbers.4;
+      repeat = repeat_within _ cluster.repeat numbers.5;
       procs = procs;
-      home_keys = each_right _ (λ h. IsKey h.0) (λ e x h. h.1) homes.0 cluster.homes homes.2;
+      home_keys = each_right _ (λ h. IsKey h.0) (λ e x h. h.1.0) homes.0 cluster.homes homes.2;
+      home_units = each_right _ (λ h. unit_of cluster.version h.0 ≡ h.0) (λ e x h. h.1.1) homes.0 cluster.homes homes.2;
       homes_once = rw (same_names _ (λ e x h. h.0) homes.0 cluster.homes homes.2) (at_distinct _ homes.0 homes.1);
       homes = each_right _ (λ h. h.1 < cluster.regions) (λ e x h. h.3) homes.0 cluster.homes homes.2;
       row_keys = each_right _ (λ r. IsKey r.0) (λ e x h. h.1) rows.0 cluster.rows rows.2;

@@ -12,7 +12,7 @@ use Rattle.dt_proc.specs.declared.error.ProcError.TheVariants as refused
 use Rattle.toml.specs.Data.{Data, string, Members, get_member}
 use Rattle.dt_text.specs.Texts.{Bytes}
 use Rattle.dt_cluster.specs.Document.{Entry, IsDocument, AreEntries, AreEntriesAt, IsNoTable, IsFirstFaulty}
-use Rattle.dt_cluster.specs.Numbers.{NumberEntry, regions_entry, workers_entry, tries_entry, drop_entry, repeat_entry, HasNumber, HasBadNumber}
+use Rattle.dt_cluster.specs.Numbers.{NumberEntry, regions_entry, version_entry, workers_entry, tries_entry, drop_entry, repeat_entry, HasNumber, HasBadNumber}
 use Rattle.dt_cluster.specs.Rows.{IsHome, IsBadHome, IsRow, IsBadRow}
 use Rattle.dt_cluster.specs.declared.cluster.Cluster.{Cluster}
 use Rattle.dt_cluster.specs.declared.error.ClusterCause.{ClusterCause}
@@ -24,7 +24,7 @@ use Rattle.dt_cluster.specs.declared.error.ClusterFault.{ClusterFault}
 -- the names that may stand at the top of a cluster file
 abbrev pub known_names : List Bytes
 known_names =
-    codes "regions" ∷ codes "workers" ∷ codes "tries" ∷ codes "drop" ∷ codes "repeat" ∷ codes "procs" ∷ codes "homes" ∷ codes "rows" ∷ []
+    codes "regions" ∷ codes "version" ∷ codes "workers" ∷ codes "tries" ∷ codes "drop" ∷ codes "repeat" ∷ codes "procs" ∷ codes "homes" ∷ codes "rows" ∷ []
 
 abbrev pub IsKnown : Entry → Type 0
 IsKnown entry = Has known_names entry.0
@@ -41,13 +41,13 @@ IsUnknownFault top fault =
     × IsFirstFaulty (λ e. e.0) IsKnown (λ e c. (c ≡ cause.Unknown) × ¬ (IsKnown e)) entries name cause.Unknown)
 
 -- the numbers that a document gives
-abbrev pub HasNumbers : Members → ℕ → ℕ → ℕ → ℕ → ℕ → Type 0
-HasNumbers top regions workers tries drop repeat =
-    HasNumber top regions_entry regions × HasNumber top workers_entry workers × HasNumber top tries_entry tries
+abbrev pub HasNumbers : Members → ℕ → ℕ → ℕ → ℕ → ℕ → ℕ → Type 0
+HasNumbers top regions version workers tries drop repeat =
+    HasNumber top regions_entry regions × HasNumber top version_entry version × HasNumber top workers_entry workers × HasNumber top tries_entry tries
     × HasNumber top drop_entry drop × HasNumber top repeat_entry repeat
 
 abbrev pub number_entries : List NumberEntry
-number_entries = regions_entry ∷ workers_entry ∷ tries_entry ∷ drop_entry ∷ repeat_entry ∷ []
+number_entries = regions_entry ∷ version_entry ∷ workers_entry ∷ tries_entry ∷ drop_entry ∷ repeat_entry ∷ []
 
 -- the fault of a number: that of the first number which has one
 abbrev pub IsNumberFault : Members → ClusterFault → Type 0
@@ -83,17 +83,17 @@ abbrev pub IsProcsFault : Members → ClusterFault → Type 0
 IsProcsFault top fault = IsProcsFaultAt (get_member (codes "procs") top) fault
 
 -- the homes that a document lists, by ascending keys
-abbrev pub HasHomes : Members → ℕ → List (Bytes × ℕ) → Type 0
-HasHomes top regions homes =
-    (entries : List Entry) × AreEntriesAt (get_member (codes "homes") top) entries × Pairwise (IsHome regions) entries homes
+abbrev pub HasHomes : Members → ℕ → ℕ → List (Bytes × ℕ) → Type 0
+HasHomes top version regions homes =
+    (entries : List Entry) × AreEntriesAt (get_member (codes "homes") top) entries × Pairwise (IsHome version regions) entries homes
 
 -- the fault of `homes`: it is no table, or the first of its names that is at fault
-abbrev pub IsHomesFault : Members → ℕ → ClusterFault → Type 0
-IsHomesFault top regions fault =
+abbrev pub IsHomesFault : Members → ℕ → ℕ → ClusterFault → Type 0
+IsHomesFault top version regions fault =
     (IsNoTable (get_member (codes "homes") top) × (fault ≡ record { place = place.Entry (codes "homes"); cause = cause.Kind }))
     ⊎ ((name : Bytes) × (why : ClusterCause) × (fault ≡ record { place = place.Home name; cause = why })
     × ((entries : List Entry) × AreEntriesAt (get_member (codes "homes") top) entries
-    × IsFirstFaulty (λ e. e.0) (λ e. (h : Bytes × ℕ) × IsHome regions e h) (IsBadHome regions) entries name why))
+    × IsFirstFaulty (λ e. e.0) (λ e. (h : Bytes × ℕ) × IsHome version regions e h) (IsBadHome version regions) entries name why))
 
 -- the rows that a document lists, by ascending keys
 abbrev pub HasRows : Members → List (Bytes × Value) → Type 0
@@ -111,9 +111,9 @@ IsRowsFault top fault =
 -- a document is this cluster
 pub record IsClusterOf (top : Members) (cluster : Cluster) : Type 0 where
   pub known : AreKnown top
-  pub numbers : HasNumbers top cluster.regions cluster.workers cluster.tries cluster.drop cluster.repeat
+  pub numbers : HasNumbers top cluster.regions cluster.version cluster.workers cluster.tries cluster.drop cluster.repeat
   pub procs : HasProcs top cluster.procs
-  pub homes : HasHomes top cluster.regions cluster.homes
+  pub homes : HasHomes top cluster.version cluster.regions cluster.homes
   pub rows : HasRows top cluster.rows
 
 -- the first fault of a document: an unknown name; else that of a number; else that of `procs`; else that of `homes`; else that
@@ -122,9 +122,9 @@ abbrev pub IsFaultOf : Members → ClusterFault → Type 0
 IsFaultOf top fault =
     IsUnknownFault top fault
     ⊎ (AreKnown top × (IsNumberFault top fault
-    ⊎ ((regions workers tries drop repeat : ℕ) × HasNumbers top regions workers tries drop repeat × (IsProcsFault top fault
-    ⊎ (((procs : List ProcTree) × HasProcs top procs) × (IsHomesFault top regions fault
-    ⊎ (((homes : List (Bytes × ℕ)) × HasHomes top regions homes) × IsRowsFault top fault)))))))
+    ⊎ ((regions version workers tries drop repeat : ℕ) × HasNumbers top regions version workers tries drop repeat × (IsProcsFault top fault
+    ⊎ (((procs : List ProcTree) × HasProcs top procs) × (IsHomesFault top version regions fault
+    ⊎ (((homes : List (Bytes × ℕ)) × HasHomes top version regions homes) × IsRowsFault top fault)))))))
 
 -- the bytes are this cluster
 abbrev pub IsCluster : Bytes → Cluster → Type 0

@@ -19,6 +19,10 @@ within least greatest n = nat_le least n && nat_le n greatest
 abbrev pub regions_entry : NumberEntry
 regions_entry = record { name = codes "regions"; allows = within 1 8; absent = None }
 
+-- 1 or 2, or else 1: in version 2 a granule of keys has a home and moves, in version 1 each key
+abbrev pub version_entry : NumberEntry
+version_entry = record { name = codes "version"; allows = within 1 2; absent = Some 1 }
+
 -- 1 to 16, or else 4
 abbrev pub workers_entry : NumberEntry
 workers_entry = record { name = codes "workers"; allows = within 1 16; absent = Some 4 }

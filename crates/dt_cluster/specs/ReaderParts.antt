@@ -29,15 +29,15 @@ abbrev pub IsEntryFault : Members → NumberEntry → ClusterFault → Type 0
 IsEntryFault top entry fault = IsFaultAt (place.Entry entry.name) (HasBadNumber top entry) fault
 
 -- the homes that a table lists, by ascending keys
-abbrev pub AreHomesOf : Members → ℕ → List (Bytes × ℕ) → Type 0
-AreHomesOf members regions homes = (entries : List Entry) × AreEntries members entries × Pairwise (IsHome regions) entries homes
+abbrev pub AreHomesOf : Members → ℕ → ℕ → List (Bytes × ℕ) → Type 0
+AreHomesOf members version regions homes = (entries : List Entry) × AreEntries members entries × Pairwise (IsHome version regions) entries homes
 
 -- the fault is that of the first bad home which a table lists
-abbrev pub IsBadHomeOf : Members → ℕ → ClusterFault → Type 0
-IsBadHomeOf members regions fault =
+abbrev pub IsBadHomeOf : Members → ℕ → ℕ → ClusterFault → Type 0
+IsBadHomeOf members version regions fault =
     (name : Bytes) × (why : ClusterCause) × (fault ≡ record { place = place.Home name; cause = why })
     × ((entries : List Entry) × AreEntries members entries
-    × IsFirstFaulty (λ e. e.0) (λ e. (h : Bytes × ℕ) × IsHome regions e h) (IsBadHome regions) entries name why)
+    × IsFirstFaulty (λ e. e.0) (λ e. (h : Bytes × ℕ) × IsHome version regions e h) (IsBadHome version regions) entries name why)
 
 -- the rows that a table lists, by ascending keys
 abbrev pub AreRowsOf : Members → List (Bytes × Value) → Type 0

@@ -1,30 +1,37 @@
--- The entries of the tables `homes` and `rows`: a home is a key with the number of a region, a row a key with a number or a
+-- The entries of the tables `homes` and `rows`: a home is a key, in version 2 a
+-- granule, with the number of a region, a row a key with a number or a
 -- text. For an entry that is none, the cause. `File` goes through them by ascending names.
 use Rattle.std.specs.Prelude.{◌≡◌, ◌⊎◌, ◌<◌, ℕ, pos, FitsSigned}
 use Rattle.std.specs.Int.{w64}
 use Rattle.dt_text.specs.Texts.{IsKey, IsStr}
 use Rattle.dt_text.specs.declared.value.Value.{Value}
 use Rattle.dt_text.specs.declared.value.Value.TheVariants.{Int, Text}
+use Rattle.dt_access.specs.Granules.{unit_of}
 use Rattle.toml.specs.Data.{Data, integer, string}
 use Rattle.dt_text.specs.Texts.{Bytes}
 use Rattle.dt_cluster.specs.Document.{Entry}
 use Rattle.dt_cluster.specs.declared.error.ClusterCause.{ClusterCause}
 use Rattle.dt_cluster.specs.declared.error.ClusterCause.TheVariants.{BadKey, BadText, Kind, Range}
 
--- an entry of `homes`, in a cluster of so many regions: a key, and an integer that is the number of a region
-abbrev pub IsHome : ℕ → Entry → Bytes × ℕ → Type 0
-IsHome regions entry home =
-    (home.0 ≡ entry.0) × IsKey home.0 × (entry.1 ≡ integer (pos home.1)) × (home.1 < regions)
+-- the name of an entry of `homes`: a key that has a home of its own, which in version 2 is a granule
+abbrev pub IsHomeKey : ℕ → Bytes → Type 0
+IsHomeKey version key = IsKey key × (unit_of version key ≡ key)
+
+-- an entry of `homes`, in a cluster of this version with so many regions: such a key, and an integer that is the number of a
+-- region
+abbrev pub IsHome : ℕ → ℕ → Entry → Bytes × ℕ → Type 0
+IsHome version regions entry home =
+    (home.0 ≡ entry.0) × IsHomeKey version home.0 × (entry.1 ≡ integer (pos home.1)) × (home.1 < regions)
 
 -- a value that is no home is no integer, or no region's number
 abbrev pub IsNoHome : ℕ → Data → ClusterCause → Type 0
 IsNoHome regions (integer z) cause = (cause ≡ Range) × ((n : ℕ) → z ≡ pos n → ¬ (n < regions))
 IsNoHome regions other cause = cause ≡ Kind
 
--- why an entry of `homes` is none: its name is no key; else its value is no home
-abbrev pub IsBadHome : ℕ → Entry → ClusterCause → Type 0
-IsBadHome regions entry cause =
-    ((cause ≡ BadKey) × ¬ (IsKey entry.0)) ⊎ (IsKey entry.0 × IsNoHome regions entry.1 cause)
+-- why an entry of `homes` is none: its name is no key that has a home of its own; else its value is no home
+abbrev pub IsBadHome : ℕ → ℕ → Entry → ClusterCause → Type 0
+IsBadHome version regions entry cause =
+    ((cause ≡ BadKey) × ¬ (IsHomeKey version entry.0)) ⊎ (IsHomeKey version entry.0 × IsNoHome regions entry.1 cause)
 
 -- the value is this one: an integer is the number, which has 64 bits, and a string the text
 abbrev pub IsValue : Data → Value → Type 0

@@ -6,6 +6,7 @@ use Rattle.dt_lists.specs.Lists.{AllIn, Distinct}
 use Rattle.dt_text.specs.Texts.{IsKey, IsStr}
 use Rattle.dt_text.specs.declared.value.Value.{Value}
 use Rattle.dt_text.specs.declared.value.Value.TheVariants.{Int, Text}
+use Rattle.dt_access.specs.Granules.{unit_of}
 use Rattle.dt_proc.specs.Sound.{AreProcs}
 use Rattle.dt_cluster.specs.declared.cluster.Cluster.{Cluster}
 
@@ -19,8 +20,10 @@ abbrev pub IsDrop : ℕ → Type 0
 IsDrop d = (d ≡ 0) ⊎ (2 ≤ d) × (d ≤ 1000)
 
 -- a cluster that can be: its numbers are in their ranges, its procedures are sound, no key is listed twice for a home or for a
--- value, the listed homes are regions, and the listed values can stand in rows
+-- value, the keys that are listed for a home have one of their own (in version 2 they are granules), the listed homes are regions, and the listed values can stand in rows
 pub record IsValidCluster (cluster : Cluster) : Type 0 where
+  pub some_version : 1 ≤ cluster.version
+  pub known_version : cluster.version ≤ 2
   pub some : 1 ≤ cluster.regions
   pub few : cluster.regions ≤ 8
   pub some_worker : 1 ≤ cluster.workers
@@ -31,6 +34,7 @@ pub record IsValidCluster (cluster : Cluster) : Type 0 where
   pub repeat : cluster.repeat ≤ 1000
   pub procs : AreProcs cluster.procs
   pub home_keys : AllIn (λ h. IsKey h.0) cluster.homes
+  pub home_units : AllIn (λ h. unit_of cluster.version h.0 ≡ h.0) cluster.homes
   pub homes_once : Distinct (map (λ h. h.0) cluster.homes)
   pub homes : AllIn (λ h. h.1 < cluster.regions) cluster.homes
   pub row_keys : AllIn (λ r. IsKey r.0) cluster.rows

@@ -16,6 +16,8 @@ pub type RowList = Listed<(Key, Value)>;
 /// A cluster.
 #[derive(Drop)]
 pub struct Cluster {
+    /// 1, in which each key has a home and moves, or 2, in which each granule of keys has them.
+    pub version: u8,
     /// The number of regions, 1 to 8.
     pub regions: u8,
     /// How many workers execute in a region, 1 to 16.
@@ -28,7 +30,7 @@ pub struct Cluster {
     pub repeat: u32,
     /// The procedures that calls name.
     pub procs: Procs,
-    /// The homes of keys that have another than their first byte gives.
+    /// The homes of keys, in version 2 of granules, that have another than their first byte gives.
     pub homes: HomeList,
     /// The rows that have a value at first.
     pub rows: RowList,
@@ -40,6 +42,7 @@ impl Cluster {
         ensures { IfOk result (λ copied. copied ≡ self.now) }
     {
         Ok(Cluster {
+            version: self.version,
             regions: self.regions,
             workers: self.workers,
             tries: self.tries,
@@ -52,7 +55,7 @@ impl Cluster {
     }
 }
 
-/// The built-in cluster of so many regions: four workers, three tries, nothing lost or repeated,
+/// The built-in cluster of so many regions: version 1, four workers, three tries, nothing lost or repeated,
 /// the built-in procedures, and neither homes nor rows listed.
 pub fn builtin(alloc: Global, regions: u8) -> Result<Cluster, NoMemory>
     requires some { 1 ≤ regions }
@@ -61,6 +64,7 @@ pub fn builtin(alloc: Global, regions: u8) -> Result<Cluster, NoMemory>
     ensures valid { IfOk result IsValidCluster }
 {
     Ok(Cluster {
+        version: 1,
         regions,
         workers: 4,
         tries: 3,

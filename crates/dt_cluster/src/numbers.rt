@@ -1,6 +1,6 @@
 ghost use Rattle.std.specs.Prelude.{IfOk, IfErr};
 ghost use Rattle.toml.specs.View.{table_view};
-ghost use Rattle.dt_cluster.specs.Numbers.{HasNumber, drop_entry, regions_entry, within};
+ghost use Rattle.dt_cluster.specs.Numbers.{HasNumber, drop_entry, regions_entry, version_entry, within};
 ghost use Rattle.dt_cluster.specs.File.{HasNumbers, IsNumberFault};
 ghost use Rattle.dt_cluster.specs.ReaderParts.{IsEntryFault, TellsFault};
 
@@ -13,6 +13,7 @@ use toml::Table;
 #[derive(Clone, Copy)]
 pub(crate) struct Numbers {
     pub(crate) regions: u8,
+    pub(crate) version: u8,
     pub(crate) workers: u32,
     pub(crate) tries: u32,
     pub(crate) drop: u32,
@@ -21,11 +22,12 @@ pub(crate) struct Numbers {
 
 /// Reads the numbers of a cluster, in the order in which their faults are told.
 pub(crate) fn read_numbers(alloc: Global, top: &Table) -> Result<Numbers, ClusterError>
-    ensures ok { IfOk result (λ n. HasNumbers (table_view top.now) n.regions n.workers n.tries n.drop n.repeat) }
+    ensures ok { IfOk result (λ n. HasNumbers (table_view top.now) n.regions n.version n.workers n.tries n.drop n.repeat) }
     ensures fault { IfErr result (TellsFault (IsNumberFault (table_view top.now))) }
 {
     Ok(Numbers {
         regions: read_regions(alloc, top)?,
+        version: read_version(alloc, top)?,
         workers: number(alloc, top, "workers", 1, 16, Some(4))?,
         tries: number(alloc, top, "tries", 1, 8, Some(3))?,
         drop: read_drop(alloc, top)?,
@@ -40,6 +42,15 @@ fn read_regions(alloc: Global, top: &Table) -> Result<u8, ClusterError>
 {
     let regions = number(alloc, top, "regions", 1, 8, None)?;
     Ok(regions as u8)
+}
+
+/// The version, 1 where none is there.
+fn read_version(alloc: Global, top: &Table) -> Result<u8, ClusterError>
+    ensures ok { IfOk result (HasNumber (table_view top.now) version_entry) }
+    ensures fault { IfErr result (TellsFault (IsEntryFault (table_view top.now) version_entry)) }
+{
+    let version = number(alloc, top, "version", 1, 2, Some(1))?;
+    Ok(version as u8)
 }
 
 /// Which packets are lost: none, or one in every so many, but never each of them.

@@ -21,7 +21,7 @@ use toml::Table;
 /// Reads a cluster file.
 ///
 /// The answer is the cluster that the file is, or its first fault. The faults are tried in this order: the bytes are no
-/// document of TOML; the least unknown name at the top; `regions`, `workers`, `tries`, `drop` and `repeat`; `procs`; `homes`,
+/// document of TOML; the least unknown name at the top; `regions`, `version`, `workers`, `tries`, `drop` and `repeat`; `procs`; `homes`,
 /// and then each of its names in ascending byte order; and `rows` in the same way. Names are compared by their bytes.
 /// That a file is too long is told by who loads it.
 pub fn read_cluster(alloc: Global, bytes: &[u8]) -> Result<Cluster, ClusterError>
@@ -45,9 +45,10 @@ fn cluster_of(alloc: Global, top: &Table) -> Result<Cluster, ClusterError>
     only_known(alloc, top)?;
     let numbers = read_numbers(alloc, top)?;
     let procs = procs_of(alloc, top)?;
-    let homes = read_homes(alloc, top, numbers.regions)?;
+    let homes = read_homes(alloc, top, numbers.version, numbers.regions)?;
     let rows = read_rows(alloc, top)?;
     Ok(Cluster {
+        version: numbers.version,
         regions: numbers.regions,
         workers: numbers.workers,
         tries: numbers.tries,
@@ -78,7 +79,15 @@ fn is_known(name: &[u8]) -> bool
 {
     matches!(
         name,
-        b"regions" | b"workers" | b"tries" | b"drop" | b"repeat" | b"procs" | b"homes" | b"rows"
+        b"regions"
+            | b"version"
+            | b"workers"
+            | b"tries"
+            | b"drop"
+            | b"repeat"
+            | b"procs"
+            | b"homes"
+            | b"rows"
     )
 }
 

@@ -32,8 +32,11 @@ fn fault_text(alloc: Global, place: &ClusterPlace, cause: ClusterCause) -> Resul
     Ok(text.as_bytes().to_vec(alloc)?)
 }
 
-/// A cluster in words: its numbers and how many procedures it has, each key with its home, and each with its value.
+/// A cluster in words: `v2` where its version is 2, its numbers and how many procedures it has, each key with its home, and each with its value.
 fn put_cluster(alloc: Global, out: &mut Vec<u8>, cluster: &Cluster) -> Result<(), NoMemory> {
+    if cluster.version == 2 {
+        out.extend_from_slice(b"v2 ")?;
+    }
     put_u64(alloc, out, u64::from(cluster.regions))?;
     for number in [
         cluster.workers,
@@ -77,7 +80,7 @@ fn told(alloc: Global, file: &[u8]) -> Result<Vec<u8>, Fail> {
 }
 
 /// Files, each with what is told of it.
-const FILES: [(&[u8], &str); 71] = [
+const FILES: [(&[u8], &str); 83] = [
     (b"regions =", "whole NotToml"),
     (b"regions = 1\nregions = 2", "whole NotToml"),
     (b"regions = 1 # \xff", "whole NotToml"),
@@ -91,6 +94,33 @@ const FILES: [(&[u8], &str); 71] = [
     (b"regions = 1.0", "entry regions Kind"),
     (b"[regions]", "entry regions Kind"),
     (b"regions = 8", "8 4 3 0 0 8"),
+    (b"regions = 8\nversion = 1", "8 4 3 0 0 8"),
+    (b"regions = 8\nversion = 2", "v2 8 4 3 0 0 8"),
+    (b"regions = 8\nversion = 3", "entry version Range"),
+    (b"regions = 8\nversion = 0", "entry version Range"),
+    (b"regions = 8\nversion = \"2\"", "entry version Kind"),
+    (b"version = 3\nregions = 9", "entry regions Range"),
+    (
+        b"workers = 0\nversion = 3\nregions = 1",
+        "entry version Range",
+    ),
+    (b"regions = 2\n[homes]\n\"b/1\" = 0", "2 4 3 0 0 8 b/1@0"),
+    (
+        b"regions = 2\nversion = 2\n[homes]\n\"b/1\" = 0",
+        "home b/1 BadKey",
+    ),
+    (
+        b"regions = 2\nversion = 2\n[homes]\n\"/x/y\" = \"0\"",
+        "home /x/y BadKey",
+    ),
+    (
+        b"regions = 2\nversion = 2\n[homes]\nb = 0\n\"/x\" = 1",
+        "v2 2 4 3 0 0 8 /x@1 b@0",
+    ),
+    (
+        b"regions = 2\nversion = 2\n[homes]\nb = 0\n[rows]\n\"b/1\" = 7",
+        "v2 2 4 3 0 0 8 b@0 b/1=7",
+    ),
     (b"zz = 1\nabc = 2", "entry abc Unknown"),
     (b"regions = 9\n\"\" = 1\nabc = 1", "entry  Unknown"),
     (b"regions = 1\nRegions = 1", "entry Regions Unknown"),

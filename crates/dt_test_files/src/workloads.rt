@@ -1,17 +1,26 @@
 //! Workload files: the sessions of each, or its first fault.
-use dt_cluster::builtin;
+
+ghost use Rattle.std.specs.Prelude.{◌<◌, ◌^◌, length};
+ghost use Rattle.dt_cluster.specs.Valid.{IsValidCluster};
+
+use dt_cluster::{Cluster, ClusterError, builtin, read_cluster};
 use dt_text::{NoMemory, put_u64, put_value};
-use dt_workload::{Session, Wanted, Workload, WorkloadError, read_workload};
+use dt_workload::{Ranked, Session, Wanted, Workload, WorkloadError, read_workload};
 use std::alloc::Global;
 use std::test::Fail;
 
 /// More bytes than a test reads.
 const MANY: usize = 1000000;
 
-/// A call in words, as the number of its procedure and its arguments, or a move, as its key and its home.
-fn put_wanted(alloc: Global, out: &mut Vec<u8>, wanted: &Wanted) -> Result<(), NoMemory> {
+/// A call in words, as the number of its procedure and its arguments, or a move, as its key and its home; before it its
+/// rank, unless that is 5.
+fn put_wanted(alloc: Global, out: &mut Vec<u8>, ranked: &Ranked) -> Result<(), NoMemory> {
     out.push(b' ')?;
-    match wanted {
+    if ranked.rank != 5 {
+        put_u64(alloc, out, u64::from(ranked.rank))?;
+        out.push(b'/')?;
+    }
+    match &ranked.wanted {
         Wanted::Call(number, args) => {
             put_u64(alloc, out, u64::from(*number))?;
             for value in args.as_slice() {
@@ -58,8 +67,15 @@ fn told(alloc: Global, regions: u8, file: &[u8]) -> Result<Vec<u8>, Fail> {
     if regions < 1 || regions > 8 {
         return Err(Fail::from("a cluster has 1 to 8 regions"));
     }
-    let cluster = builtin(alloc, regions)?;
-    match read_workload(alloc, file, &cluster) {
+    told_in(alloc, &builtin(alloc, regions)?, file)
+}
+
+/// A copy of the workload of a file, in words, or its first fault, in a cluster.
+fn told_in(alloc: Global, cluster: &Cluster, file: &[u8]) -> Result<Vec<u8>, Fail>
+    requires valid { IsValidCluster cluster.now }
+    requires short { length file.now < 2 ^ 32 }
+{
+    match read_workload(alloc, file, cluster) {
         Ok(workload) => Ok(shown(alloc, &workload.copy(alloc)?)?),
         Err(WorkloadError::Fault(line, cause)) => {
             let fault = format!(in alloc; "{line} {cause:?}")?;
@@ -70,7 +86,7 @@ fn told(alloc: Global, regions: u8, file: &[u8]) -> Result<Vec<u8>, Fail> {
 }
 
 /// Files, each with what is told of it in a cluster of two regions.
-const FILES: [(&[u8], &str); 55] = [
+const FILES: [(&[u8], &str); 67] = [
     (b"", ""),
     (b"\n   \n # \xff\t\n", ""),
     (b"session a at 0", "a@0;"),
@@ -127,13 +143,25 @@ const FILES: [(&[u8], &str); 55] = [
     (b"session a at 0\nmove b at 1", "2 Form"),
     (b"session a at 0\nmove \"b\" to 1", "2 Form"),
     (
-        b"session a at 0\nmove aaaaaaaaaaaaaaaaaaaaaaaaaaaaaaaaaaaaaaaaaaaaaaaaaaaaaaaaaaaaaaaa to 0",
-        "a@0 aaaaaaaaaaaaaaaaaaaaaaaaaaaaaaaaaaaaaaaaaaaaaaaaaaaaaaaaaaaaaaaa>0,;",
+        b"session a at 0\nmove aaaaaaaaaaaaaaaaaaaaaaaaaaaaaaaaaaaaaaaaaaaaaaaaaaaaaaaaaaaaaaaaaaaaaaaaaaaaaaaaaaaaaaaaaaaaaaaaaaaaaaaaaaaaaaaaaaaaaaaaaaaaaaaa to 0",
+        "a@0 aaaaaaaaaaaaaaaaaaaaaaaaaaaaaaaaaaaaaaaaaaaaaaaaaaaaaaaaaaaaaaaaaaaaaaaaaaaaaaaaaaaaaaaaaaaaaaaaaaaaaaaaaaaaaaaaaaaaaaaaaaaaaaaa>0,;",
     ),
     (
-        b"session a at 0\nmove aaaaaaaaaaaaaaaaaaaaaaaaaaaaaaaaaaaaaaaaaaaaaaaaaaaaaaaaaaaaaaaaa to 0",
+        b"session a at 0\nmove aaaaaaaaaaaaaaaaaaaaaaaaaaaaaaaaaaaaaaaaaaaaaaaaaaaaaaaaaaaaaaaaaaaaaaaaaaaaaaaaaaaaaaaaaaaaaaaaaaaaaaaaaaaaaaaaaaaaaaaaaaaaaaaaa to 0",
         "2 Key",
     ),
+    (b"session a at 0\ncall/2 put \"b\" 5", "a@0 2/0 \"b\" 5,;"),
+    (b"session a at 0\ncall/5 put \"b\" 5", "a@0 0 \"b\" 5,;"),
+    (b"session a at 0\ncall/9 get \"b\"", "a@0 9/2 \"b\",;"),
+    (b"session a at 0\ncall/10 get \"b\"", "2 Form"),
+    (b"session a at 0\ncall/02 get \"b\"", "2 Form"),
+    (b"session a at 0\ncall/ get \"b\"", "2 Form"),
+    (b"session a at 0\ncall/x get \"b\"", "2 Form"),
+    (b"session a at 0\ncall2 get \"b\"", "2 Form"),
+    (b"session a at 0\nmove/0 b to 1", "a@0 0/b>1,;"),
+    (b"session a at 0\nmove/12 b to 1", "2 Form"),
+    (b"session/1 a at 0", "1 Form"),
+    (b"session a at 0\nmove b/1 to 1", "a@0 b/1>1,;"),
     (b"session a at 0\nmoved b to 1", "2 Form"),
     (
         b"session a at 0\n\ncall put \"b\" 5 # 6\ncall nope",
@@ -153,6 +181,28 @@ const FILES: [(&[u8], &str); 55] = [
 fn each_file_is_a_workload_or_has_a_first_fault(rt: HostRuntime) -> Result<(), Fail> {
     for (file, words) in FILES {
         assert_eq!(rt; told(rt.alloc(), 2, file)?.as_slice(), words.as_bytes());
+    }
+    Ok(())
+}
+
+#[test]
+fn in_version_2_a_move_is_of_a_granule(rt: HostRuntime) -> Result<(), Fail> {
+    let rows: [(&[u8], &str); 4] = [
+        (b"session a at 0\nmove b to 1", "a@0 b>1,;"),
+        (b"session a at 0\nmove b/1 to 1", "2 Key"),
+        (b"session a at 0\nmove /x to 1", "a@0 /x>1,;"),
+        (b"session a at 0\nmove /x/y to 9", "2 Key"),
+    ];
+    let cluster = match read_cluster(rt.alloc(), b"regions = 2\nversion = 2") {
+        Ok(cluster) => cluster,
+        Err(ClusterError::Fault(_)) => return Err(Fail::from("this is a cluster")),
+        Err(ClusterError::NoMemory) => return Err(Fail::from(NoMemory)),
+    };
+    for (file, words) in rows {
+        assert_eq!(rt;
+            told_in(rt.alloc(), &cluster, file)?.as_slice(),
+            words.as_bytes()
+        );
     }
     Ok(())
 }

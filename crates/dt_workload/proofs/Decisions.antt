@@ -6,49 +6,17 @@ use Rattle.std.specs.List.{list_all}
 use Rattle.std.specs.Fmt.{decimal, signed_decimal}
 use Rattle.std.specs.Str.Parse.{digits_value}
 use Rattle.dt_lists.specs.Lists.{AllIn, Has, Pairwise, Either}
-use Rattle.dt_lists.proofs.Callers.{either_not, either_and, either_and3, either_or, either_same, either_all, either_has, either_nat, either_le, either_true, either_list}
+use Rattle.dt_lists.proofs.Callers.{either_not, either_and, either_and3, either_or, either_same, either_all, either_has, either_nat, either_le, either_true, either_list, same_head, same_tail}
 use Rattle.dt_text.specs.Texts.{IsKey, IsName, IsStr, is_key_byte, is_name_byte, is_text_byte}
 use Rattle.dt_text.specs.Numbers.{ReadsSignedNumber}
-use Rattle.dt_text.proofs.Callers.{decimal_value, minus_none, minus_some, plain_none, plain_some}
+use Rattle.dt_text.proofs.Callers.{SpellsBelow, either_bytes, either_key, either_lt, either_name, either_spelled, either_str, minus_none, minus_some, plain_none, plain_some}
 use Rattle.dt_text.specs.declared.Value.{Value}
 use Rattle.dt_text.specs.declared.Value.TheVariants.{Int, Text}
 use Rattle.dt_text.specs.Texts.{Bytes}
-use Rattle.dt_workload.specs.Lines.{Said, bare, quoted, Form, session_line, call_line, move_line, argument_word, form_words, IsArgument, IsForm}
-
--- ---- bytes, keys and names
-
-pub either_bytes : (a b : Bytes) → Either (a ≡ b)
-either_bytes a b = either_list a b either_nat
-
-pub either_lt : (a b : ℕ) → Either (a < b)
-either_lt a b = grind arith
-
-pub either_key : (bs : Bytes) → Either (IsKey bs)
-either_key bs = either_and3 _ _ _ (either_lt 0 (length bs)) (either_le (length bs) 64) (either_true (list_all is_key_byte bs))
-
-pub either_name : (bs : Bytes) → Either (IsName bs)
-either_name bs = either_and3 _ _ _ (either_lt 0 (length bs)) (either_le (length bs) 32) (either_true (list_all is_name_byte bs))
-
-either_str : (bs : Bytes) → Either (IsStr bs)
-either_str bs = either_and _ _ (either_le (length bs) 256) (either_true (list_all is_text_byte bs))
+use Rattle.dt_workload.proofs.OneForm.{after_front}
+use Rattle.dt_workload.specs.Lines.{Said, bare, quoted, Form, session_line, call_line, move_line, argument_word, IsRanked, other_words, SpellForm, IsArgument, IsForm}
 
 -- ---- numbers
-
--- a word spells a number below the bound
-abbrev SpellsBelow : ℕ → Bytes → Type 0
-SpellsBelow bound word = (n : ℕ) × (n < bound) × (word ≡ decimal n)
-
-either_spelled : (bound : ℕ) → bound ≤ 2 ^ 64 → (word : Bytes) → Either (SpellsBelow bound word)
-either_spelled bound fits word =
-    by (either_lt (digits_value 10 word) bound) (either_bytes word (decimal (digits_value 10 word)))
-  where
-    value : (n : ℕ) → n < bound → word ≡ decimal n → digits_value 10 word ≡ n
-    value n small is = ap (digits_value 10) is ∙ decimal_value n (omega (arith, small, fits))
-
-    by : Either (digits_value 10 word < bound) → Either (word ≡ decimal (digits_value 10 word)) → Either (SpellsBelow bound word)
-    by (inl small) (inl is) = inl (digits_value 10 word, small, is)
-    by (inl small) (inr not_so) = inr (λ (n, below, is). not_so (is ∙ ap decimal (sym (value n below is))))
-    by (inr large) same = inr (λ (n, below, is). large (subst (λ m. m < bound) (sym (value n below is)) below))
 
 fits_plain : (n : ℕ) → (r : Option ℤ) × SomeIff r (FitsSigned w64 (pos n)) (pos n)
 fits_plain n = by (either_lt n (2 ^ 63))
@@ -156,68 +124,129 @@ either_arguments saids =
 
 -- ---- forms
 
--- the words of a line of a session or of a move
-abbrev SayRegion : Bytes → Bytes → List Said → Type 0
-SayRegion kind fixed saids =
-    (subject : Bytes) × (region : ℕ) × (region < 2 ^ 32) × (saids ≡ bare kind ∷ bare subject ∷ bare fixed ∷ bare (decimal region) ∷ [])
+-- a word that begins a line of this kind, with its rank
+abbrev SaysRank : Bytes → Said → Type 0
+SaysRank kind s = (rank : ℕ) × (rank < 10) × IsRanked kind rank s
 
-either_region : (kind fixed : Bytes) (saids : List Said) → Either (SayRegion kind fixed saids)
-either_region kind fixed [] = inr (λ (s, r, small, e). cc)
-either_region kind fixed (a ∷ []) = inr (λ (s, r, small, e). cc)
-either_region kind fixed (a ∷ b ∷ []) = inr (λ (s, r, small, e). cc)
-either_region kind fixed (a ∷ b ∷ c ∷ []) = inr (λ (s, r, small, e). cc)
-either_region kind fixed (a ∷ b ∷ c ∷ d ∷ e ∷ more) = inr (λ (s, r, small, e). cc)
-either_region kind fixed (a ∷ b ∷ c ∷ d ∷ []) =
-    either_same Parts (SayRegion kind fixed (a ∷ b ∷ c ∷ d ∷ [])) there back
-    (either_and _ _ (either_is_bare a kind) (either_and _ _ (either_bare b) (either_and _ _ (either_is_bare c fixed) (either_says_number d))))
+after_kind : (kind word : Bytes) → Either ((rest : Bytes) × (word ≡ kind ++ 47 ∷ rest))
+after_kind [] [] = inr (λ (rest, e). cc)
+after_kind [] (c ∷ word) = by (either_nat c 47)
+  where
+    by : Either (c ≡ 47) → Either ((rest : Bytes) × (c ∷ word ≡ 47 ∷ rest))
+    by (inl e) = inl (word, ap (λ b. b ∷ word) e)
+    by (inr other) = inr (λ (rest, e). other (same_head e))
+after_kind (b ∷ kind) [] = inr (λ (rest, e). cc)
+after_kind (b ∷ kind) (c ∷ word) = by (either_nat c b) (after_kind kind word)
+  where
+    by : Either (c ≡ b) → Either ((rest : Bytes) × (word ≡ kind ++ 47 ∷ rest)) → Either ((rest : Bytes) × (c ∷ word ≡ b ∷ (kind ++ 47 ∷ rest)))
+    by (inl same) (inl (rest, e)) = inl (rest, λ i. same i ∷ e i)
+    by (inr other) more = inr (λ (rest, e). other (same_head e))
+    by (inl same) (inr other) = inr (λ (rest, e). other (rest, same_tail e))
+
+either_says_rank : (kind : Bytes) (s : Said) → Either (SaysRank kind s)
+either_says_rank kind (quoted bs) = inr none
+  where
+    none : SaysRank kind (quoted bs) → ⊥
+    none (rank, low, inl h) = let e = h.1 in cc
+    none (rank, low, inr h) = cc
+either_says_rank kind (bare bs) = alone (either_bytes bs kind)
+  where
+    bytes_of : {a b : Bytes} → bare a ≡ bare b → a ≡ b
+    bytes_of e = cc
+
+    ranked : ¬ (bs ≡ kind) → (rest : Bytes) → bs ≡ kind ++ 47 ∷ rest → Either (SpellsBelow 10 rest) → Either (SaysRank kind (bare bs))
+    ranked other rest cut (inl (rank, low, is)) = inl (rank, low, inr (ap bare (cut ∙ ap (λ r. kind ++ 47 ∷ r) is)))
+    ranked other rest cut (inr none) = inr refute
+      where
+        refute : SaysRank kind (bare bs) → ⊥
+        refute (rank, low, inl h) = other (bytes_of h.1)
+        refute (rank, low, inr h) = none (rank, low, same_tail (after_front kind (47 ∷ rest) (47 ∷ decimal rank) (sym cut ∙ bytes_of h)))
+
+    with_rank : ¬ (bs ≡ kind) → Either ((rest : Bytes) × (bs ≡ kind ++ 47 ∷ rest)) → Either (SaysRank kind (bare bs))
+    with_rank other (inl (rest, cut)) = ranked other rest cut (either_spelled 10 (omega arith) rest)
+    with_rank other (inr none) = inr refute
+      where
+        refute : SaysRank kind (bare bs) → ⊥
+        refute (rank, low, inl h) = other (bytes_of h.1)
+        refute (rank, low, inr h) = none (decimal rank, bytes_of h)
+
+    alone : Either (bs ≡ kind) → Either (SaysRank kind (bare bs))
+    alone (inl is) = inl (5, omega arith, inl (refl, ap bare is))
+    alone (inr other) = with_rank other (after_kind kind bs)
+
+-- the words after the first one of a line of a session or of a move
+abbrev SayRegion : Bytes → List Said → Type 0
+SayRegion fixed saids =
+    (subject : Bytes) × (region : ℕ) × (region < 2 ^ 32) × (saids ≡ bare subject ∷ bare fixed ∷ bare (decimal region) ∷ [])
+
+either_region : (fixed : Bytes) (saids : List Said) → Either (SayRegion fixed saids)
+either_region fixed [] = inr (λ (s, r, small, e). cc)
+either_region fixed (b ∷ []) = inr (λ (s, r, small, e). cc)
+either_region fixed (b ∷ c ∷ []) = inr (λ (s, r, small, e). cc)
+either_region fixed (b ∷ c ∷ d ∷ e ∷ more) = inr (λ (s, r, small, e). cc)
+either_region fixed (b ∷ c ∷ d ∷ []) =
+    either_same Parts (SayRegion fixed (b ∷ c ∷ d ∷ [])) there back
+    (either_and _ _ (either_bare b) (either_and _ _ (either_is_bare c fixed) (either_says_number d)))
   where
     Parts : Type 0
-    Parts = (a ≡ bare kind) × (((bs : Bytes) × (b ≡ bare bs)) × ((c ≡ bare fixed) × SaysNumber d))
+    Parts = ((bs : Bytes) × (b ≡ bare bs)) × ((c ≡ bare fixed) × SaysNumber d)
 
-    there : Parts → SayRegion kind fixed (a ∷ b ∷ c ∷ d ∷ [])
-    there (k, ((subject, s), (f, (region, small, r)))) = (subject, region, small, cc)
+    there : Parts → SayRegion fixed (b ∷ c ∷ d ∷ [])
+    there ((subject, s), (f, (region, small, r))) = (subject, region, small, cc)
 
-    back : SayRegion kind fixed (a ∷ b ∷ c ∷ d ∷ []) → Parts
-    back (subject, region, small, e) = (cc, ((subject, cc), (cc, (region, small, cc))))
+    back : SayRegion fixed (b ∷ c ∷ d ∷ []) → Parts
+    back (subject, region, small, e) = ((subject, cc), (cc, (region, small, cc)))
 
+-- the words after the first one of a line of a call
 abbrev SayCall : List Said → Type 0
-SayCall saids = (proc : Bytes) × (args : List Value) × AllIn IsArgument args × (saids ≡ bare (codes "call") ∷ bare proc ∷ map argument_word args)
+SayCall saids = (proc : Bytes) × (args : List Value) × AllIn IsArgument args × (saids ≡ bare proc ∷ map argument_word args)
 
 either_call : (saids : List Said) → Either (SayCall saids)
 either_call [] = inr (λ (p, args, all, e). cc)
-either_call (a ∷ []) = inr (λ (p, args, all, e). cc)
-either_call (a ∷ b ∷ rest) =
-    either_same Parts (SayCall (a ∷ b ∷ rest)) there back
-    (either_and _ _ (either_is_bare a (codes "call")) (either_and _ _ (either_bare b) (either_arguments rest)))
+either_call (b ∷ rest) =
+    either_same Parts (SayCall (b ∷ rest)) there back (either_and _ _ (either_bare b) (either_arguments rest))
   where
     Parts : Type 0
-    Parts = (a ≡ bare (codes "call")) × (((bs : Bytes) × (b ≡ bare bs)) × SayArguments rest)
+    Parts = ((bs : Bytes) × (b ≡ bare bs)) × SayArguments rest
 
-    there : Parts → SayCall (a ∷ b ∷ rest)
-    there (k, ((proc, p), (args, all, is))) = (proc, args, all, cc)
+    there : Parts → SayCall (b ∷ rest)
+    there ((proc, p), (args, all, is)) = (proc, args, all, cc)
 
-    back : SayCall (a ∷ b ∷ rest) → Parts
-    back (proc, args, all, e) = (cc, ((proc, cc), (args, all, cc)))
+    back : SayCall (b ∷ rest) → Parts
+    back (proc, args, all, e) = ((proc, cc), (args, all, cc))
 
 -- the words say some form
 abbrev pub SayForm : List Said → Type 0
-SayForm saids = (form : Form) × IsForm form × (saids ≡ form_words form)
+SayForm saids = (form : Form) × IsForm form × SpellForm form saids
 
 -- it is decided whether words say a form
 pub either_form : (saids : List Said) → Either (SayForm saids)
-either_form saids =
-    either_same Kinds (SayForm saids) there back
-    (either_or _ _ (either_region (codes "session") (codes "at") saids) (either_or _ _ (either_call saids) (either_region (codes "move") (codes "to") saids)))
+either_form [] = inr (λ (form, fits, spelled). none form spelled)
+  where
+    none : (form : Form) → SpellForm form [] → ⊥
+    none form (head, is, e) = cc
+either_form (head ∷ saids) =
+    either_same Kinds (SayForm (head ∷ saids)) there back
+    (either_or _ _ (either_and _ _ (either_is_bare head (codes "session")) (either_region (codes "at") saids))
+    (either_or _ _ (either_and _ _ (either_says_rank (codes "call") head) (either_call saids))
+    (either_and _ _ (either_says_rank (codes "move") head) (either_region (codes "to") saids))))
   where
     Kinds : Type 0
-    Kinds = SayRegion (codes "session") (codes "at") saids ⊎ (SayCall saids ⊎ SayRegion (codes "move") (codes "to") saids)
+    Kinds =
+        ((head ≡ bare (codes "session")) × SayRegion (codes "at") saids)
+        ⊎ ((SaysRank (codes "call") head × SayCall saids) ⊎ (SaysRank (codes "move") head × SayRegion (codes "to") saids))
 
-    there : Kinds → SayForm saids
-    there (inl (name, region, small, is)) = (session_line name region, small, is)
-    there (inr (inl (proc, args, all, is))) = (call_line proc args, all, is)
-    there (inr (inr (key, region, small, is))) = (move_line key region, small, is)
+    there : Kinds → SayForm (head ∷ saids)
+    there (inl (k, (name, region, small, is))) = (session_line name region, small, (head, k, ap (λ v. head ∷ v) is))
+    there (inr (inl ((rank, low, k), (proc, args, all, is)))) = (call_line rank proc args, (low, all), (head, k, ap (λ v. head ∷ v) is))
+    there (inr (inr ((rank, low, k), (key, region, small, is)))) = (move_line rank key region, (low, small), (head, k, ap (λ v. head ∷ v) is))
 
-    back : SayForm saids → Kinds
-    back (session_line name region, small, is) = inl (name, region, small, is)
-    back (call_line proc args, all, is) = inr (inl (proc, args, all, is))
-    back (move_line key region, small, is) = inr (inr (key, region, small, is))
+    back : SayForm (head ∷ saids) → Kinds
+    back (session_line name region, small, (first, k, e)) = inl (sym_head e k, (name, region, small, same_tail e))
+      where
+        sym_head : head ∷ saids ≡ first ∷ other_words (session_line name region) → first ≡ bare (codes "session") → head ≡ bare (codes "session")
+        sym_head e k = same_head e ∙ k
+    back (call_line rank proc args, fits, (first, k, e)) =
+        inr (inl ((rank, fits.0, subst (IsRanked (codes "call") rank) (sym (same_head e)) k), (proc, args, fits.1, same_tail e)))
+    back (move_line rank key region, fits, (first, k, e)) =
+        inr (inr ((rank, fits.0, subst (IsRanked (codes "move") rank) (sym (same_head e)) k), (key, region, fits.1, same_tail e)))

@@ -1,6 +1,6 @@
 -- Words of lines and the forms that they say.
 use Rattle.std.proofs.Common.{◌≡◌, ◌≢◌, ℕ, zero, suc, ◌<◌, ◌≤◌, ◌^◌, Bool, true, false, not, cond, nat_eq, List, [], ◌∷◌, length, map, get_or, Option, Some}
-use Rattle.std.proofs.Common.{None, MatchOption, inr, refl, ap, sym, ◌∙◌, subst, arith}
+use Rattle.std.proofs.Common.{None, MatchOption, inl, inr, ◌++◌, refl, ap, sym, ◌∙◌, subst, arith}
 use Rattle.std.specs.Cmp.Lexicographic.{pointwise, bytes_decides}
 use Rattle.std.specs.Fmt.{decimal}
 use Rattle.dt_lists.proofs.Callers.{same_head, same_tail}
@@ -13,7 +13,9 @@ use Rattle.dt_text.specs.declared.Word.{Word}
 use Rattle.dt_text.specs.declared.Value.{Value}
 use Rattle.dt_text.proofs.Callers.{exact}
 use Rattle.dt_text.specs.Texts.{Bytes}
-use Rattle.dt_workload.specs.Lines.{Said, bare, said, Form, HasForm, IsArgument, argument_word}
+use Rattle.dt_workload.specs.Lines.{Said, bare, said, Form, session_line, call_line, move_line, IsForm, IsRanked, SpellForm, HasForm, IsArgument, argument_word}
+use Rattle.dt_workload.proofs.OneForm.{after_front, session_or_call, session_or_move, call_or_move}
+use Rattle.std.specs.Prelude.{codes}
 use Rattle.dt_workload.specs.ReaderParts.{IsNoBeginning, ReadsForm, ReadsRegion, Refuses, form_of}
 use Rattle.dt_workload.specs.File.{IsSessionFault}
 use Rattle.dt_workload.specs.declared.workload.Session.{Session}
@@ -47,7 +49,7 @@ pub form_answer : (line : Bytes) (words : List Word) (answer : Option Said_form)
     → MatchOption answer ((f : Form) → ¬ HasForm line f) (λ f. HasForm line (form_of f))
 form_answer line words None is none = λ f has.
     let one : has.1.0 ≡ words = same_Some _ _ (sym ((exact line has.1.0).1 has.1.1) ∙ is) in
-    none f has.0 (ap (map (said line)) (sym one) ∙ has.1.2)
+    none f has.0 (subst (λ ws. SpellForm f (map (said line) ws)) one has.1.2)
 form_answer line words (Some f) is read = (read.0, (words, (exact line words).0 is, read.1))
 
 bare-is : {a b : Bytes} → bare a ≡ bare b → a ≡ b
@@ -100,3 +102,45 @@ pub no_session : (cluster : Cluster) (before : List Session) (name word : Bytes)
 no_session cluster before name word region (Cause told) same is fault =
     subst (λ w. IsSessionFault cluster before w region told) same (inr (is, fault))
 no_session cluster before name word region NoMemory same is fault = tt
+
+-- ---- forms by the word that begins a line
+
+-- a session's line has a form only where a region is said
+pub no_session_form : (subject : Bytes) (rest : List Said) → ((n : ℕ) → n < 2 ^ 32 → rest ≢ bare (codes "at") ∷ bare (decimal n) ∷ [])
+    → (f : Form) → IsForm f → ¬ SpellForm f (bare (codes "session") ∷ bare subject ∷ rest)
+no_session_form subject rest none (session_line name region) fits (head, is, e) = none region fits (same_tail (same_tail e))
+no_session_form subject rest none (call_line rank proc args) fits (head, is, e) = session_or_call rank head (sym (same_head e)) is
+no_session_form subject rest none (move_line rank key region) fits (head, is, e) = session_or_move rank head (sym (same_head e)) is
+
+-- a call's line has a form only where arguments are said
+pub no_call_form : (word subject : Bytes) (rest : List Said) (rank : ℕ) → IsRanked (codes "call") rank (bare word)
+    → ((args : List Value) → AllIn IsArgument args → rest ≢ map argument_word args) → (f : Form) → IsForm f → ¬ SpellForm f (bare word ∷ bare subject ∷ rest)
+no_call_form word subject rest rank ranked none (session_line name region) fits (head, is, e) = session_or_call rank (bare word) (same_head e ∙ is) ranked
+no_call_form word subject rest rank ranked none (call_line q proc args) fits (head, is, e) = none args fits.1 (same_tail (same_tail e))
+no_call_form word subject rest rank ranked none (move_line q key region) fits (head, is, e) =
+    call_or_move rank q (bare word) ranked (subst (IsRanked (codes "move") q) (sym (same_head e)) is)
+
+-- a move's line has a form only where a region is said
+pub no_move_form : (word subject : Bytes) (rest : List Said) (rank : ℕ) → IsRanked (codes "move") rank (bare word)
+    → ((n : ℕ) → n < 2 ^ 32 → rest ≢ bare (codes "to") ∷ bare (decimal n) ∷ []) → (f : Form) → IsForm f → ¬ SpellForm f (bare word ∷ bare subject ∷ rest)
+no_move_form word subject rest rank ranked none (session_line name region) fits (head, is, e) = session_or_move rank (bare word) (same_head e ∙ is) ranked
+no_move_form word subject rest rank ranked none (call_line q proc args) fits (head, is, e) =
+    call_or_move q rank (bare word) (subst (IsRanked (codes "call") q) (sym (same_head e)) is) ranked
+no_move_form word subject rest rank ranked none (move_line q key region) fits (head, is, e) = none region fits.1 (same_tail (same_tail e))
+
+-- a line that begins with another word has no form
+pub no_kind : (word : Bytes) (rest : List Said) → ¬ (word ≡ codes "session") → ((rank : ℕ) → rank < 10 → ¬ IsRanked (codes "call") rank (bare word))
+    → ((rank : ℕ) → rank < 10 → ¬ IsRanked (codes "move") rank (bare word)) → (f : Form) → IsForm f → ¬ SpellForm f (bare word ∷ rest)
+no_kind word rest other calls moves (session_line name region) fits (head, is, e) = other (bare-is (same_head e ∙ is))
+no_kind word rest other calls moves (call_line rank proc args) fits (head, is, e) = calls rank fits.0 (subst (IsRanked (codes "call") rank) (sym (same_head e)) is)
+no_kind word rest other calls moves (move_line rank key region) fits (head, is, e) = moves rank fits.0 (subst (IsRanked (codes "move") rank) (sym (same_head e)) is)
+
+-- a word that is not the kind alone, and after which no digit follows a `/`, says no rank
+pub no_rank : (kind word : Bytes) → ¬ (word ≡ kind) → ((rest : Bytes) → word ≢ kind ++ 47 ∷ rest) → (rank : ℕ) → rank < 10 → ¬ IsRanked kind rank (bare word)
+no_rank kind word other none rank low (inl h) = other (bare-is h.1)
+no_rank kind word other none rank low (inr h) = none (decimal rank) (bare-is h)
+
+pub no_digit : (kind word digits : Bytes) → ¬ (word ≡ kind) → word ≡ kind ++ 47 ∷ digits → ((n : ℕ) → n < 10 → digits ≢ decimal n)
+    → (rank : ℕ) → rank < 10 → ¬ IsRanked kind rank (bare word)
+no_digit kind word digits other cut none rank low (inl h) = other (bare-is h.1)
+no_digit kind word digits other cut none rank low (inr h) = none rank low (same_tail (after_front kind (47 ∷ digits) (47 ∷ decimal rank) (sym cut ∙ bare-is h)))

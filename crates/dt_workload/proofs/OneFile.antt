@@ -12,7 +12,7 @@ use Rattle.dt_lists.proofs.Callers.{same_head, same_tail}
 use Rattle.dt_lists.specs.Lists.{AllIn, Has, Distinct, Pairwise}
 use Rattle.dt_lists.proofs.Callers.{all_get, all_append_right, each_across, has_map}
 use Rattle.dt_lists.proofs.Callers.{has_place, place_within}
-use Rattle.dt_text.specs.Texts.{IsKey, IsName}
+use Rattle.dt_text.specs.Texts.{IsName}
 use Rattle.dt_text.specs.Lines.{FileLine, lines_of}
 use Rattle.dt_text.specs.declared.Value.{Value}
 use Rattle.dt_proc.specs.Tree.{ProcTree}
@@ -21,10 +21,11 @@ use Rattle.dt_cluster.specs.declared.Cluster.{Cluster}
 use Rattle.dt_cluster.specs.Valid.{IsValidCluster}
 use Rattle.dt_text.specs.Texts.{Bytes}
 use Rattle.dt_workload.specs.Lines.{Form, session_line, call_line, move_line, HasForm}
-use Rattle.dt_workload.specs.File.{proc_name, wanted_line, all_lines, AreSessions, IsWorkload, Needs, NothingMore, proc_named, FitsIf, GivesKeys, IsFormFault, IsLineFault, IsWorkloadFault}
-use Rattle.dt_workload.specs.Valid.{session_names, session_count_at, calls_in, WantedFits, IsValidSession, IsValidWorkload}
+use Rattle.dt_workload.specs.File.{proc_name, wanted_line, ranked_line, all_lines, AreSessions, IsWorkload, Needs, NothingMore, proc_named, FitsIf, GivesKeys, IsFormFault, IsLineFault, IsWorkloadFault}
+use Rattle.dt_workload.specs.Valid.{session_names, session_count_at, calls_in, IsMovable, WantedFits, RankedFits, IsValidSession, IsValidWorkload}
 use Rattle.dt_workload.specs.declared.workload.Wanted.{Wanted}
 use Rattle.dt_workload.specs.declared.workload.Wanted.TheVariants.{Call, Move}
+use Rattle.dt_workload.specs.declared.workload.Ranked.{Ranked}
 use Rattle.dt_workload.specs.declared.workload.Session.{Session}
 use Rattle.dt_workload.specs.declared.workload.Workload.{Workload}
 use Rattle.dt_workload.specs.declared.error.WorkloadCause.{WorkloadCause}
@@ -72,16 +73,22 @@ found cluster number body once e =
 
 -- ---- calls and moves by their lines
 
-call_name : {p q : Bytes} {a b : List Value} → call_line p a ≡ call_line q b → p ≡ q
+call_rank : {r s : ℕ} {p q : Bytes} {a b : List Value} → call_line r p a ≡ call_line s q b → r ≡ s
+call_rank e = cc
+
+call_name : {r s : ℕ} {p q : Bytes} {a b : List Value} → call_line r p a ≡ call_line s q b → p ≡ q
 call_name e = cc
 
-call_args : {p q : Bytes} {a b : List Value} → call_line p a ≡ call_line q b → a ≡ b
+call_args : {r s : ℕ} {p q : Bytes} {a b : List Value} → call_line r p a ≡ call_line s q b → a ≡ b
 call_args e = cc
 
-move_key : {k j : Bytes} {m n : ℕ} → move_line k m ≡ move_line j n → k ≡ j
+move_rank : {r s : ℕ} {k j : Bytes} {m n : ℕ} → move_line r k m ≡ move_line s j n → r ≡ s
+move_rank e = cc
+
+move_key : {r s : ℕ} {k j : Bytes} {m n : ℕ} → move_line r k m ≡ move_line s j n → k ≡ j
 move_key e = cc
 
-move_target : {k j : Bytes} {m n : ℕ} → move_line k m ≡ move_line j n → m ≡ n
+move_target : {r s : ℕ} {k j : Bytes} {m n : ℕ} → move_line r k m ≡ move_line s j n → m ≡ n
 move_target e = cc
 
 session_name : {k j : Bytes} {m n : ℕ} → session_line k m ≡ session_line j n → k ≡ j
@@ -90,48 +97,57 @@ session_name e = cc
 session_region : {k j : Bytes} {m n : ℕ} → session_line k m ≡ session_line j n → m ≡ n
 session_region e = cc
 
-same_wanted : (cluster : Cluster) → HaveNames cluster.procs → (v w : Wanted) → WantedFits cluster.procs cluster.regions v → WantedFits cluster.procs cluster.regions w
-    → wanted_line cluster.procs v ≡ wanted_line cluster.procs w → v ≡ w
-same_wanted cluster once (Call m a) (Call n b) h k e =
+same_wanted : (cluster : Cluster) → HaveNames cluster.procs → (r s : ℕ) (v w : Wanted) → WantedFits cluster v → WantedFits cluster w
+    → wanted_line cluster.procs r v ≡ wanted_line cluster.procs s w → (r ≡ s) × (v ≡ w)
+same_wanted cluster once r s (Call m a) (Call n b) h k e =
     let names : k.body.name ≡ h.body.name = sym (ap proc_name k.named) ∙ sym (call_name e) ∙ ap proc_name h.named in
     let number : m ≡ n = sym (named_at cluster.procs m h.body h.body.name once h.named refl) ∙ named_at cluster.procs n k.body h.body.name once k.named names in
     let args = call_args e in
-    λ i. Call (number i) (args i)
-same_wanted cluster once (Call m a) (Move j n) h k e = absurd cc
-same_wanted cluster once (Move i m) (Call n b) h k e = absurd cc
-same_wanted cluster once (Move k m) (Move j n) h l e =
+    (call_rank e, λ i. Call (number i) (args i))
+same_wanted cluster once r s (Call m a) (Move j n) h k e = absurd cc
+same_wanted cluster once r s (Move i m) (Call n b) h k e = absurd cc
+same_wanted cluster once r s (Move k m) (Move j n) h l e =
     let key = move_key e in
     let target = move_target e in
-    λ i. Move (key i) (target i)
+    (move_rank e, λ i. Move (key i) (target i))
+
+same_ranked : (cluster : Cluster) → HaveNames cluster.procs → (v w : Ranked) → RankedFits cluster v → RankedFits cluster w
+    → ranked_line cluster.procs v ≡ ranked_line cluster.procs w → v ≡ w
+same_ranked cluster once v w h k e =
+    let same = same_wanted cluster once v.rank w.rank v.wanted w.wanted h.1 k.1 e in
+    λ i. record { rank = same.0 i; wanted = same.1 i }
 
 -- a session's line is not that of a call or move
-no_session_line : (procs : List ProcTree) (name : Bytes) (region : ℕ) (w : Wanted) → session_line name region ≡ wanted_line procs w → ⊥
-no_session_line procs name region (Call number args) e = cc
-no_session_line procs name region (Move key target) e = cc
+not_of_session : (procs : List ProcTree) (name : Bytes) (region rank : ℕ) (w : Wanted) → session_line name region ≡ wanted_line procs rank w → ⊥
+not_of_session procs name region rank (Call number args) e = cc
+not_of_session procs name region rank (Move key target) e = cc
+
+no_session_line : (procs : List ProcTree) (name : Bytes) (region : ℕ) (w : Ranked) → session_line name region ≡ ranked_line procs w → ⊥
+no_session_line procs name region w e = not_of_session procs name region w.rank w.wanted e
 
 -- lines of sessions do not begin with that of a call or move
-no_wanted_first : (procs : List ProcTree) (xs : List Session) (w : Wanted) (more : List Form) → all_lines procs xs ≡ wanted_line procs w ∷ more → ⊥
+no_wanted_first : (procs : List ProcTree) (xs : List Session) (w : Ranked) (more : List Form) → all_lines procs xs ≡ ranked_line procs w ∷ more → ⊥
 no_wanted_first procs [] w more e = cc
 no_wanted_first procs (x ∷ xs) w more e = no_session_line procs x.name x.region w (same_head e)
 
 -- the one calls and moves are the others and more
-record GoOn (procs : List ProcTree) (calls others : List Wanted) (rest : List Form) : Type 0 where
-  pub wanted : Wanted
-  pub later : List Wanted
+record GoOn (procs : List ProcTree) (calls others : List Ranked) (rest : List Form) : Type 0 where
+  pub wanted : Ranked
+  pub later : List Ranked
   pub lines : List Form
   pub is : calls ≡ others ++ wanted ∷ later
-  pub told : rest ≡ wanted_line procs wanted ∷ lines
+  pub told : rest ≡ ranked_line procs wanted ∷ lines
 
-split_calls : (cluster : Cluster) → HaveNames cluster.procs → (xs : List Session) (calls others : List Wanted) (rest : List Form)
-    → AllIn (WantedFits cluster.procs cluster.regions) calls → AllIn (WantedFits cluster.procs cluster.regions) others
-    → map (wanted_line cluster.procs) calls ++ all_lines cluster.procs xs ≡ map (wanted_line cluster.procs) others ++ rest
+split_calls : (cluster : Cluster) → HaveNames cluster.procs → (xs : List Session) (calls others : List Ranked) (rest : List Form)
+    → AllIn (RankedFits cluster) calls → AllIn (RankedFits cluster) others
+    → map (ranked_line cluster.procs) calls ++ all_lines cluster.procs xs ≡ map (ranked_line cluster.procs) others ++ rest
     → ((calls ≡ others) × (all_lines cluster.procs xs ≡ rest)) ⊎ GoOn cluster.procs calls others rest
 split_calls cluster once xs [] [] rest h k e = inl (refl, e)
-split_calls cluster once xs [] (w ∷ others) rest h k e = absurd (no_wanted_first cluster.procs xs w (map (wanted_line cluster.procs) others ++ rest) e)
+split_calls cluster once xs [] (w ∷ others) rest h k e = absurd (no_wanted_first cluster.procs xs w (map (ranked_line cluster.procs) others ++ rest) e)
 split_calls cluster once xs (w ∷ calls) [] rest h k e =
-    inr (record { wanted = w; later = calls; lines = map (wanted_line cluster.procs) calls ++ all_lines cluster.procs xs; is = refl; told = sym e })
+    inr (record { wanted = w; later = calls; lines = map (ranked_line cluster.procs) calls ++ all_lines cluster.procs xs; is = refl; told = sym e })
 split_calls cluster once xs (v ∷ calls) (w ∷ others) rest h k e =
-    one_more (same_wanted cluster once v w h.0 k.0 (same_head e)) (split_calls cluster once xs calls others rest h.1 k.1 (same_tail e))
+    one_more (same_ranked cluster once v w h.0 k.0 (same_head e)) (split_calls cluster once xs calls others rest h.1 k.1 (same_tail e))
   where
     one_more : v ≡ w → ((calls ≡ others) × (all_lines cluster.procs xs ≡ rest)) ⊎ GoOn cluster.procs calls others rest
         → ((v ∷ calls ≡ w ∷ others) × (all_lines cluster.procs xs ≡ rest)) ⊎ GoOn cluster.procs (v ∷ calls) (w ∷ others) rest
@@ -147,19 +163,19 @@ record BySession (before all : List Session) (form : Form) : Type 0 where
   pub is : all ≡ before ++ session ∷ later
   pub told : form ≡ session_line session.name session.region
 
-abbrev longer : Session → Wanted → List Wanted → Session
+abbrev longer : Session → Ranked → List Ranked → Session
 longer session wanted later = record { name = session.name; region = session.region; calls = session.calls ++ wanted ∷ later }
 
 -- one more call or move of the last session
 record ByWanted (procs : List ProcTree) (before all : List Session) (form : Form) : Type 0 where
   pub front : List Session
   pub last : Session
-  pub wanted : Wanted
-  pub others : List Wanted
+  pub wanted : Ranked
+  pub others : List Ranked
   pub later : List Session
   pub was : before ≡ front ++ last ∷ []
   pub is : all ≡ front ++ longer last wanted others ∷ later
-  pub told : form ≡ wanted_line procs wanted
+  pub told : form ≡ ranked_line procs wanted
 
 abbrev Onward : List ProcTree → List Session → List Session → List Form → Type 0
 Onward procs before all [] = all ≡ before
@@ -175,7 +191,7 @@ last_goes_on : (procs : List ProcTree) (y x : Session) (ys xs : List Session) (r
     → GoOn procs x.calls y.calls (all_lines procs ys ++ rest) → Onward procs (y ∷ ys) (x ∷ xs) rest
 last_goes_on procs y x [] xs [] head g = absurd (none g.told)
   where
-    none : ◌≡◌ {A = List Form} [] (wanted_line procs g.wanted ∷ g.lines) → ⊥
+    none : ◌≡◌ {A = List Form} [] (ranked_line procs g.wanted ∷ g.lines) → ⊥
     none e = cc
 last_goes_on procs y x [] xs (form ∷ rest) head g =
     let name = session_name head in
@@ -193,7 +209,7 @@ last_goes_on procs y x [] xs (form ∷ rest) head g =
 last_goes_on procs y x (z ∷ ys) xs rest head g = absurd (no_session_line procs z.name z.region g.wanted (same_head g.told))
 
 onward : (cluster : Cluster) → HaveNames cluster.procs → (before all : List Session) (rest : List Form)
-    → AllIn (IsValidSession cluster.procs cluster.regions) before → AllIn (IsValidSession cluster.procs cluster.regions) all
+    → AllIn (IsValidSession cluster) before → AllIn (IsValidSession cluster) all
     → all_lines cluster.procs all ≡ all_lines cluster.procs before ++ rest → Onward cluster.procs before all rest
 onward cluster once [] [] [] h k e = refl
 onward cluster once [] [] (form ∷ rest) h k e = absurd cc
@@ -202,7 +218,7 @@ onward cluster once [] (x ∷ xs) (form ∷ rest) h k e = inl (record { session 
 onward cluster once (y ∷ ys) [] rest h k e = absurd cc
 onward cluster once (y ∷ ys) (x ∷ xs) rest h k e =
     by (split_calls cluster once xs x.calls y.calls (all_lines cluster.procs ys ++ rest) k.0.calls h.0.calls
-    (same_tail e ∙ append_assoc (map (wanted_line cluster.procs) y.calls) (all_lines cluster.procs ys) rest))
+    (same_tail e ∙ append_assoc (map (ranked_line cluster.procs) y.calls) (all_lines cluster.procs ys) rest))
     (λ lines. onward cluster once ys xs rest h.1 k.1 lines)
   where
     head : session_line x.name x.region ≡ session_line y.name y.region
@@ -266,12 +282,12 @@ one_form_fault : (cluster : Cluster) (before : List Session) (form : Form) → H
 one_form_fault cluster before (session_line name region) =
     one_need (IsName name) cause.Name _ (one_need (¬ (Has (session_names before) name)) cause.Twice _
     (one_need (region < cluster.regions) cause.Region _ (one_need (session_count_at region before < 64) cause.TooMany NothingMore no_need)))
-one_form_fault cluster before (call_line name args) =
+one_form_fault cluster before (call_line rank name args) =
     one_need (¬ (before ≡ [])) cause.NoSession _ (one_need (IsSome (proc_named cluster name)) cause.Proc _
     (one_need (FitsIf (proc_named cluster name) args) cause.Args _ (one_need (GivesKeys (proc_named cluster name) args) cause.Key _
     (one_need (calls_in before < 20000) cause.TooMany NothingMore no_need))))
-one_form_fault cluster before (move_line key region) =
-    one_need (¬ (before ≡ [])) cause.NoSession _ (one_need (IsKey key) cause.Key _
+one_form_fault cluster before (move_line rank key region) =
+    one_need (¬ (before ≡ [])) cause.NoSession _ (one_need (IsMovable cluster.version key) cause.Key _
     (one_need (region < cluster.regions) cause.Region _ (one_need (calls_in before < 20000) cause.TooMany NothingMore no_need)))
 
 one_line_fault : (cluster : Cluster) (before : List Session) (line : Bytes) → HasOneCause (IsLineFault cluster before line)
@@ -310,7 +326,7 @@ room_there before x xs few =
 no_session_fault : (cluster : Cluster) (before : List Session) (x : Session) (xs : List Session) → Fit cluster (before ++ x ∷ xs)
     → HasNoCause (IsFormFault cluster before (session_line x.name x.region))
 no_session_fault cluster before x xs fit =
-    let can_be = (all_append_right (IsValidSession cluster.procs cluster.regions) before (x ∷ xs) fit.sessions).0 in
+    let can_be = (all_append_right (IsValidSession cluster) before (x ∷ xs) fit.sessions).0 in
     met (IsName x.name) cause.Name _ can_be.name (met (¬ (Has (session_names before) x.name)) cause.Twice _ (fresh_name before x xs fit.names_once)
     (met (x.region < cluster.regions) cause.Region _ can_be.region
     (met (session_count_at x.region before < 64) cause.TooMany NothingMore (room_there before x xs (fit.few_sessions x.region)) all_met)))
@@ -319,7 +335,7 @@ some_before : (front : List Session) (last : Session) → ¬ (front ++ last ∷ 
 some_before [] last e = cc
 some_before (x ∷ front) last e = cc
 
-room_for_one : (front : List Session) (last : Session) (wanted : Wanted) (others : List Wanted) (later : List Session)
+room_for_one : (front : List Session) (last : Session) (wanted : Ranked) (others : List Ranked) (later : List Session)
     → calls_in (front ++ longer last wanted others ∷ later) ≤ 20000 → calls_in (front ++ last ∷ []) < 20000
 room_for_one front last wanted others later few =
     let sum : calls_in (front ++ longer last wanted others ∷ later) ≡ calls_in front + (length (last.calls ++ wanted ∷ others) + calls_in later) =
@@ -328,22 +344,22 @@ room_for_one front last wanted others later few =
     let calls = length-append last.calls (wanted ∷ others) in
     omega (arith, few, sum, before, calls)
 
-no_wanted_fault : (cluster : Cluster) → HaveNames cluster.procs → (front : List Session) (last : Session) (wanted : Wanted) (others : List Wanted) (later : List Session)
-    → Fit cluster (front ++ longer last wanted others ∷ later) → HasNoCause (IsFormFault cluster (front ++ last ∷ []) (wanted_line cluster.procs wanted))
+no_wanted_fault : (cluster : Cluster) → HaveNames cluster.procs → (front : List Session) (last : Session) (wanted : Ranked) (others : List Ranked) (later : List Session)
+    → Fit cluster (front ++ longer last wanted others ∷ later) → HasNoCause (IsFormFault cluster (front ++ last ∷ []) (ranked_line cluster.procs wanted))
 no_wanted_fault cluster once front last wanted others later fit =
-    let valid = (all_append_right (IsValidSession cluster.procs cluster.regions) front (longer last wanted others ∷ later) fit.sessions).0 in
-    by wanted (all_append_right (WantedFits cluster.procs cluster.regions) last.calls (wanted ∷ others) valid.calls).0
+    let valid = (all_append_right (IsValidSession cluster) front (longer last wanted others ∷ later) fit.sessions).0 in
+    by wanted.rank wanted.wanted (all_append_right (RankedFits cluster) last.calls (wanted ∷ others) valid.calls).0.1
   where
-    by : (w : Wanted) → WantedFits cluster.procs cluster.regions w → HasNoCause (IsFormFault cluster (front ++ last ∷ []) (wanted_line cluster.procs w))
-    by (Call number args) can =
+    by : (rank : ℕ) (w : Wanted) → WantedFits cluster w → HasNoCause (IsFormFault cluster (front ++ last ∷ []) (wanted_line cluster.procs rank w))
+    by rank (Call number args) can =
         let name : Bytes = proc_name (slice_get cluster.procs number) in
         let is : proc_named cluster name ≡ Some can.body = ap (λ o. proc_named cluster (proc_name o)) can.named ∙ found cluster number can.body once can.named in
         met (¬ (front ++ last ∷ [] ≡ [])) cause.NoSession _ (some_before front last) (met (IsSome (proc_named cluster name)) cause.Proc _ (ap is_some is)
         (met (FitsIf (proc_named cluster name) args) cause.Args _ (subst (λ o. FitsIf o args) (sym is) can.fits)
         (met (GivesKeys (proc_named cluster name) args) cause.Key _ (subst (λ o. GivesKeys o args) (sym is) can.keys)
         (met (calls_in (front ++ last ∷ []) < 20000) cause.TooMany NothingMore (room_for_one front last wanted others later fit.few_calls) all_met))))
-    by (Move key target) can =
-        met (¬ (front ++ last ∷ [] ≡ [])) cause.NoSession _ (some_before front last) (met (IsKey key) cause.Key _ can.0
+    by rank (Move key target) can =
+        met (¬ (front ++ last ∷ [] ≡ [])) cause.NoSession _ (some_before front last) (met (IsMovable cluster.version key) cause.Key _ can.0
         (met (target < cluster.regions) cause.Region _ can.1
         (met (calls_in (front ++ last ∷ []) < 20000) cause.TooMany NothingMore (room_for_one front last wanted others later fit.few_calls) all_met)))
 
@@ -353,7 +369,7 @@ no_onward_fault cluster once before all form rest fit (inl o) told fault =
     no_session_fault cluster before o.session o.later (subst (Fit cluster) o.is fit) told (subst (λ f. IsFormFault cluster before f told) o.told fault)
 no_onward_fault cluster once before all form rest fit (inr o) told fault =
     no_wanted_fault cluster once o.front o.last o.wanted o.others o.later (subst (Fit cluster) o.is fit) told
-    (subst (λ b. IsFormFault cluster b (wanted_line cluster.procs o.wanted) told) o.was (subst (λ f. IsFormFault cluster before f told) o.told fault))
+    (subst (λ b. IsFormFault cluster b (ranked_line cluster.procs o.wanted) told) o.was (subst (λ f. IsFormFault cluster before f told) o.told fault))
 
 -- a line that is followed through to sessions has no fault after those of the lines before it
 no_line_fault : (cluster : Cluster) → HaveNames cluster.procs → (before : List FileLine) (line : FileLine) (after : List FileLine) (s t : List Session) (told : WorkloadCause)

@@ -1,10 +1,8 @@
 -- A line has one form.
-use Rattle.std.proofs.Common.{◌≡◌, ◌≢◌, ℕ, suc, ◌<◌, ◌^◌, ℤ, pos, negsuc, false, List, [], ◌∷◌, map, drop, get_or, Some, FitsSigned, refl, sym, ap, ◌∙◌, arith}
-use Rattle.std.specs.Prelude.{codes, nat_eq}
+use Rattle.std.proofs.Common.{inl, inr, ◌++◌, length, length-append, subst, ◌≡◌, ◌≢◌, ℕ, suc, ◌<◌, ◌^◌, ℤ, pos, negsuc, false, List, [], ◌∷◌, map, drop, get_or, Some, FitsSigned, refl, sym, ap, ◌∙◌, arith}
+use Rattle.std.specs.Prelude.{codes}
 use Rattle.std.specs.Int.{w64}
 use Rattle.std.specs.Fmt.{decimal, signed_decimal}
-use Rattle.std.specs.Cmp.Lexicographic.{pointwise, bytes_decides}
-use Rattle.std.proofs.lemmas.Bool.{false≢true}
 use Rattle.std.proofs.lemmas.Fmt.{decimal_injective}
 use Rattle.dt_lists.proofs.Callers.{same_head, same_tail}
 use Rattle.std.proofs.lemmas.Option.{same_Some}
@@ -14,7 +12,7 @@ use Rattle.dt_text.specs.declared.Value.TheVariants.{Int, Text}
 use Rattle.dt_text.proofs.Callers.{no_minus}
 use Rattle.dt_text.proofs.Callers.{exact}
 use Rattle.dt_text.specs.Texts.{Bytes}
-use Rattle.dt_workload.specs.Lines.{bare, quoted, said, Form, session_line, call_line, move_line, argument_word, form_words, IsArgument, IsForm, HasForm}
+use Rattle.dt_workload.specs.Lines.{bare, quoted, said, Form, session_line, call_line, move_line, argument_word, Said, IsRanked, IsFirstWord, other_words, SpellForm, IsArgument, IsForm, HasForm}
 
 same_bare : {a b : Bytes} → bare a ≡ bare b → a ≡ b
 same_bare e = cc
@@ -24,10 +22,6 @@ same_quoted e = cc
 
 not_both : {a b : Bytes} → bare a ≡ quoted b → ⊥
 not_both e = cc
-
--- words that differ
-differ : (a b : Bytes) → pointwise nat_eq a b ≡ false → bare a ≢ bare b
-differ a b apart e = false≢true (sym apart ∙ (bytes_decides a b).1 (same_bare e))
 
 same_number : (m n : ℕ) → m < 2 ^ 32 → n < 2 ^ 32 → decimal m ≡ decimal n → m ≡ n
 same_number m n small_m small_n e = decimal_injective m n (omega arith) (omega arith) e
@@ -52,29 +46,76 @@ same_arguments (v ∷ vs) [] fit_vs fit_ws e = cc
 same_arguments (v ∷ vs) (w ∷ ws) fit_vs fit_ws e =
     λ i. same_argument v w fit_vs.0 fit_ws.0 (same_head e) i ∷ same_arguments vs ws fit_vs.1 fit_ws.1 (same_tail e) i
 
+-- ---- the word that begins a line
+
+pub after_front : (front xs ys : Bytes) → front ++ xs ≡ front ++ ys → xs ≡ ys
+after_front [] xs ys e = e
+after_front (b ∷ front) xs ys e = after_front front xs ys (same_tail e)
+
+-- the kind alone is no kind with a rank
+not_alone : (kind : Bytes) (rank : ℕ) → kind ≡ kind ++ 47 ∷ decimal rank → ⊥
+not_alone kind rank e = omega (arith, ap length e, length-append kind (47 ∷ decimal rank))
+
+-- a word says one rank
+one_rank : (kind : Bytes) (r q : ℕ) (head : Said) → r < 10 → q < 10 → IsRanked kind r head → IsRanked kind q head → r ≡ q
+one_rank kind r q head low_r low_q (inl h) (inl k) = h.0 ∙ sym k.0
+one_rank kind r q head low_r low_q (inl h) (inr k) = absurd (not_alone kind q (same_bare (sym h.1 ∙ k)))
+one_rank kind r q head low_r low_q (inr h) (inl k) = absurd (not_alone kind r (same_bare (sym k.1 ∙ h)))
+one_rank kind r q head low_r low_q (inr h) (inr k) =
+    same_number r q (omega (arith, low_r)) (omega (arith, low_q)) (same_tail (after_front kind (47 ∷ decimal r) (47 ∷ decimal q) (same_bare (sym h ∙ k))))
+
+-- the first byte of a word that begins a line of a kind is the kind's
+begins : (b : ℕ) (kind : Bytes) (rank : ℕ) (head : Said) → IsRanked (b ∷ kind) rank head → (rest : Bytes) × (head ≡ bare (b ∷ rest))
+begins b kind rank head (inl h) = (kind, h.1)
+begins b kind rank head (inr h) = (kind ++ 47 ∷ decimal rank, h)
+
+-- words that begin with different bytes differ
+apart : (b c : ℕ) (xs ys : Bytes) (head : Said) → head ≡ bare (b ∷ xs) → head ≡ bare (c ∷ ys) → b ≡ c
+apart b c xs ys head h k = same_head (same_bare (sym h ∙ k))
+
+pub session_or_call : (rank : ℕ) (head : Said) → head ≡ bare (codes "session") → IsRanked (codes "call") rank head → ⊥
+session_or_call rank head h k = let b = begins 99 (codes "all") rank head k in let e : 115 ≡ 99 = apart 115 99 (codes "ession") b.0 head h b.1 in omega (arith, e)
+
+pub session_or_move : (rank : ℕ) (head : Said) → head ≡ bare (codes "session") → IsRanked (codes "move") rank head → ⊥
+session_or_move rank head h k = let b = begins 109 (codes "ove") rank head k in let e : 115 ≡ 109 = apart 115 109 (codes "ession") b.0 head h b.1 in omega (arith, e)
+
+pub call_or_move : (r q : ℕ) (head : Said) → IsRanked (codes "call") r head → IsRanked (codes "move") q head → ⊥
+call_or_move r q head h k =
+    let a = begins 99 (codes "all") r head h in
+    let b = begins 109 (codes "ove") q head k in
+    let e : 99 ≡ 109 = apart 99 109 a.0 b.0 head a.1 b.1 in omega (arith, e)
+
 -- the words tell the form
-same_form : (f g : Form) → IsForm f → IsForm g → form_words f ≡ form_words g → f ≡ g
-same_form (session_line n r) (session_line m q) is_f is_g e =
-    let name : n ≡ m = same_bare (same_head (same_tail e)) in
-    let region = same_number r q is_f is_g (same_bare (same_head (same_tail (same_tail (same_tail e))))) in
+same_form : (f g : Form) → IsForm f → IsForm g → (head : Said) → IsFirstWord f head → IsFirstWord g head → other_words f ≡ other_words g → f ≡ g
+same_form (session_line n r) (session_line m q) is_f is_g head h k e =
+    let name : n ≡ m = same_bare (same_head e) in
+    let region = same_number r q is_f is_g (same_bare (same_head (same_tail (same_tail e)))) in
     λ i. session_line (name i) (region i)
-same_form (session_line n r) (call_line p args) is_f is_g e = absurd (differ (codes "session") (codes "call") refl (same_head e))
-same_form (session_line n r) (move_line k q) is_f is_g e = absurd (differ (codes "session") (codes "move") refl (same_head e))
-same_form (call_line p args) (session_line n r) is_f is_g e = absurd (differ (codes "call") (codes "session") refl (same_head e))
-same_form (call_line p args) (call_line o others) is_f is_g e =
-    let proc : p ≡ o = same_bare (same_head (same_tail e)) in
-    let same = same_arguments args others is_f is_g (same_tail (same_tail e)) in
-    λ i. call_line (proc i) (same i)
-same_form (call_line p args) (move_line k q) is_f is_g e = absurd (differ (codes "call") (codes "move") refl (same_head e))
-same_form (move_line k r) (session_line n q) is_f is_g e = absurd (differ (codes "move") (codes "session") refl (same_head e))
-same_form (move_line k r) (call_line p args) is_f is_g e = absurd (differ (codes "move") (codes "call") refl (same_head e))
-same_form (move_line k r) (move_line j q) is_f is_g e =
-    let key : k ≡ j = same_bare (same_head (same_tail e)) in
-    let region = same_number r q is_f is_g (same_bare (same_head (same_tail (same_tail (same_tail e))))) in
-    λ i. move_line (key i) (region i)
+same_form (session_line n r) (call_line s p args) is_f is_g head h k e = absurd (session_or_call s head h k)
+same_form (session_line n r) (move_line s j q) is_f is_g head h k e = absurd (session_or_move s head h k)
+same_form (call_line s p args) (session_line n r) is_f is_g head h k e = absurd (session_or_call s head k h)
+same_form (call_line s p args) (call_line t o others) is_f is_g head h k e =
+    let rank = one_rank (codes "call") s t head is_f.0 is_g.0 h k in
+    let proc : p ≡ o = same_bare (same_head e) in
+    let same = same_arguments args others is_f.1 is_g.1 (same_tail e) in
+    λ i. call_line (rank i) (proc i) (same i)
+same_form (call_line s p args) (move_line t j q) is_f is_g head h k e = absurd (call_or_move s t head h k)
+same_form (move_line s j r) (session_line n q) is_f is_g head h k e = absurd (session_or_move s head k h)
+same_form (move_line s j r) (call_line t p args) is_f is_g head h k e = absurd (call_or_move t s head k h)
+same_form (move_line s j r) (move_line t l q) is_f is_g head h k e =
+    let rank = one_rank (codes "move") s t head is_f.0 is_g.0 h k in
+    let key : j ≡ l = same_bare (same_head e) in
+    let region = same_number r q is_f.1 is_g.1 (same_bare (same_head (same_tail (same_tail e)))) in
+    λ i. move_line (rank i) (key i) (region i)
+
+-- words spell one form
+pub one_spelled : (f g : Form) (words : List Said) → IsForm f → IsForm g → SpellForm f words → SpellForm g words → f ≡ g
+one_spelled f g words is_f is_g h k =
+    let e = sym h.2 ∙ k.2 in
+    same_form f g is_f is_g h.0 h.1 (subst (IsFirstWord g) (sym (same_head e)) k.1) (same_tail e)
 
 -- a line has one form
 pub one_form : (line : Bytes) (f g : Form) → HasForm line f → HasForm line g → f ≡ g
 one_form line f g h k =
     let words : h.1.0 ≡ k.1.0 = same_Some _ _ (sym ((exact line h.1.0).1 h.1.1) ∙ (exact line k.1.0).1 k.1.1) in
-    same_form f g h.0 k.0 (sym h.1.2 ∙ ap (map (said line)) words ∙ k.1.2)
+    one_spelled f g (map (said line) h.1.0) h.0 k.0 h.1.2 (subst (λ ws. SpellForm g (map (said line) ws)) (sym words) k.1.2)

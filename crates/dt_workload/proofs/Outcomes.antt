@@ -4,7 +4,8 @@ use Rattle.std.proofs.Common.{refl, sym, ap, ◌∙◌, subst, arith, append_ass
 use Rattle.std.specs.Option.{option_and_then}
 use Rattle.std.proofs.lemmas.Option.{same_Some}
 use Rattle.dt_lists.specs.Lists.{AllIn, Has, Pairwise, Either}
-use Rattle.dt_lists.proofs.Callers.{either_not, either_all, either_has}
+use Rattle.dt_lists.proofs.Callers.{either_and, either_not, either_all, either_has}
+use Rattle.dt_access.specs.Granules.{unit_of}
 use Rattle.dt_text.specs.Texts.{IsKey, IsName}
 use Rattle.dt_text.specs.Lines.{FileLine, lines_of}
 use Rattle.dt_text.specs.Reading.{words_of}
@@ -22,19 +23,20 @@ use Rattle.dt_eval.specs.Calls.{CallFits}
 use Rattle.dt_cluster.specs.declared.Cluster.{Cluster}
 use Rattle.dt_cluster.specs.Valid.{IsValidCluster}
 use Rattle.dt_text.specs.Texts.{Bytes}
-use Rattle.dt_workload.specs.Lines.{Said, said, Form, session_line, call_line, move_line, HasForm, IsForm}
-use Rattle.dt_workload.specs.Valid.{session_names, session_count_at, calls_in}
+use Rattle.dt_workload.specs.Lines.{Said, said, Form, session_line, call_line, move_line, SpellForm, HasForm, IsForm}
+use Rattle.dt_workload.specs.Valid.{IsMovable, session_names, session_count_at, calls_in}
 use Rattle.dt_workload.specs.File.{AreSessions, IsWorkload, Needs, NothingMore, FitsIf, GivesKeys, proc_name, proc_named}
 use Rattle.dt_workload.specs.File.{IsFormFault, IsLineFault, IsWorkloadFault}
 use Rattle.dt_workload.specs.ReaderParts.{FormGoesOn, LineGoesOn, IsWithWanted, wanting}
 use Rattle.dt_workload.specs.Laws.{WorkloadFilesHaveAnOutcome}
-use Rattle.dt_workload.specs.declared.workload.Wanted.{Wanted}
+use Rattle.dt_workload.specs.declared.workload.Ranked.{Ranked}
 use Rattle.dt_workload.specs.declared.workload.Wanted.TheVariants.{Call, Move}
 use Rattle.dt_workload.specs.declared.workload.Session.{Session}
 use Rattle.dt_workload.specs.declared.workload.Workload.{Workload}
 use Rattle.dt_workload.specs.declared.error.WorkloadCause.{WorkloadCause}
 use Rattle.dt_workload.specs.declared.error.WorkloadCause.TheVariants as cause
-use Rattle.dt_workload.proofs.Decisions.{either_bytes, either_lt, either_key, either_name, SayForm, either_form}
+use Rattle.dt_workload.proofs.Decisions.{SayForm, either_form}
+use Rattle.dt_text.proofs.Callers.{either_bytes, either_lt, either_key, either_name}
 use Rattle.dt_workload.proofs.Forms.{no_form}
 use Rattle.dt_workload.proofs.Steps.{none_read, line_read, named_word, all_at}
 
@@ -76,19 +78,22 @@ last_of (x ∷ y ∷ before) some =
     let rest = last_of (y ∷ before) (λ e. cc) in
     (x ∷ rest.0, rest.1, ap (λ xs. x ∷ xs) rest.2)
 
-with_wanted : (before : List Session) → ¬ (before ≡ []) → (wanted : Wanted) → (after : List Session) × IsWithWanted before wanted after
+with_wanted : (before : List Session) → ¬ (before ≡ []) → (wanted : Ranked) → (after : List Session) × IsWithWanted before wanted after
 with_wanted before some wanted =
     let cut = last_of before some in
     (cut.0 ++ wanting cut.1 wanted ∷ [], (cut.0, cut.1, cut.2, refl))
 
-move_comes_to : (cluster : Cluster) (before : List Session) (key : Bytes) (region : ℕ) → FormComesTo cluster before (move_line key region)
-move_comes_to cluster before key region =
+either_movable : (version : ℕ) (key : Bytes) → Either (IsMovable version key)
+either_movable version key = either_and _ _ (either_key key) (either_bytes (unit_of version key) key)
+
+move_comes_to : (cluster : Cluster) (before : List Session) (rank : ℕ) → rank < 10 → (key : Bytes) (region : ℕ) → FormComesTo cluster before (move_line rank key region)
+move_comes_to cluster before rank digit key region =
     need (¬ (before ≡ [])) cause.NoSession _ _ (either_some before) (λ some.
-    need (IsKey key) cause.Key _ _ (either_key key) (λ is.
+    need (IsMovable cluster.version key) cause.Key _ _ (either_movable cluster.version key) (λ is.
     need (region < cluster.regions) cause.Region _ _ (either_lt region cluster.regions) (λ there.
     need (calls_in before < 20000) cause.TooMany NothingMore _ (either_lt (calls_in before) 20000) (λ room.
-    let after = with_wanted before some (Move key region) in
-    inl (after.0, (is, there, room, after.1))))))
+    let after = with_wanted before some (record { rank = rank; wanted = Move key region }) in
+    inl (after.0, (is, there, room, digit, after.1))))))
 
 -- ---- calls
 
@@ -127,32 +132,33 @@ numbered : (procs : List ProcTree) (place : Option ℕ) (p : ProcTree) → optio
 numbered procs None p e = absurd cc
 numbered procs (Some number) p e = (number, refl, e)
 
-call_goes_on : (cluster : Cluster) → IsValidCluster cluster → (before : List Session) (name : Bytes) (args : List Value) (found : Option ProcTree) → proc_named cluster name ≡ found
+call_goes_on : (cluster : Cluster) → IsValidCluster cluster → (before : List Session) (rank : ℕ) → rank < 10 → (name : Bytes) (args : List Value) (found : Option ProcTree) → proc_named cluster name ≡ found
     → ¬ (before ≡ []) → FitsIf found args → GivesKeys found args → calls_in before < 20000
-    → (after : List Session) × FormGoesOn cluster before (call_line name args) after
-call_goes_on cluster valid before name args None is some fits keys room = absurd fits
-call_goes_on cluster valid before name args (Some p) is some fits keys room =
+    → (after : List Session) × FormGoesOn cluster before (call_line rank name args) after
+call_goes_on cluster valid before rank digit name args None is some fits keys room = absurd fits
+call_goes_on cluster valid before rank digit name args (Some p) is some fits keys room =
     let at = numbered cluster.procs (place_of_name name cluster.procs) p is in
-    let after = with_wanted before some (Call at.0 args) in
+    let after = with_wanted before some (record { rank = rank; wanted = Call at.0 args }) in
     let name_is : proc_name (slice_get cluster.procs at.0) ≡ name = ap proc_name at.2 ∙ named_word cluster.procs name at.0 p at.1 at.2 in
     let sound = all_at IsSoundProc cluster.procs at.0 p valid.procs.sound at.2 in
     let call : CallFits cluster.procs at.0 args = record { body = p; named = at.2; sound = sound; fits = fits; keys = keys } in
-    (after.0, (at.0, name_is, call, room, after.1))
+    (after.0, (at.0, name_is, call, room, digit, after.1))
 
-call_comes_to : (cluster : Cluster) → IsValidCluster cluster → (before : List Session) (name : Bytes) (args : List Value) → FormComesTo cluster before (call_line name args)
-call_comes_to cluster valid before name args =
+call_comes_to : (cluster : Cluster) → IsValidCluster cluster → (before : List Session) (rank : ℕ) → rank < 10 → (name : Bytes) (args : List Value)
+    → FormComesTo cluster before (call_line rank name args)
+call_comes_to cluster valid before rank digit name args =
     let found = proc_named cluster name in
     need (¬ (before ≡ [])) cause.NoSession _ _ (either_some before) (λ some.
     need (IsSome found) cause.Proc _ _ (either_named found) (λ named.
     need (FitsIf found args) cause.Args _ _ (either_fits_if found args) (λ fits.
     need (GivesKeys found args) cause.Key _ _ (either_gives_keys found args) (λ keys.
     need (calls_in before < 20000) cause.TooMany NothingMore _ (either_lt (calls_in before) 20000) (λ room.
-    inl (call_goes_on cluster valid before name args found refl some fits keys room))))))
+    inl (call_goes_on cluster valid before rank digit name args found refl some fits keys room))))))
 
-form_comes_to : (cluster : Cluster) → IsValidCluster cluster → (before : List Session) (form : Form) → FormComesTo cluster before form
-form_comes_to cluster valid before (session_line name region) = session_comes_to cluster before name region
-form_comes_to cluster valid before (call_line name args) = call_comes_to cluster valid before name args
-form_comes_to cluster valid before (move_line key region) = move_comes_to cluster before key region
+form_comes_to : (cluster : Cluster) → IsValidCluster cluster → (before : List Session) (form : Form) → IsForm form → FormComesTo cluster before form
+form_comes_to cluster valid before (session_line name region) is = session_comes_to cluster before name region
+form_comes_to cluster valid before (call_line rank name args) is = call_comes_to cluster valid before rank is.0 name args
+form_comes_to cluster valid before (move_line rank key region) is = move_comes_to cluster before rank is.0 key region
 
 -- ---- lines
 
@@ -168,13 +174,13 @@ of_form cluster before line form has (inr (told, fault)) = inr (told, inr (form,
 of_words : (cluster : Cluster) → IsValidCluster cluster → (before : List Session) (line : Bytes) (words : List Word) → words_of line ≡ Some words
     → Either (SayForm (map (said line) words)) → LineComesTo cluster before line
 of_words cluster valid before line words is (inl (form, fits, says)) =
-    of_form cluster before line form (fits, (words, (exact line words).0 is, says)) (form_comes_to cluster valid before form)
+    of_form cluster before line form (fits, (words, (exact line words).0 is, says)) (form_comes_to cluster valid before form fits)
 of_words cluster valid before line words is (inr not_so) = inr (cause.Form, inl (refl, none))
   where
     none : (form : Form) → ¬ (HasForm line form)
     none form has =
         let same : has.1.0 ≡ words = same_Some _ _ (sym ((exact line has.1.0).1 has.1.1) ∙ is) in
-        not_so (form, has.0, ap (map (said line)) (sym same) ∙ has.1.2)
+        not_so (form, has.0, subst (λ ws. SpellForm form (map (said line) ws)) same has.1.2)
 
 line_comes_to : (cluster : Cluster) → IsValidCluster cluster → (before : List Session) (line : Bytes) (words : Option (List Word)) → words_of line ≡ words
     → LineComesTo cluster before line

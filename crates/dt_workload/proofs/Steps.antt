@@ -19,10 +19,10 @@ use Rattle.dt_eval.specs.Keys.{IsFirstBadKey}
 use Rattle.dt_cluster.specs.declared.Cluster.{Cluster}
 use Rattle.dt_text.specs.Texts.{Bytes}
 use Rattle.dt_workload.specs.Lines.{Form, session_line, call_line, move_line, HasForm}
-use Rattle.dt_workload.specs.File.{wanted_line, session_lines, all_lines, AreSessions, proc_named}
-use Rattle.dt_workload.specs.Valid.{session_names, session_count_at, calls_in, WantedFits, IsValidSession, IsValidWorkload}
+use Rattle.dt_workload.specs.File.{ranked_line, session_lines, all_lines, AreSessions, proc_named}
+use Rattle.dt_workload.specs.Valid.{session_names, session_count_at, calls_in, RankedFits, IsValidSession, IsValidWorkload}
 use Rattle.dt_workload.specs.ReaderParts.{wanting, IsWithWanted, FormGoesOn, LineGoesOn}
-use Rattle.dt_workload.specs.declared.workload.Wanted.{Wanted}
+use Rattle.dt_workload.specs.declared.workload.Ranked.{Ranked}
 use Rattle.dt_workload.specs.declared.workload.Wanted.TheVariants.{Call, Move}
 use Rattle.dt_workload.specs.declared.workload.Session.{Session}
 use Rattle.dt_workload.specs.declared.workload.Workload.{Workload}
@@ -59,31 +59,31 @@ lines_more : (procs : List ProcTree) (others : List Session) (last : Session) �
 lines_more procs [] last = append-nil (session_lines procs last)
 lines_more procs (s ∷ others) last = ap (λ ls. session_lines procs s ++ ls) (lines_more procs others last) ∙ sym (append_assoc (session_lines procs s) (all_lines procs others) (session_lines procs last))
 
-lines_wanting : (procs : List ProcTree) (others : List Session) (last : Session) (w : Wanted)
-    → all_lines procs (others ++ wanting last w ∷ []) ≡ all_lines procs (others ++ last ∷ []) ++ wanted_line procs w ∷ []
+lines_wanting : (procs : List ProcTree) (others : List Session) (last : Session) (w : Ranked)
+    → all_lines procs (others ++ wanting last w ∷ []) ≡ all_lines procs (others ++ last ∷ []) ++ ranked_line procs w ∷ []
 lines_wanting procs others last w =
     lines_more procs others (wanting last w)
-    ∙ ap (λ ls. all_lines procs others ++ session_line last.name last.region ∷ ls) (map_more (wanted_line procs) last.calls (w ∷ []))
-    ∙ sym (append_assoc (all_lines procs others) (session_lines procs last) (wanted_line procs w ∷ []))
-    ∙ ap (λ ls. ls ++ wanted_line procs w ∷ []) (sym (lines_more procs others last))
+    ∙ ap (λ ls. all_lines procs others ++ session_line last.name last.region ∷ ls) (map_more (ranked_line procs) last.calls (w ∷ []))
+    ∙ sym (append_assoc (all_lines procs others) (session_lines procs last) (ranked_line procs w ∷ []))
+    ∙ ap (λ ls. ls ++ ranked_line procs w ∷ []) (sym (lines_more procs others last))
 
-names_wanting : (others : List Session) (last : Session) (w : Wanted) → session_names (others ++ wanting last w ∷ []) ≡ session_names (others ++ last ∷ [])
+names_wanting : (others : List Session) (last : Session) (w : Ranked) → session_names (others ++ wanting last w ∷ []) ≡ session_names (others ++ last ∷ [])
 names_wanting [] last w = refl
 names_wanting (s ∷ others) last w = ap (λ ns. s.name ∷ ns) (names_wanting others last w)
 
-at_wanting : (region : ℕ) (others : List Session) (last : Session) (w : Wanted) → session_count_at region (others ++ wanting last w ∷ []) ≡ session_count_at region (others ++ last ∷ [])
+at_wanting : (region : ℕ) (others : List Session) (last : Session) (w : Ranked) → session_count_at region (others ++ wanting last w ∷ []) ≡ session_count_at region (others ++ last ∷ [])
 at_wanting region others last w =
     sum_by-append (λ (s : Session). cond (s.region == region) 1 0) others (wanting last w ∷ [])
     ∙ sym (sum_by-append (λ (s : Session). cond (s.region == region) 1 0) others (last ∷ []))
 
-calls_wanting : (others : List Session) (last : Session) (w : Wanted) → calls_in (others ++ wanting last w ∷ []) ≡ calls_in (others ++ last ∷ []) + 1
+calls_wanting : (others : List Session) (last : Session) (w : Ranked) → calls_in (others ++ wanting last w ∷ []) ≡ calls_in (others ++ last ∷ []) + 1
 calls_wanting others last w =
     let a = sum_by-append (λ (s : Session). length s.calls) others (wanting last w ∷ []) in
     let b = sum_by-append (λ (s : Session). length s.calls) others (last ∷ []) in
     let n = one_longer last.calls w in
     omega (arith, a, b, n)
   where
-    one_longer : (ws : List Wanted) (w : Wanted) → length (ws ++ w ∷ []) ≡ length ws + 1
+    one_longer : (ws : List Ranked) (w : Ranked) → length (ws ++ w ∷ []) ≡ length ws + 1
     one_longer [] w = refl
     one_longer (v ∷ ws) w = omega (arith, one_longer ws w)
 
@@ -119,31 +119,31 @@ say_session : (procs : List ProcTree) (ls : List FileLine) (line : FileLine) (be
     → HasForm line.bytes (session_line x.name x.region) → Say (ls ++ line ∷ []) (all_lines procs (before ++ x ∷ []))
 say_session procs ls line before x say none has =
     let first : Form = session_line x.name x.region in
-    let wants : List Wanted → Type 0 = λ ws. Say (ls ++ line ∷ []) (all_lines procs before ++ first ∷ map (wanted_line procs) ws) in
+    let wants : List Ranked → Type 0 = λ ws. Say (ls ++ line ∷ []) (all_lines procs before ++ first ∷ map (ranked_line procs) ws) in
     rw (lines_more procs before x) (subst wants (sym none) (say_more ls (all_lines procs before) line first say has))
 
 -- sessions of which the last wants nothing yet, and which may begin
 session_valid : (cluster : Cluster) (before : List Session) (x : Session) → IsValidWorkload cluster (record { sessions = before })
-    → IsValidSession cluster.procs cluster.regions x → x.calls ≡ [] → ¬ (Has (session_names before) x.name) → session_count_at x.region before < 64
+    → IsValidSession cluster x → x.calls ≡ [] → ¬ (Has (session_names before) x.name) → session_count_at x.region before < 64
     → IsValidWorkload cluster (record { sessions = before ++ x ∷ [] })
 session_valid cluster before x valid can none new room =
     record {
-      sessions = all_append (IsValidSession cluster.procs cluster.regions) before (x ∷ []) valid.sessions (can, tt);
+      sessions = all_append (IsValidSession cluster) before (x ∷ []) valid.sessions (can, tt);
       names_once = rw (map_more (λ (s : Session). s.name) before (x ∷ [])) (distinct_push (session_names before) x.name valid.names_once new);
       few_sessions = λ region. room_at region before x room (valid.few_sessions region);
       few_calls = rw (sum_by-append (λ (s : Session). length s.calls) before (x ∷ []), none) (omega (arith, valid.few_calls));
     }
 
-can_be_wanting : (cluster : Cluster) (last : Session) (w : Wanted) → IsValidSession cluster.procs cluster.regions last → WantedFits cluster.procs cluster.regions w
-    → IsValidSession cluster.procs cluster.regions (wanting last w)
+can_be_wanting : (cluster : Cluster) (last : Session) (w : Ranked) → IsValidSession cluster last → RankedFits cluster w
+    → IsValidSession cluster (wanting last w)
 can_be_wanting cluster last w can wanted =
-    record { name = can.name; region = can.region; calls = all_append (WantedFits cluster.procs cluster.regions) last.calls (w ∷ []) can.calls (wanted, tt) }
+    record { name = can.name; region = can.region; calls = all_append (RankedFits cluster) last.calls (w ∷ []) can.calls (wanted, tt) }
 
 -- sessions of which the last wants one thing more
-wanting_valid : (cluster : Cluster) (others : List Session) (last : Session) (w : Wanted) → IsValidWorkload cluster (record { sessions = others ++ last ∷ [] })
-    → WantedFits cluster.procs cluster.regions w → calls_in (others ++ last ∷ []) < 20000 → IsValidWorkload cluster (record { sessions = others ++ wanting last w ∷ [] })
+wanting_valid : (cluster : Cluster) (others : List Session) (last : Session) (w : Ranked) → IsValidWorkload cluster (record { sessions = others ++ last ∷ [] })
+    → RankedFits cluster w → calls_in (others ++ last ∷ []) < 20000 → IsValidWorkload cluster (record { sessions = others ++ wanting last w ∷ [] })
 wanting_valid cluster others last w valid can room =
-    let P = IsValidSession cluster.procs cluster.regions in
+    let P = IsValidSession cluster in
     let last_can = (all_append_right P others (last ∷ []) valid.sessions).0 in
     record {
       sessions = all_append P others (wanting last w ∷ []) (all_append_left P others (last ∷ []) valid.sessions) (can_be_wanting cluster last w last_can can, tt);
@@ -152,17 +152,17 @@ wanting_valid cluster others last w valid can room =
       few_calls = rw (calls_wanting others last w) (omega (arith, room));
     }
 
-wanted_read : (cluster : Cluster) (ls : List FileLine) (line : FileLine) (others : List Session) (last : Session) (w : Wanted) → AreSessions cluster ls (others ++ last ∷ [])
-    → WantedFits cluster.procs cluster.regions w → HasForm line.bytes (wanted_line cluster.procs w) → calls_in (others ++ last ∷ []) < 20000
+wanted_read : (cluster : Cluster) (ls : List FileLine) (line : FileLine) (others : List Session) (last : Session) (w : Ranked) → AreSessions cluster ls (others ++ last ∷ [])
+    → RankedFits cluster w → HasForm line.bytes (ranked_line cluster.procs w) → calls_in (others ++ last ∷ []) < 20000
     → AreSessions cluster (ls ++ line ∷ []) (others ++ wanting last w ∷ [])
 wanted_read cluster ls line others last w are can has room =
     record {
-      lines = rw (lines_wanting cluster.procs others last w) (say_more ls (all_lines cluster.procs (others ++ last ∷ [])) line (wanted_line cluster.procs w) are.lines has);
+      lines = rw (lines_wanting cluster.procs others last w) (say_more ls (all_lines cluster.procs (others ++ last ∷ [])) line (ranked_line cluster.procs w) are.lines has);
       valid = wanting_valid cluster others last w are.valid can room;
     }
 
-wanted_goes_on : (cluster : Cluster) (ls : List FileLine) (line : FileLine) (before after : List Session) (w : Wanted) → AreSessions cluster ls before
-    → WantedFits cluster.procs cluster.regions w → HasForm line.bytes (wanted_line cluster.procs w) → calls_in before < 20000 → IsWithWanted before w after
+wanted_goes_on : (cluster : Cluster) (ls : List FileLine) (line : FileLine) (before after : List Session) (w : Ranked) → AreSessions cluster ls before
+    → RankedFits cluster w → HasForm line.bytes (ranked_line cluster.procs w) → calls_in before < 20000 → IsWithWanted before w after
     → AreSessions cluster (ls ++ line ∷ []) after
 wanted_goes_on cluster ls line before after w are can has room with =
     rw with.3 (wanted_read cluster ls line with.0 with.1 w (subst (AreSessions cluster ls) with.2 are) can has (subst (λ s. calls_in s < 20000) with.2 room))
@@ -171,12 +171,13 @@ form_read : (cluster : Cluster) (ls : List FileLine) (line : FileLine) (before a
     → FormGoesOn cluster before form after → AreSessions cluster (ls ++ line ∷ []) after
 form_read cluster ls line before after (session_line name region) are has on =
     let x : Session = record { name = name; region = region; calls = [] } in
-    let can : IsValidSession cluster.procs cluster.regions x = record { name = on.0; region = on.2; calls = tt } in
+    let can : IsValidSession cluster x = record { name = on.0; region = on.2; calls = tt } in
     rw on.4 (record { lines = say_session cluster.procs ls line before x are.lines refl has; valid = session_valid cluster before x are.valid can refl on.1 on.3 })
-form_read cluster ls line before after (call_line name args) are has on =
-    wanted_goes_on cluster ls line before after (Call on.0 args) are on.2 (subst (λ n. HasForm line.bytes (call_line n args)) (sym on.1) has) on.3 on.4
-form_read cluster ls line before after (move_line key target) are has on =
-    wanted_goes_on cluster ls line before after (Move key target) are (on.0, on.1) has on.2 on.3
+form_read cluster ls line before after (call_line rank name args) are has on =
+    wanted_goes_on cluster ls line before after (record { rank = rank; wanted = Call on.0 args }) are (on.4, on.2)
+    (subst (λ n. HasForm line.bytes (call_line rank n args)) (sym on.1) has) on.3 on.5
+form_read cluster ls line before after (move_line rank key target) are has on =
+    wanted_goes_on cluster ls line before after (record { rank = rank; wanted = Move key target }) are (on.3, (on.0, on.1)) has on.2 on.4
 
 -- one line more, by which sessions go on
 pub line_read : (cluster : Cluster) (ls : List FileLine) (line : FileLine) (before after : List Session) → AreSessions cluster ls before

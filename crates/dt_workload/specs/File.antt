@@ -4,7 +4,7 @@
 use Rattle.std.specs.Prelude.{◌≡◌, ◌⊎◌, ℕ, ◌<◌, List, [], ◌∷◌, ◌++◌, map, flat_map, length, slice_get, Option, Some, None, IsSome}
 use Rattle.std.specs.Option.{option_and_then}
 use Rattle.dt_lists.specs.Lists.{Has, Pairwise}
-use Rattle.dt_text.specs.Texts.{IsKey, IsName}
+use Rattle.dt_text.specs.Texts.{IsName}
 use Rattle.dt_text.specs.Lines.{FileLine, lines_of}
 use Rattle.dt_text.specs.declared.Value.{Value}
 use Rattle.dt_proc.specs.Tree.{ProcTree}
@@ -13,9 +13,10 @@ use Rattle.dt_eval.specs.Meaning.{Fits, HasKeys}
 use Rattle.dt_cluster.specs.declared.Cluster.{Cluster}
 use Rattle.dt_text.specs.Texts.{Bytes}
 use Rattle.dt_workload.specs.Lines.{Form, session_line, call_line, move_line, HasForm}
-use Rattle.dt_workload.specs.Valid.{session_names, session_count_at, calls_in, IsValidWorkload}
+use Rattle.dt_workload.specs.Valid.{IsMovable, session_names, session_count_at, calls_in, IsValidWorkload}
 use Rattle.dt_workload.specs.declared.workload.Wanted.{Wanted}
 use Rattle.dt_workload.specs.declared.workload.Wanted.TheVariants.{Call, Move}
+use Rattle.dt_workload.specs.declared.workload.Ranked.{Ranked}
 use Rattle.dt_workload.specs.declared.workload.Session.{Session}
 use Rattle.dt_workload.specs.declared.workload.Workload.{Workload}
 use Rattle.dt_workload.specs.declared.error.WorkloadCause.{WorkloadCause}
@@ -26,14 +27,17 @@ abbrev pub proc_name : Option ProcTree → Bytes
 proc_name None = []
 proc_name (Some proc) = proc.name
 
--- the line of a call or a move: a call names its procedure
-abbrev pub wanted_line : List ProcTree → Wanted → Form
-wanted_line procs (Call number args) = call_line (proc_name (slice_get procs number)) args
-wanted_line procs (Move key target) = move_line key target
+-- the line of a call or a move with its rank: a call names its procedure
+abbrev pub wanted_line : List ProcTree → ℕ → Wanted → Form
+wanted_line procs rank (Call number args) = call_line rank (proc_name (slice_get procs number)) args
+wanted_line procs rank (Move key target) = move_line rank key target
+
+abbrev pub ranked_line : List ProcTree → Ranked → Form
+ranked_line procs ranked = wanted_line procs ranked.rank ranked.wanted
 
 -- the lines of a session: its own, and then those of its calls and moves
 abbrev pub session_lines : List ProcTree → Session → List Form
-session_lines procs session = session_line session.name session.region ∷ map (wanted_line procs) session.calls
+session_lines procs session = session_line session.name session.region ∷ map (ranked_line procs) session.calls
 
 -- the lines of sessions
 abbrev pub all_lines : List ProcTree → List Session → List Form
@@ -88,19 +92,19 @@ IsCallFault cluster before name args told =
     (Needs (GivesKeys (proc_named cluster name) args) cause.Key
     (Needs (calls_in before < 20000) cause.TooMany NothingMore)))) told
 
--- the fault of a move's line after some sessions: it needs a session before it, a key, a region, and room for one more
+-- the fault of a move's line after some sessions: it needs a session before it, a key that can be moved, a region, and room for one more
 abbrev pub IsMoveFault : Cluster → List Session → Bytes → ℕ → WorkloadCause → Type 0
 IsMoveFault cluster before key region told =
     Needs (¬ (before ≡ [])) cause.NoSession
-    (Needs (IsKey key) cause.Key
+    (Needs (IsMovable cluster.version key) cause.Key
     (Needs (region < cluster.regions) cause.Region
     (Needs (calls_in before < 20000) cause.TooMany NothingMore))) told
 
 -- the fault of a form after some sessions
 abbrev pub IsFormFault : Cluster → List Session → Form → WorkloadCause → Type 0
 IsFormFault cluster before (session_line name region) told = IsSessionFault cluster before name region told
-IsFormFault cluster before (call_line name args) told = IsCallFault cluster before name args told
-IsFormFault cluster before (move_line key region) told = IsMoveFault cluster before key region told
+IsFormFault cluster before (call_line rank name args) told = IsCallFault cluster before name args told
+IsFormFault cluster before (move_line rank key region) told = IsMoveFault cluster before key region told
 
 -- the fault of a line after some sessions: it has no form, or its form has this fault
 abbrev pub IsLineFault : Cluster → List Session → Bytes → WorkloadCause → Type 0

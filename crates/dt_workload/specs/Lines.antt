@@ -1,7 +1,7 @@
--- The forms that a line of a workload file can have: `session NAME at REGION`, `call PROC ARG ..`, `move KEY to REGION`. A line
--- has a form where its words are those of the form; a number and a text have one spelling each, so a line has one form at
--- most. Next: `File`, what lines make together.
-use Rattle.std.specs.Prelude.{◌≡◌, ℕ, ◌<◌, ◌^◌, List, [], ◌∷◌, map, codes, FitsSigned}
+-- The forms that a line of a workload file can have: `session NAME at REGION`, `call PROC ARG ..`, `move KEY to REGION`. The first
+-- word of a call or a move tells its rank, as `call/2`; `call` alone is of rank 5, and so is `call/5`. So the words of a form are
+-- a relation: a form may be spelled in two ways, but a line has one form at most. Next: `File`, what lines make together.
+use Rattle.std.specs.Prelude.{◌≡◌, ◌⊎◌, ℕ, ◌<◌, ◌^◌, List, [], ◌∷◌, ◌++◌, map, codes, FitsSigned}
 use Rattle.std.specs.Int.{w64}
 use Rattle.std.specs.List.{slice_range}
 use Rattle.std.specs.Fmt.{decimal, signed_decimal}
@@ -23,34 +23,48 @@ abbrev pub said : Bytes → Word → Said
 said line (word.Bare from to) = bare (slice_range line from to)
 said line (word.Text text) = quoted text
 
--- a line by its form: `session NAME at REGION`, `call PROC ARG ..` or `move KEY to REGION`
+-- a line by its form: `session NAME at REGION`, `call PROC ARG ..` or `move KEY to REGION`, the last two with a rank
 pub data Form : Type 0 where
   session_line : Bytes → ℕ → Form
-  call_line : Bytes → List Value → Form
-  move_line : Bytes → ℕ → Form
+  call_line : ℕ → Bytes → List Value → Form
+  move_line : ℕ → Bytes → ℕ → Form
 
 -- how an argument is written: a number as a bare word, a text as a text word
 abbrev pub argument_word : Value → Said
 argument_word (Int z) = bare (signed_decimal z)
 argument_word (Text t) = quoted t
 
--- the words of a form
-abbrev pub form_words : Form → List Said
-form_words (session_line name region) = bare (codes "session") ∷ bare name ∷ bare (codes "at") ∷ bare (decimal region) ∷ []
-form_words (call_line proc args) = bare (codes "call") ∷ bare proc ∷ map argument_word args
-form_words (move_line key region) = bare (codes "move") ∷ bare key ∷ bare (codes "to") ∷ bare (decimal region) ∷ []
+-- the word that begins a line of this rank: the word for its kind, which stands for rank 5, or that word, a `/` and the rank
+abbrev pub IsRanked : Bytes → ℕ → Said → Type 0
+IsRanked kind rank head = ((rank ≡ 5) × (head ≡ bare kind)) ⊎ (head ≡ bare (kind ++ 47 ∷ decimal rank))
+
+-- the word that begins a form
+abbrev pub IsFirstWord : Form → Said → Type 0
+IsFirstWord (session_line name region) head = head ≡ bare (codes "session")
+IsFirstWord (call_line rank proc args) head = IsRanked (codes "call") rank head
+IsFirstWord (move_line rank key region) head = IsRanked (codes "move") rank head
+
+-- the words after it
+abbrev pub other_words : Form → List Said
+other_words (session_line name region) = bare name ∷ bare (codes "at") ∷ bare (decimal region) ∷ []
+other_words (call_line rank proc args) = bare proc ∷ map argument_word args
+other_words (move_line rank key region) = bare key ∷ bare (codes "to") ∷ bare (decimal region) ∷ []
+
+-- words spell the form
+abbrev pub SpellForm : Form → List Said → Type 0
+SpellForm form words = (head : Said) × IsFirstWord form head × (words ≡ head ∷ other_words form)
 
 -- an argument can be written: a number of 64 bits with a sign, or a text
 abbrev pub IsArgument : Value → Type 0
 IsArgument (Int z) = FitsSigned w64 z
 IsArgument (Text t) = IsStr t
 
--- a form that can be written: its number of a region has 32 bits, and its arguments are such
+-- a form that can be written: its number of a region has 32 bits, its rank is one digit, and its arguments are such
 abbrev pub IsForm : Form → Type 0
 IsForm (session_line name region) = region < 2 ^ 32
-IsForm (call_line proc args) = AllIn IsArgument args
-IsForm (move_line key region) = region < 2 ^ 32
+IsForm (call_line rank proc args) = (rank < 10) × AllIn IsArgument args
+IsForm (move_line rank key region) = (rank < 10) × (region < 2 ^ 32)
 
--- a line has the form: it is made of words which say those of the form
+-- a line has the form: it is made of words that spell it
 abbrev pub HasForm : Bytes → Form → Type 0
-HasForm line form = IsForm form × ((words : List Word) × AreWords line words × (map (said line) words ≡ form_words form))
+HasForm line form = IsForm form × ((words : List Word) × AreWords line words × SpellForm form (map (said line) words))

@@ -4,13 +4,13 @@ use Rattle.std.specs.Prelude.{◌≡◌, ◌≢◌, ℕ, ◌<◌, ◌≤◌, ◌
 use Rattle.std.specs.Fmt.{decimal}
 use Rattle.dt_workload.specs.Lines as lines
 use Rattle.dt_text.specs.Texts.{Bytes}
-use Rattle.dt_workload.specs.Lines.{Said, bare, form_words, IsForm, HasForm}
+use Rattle.dt_workload.specs.Lines.{Said, bare, SpellForm, IsRanked, IsForm, HasForm}
 use Rattle.dt_workload.specs.File.{proc_name, Needs, NothingMore, FitsIf, GivesKeys}
-use Rattle.dt_workload.specs.Valid.{session_names, session_count_at, calls_in}
+use Rattle.dt_workload.specs.Valid.{IsMovable, session_names, session_count_at, calls_in}
 use Rattle.dt_proc.specs.Tree.{ProcTree}
 use Rattle.dt_text.specs.declared.Value.{Value}
 use Rattle.dt_lists.specs.Lists.{Has}
-use Rattle.dt_text.specs.Texts.{IsKey, IsName}
+use Rattle.dt_text.specs.Texts.{IsName}
 use Rattle.dt_eval.specs.Calls.{CallFits}
 use Rattle.dt_eval.specs.Meaning.{HasKeys}
 use Rattle.dt_cluster.specs.declared.Cluster.{Cluster}
@@ -21,20 +21,25 @@ use Rattle.dt_workload.specs.declared.error.WorkloadCause.{WorkloadCause}
 use Rattle.dt_workload.specs.declared.error.WorkloadCause.TheVariants as cause
 use Rattle.dt_workload.specs.declared.error.Refusal.{Refusal}
 use Rattle.dt_workload.specs.declared.error.Refusal.TheVariants.{Cause, NoMemory}
-use Rattle.dt_workload.specs.declared.workload.Wanted.{Wanted}
+use Rattle.dt_workload.specs.declared.workload.Ranked.{Ranked}
 use Rattle.dt_workload.specs.declared.workload.Wanted.TheVariants.{Call, Move}
 use Rattle.dt_workload.specs.declared.workload.Session.{Session}
 
 -- the form that is read
 abbrev pub form_of : Form → lines.Form
 form_of (said_form.Session name region) = lines.session_line name.now region
-form_of (said_form.Call name args) = lines.call_line name.now args
-form_of (said_form.Move key region) = lines.move_line key.now region
+form_of (said_form.Call rank name args) = lines.call_line rank name.now args
+form_of (said_form.Move rank key region) = lines.move_line rank key.now region
 
 -- the answer is the form that these words say, and none where they say none
 abbrev pub ReadsForm : List Said → Option Form → Type 0
 ReadsForm words answer =
-    MatchOption answer ((f : lines.Form) → IsForm f → words ≢ form_words f) (λ f. IsForm (form_of f) × (words ≡ form_words (form_of f)))
+    MatchOption answer ((f : lines.Form) → IsForm f → ¬ SpellForm f words) (λ f. IsForm (form_of f) × SpellForm (form_of f) words)
+
+-- the answer is the rank that a word says as the first one of a line of this kind, and none where it says none
+abbrev pub ReadsRank : Bytes → Bytes → Option ℕ → Type 0
+ReadsRank kind word answer =
+    MatchOption answer ((rank : ℕ) → rank < 10 → ¬ IsRanked kind rank (bare word)) (λ rank. (rank < 10) × IsRanked kind rank (bare word))
 
 -- the answer is the number of a region that these words say after a fixed one, and none where they say none
 abbrev pub ReadsRegion : Bytes → List Said → Option ℕ → Type 0
@@ -48,11 +53,11 @@ Refuses IsCause (Cause why) = IsCause why
 Refuses IsCause NoMemory = Unit {0}
 
 -- the session with one more call or move
-abbrev pub wanting : Session → Wanted → Session
+abbrev pub wanting : Session → Ranked → Session
 wanting session wanted = record { name = session.name; region = session.region; calls = session.calls ++ wanted ∷ [] }
 
 -- the sessions after are those before, the last of which wants one thing more
-abbrev pub IsWithWanted : List Session → Wanted → List Session → Type 0
+abbrev pub IsWithWanted : List Session → Ranked → List Session → Type 0
 IsWithWanted before wanted after =
     (others : List Session) × (last : Session) × (before ≡ others ++ last ∷ []) × (after ≡ others ++ wanting last wanted ∷ [])
 
@@ -72,11 +77,11 @@ abbrev pub FormGoesOn : Cluster → List Session → lines.Form → List Session
 FormGoesOn cluster before (lines.session_line name region) after =
     IsName name × ¬ (Has (session_names before) name) × (region < cluster.regions) × (session_count_at region before < 64)
     × (after ≡ before ++ record { name = name; region = region; calls = [] } ∷ [])
-FormGoesOn cluster before (lines.call_line name args) after =
+FormGoesOn cluster before (lines.call_line rank name args) after =
     (number : ℕ) × (proc_name (slice_get cluster.procs number) ≡ name) × CallFits cluster.procs number args
-    × (calls_in before < 20000) × IsWithWanted before (Call number args) after
-FormGoesOn cluster before (lines.move_line key target) after =
-    IsKey key × (target < cluster.regions) × (calls_in before < 20000) × IsWithWanted before (Move key target) after
+    × (calls_in before < 20000) × (rank < 10) × IsWithWanted before (record { rank = rank; wanted = Call number args }) after
+FormGoesOn cluster before (lines.move_line rank key target) after =
+    IsMovable cluster.version key × (target < cluster.regions) × (calls_in before < 20000) × (rank < 10) × IsWithWanted before (record { rank = rank; wanted = Move key target }) after
 
 -- a line goes on some sessions: by its form
 abbrev pub LineGoesOn : Cluster → List Session → Bytes → List Session → Type 0

@@ -1,7 +1,7 @@
 -- Which workloads a cluster can be given: what each call and each move needs, what a session needs, and the limits on their
 -- number. A workload file is one exactly where its lines say such a workload (`File`); whoever takes a workload may rely
 -- on all of this.
-use Rattle.std.specs.Prelude.{◌<◌, ◌≤◌, ◌==◌, ℕ, List, map, length, count_by}
+use Rattle.std.specs.Prelude.{◌≡◌, ◌<◌, ◌≤◌, ◌==◌, ℕ, List, map, length, count_by}
 use Rattle.std.specs.List.{sum_by}
 use Rattle.dt_lists.specs.Lists.{AllIn, Distinct}
 use Rattle.dt_text.specs.Texts.{IsKey, IsName}
@@ -11,19 +11,29 @@ use Rattle.dt_cluster.specs.declared.Cluster.{Cluster}
 use Rattle.dt_text.specs.Texts.{Bytes}
 use Rattle.dt_workload.specs.declared.workload.Wanted.{Wanted}
 use Rattle.dt_workload.specs.declared.workload.Wanted.TheVariants.{Call, Move}
+use Rattle.dt_access.specs.Granules.{unit_of}
+use Rattle.dt_workload.specs.declared.workload.Ranked.{Ranked}
 use Rattle.dt_workload.specs.declared.workload.Session.{Session}
 use Rattle.dt_workload.specs.declared.workload.Workload.{Workload}
 
--- a call names a procedure, which its arguments fit and by which they name keys; a move is of a key, to a region
-abbrev pub WantedFits : List ProcTree → ℕ → Wanted → Type 0
-WantedFits procs regions (Call proc args) = CallFits procs proc args
-WantedFits procs regions (Move key target) = IsKey key × (target < regions)
+-- a key that can be moved in a cluster of this version: in version 2 it is a granule
+abbrev pub IsMovable : ℕ → Bytes → Type 0
+IsMovable version key = IsKey key × (unit_of version key ≡ key)
+
+-- a call names a procedure, which its arguments fit and by which they name keys; a move is of a key that can be moved, to a region
+abbrev pub WantedFits : Cluster → Wanted → Type 0
+WantedFits cluster (Call proc args) = CallFits cluster.procs proc args
+WantedFits cluster (Move key target) = IsMovable cluster.version key × (target < cluster.regions)
+
+-- a call or a move with its rank, which is one digit
+abbrev pub RankedFits : Cluster → Ranked → Type 0
+RankedFits cluster ranked = (ranked.rank < 10) × WantedFits cluster ranked.wanted
 
 -- the session has a name and is at a region, and all that it wants fits
-pub record IsValidSession (procs : List ProcTree) (regions : ℕ) (session : Session) : Type 0 where
+pub record IsValidSession (cluster : Cluster) (session : Session) : Type 0 where
   pub name : IsName session.name
-  pub region : session.region < regions
-  pub calls : AllIn (WantedFits procs regions) session.calls
+  pub region : session.region < cluster.regions
+  pub calls : AllIn (RankedFits cluster) session.calls
 
 -- the names of sessions, in their order
 abbrev pub session_names : List Session → List Bytes
@@ -41,6 +51,6 @@ calls_in sessions = sum_by (λ s. length s.calls) sessions
 -- sessions at each region and at most 20,000 calls and moves
 pub record IsValidWorkload (cluster : Cluster) (workload : Workload) : Type 0 where
   pub names_once : Distinct (session_names workload.sessions)
-  pub sessions : AllIn (IsValidSession cluster.procs cluster.regions) workload.sessions
+  pub sessions : AllIn (IsValidSession cluster) workload.sessions
   pub few_sessions : (region : ℕ) → session_count_at region workload.sessions ≤ 64
   pub few_calls : calls_in workload.sessions ≤ 20000

@@ -1,6 +1,6 @@
 ghost use Rattle.std.specs.Prelude.{◌≡◌, IfOk};
 
-use crate::workload::{Session, Wanted, Workload};
+use crate::workload::{Ranked, Session, Wanted, Workload};
 use dt_access::TryCopy;
 use dt_text::NoMemory;
 use std::alloc::Global;
@@ -17,9 +17,21 @@ impl Wanted {
     }
 }
 
-impl TryCopy for Wanted {
+impl Ranked {
+    /// An equal call or move of the same rank.
+    pub fn copy(&self, alloc: Global) -> Result<Self, NoMemory>
+        ensures { IfOk result (λ copied. copied ≡ self.now) }
+    {
+        Ok(Ranked {
+            rank: self.rank,
+            wanted: self.wanted.copy(alloc)?,
+        })
+    }
+}
+
+impl TryCopy for Ranked {
     fn copy(&self, alloc: Global) -> Result<Self, NoMemory> {
-        Wanted::copy(self, alloc)
+        Ranked::copy(self, alloc)
     }
 }
 

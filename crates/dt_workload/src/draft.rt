@@ -3,6 +3,7 @@ ghost use Rattle.dt_lists.specs.Lists.{Has};
 ghost use Rattle.dt_text.specs.Texts.{IsName};
 ghost use Rattle.dt_eval.specs.Calls.{CallFits};
 ghost use Rattle.dt_eval.specs.Meaning.{Fits, HasKeys};
+ghost use Rattle.dt_access.specs.Granules.{unit_of};
 ghost use Rattle.dt_cluster.specs.Valid.{IsValidCluster};
 ghost use Rattle.dt_workload.specs.File.{IsCallFault, IsLineFault, IsMoveFault, IsSessionFault, proc_name, proc_named};
 ghost use Rattle.dt_workload.specs.Valid.{calls_in, session_names, session_count_at};
@@ -12,7 +13,8 @@ ghost use Rattle.dt_workload.specs.declared.error.WorkloadCause.TheVariants as c
 
 use crate::error::{Refusal, WorkloadCause};
 use crate::form::{Form, read_form};
-use crate::workload::{Bodies, Session, SessionList, Wanted, Workload};
+use crate::workload::{Bodies, Ranked, Session, SessionList, Wanted, Workload};
+use dt_access::is_granule;
 use dt_cluster::Cluster;
 use dt_eval::{Args, KeysError, fits, keys_of};
 use dt_proc::Proc;
@@ -61,8 +63,10 @@ impl Draft {
     {
         match read_form(alloc, line)? {
             Some(Form::Session(word, region)) => self.begin(alloc, cluster, word, region),
-            Some(Form::Call(word, args)) => self.call(alloc, cluster, word, args),
-            Some(Form::Move(word, region)) => self.move_key(alloc, cluster, word, region),
+            Some(Form::Call(rank, word, args)) => self.call(alloc, cluster, rank, word, args),
+            Some(Form::Move(rank, word, region)) => self.move_key(
+                alloc, cluster, rank, word, region,
+            ),
             None => Err(Refusal::Cause(WorkloadCause::Form)),
         }
     }
@@ -97,12 +101,14 @@ impl Draft {
         &mut self,
         alloc: Global,
         cluster: &Cluster,
+        rank: u8,
         word: &[u8],
         args: Args,
     ) -> Result<(), Refusal>
+        requires rank { rank < 10 }
         requires valid { IsValidCluster cluster.now }
         requires counted { HasCount self.old }
-        ensures ok { OnOk result (FormGoesOn cluster.now self.old.sessions.items (lines.call_line word.now args) self.new.sessions.items) }
+        ensures ok { OnOk result (FormGoesOn cluster.now self.old.sessions.items (lines.call_line rank word.now args) self.new.sessions.items) }
         ensures counted { OnOk result (HasCount self.new) }
         ensures fault { IfErr result (Refuses (IsCallFault cluster.now self.old.sessions.items word.now args)) }
     {
@@ -110,7 +116,7 @@ impl Draft {
             return Err(Refusal::Cause(WorkloadCause::NoSession));
         }
         let number = call_number(alloc, cluster, word, &args)?;
-        self.want(Wanted::Call(number, args))
+        self.want(rank, Wanted::Call(number, args))
     }
 
     /// Adds a move to the last session.
@@ -118,11 +124,13 @@ impl Draft {
         &mut self,
         alloc: Global,
         cluster: &Cluster,
+        rank: u8,
         word: &[u8],
         region: u32,
     ) -> Result<(), Refusal>
+        requires rank { rank < 10 }
         requires counted { HasCount self.old }
-        ensures ok { OnOk result (FormGoesOn cluster.now self.old.sessions.items (lines.move_line word.now region) self.new.sessions.items) }
+        ensures ok { OnOk result (FormGoesOn cluster.now self.old.sessions.items (lines.move_line rank word.now region) self.new.sessions.items) }
         ensures counted { OnOk result (HasCount self.new) }
         ensures fault { IfErr result (Refuses (IsMoveFault cluster.now self.old.sessions.items word.now region)) }
     {
@@ -132,18 +140,21 @@ impl Draft {
         if !Key::is_key(word) {
             return Err(Refusal::Cause(WorkloadCause::Key));
         }
+        let key = Key::new(alloc, word)?;
+        if !is_movable(cluster.version, &key) {
+            return Err(Refusal::Cause(WorkloadCause::Key));
+        }
         if region >= u32::from(cluster.regions) {
             return Err(Refusal::Cause(WorkloadCause::Region));
         }
-        let key = Key::new(alloc, word)?;
-        self.want(Wanted::Move(key, region as u8))
+        self.want(rank, Wanted::Move(key, region as u8))
     }
 
     /// The last session wants one thing more.
-    fn want(&mut self, wanted: Wanted) -> Result<(), Refusal>
+    fn want(&mut self, rank: u8, wanted: Wanted) -> Result<(), Refusal>
         requires some { ¬ (self.old.sessions.items ≡ []) }
         requires counted { HasCount self.old }
-        ensures ok { OnOk result (IsWithWanted self.old.sessions.items wanted self.new.sessions.items × (calls_in self.old.sessions.items < 20000)) }
+        ensures ok { OnOk result (IsWithWanted self.old.sessions.items (record { rank = rank; wanted = wanted }) self.new.sessions.items × (calls_in self.old.sessions.items < 20000)) }
         ensures counted { OnOk result (HasCount self.new) }
         ensures fault { IfErr result (Refuses (λ why. (why ≡ cause.TooMany) × ¬ (calls_in self.old.sessions.items < 20000))) }
     {
@@ -153,7 +164,7 @@ impl Draft {
         let Some(mut session) = self.sessions.pop() else {
             unreachable!();
         };
-        session.calls.push(wanted)?;
+        session.calls.push(Ranked { rank, wanted })?;
         self.sessions.push(session)?;
         self.made += 1;
         Ok(())
@@ -168,6 +179,13 @@ impl Draft {
             sessions: SessionList::from_vec(sessions),
         }
     }
+}
+
+/// Whether a key can be moved: in version 2 it is a granule.
+fn is_movable(version: u8, key: &Key) -> bool
+    ensures { IsTrue result ↔ (unit_of version key.now ≡ key.now) }
+{
+    version != 2 || is_granule(key)
 }
 
 /// The name of a session.

@@ -1,11 +1,11 @@
-ghost use Rattle.std.specs.Prelude.{◌≡◌, ◌≢◌, ◌<◌, ◌≤◌, ◌^◌, ◌∷◌, [], List, length, map, codes, IfOk, MatchOption, All};
+ghost use Rattle.std.specs.Prelude.{◌≡◌, ◌≢◌, ◌<◌, ◌≤◌, ◌^◌, ◌∷◌, ◌++◌, [], List, length, map, codes, IfOk, MatchOption, All};
 ghost use Rattle.std.specs.Fmt.{decimal};
 ghost use Rattle.dt_lists.specs.Lists.{AllIn};
 ghost use Rattle.dt_text.specs.Reading.{IsWordIn};
-ghost use Rattle.dt_workload.specs.Lines.{HasForm, IsArgument, argument_word, bare, said};
+ghost use Rattle.dt_workload.specs.Lines.{HasForm, IsArgument, IsRanked, argument_word, bare, said};
 ghost use Rattle.dt_text.specs.Texts.{Bytes};
 ghost use Rattle.dt_workload.specs.Lines as lines;
-ghost use Rattle.dt_workload.specs.ReaderParts.{form_of, ReadsForm, ReadsRegion};
+ghost use Rattle.dt_workload.specs.ReaderParts.{form_of, ReadsForm, ReadsRank, ReadsRegion};
 ghost use Rattle.dt_text.specs.declared.Value.{Value as AnyValue};
 
 use dt_eval::Args;
@@ -17,10 +17,10 @@ use std::alloc::Global;
 pub(crate) enum Form<'a> {
     /// A session of this name, at a region.
     Session(&'a [u8], u32),
-    /// A call of the procedure of this name, with its arguments.
-    Call(&'a [u8], Args),
-    /// A move of a key to a region.
-    Move(&'a [u8], u32),
+    /// A call of this rank, of the procedure of this name, with its arguments.
+    Call(u8, &'a [u8], Args),
+    /// A move of this rank, of a key to a region.
+    Move(u8, &'a [u8], u32),
 }
 
 /// Reads what a line says; `None` exactly where it has none of the forms.
@@ -66,18 +66,89 @@ fn form_of_kind<'a>(
     rest: &[Word],
 ) -> Result<Option<Form<'a>>, NoMemory>
     requires short { length line.now < 2 ^ 32 }
+    requires small { length kind.now < 2 ^ 32 }
     requires inside { All (IsWordIn line.now) rest.now }
     ensures { IfOk result (ReadsForm (bare kind.now ∷ bare subject.now ∷ map (said line.now) rest.now)) }
 {
     if kind == b"session".as_slice() {
-        Ok(region_after(line, b"at", rest).map(|region| Form::Session(subject, region)))
-    } else if kind == b"call".as_slice() {
-        Ok(arguments(alloc, line, rest)?.map(|args| Form::Call(subject, args)))
-    } else if kind == b"move".as_slice() {
-        Ok(region_after(line, b"to", rest).map(|region| Form::Move(subject, region)))
-    } else {
-        Ok(None)
+        return Ok(session_form(line, subject, rest));
     }
+    if let Some(rank) = rank_after(kind, b"call") {
+        return call_form(alloc, line, rank, subject, rest);
+    }
+    if let Some(rank) = rank_after(kind, b"move") {
+        return Ok(move_form(line, rank, subject, rest));
+    }
+    Ok(None)
+}
+
+/// The form of a line of a session.
+fn session_form<'a>(line: &[u8], subject: &'a [u8], rest: &[Word]) -> Option<Form<'a>>
+    requires short { length line.now < 2 ^ 32 }
+    requires inside { All (IsWordIn line.now) rest.now }
+    ensures { ReadsForm (bare (codes "session") ∷ bare subject.now ∷ map (said line.now) rest.now) result }
+{
+    let Some(region) = region_after(line, b"at", rest) else {
+        return None;
+    };
+    Some(Form::Session(subject, region))
+}
+
+/// The form of a line of a call of this rank.
+fn call_form<'a>(
+    alloc: Global,
+    line: &[u8],
+    rank: u8,
+    subject: &'a [u8],
+    rest: &[Word],
+) -> Result<Option<Form<'a>>, NoMemory>
+    requires short { length line.now < 2 ^ 32 }
+    requires rank { rank < 10 }
+    requires inside { All (IsWordIn line.now) rest.now }
+    ensures { (word : Bytes) → IsRanked (codes "call") rank (bare word)
+        → IfOk result (ReadsForm (bare word ∷ bare subject.now ∷ map (said line.now) rest.now)) }
+{
+    let Some(args) = arguments(alloc, line, rest)? else {
+        return Ok(None);
+    };
+    Ok(Some(Form::Call(rank, subject, args)))
+}
+
+/// The form of a line of a move of this rank.
+fn move_form<'a>(line: &[u8], rank: u8, subject: &'a [u8], rest: &[Word]) -> Option<Form<'a>>
+    requires short { length line.now < 2 ^ 32 }
+    requires rank { rank < 10 }
+    requires inside { All (IsWordIn line.now) rest.now }
+    ensures { (word : Bytes) → IsRanked (codes "move") rank (bare word)
+        → ReadsForm (bare word ∷ bare subject.now ∷ map (said line.now) rest.now) result }
+{
+    let Some(region) = region_after(line, b"to", rest) else {
+        return None;
+    };
+    Some(Form::Move(rank, subject, region))
+}
+
+/// The rank that a word says which begins a line of this kind: that of the digit after a `/`, or 5 where it is the kind alone.
+fn rank_after(word: &[u8], kind: &[u8]) -> Option<u8>
+    requires short { length word.now < 2 ^ 32 }
+    ensures { ReadsRank kind.now word.now result }
+{
+    if word == kind {
+        return Some(5);
+    }
+    let rank = read_u32(after_slash(word, kind)?)?;
+    if rank < 10 { Some(rank as u8) } else { None }
+}
+
+/// What follows the kind and a `/` in a word, if it begins so.
+fn after_slash<'a>(word: &'a [u8], kind: &[u8]) -> Option<&'a [u8]>
+    ensures { MatchOption result ((rest : Bytes) → word.now ≢ kind.now ++ 47 ∷ rest) (λ rest. word.now ≡ kind.now ++ 47 ∷ rest.now) }
+{
+    let size = kind.len();
+    if word.len() <= size || &word[..size] != kind || word[size] != b'/' {
+        return None;
+    }
+    Some(&word[size + 1..])
 }
 
 /// The bytes of a word, if it is bare.

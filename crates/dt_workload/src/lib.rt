@@ -14,4 +14,4 @@ pub use laws::{
     files_are_one_workload, files_have_an_outcome, files_have_one_fault, workloads_have_no_fault,
 };
 pub use reader::read_workload;
-pub use workload::{Bodies, Session, SessionList, Wanted, Workload};
+pub use workload::{Bodies, Ranked, Session, SessionList, Wanted, Workload};

@@ -16,7 +16,7 @@ use std::alloc::Global;
 /// Reads a workload file for a cluster.
 ///
 /// Its lines are `session NAME at REGION`, and `call PROC ARG ..` and `move KEY to REGION`, which belong to the session before
-/// them; blank lines and those that begin with `#` are skipped. The answer is the workload, or the first faulty line with its
+/// them, and whose first word may end with `/` and a digit, their rank, which else is 5; blank lines and those that begin with `#` are skipped. The answer is the workload, or the first faulty line with its
 /// cause. Within a line the causes are tried in this order: `Form`; for a session `Name`, `Twice`, `Region`, `TooMany`; for a
 /// call `NoSession`, `Proc`, `Args`, `Key`, `TooMany`; for a move `NoSession`, `Key`, `Region`, `TooMany`.
 /// That a file is too long is told by who loads it.

@@ -6,12 +6,20 @@ use dt_text::{Key, Listed, Name};
 pub enum Wanted {
     /// A call of the procedure of this number.
     Call(u32, Args),
-    /// A move of a key to a home.
+    /// A move of a key, in version 2 of a granule, to a home.
     Move(Key, u8),
 }
 
+/// A call or a move with its rank: in a deadlocked group a lower rank runs first.
+#[derive(Drop)]
+pub struct Ranked {
+    /// 0 to 9.
+    pub rank: u8,
+    pub wanted: Wanted,
+}
+
 /// The calls and moves of a session, in order.
-pub type Bodies = Listed<Wanted>;
+pub type Bodies = Listed<Ranked>;
 
 /// A session: its calls and moves are made one after another at its region.
 #[derive(Drop)]

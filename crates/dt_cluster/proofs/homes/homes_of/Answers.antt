@@ -9,7 +9,7 @@ use Rattle.dt_cluster.proofs.homes.homes_of.Goals as goal
 pub returns-in_err-home-clause-fault : goal.returns-in_err-home-clause-fault
 returns-in_err-home-clause-fault c =
     err_passed _ c.from_residual-in_err-home.result c.in_err-home.field-0.0 c.from_residual-in_err-home.ensures.1
-    (tells_more _ (IsBadHomeOf _ c.args.regions) (λ f is. (
+    (tells_more _ (IsBadHomeOf _ c.args.version c.args.regions) (λ f is. (
       c.as_str.result.now,
       is.0,
       is.1,
@@ -24,10 +24,10 @@ returns-in_err-home-clause-fault c =
 pub loop-name-preserved : goal.loop-name-preserved
 loop-name-preserved c =
     let ok = c.in_ok-home.ensures.ok in
-    let home : IsHome c.args.regions (string_bytes c.in-Some.name.now, view c.in-Some.value.now) c.in_ok-home.field-0 = (ok.0 ∙ c.as_str.ensures.value, ok.1, ok.2, ok.3) in (
+    let home : IsHome c.args.version c.args.regions (string_bytes c.in-Some.name.now, view c.in-Some.value.now) c.in_ok-home.field-0 = (ok.0 ∙ c.as_str.ensures.value, ok.1, ok.2, ok.3) in (
       tt,
       tt,
-      (λ rest p. rw c.in_ok-push.ensures.items (subst (λ hs. Pairwise (IsHome c.args.regions) (listed c.args.table.now.entries) hs) (sym (one_more c.loop-name.homes.items c.in_ok-home.field-0 rest))
+      (λ rest p. rw c.in_ok-push.ensures.items (subst (λ hs. Pairwise (IsHome c.args.version c.args.regions) (listed c.args.table.now.entries) hs) (sym (one_more c.loop-name.homes.items c.in_ok-home.field-0 rest))
           (c.loop-name.invariant.2 (c.in_ok-home.field-0 ∷ rest) (rw c.in-Some.ensures.steps (home, p))))),
       λ name why h. c.loop-name.invariant.3 name why (rw c.in-Some.ensures.steps (inr ((c.in_ok-home.field-0, home), h))),
     )
@@ -36,5 +36,5 @@ pub returns-clause-ok : goal.returns-clause-ok
 returns-clause-ok c = (
   listed c.args.table.now.entries,
   listed_are c.args.table.now.entries c.iter-name-items.ensures.ordered,
-  rw c.from_vec.ensures (subst (λ hs. Pairwise (IsHome c.args.regions) (listed c.args.table.now.entries) hs) (nothing_more c.loop-name.homes.items) (c.loop-name.invariant.2 [] (rw c.in-None.ensures.steps.0 tt))),
+  rw c.from_vec.ensures (subst (λ hs. Pairwise (IsHome c.args.version c.args.regions) (listed c.args.table.now.entries) hs) (nothing_more c.loop-name.homes.items) (c.loop-name.invariant.2 [] (rw c.in-None.ensures.steps.0 tt))),
 )

@@ -11,7 +11,7 @@ use Rattle.dt_cluster.proofs.homes.homes_of.Given as goal
 abbrev pub invariant-loop-name : goal.invariant-loop-name
 invariant-loop-name l =
     (goal.iterator-loop-name).can_next l.name-iterator × (goal.iterator-loop-name).is_finite l.name-iterator
-    × ((rest : List (Bytes × ℕ)) → Pairwise (IsHome l.regions) (listed l.name-iterator) rest
-    → Pairwise (IsHome l.regions) (listed l.table.entries) (l.homes.items ++ rest))
-    × ((name : Bytes) (why : ClusterCause) → IsFirstFaulty (λ e. e.0) (λ e. (h : Bytes × ℕ) × IsHome l.regions e h) (IsBadHome l.regions) (listed l.name-iterator) name why
-    → IsFirstFaulty (λ e. e.0) (λ e. (h : Bytes × ℕ) × IsHome l.regions e h) (IsBadHome l.regions) (listed l.table.entries) name why)
+    × ((rest : List (Bytes × ℕ)) → Pairwise (IsHome l.version l.regions) (listed l.name-iterator) rest
+    → Pairwise (IsHome l.version l.regions) (listed l.table.entries) (l.homes.items ++ rest))
+    × ((name : Bytes) (why : ClusterCause) → IsFirstFaulty (λ e. e.0) (λ e. (h : Bytes × ℕ) × IsHome l.version l.regions e h) (IsBadHome l.version l.regions) (listed l.name-iterator) name why
+    → IsFirstFaulty (λ e. e.0) (λ e. (h : Bytes × ℕ) × IsHome l.version l.regions e h) (IsBadHome l.version l.regions) (listed l.table.entries) name why)

@@ -10,7 +10,7 @@ pub returns-in_err-procs-clause-fault : goal.returns-in_err-procs-clause-fault
 returns-in_err-procs-clause-fault c =
     let n = c.in_ok-numbers.numbers in
     err_passed _ c.from_residual-in_err-procs.result c.in_err-procs.field-0.0 c.from_residual-in_err-procs.ensures.1
-    (tells_more _ (IsFaultOf _) (λ f is. inr (c.in_ok-only_known.ensures.ok, inr (n.regions, n.workers, n.tries, n.drop, n.repeat, c.in_ok-numbers.ensures.ok, inl is)))
+    (tells_more _ (IsFaultOf _) (λ f is. inr (c.in_ok-only_known.ensures.ok, inr (n.regions, n.version, n.workers, n.tries, n.drop, n.repeat, c.in_ok-numbers.ensures.ok, inl is)))
     c.in_err-procs.field-0.0 c.in_err-procs.ensures.fault)
 
 pub returns-in_err-homes-clause-fault : goal.returns-in_err-homes-clause-fault
@@ -21,6 +21,7 @@ returns-in_err-homes-clause-fault c =
       c.in_ok-only_known.ensures.ok,
       inr (
         n.regions,
+        n.version,
         n.workers,
         n.tries,
         n.drop,
@@ -39,6 +40,7 @@ returns-in_err-rows-clause-fault c =
       c.in_ok-only_known.ensures.ok,
       inr (
         n.regions,
+        n.version,
         n.workers,
         n.tries,
         n.drop,
@@ -53,5 +55,5 @@ pub returns-clause-valid : goal.returns-clause-valid
 returns-clause-valid c =
     let n = c.in_ok-numbers.numbers in
     given_valid (table_view c.args.top.now)
-    (record { regions = n.regions; workers = n.workers; tries = n.tries; drop = n.drop; repeat = n.repeat; procs = c.in_ok-procs.procs; homes = c.in_ok-homes.homes; rows = c.in_ok-rows.rows })
+    (record { version = n.version; regions = n.regions; workers = n.workers; tries = n.tries; drop = n.drop; repeat = n.repeat; procs = c.in_ok-procs.procs; homes = c.in_ok-homes.homes; rows = c.in_ok-rows.rows })
     c.in_ok-numbers.ensures.ok c.in_ok-procs.ensures.sound c.in_ok-homes.ensures.ok c.in_ok-rows.ensures.ok
