@@ -9,7 +9,7 @@ use Rattle.std.proofs.lemmas.Bool.{cases_Bool}
 use Rattle.std.proofs.lemmas.Option.{same_Some}
 use Rattle.std.proofs.lemmas.List.{map-append}
 use Rattle.dt_lists.specs.Lists.{AnyIn, AllIn, Has, IsFront, Distinct}
-use Rattle.dt_lists.proofs.Callers.{any_get, any_put, any_append, any_append_left, any_append_right, all_get, all_put, has_map, all_append_left, each_across}
+use Rattle.dt_lists.proofs.Callers.{any_get, any_append, any_append_left, all_get, all_put, has_map, all_append_left, each_across}
 use Rattle.dt_lists.proofs.Callers.{has_before, has_middle}
 use Rattle.dt_lists.proofs.Callers.{front_refl, front_trans, any_front}
 use Rattle.dt_access.specs.Ids.{same_id, is_among, StandsBefore}

@@ -70,6 +70,11 @@ pub listed_of_move : (cluster : Cluster) (regions : ℕ) (x : Txn) (key : Bytes)
     → (part_of x home).keys ≡ (key, mode_of_move cluster.version) ∷ []
 listed_of_move cluster regions x key target home valid e = ap (λ b. map used_of (entries_at b home x.access)) e ∙ valid.uses ∙ ap (uses_of cluster.procs cluster.version) e
 
+-- what moves the unit of an entry's key clashes with each list that has the entry
+meets_move : (version : ℕ) (a : Access) (uses : List (Bytes × Mode)) → Has uses (used_of a) → clash (use_of_move version a.key ∷ []) uses ≡ true
+meets_move version a uses h = clash_of_uses (use_of_move version a.key ∷ []) uses
+    (inl (any_put (λ b. uses_clash (use_of_move version a.key) b ≡ true) uses (used_of a) h (moves_clash version (use_of_move version a.key) (used_of a) refl (unit_again version a.key))))
+
 -- an entry's home is one of the homes
 pub home_of_entry : (x : Txn) (a : Access) → Has x.access a → Has (homes_of x) a.home
 home_of_entry x a h = has_set_of (map (λ b. b.home) x.access ++ targets_of x.body) a.home (any_append_left (λ y. y ≡ a.home) (map (λ b. b.home) x.access) (targets_of x.body) (has_map (λ b. b.home) x.access a h))
@@ -138,7 +143,8 @@ module _ {cluster : Cluster} {workload : Workload} {w : World} {order : List Txn
       let same : m ≡ record { target = made.target; by = m.by } = same_Some m (record { target = made.target; by = m.by }) both in
       let target : made.target ≡ m.target = sym (ap (λ x. x.target) same) in
       let found : txn_of w m.by ≡ Some made.mover = subst (λ id. txn_of w id ≡ Some made.mover) made.id from.1 in
-      let valid : IsValid cluster.procs cluster.version cluster.regions made.mover = all_get (IsValid cluster.procs cluster.version cluster.regions) (txns_of w order) (txns_valid cluster cluster.regions w i.valid order) made.mover made.there in
+      let valid : IsValid cluster.procs cluster.version cluster.regions made.mover =
+      all_get (IsValid cluster.procs cluster.version cluster.regions) (txns_of w order) (txns_valid cluster cluster.regions w i.valid order) made.mover made.there in
       (made.mover, found, moves_its_unit cluster made.mover made.moved key made.target valid made.body made.same ∙ ap (Move (unit_of cluster.version key)) target, valid)
 
   -- keys of one unit have the same moves
@@ -187,9 +193,7 @@ module _ {cluster : Cluster} {workload : Workload} {w : World} {order : List Txn
                 let m : (y : Txn) × (txn_of w r.0.by ≡ Some y) × (y.body ≡ Move (unit_of cluster.version a.key) r.0.target) × IsValid cluster.procs cluster.version cluster.regions y = maker_found a.key c r.0 r.1 in
                 let left : p.keys ≡ use_of_move cluster.version a.key ∷ [] = part_keys a.home p m.0 hp (ap (txn_of w) e.0 ∙ m.1) ∙ listed_of_move cluster cluster.regions m.0 (unit_of cluster.version a.key) r.0.target a.home m.3 m.2 in
                 let right : q.keys ≡ (part_of x a.home).keys = part_keys a.home q x hq (ap (txn_of w) e.1 ∙ (in_order x hx).1) in
-                let moved : AnyIn (λ b. uses_clash (use_of_move cluster.version a.key) b ≡ true) (part_of x a.home).keys =
-                any_put (λ b. uses_clash (use_of_move cluster.version a.key) b ≡ true) (part_of x a.home).keys (used_of a) (listed x.body a.home x.access a ha refl) (moves_clash cluster.version (use_of_move cluster.version a.key) (used_of a) refl (unit_again cluster.version a.key)) in
-                (e.0, e.1, subst₂ (λ k l. clash k l ≡ true) (sym left) (sym right) (clash_of_uses (use_of_move cluster.version a.key ∷ []) (part_of x a.home).keys (inl moved)))
+                (e.0, e.1, subst₂ (λ k l. clash k l ≡ true) (sym left) (sym right) (meets_move cluster.version a (part_of x a.home).keys (listed x.body a.home x.access a ha refl)))
 
             edge : Edge (logs_of w) r.0.by x.id
             edge =
