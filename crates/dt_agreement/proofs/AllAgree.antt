@@ -254,9 +254,12 @@ module _ {cluster : Cluster} {workload : Workload} {events : List Event} (run : 
       let f : MadeMove cluster.procs front (opening_table cluster) unit had by = g.1 in
       let whole : MadeMove cluster.procs ran (opening_table cluster) unit had by = g.2 in
       let there : Has (txn_ids front) by = subst (Has (txn_ids front)) f.id (has_map (λ x. x.id) front f.mover f.there) in (
+        txn,
         f.mover,
         f.target,
+        found_one i rooted id front rest txn split own,
         subst (λ x. txn_of (world_after cluster workload events) x ≡ Some f.mover) f.id (found_front i rooted id front rest txn split own f.mover f.there),
+        g.0,
         move_of_front front rest txn split unit f.mover f.moved f.target f.there f.body f.same ∙ ap (λ u. Move u f.target) (unit_of_some txn unit had g.0),
         subst (λ l. StandsBefore l by id) (sym (order_split i rooted id front rest txn split own)) (has_before by id (txn_ids front) (txn_ids rest) there),
         has_lookup (serial_outcomes cluster workload events) by (Gave []) (outcomes_once i rooted) whole.gave,
