@@ -17,7 +17,6 @@ use Rattle.dt_access.specs.Clash.{Bytes}
 use Rattle.dt_access.specs.Granules.{unit_of}
 use Rattle.dt_access.proofs.Callers.{unit_again}
 use Rattle.dt_access.specs.declared.TxnId.{TxnId}
-use Rattle.dt_access.specs.declared.Access.{Access}
 use Rattle.dt_sched.specs.Views.{View, IsClosed, Precedes}
 use Rattle.dt_sched.proofs.Callers.{done_where_closed}
 use Rattle.dt_events.specs.declared.Event.{Event}
@@ -230,8 +229,8 @@ module _ {cluster : Cluster} {workload : Workload} {events : List Event} (run : 
   -- the unit of one of its keys is a unit
   unit_of_some : (txn : Txn) (unit : Bytes) (had : ℕ) → AnyIn (λ a. (unit_of cluster.version a.key ≡ unit) × (a.counter ≡ had)) txn.access → unit_of cluster.version unit ≡ unit
   unit_of_some txn unit had h =
-      let r : (a : Access) × Has txn.access a × (unit_of cluster.version a.key ≡ unit) × (a.counter ≡ had) = any_get (λ a. (unit_of cluster.version a.key ≡ unit) × (a.counter ≡ had)) txn.access h in
-      subst (λ u. unit_of cluster.version u ≡ u) r.2 (unit_again cluster.version r.0.key)
+      let r = any_get (λ a. (unit_of cluster.version a.key ≡ unit) × (a.counter ≡ had)) txn.access h in
+      subst (λ u. unit_of cluster.version u ≡ u) r.2.0 (unit_again cluster.version r.0.key)
 
   -- a mover that ran before moves the unit itself
   move_of_front : (front rest : List Txn) (txn : Txn) → ran ≡ front ++ txn ∷ rest → (unit : Bytes) (mover : Txn) (moved : Bytes) (target : ℕ) → Has front mover → mover.body ≡ Move moved target
