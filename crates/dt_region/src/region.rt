@@ -9,7 +9,7 @@ ghost use Rattle.dt_txn.specs.Replica.{taken_from};
 ghost use Rattle.dt_txn.specs.Transaction.{BodyFits};
 ghost use Rattle.dt_region.specs.Region.{held, outcome_of, sched_of};
 ghost use Rattle.dt_region.specs.Rules.{opening_state, MakesSubmit, MakesAppend, MakesDelivery, MakesStep, MakesAnswer};
-ghost use Rattle.dt_region.specs.Conditions.{IsTableFor, CanAppend, CanDeliver, HoldsValid};
+ghost use Rattle.dt_region.specs.Conditions.{IsTableFor, CanAppend, CanDeliver, CanMove, HoldsValid};
 ghost use Rattle.dt_region.specs.Sound.{IsSoundRegion};
 
 use crate::ascent::are_ascending;
@@ -171,19 +171,21 @@ impl<S: Scheduler> Region<S> {
         self.events.as_slice()
     }
 
-    /// Submits a body for a session: it becomes the transaction of the region's next id, annotated by the region's table,
-    /// and each of its homes is asked for its part. Gives the id, and keeps the event. Whether the session may submit is
+    /// Submits a body of this rank for a session: it becomes the transaction of the region's next id, annotated by the
+    /// region's table, and each of its homes is asked for its part. Gives the id, and keeps the event. Whether the session may submit is
     /// for the caller to know. After `NoMemory` the region is as before.
     pub fn submit(
         &mut self,
         alloc: Global,
         session: &Name,
+        rank: u8,
         body: Body,
         procs: &Procs,
     ) -> Result<TxnId, NoMemory>
-        requires fits { BodyFits procs.now self.old.state.regions body }
+        requires fits { BodyFits procs.now self.old.state.here.table.version self.old.state.regions body }
+        requires rank { rank ≤ 9 }
         requires place { length self.old.state.submitted < 4294967295 }
-        ensures makes { MakesSubmit procs.now self.old session.now body result self.new }
+        ensures makes { MakesSubmit procs.now self.old session.now rank body result self.new }
         ensures sound { IsSoundRegion self.new.state }
     {
         let id = TxnId {
@@ -194,7 +196,7 @@ impl<S: Scheduler> Region<S> {
             region: self.number,
             session: session.copy(alloc)?,
         };
-        let txn = annotate(alloc, id, body, procs, &self.table)?;
+        let txn = annotate(alloc, id, rank, body, procs, &self.table)?;
         let homes = homes(alloc, &txn)?;
         self.events.reserve(1)?;
         self.submitted.reserve(1)?;
@@ -350,9 +352,11 @@ impl<S: Scheduler> Region<S> {
     }
 
     /// Executes a transaction on the region's table, by these procedures, and keeps the event. False exactly where it isn't
-    /// executable here; then nothing changes, and neither does after `NoMemory`.
+    /// executable here; then nothing changes, and neither does after `NoMemory`. If it is a move, its unit was moved fewer
+    /// than 4,294,967,295 times so far.
     pub fn execute(&mut self, alloc: Global, id: TxnId, procs: &Procs) -> Result<bool, NoMemory>
-        requires { HoldsValid procs.now self.old.state }
+        requires holds { HoldsValid procs.now self.old.state }
+        requires place { CanMove self.old.state id }
         ensures makes { MakesStep procs.now self.old (Execute self.old.state.number id) result self.new }
         ensures sound { IsSoundRegion self.new.state }
     {
