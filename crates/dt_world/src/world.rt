@@ -157,10 +157,11 @@ impl<S: Scheduler + Drop> World<S> {
         if region >= self.cluster.regions {
             return Err(StepError::Illegal(1));
         }
-        let Some((origin, body)) = self.next_attempt(alloc, region, name)? else {
+        let Some((origin, (rank, body))) = self.next_attempt(alloc, region, name)? else {
             return Err(StepError::Illegal(1));
         };
-        let id = self.sites[region as usize].submit(alloc, body, &self.cluster.procs, origin)?;
+        let id =
+            self.sites[region as usize].submit(alloc, rank, body, &self.cluster.procs, origin)?;
         let last = last_outcome(
             &self.sessions[region as usize],
             &self.sites[region as usize].region,
@@ -297,13 +298,13 @@ impl<S: Scheduler + Drop> World<S> {
         Ok(())
     }
 
-    /// What a session of a region may submit next, and whose it is. `None` exactly where it may submit nothing.
+    /// What a session of a region may submit next, with its rank, and whose it is. `None` exactly where it may submit nothing.
     fn next_attempt(
         &self,
         alloc: Global,
         region: u8,
         name: &Name,
-    ) -> Result<Option<(Origin, Body)>, NoMemory>
+    ) -> Result<Option<(Origin, (u8, Body))>, NoMemory>
         requires { region < self.now.cluster.regions }
         ensures { IfOk result (IsNextOf self.now region name.now) }
     {
@@ -312,13 +313,13 @@ impl<S: Scheduler + Drop> World<S> {
         let Some((call, attempt)) = sessions.next(name, last) else {
             return Ok(None);
         };
-        let body = sessions.body(alloc, name, call)?;
+        let ranked = sessions.body(alloc, name, call)?;
         let origin = Origin {
             session: name.copy(alloc)?,
             call,
             attempt,
         };
-        Ok(Some((origin, body)))
+        Ok(Some((origin, ranked)))
     }
 
     /// Whether a session of a region may be answered.
@@ -576,6 +577,7 @@ fn first_table(alloc: Global, cluster: &Cluster) -> Result<Table, NoMemory>
 {
     Ok(Table::new(
         alloc,
+        cluster.version,
         cluster.regions,
         cluster.homes.as_slice(),
         cluster.rows.as_slice(),
