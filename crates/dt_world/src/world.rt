@@ -191,7 +191,7 @@ impl<S: Scheduler + Drop> World<S> {
         let txn = txn.copy(alloc)?;
         self.sites[home as usize]
             .region
-            .append(alloc, source, number, &txn)?;
+            .append_owned(alloc, source, number, txn)?;
         self.steps += 1;
         Ok(())
     }
@@ -313,13 +313,13 @@ impl<S: Scheduler + Drop> World<S> {
         let Some((call, attempt)) = sessions.next(name, last) else {
             return Ok(None);
         };
-        let ranked = sessions.body(alloc, name, call)?;
+        let (rank, body) = sessions.body(alloc, name, call)?;
         let origin = Origin {
             session: name.copy(alloc)?,
             call,
             attempt,
         };
-        Ok(Some((origin, ranked)))
+        Ok(Some((origin, (rank, body))))
     }
 
     /// Whether a session of a region may be answered.

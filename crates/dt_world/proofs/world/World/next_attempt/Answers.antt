@@ -49,7 +49,7 @@ returns g c =
     c.last_outcome-last.ensures ∙ (λ j. option_and_then (outcome_of (b.region_is j).state) (waits_of (s_is j) c.args.name.now)) in
     let is : IsNext (sessions_of c.self.inside.sessions.items c.args.region) c.args.name.now last (Some (c.in-Some.call, c.in-Some.attempt)) =
     subst (λ s. IsNext s c.args.name.now last (Some (c.in-Some.call, c.in-Some.attempt))) s_is c.in-Some.ensures in
-    let made : option_map ranked_body (wanted_of (sessions_of c.self.inside.sessions.items c.args.region) c.args.name.now c.in-Some.call) ≡ Some c.in_ok-ranked.ranked =
-    subst (λ s. option_map ranked_body (wanted_of s c.args.name.now c.in-Some.call) ≡ Some c.in_ok-ranked.ranked) s_is c.in_ok-ranked.ensures in
-    subst (λ v. IsNextTry v c.args.region c.args.name.now (record { session = c.in_ok-copy.field-0; call = c.in-Some.call; attempt = c.in-Some.attempt }) c.in_ok-ranked.ranked.0 c.in_ok-ranked.ranked.1) c.self.view_is
-    (next_try c.self.invariant lr c.args.name.now last told c.in-Some.call c.in-Some.attempt is c.in_ok-ranked.ranked.0 c.in_ok-ranked.ranked.1 c.in_ok-copy.field-0 c.in_ok-copy.ensures.same made)
+    let made : option_map ranked_body (wanted_of (sessions_of c.self.inside.sessions.items c.args.region) c.args.name.now c.in-Some.call) ≡ Some (c.in_ok-rank.rank, c.in_ok-rank.body) =
+    subst (λ s. option_map ranked_body (wanted_of s c.args.name.now c.in-Some.call) ≡ Some (c.in_ok-rank.rank, c.in_ok-rank.body)) s_is c.in_ok-rank.ensures in
+    subst (λ v. IsNextTry v c.args.region c.args.name.now (record { session = c.in_ok-copy.field-0; call = c.in-Some.call; attempt = c.in-Some.attempt }) c.in_ok-rank.rank c.in_ok-rank.body) c.self.view_is
+    (next_try c.self.invariant lr c.args.name.now last told c.in-Some.call c.in-Some.attempt is c.in_ok-rank.rank c.in_ok-rank.body c.in_ok-copy.field-0 c.in_ok-copy.ensures.same made)
