@@ -2,6 +2,7 @@
 -- what the site holds is valid for its table, and a place is left for each move that it may execute.
 use Rattle.std.proofs.Common.{◌≡◌, ◌<◌, ◌≤◌, ◌+◌, ◌^◌, ℕ, List, [], ◌∷◌, length, map, Some, None, refl, sym, ap, subst, subst₂, ◌∙◌, arith}
 use Rattle.std.specs.Prelude.{Option, filter_map}
+use Rattle.std.specs.List.{cons_option}
 use Rattle.std.proofs.lemmas.List.{length-map}
 use Rattle.dt_access.specs.Clash.{Bytes}
 use Rattle.dt_access.specs.declared.TxnId.{TxnId}
@@ -45,7 +46,10 @@ few_given : {A B : Type 0} (f : A → Option B) (xs : List A) → length (filter
 few_given f [] = omega arith
 few_given {A} {B} f (x ∷ xs) =
     let later : length (filter_map f xs) ≤ length xs = few_given f xs in
-    elim (f x) as (λ (o : Option B). length (filter_map (λ (u : Option B). u) (o ∷ [])) ≤ 1) [ | None ↦ omega arith | Some y ↦ omega arith ]
+    elim (f x) as (λ (o : Option B). length (cons_option o (filter_map f xs)) ≤ length (x ∷ xs)) [
+      | None ↦ omega (arith, later)
+      | Some y ↦ omega (arith, later)
+    ]
 
 module _ {cluster : Cluster} {workload : Workload} {w : World} (k : IsReached cluster workload w) {region : ℕ} (lr : region < cluster.regions) {p : SiteView} (s : StandsIn cluster.regions w region p) where
   abbrev ran : List Txn

@@ -40,16 +40,16 @@ pub length_is : {sites : List SiteView} {region : ℕ} {r : RegionView} {origins
     → n ≡ length (log_at (site_at sites region).region.state.logs home)
 length_is b home n_is log_is = n_is ∙ ap length (log_is ∙ ap (λ (x : RegionView). log_at x.state.logs home) b.region_is)
 
-pub delivery_is : {sites : List SiteView} {region home first last n m : ℕ} {join test : Bool} → n ≡ length (log_at (site_at sites home).region.state.logs home) → last ≤ n
+pub delivery_is : (sites : List SiteView) (region home first last : ℕ) (join : Bool) {n m : ℕ} {test : Bool} → n ≡ length (log_at (site_at sites home).region.state.logs home) → last ≤ n
     → m ≡ length (log_at (site_at sites region).region.state.logs home) → test ≡ joins m first last → test ≡ join → IsDelivery sites region home first last join
-delivery_is {last = last} {first = first} {join = join} long within received is on = record {
+delivery_is sites region home first last join long within received is on = record {
   reaches = subst (λ x. last ≤ x) long within;
   joined = subst (λ x. joins x first last ≡ join) received (sym is ∙ on);
 }
 
-pub entries_are : {sites : List SiteView} {home first last : ℕ} {r : RegionView} {origins : List Origin} {entries : List Entry} → IsBehind sites home r origins
+pub entries_are : {sites : List SiteView} {home : ℕ} {r : RegionView} {origins : List Origin} → IsBehind sites home r origins → (first last : ℕ) (entries : List Entry)
     → map (λ (e : Entry). e.part) entries ≡ drop first (take last (log_at r.state.logs home)) → AllIn (λ (e : Entry). held r.state e.part.id ≡ Some e.txn) entries → AreEntries sites home first last entries
-entries_are {home = home} {first = first} {last = last} {entries = entries} b parts txns = record {
+entries_are {sites} {home} b first last entries parts txns = record {
   parts = parts ∙ ap (λ (x : RegionView). drop first (take last (log_at x.state.logs home))) b.region_is;
   txns = subst (λ (x : RegionView). AllIn (λ (e : Entry). held x.state e.part.id ≡ Some e.txn) entries) b.region_is txns;
 }

@@ -26,14 +26,16 @@ pub invariant_of-self : goal.invariant_of-self
 invariant_of-self g c =
     let home = behind (a_site c.self.invariant c.if-home-self.false) c.index.ensures c.behind-self.view_is in
     let region = behind (a_site c.self.invariant c.if-region-self.false) c.index-2.ensures c.behind-self-2.view_is in
-    let delivery = delivery_is {join = false} (length_is home c.args.home c.len.ensures c.log.ensures) c.if-last-len.false (length_is region c.args.home c.len-received.ensures c.log-2.ensures) c.joins.ensures c.if-not-joins.true in
+    let delivery = delivery_is c.self.inside.sites.items c.args.region c.args.home c.args.first c.args.last false (length_is home c.args.home c.len.ensures c.log.ensures) c.if-last-len.false
+    (length_is region c.args.home c.len-received.ensures c.log-2.ensures) c.joins.ensures c.if-not-joins.true in
     (deliver_none c.self.invariant c.if-region-self.false c.if-home-self.false c.if-first-last.false delivery.reaches delivery.joined).lawful
 
 pub returns-then-not-joins : goal.returns-then-not-joins
 returns-then-not-joins g c =
     let home = behind (a_site c.self.invariant c.if-home-self.false) c.index.ensures c.behind-self.view_is in
     let region = behind (a_site c.self.invariant c.if-region-self.false) c.index-2.ensures c.behind-self-2.view_is in
-    let delivery = delivery_is {join = false} (length_is home c.args.home c.len.ensures c.log.ensures) c.if-last-len.false (length_is region c.args.home c.len-received.ensures c.log-2.ensures) c.joins.ensures c.if-not-joins.true in
+    let delivery = delivery_is c.self.inside.sites.items c.args.region c.args.home c.args.first c.args.last false (length_is home c.args.home c.len.ensures c.log.ensures) c.if-last-len.false
+    (length_is region c.args.home c.len-received.ensures c.log-2.ensures) c.joins.ensures c.if-not-joins.true in
     made_before c.self.view_is (deliver_none c.self.invariant c.if-region-self.false c.if-home-self.false c.if-first-last.false delivery.reaches delivery.joined)
 
 pub entries-requires-clause-sound : goal.entries-requires-clause-sound
@@ -55,8 +57,9 @@ pub deliver-requires-clause-can : goal.deliver-requires-clause-can
 deliver-requires-clause-can g c =
     let home = behind (a_site c.self.invariant c.if-home-self.false) c.index.ensures c.behind-self.view_is in
     let region = behind (a_site c.self.invariant c.if-region-self.false) c.index-2.ensures c.behind-self-2.view_is in
-    let delivery = delivery_is {join = true} (length_is home c.args.home c.len.ensures c.log.ensures) c.if-last-len.false (length_is region c.args.home c.len-received.ensures c.log-2.ensures) c.joins.ensures c.if-not-joins.false in
-    let entries = entries_are home c.in_ok-entries.ensures.parts c.in_ok-entries.ensures.txns in
+    let delivery = delivery_is c.self.inside.sites.items c.args.region c.args.home c.args.first c.args.last true (length_is home c.args.home c.len.ensures c.log.ensures) c.if-last-len.false
+    (length_is region c.args.home c.len-received.ensures c.log-2.ensures) c.joins.ensures c.if-not-joins.false in
+    let entries = entries_are home c.args.first c.args.last c.in_ok-entries.entries.items c.in_ok-entries.ensures.parts c.in_ok-entries.ensures.txns in
     let here = behind (a_site c.self.invariant c.if-region-self.false) c.index_mut.ensures.value c.behind-self-3.view_is in
     let few = steps_few c.self.invariant c.self.view_is c.requires in
     can_take c.self.invariant c.if-region-self.false c.if-home-self.false c.if-first-last.false delivery.reaches delivery.joined c.in_ok-entries.entries.items entries.parts entries.txns here (omega (arith, few))
@@ -65,8 +68,9 @@ pub invariant_of-self-2 : goal.invariant_of-self-2
 invariant_of-self-2 g c =
     let home = behind (a_site c.self.invariant c.if-home-self.false) c.index.ensures c.behind-self.view_is in
     let region = behind (a_site c.self.invariant c.if-region-self.false) c.index-2.ensures c.behind-self-2.view_is in
-    let delivery = delivery_is {join = true} (length_is home c.args.home c.len.ensures c.log.ensures) c.if-last-len.false (length_is region c.args.home c.len-received.ensures c.log-2.ensures) c.joins.ensures c.if-not-joins.false in
-    let entries = entries_are home c.in_ok-entries.ensures.parts c.in_ok-entries.ensures.txns in
+    let delivery = delivery_is c.self.inside.sites.items c.args.region c.args.home c.args.first c.args.last true (length_is home c.args.home c.len.ensures c.log.ensures) c.if-last-len.false
+    (length_is region c.args.home c.len-received.ensures c.log-2.ensures) c.joins.ensures c.if-not-joins.false in
+    let entries = entries_are home c.args.first c.args.last c.in_ok-entries.entries.items c.in_ok-entries.ensures.parts c.in_ok-entries.ensures.txns in
     let here = behind (a_site c.self.invariant c.if-region-self.false) c.index_mut.ensures.value c.behind-self-3.view_is in
     (deliver_done c.self.invariant c.if-region-self.false c.if-home-self.false c.if-first-last.false delivery.reaches delivery.joined c.in_ok-entries.entries.items entries.parts entries.txns here
     c.deliver.new.self c.in_ok-deliver.field-0 c.in_ok-deliver.ensures.makes c.deliver.ensures.sound).lawful
@@ -75,8 +79,9 @@ pub returns : goal.returns
 returns g c =
     let home = behind (a_site c.self.invariant c.if-home-self.false) c.index.ensures c.behind-self.view_is in
     let region = behind (a_site c.self.invariant c.if-region-self.false) c.index-2.ensures c.behind-self-2.view_is in
-    let delivery = delivery_is {join = true} (length_is home c.args.home c.len.ensures c.log.ensures) c.if-last-len.false (length_is region c.args.home c.len-received.ensures c.log-2.ensures) c.joins.ensures c.if-not-joins.false in
-    let entries = entries_are home c.in_ok-entries.ensures.parts c.in_ok-entries.ensures.txns in
+    let delivery = delivery_is c.self.inside.sites.items c.args.region c.args.home c.args.first c.args.last true (length_is home c.args.home c.len.ensures c.log.ensures) c.if-last-len.false
+    (length_is region c.args.home c.len-received.ensures c.log-2.ensures) c.joins.ensures c.if-not-joins.false in
+    let entries = entries_are home c.args.first c.args.last c.in_ok-entries.entries.items c.in_ok-entries.ensures.parts c.in_ok-entries.ensures.txns in
     let here = behind (a_site c.self.invariant c.if-region-self.false) c.index_mut.ensures.value c.behind-self-3.view_is in
     made_before c.self.view_is (deliver_done c.self.invariant c.if-region-self.false c.if-home-self.false c.if-first-last.false delivery.reaches delivery.joined
     c.in_ok-entries.entries.items entries.parts entries.txns here c.deliver.new.self c.in_ok-deliver.field-0 c.in_ok-deliver.ensures.makes c.deliver.ensures.sound)
