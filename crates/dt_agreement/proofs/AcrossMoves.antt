@@ -4,6 +4,7 @@ use Rattle.dt_lists.specs.Lists.{AnyIn, AllIn, Has}
 use Rattle.dt_lists.proofs.Callers.{any_get, any_of_image}
 use Rattle.dt_lists.proofs.Callers.{Spot, spot}
 use Rattle.dt_access.specs.Clash.{clash}
+use Rattle.dt_access.specs.Granules.{unit_of}
 use Rattle.dt_access.specs.declared.TxnId.{TxnId}
 use Rattle.dt_access.specs.declared.Access.{Access}
 use Rattle.dt_sched.specs.Views.{Precedes}
@@ -76,12 +77,12 @@ module _ {cluster : Cluster} {workload : Workload} {w : World} {order : List Txn
       subst₂ (Ordered (Precedes (logs_of w))) p.own q.own
       (across_moves cluster.procs (Precedes (logs_of w)) (opening_table cluster) (txns_of w order) past x y p.outcome q.outcome p.there q.there apart p.gave q.gave p.fresh q.fresh c)
 
-  -- of two executed attempts with one key, that with fewer moves of it, if it is not stale, precedes the other
+  -- of two executed attempts that use one unit, that with fewer moves of it, if it is not stale, precedes the other
   fewer_precedes : (a b : TxnId) (x y : Txn) → IsRun cluster w order a x → Has order b → txn_of w b ≡ Some y
-      → (k l : Access) → Has x.access k → Has y.access l → k.key ≡ l.key → k.counter < l.counter → Precedes (logs_of w) a b
-  fewer_precedes a b x y p hb eb k l hk hl key fewer =
+      → (k l : Access) → Has x.access k → Has y.access l → unit_of cluster.version k.key ≡ unit_of cluster.version l.key → k.counter < l.counter → Precedes (logs_of w) a b
+  fewer_precedes a b x y p hb eb k l hk hl unit fewer =
       subst₂ (Precedes (logs_of w)) p.own (txn_id w b y eb)
-      (across_fewer cluster.procs (Precedes (logs_of w)) (opening_table cluster) (txns_of w order) past x y s k l live (in_run b y hb eb) hk hl key fewer)
+      (across_fewer cluster.procs (Precedes (logs_of w)) (opening_table cluster) (txns_of w order) past x y s k l live (in_run b y hb eb) hk hl unit fewer)
     where
       s : Spot (txns_of w order) x
       s = spot (txns_of w order) x p.there
@@ -117,10 +118,10 @@ module _ {cluster : Cluster} {workload : Workload} {events : List Event} (run : 
   pub legal_fewer : (a b : TxnId) (x y : Txn) → Has (order_of events) a → Has (order_of events) b
       → txn_of (world_after cluster workload events) a ≡ Some x → txn_of (world_after cluster workload events) b ≡ Some y
       → ¬ (IsStale (serial_outcome cluster workload events a))
-      → (k l : Access) → Has x.access k → Has y.access l → k.key ≡ l.key → k.counter < l.counter → Precedes (logs_of (world_after cluster workload events)) a b
-  legal_fewer a b x y ha hb ea eb na k l hk hl key fewer = fewer_precedes i rooted a b x y (run_of i rooted a x ha ea na) hb eb k l hk hl key fewer
+      → (k l : Access) → Has x.access k → Has y.access l → unit_of cluster.version k.key ≡ unit_of cluster.version l.key → k.counter < l.counter → Precedes (logs_of (world_after cluster workload events)) a b
+  legal_fewer a b x y ha hb ea eb na k l hk hl unit fewer = fewer_precedes i rooted a b x y (run_of i rooted a x ha ea na) hb eb k l hk hl unit fewer
 
--- where an execution is legal, no key has been moved less often than the attempt was annotated with
+-- where an execution is legal, no key's unit has been moved less often than the attempt was annotated with
 pub legal_counters : {cluster : Cluster} {workload : Workload} {events : List Event} → IsLegalRun cluster workload events → (region : ℕ) (id : TxnId) (x : Txn)
     → IsLegal cluster workload (world_after cluster workload events) (Execute region id) → txn_of (world_after cluster workload events) id ≡ Some x
     → AllIn (λ a. a.counter ≤ counter_of (node_at (world_after cluster workload events) region).here.table a.key) x.access

@@ -8,21 +8,26 @@ use Rattle.std.specs.List.{cons_option}
 use Rattle.std.proofs.lemmas.Bool.{cases_Bool}
 use Rattle.std.proofs.lemmas.Option.{same_Some}
 use Rattle.std.proofs.lemmas.List.{map-append}
-use Rattle.dt_lists.specs.Lists.{AllIn, Has, IsFront, Distinct}
-use Rattle.dt_lists.proofs.Callers.{any_put, any_append, any_append_right, all_get, all_put, has_map, all_append_left, each_across}
+use Rattle.dt_lists.specs.Lists.{AnyIn, AllIn, Has, IsFront, Distinct}
+use Rattle.dt_lists.proofs.Callers.{any_get, any_put, any_append, any_append_left, any_append_right, all_get, all_put, has_map, all_append_left, each_across}
 use Rattle.dt_lists.proofs.Callers.{has_before, has_middle}
 use Rattle.dt_lists.proofs.Callers.{front_refl, front_trans, any_front}
 use Rattle.dt_access.specs.Ids.{same_id, is_among, StandsBefore}
 use Rattle.dt_access.specs.Clash.{Bytes}
+use Rattle.dt_access.specs.Granules.{unit_of}
+use Rattle.dt_access.proofs.Callers.{unit_again}
 use Rattle.dt_access.specs.declared.TxnId.{TxnId}
+use Rattle.dt_access.specs.declared.Access.{Access}
 use Rattle.dt_sched.specs.Views.{View, IsClosed, Precedes}
 use Rattle.dt_sched.proofs.Callers.{done_where_closed}
 use Rattle.dt_events.specs.declared.Event.{Event}
 use Rattle.dt_events.specs.declared.Event.TheVariants.{Submit, Answer}
 use Rattle.dt_table.specs.Table.{next_mover}
 use Rattle.dt_txn.specs.declared.Txn.{Txn}
+use Rattle.dt_txn.specs.declared.txn.Body.TheVariants.{Move}
 use Rattle.dt_txn.specs.declared.Outcome.{Outcome}
 use Rattle.dt_txn.specs.declared.outcome.Outcome.TheVariants.{Gave, Aborted, Stale}
+use Rattle.dt_txn.specs.Transaction.{IsValid}
 use Rattle.dt_txn.specs.Execution.{see, reads_of, result_of}
 use Rattle.dt_txn.specs.Serial.{outcomes, table_after}
 use Rattle.dt_txn.specs.Replica.{IsDrained, fronts, done_ids}
@@ -41,7 +46,7 @@ use Rattle.dt_agreement.specs.Invariant.{IsExecutedAt, Rooted, Inv}
 use Rattle.dt_agreement.proofs.Submissions.{IsKnown, txn_id}
 use Rattle.dt_agreement.proofs.Views.{received_log}
 use Rattle.dt_agreement.proofs.RegionViews.{view_fronts, order_known}
-use Rattle.dt_agreement.proofs.Annotations.{unmoved_at_first}
+use Rattle.dt_agreement.proofs.Annotations.{moves_its_unit, txns_valid, unmoved_at_first}
 use Rattle.dt_agreement.proofs.Runs.{with_executed_front, run_front, order_of_more}
 use Rattle.dt_agreement.proofs.LegalWorlds.{legal_keeps}
 use Rattle.dt_agreement.proofs.MoveHistory.{order_ids, done_txn_ids, history, region_members, region_down}
@@ -218,25 +223,44 @@ module _ {cluster : Cluster} {workload : Workload} {events : List Event} (run : 
   rooted : Rooted cluster (world_after cluster workload events) (order_of events)
   rooted = legal_roots run
 
-  cause_of : (id : TxnId) (front rest : List Txn) (txn : Txn) → txns_of (world_after cluster workload events) (order_of events) ≡ front ++ txn ∷ rest → txn.id ≡ id → (outcome : Outcome)
-      → IsGrounded cluster.procs front (txns_of (world_after cluster workload events) (order_of events)) (opening_table cluster) txn outcome → HasCause cluster workload events id outcome
+  -- what ran, in the serial order
+  abbrev ran : List Txn
+  ran = txns_of (world_after cluster workload events) (order_of events)
+
+  -- the unit of one of its keys is a unit
+  unit_of_some : (txn : Txn) (unit : Bytes) (had : ℕ) → AnyIn (λ a. (unit_of cluster.version a.key ≡ unit) × (a.counter ≡ had)) txn.access → unit_of cluster.version unit ≡ unit
+  unit_of_some txn unit had h =
+      let r : (a : Access) × Has txn.access a × (unit_of cluster.version a.key ≡ unit) × (a.counter ≡ had) = any_get (λ a. (unit_of cluster.version a.key ≡ unit) × (a.counter ≡ had)) txn.access h in
+      subst (λ u. unit_of cluster.version u ≡ u) r.2 (unit_again cluster.version r.0.key)
+
+  -- a mover that ran before moves the unit itself
+  move_of_front : (front rest : List Txn) (txn : Txn) → ran ≡ front ++ txn ∷ rest → (unit : Bytes) (mover : Txn) (moved : Bytes) (target : ℕ) → Has front mover → mover.body ≡ Move moved target
+      → unit_of cluster.version moved ≡ unit_of cluster.version unit → mover.body ≡ Move (unit_of cluster.version unit) target
+  move_of_front front rest txn split unit mover moved target there body same =
+      let has : Has ran mover = subst (λ l. Has l mover) (sym split) (any_append_left (λ x. x ≡ mover) front (txn ∷ rest) there) in
+      let valid : IsValid cluster.procs cluster.version cluster.regions mover =
+      all_get (IsValid cluster.procs cluster.version cluster.regions) ran (txns_valid cluster cluster.regions (world_after cluster workload events) i.valid (order_of events)) mover has in
+      moves_its_unit cluster mover moved unit target valid body same
+
+  cause_of : (id : TxnId) (front rest : List Txn) (txn : Txn) → ran ≡ front ++ txn ∷ rest → txn.id ≡ id → (outcome : Outcome)
+      → IsGrounded cluster.procs front ran (opening_table cluster) txn outcome → HasCause cluster workload events id outcome
   cause_of id front rest txn split own (Gave values) g = tt
   cause_of id front rest txn split own (Aborted cause) g = (
     txn,
     found_one i rooted id front rest txn split own,
     subst₂ (λ x t. (result_of cluster.procs x txn.body (reads_of txn.access (see txn t))).0 ≡ Aborted cause) own (sym (before_is i rooted id front rest txn split own)) g.1,
   )
-  cause_of id front rest txn split own (Stale key had by) g =
-      let f : MadeMove cluster.procs front (opening_table cluster) key had by = g.1 in
-      let whole : MadeMove cluster.procs (txns_of (world_after cluster workload events) (order_of events)) (opening_table cluster) key had by = g.2 in
+  cause_of id front rest txn split own (Stale unit had by) g =
+      let f : MadeMove cluster.procs front (opening_table cluster) unit had by = g.1 in
+      let whole : MadeMove cluster.procs ran (opening_table cluster) unit had by = g.2 in
       let there : Has (txn_ids front) by = subst (Has (txn_ids front)) f.id (has_map (λ x. x.id) front f.mover f.there) in (
         f.mover,
         f.target,
         subst (λ x. txn_of (world_after cluster workload events) x ≡ Some f.mover) f.id (found_front i rooted id front rest txn split own f.mover f.there),
-        f.body,
+        move_of_front front rest txn split unit f.mover f.moved f.target f.there f.body f.same ∙ ap (λ u. Move u f.target) (unit_of_some txn unit had g.0),
         subst (λ l. StandsBefore l by id) (sym (order_split i rooted id front rest txn split own)) (has_before by id (txn_ids front) (txn_ids rest) there),
         has_lookup (serial_outcomes cluster workload events) by (Gave []) (outcomes_once i rooted) whole.gave,
-        ap (λ t. next_mover t key had) (before_is i rooted id front rest txn split own) ∙ ap (option_map (λ m. m.by)) f.number,
+        ap (λ t. next_mover t unit had) (before_is i rooted id front rest txn split own) ∙ ap (option_map (λ m. m.by)) f.number,
       )
 
   causes_agree : (region : ℕ) (id : TxnId) (outcome : Outcome) → region < cluster.regions → Has (node_at (world_after cluster workload events) region).here.done (id, outcome)

@@ -130,10 +130,10 @@ module _ (cluster : Cluster) (workload : Workload) (w : World) (order : List Txn
   transaction_found region s h = txn_found cluster.regions w i.nodes i.ids s (from_region w region s h)
 
   -- a submitted transaction is valid, and has the id by which it is found
-  pub transaction_valid : (id : TxnId) (txn : Txn) → txn_of w id ≡ Some txn → IsValid cluster.procs cluster.regions txn × (txn.id ≡ id) × (id.region < cluster.regions)
+  pub transaction_valid : (id : TxnId) (txn : Txn) → txn_of w id ≡ Some txn → IsValid cluster.procs cluster.version cluster.regions txn × (txn.id ≡ id) × (id.region < cluster.regions)
   transaction_valid id txn e =
       let r : (s : Submission) × Has (submissions w) s × (s.txn ≡ txn) × (s.txn.id ≡ id) = txn_there w id txn e in (
-        subst (IsValid cluster.procs cluster.regions) r.2 (all_get (λ s. IsValid cluster.procs cluster.regions s.txn) (submissions w) i.valid r.0 r.1),
+        subst (IsValid cluster.procs cluster.version cluster.regions) r.2 (all_get (λ s. IsValid cluster.procs cluster.version cluster.regions s.txn) (submissions w) i.valid r.0 r.1),
         txn_id w id txn e,
         subst (λ x. x.region < cluster.regions) r.3 (home_region cluster.regions w i.nodes i.ids r.0 r.1).0,
       )

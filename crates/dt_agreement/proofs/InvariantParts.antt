@@ -28,7 +28,7 @@ abbrev pub Numbered : ℕ → World → Type 0
 Numbered regions w = (region : ℕ) → region < regions → AreNumbered region (node_at w region).submitted
 
 abbrev pub Valid : Cluster → ℕ → World → Type 0
-Valid cluster regions w = AllIn (λ s. IsValid cluster.procs regions s.txn) (submissions w)
+Valid cluster regions w = AllIn (λ s. IsValid cluster.procs cluster.version regions s.txn) (submissions w)
 
 abbrev pub Asked : ℕ → World → Type 0
 Asked regions w = (region home : ℕ) → region < regions → home < regions → asked_of w region home ≡ requests home (node_at w region).submitted
@@ -50,7 +50,7 @@ module _ (cluster : Cluster) (w v : World) where
   ids_kept regions k i region lt = subst (AreNumbered region) (sym (k region)) (i region lt)
 
   pub valid_kept : (regions : ℕ) → submissions v ≡ submissions w → Valid cluster regions w → Valid cluster regions v
-  valid_kept regions e a = subst (AllIn (λ s. IsValid cluster.procs regions s.txn)) (sym e) a
+  valid_kept regions e a = subst (AllIn (λ s. IsValid cluster.procs cluster.version regions s.txn)) (sym e) a
 
   pub asked_kept : (regions : ℕ) → Keeps (λ n. n.here.asked) w v → Keeps (λ n. n.submitted) w v → Asked regions w → Asked regions v
   asked_kept regions ka ks a region home lr lh = ap (λ l. get_or l home []) (ka region) ∙ a region home lr lh ∙ ap (requests home) (sym (ks region))

@@ -15,7 +15,7 @@ use Rattle.dt_access.specs.declared.TxnId.{TxnId}
 use Rattle.dt_access.specs.declared.Part.{Part}
 use Rattle.dt_sched.specs.Views.{ids_of, log_at, IsWellFormed}
 use Rattle.dt_txn.specs.declared.Txn.{Txn}
-use Rattle.dt_txn.specs.Transaction.{homes_of}
+use Rattle.dt_txn.specs.Transaction.{homes_of, part_of}
 use Rattle.dt_session.specs.World.{World, Submission, no_node, node_at, asked_of, taken_of, logs_of, log_of, submissions, txn_of}
 use Rattle.dt_agreement.specs.Invariant.{has_home, requests, IsPartAt, given_by}
 use Rattle.dt_agreement.proofs.Submissions.{txn_there, home_region, from_region, txn_found}
@@ -78,17 +78,22 @@ module _ (regions : ℕ) (w : World) (nodes : length w.nodes ≡ regions) where
         (ap (λ x. x.home) part.2, subst (λ x. Has x.homes home) (sym part.2) there)
 
     -- two parts of one id are of one transaction
-    pub parts_alike : (home other : ℕ) (p q : Part) → home < regions → other < regions → Has (log_of w home) p → Has (log_of w other) q → p.id ≡ q.id → p.homes ≡ q.homes
-    parts_alike home other p q lh lo hp hq e =
+    pub parts_of_one : (home other : ℕ) (p q : Part) → home < regions → other < regions → Has (log_of w home) p → Has (log_of w other) q → p.id ≡ q.id
+        → (txn : Txn) × (p ≡ part_of txn home) × (q ≡ part_of txn other)
+    parts_of_one home other p q lh lo hp hq e =
         let a : IsPartAt w home p = all_get (IsPartAt w home) (log_of w home) (logs home lh).parts p hp in
         let b : IsPartAt w other q = all_get (IsPartAt w other) (log_of w other) (logs other lo).parts q hq in
         let both : Some a.0 ≡ Some b.0 = sym a.1 ∙ ap (txn_of w) e ∙ b.1 in
         let same : a.0 ≡ b.0 = cc in
-        ap (λ x. x.homes) a.2 ∙ ap homes_of same ∙ sym (ap (λ x. x.homes) b.2)
+        (a.0, a.2, b.2 ∙ ap (λ t. part_of t other) (sym same))
 
     pub logs_well_formed : IsWellFormed (logs_of w)
-    logs_well_formed =
-        record { once = λ home. once home (either_le (suc home) regions); homed = λ home. homed home (either_le (suc home) regions); alike = λ home other. alike home other (either_le (suc home) regions) (either_le (suc other) regions) }
+    logs_well_formed = record {
+      once = λ home. once home (either_le (suc home) regions);
+      homed = λ home. homed home (either_le (suc home) regions);
+      alike = λ home other. same (λ p. p.homes) (λ txn h o. refl) home other (either_le (suc home) regions) (either_le (suc other) regions);
+      ranked = λ home other. same (λ p. p.rank) (λ txn h o. refl) home other (either_le (suc home) regions) (either_le (suc other) regions);
+    }
       where
         once : (home : ℕ) → Either (home < regions) → Distinct (ids_of (log_at (logs_of w) home))
         once home (inl lt) = subst (λ l. Distinct (ids_of l)) (sym (log_is w home)) (log_once home lt)
@@ -98,8 +103,12 @@ module _ (regions : ℕ) (w : World) (nodes : length w.nodes ≡ regions) where
         homed home (inl lt) = subst (AllIn (λ p. (p.home ≡ home) × Has p.homes home)) (sym (log_is w home)) (all_put _ (log_of w home) (λ p h. part_homed home p lt h))
         homed home (inr n) = subst (AllIn (λ p. (p.home ≡ home) × Has p.homes home)) (sym (logs_past home (omega arith))) tt
 
-        alike : (home other : ℕ) → Either (home < regions) → Either (other < regions) → AllIn (λ p. AllIn (λ q. p.id ≡ q.id → p.homes ≡ q.homes) (log_at (logs_of w) other)) (log_at (logs_of w) home)
-        alike home other (inl lh) (inl lo) = subst (λ l. AllIn (λ p. AllIn (λ q. p.id ≡ q.id → p.homes ≡ q.homes) (log_at (logs_of w) other)) l) (sym (log_is w home))
-            (all_put _ (log_of w home) (λ p hp. subst (AllIn (λ q. p.id ≡ q.id → p.homes ≡ q.homes)) (sym (log_is w other)) (all_put _ (log_of w other) (λ q hq. parts_alike home other p q lh lo hp hq))))
-        alike home other (inr n) o = subst (λ l. AllIn (λ p. AllIn (λ q. p.id ≡ q.id → p.homes ≡ q.homes) (log_at (logs_of w) other)) l) (sym (logs_past home (omega arith))) tt
-        alike home other (inl lh) (inr n) = all_put _ (log_at (logs_of w) home) (λ p hp. subst (AllIn (λ q. p.id ≡ q.id → p.homes ≡ q.homes)) (sym (logs_past other (omega arith))) tt)
+        -- what all parts of one transaction have alike
+        same : {A : Type 0} (f : Part → A) → ((txn : Txn) (h o : ℕ) → f (part_of txn h) ≡ f (part_of txn o)) → (home other : ℕ) → Either (home < regions) → Either (other < regions)
+            → AllIn (λ p. AllIn (λ q. p.id ≡ q.id → f p ≡ f q) (log_at (logs_of w) other)) (log_at (logs_of w) home)
+        same f alike home other (inl lh) (inl lo) = subst (λ l. AllIn (λ p. AllIn (λ q. p.id ≡ q.id → f p ≡ f q) (log_at (logs_of w) other)) l) (sym (log_is w home))
+            (all_put _ (log_of w home) (λ p hp. subst (AllIn (λ q. p.id ≡ q.id → f p ≡ f q)) (sym (log_is w other)) (all_put _ (log_of w other) (λ q hq e.
+            let r : (txn : Txn) × (p ≡ part_of txn home) × (q ≡ part_of txn other) = parts_of_one home other p q lh lo hp hq e in
+            ap f r.1 ∙ alike r.0 home other ∙ sym (ap f r.2)))))
+        same f alike home other (inr n) o = subst (λ l. AllIn (λ p. AllIn (λ q. p.id ≡ q.id → f p ≡ f q) (log_at (logs_of w) other)) l) (sym (logs_past home (omega arith))) tt
+        same f alike home other (inl lh) (inr n) = all_put _ (log_at (logs_of w) home) (λ p hp. subst (AllIn (λ q. p.id ≡ q.id → f p ≡ f q)) (sym (logs_past other (omega arith))) tt)

@@ -1,15 +1,15 @@
 -- The one history of a legal world: what roots every annotation in it gives what the theory of serial runs asks.
 use Rattle.std.proofs.Common.{◌≡◌, ◌≢◌, ◌<◌, ℕ, zero, suc, true, eqb, List, [], ◌∷◌, ◌++◌, map, take, slice_get, Some, refl, sym, ap, ap₂, subst, subst₂, ◌∙◌, inl, inr, arith, eq-eqb}
 use Rattle.std.specs.Prelude.{filter}
-use Rattle.std.proofs.lemmas.Bool.{and_parts}
 use Rattle.std.proofs.lemmas.Option.{same_Some}
 use Rattle.dt_lists.specs.Lists.{AnyIn, AllIn, SomeThen, Has, Either}
 use Rattle.dt_lists.proofs.Callers.{either_le}
 use Rattle.dt_lists.proofs.Callers.{any_get, any_put, any_append_left, any_append_right, all_get, all_map, all_put, has_map, any_of_image}
 use Rattle.dt_lists.proofs.Callers.{has_filter}
-use Rattle.dt_access.specs.Clash.{Bytes, same_key, uses_clash, clash}
+use Rattle.dt_access.specs.Clash.{Bytes, is_whole, uses_clash, clash}
+use Rattle.dt_access.specs.Granules.{mode_of_move, unit_of}
+use Rattle.dt_access.proofs.Callers.{moves_clash, unit_again, units_of_clash}
 use Rattle.dt_access.specs.declared.Mode.{Mode}
-use Rattle.dt_access.specs.declared.Mode.TheVariants.{Write}
 use Rattle.dt_access.specs.declared.TxnId.{TxnId}
 use Rattle.dt_access.specs.declared.Access.{Access}
 use Rattle.dt_access.specs.declared.Part.{Part}
@@ -25,10 +25,11 @@ use Rattle.dt_txn.specs.declared.Body.{Body}
 use Rattle.dt_txn.specs.declared.txn.Body.TheVariants.{Call, Move}
 use Rattle.dt_txn.specs.declared.Txn.{Txn}
 use Rattle.dt_txn.specs.Transaction.{uses_of, targets_of, homes_of, entries_at, used_of, part_of, IsValid}
+use Rattle.dt_txn.specs.Serial.{table_after}
 use Rattle.dt_txn.specs.Replica.{done_ids}
 use Rattle.dt_serial.specs.Order.{Ordered, IsDown, FollowsMove, IsShared, IsHistory, txn_ids, KeepsToKeys}
 use Rattle.dt_serial.specs.Evidence.{MadeMove}
-use Rattle.dt_serial.proofs.Callers.{down_of_order, looked_from, looked_ids, looked_members, move_made, valid_keeps}
+use Rattle.dt_serial.proofs.Callers.{down_of_order, looked_from, looked_ids, looked_members, move_made, same_moves, valid_keeps}
 use Rattle.dt_cluster.specs.declared.Cluster.{Cluster}
 use Rattle.dt_workload.specs.declared.Workload.{Workload}
 use Rattle.dt_session.specs.World.{World, Submission, node_at, opening_table, logs_of, log_of, view_at, submissions, txn_of}
@@ -38,9 +39,8 @@ use Rattle.dt_agreement.proofs.Submissions.{txn_id}
 use Rattle.dt_agreement.proofs.Views.{log_is}
 use Rattle.dt_agreement.proofs.Homes.{has_set_of}
 use Rattle.dt_agreement.proofs.Logs.{logs_past}
-use Rattle.dt_agreement.proofs.Sessions.{key_of_test, test_of_key}
 use Rattle.dt_agreement.proofs.RegionViews.{view_longer, full_well_formed, done_known, order_closed, order_known}
-use Rattle.dt_agreement.proofs.Annotations.{txns_submitted, txns_valid, unmoved_at_first}
+use Rattle.dt_agreement.proofs.Annotations.{moves_its_unit, txns_submitted, txns_valid, unmoved_at_first, version_stays}
 
 -- pairs of a list, by membership and by images
 
@@ -61,9 +61,10 @@ pub listed : (body : Body) (home : ℕ) (access : List Access) (a : Access) → 
 listed (Call proc args) home access a h e = has_map used_of (filter (λ x. eqb x.home home) access) a (has_filter (λ x. eqb x.home home) access a h (eq-eqb a.home home e))
 listed (Move key target) home access a h e = has_map used_of access a h
 
--- each part of a move lists its key for writing
-pub listed_of_move : (cluster : Cluster) (regions : ℕ) (x : Txn) (key : Bytes) (target : ℕ) (home : ℕ) → IsValid cluster.procs regions x → x.body ≡ Move key target → (part_of x home).keys ≡ (key, Write) ∷ []
-listed_of_move cluster regions x key target home valid e = ap (λ b. map used_of (entries_at b home x.access)) e ∙ valid.uses ∙ ap (uses_of cluster.procs) e
+-- each part of a move lists the unit that it moves
+pub listed_of_move : (cluster : Cluster) (regions : ℕ) (x : Txn) (key : Bytes) (target : ℕ) (home : ℕ) → IsValid cluster.procs cluster.version regions x → x.body ≡ Move key target
+    → (part_of x home).keys ≡ (key, mode_of_move cluster.version) ∷ []
+listed_of_move cluster regions x key target home valid e = ap (λ b. map used_of (entries_at b home x.access)) e ∙ valid.uses ∙ ap (uses_of cluster.procs cluster.version) e
 
 -- an entry's home is one of the homes
 pub home_of_entry : (x : Txn) (a : Access) → Has x.access a → Has (homes_of x) a.home
@@ -79,9 +80,6 @@ pub home_after_last : (home : ℕ) (moves : List Moved) (c : ℕ) (m : Moved) �
 home_after_last home [] c m e = cc
 home_after_last home (x ∷ moves) zero m e = ap (λ y. y.target) (same_Some x m e)
 home_after_last home (x ∷ moves) (suc c) m e = home_after_last x.target moves c m e
-
-writes_clash : (k l : Bytes) (mode : Mode) → k ≡ l → uses_clash (k, Write) (l, mode) ≡ true
-writes_clash k l mode e = rw (test_of_key k l e) refl
 
 module _ {cluster : Cluster} {workload : Workload} {w : World} {order : List TxnId} (i : Inv cluster workload w order) where
   -- the ids of the transactions of ids
@@ -126,7 +124,9 @@ module _ {cluster : Cluster} {workload : Workload} {w : World} {order : List Txn
   pub maker : (key : Bytes) (c : ℕ) (m : Moved) → slice_get (history_of cluster w order key) c ≡ Some m → MadeMove cluster.procs (txns_of w order) (opening_table cluster) key c m.by
   maker key c m e = move_made cluster.procs (txns_of w order) (opening_table cluster) key c m (unmoved_at_first cluster key) e
 
-  pub maker_found : (key : Bytes) (c : ℕ) (m : Moved) → (e : slice_get (history_of cluster w order key) c ≡ Some m) → (x : Txn) × (txn_of w m.by ≡ Some x) × (x.body ≡ Move key m.target) × IsValid cluster.procs cluster.regions x
+  -- as a move of the key's unit
+  pub maker_found : (key : Bytes) (c : ℕ) (m : Moved) → (e : slice_get (history_of cluster w order key) c ≡ Some m)
+      → (x : Txn) × (txn_of w m.by ≡ Some x) × (x.body ≡ Move (unit_of cluster.version key) m.target) × IsValid cluster.procs cluster.version cluster.regions x
   maker_found key c m e =
       let made : MadeMove cluster.procs (txns_of w order) (opening_table cluster) key c m.by = maker key c m e in
       let from : Has order made.mover.id × (txn_of w made.mover.id ≡ Some made.mover) = all_get (λ x. Has order x.id × (txn_of w x.id ≡ Some x)) (txns_of w order) (looked_from (txn_of w) (txn_id w) order) made.mover made.there in
@@ -134,8 +134,20 @@ module _ {cluster : Cluster} {workload : Workload} {w : World} {order : List Txn
       let same : m ≡ record { target = made.target; by = m.by } = same_Some m (record { target = made.target; by = m.by }) both in
       let target : made.target ≡ m.target = sym (ap (λ x. x.target) same) in
       let found : txn_of w m.by ≡ Some made.mover = subst (λ id. txn_of w id ≡ Some made.mover) made.id from.1 in
-      let valid : IsValid cluster.procs cluster.regions made.mover = all_get (IsValid cluster.procs cluster.regions) (txns_of w order) (txns_valid cluster cluster.regions w i.valid order) made.mover made.there in
-      (made.mover, found, made.body ∙ ap (Move key) target, valid)
+      let valid : IsValid cluster.procs cluster.version cluster.regions made.mover = all_get (IsValid cluster.procs cluster.version cluster.regions) (txns_of w order) (txns_valid cluster cluster.regions w i.valid order) made.mover made.there in
+      (made.mover, found, moves_its_unit cluster made.mover made.moved key made.target valid made.body made.same ∙ ap (Move (unit_of cluster.version key)) target, valid)
+
+  -- keys of one unit have the same moves
+  pub history_of_unit : (k l : Bytes) → unit_of cluster.version k ≡ unit_of cluster.version l → history_of cluster w order k ≡ history_of cluster w order l
+  history_of_unit k l same = same_moves (table_after cluster.procs (txns_of w order) (opening_table cluster)) cluster.version k l (version_stays cluster (txns_of w order) (opening_table cluster)) same
+
+  -- each transaction of the order keeps to its keys, so in version 1 none takes a granule as a whole
+  keep_to_keys : AllIn (KeepsToKeys cluster.procs cluster.version) (txns_of w order)
+  keep_to_keys = all_map (IsValid cluster.procs cluster.version cluster.regions) (KeepsToKeys cluster.procs cluster.version) (txns_of w order)
+      (valid_keeps cluster.procs cluster.version cluster.regions) (txns_valid cluster cluster.regions w i.valid order)
+
+  narrow : (x : Txn) (a : Access) → Has (txns_of w order) x → Has x.access a → cluster.version ≢ 2 → is_whole a.mode ≡ false
+  narrow x a hx ha = all_get (λ b. cluster.version ≢ 2 → is_whole b.mode ≡ false) x.access (all_get (KeepsToKeys cluster.procs cluster.version) (txns_of w order) keep_to_keys x hx).whole a ha
 
   module _ (rooted : Rooted cluster w order) where
     -- an entry of a transaction of the order is rooted
@@ -156,6 +168,13 @@ module _ {cluster : Cluster} {workload : Workload} {w : World} {order : List Txn
         closed : IsClosed (logs_of w) x.id
         closed = order_closed i x.id (in_order x hx).0
 
+        -- what a move of the unit of the entry's key uses
+        abbrev unit : Bytes
+        unit = unit_of cluster.version a.key
+
+        abbrev move : Bytes × Mode
+        move = (unit, mode_of_move cluster.version)
+
         there : HasPart (log_at (logs_of w) a.home) x.id
         there = parts_of_closed x.id x a.home closed (in_order x hx).1 (home_of_entry x a ha)
 
@@ -168,12 +187,12 @@ module _ {cluster : Cluster} {workload : Workload} {w : World} {order : List Txn
 
             clashing : (p q : Part) → Has (log_at (logs_of w) a.home) p → Has (log_at (logs_of w) a.home) q → (p.id ≡ r.0.by) × (q.id ≡ x.id) → AreClashing r.0.by x.id p q
             clashing p q hp hq e =
-                let m : (y : Txn) × (txn_of w r.0.by ≡ Some y) × (y.body ≡ Move a.key r.0.target) × IsValid cluster.procs cluster.regions y = maker_found a.key c r.0 r.1 in
-                let left : p.keys ≡ (a.key, Write) ∷ [] = part_keys a.home p m.0 hp (ap (txn_of w) e.0 ∙ m.1) ∙ listed_of_move cluster cluster.regions m.0 a.key r.0.target a.home m.3 m.2 in
+                let m : (y : Txn) × (txn_of w r.0.by ≡ Some y) × (y.body ≡ Move unit r.0.target) × IsValid cluster.procs cluster.version cluster.regions y = maker_found a.key c r.0 r.1 in
+                let left : p.keys ≡ move ∷ [] = part_keys a.home p m.0 hp (ap (txn_of w) e.0 ∙ m.1) ∙ listed_of_move cluster cluster.regions m.0 unit r.0.target a.home m.3 m.2 in
                 let right : q.keys ≡ (part_of x a.home).keys = part_keys a.home q x hq (ap (txn_of w) e.1 ∙ (in_order x hx).1) in
-                let written : AnyIn (λ b. uses_clash (a.key, Write) b ≡ true) (part_of x a.home).keys =
-                any_put (λ b. uses_clash (a.key, Write) b ≡ true) (part_of x a.home).keys (used_of a) (listed x.body a.home x.access a ha refl) (writes_clash a.key a.key a.mode refl) in
-                (e.0, e.1, subst₂ (λ k l. clash k l ≡ true) (sym left) (sym right) (clash_of_uses ((a.key, Write) ∷ []) (part_of x a.home).keys (inl written)))
+                let moved : AnyIn (λ b. uses_clash move b ≡ true) (part_of x a.home).keys =
+                any_put (λ b. uses_clash move b ≡ true) (part_of x a.home).keys (used_of a) (listed x.body a.home x.access a ha refl) (moves_clash cluster.version move (used_of a) refl (unit_again cluster.version a.key)) in
+                (e.0, e.1, subst₂ (λ k l. clash k l ≡ true) (sym left) (sym right) (clash_of_uses (move ∷ []) (part_of x a.home).keys (inl moved)))
 
             edge : Edge (logs_of w) r.0.by x.id
             edge =
@@ -183,8 +202,9 @@ module _ {cluster : Cluster} {workload : Workload} {w : World} {order : List Txn
     -- transactions with clashing entries of one number share a log
     shared : IsShared (Precedes (logs_of w)) (txns_of w order)
     shared x y hx hy ne a b ha hb e c =
-        let key : a.key ≡ b.key = key_of_test a.key b.key (and_parts (same_key a.key b.key) _ c).0 in
-        let home : a.home ≡ b.home = (root_of x a hx ha).home ∙ ap₂ (λ k n. home_after (opening_home cluster.regions cluster.homes k) (take n (history_of cluster w order k))) key e ∙ sym (root_of y b hy hb).home in
+        let unit : unit_of cluster.version a.key ≡ unit_of cluster.version b.key = units_of_clash cluster.version (used_of a) (used_of b) (λ other. (narrow x a hx ha other, narrow y b hy hb other)) c in
+        let moves : take a.counter (history_of cluster w order a.key) ≡ take b.counter (history_of cluster w order b.key) = ap₂ take e (history_of_unit a.key b.key unit) in
+        let home : a.home ≡ b.home = (root_of x a hx ha).home ∙ ap₂ (λ u l. home_after (opening_home cluster.regions cluster.homes u) l) unit moves ∙ sym (root_of y b hy hb).home in
         let px : HasPart (log_at (logs_of w) a.home) x.id = parts_of_closed x.id x a.home (order_closed i x.id (in_order x hx).0) (in_order x hx).1 (home_of_entry x a ha) in
         let py : HasPart (log_at (logs_of w) a.home) y.id = subst (λ h. HasPart (log_at (logs_of w) h) y.id) (sym home) (parts_of_closed y.id y b.home (order_closed i y.id (in_order y hy).0) (in_order y hy).1 (home_of_entry y b hb)) in
         let p : (p : Part) × Has (log_at (logs_of w) a.home) p × (p.id ≡ x.id) = any_get (λ p. p.id ≡ x.id) (log_at (logs_of w) a.home) px in
@@ -202,7 +222,7 @@ module _ {cluster : Cluster} {workload : Workload} {w : World} {order : List Txn
     history = record {
       transitive = precedes_transitive (logs_of w);
       unmoved = unmoved_at_first cluster;
-      keys = all_map (IsValid cluster.procs cluster.regions) (KeepsToKeys cluster.procs) (txns_of w order) (valid_keeps cluster.procs cluster.regions) (txns_valid cluster cluster.regions w i.valid order);
+      keys = keep_to_keys;
       down = subst (IsDown (Precedes (logs_of w))) (sym order_ids) i.ordered.down;
       anchored = all_put _ (txns_of w order) (λ x hx. all_put (λ a. FollowsMove (Precedes (logs_of w)) (history_of cluster w order a.key) a.counter x.id) x.access (λ a ha. anchored_at x a hx ha));
       shared = shared;

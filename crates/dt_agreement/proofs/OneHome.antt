@@ -7,6 +7,7 @@ use Rattle.dt_lists.proofs.Callers.{has_place}
 use Rattle.dt_lists.proofs.Callers.{Spot, spot}
 use Rattle.dt_lists.proofs.Callers.{all_front}
 use Rattle.dt_access.specs.Clash.{Bytes}
+use Rattle.dt_access.specs.Granules.{unit_of}
 use Rattle.dt_access.specs.declared.TxnId.{TxnId}
 use Rattle.dt_access.specs.declared.Access.{Access}
 use Rattle.dt_access.specs.declared.Part.{Part}
@@ -76,8 +77,8 @@ module _ {cluster : Cluster} {workload : Workload} {w : World} {order : List Txn
       let known : AnyIn (IsSubmissionOf cluster.tries s.txn.id.region s) workload.sessions =
       all_get (λ x. AnyIn (IsSubmissionOf cluster.tries s.txn.id.region x) workload.sessions) (node_at w s.txn.id.region).submitted (i.sessions.known s.txn.id.region at.0) s at.1 in
       let r : (session : Session) × Has workload.sessions session × IsSubmissionOf cluster.tries s.txn.id.region s session = any_get (IsSubmissionOf cluster.tries s.txn.id.region s) workload.sessions known in
-      let its : AllIn (λ call. HasOneHome cluster (body_of call)) r.0.calls = all_get (λ session. AllIn (λ call. HasOneHome cluster (body_of call)) session.calls) workload.sessions calls r.0 r.1 in
-      subst (HasOneHome cluster) (sym r.2.of_call.body) (all_get (λ call. HasOneHome cluster (body_of call)) r.0.calls its r.2.of_call.call (has_place r.0.calls r.2.of_call.place r.2.of_call.call r.2.of_call.called))
+      let its : AllIn (λ call. HasOneHome cluster (body_of call.wanted)) r.0.calls = all_get (λ session. AllIn (λ call. HasOneHome cluster (body_of call.wanted)) session.calls) workload.sessions calls r.0 r.1 in
+      subst (HasOneHome cluster) (sym r.2.of_call.body) (all_get (λ call. HasOneHome cluster (body_of call.wanted)) r.0.calls its r.2.of_call.call (has_place r.0.calls r.2.of_call.place r.2.of_call.call r.2.of_call.called))
 
   -- so nothing was ever moved
   no_moves : (key : Bytes) → history_of cluster w order key ≡ []
@@ -88,7 +89,7 @@ module _ {cluster : Cluster} {workload : Workload} {w : World} {order : List Txn
       go (m ∷ moves) e =
           let made : MadeMove cluster.procs (txns_of w order) (opening_table cluster) key 0 m.by = move_made cluster.procs (txns_of w order) (opening_table cluster) key 0 m (unmoved_at_first cluster key) (ap (λ l. slice_get l 0) e) in
           let s : (s : Submission) × Has (submissions w) s × (s.txn ≡ made.mover) = txns_submitted w order made.mover made.there in
-          absurd (not_a_move cluster s.0.txn.body key made.target (body_one s.0 s.1) (ap (λ x. x.body) s.2 ∙ made.body))
+          absurd (not_a_move cluster s.0.txn.body made.moved made.target (body_one s.0 s.1) (ap (λ x. x.body) s.2 ∙ made.body))
 
   -- and each annotation has the opening home of its key
   entry_home : (s : Submission) → Has (submissions w) s → (a : Access) → Has s.txn.access a → a.home ≡ home_of (opening_table cluster) a.key
@@ -96,14 +97,14 @@ module _ {cluster : Cluster} {workload : Workload} {w : World} {order : List Txn
       let root : IsRooted cluster (logs_of w) (history_of cluster w order a.key) s.txn.id a =
       all_get (λ b. IsRooted cluster (logs_of w) (history_of cluster w order b.key) s.txn.id b) s.txn.access
       (all_get (λ x. AllIn (λ b. IsRooted cluster (logs_of w) (history_of cluster w order b.key) x.txn.id b) x.txn.access) (submissions w) rooted s h) a ha in
-      root.home ∙ ap (home_after (opening_home cluster.regions cluster.homes a.key)) (ap (take a.counter) (no_moves a.key) ∙ take_nothing a.counter ∙ sym (unmoved_at_first cluster a.key))
+      root.home ∙ ap (home_after (opening_home cluster.regions cluster.homes (unit_of cluster.version a.key))) (ap (take a.counter) (no_moves a.key) ∙ take_nothing a.counter ∙ sym (unmoved_at_first cluster a.key))
 
   submission_one : (s : Submission) → Has (submissions w) s → length (homes_of s.txn) ≡ 1
   submission_one s h =
-      let valid : IsValid cluster.procs cluster.regions s.txn = all_get (λ x. IsValid cluster.procs cluster.regions x.txn) (submissions w) i.valid s h in
+      let valid : IsValid cluster.procs cluster.version cluster.regions s.txn = all_get (λ x. IsValid cluster.procs cluster.version cluster.regions x.txn) (submissions w) i.valid s h in
       let listed : map (λ a. a.home) s.txn.access ≡ map (λ a. a.home) (map (annotated (opening_table cluster)) (map used_of s.txn.access)) =
       homes_listed cluster s.txn.access (all_put (λ a. a.home ≡ home_of (opening_table cluster) a.key) s.txn.access (entry_home s h)) in
-      let first : map (λ a. a.home) s.txn.access ≡ map (λ a. a.home) (map (annotated (opening_table cluster)) (uses_of cluster.procs s.txn.body)) =
+      let first : map (λ a. a.home) s.txn.access ≡ map (λ a. a.home) (map (annotated (opening_table cluster)) (uses_of cluster.procs cluster.version s.txn.body)) =
       listed ∙ ap (λ us. map (λ a. a.home) (map (annotated (opening_table cluster)) us)) valid.uses in
       ap (λ homes. length (set_of (homes ++ targets_of s.txn.body))) first ∙ one_at_first cluster s.txn.body (body_one s h)
 

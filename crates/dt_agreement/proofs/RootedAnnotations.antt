@@ -5,13 +5,14 @@ use Rattle.dt_lists.specs.Lists.{AllIn, Has, IsFront}
 use Rattle.dt_lists.proofs.Callers.{any_from_at, all_map, all_get, all_put}
 use Rattle.dt_lists.proofs.Callers.{has_place, place_within, at_place, place_in_longer}
 use Rattle.dt_access.specs.Clash.{Bytes}
+use Rattle.dt_access.specs.Granules.{unit_of}
 use Rattle.dt_access.specs.declared.Mode.{Mode}
 use Rattle.dt_access.specs.declared.TxnId.{TxnId}
 use Rattle.dt_access.specs.declared.Access.{Access}
 use Rattle.dt_sched.specs.Views.{View, HasPart, IsPresent, Reaches, IsClosed, Precedes}
 use Rattle.dt_sched.proofs.Callers.{complete_of_closed}
 use Rattle.dt_sched.proofs.Callers.{reach_source, present_of_complete}
-use Rattle.dt_table.specs.Table.{Table, Moved, moves_of, opening_home, home_after}
+use Rattle.dt_table.specs.Table.{Table, Moved, moves_of, opening_home, home_after, home_of}
 use Rattle.dt_txn.specs.declared.Txn.{Txn}
 use Rattle.dt_txn.specs.Transaction.{annotated}
 use Rattle.dt_txn.specs.Serial.{table_after}
@@ -26,7 +27,7 @@ use Rattle.dt_agreement.specs.Invariant.{history_of, HasRoot, IsRooted, Rooted, 
 use Rattle.dt_agreement.proofs.Submissions.{Keeps, IsKnown, txn_there, numbered, txns_same}
 use Rattle.dt_agreement.proofs.RegionViews.{closed_full, present_known, executed_closed}
 use Rattle.dt_agreement.proofs.OpeningWorld.{opening_submissions}
-use Rattle.dt_agreement.proofs.Annotations.{regions_stay, homes_stay, unmoved_at_first}
+use Rattle.dt_agreement.proofs.Annotations.{opening_home_stays, unmoved_at_first}
 use Rattle.dt_agreement.proofs.MoveHistory.{done_txn_ids, region_members, region_down, history}
 
 -- where logs and the history of each key stay, so does what roots an entry
@@ -54,7 +55,7 @@ root_longer logs t home moves rest (suc c) r = (r.0, place_in_longer moves rest 
 
 pub rooted_longer : (cluster : Cluster) (logs : View) (moves whole : List Moved) (t : TxnId) (a : Access) → IsFront moves whole → IsRooted cluster logs moves t a → IsRooted cluster logs whole t a
 rooted_longer cluster logs moves whole t a f r = subst (λ l. IsRooted cluster logs l t a) f.1 (record {
-  home = r.home ∙ ap (home_after (opening_home cluster.regions cluster.homes a.key)) (sym (take-append-le a.counter moves f.0 (root_within logs t a.home moves a.counter r.root)));
+  home = r.home ∙ ap (home_after (opening_home cluster.regions cluster.homes (unit_of cluster.version a.key))) (sym (take-append-le a.counter moves f.0 (root_within logs t a.home moves a.counter r.root)));
   root = root_longer logs t a.home moves f.0 a.counter r.root;
 })
 
@@ -84,7 +85,7 @@ module _ {cluster : Cluster} {workload : Workload} {w : World} {order : List Txn
   pub next_absent : (region : ℕ) → ¬ (IsPresent (logs_of w) (upcoming_id w region))
   next_absent region p = next_unknown region (present_known i (upcoming_id w region) p)
 
-  -- what a region's table has of the moves of a key roots a new id
+  -- what a region's table has of the moves of a unit roots a new id
   front_roots : (t : TxnId) (home : ℕ) (front whole : List Moved) → IsFront front whole → AllIn (λ m. IsClosed (logs_of w) m.by) front → ¬ (IsPresent (logs_of w) t) → HasRoot (logs_of w) t home whole (length front)
   front_roots t home front whole f closed absent = go (length front) refl
     where
@@ -133,10 +134,10 @@ module _ {cluster : Cluster} {workload : Workload} {w : World} {order : List Txn
         closed = all_map _ _ moves (λ m h. closed_full i region m.by lr (executed_closed i region m.by lr (subst (λ l. Has l m.by) (done_txn_ids i region lr) h)))
             (movers_ran cluster.procs ran (opening_table cluster) used.0 (unmoved_at_first cluster used.0))
 
-        home : home_after (opening_home here.regions here.homes used.0) (moves_of here used.0) ≡ home_after (opening_home cluster.regions cluster.homes used.0) (take (length (moves_of here used.0)) (history_of cluster w order used.0))
-        home = ap₂ home_after (ap₂ (λ r h. opening_home r h used.0) (ap (λ t. t.regions) table ∙ regions_stay cluster ran (opening_table cluster)) (ap (λ t. t.homes) table ∙ homes_stay cluster ran (opening_table cluster)))
+        home : home_of here used.0 ≡ home_after (opening_home cluster.regions cluster.homes (unit_of cluster.version used.0)) (take (length (moves_of here used.0)) (history_of cluster w order used.0))
+        home = ap₂ home_after (opening_home_stays cluster ran here used.0 table)
             (same ∙ sym (ap₂ take (ap length same) (sym front.1) ∙ take_at moves front.0 (length moves) refl))
 
-        root : HasRoot (logs_of w) (upcoming_id w region) (home_after (opening_home here.regions here.homes used.0) (moves_of here used.0)) (history_of cluster w order used.0) (length (moves_of here used.0))
-        root = subst (HasRoot (logs_of w) (upcoming_id w region) (home_after (opening_home here.regions here.homes used.0) (moves_of here used.0)) (history_of cluster w order used.0)) (sym (ap length same))
-            (front_roots (upcoming_id w region) (home_after (opening_home here.regions here.homes used.0) (moves_of here used.0)) moves (history_of cluster w order used.0) front closed (next_absent region))
+        root : HasRoot (logs_of w) (upcoming_id w region) (home_of here used.0) (history_of cluster w order used.0) (length (moves_of here used.0))
+        root = subst (HasRoot (logs_of w) (upcoming_id w region) (home_of here used.0) (history_of cluster w order used.0)) (sym (ap length same))
+            (front_roots (upcoming_id w region) (home_of here used.0) moves (history_of cluster w order used.0) front closed (next_absent region))

@@ -10,6 +10,7 @@ use Rattle.dt_lists.proofs.Callers.{has_before}
 use Rattle.dt_lists.proofs.Callers.{from_right, field_of_set, map_of_set, flat_map_of_set}
 use Rattle.dt_access.specs.Ids.{is_among, StandsBefore}
 use Rattle.dt_access.specs.Clash.{Bytes}
+use Rattle.dt_access.specs.Granules.{unit_of}
 use Rattle.dt_access.specs.declared.Mode.{Mode}
 use Rattle.dt_access.specs.declared.TxnId.{TxnId}
 use Rattle.dt_access.specs.declared.Access.{Access}
@@ -65,7 +66,7 @@ module _ {cluster : Cluster} {workload : Workload} {w : World} {order : List Txn
       histories key = ap (λ l. moves_of (table_after cluster.procs l (opening_table cluster)) key) (txns_stay w v (made_txns i ok region name fits lr r) order (order_known i))
 
       uses : List (Bytes × Mode)
-      uses = uses_of cluster.procs (body_of r.call)
+      uses = uses_of cluster.procs (node_at w region).here.table.version (body_of r.call.wanted)
 
       fresh : AllIn (λ a. IsRooted cluster (logs_of w) (history_of cluster w order a.key) (upcoming_id w region) a) (map (annotated (node_at w region).here.table) uses)
       fresh = all_image (λ a. IsRooted cluster (logs_of w) (history_of cluster w order a.key) (upcoming_id w region) a) (annotated (node_at w region).here.table) uses
@@ -119,11 +120,11 @@ module _ {cluster : Cluster} {workload : Workload} {w : World} {order : List Txn
 
     -- the mover before an entry's number has its part in the log of the entry's home
     mover_there : (a : Access) (c : ℕ) (m : Moved) → slice_get (history_of cluster w order a.key) c ≡ Some m → IsClosed (logs_of w) m.by
-        → a.home ≡ home_after (opening_home cluster.regions cluster.homes a.key) (take (suc c) (history_of cluster w order a.key)) → HasPart (log_at (logs_of w) a.home) m.by
+        → a.home ≡ home_after (opening_home cluster.regions cluster.homes (unit_of cluster.version a.key)) (take (suc c) (history_of cluster w order a.key)) → HasPart (log_at (logs_of w) a.home) m.by
     mover_there a c m e closed homed =
-        let x : (y : Txn) × (txn_of w m.by ≡ Some y) × (y.body ≡ Move a.key m.target) × IsValid cluster.procs cluster.regions y = maker_found i a.key c m e in
-        let target : a.home ≡ m.target = homed ∙ home_after_last (opening_home cluster.regions cluster.homes a.key) (history_of cluster w order a.key) c m e in
-        subst (λ h. HasPart (log_at (logs_of w) h) m.by) (sym target) (parts_of_closed i m.by x.0 m.target closed x.1 (home_of_target x.0 a.key m.target x.2))
+        let x : (y : Txn) × (txn_of w m.by ≡ Some y) × (y.body ≡ Move (unit_of cluster.version a.key) m.target) × IsValid cluster.procs cluster.version cluster.regions y = maker_found i a.key c m e in
+        let target : a.home ≡ m.target = homed ∙ home_after_last (opening_home cluster.regions cluster.homes (unit_of cluster.version a.key)) (history_of cluster w order a.key) c m e in
+        subst (λ h. HasPart (log_at (logs_of w) h) m.by) (sym target) (parts_of_closed i m.by x.0 m.target closed x.1 (home_of_target x.0 (unit_of cluster.version a.key) m.target x.2))
 
     stands : (t : TxnId) (h : ℕ) (by : TxnId) → HasPart (log_at (logs_of w) h) by → (HasPart (log_at (logs_of w) h) t → StandsBefore (ids_of (log_at (logs_of w) h)) by t)
         → HasPart (log_at (logs_of u) h) t → StandsBefore (ids_of (log_at (logs_of u) h)) by t
@@ -144,7 +145,7 @@ module _ {cluster : Cluster} {workload : Workload} {w : World} {order : List Txn
     root_placed : (t : TxnId) (a : Access) → IsRooted cluster (logs_of w) (history_of cluster w order a.key) t a → IsRooted cluster (logs_of u) (history_of cluster w order a.key) t a
     root_placed t a r = record { home = r.home; root = go a.counter r.home r.root }
       where
-        go : (c : ℕ) → a.home ≡ home_after (opening_home cluster.regions cluster.homes a.key) (take c (history_of cluster w order a.key)) → HasRoot (logs_of w) t a.home (history_of cluster w order a.key) c
+        go : (c : ℕ) → a.home ≡ home_after (opening_home cluster.regions cluster.homes (unit_of cluster.version a.key)) (take c (history_of cluster w order a.key)) → HasRoot (logs_of w) t a.home (history_of cluster w order a.key) c
             → HasRoot (logs_of u) t a.home (history_of cluster w order a.key) c
         go zero e x = tt
         go (suc c) e x = (

@@ -14,15 +14,15 @@ use Rattle.dt_access.specs.declared.TxnId.{TxnId}
 use Rattle.dt_sched.specs.Views.{ids_of}
 use Rattle.dt_txn.specs.declared.Txn.{Txn}
 use Rattle.dt_txn.specs.Transaction.{homes_of, IsValid}
-use Rattle.dt_table.specs.Table.{home_of}
+use Rattle.dt_table.specs.Table.{Table, home_of}
 use Rattle.dt_txn.specs.Replica.{done_ids}
 use Rattle.dt_cluster.specs.declared.Cluster.{Cluster}
 use Rattle.dt_cluster.specs.Valid.{IsValidCluster}
 use Rattle.dt_workload.specs.declared.Session.{Session}
-use Rattle.dt_workload.specs.declared.Wanted.{Wanted}
+use Rattle.dt_workload.specs.declared.Ranked.{Ranked}
 use Rattle.dt_workload.specs.declared.Workload.{Workload}
-use Rattle.dt_workload.specs.Valid.{WantedFits, IsValidSession, IsValidWorkload}
-use Rattle.dt_session.specs.World.{World, Node, Place, Submission, no_node, node_at, asked_of, taken_of, log_of, logs_of, submissions, submission_of, attempt_of, txn_of, session_at}
+use Rattle.dt_workload.specs.Valid.{RankedFits, IsValidSession, IsValidWorkload}
+use Rattle.dt_session.specs.World.{World, Node, Place, Submission, opening_table, no_node, node_at, asked_of, taken_of, log_of, logs_of, submissions, submission_of, attempt_of, txn_of, session_at}
 use Rattle.dt_txn.specs.Asking.{ask}
 use Rattle.dt_session.specs.Step.{MayTry, MaySubmit, awaited_at, body_of, upcoming_id, next_attempt, attempt_for, node_submitted, world_submitted, called, submitted}
 use Rattle.dt_session.specs.Run.{txns_of}
@@ -33,7 +33,7 @@ use Rattle.dt_agreement.proofs.Homes.{home_of_test, test_of_home, homes_once, as
 use Rattle.dt_agreement.proofs.Requests.{requests_append, requests_here, requests_not, numbered_more}
 use Rattle.dt_agreement.proofs.Sessions.{key_of_test, test_of_key, session_found, place_changed}
 use Rattle.dt_agreement.proofs.RegionViews.{done_known}
-use Rattle.dt_agreement.proofs.Annotations.{txns_valid, home_below, body_fits, annotated_valid}
+use Rattle.dt_agreement.proofs.Annotations.{txns_valid, version_stays, home_below, body_fits, annotated_valid}
 
 -- how many attempts of a name there are with one more submission
 
@@ -83,7 +83,7 @@ module _ {cluster : Cluster} {workload : Workload} {w : World} {order : List Txn
 
 module _ {cluster : Cluster} {workload : Workload} {w : World} {order : List TxnId} (i : Inv cluster workload w order)
     (ok : IsValidCluster cluster) (fits : IsValidWorkload cluster workload)
-    (region : ℕ) (session : Session) (place : Place) (call : Wanted)
+    (region : ℕ) (session : Session) (place : Place) (call : Ranked)
     (lr : region < cluster.regions) (member : Has workload.sessions session) (here : session.region ≡ region)
     (found : session_at workload.sessions w.places region session.name ≡ Some (session, place))
     (wants : slice_get session.calls place.answered ≡ Some call) (on : MayGoOn cluster w session place) where
@@ -166,26 +166,29 @@ module _ {cluster : Cluster} {workload : Workload} {w : World} {order : List Txn
   txns : (id : TxnId) (txn : Txn) → txn_of w id ≡ Some txn → txn_of v id ≡ Some txn
   txns = txn_stays w v found_still
 
-  valid_one : IsValid cluster.procs cluster.regions s.txn
+  valid_one : IsValid cluster.procs cluster.version cluster.regions s.txn
   unfolding s
-  valid_one = annotated_valid cluster cluster.regions (upcoming_id w region) (body_of call) (node_at w region).here.table (body_fits cluster cluster.regions call wanted) below
+  valid_one = annotated_valid cluster cluster.regions (upcoming_id w region) call.rank (body_of call.wanted) (node_at w region).here.table version (body_fits cluster call.wanted wanted.1) below
     where
-      sound : IsValidSession cluster.procs cluster.regions session
-      sound = all_get (IsValidSession cluster.procs cluster.regions) workload.sessions fits.sessions session member
+      sound : IsValidSession cluster session
+      sound = all_get (IsValidSession cluster) workload.sessions fits.sessions session member
 
-      wanted : WantedFits cluster.procs cluster.regions call
-      wanted = all_get (WantedFits cluster.procs cluster.regions) session.calls sound.calls call (has_place session.calls place.answered call wants)
+      wanted : RankedFits cluster call
+      wanted = all_get (RankedFits cluster) session.calls sound.calls call (has_place session.calls place.answered call wants)
 
       ran : List TxnId
       ran = done_ids (node_at w region).here
+
+      version : (node_at w region).here.table.version ≡ cluster.version
+      version = ap (λ (t : Table). t.version) (i.tables region lr).table ∙ version_stays cluster (txns_of w ran) (opening_table cluster)
 
       below : (key : Bytes) → home_of (node_at w region).here.table key < cluster.regions
       below key = subst (λ t. home_of t key < cluster.regions) (sym (i.tables region lr).table) (home_below cluster ok (txns_of w ran) (txns_valid cluster cluster.regions w i.valid ran) key)
 
   valid : Valid cluster cluster.regions v
-  valid = all_put (λ x. IsValid cluster.procs cluster.regions x.txn) (submissions v) (λ x h. elim (was x h) [
-    | inl k ↦ all_get (λ y. IsValid cluster.procs cluster.regions y.txn) (submissions w) i.valid x k
-    | inr e ↦ subst (λ y. IsValid cluster.procs cluster.regions y.txn) e valid_one
+  valid = all_put (λ x. IsValid cluster.procs cluster.version cluster.regions x.txn) (submissions v) (λ x h. elim (was x h) [
+    | inl k ↦ all_get (λ y. IsValid cluster.procs cluster.version cluster.regions y.txn) (submissions w) i.valid x k
+    | inr e ↦ subst (λ y. IsValid cluster.procs cluster.version cluster.regions y.txn) e valid_one
   ])
 
   -- requests
@@ -298,7 +301,7 @@ module _ {cluster : Cluster} {workload : Workload} {w : World} {order : List Txn
     here = here;
     call_from = omega arith;
     call_to = let c : place.answered < length session.calls = on.call in omega arith;
-    of_call = record { place = place.answered; call = call; number = refl; called = wants; body = refl };
+    of_call = record { place = place.answered; call = call; number = refl; called = wants; rank = refl; body = refl };
     attempt_from = on.from;
     attempt_to = on.to;
   })
@@ -360,7 +363,7 @@ module _ {cluster : Cluster} {workload : Workload} {w : World} {order : List Txn
 pub record Submits (cluster : Cluster) (workload : Workload) (w : World) (region : ℕ) (name : Bytes) : Type 0 where
   pub session : Session
   pub place : Place
-  pub call : Wanted
+  pub call : Ranked
   pub member : Has workload.sessions session
   pub named : session.name ≡ name
   pub here : session.region ≡ region
@@ -387,7 +390,7 @@ module _ {cluster : Cluster} {workload : Workload} {w : World} {order : List Txn
           let r : Has workload.sessions session × (session.name ≡ name) × (session.region ≡ region) × IsPlaceOf cluster.tries w session place =
           session_found (IsPlaceOf cluster.tries w) workload.sessions w.places region name session place i.sessions.places e in
           let on : MayGoOn cluster w session place = may_go_on i ok region session place m r.3 in
-          let c : (call : Wanted) × (slice_get session.calls place.answered ≡ Some call) = at_place session.calls place.answered on.call in
+          let c : (call : Ranked) × (slice_get session.calls place.answered ≡ Some call) = at_place session.calls place.answered on.call in
           record {
             session = session;
             place = place;

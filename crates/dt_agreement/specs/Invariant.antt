@@ -1,12 +1,13 @@
 -- What every legal world keeps, for any number of regions, homes and moves (`Inv`): ids, logs, what regions inserted, resolved
 -- and executed, and where sessions stand. And that each annotation is rooted in one history of moves (`Rooted`), which is what
--- ties attempts together that use a key under different homes. From the two follows that all regions agree; the laws of
+-- ties attempts together that use keys of one unit under different homes. From the two follows that all regions agree; the laws of
 -- `src/laws.rt` say so.
 use Rattle.std.specs.Prelude.{◌≡◌, ◌<◌, ◌≤◌, ◌↔◌, ◌+◌, ◌*◌, ◌==◌, ℕ, zero, suc, Bool, List, length, map, filter, take, slice_index, slice_get, Option, Some, None}
 use Rattle.std.specs.List.{list_any}
 use Rattle.dt_lists.specs.Lists.{AnyIn, AllIn, Has, Pairwise}
 use Rattle.dt_access.specs.Ids.{StandsBefore}
 use Rattle.dt_access.specs.Clash.{Bytes, same_key}
+use Rattle.dt_access.specs.Granules.{unit_of}
 use Rattle.dt_access.specs.declared.TxnId.{TxnId}
 use Rattle.dt_access.specs.declared.Access.{Access}
 use Rattle.dt_access.specs.declared.Part.{Part}
@@ -19,8 +20,8 @@ use Rattle.dt_txn.specs.Serial.{outcomes, table_after}
 use Rattle.dt_txn.specs.Replica.{Replica, done_ids}
 use Rattle.dt_serial.specs.Order.{IsDown}
 use Rattle.dt_cluster.specs.declared.Cluster.{Cluster}
+use Rattle.dt_workload.specs.declared.Ranked.{Ranked}
 use Rattle.dt_workload.specs.declared.Session.{Session}
-use Rattle.dt_workload.specs.declared.Wanted.{Wanted}
 use Rattle.dt_workload.specs.declared.Workload.{Workload}
 use Rattle.dt_session.specs.World.{World, Node, Place, Submission, opening_table, node_at, asked_of, taken_of, logs_of, log_of, received_of, view_at, submissions, txn_of}
 use Rattle.dt_session.specs.Step.{body_of}
@@ -83,13 +84,15 @@ pub record IsOrder (regions : ℕ) (w : World) (order : List TxnId) : Type 0 whe
 abbrev pub attempts_by : Bytes → List Submission → ℕ
 attempts_by name submitted = length (filter (λ s. same_key s.session name) submitted)
 
--- a submission does what the session's call of its number asks for; `place` is the place of that call in the session
+-- a submission does what the session's call of its number asks for, and has its rank; `place` is the place of that call in
+-- the session
 pub record IsOfCall (s : Submission) (session : Session) : Type 0 where
   pub place : ℕ
-  pub call : Wanted
+  pub call : Ranked
   pub number : s.call ≡ place + 1
   pub called : slice_get session.calls place ≡ Some call
-  pub body : s.txn.body ≡ body_of call
+  pub rank : s.txn.rank ≡ call.rank
+  pub body : s.txn.body ≡ body_of call.wanted
 
 -- a submission of a session: of one of its calls, which it does, and no attempt too many
 pub record IsSubmissionOf (tries region : ℕ) (s : Submission) (session : Session) : Type 0 where
@@ -139,7 +142,7 @@ pub record Inv (cluster : Cluster) (workload : Workload) (w : World) (order : Li
   -- ids: each region counts its submissions
   pub ids : (region : ℕ) → region < cluster.regions → AreNumbered region (node_at w region).submitted
   -- shape: each submitted transaction is valid
-  pub valid : AllIn (λ s. IsValid cluster.procs cluster.regions s.txn) (submissions w)
+  pub valid : AllIn (λ s. IsValid cluster.procs cluster.version cluster.regions s.txn) (submissions w)
   -- asked: each home was asked for the parts of just those transactions that have one there, in order
   pub asked : (region home : ℕ) → region < cluster.regions → home < cluster.regions → asked_of w region home ≡ requests home (node_at w region).submitted
   -- logs: each has the first of each region's requests
@@ -156,11 +159,11 @@ pub record Inv (cluster : Cluster) (workload : Workload) (w : World) (order : Li
   -- sessions: each waits for an attempt of its next call or for nothing, and has made no attempt too many
   pub sessions : SessionsMatch cluster workload w
 
--- the moves of a key in the one history: the run of the order on the opening table
+-- the moves of a key's unit in the one history: the run of the order on the opening table
 abbrev pub history_of : Cluster → World → List TxnId → Bytes → List Moved
 history_of cluster w order key = moves_of (table_after cluster.procs (txns_of w order) (opening_table cluster)) key
 
--- what the last of the first so many moves of a key is to t, whose entry names this home: its mover is closed and is not
+-- what the last of the first so many moves of a unit is to t, whose entry names this home: its mover is closed and is not
 -- reached from t, and where t has a part in the home's log, the mover has one there before it
 abbrev pub HasRoot : View → TxnId → ℕ → List Moved → ℕ → Type 0
 HasRoot logs t home moves zero = Unit {0}
@@ -168,12 +171,12 @@ HasRoot logs t home moves (suc c) =
     (m : Moved) × (slice_get moves c ≡ Some m) × IsClosed logs m.by × (¬ (Reaches logs t m.by))
     × (HasPart (log_at logs home) t → StandsBefore (ids_of (log_at logs home)) m.by t)
 
--- an entry of t is rooted in the moves of its key: its home is the one after so many of them, and it has a root
+-- an entry of t is rooted in the moves of its key's unit: its home is the one after so many of them, and it has a root
 pub record IsRooted (cluster : Cluster) (logs : View) (moves : List Moved) (t : TxnId) (a : Access) : Type 0 where
-  pub home : a.home ≡ home_after (opening_home cluster.regions cluster.homes a.key) (take a.counter moves)
+  pub home : a.home ≡ home_after (opening_home cluster.regions cluster.homes (unit_of cluster.version a.key)) (take a.counter moves)
   pub root : HasRoot logs t a.home moves a.counter
 
--- every entry of every submitted transaction, executed or not, is rooted in the one history of its key's moves
+-- every entry of every submitted transaction, executed or not, is rooted in the one history of the moves of its key's unit
 abbrev pub Rooted : Cluster → World → List TxnId → Type 0
 Rooted cluster w order =
     AllIn (λ s. AllIn (λ a. IsRooted cluster (logs_of w) (history_of cluster w order a.key) s.txn.id a) s.txn.access) (submissions w)

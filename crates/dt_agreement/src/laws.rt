@@ -2,6 +2,7 @@
 ghost use Rattle.std.specs.Prelude.{◌≡◌, ◌≢◌, ◌↔◌, ◌<◌, ◌≤◌, ℕ, true, List, [], ◌∷◌, ◌++◌, Some};
 ghost use Rattle.dt_lists.specs.Lists.{AllIn, Has};
 ghost use Rattle.dt_access.specs.Clash.{Bytes, clash};
+ghost use Rattle.dt_access.specs.Granules.{unit_of};
 ghost use Rattle.dt_access.specs.declared.Access.{Access};
 ghost use Rattle.dt_access.specs.declared.TxnId.{TxnId};
 ghost use Rattle.dt_sched.specs.Views.{IsClass, IsClosed, Precedes};
@@ -41,8 +42,8 @@ pub fn agreement()
 {}
 
 /// Of two executed attempts that are not stale, and whose uses clash, one precedes the other in the whole logs, whatever
-/// was moved between them. Where both use a key, and one that is not stale was annotated with fewer of its moves, that
-/// one precedes the other.
+/// was moved between them. Where both use keys of one unit, and one that is not stale was annotated with fewer moves of that
+/// unit, that one precedes the other.
 pub fn across_moves()
     ensures ordered { (cluster : Cluster) (workload : Workload) (events : List Event) →
         IsLegalRun cluster workload events →
@@ -55,12 +56,12 @@ pub fn across_moves()
         (a b : TxnId) (x y : Txn) → Has (order_of events) a → Has (order_of events) b →
         txn_of (world_after cluster workload events) a ≡ Some x → txn_of (world_after cluster workload events) b ≡ Some y →
         ¬ (IsStale (serial_outcome cluster workload events a)) →
-        (k l : Access) → Has x.access k → Has y.access l → k.key ≡ l.key → k.counter < l.counter →
+        (k l : Access) → Has x.access k → Has y.access l → unit_of cluster.version k.key ≡ unit_of cluster.version l.key → k.counter < l.counter →
         Precedes (logs_of (world_after cluster workload events)) a b }
 {}
 
-/// Where an execution is legal, each key that the attempt uses has been moved in that region at least as often as the
-/// attempt was annotated with.
+/// Where an execution is legal, the unit of each key that the attempt uses has been moved in that region at least as often as
+/// the attempt was annotated with.
 pub fn reached_counters()
     ensures { (cluster : Cluster) (workload : Workload) (events : List Event) →
         IsLegalRun cluster workload events →

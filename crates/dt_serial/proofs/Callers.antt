@@ -6,5 +6,6 @@ pub use Rattle.dt_serial.proofs.Lookups.{looked_filter, looked_from, looked_has,
 pub use Rattle.dt_serial.proofs.One.{live_of_outcome}
 pub use Rattle.dt_serial.proofs.Outcome.{across_moves, counters_reached, moves_front, one_outcome, one_restricted, one_set, single_outcome}
 pub use Rattle.dt_serial.proofs.Past.{among_of_has, down_of_order, down_push, has_of_among, not_among}
+pub use Rattle.dt_serial.proofs.Rows.{same_moves}
 pub use Rattle.dt_serial.proofs.Runs.{movers_ran, moves_grow, outcome_at, outcomes_append, outcomes_ids, table_after_append}
 pub use Rattle.dt_serial.proofs.Valid.{valid_keeps}

@@ -20,13 +20,13 @@ use Rattle.dt_txn.specs.declared.Body.{Body}
 use Rattle.dt_txn.specs.declared.Outcome.{Outcome}
 use Rattle.dt_workload.specs.Valid.{calls_in, session_names}
 use Rattle.dt_workload.specs.declared.Session.{Session}
-use Rattle.dt_workload.specs.declared.Wanted.{Wanted}
+use Rattle.dt_workload.specs.declared.Ranked.{Ranked}
 use Rattle.dt_session.specs.declared.sessions.Seat.{Seat}
 use Rattle.dt_session.specs.Eager.{sessions_at, with_session}
 use Rattle.dt_session.specs.declared.sessions.Waiting.{Waiting}
 use Rattle.dt_session.specs.Sessions.{IsSoundSeat, MayBeAnswered, MayGo, MaySeatEnd, MaySeatTry, SessionsView, StandsWithin, idle_seat, is_named, seat_of}
 use Rattle.dt_session.specs.World.{Place, idle_place, session_at}
-use Rattle.dt_session.specs.Tries.{Awaited, IsLast, MayEnd, MayTry, body_of}
+use Rattle.dt_session.specs.Tries.{Awaited, IsLast, MayEnd, MayTry, body_of, ranked_body}
 
 -- one name is another
 same_name : (a b : Bytes) → is_named a b ≡ true → a ≡ b
@@ -119,7 +119,7 @@ module _ (region : ℕ) (sessions : List Session) (once : Distinct (session_name
 pub a_call : (o : Option Seat) (seat : Seat) (call : ℕ) → o ≡ Some seat → IsSome (option_and_then (λ (x : Seat). slice_get x.calls (call - 1)) o) → call - 1 < length seat.calls
 a_call o seat call e some = go (slice_get seat.calls (call - 1)) refl (subst (λ x. IsSome (option_and_then (λ (y : Seat). slice_get y.calls (call - 1)) x)) e some)
   where
-    go : (w : Option Wanted) → slice_get seat.calls (call - 1) ≡ w → IsSome w → call - 1 < length seat.calls
+    go : (w : Option Ranked) → slice_get seat.calls (call - 1) ≡ w → IsSome w → call - 1 < length seat.calls
     go None is h = cc
     go (Some x) is h = place_within seat.calls (call - 1) x is
 
@@ -185,11 +185,11 @@ module _ (s : SessionsView) (name : Bytes) (last : Option Outcome) where
         go (Some w) e m = waiting_within seat w sound e
 
 -- the call of a number is what the workload wants
-pub body_is : (o : Option Seat) (seat : Seat) (call : ℕ) (d wanted : Wanted) (body : Body) → o ≡ Some seat → call - 1 < length seat.calls → wanted ≡ get_or seat.calls (call - 1) d → body_of wanted ≡ body
-    → option_map body_of (option_and_then (λ (x : Seat). slice_get x.calls (call - 1)) o) ≡ Some body
-body_is o seat call d wanted body e lt is made =
-    ap (λ x. option_map body_of (option_and_then (λ (y : Seat). slice_get y.calls (call - 1)) x)) e
-    ∙ ap (option_map body_of) (slice_get-get_or seat.calls (call - 1) d lt ∙ ap Some (sym is)) ∙ ap Some made
+pub body_is : (o : Option Seat) (seat : Seat) (call : ℕ) (d ranked : Ranked) (body : Body) → o ≡ Some seat → call - 1 < length seat.calls → ranked ≡ get_or seat.calls (call - 1) d → body ≡ body_of ranked.wanted
+    → option_map ranked_body (option_and_then (λ (x : Seat). slice_get x.calls (call - 1)) o) ≡ Some (ranked.rank, body)
+body_is o seat call d ranked body e lt is made =
+    ap (λ x. option_map ranked_body (option_and_then (λ (y : Seat). slice_get y.calls (call - 1)) x)) e
+    ∙ ap (option_map ranked_body) (slice_get-get_or seat.calls (call - 1) d lt ∙ ap Some (sym is)) ∙ ap (λ b. Some (ranked.rank, b)) (sym made)
 
 -- what holds of each value of a map holds along its entries, and back
 

@@ -33,18 +33,19 @@ IsAwaited cluster workload events region session id =
     WaitsFor (session_at workload.sessions (world_after cluster workload events).places region session) id
 
 -- what an attempt that failed failed by: its procedure, run at its place in the serial order; or a named move, that
--- stands earlier, is of that key, gave, and is the move that follows those that the attempt was annotated with
+-- stands earlier, is of the unit that is told, gave, and is the move of that unit that follows those that the attempt was
+-- annotated with
 abbrev pub HasCause : Cluster → Workload → List Event → TxnId → Outcome → Type 0
 HasCause cluster workload events id (Gave values) = Unit {0}
 HasCause cluster workload events id (Aborted cause) =
     (txn : Txn) × (txn_of (world_after cluster workload events) id ≡ Some txn)
     × ((result_of cluster.procs id txn.body (reads_of txn.access (see txn (table_before cluster workload events id)))).0 ≡ Aborted cause)
-HasCause cluster workload events id (Stale key had by) =
+HasCause cluster workload events id (Stale unit had by) =
     (mover : Txn) × (target : ℕ) × (txn_of (world_after cluster workload events) by ≡ Some mover)
-    × (mover.body ≡ Move key target)
+    × (mover.body ≡ Move unit target)
     × StandsBefore (order_of events) by id
     × (serial_outcome cluster workload events by ≡ Some (Gave []))
-    × (next_mover (table_before cluster workload events id) key had ≡ Some by)
+    × (next_mover (table_before cluster workload events id) unit had ≡ Some by)
 
 -- two regions have received equally much of every log
 abbrev pub ReceivedAlike : World → ℕ → ℕ → Type 0

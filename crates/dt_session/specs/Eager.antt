@@ -15,7 +15,7 @@ use Rattle.dt_txn.specs.Replica.{next_id}
 use Rattle.dt_cluster.specs.declared.Cluster.{Cluster}
 use Rattle.dt_workload.specs.declared.Workload.{Workload}
 use Rattle.dt_workload.specs.declared.Session.{Session}
-use Rattle.dt_workload.specs.declared.Wanted.{Wanted}
+use Rattle.dt_workload.specs.declared.Ranked.{Ranked}
 use Rattle.dt_session.specs.World.{World, opening_table, opening_world}
 use Rattle.dt_session.specs.Step.{next, body_of}
 
@@ -30,21 +30,21 @@ sessions_at region [] = []
 sessions_at region (s ∷ sessions) = if s.region == region then with_session s (sessions_at region sessions) else sessions_at region sessions
 
 -- whether a session's first call has a key, or its target, at the session's region, before anything was moved
-abbrev pub is_home : Cluster → ℕ → Table → Wanted → Bool
-is_home cluster region t call = list_any (λ home. home == region) (homes_of (annotate cluster.procs (next_id region 0) (body_of call) t))
+abbrev pub is_home : Cluster → ℕ → Table → Ranked → Bool
+is_home cluster region t call = list_any (λ home. home == region) (homes_of (annotate cluster.procs (next_id region 0) call.rank (body_of call.wanted) t))
 
 -- a session with its first call, if it has one
-abbrev pub with_first_call : Session → List Wanted → List (Session × Wanted)
+abbrev pub with_first_call : Session → List Ranked → List (Session × Ranked)
 with_first_call s [] = []
 with_first_call s (call ∷ calls) = (s, call) ∷ []
 
 -- the sessions that have a call, each with its first one
-abbrev pub first_calls : List Session → List (Session × Wanted)
+abbrev pub first_calls : List Session → List (Session × Ranked)
 first_calls sessions = flat_map (λ s. with_first_call s s.calls) sessions
 
 -- one submission of each of these sessions, each followed at once by the region's own append where the region is a home;
 -- `placed` is the number of the next append
-abbrev pub first_events : Cluster → ℕ → Table → List (Session × Wanted) → ℕ → List Event
+abbrev pub first_events : Cluster → ℕ → Table → List (Session × Ranked) → ℕ → List Event
 first_events cluster region t [] placed = []
 first_events cluster region t ((s, call) ∷ sessions) placed =
     if is_home cluster region t call

@@ -12,9 +12,9 @@ use Rattle.dt_workload.specs.declared.Workload.{Workload}
 use Rattle.dt_session.specs.World.{opening_table}
 use Rattle.dt_session.specs.Step.{body_of}
 
--- the homes of a body before anything is moved; they are the same under whichever id
+-- the homes of a body before anything is moved; they are the same under whichever id and rank
 abbrev pub homes_at_first : Cluster → Body → List ℕ
-homes_at_first cluster body = homes_of (annotate cluster.procs (next_id 0 0) body (opening_table cluster))
+homes_at_first cluster body = homes_of (annotate cluster.procs (next_id 0 0) 0 body (opening_table cluster))
 
 -- the body is a call, and has one home before anything is moved
 abbrev pub HasOneHome : Cluster → Body → Type 0
@@ -23,4 +23,4 @@ HasOneHome cluster (Move key target) = ⊥
 
 -- so has each call of each session
 abbrev pub CallsHaveOneHome : Cluster → Workload → Type 0
-CallsHaveOneHome cluster workload = AllIn (λ session. AllIn (λ call. HasOneHome cluster (body_of call)) session.calls) workload.sessions
+CallsHaveOneHome cluster workload = AllIn (λ session. AllIn (λ call. HasOneHome cluster (body_of call.wanted)) session.calls) workload.sessions

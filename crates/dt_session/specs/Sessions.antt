@@ -11,7 +11,7 @@ use Rattle.dt_access.specs.Clash.{Bytes}
 use Rattle.dt_access.specs.declared.TxnId.{TxnId}
 use Rattle.dt_txn.specs.declared.Outcome.{Outcome}
 use Rattle.dt_workload.specs.declared.Session.{Session}
-use Rattle.dt_workload.specs.declared.Wanted.{Wanted}
+use Rattle.dt_workload.specs.declared.Ranked.{Ranked}
 use Rattle.dt_workload.specs.declared.Workload.{Workload}
 use Rattle.dt_session.specs.declared.sessions.Seat.{Seat}
 use Rattle.dt_session.specs.declared.sessions.Waiting.{Waiting}
@@ -100,8 +100,8 @@ after_answer s name = with_changed answered_seat s name (seat_of s name)
 abbrev pub waits_of : SessionsView → Bytes → Option TxnId
 waits_of s name = option_and_then (λ (seat : Seat). option_map (λ (w : Waiting). w.id) seat.waits) (seat_of s name)
 
--- the call of this number, from 1, of the session of a name, if there are both
-abbrev pub wanted_of : SessionsView → Bytes → ℕ → Option Wanted
+-- the call of this number, from 1, of the session of a name, with its rank, if there are both
+abbrev pub wanted_of : SessionsView → Bytes → ℕ → Option Ranked
 wanted_of s name call = option_and_then (λ (seat : Seat). slice_get seat.calls (call - 1)) (seat_of s name)
 
 -- every call of every session is answered

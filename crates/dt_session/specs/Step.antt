@@ -13,8 +13,8 @@ use Rattle.dt_txn.specs.Replica.{MayStep, next_id, submission_for, after_asking,
 use Rattle.dt_cluster.specs.declared.Cluster.{Cluster}
 use Rattle.dt_workload.specs.declared.Workload.{Workload}
 use Rattle.dt_workload.specs.declared.Session.{Session}
-use Rattle.dt_workload.specs.declared.Wanted.{Wanted}
-pub use Rattle.dt_session.specs.Tries.{Awaited, IsLast, IsStale, MayEnd, MayTry, attempt_after, body_of}
+use Rattle.dt_workload.specs.declared.Ranked.{Ranked}
+pub use Rattle.dt_session.specs.Tries.{Awaited, IsLast, IsStale, MayEnd, MayTry, attempt_after, body_of, ranked_body}
 use Rattle.dt_session.specs.World.{World, Node, Place, Submission, node_at, with_node, asked_of, taken_of, log_of, received_of, received_logs, txn_of, attempt_of, outcome_at, session_at, with_place}
 
 -- the attempt that a session waits for, if it does, with its outcome at a region
@@ -79,10 +79,10 @@ next_attempt w waits = attempt_after (option_map (attempt_of w) waits)
 abbrev pub upcoming_id : World → ℕ → TxnId
 upcoming_id w region = next_id region (length (node_at w region).submitted)
 
--- what a session submits: its next call, as its region makes a transaction of it
-abbrev pub attempt_for : Cluster → World → ℕ → Session → Place → Wanted → Submission
+-- what a session submits: its next call, as its region makes a transaction of it, of the rank of that call
+abbrev pub attempt_for : Cluster → World → ℕ → Session → Place → Ranked → Submission
 attempt_for cluster w region session place call = record {
-  txn = submission_for cluster.procs region (length (node_at w region).submitted) (node_at w region).here (body_of call);
+  txn = submission_for cluster.procs region (length (node_at w region).submitted) (node_at w region).here call.rank (body_of call.wanted);
   session = session.name;
   call = place.answered + 1;
   attempt = next_attempt w place.waits;
@@ -100,7 +100,7 @@ world_submitted workload w region session place s = record {
 }
 
 -- the world after a session submits its next call, if there are a session and a call
-abbrev pub called : Cluster → Workload → World → ℕ → Session → Place → Option Wanted → World
+abbrev pub called : Cluster → Workload → World → ℕ → Session → Place → Option Ranked → World
 called cluster workload w region session place None = w
 called cluster workload w region session place (Some call) = world_submitted workload w region session place (attempt_for cluster w region session place call)
 

@@ -8,6 +8,7 @@ use Rattle.dt_txn.specs.declared.txn.Body.TheVariants.{Call, Move}
 use Rattle.dt_txn.specs.declared.Outcome.{Outcome}
 use Rattle.dt_txn.specs.declared.outcome.Outcome.TheVariants.{Gave, Aborted, Stale}
 use Rattle.dt_txn.specs.Staleness.{IsStaleOutcome}
+use Rattle.dt_workload.specs.declared.Ranked.{Ranked}
 use Rattle.dt_workload.specs.declared.Wanted.{Wanted}
 use Rattle.dt_workload.specs.declared.Wanted.TheVariants as wanted
 
@@ -21,7 +22,7 @@ abbrev pub IsLast : ℕ → ℕ → Option Outcome → Type 0
 IsLast tries attempt None = ⊥
 IsLast tries attempt (Some (Gave values)) = Unit {0}
 IsLast tries attempt (Some (Aborted cause)) = Unit {0}
-IsLast tries attempt (Some (Stale key had by)) = attempt ≡ tries
+IsLast tries attempt (Some (Stale unit had by)) = attempt ≡ tries
 
 -- an attempt that a session waits for: its number in its call, and its outcome at the session's region, if it is there
 pub record Awaited : Type 0 where
@@ -48,3 +49,7 @@ attempt_after (Some attempt) = attempt + 1
 abbrev pub body_of : Wanted → Body
 body_of (wanted.Call proc args) = Call proc args
 body_of (wanted.Move key target) = Move key target
+
+-- the same with the rank that a workload gives it
+abbrev pub ranked_body : Ranked → ℕ × Body
+ranked_body call = (call.rank, body_of call.wanted)

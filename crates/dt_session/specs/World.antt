@@ -57,7 +57,7 @@ opening_node regions table = record {
 
 -- the table that every region has at first
 abbrev pub opening_table : Cluster → Table
-opening_table cluster = opening cluster.regions cluster.homes cluster.rows
+opening_table cluster = opening cluster.version cluster.regions cluster.homes cluster.rows
 
 -- a session before its first call
 abbrev pub idle_place : Place
@@ -72,7 +72,7 @@ opening_world cluster workload = record {
 
 -- stands for a region that there is not
 abbrev pub no_node : Node
-no_node = opening_node 0 (opening 0 [] [])
+no_node = opening_node 0 (opening 1 0 [] [])
 
 -- a region of the world
 abbrev pub node_at : World → ℕ → Node

@@ -3,7 +3,7 @@ ghost use Rattle.std.specs.Option.{option_copied};
 ghost use Rattle.dt_lists.specs.Lists.{Distinct};
 ghost use Rattle.dt_workload.specs.Valid.{calls_in, session_names};
 ghost use Rattle.dt_session.specs.Sessions.{AreAllAnswered, IsNext, MayBeAnswered, MayGo, after_answer, after_wait, all_idle, waits_of, wanted_of};
-ghost use Rattle.dt_session.specs.Tries.{IsLast, IsStale, body_of};
+ghost use Rattle.dt_session.specs.Tries.{IsLast, IsStale, body_of, ranked_body};
 
 use dt_access::{TryCopy, TxnId};
 use dt_text::{Name, NoMemory};
@@ -120,19 +120,17 @@ impl Sessions {
         Some(waiting.id)
     }
 
-    /// What the call of this number, from 1, of the session of this name is to do.
-    pub fn body(&self, alloc: Global, session: &Name, call: u32) -> Result<Body, NoMemory>
+    /// The rank of the call of this number, from 1, of the session of this name, and what it is to do.
+    pub fn body(&self, alloc: Global, session: &Name, call: u32) -> Result<(u8, Body), NoMemory>
         requires from { 1 ≤ call }
         requires there { IsSome (wanted_of self.now session.now call) }
-        ensures { IfOk result (λ body. option_map body_of (wanted_of self.now session.now call) ≡ Some body) }
+        ensures { IfOk result (λ call_body. option_map ranked_body (wanted_of self.now session.now call) ≡ Some call_body) }
     {
         let Some(seat) = self.seats.get(session) else {
             unreachable!()
         };
-        match &seat.calls.as_slice()[call as usize - 1] {
-            Wanted::Call(proc, args) => Ok(Body::Call(*proc, args.copy(alloc)?)),
-            Wanted::Move(key, target) => Ok(Body::Move(key.copy(alloc)?, *target)),
-        }
+        let ranked = &seat.calls.as_slice()[call as usize - 1];
+        Ok((ranked.rank, copy_body(alloc, &ranked.wanted)?))
     }
 
     /// The name of the session at this place, from 0, in byte order of names. `None` exactly at or past their number.
@@ -181,6 +179,16 @@ impl Sessions {
         seat.answered += 1;
         seat.waits = None;
         true
+    }
+}
+
+/// What a call or a move of a workload is to do.
+fn copy_body(alloc: Global, wanted: &Wanted) -> Result<Body, NoMemory>
+    ensures { IfOk result (λ body. body ≡ body_of wanted.now) }
+{
+    match wanted {
+        Wanted::Call(proc, args) => Ok(Body::Call(*proc, args.copy(alloc)?)),
+        Wanted::Move(key, target) => Ok(Body::Move(key.copy(alloc)?, *target)),
     }
 }
 

@@ -1,8 +1,5 @@
-use Rattle.std.proofs.Common.{◌≡◌, ◌<◌, ◌-◌, Some, length, get_or, sym, ap, subst, ◌∙◌}
-use Rattle.dt_txn.specs.declared.txn.Body.TheVariants.{Call, Move}
-use Rattle.dt_workload.specs.declared.Wanted.TheVariants as wanted
+use Rattle.std.proofs.Common.{◌≡◌, ◌<◌, ◌-◌, Some, length, get_or, sym, subst}
 use Rattle.dt_session.specs.Sessions.{SessionsView, seat_of}
-use Rattle.dt_session.specs.Tries.{body_of}
 use Rattle.dt_session.proofs.SessionsLaws.{a_call, body_is}
 use Rattle.dt_session.proofs.sessions.Sessions.body.Goals as goal
 
@@ -12,22 +9,5 @@ bounds-as_slice-call c =
     subst (λ (v : SessionsView). seat_of v c.args.session.now ≡ Some c.in-Some.seat.now) c.self.view_is (sym c.in-Some.ensures.value) in
     subst (λ l. c.args.call - 1 < length l) (sym c.as_slice.ensures) (a_call (seat_of c.args.self.now c.args.session.now) c.in-Some.seat.now c.args.call found c.requires.there)
 
-pub returns-in_ok-copy-in-Call : goal.returns-in_ok-copy-in-Call
-returns-in_ok-copy-in-Call c =
-    let found : seat_of c.args.self.now c.args.session.now ≡ Some c.in-Some.seat.now =
-    subst (λ (v : SessionsView). seat_of v c.args.session.now ≡ Some c.in-Some.seat.now) c.self.view_is (sym c.in-Some.ensures.value) in
-    let within = a_call (seat_of c.args.self.now c.args.session.now) c.in-Some.seat.now c.args.call found c.requires.there in
-    let there : c.index-as_slice-call.result ≡ get_or c.in-Some.seat.now.calls (c.args.call - 1) c.index-as_slice-call.result =
-    subst (λ l. c.index-as_slice-call.result ≡ get_or l (c.args.call - 1) c.index-as_slice-call.result) c.as_slice.ensures c.index-as_slice-call.is in
-    body_is (seat_of c.args.self.now c.args.session.now) c.in-Some.seat.now c.args.call c.index-as_slice-call.result c.index-as_slice-call.result _ found within there
-    (ap body_of c.in-Call.is ∙ ap (Call c.in-Call.proc) (sym c.in_ok-copy-in-Call.ensures))
-
-pub returns-in_ok-copy-in-Move : goal.returns-in_ok-copy-in-Move
-returns-in_ok-copy-in-Move c =
-    let found : seat_of c.args.self.now c.args.session.now ≡ Some c.in-Some.seat.now =
-    subst (λ (v : SessionsView). seat_of v c.args.session.now ≡ Some c.in-Some.seat.now) c.self.view_is (sym c.in-Some.ensures.value) in
-    let within = a_call (seat_of c.args.self.now c.args.session.now) c.in-Some.seat.now c.args.call found c.requires.there in
-    let there : c.index-as_slice-call.result ≡ get_or c.in-Some.seat.now.calls (c.args.call - 1) c.index-as_slice-call.result =
-    subst (λ l. c.index-as_slice-call.result ≡ get_or l (c.args.call - 1) c.index-as_slice-call.result) c.as_slice.ensures c.index-as_slice-call.is in
-    body_is (seat_of c.args.self.now c.args.session.now) c.in-Some.seat.now c.args.call c.index-as_slice-call.result c.index-as_slice-call.result _ found within there
-    (ap body_of c.in-Move.is ∙ ap (λ k. Move k c.in-Move.target) (sym c.in_ok-copy-in-Move.ensures.same))
+pub returns : goal.returns
+returns c = ?
