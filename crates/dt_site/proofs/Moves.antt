@@ -9,7 +9,7 @@ use Rattle.dt_access.specs.declared.TxnId.{TxnId}
 use Rattle.dt_lists.proofs.Callers.{all_at}
 use Rattle.dt_proc.specs.Tree.{ProcTree}
 use Rattle.dt_table.specs.Table.{Table, counter_of}
-use Rattle.dt_table.proofs.Callers.{counter_of-apply, version-apply}
+use Rattle.dt_table.proofs.Callers.{counter_of-apply}
 use Rattle.dt_txn.specs.declared.Body.{Body}
 use Rattle.dt_txn.specs.declared.txn.Body.TheVariants.{Call, Move}
 use Rattle.dt_txn.specs.declared.Txn.{Txn}
@@ -22,18 +22,13 @@ use Rattle.dt_cluster.specs.declared.Cluster.{Cluster}
 use Rattle.dt_workload.specs.declared.Workload.{Workload}
 use Rattle.dt_session.specs.World.{World, Node, no_node, node_at, opening_table, txn_of}
 use Rattle.dt_session.specs.Run.{txns_of}
-use Rattle.dt_agreement.proofs.Callers.{unmoved_at_first}
+use Rattle.dt_agreement.proofs.Callers.{unmoved_at_first, version_stays}
 use Rattle.dt_site.specs.Site.{SiteView}
 use Rattle.dt_site.specs.StandsIn.{IsReached, StandsIn}
 use Rattle.dt_site.proofs.Short.{IsShort, legal_short}
 use Rattle.dt_site.proofs.Standing.{here_is, inv, valid_txn}
 
--- a table after transactions has the version that it had, and each of them moved a unit at most once
-
-pub version_after : (procs : List ProcTree) (txns : List Txn) (t : Table) → (table_after procs txns t).version ≡ t.version
-version_after procs [] t = refl
-version_after procs (x ∷ txns) t = version_after procs txns (after procs x t) ∙ version-apply (one procs x t).1 t
-
+-- each of the transactions that ran moved a unit at most once
 counter_after : (procs : List ProcTree) (txns : List Txn) (t : Table) (key : Bytes) → counter_of (table_after procs txns t) key ≤ counter_of t key + length txns
 counter_after procs [] t key = omega arith
 counter_after procs (x ∷ txns) t key =
@@ -59,7 +54,7 @@ module _ {cluster : Cluster} {workload : Workload} {w : World} (k : IsReached cl
   table_is = ap (λ h. h.table) (sym (here_is k s)) ∙ ((inv k).tables region lr).table
 
   pub version_is : p.region.state.here.table.version ≡ cluster.version
-  version_is = ap (λ t. t.version) table_is ∙ version_after cluster.procs ran (opening_table cluster)
+  version_is = ap (λ t. t.version) table_is ∙ version_stays cluster ran (opening_table cluster)
 
   -- what a region holds is valid for the procedures of the cluster
   pub holds_valid : HoldsValid cluster.procs p.region.state
