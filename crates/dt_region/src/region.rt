@@ -1,4 +1,4 @@
-ghost use Rattle.std.specs.Prelude.{◌≡◌, ◌<◌, ◌≤◌, [], ◌∷◌, ◌++◌, length, vec_len, vec_capacity, slice_index, slice_get, get_or, ℕ, ◌+◌, is_some, if◌then◌else◌, None, Some, IfOk};
+ghost use Rattle.std.specs.Prelude.{◌≡◌, ◌<◌, ◌≤◌, [], ◌∷◌, ◌++◌, length, vec_len, vec_capacity, slice_index, slice_get, get_or, ℕ, ◌+◌, Some, IfOk};
 ghost use Rattle.std.specs.Option.{option_copied};
 ghost use Rattle.dt_events.specs.declared.Event.TheVariants.{Insert, Resolve, Execute};
 ghost use Rattle.dt_sched.specs.Views.{log_at};
@@ -206,16 +206,6 @@ impl<S: Scheduler> Region<S> {
         Ok(id)
     }
 
-    // A copy of a transaction for the region to keep, unless it holds one of its id.
-    fn copy_to_keep(&self, alloc: Global, txn: &Txn) -> Result<Option<Txn>, NoMemory>
-        ensures { IfOk result (λ copy. copy ≡ (if is_some (held self.now.state txn.now.id) then None else Some txn.now)) }
-    {
-        if self.txn(txn.id).is_some() {
-            return Ok(None);
-        }
-        Ok(Some(txn.copy(alloc)?))
-    }
-
     /// Places the part of a transaction at the end of the region's own log, as request `number` of region `source`: the
     /// transaction is held from now on, one more request is taken from `source`, and the event is kept. False exactly where
     /// `number` isn't the number of requests that were taken from it; then nothing changes, and neither does after
@@ -232,17 +222,33 @@ impl<S: Scheduler> Region<S> {
         ensures makes { MakesAppend self.old source number txn.now result self.new }
         ensures sound { IsSoundRegion self.new.state }
     {
+        let txn = txn.copy(alloc)?;
+        self.append_owned(alloc, source, number, txn)
+    }
+
+    /// The same as `append` for a transaction that is handed over, of which no copy is made.
+    pub fn append_owned(
+        &mut self,
+        alloc: Global,
+        source: u8,
+        number: u32,
+        txn: Txn,
+    ) -> Result<bool, NoMemory>
+        requires source { source < self.old.state.regions }
+        requires can { CanAppend self.old.state source number txn }
+        ensures makes { MakesAppend self.old source number txn result self.new }
+        ensures sound { IsSoundRegion self.new.state }
+    {
         if number != self.taken(source) {
             return Ok(false);
         }
         let home = self.number;
-        let copy = self.copy_to_keep(alloc, txn)?;
-        let part = part_at(alloc, txn, home)?;
+        let part = part_at(alloc, &txn, home)?;
         self.events.reserve(1)?;
         self.foreign.reserve(1)?;
         place(&mut self.logs, part)?;
         self.taken[source as usize] = number + 1;
-        self.foreign.add(copy);
+        self.foreign.keep(home, txn);
         keep_event(
             &mut self.events,
             Event::Append {
