@@ -25,7 +25,7 @@
 //! let mut region: Region<S> = Region::new(alloc, 0, 1, table)?;
 //! let id = region.submit(alloc, &session, rank, body, &procs)?;
 //! let txn = region.txn(id)?.copy(alloc)?;
-//! region.append(alloc, 0, 0, &txn)?;        // the request of its only home, which is itself
+//! region.append_owned(alloc, 0, 0, txn)?;   // the request of its only home, which is itself
 //! region.insert(alloc, 0)?;
 //! region.execute(alloc, id, &procs)?;       // region.outcome(id) is what the session is answered
 //! region.answer(alloc, &session)?;
