@@ -31,7 +31,7 @@ pub record IsDelivery (sites : List SiteView) (region home first last : ℕ) (jo
   pub joined : joins (length (log_at (site_at sites region).region.state.logs home)) first last ≡ join
 
 -- the entries that it takes from the home's site
-pub record AreEntries (sites : List SiteView) (home first last : ℕ) (entries : List Entry) : Type 0 where
+pub record AreOfLog (sites : List SiteView) (home first last : ℕ) (entries : List Entry) : Type 0 where
   pub parts : map (λ e. e.part) entries ≡ drop first (take last (log_at (site_at sites home).region.state.logs home))
   pub txns : AllIn (λ e. held (site_at sites home).region.state e.part.id ≡ Some e.txn) entries
 
@@ -48,7 +48,7 @@ delivery_is sites region home first last join long within received is on = recor
 }
 
 pub entries_are : {sites : List SiteView} {home : ℕ} {r : RegionView} {origins : List Origin} → IsBehind sites home r origins → (first last : ℕ) (entries : List Entry)
-    → map (λ (e : Entry). e.part) entries ≡ drop first (take last (log_at r.state.logs home)) → AllIn (λ (e : Entry). held r.state e.part.id ≡ Some e.txn) entries → AreEntries sites home first last entries
+    → map (λ (e : Entry). e.part) entries ≡ drop first (take last (log_at r.state.logs home)) → AllIn (λ (e : Entry). held r.state e.part.id ≡ Some e.txn) entries → AreOfLog sites home first last entries
 entries_are {sites} {home} b first last entries parts txns = record {
   parts = parts ∙ ap (λ (x : RegionView). drop first (take last (log_at x.state.logs home))) b.region_is;
   txns = subst (λ (x : RegionView). AllIn (λ (e : Entry). held x.state e.part.id ≡ Some e.txn) entries) b.region_is txns;

@@ -1,7 +1,11 @@
 use Rattle.std.proofs.Common.{◌+◌, [], ◌∷◌, ◌++◌, ap, ◌∙◌}
+use Rattle.dt_txn.proofs.Callers.{can_run}
 use Rattle.dt_region.proofs.Rule1Submit.{submit_homes, submit_keeps}
 use Rattle.dt_region.proofs.Seen.{seen_as}
 use Rattle.dt_region.proofs.region.Region.submit.Goals as goal
+
+pub annotate-requires-clause-body : goal.annotate-requires-clause-body
+annotate-requires-clause-body g c = can_run c.args.procs.now _ _ c.args.body c.requires.fits
 
 pub ask-requires : goal.ask-requires
 ask-requires g c =
