@@ -52,7 +52,8 @@ one_moves procs version regions txn t valid =
 
 move_within : (regions version : ℕ) (q : Bytes) (move : Option (Bytes × ℕ × TxnId)) → MovesWithin regions move → AllIn (λ m. m.target < regions) (move_at version q move)
 move_within regions version q None within = tt
-move_within regions version q (Some m) within = elim (same_key (unit_of version q) (unit_of version m.0)) as (λ b. AllIn (λ (x : Moved). x.target < regions) (cond b (record { target = m.1; by = m.2 } ∷ []) [])) [ true ↦ (within, tt) | false ↦ tt ]
+move_within regions version q (Some m) within =
+    elim (same_key (unit_of version q) (unit_of version m.0)) as (λ b. AllIn (λ (x : Moved). x.target < regions) (cond b (record { target = m.1; by = m.2 } ∷ []) [])) [ true ↦ (within, tt) | false ↦ tt ]
 
 apply_table : (regions : ℕ) (e : Effect) (t : Table) → IsTableFor regions t → MovesWithin regions e.moved → IsTableFor regions (apply e t)
 apply_table regions e t fits within = record {
