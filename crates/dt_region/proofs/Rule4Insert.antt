@@ -15,6 +15,7 @@ use Rattle.dt_sched.specs.Views.{View, log_at, HasPart}
 use Rattle.dt_sched.specs.Decide.{IsSound}
 use Rattle.dt_sched.specs.Sched.{Sched, CanInsert, parts_in, with_part, after_insert}
 use Rattle.dt_sched.proofs.Callers.{sound_insert}
+use Rattle.dt_txn.specs.declared.txn.Txn.{Txn}
 use Rattle.dt_txn.specs.Transaction.{homes_of}
 use Rattle.dt_txn.specs.Replica.{fronts, view_of, done_ids}
 use Rattle.dt_region.specs.Region.{RegionState, RegionView, held, sched_of}
@@ -65,7 +66,7 @@ module _ (s : RegionState) (sound : IsSoundRegion s) (home : ℕ) (part : Part) 
   ranked_at : (other : ℕ) (p : Part) → IsHeldPart s other p → p.id ≡ part.id → p.rank ≡ part.rank
   ranked_at other p h e =
       let same : h.0 ≡ held_part.0 = same_Some h.0 held_part.0 (sym h.1 ∙ ap (held s) e ∙ held_part.1) in
-      ap (λ (q : Part). q.rank) h.2.1 ∙ ap (λ txn. txn.rank) same ∙ sym (ap (λ (q : Part). q.rank) held_part.2.1)
+      ap (λ (q : Part). q.rank) h.2.1 ∙ ap (λ (txn : Txn). txn.rank) same ∙ sym (ap (λ (q : Part). q.rank) held_part.2.1)
 
   pub can_insert : CanInsert sight part
   can_insert = record {
