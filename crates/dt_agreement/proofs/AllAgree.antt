@@ -9,7 +9,7 @@ use Rattle.std.proofs.lemmas.Bool.{cases_Bool}
 use Rattle.std.proofs.lemmas.Option.{same_Some}
 use Rattle.std.proofs.lemmas.List.{map-append}
 use Rattle.dt_lists.specs.Lists.{AnyIn, AllIn, Has, IsFront, Distinct}
-use Rattle.dt_lists.proofs.Callers.{any_get, any_put, any_append, any_append_left, any_append_right, all_get, all_put, has_map, all_append_left, each_across}
+use Rattle.dt_lists.proofs.Callers.{any_get, any_append, any_append_left, all_get, all_put, has_map, all_append_left, each_across}
 use Rattle.dt_lists.proofs.Callers.{has_before, has_middle}
 use Rattle.dt_lists.proofs.Callers.{front_refl, front_trans, any_front}
 use Rattle.dt_access.specs.Ids.{same_id, is_among, StandsBefore}
@@ -17,7 +17,6 @@ use Rattle.dt_access.specs.Clash.{Bytes}
 use Rattle.dt_access.specs.Granules.{unit_of}
 use Rattle.dt_access.proofs.Callers.{unit_again}
 use Rattle.dt_access.specs.declared.TxnId.{TxnId}
-use Rattle.dt_access.specs.declared.Access.{Access}
 use Rattle.dt_sched.specs.Views.{View, IsClosed, Precedes}
 use Rattle.dt_sched.proofs.Callers.{done_where_closed}
 use Rattle.dt_events.specs.declared.Event.{Event}
@@ -230,8 +229,8 @@ module _ {cluster : Cluster} {workload : Workload} {events : List Event} (run : 
   -- the unit of one of its keys is a unit
   unit_of_some : (txn : Txn) (unit : Bytes) (had : ℕ) → AnyIn (λ a. (unit_of cluster.version a.key ≡ unit) × (a.counter ≡ had)) txn.access → unit_of cluster.version unit ≡ unit
   unit_of_some txn unit had h =
-      let r : (a : Access) × Has txn.access a × (unit_of cluster.version a.key ≡ unit) × (a.counter ≡ had) = any_get (λ a. (unit_of cluster.version a.key ≡ unit) × (a.counter ≡ had)) txn.access h in
-      subst (λ u. unit_of cluster.version u ≡ u) r.2 (unit_again cluster.version r.0.key)
+      let r = any_get (λ a. (unit_of cluster.version a.key ≡ unit) × (a.counter ≡ had)) txn.access h in
+      subst (λ u. unit_of cluster.version u ≡ u) r.2.0 (unit_again cluster.version r.0.key)
 
   -- a mover that ran before moves the unit itself
   move_of_front : (front rest : List Txn) (txn : Txn) → ran ≡ front ++ txn ∷ rest → (unit : Bytes) (mover : Txn) (moved : Bytes) (target : ℕ) → Has front mover → mover.body ≡ Move moved target
@@ -254,9 +253,12 @@ module _ {cluster : Cluster} {workload : Workload} {events : List Event} (run : 
       let f : MadeMove cluster.procs front (opening_table cluster) unit had by = g.1 in
       let whole : MadeMove cluster.procs ran (opening_table cluster) unit had by = g.2 in
       let there : Has (txn_ids front) by = subst (Has (txn_ids front)) f.id (has_map (λ x. x.id) front f.mover f.there) in (
+        txn,
         f.mover,
         f.target,
+        found_one i rooted id front rest txn split own,
         subst (λ x. txn_of (world_after cluster workload events) x ≡ Some f.mover) f.id (found_front i rooted id front rest txn split own f.mover f.there),
+        g.0,
         move_of_front front rest txn split unit f.mover f.moved f.target f.there f.body f.same ∙ ap (λ u. Move u f.target) (unit_of_some txn unit had g.0),
         subst (λ l. StandsBefore l by id) (sym (order_split i rooted id front rest txn split own)) (has_before by id (txn_ids front) (txn_ids rest) there),
         has_lookup (serial_outcomes cluster workload events) by (Gave []) (outcomes_once i rooted) whole.gave,

@@ -110,7 +110,8 @@ moves_its_unit cluster x moved key target valid body same =
     body ∙ ap (λ k. Move k target) (sym fits.0 ∙ same)
 
 -- where valid transactions move units to
-pub targets_below : (cluster : Cluster) (txns : List Txn) → AllIn (IsValid cluster.procs cluster.version cluster.regions) txns → (key : Bytes) → AllIn (λ m. m.target < cluster.regions) (moves_of (table_after cluster.procs txns (opening_table cluster)) key)
+pub targets_below : (cluster : Cluster) (txns : List Txn) → AllIn (IsValid cluster.procs cluster.version cluster.regions) txns → (key : Bytes)
+    → AllIn (λ m. m.target < cluster.regions) (moves_of (table_after cluster.procs txns (opening_table cluster)) key)
 targets_below cluster txns a key = all_put _ (moves_of (table_after cluster.procs txns (opening_table cluster)) key) below
   where
     below : (m : Moved) → Has (moves_of (table_after cluster.procs txns (opening_table cluster)) key) m → m.target < cluster.regions

@@ -1,8 +1,7 @@
 -- The logs of a world: each id stands once in a log, at a home that its part names, and all parts of an id are those of
 -- its one transaction.
 use Rattle.dt_lists.proofs.Callers.{filter_none}
-use Rattle.std.proofs.Common.{◌≡◌, ◌<◌, ◌≤◌, ℕ, suc, Bool, true, false, eqb, List, [], ◌∷◌, length, take, Some, refl, sym, ap, subst, ◌∙◌, inl, inr, arith, eqb-true, eq-eqb}
-use Rattle.std.specs.Prelude.{filter}
+use Rattle.std.proofs.Common.{◌≡◌, ◌<◌, ◌≤◌, ℕ, suc, true, false, eqb, [], length, take, Some, refl, sym, ap, subst, ◌∙◌, inl, inr, arith, eqb-true, eq-eqb}
 use Rattle.std.proofs.lemmas.Bool.{false_from_ne_true}
 use Rattle.std.proofs.lemmas.List.{get_or_past}
 use Rattle.dt_lists.specs.Lists.{AllIn, Has, Distinct, Either}
@@ -87,12 +86,22 @@ module _ (regions : ℕ) (w : World) (nodes : length w.nodes ≡ regions) where
         let same : a.0 ≡ b.0 = cc in
         (a.0, a.2, b.2 ∙ ap (λ t. part_of t other) (sym same))
 
+    -- what all parts of one transaction have alike
+    alike_by : {A : Type 0} (f : Part → A) → ((txn : Txn) (h o : ℕ) → f (part_of txn h) ≡ f (part_of txn o)) → (home other : ℕ) → Either (home < regions) → Either (other < regions)
+        → AllIn (λ p. AllIn (λ q. p.id ≡ q.id → f p ≡ f q) (log_at (logs_of w) other)) (log_at (logs_of w) home)
+    alike_by f alike home other (inl lh) (inl lo) = subst (λ l. AllIn (λ p. AllIn (λ q. p.id ≡ q.id → f p ≡ f q) (log_at (logs_of w) other)) l) (sym (log_is w home))
+        (all_put _ (log_of w home) (λ p hp. subst (AllIn (λ q. p.id ≡ q.id → f p ≡ f q)) (sym (log_is w other)) (all_put _ (log_of w other) (λ q hq e.
+        let r : (txn : Txn) × (p ≡ part_of txn home) × (q ≡ part_of txn other) = parts_of_one home other p q lh lo hp hq e in
+        ap f r.1 ∙ alike r.0 home other ∙ sym (ap f r.2)))))
+    alike_by f alike home other (inr n) o = subst (λ l. AllIn (λ p. AllIn (λ q. p.id ≡ q.id → f p ≡ f q) (log_at (logs_of w) other)) l) (sym (logs_past home (omega arith))) tt
+    alike_by f alike home other (inl lh) (inr n) = all_put _ (log_at (logs_of w) home) (λ p hp. subst (AllIn (λ q. p.id ≡ q.id → f p ≡ f q)) (sym (logs_past other (omega arith))) tt)
+
     pub logs_well_formed : IsWellFormed (logs_of w)
     logs_well_formed = record {
       once = λ home. once home (either_le (suc home) regions);
       homed = λ home. homed home (either_le (suc home) regions);
-      alike = λ home other. same (λ p. p.homes) (λ txn h o. refl) home other (either_le (suc home) regions) (either_le (suc other) regions);
-      ranked = λ home other. same (λ p. p.rank) (λ txn h o. refl) home other (either_le (suc home) regions) (either_le (suc other) regions);
+      alike = λ home other. alike_by (λ p. p.homes) (λ txn h o. refl) home other (either_le (suc home) regions) (either_le (suc other) regions);
+      ranked = λ home other. alike_by (λ p. p.rank) (λ txn h o. refl) home other (either_le (suc home) regions) (either_le (suc other) regions);
     }
       where
         once : (home : ℕ) → Either (home < regions) → Distinct (ids_of (log_at (logs_of w) home))
@@ -102,13 +111,3 @@ module _ (regions : ℕ) (w : World) (nodes : length w.nodes ≡ regions) where
         homed : (home : ℕ) → Either (home < regions) → AllIn (λ p. (p.home ≡ home) × Has p.homes home) (log_at (logs_of w) home)
         homed home (inl lt) = subst (AllIn (λ p. (p.home ≡ home) × Has p.homes home)) (sym (log_is w home)) (all_put _ (log_of w home) (λ p h. part_homed home p lt h))
         homed home (inr n) = subst (AllIn (λ p. (p.home ≡ home) × Has p.homes home)) (sym (logs_past home (omega arith))) tt
-
-        -- what all parts of one transaction have alike
-        same : {A : Type 0} (f : Part → A) → ((txn : Txn) (h o : ℕ) → f (part_of txn h) ≡ f (part_of txn o)) → (home other : ℕ) → Either (home < regions) → Either (other < regions)
-            → AllIn (λ p. AllIn (λ q. p.id ≡ q.id → f p ≡ f q) (log_at (logs_of w) other)) (log_at (logs_of w) home)
-        same f alike home other (inl lh) (inl lo) = subst (λ l. AllIn (λ p. AllIn (λ q. p.id ≡ q.id → f p ≡ f q) (log_at (logs_of w) other)) l) (sym (log_is w home))
-            (all_put _ (log_of w home) (λ p hp. subst (AllIn (λ q. p.id ≡ q.id → f p ≡ f q)) (sym (log_is w other)) (all_put _ (log_of w other) (λ q hq e.
-            let r : (txn : Txn) × (p ≡ part_of txn home) × (q ≡ part_of txn other) = parts_of_one home other p q lh lo hp hq e in
-            ap f r.1 ∙ alike r.0 home other ∙ sym (ap f r.2)))))
-        same f alike home other (inr n) o = subst (λ l. AllIn (λ p. AllIn (λ q. p.id ≡ q.id → f p ≡ f q) (log_at (logs_of w) other)) l) (sym (logs_past home (omega arith))) tt
-        same f alike home other (inl lh) (inr n) = all_put _ (log_at (logs_of w) home) (λ p hp. subst (AllIn (λ q. p.id ≡ q.id → f p ≡ f q)) (sym (logs_past other (omega arith))) tt)

@@ -1,5 +1,5 @@
 -- The one history of a legal world: what roots every annotation in it gives what the theory of serial runs asks.
-use Rattle.std.proofs.Common.{◌≡◌, ◌≢◌, ◌<◌, ℕ, zero, suc, true, eqb, List, [], ◌∷◌, ◌++◌, map, take, slice_get, Some, refl, sym, ap, ap₂, subst, subst₂, ◌∙◌, inl, inr, arith, eq-eqb}
+use Rattle.std.proofs.Common.{◌≡◌, ◌≢◌, ◌<◌, ℕ, zero, suc, true, false, eqb, List, [], ◌∷◌, ◌++◌, map, take, slice_get, Some, refl, sym, ap, ap₂, subst, subst₂, ◌∙◌, inl, inr, arith, eq-eqb}
 use Rattle.std.specs.Prelude.{filter}
 use Rattle.std.proofs.lemmas.Option.{same_Some}
 use Rattle.dt_lists.specs.Lists.{AnyIn, AllIn, SomeThen, Has, Either}
@@ -61,10 +61,19 @@ pub listed : (body : Body) (home : ℕ) (access : List Access) (a : Access) → 
 listed (Call proc args) home access a h e = has_map used_of (filter (λ x. eqb x.home home) access) a (has_filter (λ x. eqb x.home home) access a h (eq-eqb a.home home e))
 listed (Move key target) home access a h e = has_map used_of access a h
 
+-- how a move of a key's unit uses that unit
+abbrev use_of_move : ℕ → Bytes → Bytes × Mode
+use_of_move version key = (unit_of version key, mode_of_move version)
+
 -- each part of a move lists the unit that it moves
 pub listed_of_move : (cluster : Cluster) (regions : ℕ) (x : Txn) (key : Bytes) (target : ℕ) (home : ℕ) → IsValid cluster.procs cluster.version regions x → x.body ≡ Move key target
     → (part_of x home).keys ≡ (key, mode_of_move cluster.version) ∷ []
 listed_of_move cluster regions x key target home valid e = ap (λ b. map used_of (entries_at b home x.access)) e ∙ valid.uses ∙ ap (uses_of cluster.procs cluster.version) e
+
+-- what moves the unit of an entry's key clashes with each list that has the entry
+meets_move : (version : ℕ) (a : Access) (uses : List (Bytes × Mode)) → Has uses (used_of a) → clash (use_of_move version a.key ∷ []) uses ≡ true
+meets_move version a uses h = clash_of_uses (use_of_move version a.key ∷ []) uses
+    (inl (any_put (λ b. uses_clash (use_of_move version a.key) b ≡ true) uses (used_of a) h (moves_clash version (use_of_move version a.key) (used_of a) refl (unit_again version a.key))))
 
 -- an entry's home is one of the homes
 pub home_of_entry : (x : Txn) (a : Access) → Has x.access a → Has (homes_of x) a.home
@@ -134,7 +143,8 @@ module _ {cluster : Cluster} {workload : Workload} {w : World} {order : List Txn
       let same : m ≡ record { target = made.target; by = m.by } = same_Some m (record { target = made.target; by = m.by }) both in
       let target : made.target ≡ m.target = sym (ap (λ x. x.target) same) in
       let found : txn_of w m.by ≡ Some made.mover = subst (λ id. txn_of w id ≡ Some made.mover) made.id from.1 in
-      let valid : IsValid cluster.procs cluster.version cluster.regions made.mover = all_get (IsValid cluster.procs cluster.version cluster.regions) (txns_of w order) (txns_valid cluster cluster.regions w i.valid order) made.mover made.there in
+      let valid : IsValid cluster.procs cluster.version cluster.regions made.mover =
+      all_get (IsValid cluster.procs cluster.version cluster.regions) (txns_of w order) (txns_valid cluster cluster.regions w i.valid order) made.mover made.there in
       (made.mover, found, moves_its_unit cluster made.mover made.moved key made.target valid made.body made.same ∙ ap (Move (unit_of cluster.version key)) target, valid)
 
   -- keys of one unit have the same moves
@@ -168,13 +178,6 @@ module _ {cluster : Cluster} {workload : Workload} {w : World} {order : List Txn
         closed : IsClosed (logs_of w) x.id
         closed = order_closed i x.id (in_order x hx).0
 
-        -- what a move of the unit of the entry's key uses
-        abbrev unit : Bytes
-        unit = unit_of cluster.version a.key
-
-        abbrev move : Bytes × Mode
-        move = (unit, mode_of_move cluster.version)
-
         there : HasPart (log_at (logs_of w) a.home) x.id
         there = parts_of_closed x.id x a.home closed (in_order x hx).1 (home_of_entry x a ha)
 
@@ -187,12 +190,10 @@ module _ {cluster : Cluster} {workload : Workload} {w : World} {order : List Txn
 
             clashing : (p q : Part) → Has (log_at (logs_of w) a.home) p → Has (log_at (logs_of w) a.home) q → (p.id ≡ r.0.by) × (q.id ≡ x.id) → AreClashing r.0.by x.id p q
             clashing p q hp hq e =
-                let m : (y : Txn) × (txn_of w r.0.by ≡ Some y) × (y.body ≡ Move unit r.0.target) × IsValid cluster.procs cluster.version cluster.regions y = maker_found a.key c r.0 r.1 in
-                let left : p.keys ≡ move ∷ [] = part_keys a.home p m.0 hp (ap (txn_of w) e.0 ∙ m.1) ∙ listed_of_move cluster cluster.regions m.0 unit r.0.target a.home m.3 m.2 in
+                let m : (y : Txn) × (txn_of w r.0.by ≡ Some y) × (y.body ≡ Move (unit_of cluster.version a.key) r.0.target) × IsValid cluster.procs cluster.version cluster.regions y = maker_found a.key c r.0 r.1 in
+                let left : p.keys ≡ use_of_move cluster.version a.key ∷ [] = part_keys a.home p m.0 hp (ap (txn_of w) e.0 ∙ m.1) ∙ listed_of_move cluster cluster.regions m.0 (unit_of cluster.version a.key) r.0.target a.home m.3 m.2 in
                 let right : q.keys ≡ (part_of x a.home).keys = part_keys a.home q x hq (ap (txn_of w) e.1 ∙ (in_order x hx).1) in
-                let moved : AnyIn (λ b. uses_clash move b ≡ true) (part_of x a.home).keys =
-                any_put (λ b. uses_clash move b ≡ true) (part_of x a.home).keys (used_of a) (listed x.body a.home x.access a ha refl) (moves_clash cluster.version move (used_of a) refl (unit_again cluster.version a.key)) in
-                (e.0, e.1, subst₂ (λ k l. clash k l ≡ true) (sym left) (sym right) (clash_of_uses (move ∷ []) (part_of x a.home).keys (inl moved)))
+                (e.0, e.1, subst₂ (λ k l. clash k l ≡ true) (sym left) (sym right) (meets_move cluster.version a (part_of x a.home).keys (listed x.body a.home x.access a ha refl)))
 
             edge : Edge (logs_of w) r.0.by x.id
             edge =

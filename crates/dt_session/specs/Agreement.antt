@@ -2,8 +2,9 @@
 -- for, the causes of failures, and, once they are drained of the same logs, all rows. `Agree` is what the program promises
 -- of each list that it reports; that each legal list has it is the law `agreement`.
 use Rattle.std.specs.Prelude.{◌≡◌, ◌<◌, ℕ, List, [], ◌∷◌, ◌++◌, Option, Some, None}
-use Rattle.dt_lists.specs.Lists.{Has}
+use Rattle.dt_lists.specs.Lists.{AnyIn, Has}
 use Rattle.dt_access.specs.Clash.{Bytes}
+use Rattle.dt_access.specs.Granules.{unit_of}
 use Rattle.dt_access.specs.Ids.{StandsBefore}
 use Rattle.dt_access.specs.declared.TxnId.{TxnId}
 use Rattle.dt_events.specs.declared.Event.{Event}
@@ -32,16 +33,18 @@ abbrev pub IsAwaited : Cluster → Workload → List Event → ℕ → Bytes →
 IsAwaited cluster workload events region session id =
     WaitsFor (session_at workload.sessions (world_after cluster workload events).places region session) id
 
--- what an attempt that failed failed by: its procedure, run at its place in the serial order; or a named move, that
--- stands earlier, is of the unit that is told, gave, and is the move of that unit that follows those that the attempt was
--- annotated with
+-- what an attempt that failed failed by: its procedure, run at its place in the serial order; or a named move: the unit that
+-- is told is that of a key of the attempt, and the move stands earlier, is of that unit, gave, and follows the moves of the
+-- unit that the attempt was annotated with
 abbrev pub HasCause : Cluster → Workload → List Event → TxnId → Outcome → Type 0
 HasCause cluster workload events id (Gave values) = Unit {0}
 HasCause cluster workload events id (Aborted cause) =
     (txn : Txn) × (txn_of (world_after cluster workload events) id ≡ Some txn)
     × ((result_of cluster.procs id txn.body (reads_of txn.access (see txn (table_before cluster workload events id)))).0 ≡ Aborted cause)
 HasCause cluster workload events id (Stale unit had by) =
-    (mover : Txn) × (target : ℕ) × (txn_of (world_after cluster workload events) by ≡ Some mover)
+    (txn mover : Txn) × (target : ℕ) × (txn_of (world_after cluster workload events) id ≡ Some txn)
+    × (txn_of (world_after cluster workload events) by ≡ Some mover)
+    × AnyIn (λ a. (unit_of cluster.version a.key ≡ unit) × (a.counter ≡ had)) txn.access
     × (mover.body ≡ Move unit target)
     × StandsBefore (order_of events) by id
     × (serial_outcome cluster workload events by ≡ Some (Gave []))

@@ -12,7 +12,7 @@
 //! | 2 | `Append` | a home places the next part that a region asked for at the end of its log |
 //! | 3 | `Deliver` | a region receives more of a home's log |
 //! | 4 | `Insert` | a region takes the next part that it received into its graph of what comes before what |
-//! | 5 | `Resolve` | a region finds a deadlocked group, all of whose parts it has: from now on it goes by ids |
+//! | 5 | `Resolve` | a region finds a deadlocked group, all of whose parts it has: from now on it goes by ranks and ids |
 //! | 6 | `Execute` | a region runs a transaction before which all that precedes it has run |
 //! | 7 | `Answer` | a session learns the outcome that its region has for its attempt, or a stale one is tried again |
 //!
@@ -24,11 +24,13 @@
 //! ```
 //!
 //! Log 0 puts 1.0 first and log 1 puts 1.1 first, so neither can go before the other: a deadlock, with no lock held. Each
-//! region that has all four parts sees the same group {1.0, 1.1}, resolves it, and runs the lesser id first. Whatever is
-//! delivered when, all regions end with the same rows, and both sessions are told outcomes of the one order 1.0, 1.1.
+//! region that has all four parts sees the same group {1.0, 1.1}, resolves it, and runs the lesser rank first and, as both
+//! have one rank here, the lesser id. Whatever is delivered when, all regions end with the same rows, and both sessions are
+//! told outcomes of the one order 1.0, 1.1.
 //!
-//! A key may be moved to another home by a transaction of its own. An attempt that was annotated before a move of one of
-//! its keys is then `Stale`: it does nothing, and its session may try again.
+//! A key may be moved to another home by a transaction of its own; in version 2 of a cluster a move takes along all keys of a
+//! granule. An attempt that was annotated before a move of one of its keys is then `Stale`: it does nothing, and its session
+//! may try again.
 //!
 //! Read next: `specs/World` (what a state is), `specs/Tries` (when a session may go on), `specs/Step` (the rules), `specs/Run` (lists of events and their serial
 //! order), `specs/Agreement` (what all regions agree on), `specs/Sessions` (the sessions of one region). `specs/OneHome`, `specs/Eager` and `specs/Finished` name kinds of

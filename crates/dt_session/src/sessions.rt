@@ -124,7 +124,7 @@ impl Sessions {
     pub fn body(&self, alloc: Global, session: &Name, call: u32) -> Result<(u8, Body), NoMemory>
         requires from { 1 ≤ call }
         requires there { IsSome (wanted_of self.now session.now call) }
-        ensures { IfOk result (λ call_body. option_map ranked_body (wanted_of self.now session.now call) ≡ Some call_body) }
+        ensures { IfOk result (λ answer. option_map ranked_body (wanted_of self.now session.now call) ≡ Some answer) }
     {
         let Some(seat) = self.seats.get(session) else {
             unreachable!()

@@ -10,4 +10,10 @@ bounds-as_slice-call c =
     subst (λ l. c.args.call - 1 < length l) (sym c.as_slice.ensures) (a_call (seat_of c.args.self.now c.args.session.now) c.in-Some.seat.now c.args.call found c.requires.there)
 
 pub returns : goal.returns
-returns c = ?
+returns c =
+    let found : seat_of c.args.self.now c.args.session.now ≡ Some c.in-Some.seat.now =
+    subst (λ (v : SessionsView). seat_of v c.args.session.now ≡ Some c.in-Some.seat.now) c.self.view_is (sym c.in-Some.ensures.value) in
+    let within = a_call (seat_of c.args.self.now c.args.session.now) c.in-Some.seat.now c.args.call found c.requires.there in
+    let there : c.index-as_slice-call.result ≡ get_or c.in-Some.seat.now.calls (c.args.call - 1) c.index-as_slice-call.result =
+    subst (λ l. c.index-as_slice-call.result ≡ get_or l (c.args.call - 1) c.index-as_slice-call.result) c.as_slice.ensures c.index-as_slice-call.is in
+    body_is (seat_of c.args.self.now c.args.session.now) c.in-Some.seat.now c.args.call c.index-as_slice-call.result c.index-as_slice-call.result _ found within there c.in_ok-copy_body.ensures
