@@ -160,8 +160,13 @@ impl<S: Scheduler + Drop> World<S> {
         let Some((origin, (rank, body))) = self.next_attempt(alloc, region, name)? else {
             return Err(StepError::Illegal(1));
         };
-        let id =
-            self.sites[region as usize].submit(alloc, rank, body, &self.cluster.procs, origin)?;
+        let id = self.sites[region as usize].submit(
+            alloc,
+            rank,
+            body,
+            &self.cluster.procs,
+            origin,
+        )?;
         let last = last_outcome(
             &self.sessions[region as usize],
             &self.sites[region as usize].region,
