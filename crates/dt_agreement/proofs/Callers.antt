@@ -6,7 +6,7 @@ pub use Rattle.dt_agreement.proofs.Views.{fronts_at, fronts_grown, log_is, logs_
 pub use Rattle.dt_agreement.proofs.Logs.{part_homed}
 pub use Rattle.dt_agreement.proofs.Sessions.{key_of_test, test_of_key, session_of_test, session_found}
 pub use Rattle.dt_agreement.proofs.Runs.{world_from_append, world_after_more, legal_append, legal_more, append_legal, more_legal, with_executed, ordered, order_of_more}
-pub use Rattle.dt_agreement.proofs.Annotations.{unmoved_at_first, body_fits}
+pub use Rattle.dt_agreement.proofs.Annotations.{unmoved_at_first, body_fits, version_stays}
 pub use Rattle.dt_agreement.proofs.AllAgree.{lookup_has, answered_done}
 pub use Rattle.dt_agreement.proofs.WaitingSessions.{WaitsAt}
 pub use Rattle.dt_agreement.proofs.Rule1Submit.{Submits}

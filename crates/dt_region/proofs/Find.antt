@@ -100,15 +100,6 @@ find_right (x ∷ xs) ys id e =
       | false ↦ λ h. find_right xs ys id h
     ] e
 
--- where nothing is found in both together, nothing is found in the second
-pub none_right : (xs ys : List Txn) (id : TxnId) → find_txn (xs ++ ys) id ≡ None → find_txn ys id ≡ None
-none_right [] ys id e = e
-none_right (x ∷ xs) ys id e =
-    elim (same_id x.id id) as (λ b. cond b (Some x) (find_txn (xs ++ ys) id) ≡ None → find_txn ys id ≡ None) [
-      | true ↦ λ h. cc
-      | false ↦ λ h. none_right xs ys id h
-    ] e
-
 -- where nothing of the id is in the second list, what is found is found in the first
 pub find_only : (xs ys : List Txn) (id : TxnId) → find_txn ys id ≡ None → find_txn (xs ++ ys) id ≡ find_txn xs id
 find_only [] ys id e = e

@@ -1,6 +1,6 @@
 -- What a region holds it goes on holding, while it submits and gets more; and what it keeps of others comes to the same,
 -- whether it looks among all that it holds, or knows that what is of its own region it submitted.
-use Rattle.std.proofs.Common.{◌≡◌, ◌≢◌, ℕ, true, false, cond, List, [], ◌∷◌, ◌++◌, map, take, Option, Some, None, IfSome, IfNone, refl, sym, ap, subst, ◌∙◌, inl, inr, is_some, if◌then◌else◌}
+use Rattle.std.proofs.Common.{◌≡◌, ◌≢◌, ℕ, true, false, cond, List, [], ◌∷◌, ◌++◌, map, take, Option, Some, None, refl, sym, ap, subst, ◌∙◌, inl, inr, is_some, if◌then◌else◌}
 use Rattle.std.specs.Prelude.{slice_index}
 use Rattle.std.proofs.lemmas.Bool.{false≢true}
 use Rattle.dt_lists.specs.Lists.{AllIn, Has, Distinct}
@@ -18,7 +18,7 @@ use Rattle.dt_region.specs.Rules.{keep, hold, hold_all}
 use Rattle.dt_region.specs.Conditions.{HasHomesIn, Agrees}
 use Rattle.dt_region.specs.Sound.{AreCounted, IsSoundRegion, IsHeldPart}
 use Rattle.dt_access.proofs.Callers.{test_of_id, test_of_other}
-use Rattle.dt_region.proofs.Find.{found, found_or_none, find_left, find_right, find_only, none_right, counted_other}
+use Rattle.dt_region.proofs.Find.{found, found_or_none, find_left, find_right, find_only, counted_other}
 use Rattle.dt_region.proofs.Logs.{fronts_at}
 
 -- a transaction that stands among some is found, or one before it that has its id
@@ -140,22 +140,6 @@ keep_own number submitted foreign txn own same = ap (λ b. cond b foreign (forei
 -- one of another region is looked for only among those of others
 pub keep_other : (number : ℕ) (submitted foreign : List Txn) (txn : Txn) → AreCounted number 1 submitted → txn.id.region ≢ number → keep submitted foreign txn ≡ keep [] foreign txn
 keep_other number submitted foreign txn counted other = ap (λ o. cond (is_some o) foreign (foreign ++ txn ∷ [])) (find_right submitted foreign txn.id (counted_other number 1 submitted txn.id counted other))
-
--- a copy is made of what isn't held, and what is kept then is that copy
-abbrev pub copy_to_keep : (s : RegionState) (txn : Txn) → Option Txn
-copy_to_keep s txn = if is_some (held s txn.id) then None else Some txn
-
-pub copy_is_new : (s : RegionState) (txn : Txn) (copy : Option Txn) → copy ≡ copy_to_keep s txn → IfSome copy (λ x. find_txn s.foreign x.id ≡ None)
-copy_is_new s txn copy e = subst (λ o. IfSome o (λ x. find_txn s.foreign x.id ≡ None)) (sym e) (elim (found_or_none (s.submitted ++ s.foreign) txn.id) [
-  | inl h ↦ rw h.1 tt
-  | inr h ↦ rw h (none_right s.submitted s.foreign txn.id h)
-])
-
-pub copy_is_kept : (s : RegionState) (txn : Txn) (copy : Option Txn) (after : List Txn) → copy ≡ copy_to_keep s txn → IfNone copy (after ≡ s.foreign) → IfSome copy (λ x. after ≡ s.foreign ++ x ∷ []) → after ≡ keep s.submitted s.foreign txn
-copy_is_kept s txn copy after e none some = elim (found_or_none (s.submitted ++ s.foreign) txn.id) [
-  | inl h ↦ subst (λ o. IfNone o (after ≡ s.foreign)) (e ∙ ap (λ o. cond (is_some o) None (Some txn)) h.1) none ∙ sym (hold_there s txn h.0 h.1)
-  | inr h ↦ subst (λ o. IfSome o (λ x. after ≡ s.foreign ++ x ∷ [])) (e ∙ ap (λ o. cond (is_some o) None (Some txn)) h) some ∙ sym (hold_new s txn h)
-]
 
 -- what a sound region holds
 

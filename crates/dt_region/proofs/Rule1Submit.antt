@@ -35,9 +35,9 @@ found_still xs ys txn id other none e = elim (found_or_none xs id) [
   | inr h ↦ find_right (xs ++ txn ∷ []) ys id (find_right xs (txn ∷ []) id h ∙ none) ∙ sym (find_right xs ys id h) ∙ e
 ]
 
-module _ (procs : List ProcTree) (s : RegionState) (sound : IsSoundRegion s) (body : Body) (fits : BodyFits procs s.regions body) where
+module _ (procs : List ProcTree) (s : RegionState) (sound : IsSoundRegion s) (rank : ℕ) (body : Body) (fits : BodyFits procs s.here.table.version s.regions body) where
   abbrev new : Txn
-  new = txn_for procs s body
+  new = txn_for procs s rank body
 
   -- its id is of this region, and above all that it submitted
   own_new : held s (id_for s) ≡ None
@@ -48,10 +48,10 @@ module _ (procs : List ProcTree) (s : RegionState) (sound : IsSoundRegion s) (bo
   none_some : (other : Txn) → ◌≡◌ {A = Option Txn} None (Some other) → ⊥
   none_some other e = cc
 
-  keeps : (id : TxnId) (other : Txn) → held s id ≡ Some other → held (after_submit procs s body) id ≡ Some other
+  keeps : (id : TxnId) (other : Txn) → held s id ≡ Some other → held (after_submit procs s rank body) id ≡ Some other
   keeps id other e = found_still s.submitted s.foreign new id other (ap (λ b. cond b (Some new) None) (test_of_other (id_for s) id (λ same. none_some other (sym own_new ∙ ap (held s) same ∙ e)))) e
 
-  pub submit_sound : IsSoundRegion (after_submit procs s body)
+  pub submit_sound : IsSoundRegion (after_submit procs s rank body)
   submit_sound = record {
     number = sound.number;
     regions = sound.regions;
@@ -61,7 +61,7 @@ module _ (procs : List ProcTree) (s : RegionState) (sound : IsSoundRegion s) (bo
     inserted = sound.inserted;
     counted = counted_more s.number 1 s.submitted new sound.counted (ap (λ n. record { seq = n; region = s.number }) (omega arith));
     foreign = sound.foreign;
-    submitted_homes = all_more _ s.submitted new sound.submitted_homes (annotate_valid procs s.regions (id_for s) body s.here.table (omega (arith, sound.number)) sound.table fits).homes;
+    submitted_homes = all_more _ s.submitted new sound.submitted_homes (annotate_valid procs s.regions (id_for s) rank body s.here.table (omega (arith, sound.number)) sound.table fits).homes;
     foreign_homes = sound.foreign_homes;
     once = sound.once;
     parts = λ home. all_map _ _ (log_at s.logs home) (λ p (h : IsHeldPart s home p). (h.0, keeps p.id h.0 h.1, h.2)) (sound.parts home);
@@ -74,30 +74,31 @@ module _ (procs : List ProcTree) (s : RegionState) (sound : IsSoundRegion s) (bo
 
 -- The region has the state s and these events, and contracts see it as r: what the call makes of its fields is what the
 -- rule says.
-module _ (procs : List ProcTree) (r : RegionView) (s : RegionState) (events : List Event) (seen : Sched) (stands : IsSeenAs s events seen r) (body : Body) (fits : BodyFits procs r.state.regions body) where
-  fits_here : BodyFits procs s.regions body
-  fits_here = subst (λ x. BodyFits procs x.state.regions body) (sym stands.view) fits
+module _ (procs : List ProcTree) (r : RegionView) (s : RegionState) (events : List Event) (seen : Sched) (stands : IsSeenAs s events seen r)
+    (rank : ℕ) (body : Body) (fits : BodyFits procs r.state.here.table.version r.state.regions body) where
+  fits_here : BodyFits procs s.here.table.version s.regions body
+  fits_here = subst (λ x. BodyFits procs x.state.here.table.version x.state.regions body) (sym stands.view) fits
 
   -- the homes that are asked have lists
-  pub submit_homes : (id : TxnId) (txn : Txn) (homes : List ℕ) (n : ℕ) → txn ≡ annotate procs id body s.here.table → homes ≡ homes_of txn → n ≡ length s.here.asked → AllIn (λ home. home < n) homes
+  pub submit_homes : (id : TxnId) (txn : Txn) (homes : List ℕ) (n : ℕ) → txn ≡ annotate procs id rank body s.here.table → homes ≡ homes_of txn → n ≡ length s.here.asked → AllIn (λ home. home < n) homes
   submit_homes id txn homes n t h l =
       let below = stands.well.0.number in
-      let valid : IsValid procs s.regions (annotate procs id body s.here.table) = annotate_valid procs s.regions id body s.here.table (omega (arith, below)) stands.well.0.table fits_here in
+      let valid : IsValid procs s.here.table.version s.regions (annotate procs id rank body s.here.table) = annotate_valid procs s.regions id rank body s.here.table (omega (arith, below)) stands.well.0.table fits_here in
       subst (λ m. AllIn (λ home. home < m) homes) (sym (l ∙ stands.well.0.asked)) (subst (AllIn (λ home. home < s.regions)) (sym (h ∙ ap homes_of t)) valid.homes)
 
   abbrev made : List Txn → List (List TxnId) → RegionState
   made submitted asked = record s { submitted = submitted; here = record s.here { asked = asked } }
 
-  module _ (submitted : List Txn) (asked : List (List TxnId)) (txn : Txn) (id : TxnId) (homes : List ℕ) (i : id ≡ id_for s) (t : txn ≡ annotate procs id body s.here.table) (h : homes ≡ homes_of txn)
+  module _ (submitted : List Txn) (asked : List (List TxnId)) (txn : Txn) (id : TxnId) (homes : List ℕ) (i : id ≡ id_for s) (t : txn ≡ annotate procs id rank body s.here.table) (h : homes ≡ homes_of txn)
       (sub : submitted ≡ s.submitted ++ txn ∷ []) (asks : asked ≡ ask homes id s.here.asked) where
-    submit_is : made submitted asked ≡ after_submit procs s body
+    submit_is : made submitted asked ≡ after_submit procs s rank body
     submit_is =
-        let new : txn ≡ txn_for procs s body = t ∙ ap (λ j. annotate procs j body s.here.table) i in
+        let new : txn ≡ txn_for procs s rank body = t ∙ ap (λ j. annotate procs j rank body s.here.table) i in
         let asked_is : asked ≡ ask (homes_of txn) (id_for s) s.here.asked = asks ∙ (λ j. ask (h j) (i j) s.here.asked) in
         ap₂ made (sub ∙ ap (λ x. s.submitted ++ x ∷ []) new) (asked_is ∙ ap (λ x. ask (homes_of x) (id_for s) s.here.asked) new)
 
     pub submit_keeps : AreWell (made submitted asked) seen
-    submit_keeps = subst (λ x. AreWell x seen) (sym submit_is) (submit_sound procs s stands.well.0 body fits_here, stands.well.1)
+    submit_keeps = subst (λ x. AreWell x seen) (sym submit_is) (submit_sound procs s stands.well.0 rank body fits_here, stands.well.1)
 
-    pub submit_made : (session : List ℕ) (after : List Event) → after ≡ events ++ Submit s.number session ∷ [] → MakesSubmit procs r session body (Ok id) (record { state = made submitted asked; events = after })
-    submit_made session after kept = subst (λ x. MakesSubmit procs x session body (Ok id) (record { state = made submitted asked; events = after })) stands.view (i, λ j. record { state = submit_is j; events = kept j })
+    pub submit_made : (session : List ℕ) (after : List Event) → after ≡ events ++ Submit s.number session ∷ [] → MakesSubmit procs r session rank body (Ok id) (record { state = made submitted asked; events = after })
+    submit_made session after kept = subst (λ x. MakesSubmit procs x session rank body (Ok id) (record { state = made submitted asked; events = after })) stands.view (i, λ j. record { state = submit_is j; events = kept j })

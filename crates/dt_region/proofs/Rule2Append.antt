@@ -3,7 +3,7 @@
 use Rattle.std.proofs.Common.{◌≡◌, ◌<◌, ◌≤◌, ◌+◌, ◌^◌, ℕ, Ok, true, List, [], ◌∷◌, ◌++◌, length, length-append, set, refl, sym, ap, subst, ◌∙◌, inl, inr, arith}
 use Rattle.std.specs.Prelude.{slice_index}
 use Rattle.std.proofs.lemmas.List.{length-set, get_or-set_same, get_or-set_other}
-use Rattle.dt_lists.specs.Lists.{AllIn, Distinct, Either}
+use Rattle.dt_lists.specs.Lists.{AllIn, Distinct, Either, Has}
 use Rattle.dt_lists.proofs.Callers.{any_of_image, all_map}
 use Rattle.dt_lists.proofs.Callers.{all_more}
 use Rattle.dt_lists.proofs.Callers.{distinct_push}
@@ -21,7 +21,7 @@ use Rattle.dt_region.specs.Region.{RegionState, RegionView, sched_of}
 use Rattle.dt_txn.specs.Replica.{view_of, done_ids, taken_from}
 use Rattle.dt_region.specs.Rules.{keep, after_append, MakesAppend}
 use Rattle.dt_region.specs.Conditions.{CanAppend}
-use Rattle.dt_region.specs.Sound.{IsSoundRegion, IsHeldPart}
+use Rattle.dt_region.specs.Sound.{AreCounted, IsSoundRegion, IsHeldPart}
 use Rattle.dt_region.specs.RegionInner.{AreWell}
 use Rattle.dt_region.proofs.Seen.{IsSeenAs}
 use Rattle.dt_region.proofs.Held.{hold_keeps, hold_holds, hold_foreign, hold_homes}
@@ -140,6 +140,11 @@ module _ (r : RegionView) (s : RegionState) (events : List Event) (seen : Sched)
       let room : length (log_at s.logs s.number) + 1 < 2 ^ 32 = omega (arith, a, b, c) in
       let e = turn_here in
       (room, omega (arith, e, d, room))
+
+  -- what is kept of others is what the rule keeps, since what is of the region itself it submitted
+  pub append_kept : {before after : List Txn} → before ≡ s.foreign
+      → ((submitted : List Txn) → AreCounted s.number 1 submitted → (txn.id.region ≡ s.number → Has submitted txn) → after ≡ keep submitted before txn) → after ≡ keep s.submitted s.foreign txn
+  append_kept same kept = kept s.submitted stands.well.0.counted can_here.agrees.own ∙ ap (λ f. keep s.submitted f txn) same
 
   abbrev made : List Txn → View → RegionState
   made foreign logs = record s { foreign = foreign; logs = logs; here = record s.here { taken = set s.here.taken source (number + 1) } }

@@ -15,6 +15,7 @@ use Rattle.dt_sched.specs.Views.{View, log_at, HasPart}
 use Rattle.dt_sched.specs.Decide.{IsSound}
 use Rattle.dt_sched.specs.Sched.{Sched, CanInsert, parts_in, with_part, after_insert}
 use Rattle.dt_sched.proofs.Callers.{sound_insert}
+use Rattle.dt_txn.specs.declared.txn.Txn.{Txn}
 use Rattle.dt_txn.specs.Transaction.{homes_of}
 use Rattle.dt_txn.specs.Replica.{fronts, view_of, done_ids}
 use Rattle.dt_region.specs.Region.{RegionState, RegionView, held, sched_of}
@@ -61,6 +62,12 @@ module _ (s : RegionState) (sound : IsSoundRegion s) (home : ℕ) (part : Part) 
       let same : h.0 ≡ held_part.0 = same_Some h.0 held_part.0 (sym h.1 ∙ ap (held s) e ∙ held_part.1) in
       ap (λ (q : Part). q.homes) h.2.1 ∙ ap homes_of same ∙ sym part_homes
 
+  -- and have one rank
+  ranked_at : (other : ℕ) (p : Part) → IsHeldPart s other p → p.id ≡ part.id → p.rank ≡ part.rank
+  ranked_at other p h e =
+      let same : h.0 ≡ held_part.0 = same_Some h.0 held_part.0 (sym h.1 ∙ ap (held s) e ∙ held_part.1) in
+      ap (λ (q : Part). q.rank) h.2.1 ∙ ap (λ (txn : Txn). txn.rank) same ∙ sym (ap (λ (q : Part). q.rank) held_part.2.1)
+
   pub can_insert : CanInsert sight part
   can_insert = record {
     homed = subst (λ hs. Has hs part.home) (sym part_homes) (subst (λ h. Has (homes_of held_part.0) h) (sym part_home) held_part.2.0);
@@ -69,6 +76,7 @@ module _ (s : RegionState) (sound : IsSoundRegion s) (home : ℕ) (part : Part) 
         (subst (λ l. ¬ (HasPart l part.id)) (sym (fronts_at s.here.inserted s.logs home)) (next_fresh (log_at s.logs home) (slice_index s.here.inserted home) part next (sound.once home)));
     few = room;
     alike = all_logs (AllIn (λ p. p.id ≡ part.id → p.homes ≡ part.homes)) sight (λ other. all_put _ (log_at sight other) (λ p h. alike_at other p (view_parts s sound other p h)));
+    ranked = all_logs (AllIn (λ p. p.id ≡ part.id → p.rank ≡ part.rank)) sight (λ other. all_put _ (log_at sight other) (λ p h. ranked_at other p (view_parts s sound other p h)));
   }
 
   inserted_few : (other : ℕ) → slice_index lengths other ≤ length (log_at s.logs other)

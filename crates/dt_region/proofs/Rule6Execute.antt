@@ -12,20 +12,21 @@ use Rattle.dt_sched.specs.Sched.{Sched, CanExecute, after_finish}
 use Rattle.dt_sched.proofs.Callers.{complete_of_closed, part_of_complete}
 use Rattle.dt_sched.proofs.Callers.{sound_execute}
 use Rattle.dt_proc.specs.Tree.{ProcTree}
-use Rattle.dt_table.specs.Table.{Table, apply}
+use Rattle.dt_table.specs.Table.{Table, HasPlaceFor, MovesUnit, apply}
 use Rattle.dt_table.specs.declared.Effect.{Effect}
 use Rattle.dt_txn.specs.declared.txn.Txn.{Txn}
 use Rattle.dt_txn.specs.declared.outcome.Outcome.{Outcome}
 use Rattle.dt_txn.specs.Execution.{one}
 use Rattle.dt_txn.specs.Replica.{view_of, done_ids, executed}
+use Rattle.dt_txn.proofs.Callers.{moves_unit}
 use Rattle.dt_region.specs.Region.{RegionState, RegionView, held, sched_of}
 use Rattle.dt_region.specs.Rules.{after_step, MakesStep}
-use Rattle.dt_region.specs.Conditions.{HoldsValid}
+use Rattle.dt_region.specs.Conditions.{CanMove, HoldsValid}
 use Rattle.dt_region.specs.Sound.{IsSoundRegion, IsHeldPart}
 use Rattle.dt_region.specs.RegionInner.{AreWell}
 use Rattle.dt_region.proofs.Seen.{IsSeenAs}
 use Rattle.dt_region.proofs.Held.{held_id, view_parts}
-use Rattle.dt_region.proofs.Tables.{after_table}
+use Rattle.dt_region.proofs.Tables.{after_table, one_place}
 
 -- what is executable is held
 pub executable_held : (s : RegionState) → IsSoundRegion s → (id : TxnId) → IsExecutable (view_of s.logs s.here) s.here.resolved (done_ids s.here) id → (txn : Txn) × (held s id ≡ Some txn)
@@ -63,7 +64,7 @@ module _ (procs : List ProcTree) (s : RegionState) (sound : IsSoundRegion s) (ho
     few = sound.few;
     taken_few = sound.taken_few;
     inserted_few = sound.inserted_few;
-    table = after_table procs s.regions txn s.here.table sound.table (holds id txn e);
+    table = after_table procs s.here.table.version s.regions txn s.here.table sound.table (holds id txn e);
     decided = subst (IsSound (view_of s.logs s.here) s.here.resolved) (sym done_now) (sound_execute (view_of s.logs s.here) s.here.resolved (done_ids s.here) id may sound.decided);
   }
 
@@ -82,32 +83,46 @@ module _ (procs : List ProcTree) (r : RegionView) (s : RegionState) (events : Li
   pub execute_held : (txn : Txn) × (held r.state id ≡ Some txn)
   execute_held = (held_here.0, subst (λ x. held x.state id ≡ Some held_here.0) stands.view held_here.1)
 
+  abbrev txn_here : Txn
+  txn_here = held_here.0
+
+  valid_here : HoldsValid procs s
+  valid_here = subst (λ x. HoldsValid procs x.state) (sym stands.view) holds
+
   abbrev made : Sched → List (TxnId × Outcome) → Table → RegionState
   made now done table = record s { here = record s.here { resolved = now.resolved; done = done; table = table } }
 
-  module _ (now : Sched) (done : List (TxnId × Outcome)) (table : Table) (outcome : Outcome) (effect : Effect) (ran : (txn : Txn) → held r.state id ≡ Some txn → (outcome, effect) ≡ one procs txn r.state.here.table)
-      (is : now ≡ after_finish seen id) (noted : done ≡ s.here.done ++ (id, outcome) ∷ []) (applied : table ≡ apply effect s.here.table) where
-    abbrev txn_here : Txn
-    txn_here = held_here.0
-
+  -- The transaction came to this outcome and this effect.
+  module _ (outcome : Outcome) (effect : Effect) (ran : (txn : Txn) → held r.state id ≡ Some txn → (outcome, effect) ≡ one procs txn r.state.here.table) where
     run_is : (outcome, effect) ≡ one procs txn_here s.here.table
     run_is = subst (λ x. (outcome, effect) ≡ one procs txn_here x.state.here.table) (sym stands.view) (ran txn_here (subst (λ x. held x.state id ≡ Some txn_here) stands.view held_here.1))
 
-    now_is : now ≡ after_finish (sched_of s.logs s.here) id
-    now_is = is ∙ ap (λ x. after_finish x id) stands.well.1
+    -- the effect may be applied to the table: what it moves is a unit, for which a place is left
+    pub execute_unit : (t : Table) → t ≡ s.here.table → MovesUnit t.version effect.moved
+    execute_unit t e =
+        subst (λ u. MovesUnit u.version effect.moved) (sym e)
+        (subst (λ x. MovesUnit s.here.table.version x.1.moved) (sym run_is) (moves_unit procs s.here.table.version s.regions txn_here s.here.table (valid_here id txn_here held_here.1)))
 
-    ran_so : made now done table ≡ record s { here = executed procs s.here (Some txn_here) }
-    ran_so =
-        let done_is : done ≡ s.here.done ++ (txn_here.id, (one procs txn_here s.here.table).0) ∷ [] = noted ∙ (λ i. s.here.done ++ (sym (held_id s id txn_here held_here.1) i, (run_is i).0) ∷ []) in
-        let table_is : table ≡ apply (one procs txn_here s.here.table).1 s.here.table = applied ∙ ap (λ x. apply x.1 s.here.table) run_is in
-        λ j. made (now_is j) (done_is j) (table_is j)
+    pub execute_place : CanMove r.state id → (t : Table) → t ≡ s.here.table → HasPlaceFor effect.moved t
+    execute_place moves t e =
+        let place : CanMove s id = subst (λ x. CanMove x.state id) (sym stands.view) moves in
+        subst (HasPlaceFor effect.moved) (sym e) (subst (λ x. HasPlaceFor x.1.moved s.here.table) (sym run_is) (one_place procs txn_here s.here.table (place txn_here held_here.1)))
 
-    pub execute_keeps : AreWell (made now done table) now
-    execute_keeps =
-        let valid : HoldsValid procs s = subst (λ x. HoldsValid procs x.state) (sym stands.view) holds in
-        subst (λ x. AreWell x now) (sym ran_so) (execute_well procs s stands.well.0 valid id may_here txn_here held_here.1 now now_is)
+    -- The scheduler, the done list and the table are these afterwards.
+    module _ (now : Sched) (done : List (TxnId × Outcome)) (table : Table) (is : now ≡ after_finish seen id) (noted : done ≡ s.here.done ++ (id, outcome) ∷ []) (applied : table ≡ apply effect s.here.table) where
+      now_is : now ≡ after_finish (sched_of s.logs s.here) id
+      now_is = is ∙ ap (λ x. after_finish x id) stands.well.1
 
-    pub execute_made : (after : List Event) → after ≡ events ++ Execute s.number id ∷ [] → MakesStep procs r (Execute r.state.number id) (Ok true) (record { state = made now done table; events = after })
-    execute_made after kept =
-        let state : made now done table ≡ after_step procs s (Execute s.number id) = ran_so ∙ ap (λ o. record s { here = executed procs s.here o }) (sym held_here.1) in
-        subst (λ x. MakesStep procs x (Execute x.state.number id) (Ok true) (record { state = made now done table; events = after })) stands.view (may_here, λ j. record { state = state j; events = kept j })
+      ran_so : made now done table ≡ record s { here = executed procs s.here (Some txn_here) }
+      ran_so =
+          let done_is : done ≡ s.here.done ++ (txn_here.id, (one procs txn_here s.here.table).0) ∷ [] = noted ∙ (λ i. s.here.done ++ (sym (held_id s id txn_here held_here.1) i, (run_is i).0) ∷ []) in
+          let table_is : table ≡ apply (one procs txn_here s.here.table).1 s.here.table = applied ∙ ap (λ x. apply x.1 s.here.table) run_is in
+          λ j. made (now_is j) (done_is j) (table_is j)
+
+      pub execute_keeps : AreWell (made now done table) now
+      execute_keeps = subst (λ x. AreWell x now) (sym ran_so) (execute_well procs s stands.well.0 valid_here id may_here txn_here held_here.1 now now_is)
+
+      pub execute_made : (after : List Event) → after ≡ events ++ Execute s.number id ∷ [] → MakesStep procs r (Execute r.state.number id) (Ok true) (record { state = made now done table; events = after })
+      execute_made after kept =
+          let state : made now done table ≡ after_step procs s (Execute s.number id) = ran_so ∙ ap (λ o. record s { here = executed procs s.here o }) (sym held_here.1) in
+          subst (λ x. MakesStep procs x (Execute x.state.number id) (Ok true) (record { state = made now done table; events = after })) stands.view (may_here, λ j. record { state = state j; events = kept j })

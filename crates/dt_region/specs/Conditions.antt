@@ -1,7 +1,7 @@
 -- When a call of a region may be made: what a region may be given, so that its logs stay those of one world. Whoever calls
 -- knows the world and shows it; the region itself could not. Read `Sound` next, for what holds of every region whose calls
 -- were made so.
-use Rattle.std.specs.Prelude.{◌≡◌, ◌≢◌, ◌<◌, ◌≤◌, ◌^◌, ℕ, List, map, length, set, Some}
+use Rattle.std.specs.Prelude.{◌≡◌, ◌≢◌, ◌<◌, ◌≤◌, ◌+◌, ◌^◌, ℕ, List, map, length, set, Some}
 use Rattle.dt_lists.specs.Lists.{AllIn, Has, Distinct}
 use Rattle.dt_access.specs.Clash.{Bytes}
 use Rattle.dt_access.specs.declared.Part.{Part}
@@ -10,7 +10,9 @@ use Rattle.dt_log.specs.Logs.{AgreeOnOverlap}
 use Rattle.dt_sched.specs.Views.{View, HasPart, ids_of, log_at}
 use Rattle.dt_sched.specs.Sched.{parts_in, with_part}
 use Rattle.dt_proc.specs.Tree.{ProcTree}
-use Rattle.dt_table.specs.Table.{Table, moves_of}
+use Rattle.dt_table.specs.Table.{Table, counter_of, moves_of}
+use Rattle.dt_txn.specs.declared.txn.Body.{Body}
+use Rattle.dt_txn.specs.declared.txn.Body.TheVariants.{Call, Move}
 use Rattle.dt_txn.specs.declared.txn.Txn.{Txn}
 use Rattle.dt_txn.specs.declared.txn.Entry.{Entry}
 use Rattle.dt_txn.specs.Transaction.{homes_of, part_of, IsValid}
@@ -67,6 +69,15 @@ pub record CanDeliver (s : RegionState) (home first : ℕ) (entries : List Entry
   pub distinct : first ≤ length (log_at s.logs home) → Distinct (ids_of (with_entries (log_at s.logs home) first entries))
   pub few : first ≤ length (log_at s.logs home) → AreFew (set s.logs home (with_entries (log_at s.logs home) first entries))
 
--- each transaction that a region holds is valid for these procedures
+-- each transaction that a region holds is valid for these procedures, in the version of the region's table
 abbrev pub HoldsValid : List ProcTree → RegionState → Type 0
-HoldsValid procs s = (id : TxnId) (txn : Txn) → held s id ≡ Some txn → IsValid procs s.regions txn
+HoldsValid procs s = (id : TxnId) (txn : Txn) → held s id ≡ Some txn → IsValid procs s.here.table.version s.regions txn
+
+-- what a body moves has a place left for one move more: the moves of a unit are counted by 32 bits
+abbrev pub HasPlaceToMove : Table → Body → Type 0
+HasPlaceToMove t (Call proc args) = Unit {0}
+HasPlaceToMove t (Move key target) = counter_of t key + 1 < 2 ^ 32
+
+-- a region may be asked to execute an id: if it is a move, a place is left for it
+abbrev pub CanMove : RegionState → TxnId → Type 0
+CanMove s id = (txn : Txn) → held s id ≡ Some txn → HasPlaceToMove s.here.table txn.body

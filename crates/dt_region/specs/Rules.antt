@@ -36,17 +36,17 @@ opening_state number regions table = record {
 abbrev pub id_for : RegionState → TxnId
 id_for s = next_id s.number (length s.submitted)
 
--- what a region submits for a body: the transaction of its next id, annotated by its own table
-abbrev pub txn_for : List ProcTree → RegionState → Body → Txn
-txn_for procs s body = submission_for procs s.number (length s.submitted) s.here body
+-- what a region submits for a body of this rank: the transaction of its next id, annotated by its own table
+abbrev pub txn_for : List ProcTree → RegionState → ℕ → Body → Txn
+txn_for procs s rank body = submission_for procs s.number (length s.submitted) s.here rank body
 
 -- the region after it submitted a transaction: each home of it is asked for its part
 abbrev pub with_submission : RegionState → Txn → RegionState
 with_submission s txn = record s { submitted = s.submitted ++ txn ∷ []; here = after_asking s.here txn }
 
--- the region after it submitted a body
-abbrev pub after_submit : List ProcTree → RegionState → Body → RegionState
-after_submit procs s body = with_submission s (txn_for procs s body)
+-- the region after it submitted a body of this rank
+abbrev pub after_submit : List ProcTree → RegionState → ℕ → Body → RegionState
+after_submit procs s rank body = with_submission s (txn_for procs s rank body)
 
 -- what a region that submitted the ones has of others after it got one more transaction: it keeps it, unless it holds it
 -- already
@@ -104,10 +104,10 @@ abbrev pub with_event : RegionView → RegionState → Event → RegionView
 with_event r state event = record { state = state; events = r.events ++ event ∷ [] }
 
 -- a submission gives its id
-abbrev pub MakesSubmit : List ProcTree → RegionView → List ℕ → Body → Result TxnId NoMemory → RegionView → Type 0
-MakesSubmit procs r session body (Ok id) after =
-    (id ≡ id_for r.state) × (after ≡ with_event r (after_submit procs r.state body) (Submit r.state.number session))
-MakesSubmit procs r session body (Err e) after = after ≡ r
+abbrev pub MakesSubmit : List ProcTree → RegionView → List ℕ → ℕ → Body → Result TxnId NoMemory → RegionView → Type 0
+MakesSubmit procs r session rank body (Ok id) after =
+    (id ≡ id_for r.state) × (after ≡ with_event r (after_submit procs r.state rank body) (Submit r.state.number session))
+MakesSubmit procs r session rank body (Err e) after = after ≡ r
 
 -- a request is placed exactly where it is the next one of its source, and nothing changes otherwise
 abbrev pub MakesAppend : RegionView → ℕ → ℕ → Txn → Result Bool NoMemory → RegionView → Type 0

@@ -1,4 +1,4 @@
-ghost use Rattle.std.specs.Prelude.{◌≡◌, ◌+◌, ◌<◌, ◌≤◌, [], ◌∷◌, ◌++◌, List, None, IfSome, IfNone, OnOk, OnErr};
+ghost use Rattle.std.specs.Prelude.{◌≡◌, ◌+◌, ◌<◌, ◌≤◌, [], List, OnOk, OnErr};
 ghost use Rattle.std.specs.Option.{option_copied};
 ghost use Rattle.indexmap.specs.IndexMap.{insert_entry, spare};
 ghost use Rattle.dt_access.specs.Ids.{same_id};
@@ -59,18 +59,6 @@ impl Foreign {
     {
         self.txns.reserve(places)?;
         Ok(())
-    }
-
-    /// Adds a transaction, where one is given; nothing has its id yet. Takes no memory where there is room.
-    pub fn add(&mut self, txn: Option<Txn>)
-        requires room { 0 < self.old.spare }
-        requires fresh { IfSome txn (λ txn. find_txn self.old.txns txn.id ≡ None) }
-        ensures none { IfNone txn (self.new.txns ≡ self.old.txns) }
-        ensures some { IfSome txn (λ txn. self.new.txns ≡ self.old.txns ++ txn ∷ []) }
-    {
-        if let Some(txn) = txn {
-            self.hold(txn);
-        }
     }
 
     /// Keeps a transaction, unless it is of region `number`, which holds what it submitted, or there is one of its id.

@@ -7,11 +7,11 @@
 //!
 //! | rule | call | what becomes of it |
 //! |---|---|---|
-//! | 1 | `submit` | a transaction with a new id, annotated by the region's table; each of its homes is asked for its part |
+//! | 1 | `submit` | a transaction with a new id, of this rank, annotated by the region's table; each of its homes is asked for its part |
 //! | 2 | `append` | the part of a transaction stands at the end of the region's own log, if it is the next request of its source |
 //! | 3 | `deliver` | the entries of another region's log past the end of what was received of it are received |
 //! | 4 | `insert` | the next part that was received is in the region's view, from which its scheduler decides |
-//! | 5 | `resolve` | a class of deadlocked transactions is resolved, so that they run in the order of their ids |
+//! | 5 | `resolve` | a class of deadlocked transactions is resolved, so that they run in the order of their ranks and ids |
 //! | 6 | `execute` | a transaction has its outcome, and its effect on the region's table |
 //! | 7 | `answer` | a session has its answer, of which the region keeps the event alone |
 //!
@@ -23,9 +23,9 @@
 //!
 //! ```text
 //! let mut region: Region<S> = Region::new(alloc, 0, 1, table)?;
-//! let id = region.submit(alloc, &session, body, &procs)?;
+//! let id = region.submit(alloc, &session, rank, body, &procs)?;
 //! let txn = region.txn(id)?.copy(alloc)?;
-//! region.append(alloc, 0, 0, &txn)?;        // the request of its only home, which is itself
+//! region.append_owned(alloc, 0, 0, txn)?;   // the request of its only home, which is itself
 //! region.insert(alloc, 0)?;
 //! region.execute(alloc, id, &procs)?;       // region.outcome(id) is what the session is answered
 //! region.answer(alloc, &session)?;

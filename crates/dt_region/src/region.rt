@@ -1,4 +1,4 @@
-ghost use Rattle.std.specs.Prelude.{◌≡◌, ◌<◌, ◌≤◌, [], ◌∷◌, ◌++◌, length, vec_len, vec_capacity, slice_index, slice_get, get_or, ℕ, ◌+◌, is_some, if◌then◌else◌, None, Some, IfOk};
+ghost use Rattle.std.specs.Prelude.{◌≡◌, ◌<◌, ◌≤◌, [], ◌∷◌, ◌++◌, length, vec_len, vec_capacity, slice_index, slice_get, get_or, ℕ, ◌+◌, Some, IfOk};
 ghost use Rattle.std.specs.Option.{option_copied};
 ghost use Rattle.dt_events.specs.declared.Event.TheVariants.{Insert, Resolve, Execute};
 ghost use Rattle.dt_sched.specs.Views.{log_at};
@@ -9,7 +9,7 @@ ghost use Rattle.dt_txn.specs.Replica.{taken_from};
 ghost use Rattle.dt_txn.specs.Transaction.{BodyFits};
 ghost use Rattle.dt_region.specs.Region.{held, outcome_of, sched_of};
 ghost use Rattle.dt_region.specs.Rules.{opening_state, MakesSubmit, MakesAppend, MakesDelivery, MakesStep, MakesAnswer};
-ghost use Rattle.dt_region.specs.Conditions.{IsTableFor, CanAppend, CanDeliver, HoldsValid};
+ghost use Rattle.dt_region.specs.Conditions.{IsTableFor, CanAppend, CanDeliver, CanMove, HoldsValid};
 ghost use Rattle.dt_region.specs.Sound.{IsSoundRegion};
 
 use crate::ascent::are_ascending;
@@ -171,19 +171,21 @@ impl<S: Scheduler> Region<S> {
         self.events.as_slice()
     }
 
-    /// Submits a body for a session: it becomes the transaction of the region's next id, annotated by the region's table,
-    /// and each of its homes is asked for its part. Gives the id, and keeps the event. Whether the session may submit is
+    /// Submits a body of this rank for a session: it becomes the transaction of the region's next id, annotated by the
+    /// region's table, and each of its homes is asked for its part. Gives the id, and keeps the event. Whether the session may submit is
     /// for the caller to know. After `NoMemory` the region is as before.
     pub fn submit(
         &mut self,
         alloc: Global,
         session: &Name,
+        rank: u8,
         body: Body,
         procs: &Procs,
     ) -> Result<TxnId, NoMemory>
-        requires fits { BodyFits procs.now self.old.state.regions body }
+        requires fits { BodyFits procs.now self.old.state.here.table.version self.old.state.regions body }
+        requires rank { rank ≤ 9 }
         requires place { length self.old.state.submitted < 4294967295 }
-        ensures makes { MakesSubmit procs.now self.old session.now body result self.new }
+        ensures makes { MakesSubmit procs.now self.old session.now rank body result self.new }
         ensures sound { IsSoundRegion self.new.state }
     {
         let id = TxnId {
@@ -194,7 +196,7 @@ impl<S: Scheduler> Region<S> {
             region: self.number,
             session: session.copy(alloc)?,
         };
-        let txn = annotate(alloc, id, body, procs, &self.table)?;
+        let txn = annotate(alloc, id, rank, body, procs, &self.table)?;
         let homes = homes(alloc, &txn)?;
         self.events.reserve(1)?;
         self.submitted.reserve(1)?;
@@ -202,16 +204,6 @@ impl<S: Scheduler> Region<S> {
         add_last(&mut self.submitted, txn);
         keep_event(&mut self.events, event);
         Ok(id)
-    }
-
-    // A copy of a transaction for the region to keep, unless it holds one of its id.
-    fn copy_to_keep(&self, alloc: Global, txn: &Txn) -> Result<Option<Txn>, NoMemory>
-        ensures { IfOk result (λ copy. copy ≡ (if is_some (held self.now.state txn.now.id) then None else Some txn.now)) }
-    {
-        if self.txn(txn.id).is_some() {
-            return Ok(None);
-        }
-        Ok(Some(txn.copy(alloc)?))
     }
 
     /// Places the part of a transaction at the end of the region's own log, as request `number` of region `source`: the
@@ -230,17 +222,33 @@ impl<S: Scheduler> Region<S> {
         ensures makes { MakesAppend self.old source number txn.now result self.new }
         ensures sound { IsSoundRegion self.new.state }
     {
+        let txn = txn.copy(alloc)?;
+        self.append_owned(alloc, source, number, txn)
+    }
+
+    /// The same as `append` for a transaction that is handed over, of which no copy is made.
+    pub fn append_owned(
+        &mut self,
+        alloc: Global,
+        source: u8,
+        number: u32,
+        txn: Txn,
+    ) -> Result<bool, NoMemory>
+        requires source { source < self.old.state.regions }
+        requires can { CanAppend self.old.state source number txn }
+        ensures makes { MakesAppend self.old source number txn result self.new }
+        ensures sound { IsSoundRegion self.new.state }
+    {
         if number != self.taken(source) {
             return Ok(false);
         }
         let home = self.number;
-        let copy = self.copy_to_keep(alloc, txn)?;
-        let part = part_at(alloc, txn, home)?;
+        let part = part_at(alloc, &txn, home)?;
         self.events.reserve(1)?;
         self.foreign.reserve(1)?;
         place(&mut self.logs, part)?;
         self.taken[source as usize] = number + 1;
-        self.foreign.add(copy);
+        self.foreign.keep(home, txn);
         keep_event(
             &mut self.events,
             Event::Append {
@@ -350,9 +358,11 @@ impl<S: Scheduler> Region<S> {
     }
 
     /// Executes a transaction on the region's table, by these procedures, and keeps the event. False exactly where it isn't
-    /// executable here; then nothing changes, and neither does after `NoMemory`.
+    /// executable here; then nothing changes, and neither does after `NoMemory`. If it is a move, its unit was moved fewer
+    /// than 4,294,967,295 times so far.
     pub fn execute(&mut self, alloc: Global, id: TxnId, procs: &Procs) -> Result<bool, NoMemory>
-        requires { HoldsValid procs.now self.old.state }
+        requires holds { HoldsValid procs.now self.old.state }
+        requires place { CanMove self.old.state id }
         ensures makes { MakesStep procs.now self.old (Execute self.old.state.number id) result self.new }
         ensures sound { IsSoundRegion self.new.state }
     {

@@ -1,7 +1,8 @@
 -- What the proofs of crates above may cite of this crate; they cite nothing else of its proofs.
 pub use Rattle.dt_site.proofs.Lists.{attempt_at, attempts_have, find_some}
 pub use Rattle.dt_site.proofs.Short.{IsShort, legal_short}
-pub use Rattle.dt_site.proofs.Standing.{Steps, after_more, held_closed, holds_valid, a_region, inv, many_here, order, others_stand, outcome_here, own_log, run_more, txns_stay}
+pub use Rattle.dt_site.proofs.Standing.{Steps, after_more, held_closed, a_region, inv, many_here, order, others_stand, outcome_here, own_log, run_more, txns_stay}
+pub use Rattle.dt_site.proofs.Moves.{can_move, fits_region, holds_valid, version_is}
 pub use Rattle.dt_site.proofs.Opening.{opening_is_for, opening_node_is, opening_stands}
 pub use Rattle.dt_site.proofs.Rule1Submit.{Submits, ids, origin_for, places_then, submit_legal, submit_made, waits_next}
 pub use Rattle.dt_site.proofs.Rule2Append.{append_legal, append_made, append_still, can_append, is_turn}

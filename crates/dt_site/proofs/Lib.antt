@@ -1,6 +1,7 @@
 pub mod Lists
 pub mod Short
 pub mod Standing
+pub mod Moves
 pub mod Opening
 pub mod Rule1Submit
 pub mod Rule2Append

@@ -14,7 +14,7 @@ use Rattle.dt_region.specs.Rules.{id_for, txn_for}
 use Rattle.dt_region.specs.Sound.{IsSoundRegion}
 use Rattle.dt_cluster.specs.declared.Cluster.{Cluster}
 use Rattle.dt_workload.specs.declared.Session.{Session}
-use Rattle.dt_workload.specs.declared.Wanted.{Wanted}
+use Rattle.dt_workload.specs.declared.Ranked.{Ranked}
 use Rattle.dt_workload.specs.declared.Workload.{Workload}
 use Rattle.dt_session.specs.World.{World, Place, Submission, no_node, node_at, attempt_of, received_logs, session_at, submission_of, txn_of, with_place}
 use Rattle.dt_session.specs.Step.{IsLegal, MaySubmit, MayTry, attempt_for, awaited_at, body_of, called, next, next_attempt, node_submitted, submitted, upcoming_id, world_submitted}
@@ -26,7 +26,7 @@ use Rattle.dt_site.proofs.Lists.{attempts_more, find_more}
 use Rattle.dt_site.proofs.Standing.{Steps, here_is, inv, many_here, node_then, order, received_stay, txns_stay}
 
 -- what a submission needs: the session, where it stands, and its call
-pub record Submits (cluster : Cluster) (workload : Workload) (w : World) (region : ℕ) (name : Bytes) (session : Session) (place : Place) (call : Wanted) : Type 0 where
+pub record Submits (cluster : Cluster) (workload : Workload) (w : World) (region : ℕ) (name : Bytes) (session : Session) (place : Place) (call : Ranked) : Type 0 where
   pub found : session_at workload.sessions w.places region name ≡ Some (session, place)
   pub named : session.name ≡ name
   pub may : MayTry cluster.tries (length session.calls) place.answered (awaited_at w region place.waits)
@@ -37,7 +37,7 @@ abbrev pub origin_for : World → Bytes → Place → Origin
 origin_for w name place = record { session = name; call = place.answered + 1; attempt = next_attempt w place.waits }
 
 module _ {cluster : Cluster} {workload : Workload} {w : World} (k : IsReached cluster workload w) {region : ℕ} (lr : region < cluster.regions) {p : SiteView} (s : StandsIn cluster.regions w region p)
-    {name : Bytes} {session : Session} {place : Place} {call : Wanted} (submits : Submits cluster workload w region name session place call) where
+    {name : Bytes} {session : Session} {place : Place} {call : Ranked} (submits : Submits cluster workload w region name session place call) where
   pub submit_legal : IsLegal cluster workload w (Submit region name)
   submit_legal = record { regions = lr; allowed = subst (MaySubmit cluster w region) (sym submits.found) submits.may }
 
@@ -45,7 +45,7 @@ module _ {cluster : Cluster} {workload : Workload} {w : World} (k : IsReached cl
   new = attempt_for cluster w region session place call
 
   abbrev txn : Txn
-  txn = txn_for cluster.procs p.region.state (body_of call)
+  txn = txn_for cluster.procs p.region.state call.rank (body_of call.wanted)
 
   abbrev origin : Origin
   origin = origin_for w name place
@@ -57,13 +57,13 @@ module _ {cluster : Cluster} {workload : Workload} {w : World} (k : IsReached cl
   ids = ap₂ (λ a b. next_id b a) (sym (many_here k s)) s.number
 
   txn_is : txn ≡ new.txn
-  txn_is = λ j. submission_for cluster.procs (s.number j) ((sym (many_here k s)) j) ((sym (here_is k s)) j) (body_of call)
+  txn_is = λ j. submission_for cluster.procs (s.number j) ((sym (many_here k s)) j) ((sym (here_is k s)) j) call.rank (body_of call.wanted)
 
   attempt_is : attempt txn origin ≡ new
   attempt_is = λ j. record { txn = txn_is j; session = (sym submits.named) j; call = place.answered + 1; attempt = next_attempt w place.waits }
 
   q : SiteView
-  q = after_attempt cluster.procs p (body_of call) origin
+  q = after_attempt cluster.procs p call.rank (body_of call.wanted) origin
 
   node_made : node_of q ≡ node_submitted (node_at w region) new
   unfolding q
@@ -146,7 +146,7 @@ module _ {cluster : Cluster} {workload : Workload} {w : World} (k : IsReached cl
     kept = kept_is;
   }
 
-  pub submit_made : (id : TxnId) (r : SiteView) → MakesAttempt cluster.procs p (body_of call) (origin_for w name place) (Ok id) r → IsSoundRegion r.region.state
+  pub submit_made : (id : TxnId) (r : SiteView) → MakesAttempt cluster.procs p call.rank (body_of call.wanted) (origin_for w name place) (Ok id) r → IsSoundRegion r.region.state
       → Steps cluster workload w (Submit region name) region p r (with_place workload.sessions w.places region session.name (record place { waits = Some id }))
   unfolding q
   submit_made id r m sound =

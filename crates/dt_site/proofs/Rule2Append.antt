@@ -47,7 +47,7 @@ module _ {cluster : Cluster} {workload : Workload} {w : World} (k : IsReached cl
   home_in : Has (homes_of txn) home
   home_in = subst (λ t. Has (homes_of t) home) same_txn request.home_in
 
-  valid : IsValid cluster.procs cluster.regions txn
+  valid : IsValid cluster.procs cluster.version cluster.regions txn
   valid = valid_txn k txn.id txn found
 
   -- a request that is not the next one changes nothing

@@ -195,7 +195,7 @@ module _ {cluster : Cluster} {workload : Workload} {w : World} (k : IsReached cl
           let is : e.part ≡ part_of e.txn home = at.2 ∙ ap (λ t. part_of t home) same in
           (subst (λ x. Has x.homes home) is homed, is))
 
-      valid_here : AllIn (λ e. IsValid cluster.procs cluster.regions e.txn) entries
+      valid_here : AllIn (λ e. IsValid cluster.procs cluster.version cluster.regions e.txn) entries
       valid_here = all_map _ _ entries (λ e f. valid_txn k e.part.id e.txn f) txns
 
       own_id : AllIn (λ e. txn_of w e.txn.id ≡ Some e.txn) entries

@@ -6,13 +6,16 @@ use Rattle.std.proofs.lemmas.Bool.{cases_Bool}
 use Rattle.std.proofs.lemmas.List.{length_push, get_or-set_same, get_or-set_other}
 use Rattle.std.proofs.lemmas.Option.{some_pair_parts}
 use Rattle.dt_lists.specs.Lists.{AllIn, Either}
-use Rattle.dt_lists.proofs.Callers.{all_map, either_nat, from_right, field_of_set, map_of_set}
+use Rattle.dt_lists.proofs.Callers.{all_at, all_map, either_nat, from_right, field_of_set, map_of_set}
 use Rattle.dt_access.specs.Clash.{Bytes}
 use Rattle.dt_access.specs.declared.TxnId.{TxnId}
 use Rattle.dt_sched.specs.Sched.{parts_in}
 use Rattle.dt_events.specs.declared.Event.{Event}
 use Rattle.dt_events.specs.declared.Event.TheVariants.{Submit, Append, Deliver, Insert, Resolve, Execute, Answer}
-use Rattle.dt_txn.specs.Replica.{stepped}
+use Rattle.dt_txn.specs.declared.Txn.{Txn}
+use Rattle.dt_txn.specs.Replica.{Replica, executed, stepped}
+use Rattle.dt_txn.specs.Execution.{one}
+use Rattle.dt_proc.specs.Tree.{ProcTree}
 use Rattle.dt_cluster.specs.declared.Cluster.{Cluster}
 use Rattle.dt_cluster.specs.Valid.{IsValidCluster}
 use Rattle.dt_workload.specs.declared.Session.{Session}
@@ -29,6 +32,7 @@ use Rattle.dt_site.proofs.Lists.{parts_set}
 pub record IsShort (w : World) (n : ℕ) : Type 0 where
   pub submitted : (region : ℕ) → length (node_at w region).submitted ≤ n
   pub parts : parts_in (logs_of w) ≤ n
+  pub done : AllIn (λ x. length x.here.done ≤ n) w.nodes
   pub answered : AllIn (λ p. p.answered ≤ n) w.places
 
 -- places
@@ -53,23 +57,53 @@ place_put P (t ∷ sessions) (x ∷ places) region name p a b = go (is_session r
     go true r = (b, a.1)
     go false r = (a.0, r)
 
+-- one node more that is short, in the place of another
+
+all_set : {A : Type 0} (P : A → Type 0) (xs : List A) (i : ℕ) (x : A) → AllIn P xs → P x → AllIn P (set xs i x)
+all_set P [] i x a p = tt
+all_set P (y ∷ xs) zero x a p = (p, a.1)
+all_set P (y ∷ xs) (suc i) x a p = (a.0, all_set P xs i x a.1 p)
+
+done_longer : (w : World) (n : ℕ) → IsShort w n → AllIn (λ x. length x.here.done ≤ n + 1) w.nodes
+done_longer w n s = all_map _ _ w.nodes (λ x a. omega arith) s.done
+
+-- what a region executed is longer by at most one after a step of its own
+done_stepped : (procs : List ProcTree) (txn_of : TxnId → Option Txn) (here : Replica) (n : ℕ) (event : Event) → length here.done ≤ n → length (stepped procs txn_of here event).done ≤ n + 1
+done_stepped procs txn_of here n (Submit region name) few = omega arith
+done_stepped procs txn_of here n (Append home source number) few = omega arith
+done_stepped procs txn_of here n (Deliver region home first last) few = omega arith
+done_stepped procs txn_of here n (Insert region home) few = omega arith
+done_stepped procs txn_of here n (Resolve region ids) few = omega arith
+done_stepped procs txn_of here n (Answer region name) few = omega arith
+done_stepped procs txn_of here n (Execute region id) few = go (txn_of id)
+  where
+    go : (o : Option Txn) → length (executed procs here o).done ≤ n + 1
+    go None = omega arith
+    go (Some txn) = let more = length_push here.done (txn.id, (one procs txn here.table).0) in omega (arith, more, few)
+
 still_short : (w : World) (n : ℕ) → IsShort w n → IsShort w (n + 1)
 still_short w n s = record {
   submitted = λ r. let a : length (node_at w r).submitted ≤ n = s.submitted r in omega arith;
   parts = let a : parts_in (logs_of w) ≤ n = s.parts in omega arith;
+  done = done_longer w n s;
   answered =
       all_map _ _ w.places (λ p a. omega arith) s.answered;
 }
 
--- where a node keeps its submissions and its log, and the places are short
-node_short : (w : World) (n region : ℕ) (x : Node) (places : List Place) → x.submitted ≡ (node_at w region).submitted → x.log ≡ (node_at w region).log → AllIn (λ p. p.answered ≤ n + 1) places → IsShort w n
-    → IsShort (record { nodes = set w.nodes region x; places = places }) (n + 1)
-node_short w n region x places es el a s = record {
+-- where a node keeps its submissions and its log, has executed few, and the places are short
+node_short : (w : World) (n region : ℕ) (x : Node) (places : List Place) → x.submitted ≡ (node_at w region).submitted → x.log ≡ (node_at w region).log → length x.here.done ≤ n + 1
+    → AllIn (λ p. p.answered ≤ n + 1) places → IsShort w n → IsShort (record { nodes = set w.nodes region x; places = places }) (n + 1)
+node_short w n region x places es el few a s = record {
   submitted = λ r. let same : (get_or (set w.nodes region x) r no_node).submitted ≡ (node_at w r).submitted = field_of_set (λ y. y.submitted) w.nodes region x no_node es r in
       let few : length (node_at w r).submitted ≤ n = s.submitted r in subst (λ l. length l ≤ n + 1) (sym same) (omega arith);
   parts = let few : parts_in (logs_of w) ≤ n = s.parts in subst (λ l. parts_in l ≤ n + 1) (sym (map_of_set (λ y. y.log) w.nodes region x no_node el)) (omega arith);
+  done = all_set _ w.nodes region x (done_longer w n s) few;
   answered = a;
 }
+
+-- a region of the world executed few
+done_at : (w : World) (n : ℕ) → IsShort w n → (region : ℕ) → length (node_at w region).here.done ≤ n
+done_at w n s region = all_at (λ (x : Node). length x.here.done ≤ n) no_node w.nodes region (omega arith) s.done
 
 places_short : (w : World) (n : ℕ) → IsShort w n → AllIn (λ p. p.answered ≤ n + 1) w.places
 places_short w n s = all_map _ _ w.places (λ p a. omega arith) s.answered
@@ -85,6 +119,7 @@ module _ (cluster : Cluster) (ok : IsValidCluster cluster) (workload : Workload)
         submitted = λ q. subm r q (either_nat q region);
         parts = let few : parts_in (logs_of w) ≤ n = s.parts in subst (λ v. parts_in v ≤ n + 1)
             (sym (map_of_set (λ y. y.log) w.nodes region (node_submitted (node_at w region) (attempt_for cluster w region r.session r.place r.call)) no_node refl)) (omega arith);
+        done = all_set _ w.nodes region _ (done_longer w n s) (let few : length (node_at w region).here.done ≤ n = done_at w n s region in omega arith);
         answered = place_put _ workload.sessions w.places region r.session.name _ (places_short w n s) (place_found (λ p. p.answered ≤ n + 1) workload.sessions w.places region name r.session r.place (places_short w n s) r.found);
       })
     where
@@ -106,17 +141,22 @@ module _ (cluster : Cluster) (ok : IsValidCluster cluster) (workload : Workload)
           let few : length (node_at w q).submitted ≤ n = s.submitted q in subst (λ x. length x ≤ n + 1) (sym same) (omega arith);
       parts = let few : parts_in (logs_of w) ≤ n = s.parts in subst (λ v. parts_in v ≤ n + 1) (sym (logs_placed cluster workload w order home source l.regions.0 l.regions.1 i r.0 r.1.number r.1.request r.1.found))
           (omega (arith, parts_set (logs_of w) home));
+      done = all_set _ w.nodes home _ (done_longer w n s) (let few : length (node_at w home).here.done ≤ n = done_at w n s home in omega arith);
       answered = places_short w n s;
     })
   ]
   next_short w order n (Deliver region home first last) l i s = go (leb first (received_of w region home) && ltb (received_of w region home) last)
     where
       go : (b : Bool) → IsShort (cond b (received w region home last) w) (n + 1)
-      go true = node_short w n region (record (node_at w region) { received = set (node_at w region).received home last }) w.places refl refl (places_short w n s) s
+      go true = node_short w n region (record (node_at w region) { received = set (node_at w region).received home last }) w.places refl refl
+          (let few : length (node_at w region).here.done ≤ n = done_at w n s region in omega arith) (places_short w n s) s
       go false = still_short w n s
-  next_short w order n (Insert region home) l i s = node_short w n region (record (node_at w region) { here = stepped cluster.procs (txn_of w) (node_at w region).here (Insert region home) }) w.places refl refl (places_short w n s) s
-  next_short w order n (Resolve region ids) l i s = node_short w n region (record (node_at w region) { here = stepped cluster.procs (txn_of w) (node_at w region).here (Resolve region ids) }) w.places refl refl (places_short w n s) s
-  next_short w order n (Execute region id) l i s = node_short w n region (record (node_at w region) { here = stepped cluster.procs (txn_of w) (node_at w region).here (Execute region id) }) w.places refl refl (places_short w n s) s
+  next_short w order n (Insert region home) l i s = node_short w n region (record (node_at w region) { here = stepped cluster.procs (txn_of w) (node_at w region).here (Insert region home) }) w.places refl refl
+      (done_stepped cluster.procs (txn_of w) (node_at w region).here n (Insert region home) (done_at w n s region)) (places_short w n s) s
+  next_short w order n (Resolve region ids) l i s = node_short w n region (record (node_at w region) { here = stepped cluster.procs (txn_of w) (node_at w region).here (Resolve region ids) }) w.places refl refl
+      (done_stepped cluster.procs (txn_of w) (node_at w region).here n (Resolve region ids) (done_at w n s region)) (places_short w n s) s
+  next_short w order n (Execute region id) l i s = node_short w n region (record (node_at w region) { here = stepped cluster.procs (txn_of w) (node_at w region).here (Execute region id) }) w.places refl refl
+      (done_stepped cluster.procs (txn_of w) (node_at w region).here n (Execute region id) (done_at w n s region)) (places_short w n s) s
   next_short w order n (Answer region name) l i s = go (session_at workload.sessions w.places region name) refl l.allowed
     where
       go : (o : Option (Session × Place)) → session_at workload.sessions w.places region name ≡ o → MayAnswer cluster w region o → IsShort (answered workload w region o) (n + 1)
@@ -127,6 +167,7 @@ module _ (cluster : Cluster) (ok : IsValidCluster cluster) (workload : Workload)
           record {
             submitted = before.submitted;
             parts = before.parts;
+            done = before.done;
             answered =
                 place_put (λ p. p.answered ≤ n + 1) workload.sessions w.places region session.name (record { answered = place.answered + 1; waits = None }) (places_short w n s) (omega arith);
           }
@@ -139,6 +180,10 @@ module _ (cluster : Cluster) (ok : IsValidCluster cluster) (workload : Workload)
   no_parts : (n : ℕ) → parts_in (map (λ x. x.log) (replicate n (opening_node cluster.regions (opening_table cluster)))) ≤ 0
   no_parts zero = omega arith
   no_parts (suc n) = let a : parts_in (map (λ x. x.log) (replicate n (opening_node cluster.regions (opening_table cluster)))) ≤ 0 = no_parts n in omega arith
+
+  none_done : (n : ℕ) → AllIn (λ x. length x.here.done ≤ 0) (replicate n (opening_node cluster.regions (opening_table cluster)))
+  none_done zero = tt
+  none_done (suc n) = (omega arith, none_done n)
 
   idle_short : (sessions : List Session) → AllIn (λ p. p.answered ≤ 0) (map (λ s. idle_place) sessions)
   idle_short [] = tt
@@ -159,5 +204,6 @@ module _ (cluster : Cluster) (ok : IsValidCluster cluster) (workload : Workload)
       opening_short = record {
         submitted = λ region. none_long _ (opened_at (λ x. x.submitted) cluster.regions region (opening_node cluster.regions (opening_table cluster)) no_node refl refl);
         parts = no_parts cluster.regions;
+        done = none_done cluster.regions;
         answered = idle_short workload.sessions;
       }

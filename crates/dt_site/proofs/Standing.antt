@@ -12,7 +12,6 @@ use Rattle.dt_txn.specs.declared.Txn.{Txn}
 use Rattle.dt_txn.specs.Replica.{Replica, fronts, view_of}
 use Rattle.dt_txn.specs.Transaction.{IsValid}
 use Rattle.dt_region.specs.Region.{RegionState, held, outcome_of}
-use Rattle.dt_region.specs.Conditions.{HoldsValid}
 use Rattle.dt_region.specs.Sound.{IsSoundRegion, IsHeldPart}
 use Rattle.dt_cluster.specs.declared.Cluster.{Cluster}
 use Rattle.dt_workload.specs.declared.Workload.{Workload}
@@ -76,16 +75,12 @@ module _ {cluster : Cluster} {workload : Workload} {w : World} (k : IsReached cl
   pub txns_stay : (event : Event) → IsLegal cluster workload w event → (id : TxnId) (txn : Txn) → txn_of w id ≡ Some txn → txn_of (next cluster workload w event) id ≡ Some txn
   txns_stay event l id txn e = next_txns cluster k.run.sound workload k.run.fits w order event l inv id txn e
 
-  pub valid_txn : (id : TxnId) (txn : Txn) → txn_of w id ≡ Some txn → IsValid cluster.procs cluster.regions txn
+  pub valid_txn : (id : TxnId) (txn : Txn) → txn_of w id ≡ Some txn → IsValid cluster.procs cluster.version cluster.regions txn
   valid_txn id txn e = (transaction_valid cluster workload w order inv id txn e).0
 
   -- a site that stands in it
 
   module _ {region : ℕ} {p : SiteView} (s : StandsIn cluster.regions w region p) where
-    -- what a region holds is valid for the procedures of the cluster
-    pub holds_valid : HoldsValid cluster.procs p.region.state
-    holds_valid id txn e = subst (λ n. IsValid cluster.procs n txn) (sym s.many) (valid_txn id txn (s.known id txn e))
-
     -- its number of a region is one of the world's
     pub a_region : (home : ℕ) → home < cluster.regions → home < p.region.state.regions
     a_region home lh = subst (λ n. home < n) (sym s.many) lh

@@ -46,20 +46,20 @@ opening_site number regions table = record { region = record { state = opening_s
 
 -- stands for a site that there is not
 abbrev pub no_site : SiteView
-no_site = opening_site 0 0 (opening 0 [] [])
+no_site = opening_site 0 0 (opening 1 0 [] [])
 
 -- a site with its region changed
 abbrev pub in_region : SiteView → RegionView → SiteView
 in_region p region = record p { region = region }
 
--- a site after it submitted a body for a session
-abbrev pub after_attempt : List ProcTree → SiteView → Body → Origin → SiteView
-after_attempt procs p body origin = record {
-  region = with_event p.region (after_submit procs p.region.state body) (Submit p.region.state.number origin.session);
+-- a site after it submitted a body of this rank for a session
+abbrev pub after_attempt : List ProcTree → SiteView → ℕ → Body → Origin → SiteView
+after_attempt procs p rank body origin = record {
+  region = with_event p.region (after_submit procs p.region.state rank body) (Submit p.region.state.number origin.session);
   origins = p.origins ++ origin ∷ [];
 }
 
 -- a submission gives its id; after `NoMemory` the site is as before
-abbrev pub MakesAttempt : List ProcTree → SiteView → Body → Origin → Result TxnId NoMemory → SiteView → Type 0
-MakesAttempt procs p body origin (Ok id) after = (id ≡ id_for p.region.state) × (after ≡ after_attempt procs p body origin)
-MakesAttempt procs p body origin (Err e) after = after ≡ p
+abbrev pub MakesAttempt : List ProcTree → SiteView → ℕ → Body → Origin → Result TxnId NoMemory → SiteView → Type 0
+MakesAttempt procs p rank body origin (Ok id) after = (id ≡ id_for p.region.state) × (after ≡ after_attempt procs p rank body origin)
+MakesAttempt procs p rank body origin (Err e) after = after ≡ p

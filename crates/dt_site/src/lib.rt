@@ -8,7 +8,8 @@
 //!
 //! - it may be given the requests that the world's regions asked it to place (`can_append`);
 //! - it may be given any stretch of another region's log, from a place that it has already or not (`can_deliver`);
-//! - what it holds is valid for the cluster's procedures, so that it may execute (`holds_valid`);
+//! - what it holds is valid for the cluster's procedures and version, and each move has a place left in the list of its
+//!   unit, so that it may execute (`holds_valid`, `can_move`);
 //! - after its call answers that it was made, it stands in the world after the event, and so do all other sites.
 //!
 //! The proofs speak of one site and a world, not of how the others are held. So they serve a world that has all sites in

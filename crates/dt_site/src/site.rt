@@ -68,21 +68,25 @@ impl<S: Scheduler> Site<S> {
         &self.origins[number as usize - 1]
     }
 
-    /// Submits a body for a session, as the region does, and keeps whose it is. After `NoMemory` nothing has changed.
+    /// Submits a body of this rank for a session, as the region does, and keeps whose it is. After `NoMemory` nothing has changed.
     pub fn submit(
         &mut self,
         alloc: Global,
+        rank: u8,
         body: Body,
         procs: &Procs,
         origin: Origin,
     ) -> Result<TxnId, NoMemory>
-        requires fits { BodyFits procs.now self.old.region.state.regions body }
+        requires fits { BodyFits procs.now self.old.region.state.here.table.version self.old.region.state.regions body }
+        requires rank { rank ≤ 9 }
         requires place { length self.old.region.state.submitted < 4294967295 }
-        ensures makes { MakesAttempt procs.now self.old body origin result self.new }
+        ensures makes { MakesAttempt procs.now self.old rank body origin result self.new }
         ensures sound { OnOk result (IsSoundRegion self.new.region.state) }
     {
         self.origins.reserve(1)?;
-        let id = self.region.submit(alloc, &origin.session, body, procs)?;
+        let id = self
+            .region
+            .submit(alloc, &origin.session, rank, body, procs)?;
         match self.origins.push(origin) {
             Ok(()) => Ok(id),
             Err(_) => unreachable!(),

@@ -9,7 +9,7 @@ use std::test::Fail;
 
 /// Whether a region of two that has done nothing has nothing to resolve, and keeps no event.
 fn has_nothing_to_do(alloc: Global) -> Result<bool, Fail> {
-    let table = Table::new(alloc, 2, &[], &[])?;
+    let table = Table::new(alloc, 1, 2, &[], &[])?;
     let region: Region<PlainSched> = Region::new(alloc, 0, 2, table)?;
     Ok(region.next_class(alloc)?.is_none() && region.events().is_empty())
 }

@@ -11,7 +11,7 @@ use Rattle.dt_txn.specs.declared.Txn.{Txn}
 use Rattle.dt_txn.specs.Replica.{executed}
 use Rattle.dt_cluster.specs.declared.Cluster.{Cluster}
 use Rattle.dt_workload.specs.declared.Session.{Session}
-use Rattle.dt_workload.specs.declared.Wanted.{Wanted}
+use Rattle.dt_workload.specs.declared.Ranked.{Ranked}
 use Rattle.dt_workload.specs.declared.Workload.{Workload}
 use Rattle.dt_session.specs.World.{World, Node, Place, asked_of, no_node, node_at, opening_world, received_of, session_at, taken_of, txn_of, with_node}
 use Rattle.dt_session.specs.Step.{IsLegal, answered, called, next, node_submitted, placed, received, attempt_for, submitted}
@@ -41,7 +41,7 @@ module _ (cluster : Cluster) (workload : Workload) (w : World) where
   pub grows : (event : Event) (r : ℕ) → NodeGrows (node_at w r) (node_at (next cluster workload w event) r)
   grows (Submit region name) r = go (session_at workload.sessions w.places region name)
     where
-      once : (session : Session) (place : Place) (o : Option Wanted) → NodeGrows (node_at w r) (node_at (called cluster workload w region session place o) r)
+      once : (session : Session) (place : Place) (o : Option Ranked) → NodeGrows (node_at w r) (node_at (called cluster workload w region session place o) r)
       once session place None = same_node (node_at w r)
       once session place (Some call) = grows_set w.nodes region (node_submitted (node_at w region) (attempt_for cluster w region session place call))
           (record { submitted = front_append (node_at w region).submitted (attempt_for cluster w region session place call ∷ []); done = front_refl (node_at w region).here.done }) r

@@ -1,13 +1,13 @@
 -- One site among all, reached by a call through the list: as it was where the call changed nothing, and stepped where the
 -- call was made.
-use Rattle.std.proofs.Common.{◌≡◌, ◌<◌, ℕ, Bool, true, false, List, [], set, Ok, refl, sym, ap, subst, ◌∙◌}
+use Rattle.std.proofs.Common.{◌≡◌, ◌<◌, ℕ, Bool, true, false, List, [], length, set, Ok, refl, sym, ap, subst, ◌∙◌, arith}
 use Rattle.std.proofs.lemmas.List.{set-get_or}
 use Rattle.dt_access.specs.declared.TxnId.{TxnId}
 use Rattle.dt_events.specs.declared.Event.{Event}
 use Rattle.dt_events.specs.declared.Event.TheVariants.{Insert, Resolve, Execute}
 use Rattle.dt_proc.specs.Tree.{ProcTree}
 use Rattle.dt_region.specs.Region.{RegionView, outcome_of}
-use Rattle.dt_region.specs.Conditions.{HoldsValid}
+use Rattle.dt_region.specs.Conditions.{CanMove, HoldsValid}
 use Rattle.dt_region.specs.Rules.{MakesStep}
 use Rattle.dt_region.specs.Sound.{IsSoundRegion}
 use Rattle.dt_cluster.specs.declared.Cluster.{Cluster}
@@ -15,7 +15,7 @@ use Rattle.dt_session.specs.World.{outcome_at}
 use Rattle.dt_session.specs.Step.{IsLegal}
 use Rattle.dt_site.specs.declared.Origin.{Origin}
 use Rattle.dt_site.specs.Site.{SiteView, in_region, no_site}
-use Rattle.dt_site.proofs.Callers.{a_region, execute_made, execute_refused, holds_valid, insert_made, insert_refused, outcome_here, resolve_made, resolve_refused}
+use Rattle.dt_site.proofs.Callers.{a_region, can_move, execute_made, execute_refused, holds_valid, insert_made, insert_refused, outcome_here, resolve_made, resolve_refused}
 use Rattle.dt_world.specs.WorldSessions.{WorldSessions, places_in}
 use Rattle.dt_world.specs.WorldInner.{IsLawful, site_at, view_in, world_of}
 use Rattle.dt_world.specs.WorldView.{WorldView}
@@ -50,7 +50,12 @@ module _ {cluster : Cluster} {sessions : WorldSessions} {sites : List SiteView} 
   same_view later same = ap (λ l. view_in cluster sessions l steps) (same_sites later same)
 
   pub holds_here : HoldsValid cluster.procs r.state
-  holds_here = subst (λ x. HoldsValid cluster.procs x.state) (sym b.region_is) (holds_valid k.reached (k.stands region lr))
+  holds_here = subst (λ x. HoldsValid cluster.procs x.state) (sym b.region_is) (holds_valid k.reached lr (k.stands region lr))
+
+  -- what it executes, if it is a move, has a place left
+  pub moves_here : steps < 4294967295 → (id : TxnId) → CanMove r.state id
+  moves_here few id =
+      subst (λ x. CanMove x.state id) (sym b.region_is) (can_move k.reached lr (k.stands region lr) (let many : length k.reached.events ≡ steps = k.many in omega (arith, many, few)) id)
 
   pub region_here : (home : ℕ) → home < cluster.regions → home < r.state.regions
   region_here home lh = subst (λ x. home < x.state.regions) (sym b.region_is) (a_region k.reached (k.stands region lr) home lh)

@@ -62,7 +62,7 @@ module _ (cluster : Cluster) (workload : Workload) (fits : IsValidWorkload clust
       (opening_sessions_stand cluster workload region fits.names_once)
 
   idle_places : places_in (idle cluster workload) ≡ (opening_world cluster workload).places
-  idle_places = places_are fits.names_once (λ t h. (all_in (IsValidSession cluster.procs cluster.regions) workload.sessions fits.sessions t h).region)
+  idle_places = places_are fits.names_once (λ t h. (all_in (IsValidSession cluster) workload.sessions fits.sessions t h).region)
       (length-map workload.sessions (λ s. idle_place)) (opening_sessions cluster workload) opened_at
 
   begun : world_of (opening_sites cluster) (places_in (idle cluster workload)) ≡ opening_world cluster workload

@@ -1,6 +1,7 @@
 -- Rule 2 in a world: the transaction of a request is looked up at its source, and placed at the home's site.
 use Rattle.std.proofs.Common.{eqb-true, ◌≡◌, ◌<◌, ◌≤◌, ◌+◌, ℕ, Bool, true, false, eqb, List, [], length, get_or, set, slice_get, Ok, Some, refl, sym, ap, subst, ◌∙◌, arith}
 use Rattle.std.proofs.lemmas.Bool.{false_from_ne_true}
+use Rattle.std.proofs.lemmas.Option.{slice_get-get_or}
 use Rattle.dt_lists.specs.Lists.{Has}
 use Rattle.dt_lists.proofs.Callers.{has_place}
 use Rattle.dt_access.specs.declared.TxnId.{TxnId}
@@ -22,6 +23,34 @@ use Rattle.dt_world.specs.WorldSessions.{WorldSessions, places_in}
 use Rattle.dt_world.specs.WorldInner.{IsLawful, site_at, world_of}
 use Rattle.dt_world.proofs.OneSite.{same_sites}
 use Rattle.dt_world.proofs.WorldLaws.{IsBehind, IsMade, node_is, short, step_made, still_made}
+
+-- what the call has in hand: an id that the source asked the home to place as this request, and its transaction, which the
+-- source holds
+pub record Asks (sites : List SiteView) (home source number : ℕ) (txn : Txn) : Type 0 where
+  pub id : TxnId
+  pub wants : slice_get (get_or (site_at sites source).region.state.here.asked home []) number ≡ Some id
+  pub found : held (site_at sites source).region.state id ≡ Some txn
+
+-- the id of a request in a list of what was asked
+abbrev pub id_in : List TxnId → ℕ → TxnId
+id_in list number = get_or list number (record { seq = 0; region = 0 })
+
+module _ {sites : List SiteView} {source : ℕ} {r : RegionView} {origins : List Origin} (b : IsBehind sites source r origins) (home number : ℕ) {list : List TxnId} (asked : list ≡ get_or r.state.here.asked home []) where
+  asked_here : list ≡ get_or (site_at sites source).region.state.here.asked home []
+  asked_here = asked ∙ ap (λ (x : RegionView). get_or x.state.here.asked home []) b.region_is
+
+  pub few_asked : length list ≤ number → length (get_or (site_at sites source).region.state.here.asked home []) ≤ number
+  few_asked le = subst (λ (l : List TxnId). length l ≤ number) asked_here le
+
+  pub wanted_in : number < length list → slice_get (get_or (site_at sites source).region.state.here.asked home []) number ≡ Some (id_in list number)
+  wanted_in lt = subst (λ (l : List TxnId). slice_get l number ≡ Some (id_in list number)) asked_here (slice_get-get_or list number (record { seq = 0; region = 0 }) lt)
+
+  pub asks : number < length list → {found txn : Txn} → Some found ≡ held r.state (id_in list number) → txn ≡ found → Asks sites home source number txn
+  asks lt found same = record {
+    id = id_in list number;
+    wants = wanted_in lt;
+    found = sym (ap (λ (x : RegionView). held x.state (id_in list number)) b.region_is) ∙ sym found ∙ ap Some (sym same);
+  }
 
 module _ {cluster : Cluster} {sessions : WorldSessions} {sites : List SiteView} {steps : ℕ} (k : IsLawful cluster sessions sites steps) {home source : ℕ} (lh : home < cluster.regions) (ls : source < cluster.regions) (number : ℕ)
     {id : TxnId} (wanted : slice_get (get_or (site_at sites source).region.state.here.asked home []) number ≡ Some id) where

@@ -1,6 +1,6 @@
 -- Rule 3 in a world: the entries are taken from the home's site, from the delivery's own first place on, and handed to the
 -- site of the region.
-use Rattle.std.proofs.Common.{◌≡◌, ◌<◌, ◌≤◌, ◌+◌, ℕ, zero, suc, true, false, List, [], ◌∷◌, ◌++◌, length, map, set, take, drop, slice_get, Ok, Some, refl, sym, ap, subst, ◌∙◌, arith}
+use Rattle.std.proofs.Common.{◌≡◌, ◌<◌, ◌≤◌, ◌+◌, ℕ, zero, suc, Bool, true, false, List, [], ◌∷◌, ◌++◌, length, map, set, take, drop, slice_get, Ok, Some, refl, sym, ap, subst, ◌∙◌, arith}
 use Rattle.std.proofs.lemmas.List.{length-take-le, map_push, take_more}
 use Rattle.std.proofs.lemmas.Option.{get_or_from_slice_get}
 use Rattle.dt_lists.specs.Lists.{AllIn}
@@ -24,6 +24,35 @@ use Rattle.dt_site.proofs.Callers.{apart, can_deliver, deliver_legal, deliver_ma
 use Rattle.dt_world.specs.WorldSessions.{WorldSessions, places_in}
 use Rattle.dt_world.specs.WorldInner.{IsLawful, site_at, world_of}
 use Rattle.dt_world.proofs.WorldLaws.{IsBehind, IsMade, short, step_made, still_made}
+
+-- what the call reads of the sites: how far the home's log reaches, and whether the delivery joins what the region received
+pub record IsDelivery (sites : List SiteView) (region home first last : ℕ) (join : Bool) : Type 0 where
+  pub reaches : last ≤ length (log_at (site_at sites home).region.state.logs home)
+  pub joined : joins (length (log_at (site_at sites region).region.state.logs home)) first last ≡ join
+
+-- the entries that it takes from the home's site
+pub record AreOfLog (sites : List SiteView) (home first last : ℕ) (entries : List Entry) : Type 0 where
+  pub parts : map (λ e. e.part) entries ≡ drop first (take last (log_at (site_at sites home).region.state.logs home))
+  pub txns : AllIn (λ e. held (site_at sites home).region.state e.part.id ≡ Some e.txn) entries
+
+-- the length of a log that was read is that of the site's log
+pub length_is : {sites : List SiteView} {region : ℕ} {r : RegionView} {origins : List Origin} → IsBehind sites region r origins → (home : ℕ) {log : List Part} {n : ℕ} → n ≡ length log → log ≡ log_at r.state.logs home
+    → n ≡ length (log_at (site_at sites region).region.state.logs home)
+length_is b home n_is log_is = n_is ∙ ap length (log_is ∙ ap (λ (x : RegionView). log_at x.state.logs home) b.region_is)
+
+pub delivery_is : (sites : List SiteView) (region home first last : ℕ) (join : Bool) {n m : ℕ} {test : Bool} → n ≡ length (log_at (site_at sites home).region.state.logs home) → last ≤ n
+    → m ≡ length (log_at (site_at sites region).region.state.logs home) → test ≡ joins m first last → test ≡ join → IsDelivery sites region home first last join
+delivery_is sites region home first last join long within received is on = record {
+  reaches = subst (λ x. last ≤ x) long within;
+  joined = subst (λ x. joins x first last ≡ join) received (sym is ∙ on);
+}
+
+pub entries_are : {sites : List SiteView} {home : ℕ} {r : RegionView} {origins : List Origin} → IsBehind sites home r origins → (first last : ℕ) (entries : List Entry)
+    → map (λ (e : Entry). e.part) entries ≡ drop first (take last (log_at r.state.logs home)) → AllIn (λ (e : Entry). held r.state e.part.id ≡ Some e.txn) entries → AreOfLog sites home first last entries
+entries_are {sites} {home} b first last entries parts txns = record {
+  parts = parts ∙ ap (λ (x : RegionView). drop first (take last (log_at x.state.logs home))) b.region_is;
+  txns = subst (λ (x : RegionView). AllIn (λ (e : Entry). held x.state e.part.id ≡ Some e.txn) entries) b.region_is txns;
+}
 
 module _ {cluster : Cluster} {sessions : WorldSessions} {sites : List SiteView} {steps : ℕ} (k : IsLawful cluster sessions sites steps) {region home first last : ℕ} (lr : region < cluster.regions) (lh : home < cluster.regions)
     (ordered : first ≤ last) (reaches : last ≤ length (log_at (site_at sites home).region.state.logs home)) where

@@ -1,27 +1,30 @@
 -- Rule 7 in a world: a session is answered, its region's site keeps the event, and its region keeps that it goes on.
-use Rattle.std.proofs.Common.{◌≡◌, ◌<◌, ◌+◌, ℕ, List, set, Ok, Some, None, refl, sym, ap, subst, ◌∙◌, inl, inr}
-use Rattle.std.specs.Prelude.{Option}
+-- At the end stands what the call needs on its way, of what it has in hand.
+use Rattle.std.proofs.Common.{◌≡◌, ◌<◌, ◌+◌, ℕ, List, length, get_or, set, Ok, Some, None, refl, sym, ap, subst, ◌∙◌, inl, inr}
+use Rattle.std.specs.Prelude.{Option, option_and_then}
 use Rattle.std.proofs.lemmas.List.{get_or-set_same, get_or-set_other, length-set}
 use Rattle.dt_lists.specs.Lists.{Either}
 use Rattle.dt_lists.proofs.Callers.{either_nat}
 use Rattle.dt_access.specs.Clash.{Bytes}
 use Rattle.dt_events.specs.declared.Event.TheVariants.{Answer}
-use Rattle.dt_region.specs.Region.{RegionView}
+use Rattle.dt_txn.specs.declared.Outcome.{Outcome}
+use Rattle.dt_region.specs.Region.{RegionView, outcome_of}
 use Rattle.dt_region.specs.Rules.{MakesAnswer}
 use Rattle.dt_cluster.specs.declared.Cluster.{Cluster}
 use Rattle.dt_workload.specs.declared.Session.{Session}
-use Rattle.dt_session.specs.Sessions.{SessionsView, after_answer, answered_seat}
+use Rattle.dt_session.specs.Sessions.{MayBeAnswered, SessionsView, after_answer, answered_seat, waits_of}
 use Rattle.dt_session.specs.World.{World, Place, session_at, with_place}
 use Rattle.dt_session.specs.Step.{IsLegal, MayAnswer, MayEnd, awaited_at, next}
 use Rattle.dt_agreement.proofs.Callers.{session_found}
 use Rattle.dt_agreement.specs.Invariant.{IsPlaceOf}
 use Rattle.dt_site.specs.declared.Origin.{Origin}
 use Rattle.dt_site.specs.SessionsStandIn.{SessionsStandIn, no_sessions}
-use Rattle.dt_site.specs.Site.{SiteView}
+use Rattle.dt_site.specs.Site.{SiteView, no_site}
 use Rattle.dt_site.proofs.Callers.{answer_legal, answer_made, answered_places, inv, others_sessions, sessions_changed}
-use Rattle.dt_world.specs.WorldInner.{IsLawful, MayBeTold, sessions_of, view_in, world_of}
+use Rattle.dt_world.specs.WorldInner.{IsLawful, MayBeTold, sessions_of, site_at, view_in, world_of}
 use Rattle.dt_world.specs.WorldSessions.{WorldSessions, places_in}
-use Rattle.dt_world.proofs.WorldLaws.{IsBehind, IsMade, sessions_made}
+use Rattle.dt_world.proofs.WorldFacts.{end_told, sessions_at_place}
+use Rattle.dt_world.proofs.WorldLaws.{IsBehind, IsMade, a_site, behind, sessions_made}
 
 module _ {cluster : Cluster} {sessions : WorldSessions} {sites : List SiteView} {steps : ℕ} (k : IsLawful cluster sessions sites steps) {region : ℕ} (lr : region < cluster.regions) (name : Bytes) where
   abbrev w : World
@@ -66,7 +69,7 @@ module _ {cluster : Cluster} {sessions : WorldSessions} {sites : List SiteView} 
         (length-set sessions.by_region region (after_answer (sessions_of sessions.by_region region) name) ∙ k.listed) standing)
 
   -- the site and the sessions after the call
-  pub answer_done : MayBeTold (view_in cluster sessions sites steps) region name → {r : RegionView} {origins : List Origin} → IsBehind sites region r origins → (after : RegionView) → MakesAnswer r name (Ok tt) after
+  answer_done : MayBeTold (view_in cluster sessions sites steps) region name → {r : RegionView} {origins : List Origin} → IsBehind sites region r origins → (after : RegionView) → MakesAnswer r name (Ok tt) after
       → IsMade cluster sessions sites steps (Answer region name) (record sessions { by_region = later }) (set sites region (record { region = after; origins = origins }))
   answer_done may {r} {origins} b after m = go (session_at sessions.workload.sessions (places_in sessions) region name) refl may
     where
@@ -74,3 +77,33 @@ module _ {cluster : Cluster} {sessions : WorldSessions} {sites : List SiteView} 
           → IsMade cluster sessions sites steps (Answer region name) (record sessions { by_region = later }) (set sites region (record { region = after; origins = origins }))
       go None e x = absurd x
       go (Some (session, place)) e x = done_here session place e x b after m
+
+-- the region's site kept the event, and the sessions of the region are those at its place
+module _ {cluster : Cluster} {sessions : WorldSessions} {sites : List SiteView} {steps : ℕ} (k : IsLawful cluster sessions sites steps) {region : ℕ} (lr : region < cluster.regions)
+    (name : Bytes) (may : MayBeTold (view_in cluster sessions sites steps) region name) {r : RegionView} {origins : List Origin} (b : IsBehind sites region r origins)
+    (after : RegionView) (m : MakesAnswer r name (Ok tt) after) (s : SessionsView) (s_at : s ≡ get_or sessions.by_region region s) where
+  abbrev q : SiteView
+  q = record { region = after; origins = origins }
+
+  sessions_are : (x : SessionsView) → x ≡ get_or sessions.by_region region x → x ≡ sessions_of sessions.by_region region
+  sessions_are x = sessions_at_place sessions.by_region region x (subst (λ n. region < n) (sym k.listed) lr)
+
+  -- the outcomes of the region are those that it had, so the session may be answered by them
+  pub may_end : {now : RegionView} {others : List Origin} {y : SiteView} → y ≡ get_or (set sites region q) region y → record { region = now; origins = others } ≡ y
+      → (read : SessionsView) → read ≡ get_or sessions.by_region region read → (last : Option Outcome) → last ≡ option_and_then (outcome_of now.state) (waits_of read name) → MayBeAnswered s name last
+  may_end {now} value is read read_at last told =
+      let within : region < length (set sites region q) = subst (λ n. region < n) (sym (length-set sites region q)) (a_site k lr) in
+      let there = behind {sites = set sites region q} within value is in
+      let state_is : now.state ≡ (site_at sites region).region.state =
+      ap (λ (x : RegionView). x.state) (there.region_is ∙ ap (λ (x : SiteView). x.region) (get_or-set_same sites region q no_site (a_site k lr)) ∙ m) ∙ ap (λ (x : RegionView). x.state) b.region_is in
+      let here_told : last ≡ option_and_then (outcome_of (site_at sites region).region.state) (waits_of (sessions_of sessions.by_region region) name) =
+      told ∙ (λ j. option_and_then (outcome_of (state_is j)) (waits_of (sessions_are read read_at j) name)) in
+      subst (λ x. MayBeAnswered x name last) (sym (sessions_are s s_at)) (end_told k lr name last here_told may)
+
+  -- with the sessions that go on so, the event is made
+  pub answers_made : (new : SessionsView) → new ≡ after_answer s name
+      → IsMade cluster sessions sites steps (Answer region name) (record sessions { by_region = set sessions.by_region region new }) (set sites region q)
+  answers_made new is =
+      let new_is : new ≡ after_answer (sessions_of sessions.by_region region) name = is ∙ ap (λ x. after_answer x name) (sessions_are s s_at) in
+      subst (λ x. IsMade cluster sessions sites steps (Answer region name) (record sessions { by_region = set sessions.by_region region x }) (set sites region q)) (sym new_is)
+      (answer_done k lr name may b after m)

@@ -12,19 +12,19 @@ use Rattle.dt_txn.specs.Transaction.{BodyFits}
 use Rattle.dt_region.specs.Region.{outcome_of}
 use Rattle.dt_cluster.specs.declared.Cluster.{Cluster}
 use Rattle.dt_workload.specs.declared.Session.{Session}
-use Rattle.dt_workload.specs.declared.Wanted.{Wanted}
-use Rattle.dt_workload.specs.Valid.{IsValidSession, WantedFits}
+use Rattle.dt_workload.specs.declared.Ranked.{Ranked}
+use Rattle.dt_workload.specs.Valid.{IsValidSession, RankedFits}
 use Rattle.dt_session.specs.declared.sessions.Seat.{Seat}
 use Rattle.dt_session.specs.Sessions.{IsNext, MayBeAnswered, MayGo, SessionsView, numbers_next, seat_of, waits_of, wanted_of}
 use Rattle.dt_session.specs.World.{World, Place, session_at}
-use Rattle.dt_session.specs.Step.{MaySubmit, MayTry, awaited_at, body_of, next_attempt}
+use Rattle.dt_session.specs.Step.{MaySubmit, MayTry, awaited_at, body_of, next_attempt, ranked_body}
 use Rattle.dt_agreement.proofs.Callers.{body_fits, session_found, submits}
 use Rattle.dt_agreement.proofs.Callers as agreed
 use Rattle.dt_agreement.specs.Invariant.{IsPlaceOf}
 use Rattle.dt_site.specs.declared.Origin.{Origin}
 use Rattle.dt_site.specs.SessionsStandIn.{seat_in}
 use Rattle.dt_site.specs.Site.{SiteView}
-use Rattle.dt_site.proofs.Callers.{inv, kept_here, last_in, may_answer, may_be_answered, may_go, may_submit, numbers_are, order, outcome_here}
+use Rattle.dt_site.proofs.Callers.{fits_region, inv, kept_here, last_in, may_answer, may_be_answered, may_go, may_submit, numbers_are, order, outcome_here}
 use Rattle.dt_world.specs.WorldInner.{IsLawful, IsNextOf, IsNextTry, MayBeTold, sessions_of, site_at, view_in, world_of}
 use Rattle.dt_world.specs.WorldSessions.{WorldSessions, places_in}
 use Rattle.dt_world.specs.WorldView.{WorldView}
@@ -39,7 +39,7 @@ some_same : {A : Type 0} {x y : A} → ◌≡◌ {A = Option A} (Some x) (Some y
 some_same e = cc
 
 -- the call of a session that there is
-call_there : (calls : List Wanted) (n : ℕ) → n < length calls → (call : Wanted) × (slice_get calls n ≡ Some call)
+call_there : (calls : List Ranked) (n : ℕ) → n < length calls → (call : Ranked) × (slice_get calls n ≡ Some call)
 call_there [] n lt = absurd (omega arith)
 call_there (c ∷ calls) zero lt = (c, refl)
 call_there (c ∷ calls) (suc n) lt = call_there calls n (omega arith)
@@ -84,7 +84,7 @@ module _ {cluster : Cluster} {sessions : WorldSessions} {sites : List SiteView} 
       record Found : Type 0 where
         session : Session
         place : Place
-        wanted : Wanted
+        wanted : Ranked
         found : found_at ≡ Some (session, place)
         may : MayTry cluster.tries (length session.calls) place.answered (awaited_at w region place.waits)
         wants : slice_get session.calls place.answered ≡ Some wanted
@@ -123,7 +123,7 @@ module _ {cluster : Cluster} {sessions : WorldSessions} {sites : List SiteView} 
                   let pair : ◌≡◌ {A = Session × Place} (r.session, r.place) (session, place) = some_same same in
                   subst (λ (x : Session × Place). x.1.answered < length x.0.calls) pair r.on.call
 
-              wanted : (c : Wanted) × (slice_get session.calls place.answered ≡ Some c)
+              wanted : (c : Ranked) × (slice_get session.calls place.answered ≡ Some c)
               wanted = call_there session.calls place.answered left
 
       -- the call is one of the session's
@@ -138,10 +138,13 @@ module _ {cluster : Cluster} {sessions : WorldSessions} {sites : List SiteView} 
       pub call_there_is : IsSome (wanted_of here name call)
       call_there_is = subst IsSome (sym wanted_here) refl
 
+      ranked_is : (rank : ℕ) (body : Body) → option_map ranked_body (wanted_of here name call) ≡ Some (rank, body) → ◌≡◌ {A = ℕ × Body} (rank, body) (ranked_body found.wanted)
+      ranked_is rank body made = some_same (sym made ∙ ap (option_map ranked_body) wanted_here)
+
       -- so with what that call is to do, it is the session's next try
-      pub next_try : (body : Body) (copied : Bytes) → copied ≡ name → option_map body_of (wanted_of here name call) ≡ Some body
-          → IsNextOf (view_in cluster sessions sites steps) region name (Some (record { session = copied; call = call; attempt = attempt }, body))
-      next_try body copied same made = record {
+      pub next_try : (rank : ℕ) (body : Body) (copied : Bytes) → copied ≡ name → option_map ranked_body (wanted_of here name call) ≡ Some (rank, body)
+          → IsNextOf (view_in cluster sessions sites steps) region name (Some (record { session = copied; call = call; attempt = attempt }, (rank, body)))
+      next_try rank body copied same made = record {
         session = found.session;
         place = found.place;
         call = found.wanted;
@@ -149,18 +152,28 @@ module _ {cluster : Cluster} {sessions : WorldSessions} {sites : List SiteView} 
         may = found.may;
         wants = found.wants;
         origin_is = λ i. record { session = same i; call = found.call_is i; attempt = found.attempt_is i };
-        body_is = some_same (sym made ∙ ap (option_map body_of) wanted_here);
+        rank_is = ap (λ r. r.0) (ranked_is rank body made);
+        body_is = ap (λ r. r.1) (ranked_is rank body made);
       }
 
-  -- what is submitted next fits the region
-  pub fits_here : {origin : Origin} {body : Body} → IsNextTry (view_in cluster sessions sites steps) region name origin body → BodyFits cluster.procs (site_at sites region).region.state.regions body
-  fits_here {origin} {body} t =
-      let member : Has sessions.workload.sessions t.session =
-      (session_found (IsPlaceOf cluster.tries w) sessions.workload.sessions (places_in sessions) region name t.session t.place (inv k.reached).sessions.places t.found).0 in
-      let valid : IsValidSession cluster.procs cluster.regions t.session = all_get (IsValidSession cluster.procs cluster.regions) sessions.workload.sessions k.reached.run.fits.sessions t.session member in
-      let called : Has t.session.calls t.call = has_place t.session.calls t.place.answered t.call t.wants in
-      let fits : WantedFits cluster.procs cluster.regions t.call = all_get (WantedFits cluster.procs cluster.regions) t.session.calls valid.calls t.call called in
-      subst (λ n. BodyFits cluster.procs n body) (sym (k.stands region lr).many) (subst (BodyFits cluster.procs cluster.regions) (sym t.body_is) (body_fits cluster cluster.regions t.call fits))
+  -- what is submitted next fits the region, and its rank is one digit
+
+  module _ {origin : Origin} {rank : ℕ} {body : Body} (t : IsNextTry (view_in cluster sessions sites steps) region name origin rank body) where
+    call_fits : RankedFits cluster t.call
+    call_fits =
+        let member : Has sessions.workload.sessions t.session =
+        (session_found (IsPlaceOf cluster.tries w) sessions.workload.sessions (places_in sessions) region name t.session t.place (inv k.reached).sessions.places t.found).0 in
+        let valid : IsValidSession cluster t.session = all_get (IsValidSession cluster) sessions.workload.sessions k.reached.run.fits.sessions t.session member in
+        let called : Has t.session.calls t.call = has_place t.session.calls t.place.answered t.call t.wants in
+        all_get (RankedFits cluster) t.session.calls valid.calls t.call called
+
+    pub fits_here : BodyFits cluster.procs (site_at sites region).region.state.here.table.version (site_at sites region).region.state.regions body
+    fits_here =
+        fits_region k.reached lr (k.stands region lr) body
+        (subst (BodyFits cluster.procs cluster.version cluster.regions) (sym t.body_is) (body_fits cluster t.call.wanted call_fits.1))
+
+    pub rank_here : rank ≤ 9
+    rank_here = let below : t.call.rank < 10 = call_fits.0 in let is : rank ≡ t.call.rank = t.rank_is in omega (arith, below, is)
 
 -- the same of the world as it is seen
 

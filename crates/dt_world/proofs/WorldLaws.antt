@@ -74,7 +74,7 @@ module _ {cluster : Cluster} {sessions : WorldSessions} {sites : List SiteView} 
 
   -- the session of a name, wherever it is, is of one of the regions
   at_region : (t : Session) → Has sessions.workload.sessions t → t.region < cluster.regions
-  at_region t h = (all_get (IsValidSession cluster.procs cluster.regions) sessions.workload.sessions k.reached.run.fits.sessions t h).region
+  at_region t h = (all_get (IsValidSession cluster) sessions.workload.sessions k.reached.run.fits.sessions t h).region
 
   -- one region steps, and these are the sessions that the regions keep then
   pub sessions_made : (event : Event) {region : ℕ} → region < cluster.regions → {q : SiteView} {places : List Place} → Steps cluster sessions.workload (world_of sites (places_in sessions)) event region (site_at sites region) q places

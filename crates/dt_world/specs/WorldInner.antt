@@ -7,7 +7,7 @@ use Rattle.dt_access.specs.Clash.{Bytes}
 use Rattle.dt_txn.specs.declared.Body.{Body}
 use Rattle.dt_cluster.specs.declared.Cluster.{Cluster}
 use Rattle.dt_workload.specs.declared.Session.{Session}
-use Rattle.dt_workload.specs.declared.Wanted.{Wanted}
+use Rattle.dt_workload.specs.declared.Ranked.{Ranked}
 use Rattle.dt_session.specs.Sessions.{SessionsView}
 use Rattle.dt_session.specs.World.{World, Place, opening_table, session_at}
 use Rattle.dt_session.specs.Step.{MayAnswer, MaySubmit, MayTry, awaited_at, body_of, next_attempt}
@@ -53,21 +53,22 @@ pub record IsLawful (cluster : Cluster) (sessions : WorldSessions) (sites : List
 abbrev pub opening_sites : Cluster → List SiteView
 opening_sites cluster = map (λ number. opening_site number cluster.regions (opening_table cluster)) (range_with_len 0 cluster.regions)
 
--- what a session of this name at a region submits next: its next call or the same again, and whose that is
-pub record IsNextTry (view : WorldView) (region : ℕ) (name : Bytes) (origin : Origin) (body : Body) : Type 0 where
+-- what a session of this name at a region submits next: its next call or the same again, with its rank, and whose that is
+pub record IsNextTry (view : WorldView) (region : ℕ) (name : Bytes) (origin : Origin) (rank : ℕ) (body : Body) : Type 0 where
   pub session : Session
   pub place : Place
-  pub call : Wanted
+  pub call : Ranked
   pub found : session_at view.workload.sessions view.state.places region name ≡ Some (session, place)
   pub may : MayTry view.cluster.tries (length session.calls) place.answered (awaited_at view.state region place.waits)
   pub wants : slice_get session.calls place.answered ≡ Some call
   pub origin_is : origin ≡ record { session = name; call = place.answered + 1; attempt = next_attempt view.state place.waits }
-  pub body_is : body ≡ body_of call
+  pub rank_is : rank ≡ call.rank
+  pub body_is : body ≡ body_of call.wanted
 
 -- what the session submits next; none exactly where it may submit nothing
-abbrev pub IsNextOf : WorldView → ℕ → Bytes → Option (Origin × Body) → Type 0
+abbrev pub IsNextOf : WorldView → ℕ → Bytes → Option (Origin × (ℕ × Body)) → Type 0
 IsNextOf view region name None = ¬ (MaySubmit view.cluster view.state region (session_at view.workload.sessions view.state.places region name))
-IsNextOf view region name (Some (origin, body)) = IsNextTry view region name origin body
+IsNextOf view region name (Some (origin, (rank, body))) = IsNextTry view region name origin rank body
 
 -- the session of this name at a region may be answered
 abbrev pub MayBeTold : WorldView → ℕ → Bytes → Type 0

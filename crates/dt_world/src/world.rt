@@ -157,10 +157,16 @@ impl<S: Scheduler + Drop> World<S> {
         if region >= self.cluster.regions {
             return Err(StepError::Illegal(1));
         }
-        let Some((origin, body)) = self.next_attempt(alloc, region, name)? else {
+        let Some((origin, (rank, body))) = self.next_attempt(alloc, region, name)? else {
             return Err(StepError::Illegal(1));
         };
-        let id = self.sites[region as usize].submit(alloc, body, &self.cluster.procs, origin)?;
+        let id = self.sites[region as usize].submit(
+            alloc,
+            rank,
+            body,
+            &self.cluster.procs,
+            origin,
+        )?;
         let last = last_outcome(
             &self.sessions[region as usize],
             &self.sites[region as usize].region,
@@ -190,7 +196,7 @@ impl<S: Scheduler + Drop> World<S> {
         let txn = txn.copy(alloc)?;
         self.sites[home as usize]
             .region
-            .append(alloc, source, number, &txn)?;
+            .append_owned(alloc, source, number, txn)?;
         self.steps += 1;
         Ok(())
     }
@@ -297,13 +303,13 @@ impl<S: Scheduler + Drop> World<S> {
         Ok(())
     }
 
-    /// What a session of a region may submit next, and whose it is. `None` exactly where it may submit nothing.
+    /// What a session of a region may submit next, with its rank, and whose it is. `None` exactly where it may submit nothing.
     fn next_attempt(
         &self,
         alloc: Global,
         region: u8,
         name: &Name,
-    ) -> Result<Option<(Origin, Body)>, NoMemory>
+    ) -> Result<Option<(Origin, (u8, Body))>, NoMemory>
         requires { region < self.now.cluster.regions }
         ensures { IfOk result (IsNextOf self.now region name.now) }
     {
@@ -312,13 +318,13 @@ impl<S: Scheduler + Drop> World<S> {
         let Some((call, attempt)) = sessions.next(name, last) else {
             return Ok(None);
         };
-        let body = sessions.body(alloc, name, call)?;
+        let (rank, body) = sessions.body(alloc, name, call)?;
         let origin = Origin {
             session: name.copy(alloc)?,
             call,
             attempt,
         };
-        Ok(Some((origin, body)))
+        Ok(Some((origin, (rank, body))))
     }
 
     /// Whether a session of a region may be answered.
@@ -576,6 +582,7 @@ fn first_table(alloc: Global, cluster: &Cluster) -> Result<Table, NoMemory>
 {
     Ok(Table::new(
         alloc,
+        cluster.version,
         cluster.regions,
         cluster.homes.as_slice(),
         cluster.rows.as_slice(),

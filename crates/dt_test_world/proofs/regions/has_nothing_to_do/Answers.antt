@@ -5,11 +5,11 @@ use Rattle.dt_table.proofs.Callers.{moves_of-opening}
 use Rattle.dt_region.specs.Conditions.{IsTableFor}
 use Rattle.dt_test_world.proofs.regions.has_nothing_to_do.Goals as goal
 
-no_rows_fit : IsTableFor 2 (opening 2 [] [])
+no_rows_fit : IsTableFor 2 (opening 1 2 [] [])
 no_rows_fit = record {
   sized = refl;
   homes = tt;
-  moves = λ key. subst (AllIn (λ moved. moved.target < 2)) (sym (moves_of-opening 2 [] [] key)) tt;
+  moves = λ key. subst (AllIn (λ moved. moved.target < 2)) (sym (moves_of-opening 1 2 [] [] key)) tt;
 }
 
 pub new-requires-2-clause-table : goal.new-requires-2-clause-table

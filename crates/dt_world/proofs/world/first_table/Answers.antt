@@ -5,4 +5,6 @@ use Rattle.dt_site.proofs.Callers.{opening_is_for}
 use Rattle.dt_world.proofs.world.first_table.Goals as goal
 
 pub returns-clause-sized : goal.returns-clause-sized
-returns-clause-sized c = subst (IsTableFor c.args.cluster.now.regions) (sym (c.in_ok-new.ensures ∙ ap₂ (opening c.args.cluster.now.regions) c.as_slice.ensures c.as_slice-2.ensures)) (opening_is_for c.args.cluster.now c.requires)
+returns-clause-sized c =
+    let opened = c.in_ok-new.ensures ∙ ap₂ (opening c.args.cluster.now.version c.args.cluster.now.regions) c.as_slice.ensures c.as_slice-2.ensures in
+    subst (IsTableFor c.args.cluster.now.regions) (sym opened) (opening_is_for c.args.cluster.now c.requires)

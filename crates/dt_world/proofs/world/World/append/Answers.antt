@@ -1,14 +1,11 @@
 use Rattle.std.proofs.lemmas.Grind.{common_steps}
-use Rattle.std.proofs.Common.{◌≡◌, ◌≤◌, ◌<◌, refl, List, [], length, get_or, slice_get, Some, sym, ap, subst, ◌∙◌, arith}
-use Rattle.std.proofs.lemmas.Option.{slice_get-get_or}
-use Rattle.dt_access.specs.declared.TxnId.{TxnId}
+use Rattle.std.proofs.Common.{◌<◌, refl, length, sym, ap, subst, ◌∙◌, arith}
 use Rattle.dt_region.specs.Region.{RegionView, held}
 use Rattle.dt_events.specs.declared.Event.TheVariants.{Append}
 use Rattle.dt_session.specs.Step.{IsLegal}
 use Rattle.dt_world.specs.WorldView.{WorldView}
-use Rattle.dt_world.specs.WorldInner.{site_at}
 use Rattle.dt_world.proofs.OneSite.{region_here, same_lawful, same_view}
-use Rattle.dt_world.proofs.Rule2Append.{append_done, append_not, asked_held, can_place}
+use Rattle.dt_world.proofs.Rule2Append.{append_done, append_not, asked_held, asks, can_place, few_asked, id_in, wanted_in}
 use Rattle.dt_world.proofs.WorldLaws.{a_site, behind, made_before, out_of_memory}
 use Rattle.dt_world.proofs.WorldFacts.{steps_few}
 use Rattle.dt_world.proofs.world.World.append.Goals as goal
@@ -21,60 +18,38 @@ asked-asked-requires g c =
 pub unreachable-requires : goal.unreachable-requires
 unreachable-requires g c =
     let source = behind (a_site c.self.invariant c.if-source-self.false) c.index.ensures c.behind-self.view_is in
-    let id : TxnId = get_or c.asked-asked.result.now c.args.number (record { seq = 0; region = 0 }) in
-    let list : c.asked-asked.result.now ≡ get_or (site_at c.self.inside.sites.items c.args.source).region.state.here.asked c.args.home [] =
-    c.asked-asked.ensures ∙ ap (λ (r : RegionView). get_or r.state.here.asked c.args.home []) source.region_is in
-    let wanted : slice_get (get_or (site_at c.self.inside.sites.items c.args.source).region.state.here.asked c.args.home []) c.args.number ≡ Some id =
-    subst (λ (l : List TxnId). slice_get l c.args.number ≡ Some id) list (slice_get-get_or c.asked-asked.result.now c.args.number (record { seq = 0; region = 0 }) c.if-number-asked.false) in
-    let h = asked_held c.self.invariant c.if-home-self.false c.if-source-self.false c.args.number wanted in
-    let here = ap (λ (r : RegionView). held r.state id) source.region_is in
-    cc (h.1, here, c.in_default.ensures)
+    let wanted = wanted_in source c.args.home c.args.number c.asked-asked.ensures c.if-number-asked.false in
+    let there = asked_held c.self.invariant c.if-home-self.false c.if-source-self.false c.args.number wanted in
+    let here = ap (λ (r : RegionView). held r.state (id_in c.asked-asked.result.now c.args.number)) source.region_is in
+    cc (there.1, here, c.in_default.ensures)
 
-pub append-requires-clause-source : goal.append-requires-clause-source
-append-requires-clause-source g c =
+pub append_owned-requires-clause-source : goal.append_owned-requires-clause-source
+append_owned-requires-clause-source g c =
     let home = behind (a_site c.self.invariant c.if-home-self.false) c.index_mut.ensures.value c.behind-self-2.view_is in
     region_here c.self.invariant c.if-home-self.false home c.args.source c.if-source-self.false
 
-pub append-requires-clause-can : goal.append-requires-clause-can
-append-requires-clause-can g c =
+pub append_owned-requires-clause-can : goal.append_owned-requires-clause-can
+append_owned-requires-clause-can g c =
     let source = behind (a_site c.self.invariant c.if-source-self.false) c.index.ensures c.behind-self.view_is in
-    let id : TxnId = get_or c.asked-asked.result.now c.args.number (record { seq = 0; region = 0 }) in
-    let list : c.asked-asked.result.now ≡ get_or (site_at c.self.inside.sites.items c.args.source).region.state.here.asked c.args.home [] =
-    c.asked-asked.ensures ∙ ap (λ (r : RegionView). get_or r.state.here.asked c.args.home []) source.region_is in
-    let wanted : slice_get (get_or (site_at c.self.inside.sites.items c.args.source).region.state.here.asked c.args.home []) c.args.number ≡ Some id =
-    subst (λ (l : List TxnId). slice_get l c.args.number ≡ Some id) list (slice_get-get_or c.asked-asked.result.now c.args.number (record { seq = 0; region = 0 }) c.if-number-asked.false) in
-    let is_held : held (site_at c.self.inside.sites.items c.args.source).region.state id ≡ Some c.in_ok-txn.txn =
-    sym (ap (λ (r : RegionView). held r.state id) source.region_is) ∙ sym c.in-Some.ensures ∙ ap Some (sym c.in_ok-txn.ensures) in
+    let asked = asks source c.args.home c.args.number c.asked-asked.ensures c.if-number-asked.false c.in-Some.ensures c.in_ok-txn.ensures in
     let home = behind (a_site c.self.invariant c.if-home-self.false) c.index_mut.ensures.value c.behind-self-2.view_is in
-    can_place c.self.invariant c.if-home-self.false c.if-source-self.false c.args.number wanted is_held home (omega (arith, steps_few c.self.invariant c.self.view_is c.requires))
+    can_place c.self.invariant c.if-home-self.false c.if-source-self.false c.args.number asked.wants asked.found home (omega (arith, steps_few c.self.invariant c.self.view_is c.requires))
 
 pub invariant_of-self-2 : goal.invariant_of-self-2
 invariant_of-self-2 g c =
     let source = behind (a_site c.self.invariant c.if-source-self.false) c.index.ensures c.behind-self.view_is in
-    let id : TxnId = get_or c.asked-asked.result.now c.args.number (record { seq = 0; region = 0 }) in
-    let list : c.asked-asked.result.now ≡ get_or (site_at c.self.inside.sites.items c.args.source).region.state.here.asked c.args.home [] =
-    c.asked-asked.ensures ∙ ap (λ (r : RegionView). get_or r.state.here.asked c.args.home []) source.region_is in
-    let wanted : slice_get (get_or (site_at c.self.inside.sites.items c.args.source).region.state.here.asked c.args.home []) c.args.number ≡ Some id =
-    subst (λ (l : List TxnId). slice_get l c.args.number ≡ Some id) list (slice_get-get_or c.asked-asked.result.now c.args.number (record { seq = 0; region = 0 }) c.if-number-asked.false) in
-    let is_held : held (site_at c.self.inside.sites.items c.args.source).region.state id ≡ Some c.in_ok-txn.txn =
-    sym (ap (λ (r : RegionView). held r.state id) source.region_is) ∙ sym c.in-Some.ensures ∙ ap Some (sym c.in_ok-txn.ensures) in
+    let asked = asks source c.args.home c.args.number c.asked-asked.ensures c.if-number-asked.false c.in-Some.ensures c.in_ok-txn.ensures in
     let home = behind (a_site c.self.invariant c.if-home-self.false) c.index_mut.ensures.value c.behind-self-2.view_is in
-    let done = append_done c.self.invariant c.if-home-self.false c.if-source-self.false c.args.number wanted is_held home c.append.new.self c.in_ok-append.field-0 c.in_ok-append.ensures.makes c.append.ensures.sound in
-    done.lawful
+    (append_done c.self.invariant c.if-home-self.false c.if-source-self.false c.args.number asked.wants asked.found home
+    c.append_owned.new.self c.in_ok-append_owned.field-0 c.in_ok-append_owned.ensures.makes c.append_owned.ensures.sound).lawful
 
 pub returns : goal.returns
 returns g c =
     let source = behind (a_site c.self.invariant c.if-source-self.false) c.index.ensures c.behind-self.view_is in
-    let id : TxnId = get_or c.asked-asked.result.now c.args.number (record { seq = 0; region = 0 }) in
-    let list : c.asked-asked.result.now ≡ get_or (site_at c.self.inside.sites.items c.args.source).region.state.here.asked c.args.home [] =
-    c.asked-asked.ensures ∙ ap (λ (r : RegionView). get_or r.state.here.asked c.args.home []) source.region_is in
-    let wanted : slice_get (get_or (site_at c.self.inside.sites.items c.args.source).region.state.here.asked c.args.home []) c.args.number ≡ Some id =
-    subst (λ (l : List TxnId). slice_get l c.args.number ≡ Some id) list (slice_get-get_or c.asked-asked.result.now c.args.number (record { seq = 0; region = 0 }) c.if-number-asked.false) in
-    let is_held : held (site_at c.self.inside.sites.items c.args.source).region.state id ≡ Some c.in_ok-txn.txn =
-    sym (ap (λ (r : RegionView). held r.state id) source.region_is) ∙ sym c.in-Some.ensures ∙ ap Some (sym c.in_ok-txn.ensures) in
+    let asked = asks source c.args.home c.args.number c.asked-asked.ensures c.if-number-asked.false c.in-Some.ensures c.in_ok-txn.ensures in
     let home = behind (a_site c.self.invariant c.if-home-self.false) c.index_mut.ensures.value c.behind-self-2.view_is in
-    let done = append_done c.self.invariant c.if-home-self.false c.if-source-self.false c.args.number wanted is_held home c.append.new.self c.in_ok-append.field-0 c.in_ok-append.ensures.makes c.append.ensures.sound in
-    made_before c.self.view_is done
+    made_before c.self.view_is (append_done c.self.invariant c.if-home-self.false c.if-source-self.false c.args.number asked.wants asked.found home
+    c.append_owned.new.self c.in_ok-append_owned.field-0 c.in_ok-append_owned.ensures.makes c.append_owned.ensures.sound)
 
 pub index-requires : goal.index-requires
 index-requires g c = let here : c.args.source < length c.self.inside.sites.items = a_site c.self.invariant c.if-source-self.false in grind (arith, common_steps, here)
@@ -85,21 +60,20 @@ index_mut-requires g c = let here : c.args.home < length c.self.inside.sites.ite
 pub invariant_of-self : goal.invariant_of-self
 invariant_of-self g c =
     let home = behind (a_site c.self.invariant c.if-home-self.false) c.index_mut.ensures.value c.behind-self-2.view_is in
-    same_lawful c.self.invariant c.if-home-self.false home c.append.new.self c.in_err-append.ensures.makes
+    same_lawful c.self.invariant c.if-home-self.false home c.append_owned.new.self c.in_err-append_owned.ensures.makes
 
 pub returns-then-number-asked : goal.returns-then-number-asked
 returns-then-number-asked g c =
     let source = behind (a_site c.self.invariant c.if-source-self.false) c.index.ensures c.behind-self.view_is in
-    let list : c.asked-asked.result.now ≡ get_or (site_at c.self.inside.sites.items c.args.source).region.state.here.asked c.args.home [] =
-    c.asked-asked.ensures ∙ ap (λ (r : RegionView). get_or r.state.here.asked c.args.home []) source.region_is in
-    let beyond = subst (λ (l : List TxnId). length l ≤ c.args.number) list c.if-number-asked.true in (
+    let beyond = few_asked source c.args.home c.args.number c.asked-asked.ensures c.if-number-asked.true in (
       refl,
       λ l. append_not c.self.invariant c.args.home c.args.source c.args.number beyond
           (subst (λ (v : WorldView). IsLegal v.cluster v.workload v.state (Append c.args.home c.args.source c.args.number)) (sym c.self.view_is) l),
       refl,
     )
 
-pub returns-in_err-append : goal.returns-in_err-append
-returns-in_err-append g c =
+pub returns-in_err-append_owned : goal.returns-in_err-append_owned
+returns-in_err-append_owned g c =
     let home = behind (a_site c.self.invariant c.if-home-self.false) c.index_mut.ensures.value c.behind-self-2.view_is in
-    out_of_memory (Append c.args.home c.args.source c.args.number) _ c.from_residual-in_err-append.ensures.1 (same_view c.self.invariant c.if-home-self.false home c.append.new.self c.in_err-append.ensures.makes ∙ c.self.view_is)
+    out_of_memory (Append c.args.home c.args.source c.args.number) _ c.from_residual-in_err-append_owned.ensures.1
+    (same_view c.self.invariant c.if-home-self.false home c.append_owned.new.self c.in_err-append_owned.ensures.makes ∙ c.self.view_is)

@@ -1,16 +1,12 @@
 use Rattle.std.proofs.lemmas.Grind.{common_steps}
-use Rattle.std.proofs.Common.{◌≡◌, ◌≤◌, ◌<◌, true, false, refl, length, map, drop, take, Some, sym, ap, subst, ◌∙◌, arith}
-use Rattle.dt_lists.specs.Lists.{AllIn}
+use Rattle.std.proofs.Common.{◌<◌, true, false, refl, length, sym, ap, subst, ◌∙◌, arith}
 use Rattle.dt_sched.specs.Views.{log_at}
-use Rattle.dt_txn.specs.declared.Entry.{Entry}
-use Rattle.dt_region.specs.Region.{RegionView, held}
-use Rattle.dt_site.proofs.Callers.{joins}
+use Rattle.dt_region.specs.Region.{RegionView}
 use Rattle.dt_events.specs.declared.Event.TheVariants.{Deliver}
 use Rattle.dt_session.specs.Step.{IsLegal}
 use Rattle.dt_world.specs.WorldView.{WorldView}
-use Rattle.dt_world.specs.WorldInner.{site_at}
 use Rattle.dt_world.proofs.OneSite.{region_here, sound_here, same_lawful, same_view}
-use Rattle.dt_world.proofs.Rule3Deliver.{can_take, deliver_done, deliver_none, out_of_order, past_log}
+use Rattle.dt_world.proofs.Rule3Deliver.{can_take, deliver_done, deliver_none, delivery_is, entries_are, length_is, out_of_order, past_log}
 use Rattle.dt_world.proofs.WorldLaws.{a_site, behind, made_before, out_of_memory}
 use Rattle.dt_world.proofs.WorldFacts.{steps_few}
 use Rattle.dt_world.proofs.world.World.deliver.Goals as goal
@@ -29,26 +25,18 @@ log-requires-2 g c =
 pub invariant_of-self : goal.invariant_of-self
 invariant_of-self g c =
     let home = behind (a_site c.self.invariant c.if-home-self.false) c.index.ensures c.behind-self.view_is in
-    let reaches : c.args.last ≤ length (log_at (site_at c.self.inside.sites.items c.args.home).region.state.logs c.args.home) =
-    subst (λ n. c.args.last ≤ n) (c.len.ensures ∙ ap length (c.log.ensures ∙ ap (λ (r : RegionView). log_at r.state.logs c.args.home) home.region_is)) c.if-last-len.false in
     let region = behind (a_site c.self.invariant c.if-region-self.false) c.index-2.ensures c.behind-self-2.view_is in
-    let received : c.len-received.result ≡ length (log_at (site_at c.self.inside.sites.items c.args.region).region.state.logs c.args.home) =
-    c.len-received.ensures ∙ ap length (c.log-2.ensures ∙ ap (λ (r : RegionView). log_at r.state.logs c.args.home) region.region_is) in
-    let off = subst (λ n. joins n c.args.first c.args.last ≡ false) received (sym c.joins.ensures ∙ c.if-not-joins.true) in
-    let done = deliver_none c.self.invariant c.if-region-self.false c.if-home-self.false c.if-first-last.false reaches off in
-    done.lawful
+    let delivery = delivery_is c.self.inside.sites.items c.args.region c.args.home c.args.first c.args.last false (length_is home c.args.home c.len.ensures c.log.ensures) c.if-last-len.false
+    (length_is region c.args.home c.len-received.ensures c.log-2.ensures) c.joins.ensures c.if-not-joins.true in
+    (deliver_none c.self.invariant c.if-region-self.false c.if-home-self.false c.if-first-last.false delivery.reaches delivery.joined).lawful
 
 pub returns-then-not-joins : goal.returns-then-not-joins
 returns-then-not-joins g c =
     let home = behind (a_site c.self.invariant c.if-home-self.false) c.index.ensures c.behind-self.view_is in
-    let reaches : c.args.last ≤ length (log_at (site_at c.self.inside.sites.items c.args.home).region.state.logs c.args.home) =
-    subst (λ n. c.args.last ≤ n) (c.len.ensures ∙ ap length (c.log.ensures ∙ ap (λ (r : RegionView). log_at r.state.logs c.args.home) home.region_is)) c.if-last-len.false in
     let region = behind (a_site c.self.invariant c.if-region-self.false) c.index-2.ensures c.behind-self-2.view_is in
-    let received : c.len-received.result ≡ length (log_at (site_at c.self.inside.sites.items c.args.region).region.state.logs c.args.home) =
-    c.len-received.ensures ∙ ap length (c.log-2.ensures ∙ ap (λ (r : RegionView). log_at r.state.logs c.args.home) region.region_is) in
-    let off = subst (λ n. joins n c.args.first c.args.last ≡ false) received (sym c.joins.ensures ∙ c.if-not-joins.true) in
-    let done = deliver_none c.self.invariant c.if-region-self.false c.if-home-self.false c.if-first-last.false reaches off in
-    made_before c.self.view_is done
+    let delivery = delivery_is c.self.inside.sites.items c.args.region c.args.home c.args.first c.args.last false (length_is home c.args.home c.len.ensures c.log.ensures) c.if-last-len.false
+    (length_is region c.args.home c.len-received.ensures c.log-2.ensures) c.joins.ensures c.if-not-joins.true in
+    made_before c.self.view_is (deliver_none c.self.invariant c.if-region-self.false c.if-home-self.false c.if-first-last.false delivery.reaches delivery.joined)
 
 pub entries-requires-clause-sound : goal.entries-requires-clause-sound
 entries-requires-clause-sound g c =
@@ -68,55 +56,35 @@ deliver-requires-clause-home g c =
 pub deliver-requires-clause-can : goal.deliver-requires-clause-can
 deliver-requires-clause-can g c =
     let home = behind (a_site c.self.invariant c.if-home-self.false) c.index.ensures c.behind-self.view_is in
-    let reaches : c.args.last ≤ length (log_at (site_at c.self.inside.sites.items c.args.home).region.state.logs c.args.home) =
-    subst (λ n. c.args.last ≤ n) (c.len.ensures ∙ ap length (c.log.ensures ∙ ap (λ (r : RegionView). log_at r.state.logs c.args.home) home.region_is)) c.if-last-len.false in
     let region = behind (a_site c.self.invariant c.if-region-self.false) c.index-2.ensures c.behind-self-2.view_is in
-    let received : c.len-received.result ≡ length (log_at (site_at c.self.inside.sites.items c.args.region).region.state.logs c.args.home) =
-    c.len-received.ensures ∙ ap length (c.log-2.ensures ∙ ap (λ (r : RegionView). log_at r.state.logs c.args.home) region.region_is) in
-    let on = subst (λ n. joins n c.args.first c.args.last ≡ true) received (sym c.joins.ensures ∙ c.if-not-joins.false) in
-    let parts : map (λ (e : Entry). e.part) c.in_ok-entries.entries.items ≡ drop c.args.first (take c.args.last (log_at (site_at c.self.inside.sites.items c.args.home).region.state.logs c.args.home)) =
-    c.in_ok-entries.ensures.parts ∙ ap (λ (r : RegionView). drop c.args.first (take c.args.last (log_at r.state.logs c.args.home))) home.region_is in
-    let txns : AllIn (λ (e : Entry). held (site_at c.self.inside.sites.items c.args.home).region.state e.part.id ≡ Some e.txn) c.in_ok-entries.entries.items =
-    subst (λ (r : RegionView). AllIn (λ (e : Entry). held r.state e.part.id ≡ Some e.txn) c.in_ok-entries.entries.items) home.region_is c.in_ok-entries.ensures.txns in
+    let delivery = delivery_is c.self.inside.sites.items c.args.region c.args.home c.args.first c.args.last true (length_is home c.args.home c.len.ensures c.log.ensures) c.if-last-len.false
+    (length_is region c.args.home c.len-received.ensures c.log-2.ensures) c.joins.ensures c.if-not-joins.false in
+    let entries = entries_are home c.args.first c.args.last c.in_ok-entries.entries.items c.in_ok-entries.ensures.parts c.in_ok-entries.ensures.txns in
     let here = behind (a_site c.self.invariant c.if-region-self.false) c.index_mut.ensures.value c.behind-self-3.view_is in
     let few = steps_few c.self.invariant c.self.view_is c.requires in
-    can_take c.self.invariant c.if-region-self.false c.if-home-self.false c.if-first-last.false reaches on c.in_ok-entries.entries.items parts txns here (omega (arith, few))
+    can_take c.self.invariant c.if-region-self.false c.if-home-self.false c.if-first-last.false delivery.reaches delivery.joined c.in_ok-entries.entries.items entries.parts entries.txns here (omega (arith, few))
 
 pub invariant_of-self-2 : goal.invariant_of-self-2
 invariant_of-self-2 g c =
     let home = behind (a_site c.self.invariant c.if-home-self.false) c.index.ensures c.behind-self.view_is in
-    let reaches : c.args.last ≤ length (log_at (site_at c.self.inside.sites.items c.args.home).region.state.logs c.args.home) =
-    subst (λ n. c.args.last ≤ n) (c.len.ensures ∙ ap length (c.log.ensures ∙ ap (λ (r : RegionView). log_at r.state.logs c.args.home) home.region_is)) c.if-last-len.false in
     let region = behind (a_site c.self.invariant c.if-region-self.false) c.index-2.ensures c.behind-self-2.view_is in
-    let received : c.len-received.result ≡ length (log_at (site_at c.self.inside.sites.items c.args.region).region.state.logs c.args.home) =
-    c.len-received.ensures ∙ ap length (c.log-2.ensures ∙ ap (λ (r : RegionView). log_at r.state.logs c.args.home) region.region_is) in
-    let on = subst (λ n. joins n c.args.first c.args.last ≡ true) received (sym c.joins.ensures ∙ c.if-not-joins.false) in
-    let parts : map (λ (e : Entry). e.part) c.in_ok-entries.entries.items ≡ drop c.args.first (take c.args.last (log_at (site_at c.self.inside.sites.items c.args.home).region.state.logs c.args.home)) =
-    c.in_ok-entries.ensures.parts ∙ ap (λ (r : RegionView). drop c.args.first (take c.args.last (log_at r.state.logs c.args.home))) home.region_is in
-    let txns : AllIn (λ (e : Entry). held (site_at c.self.inside.sites.items c.args.home).region.state e.part.id ≡ Some e.txn) c.in_ok-entries.entries.items =
-    subst (λ (r : RegionView). AllIn (λ (e : Entry). held r.state e.part.id ≡ Some e.txn) c.in_ok-entries.entries.items) home.region_is c.in_ok-entries.ensures.txns in
+    let delivery = delivery_is c.self.inside.sites.items c.args.region c.args.home c.args.first c.args.last true (length_is home c.args.home c.len.ensures c.log.ensures) c.if-last-len.false
+    (length_is region c.args.home c.len-received.ensures c.log-2.ensures) c.joins.ensures c.if-not-joins.false in
+    let entries = entries_are home c.args.first c.args.last c.in_ok-entries.entries.items c.in_ok-entries.ensures.parts c.in_ok-entries.ensures.txns in
     let here = behind (a_site c.self.invariant c.if-region-self.false) c.index_mut.ensures.value c.behind-self-3.view_is in
-    let done = deliver_done c.self.invariant c.if-region-self.false c.if-home-self.false c.if-first-last.false reaches on c.in_ok-entries.entries.items parts txns here
-    c.deliver.new.self c.in_ok-deliver.field-0 c.in_ok-deliver.ensures.makes c.deliver.ensures.sound in
-    done.lawful
+    (deliver_done c.self.invariant c.if-region-self.false c.if-home-self.false c.if-first-last.false delivery.reaches delivery.joined c.in_ok-entries.entries.items entries.parts entries.txns here
+    c.deliver.new.self c.in_ok-deliver.field-0 c.in_ok-deliver.ensures.makes c.deliver.ensures.sound).lawful
 
 pub returns : goal.returns
 returns g c =
     let home = behind (a_site c.self.invariant c.if-home-self.false) c.index.ensures c.behind-self.view_is in
-    let reaches : c.args.last ≤ length (log_at (site_at c.self.inside.sites.items c.args.home).region.state.logs c.args.home) =
-    subst (λ n. c.args.last ≤ n) (c.len.ensures ∙ ap length (c.log.ensures ∙ ap (λ (r : RegionView). log_at r.state.logs c.args.home) home.region_is)) c.if-last-len.false in
     let region = behind (a_site c.self.invariant c.if-region-self.false) c.index-2.ensures c.behind-self-2.view_is in
-    let received : c.len-received.result ≡ length (log_at (site_at c.self.inside.sites.items c.args.region).region.state.logs c.args.home) =
-    c.len-received.ensures ∙ ap length (c.log-2.ensures ∙ ap (λ (r : RegionView). log_at r.state.logs c.args.home) region.region_is) in
-    let on = subst (λ n. joins n c.args.first c.args.last ≡ true) received (sym c.joins.ensures ∙ c.if-not-joins.false) in
-    let parts : map (λ (e : Entry). e.part) c.in_ok-entries.entries.items ≡ drop c.args.first (take c.args.last (log_at (site_at c.self.inside.sites.items c.args.home).region.state.logs c.args.home)) =
-    c.in_ok-entries.ensures.parts ∙ ap (λ (r : RegionView). drop c.args.first (take c.args.last (log_at r.state.logs c.args.home))) home.region_is in
-    let txns : AllIn (λ (e : Entry). held (site_at c.self.inside.sites.items c.args.home).region.state e.part.id ≡ Some e.txn) c.in_ok-entries.entries.items =
-    subst (λ (r : RegionView). AllIn (λ (e : Entry). held r.state e.part.id ≡ Some e.txn) c.in_ok-entries.entries.items) home.region_is c.in_ok-entries.ensures.txns in
+    let delivery = delivery_is c.self.inside.sites.items c.args.region c.args.home c.args.first c.args.last true (length_is home c.args.home c.len.ensures c.log.ensures) c.if-last-len.false
+    (length_is region c.args.home c.len-received.ensures c.log-2.ensures) c.joins.ensures c.if-not-joins.false in
+    let entries = entries_are home c.args.first c.args.last c.in_ok-entries.entries.items c.in_ok-entries.ensures.parts c.in_ok-entries.ensures.txns in
     let here = behind (a_site c.self.invariant c.if-region-self.false) c.index_mut.ensures.value c.behind-self-3.view_is in
-    let done = deliver_done c.self.invariant c.if-region-self.false c.if-home-self.false c.if-first-last.false reaches on c.in_ok-entries.entries.items parts txns here
-    c.deliver.new.self c.in_ok-deliver.field-0 c.in_ok-deliver.ensures.makes c.deliver.ensures.sound in
-    made_before c.self.view_is done
+    made_before c.self.view_is (deliver_done c.self.invariant c.if-region-self.false c.if-home-self.false c.if-first-last.false delivery.reaches delivery.joined
+    c.in_ok-entries.entries.items entries.parts entries.txns here c.deliver.new.self c.in_ok-deliver.field-0 c.in_ok-deliver.ensures.makes c.deliver.ensures.sound)
 
 pub index-requires : goal.index-requires
 index-requires g c = let here : c.args.home < length c.self.inside.sites.items = a_site c.self.invariant c.if-home-self.false in grind (arith, common_steps, here)

@@ -4,12 +4,17 @@ use Rattle.dt_events.specs.declared.Event.{Event}
 use Rattle.dt_events.specs.declared.Event.TheVariants.{Execute}
 use Rattle.std.proofs.lemmas.Grind.{common_steps}
 use Rattle.std.proofs.Common.{refl, sym, subst, ◌∙◌, ◌<◌, length, arith}
-use Rattle.dt_world.proofs.OneSite.{execute_done, execute_not, holds_here, same_lawful, same_view, refused_same}
+use Rattle.dt_world.proofs.OneSite.{execute_done, execute_not, holds_here, moves_here, same_lawful, same_view, refused_same}
+use Rattle.dt_world.proofs.WorldFacts.{steps_few}
 use Rattle.dt_world.proofs.WorldLaws.{a_site, behind, made_before}
 use Rattle.dt_world.proofs.world.World.execute.Goals as goal
 
-pub execute-requires : goal.execute-requires
-execute-requires g c = holds_here c.self.invariant c.if-region-self.false (behind (a_site c.self.invariant c.if-region-self.false) c.index_mut.ensures.value c.behind-self.view_is)
+pub execute-requires-clause-place : goal.execute-requires-clause-place
+execute-requires-clause-place g c =
+    moves_here c.self.invariant c.if-region-self.false (behind (a_site c.self.invariant c.if-region-self.false) c.index_mut.ensures.value c.behind-self.view_is) (steps_few c.self.invariant c.self.view_is c.requires) c.args.id
+
+pub execute-requires-clause-holds : goal.execute-requires-clause-holds
+execute-requires-clause-holds g c = holds_here c.self.invariant c.if-region-self.false (behind (a_site c.self.invariant c.if-region-self.false) c.index_mut.ensures.value c.behind-self.view_is)
 
 pub invariant_of-self-2 : goal.invariant_of-self-2
 invariant_of-self-2 g c = (execute_done c.self.invariant c.if-region-self.false (behind (a_site c.self.invariant c.if-region-self.false) c.index_mut.ensures.value c.behind-self.view_is) c.args.id c.execute.new.self

@@ -5,7 +5,7 @@ use Rattle.std.specs.Prelude.{Option, IsSome, option_and_then, option_map}
 use Rattle.dt_txn.specs.declared.Outcome.{Outcome}
 use Rattle.dt_region.specs.Region.{outcome_of}
 use Rattle.dt_session.specs.Sessions.{IsNext, waits_of, wanted_of}
-use Rattle.dt_session.specs.Step.{MaySubmit, body_of}
+use Rattle.dt_session.specs.Step.{MaySubmit, ranked_body}
 use Rattle.dt_session.specs.World.{session_at}
 use Rattle.dt_world.specs.WorldInner.{IsNextTry, sessions_of, site_at}
 use Rattle.dt_world.specs.WorldView.{WorldView}
@@ -49,7 +49,7 @@ returns g c =
     c.last_outcome-last.ensures ∙ (λ j. option_and_then (outcome_of (b.region_is j).state) (waits_of (s_is j) c.args.name.now)) in
     let is : IsNext (sessions_of c.self.inside.sessions.items c.args.region) c.args.name.now last (Some (c.in-Some.call, c.in-Some.attempt)) =
     subst (λ s. IsNext s c.args.name.now last (Some (c.in-Some.call, c.in-Some.attempt))) s_is c.in-Some.ensures in
-    let made : option_map body_of (wanted_of (sessions_of c.self.inside.sessions.items c.args.region) c.args.name.now c.in-Some.call) ≡ Some c.in_ok-body.body =
-    subst (λ s. option_map body_of (wanted_of s c.args.name.now c.in-Some.call) ≡ Some c.in_ok-body.body) s_is c.in_ok-body.ensures in
-    subst (λ v. IsNextTry v c.args.region c.args.name.now (record { session = c.in_ok-copy.field-0; call = c.in-Some.call; attempt = c.in-Some.attempt }) c.in_ok-body.body) c.self.view_is
-    (next_try c.self.invariant lr c.args.name.now last told c.in-Some.call c.in-Some.attempt is c.in_ok-body.body c.in_ok-copy.field-0 c.in_ok-copy.ensures.same made)
+    let made : option_map ranked_body (wanted_of (sessions_of c.self.inside.sessions.items c.args.region) c.args.name.now c.in-Some.call) ≡ Some (c.in_ok-rank.rank, c.in_ok-rank.body) =
+    subst (λ s. option_map ranked_body (wanted_of s c.args.name.now c.in-Some.call) ≡ Some (c.in_ok-rank.rank, c.in_ok-rank.body)) s_is c.in_ok-rank.ensures in
+    subst (λ v. IsNextTry v c.args.region c.args.name.now (record { session = c.in_ok-copy.field-0; call = c.in-Some.call; attempt = c.in-Some.attempt }) c.in_ok-rank.rank c.in_ok-rank.body) c.self.view_is
+    (next_try c.self.invariant lr c.args.name.now last told c.in-Some.call c.in-Some.attempt is c.in_ok-rank.rank c.in_ok-rank.body c.in_ok-copy.field-0 c.in_ok-copy.ensures.same made)
