@@ -176,7 +176,8 @@ module _ (procs : List ProcTree) (order : TxnId → TxnId → Type 0) (start : T
   there_before ms c d m le e = let lt : d < length ms = slice_get_within ms d m e in (_, slice_get-get_or ms c m (omega arith))
 
   -- where a live transaction was annotated with fewer moves of a key than another one, it precedes that one
-  pub across_fewer : (x y : Txn) (s : Spot txns x) (a b : Access) → IsLive x (table_after procs s.front start) → Has txns y → Has x.access a → Has y.access b → unit_of start.version a.key ≡ unit_of start.version b.key → a.counter < b.counter → order x.id y.id
+  pub across_fewer : (x y : Txn) (s : Spot txns x) (a b : Access) → IsLive x (table_after procs s.front start) → Has txns y → Has x.access a → Has y.access b
+      → unit_of start.version a.key ≡ unit_of start.version b.key → a.counter < b.counter → order x.id y.id
   across_fewer x y s a b live ky ka kb same lt = go b.counter lt (subst (λ ms. FollowsMove order ms b.counter y.id) (moves_same txns b.key a.key (sym same)) (anchor_at y b ky kb))
     where
       joined : (d : ℕ) (n m : Moved) → a.counter ≤ d → slice_get (moves_of (table_after procs txns start) a.key) a.counter ≡ Some n → slice_get (moves_of (table_after procs txns start) a.key) d ≡ Some m → (n ≡ m) ⊎ order n.by m.by

@@ -82,7 +82,8 @@ pub stale_some : (access : List Access) (t : Table) (o : Outcome) → stale_of a
 stale_some [] t o e = cc
 stale_some (a ∷ access) t o e = go (next_mover t a.key a.counter) refl (stale_some access t o) e
   where
-    go : (m : Option TxnId) → next_mover t a.key a.counter ≡ m → (stale_of access (map (seen_of t) access) ≡ Some o → IsStaleAt access t o) → stale_at (unit_of t.version a.key) a.counter m (stale_of access (map (seen_of t) access)) ≡ Some o → IsStaleAt (a ∷ access) t o
+    go : (m : Option TxnId) → next_mover t a.key a.counter ≡ m → (stale_of access (map (seen_of t) access) ≡ Some o → IsStaleAt access t o)
+        → stale_at (unit_of t.version a.key) a.counter m (stale_of access (map (seen_of t) access)) ≡ Some o → IsStaleAt (a ∷ access) t o
     go None n rest e = let r : IsStaleAt access t o = rest e in record { entry = r.entry; there = inr r.there; by = r.by; next = r.next; is = r.is }
     go (Some by) n rest e = record { entry = a; there = inl refl; by = by; next = n; is = cc }
 

@@ -12,7 +12,7 @@ use Rattle.dt_access.specs.declared.TxnId.{TxnId}
 use Rattle.dt_text.specs.declared.Value.{Value}
 use Rattle.dt_table.specs.declared.Effect.{Effect}
 use Rattle.dt_table.specs.Table.{Table, Moved, value_of, moves_of, written, all_written, maybe_moved, apply}
-use Rattle.dt_table.proofs.Callers.{get-put, homes-apply, regions-apply, same_table, version-apply}
+use Rattle.dt_table.proofs.Callers.{all_written-keeps, get-put, homes-apply, regions-apply, same_table, version-apply}
 use Rattle.dt_serial.specs.Order.{Changes}
 
 pub either_key : (a b : Bytes) → Either (a ≡ b)
@@ -69,11 +69,6 @@ values_alike f t u q e = ap (λ m. get m q) (values_of_apply f t) ∙ all_writte
 
 -- moves
 
--- writes leave all but the values
-written_rest : (ws : List (Bytes × Option Value)) (t : Table) → all_written ws t ≡ record t { values = (all_written ws t).values }
-written_rest [] t = refl
-written_rest (w ∷ ws) t = written_rest ws (written t w.0 w.1)
-
 -- the effect moves this unit
 abbrev MovesAt : ℕ → Effect → Bytes → Type 0
 MovesAt version e unit = IsSomeAnd e.moved (λ m. unit_of version m.0 ≡ unit)
@@ -84,7 +79,7 @@ moves_after t None w = get t.moves w
 moves_after t (Some m) w = cond (same_key w (unit_of t.version m.0)) (Some (moves_of t m.0 ++ record { target = m.1; by = m.2 } ∷ [])) (get t.moves w)
 
 moves_at : (e : Effect) (t : Table) (w : Bytes) → get (apply e t).moves w ≡ moves_after t e.moved w
-moves_at e t w = ap (λ (x : Table). get (maybe_moved e.moved x).moves w) (written_rest e.writes t) ∙ by e.moved
+moves_at e t w = ap (λ (x : Table). get (maybe_moved e.moved x).moves w) (all_written-keeps e.writes t) ∙ by e.moved
   where
     by : (m : Option (Bytes × ℕ × TxnId)) → get (maybe_moved m (record t { values = (all_written e.writes t).values })).moves w ≡ moves_after t m w
     by None = refl

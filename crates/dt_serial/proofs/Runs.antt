@@ -83,7 +83,8 @@ pub record IsMoveAt (procs : List ProcTree) (version : ℕ) (xs : List Txn) (t :
   pub number : counter_of (table_after procs at.front t) key ≡ i
   pub makes : IsMoveOf procs version mover (table_after procs at.front t) key m
 
-pub numbered_move : (procs : List ProcTree) (version : ℕ) (xs : List Txn) (t : Table) (key : Bytes) (i : ℕ) (m : Moved) → t.version ≡ version → counter_of t key ≤ i → slice_get (moves_of (table_after procs xs t) key) i ≡ Some m → IsMoveAt procs version xs t key i m
+pub numbered_move : (procs : List ProcTree) (version : ℕ) (xs : List Txn) (t : Table) (key : Bytes) (i : ℕ) (m : Moved)
+    → t.version ≡ version → counter_of t key ≤ i → slice_get (moves_of (table_after procs xs t) key) i ≡ Some m → IsMoveAt procs version xs t key i m
 numbered_move procs version [] t key i m is low e = let lt : i < length (moves_of t key) = slice_get_within (moves_of t key) i m e in absurd (omega arith)
 numbered_move procs version (x ∷ xs) t key i m is low e = go (cases_lt i (counter_of (after procs x t) key)) (numbered_move procs version xs (after procs x t) key i m (after_version procs version x t is))
   where
@@ -161,7 +162,9 @@ chosen_moves p moves = filter (λ m. p m.by) moves
 pub replay_moves : (procs : List ProcTree) (version : ℕ) (p : TxnId → Bool) (xs : List Txn) (t c : Table) (key : Bytes) → t.version ≡ version → c.version ≡ version → moves_of c key ≡ chosen_moves p (moves_of t key)
     → moves_of (replay procs p xs t c) key ≡ chosen_moves p (moves_of (table_after procs xs t) key)
 replay_moves procs version p [] t c key is same e = e
-replay_moves procs version p (x ∷ xs) t c key is same e = replay_moves procs version p xs (after procs x t) _ key (after_version procs version x t is) (replay_version procs version p (x ∷ []) t c same) (go (cases_Bool (p x.id)) (move_at_cases version (one procs x t).1.moved key))
+replay_moves procs version p (x ∷ xs) t c key is same e =
+    replay_moves procs version p xs (after procs x t) _ key (after_version procs version x t is) (replay_version procs version p (x ∷ []) t c same)
+    (go (cases_Bool (p x.id)) (move_at_cases version (one procs x t).1.moved key))
   where
     made : List Moved
     made = move_at version key (one procs x t).1.moved

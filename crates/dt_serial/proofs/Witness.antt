@@ -33,6 +33,10 @@ later version key = record { id = record { seq = 2; region = 0 }; rank = 5; body
 abbrev stale : ℕ → Bytes → Txn
 stale version key = record { id = record { seq = 1; region = 1 }; rank = 5; body = Move key 2; access = use_of version key 0 ∷ [] }
 
+-- the three of them in the order in which they run
+abbrev run : ℕ → Bytes → List Txn
+run version key = mover version key ∷ later version key ∷ stale version key ∷ []
+
 -- the first move precedes the two others
 abbrev First : TxnId → TxnId → Type 0
 First u t = (u ≡ record { seq = 1; region = 0 }) × ((t ≡ record { seq = 2; region = 0 }) ⊎ (t ≡ record { seq = 1; region = 1 }))
@@ -78,8 +82,7 @@ differ version key a b (inl e) (inl f) s = let r : ◌≡◌ {A = ℕ} 1 0 = ap 
 differ version key a b (inl e) (inr f) s = f
 differ version key a b (inr e) f s = e
 
-pairs : (version : ℕ) (key : Bytes)
-    → AllIn (λ x. AllIn (CanBeShared x) (mover version key ∷ later version key ∷ stale version key ∷ [])) (mover version key ∷ later version key ∷ stale version key ∷ [])
+pairs : (version : ℕ) (key : Bytes) → AllIn (λ x. AllIn (CanBeShared x) (run version key)) (run version key)
 pairs version key = (
   (λ ne a b ha hb e c. absurd (ne refl), (λ ne a b ha hb e c. inl (refl, inl refl), (λ ne a b ha hb e c. inl (refl, inr refl), tt))),
   (
@@ -113,18 +116,29 @@ module _ (procs : List ProcTree) (start : Table) (unmoved : (key : Bytes) → mo
   anchored_later : (txns : List Txn) → AllIn (λ a. FollowsMove First (moves_of (table_after procs txns (after procs (mover start.version key) start)) a.key) a.counter (later start.version key).id) (later start.version key).access
   anchored_later txns = (first_move txns, tt)
 
-  pub history : IsHistory procs First start (mover start.version key ∷ later start.version key ∷ stale start.version key ∷ [])
+  pub history : IsHistory procs First start (run start.version key)
   history = record {
     transitive = λ u v t r s. absurd (no_later v s.0 r.1);
     unmoved = unmoved;
-    keys = (move_keeps procs start.version key (mover start.version key).id 1 0 unit, (move_keeps procs start.version key (later start.version key).id 0 1 unit, (move_keeps procs start.version key (stale start.version key).id 2 0 unit, tt)));
+    keys = (
+      move_keeps procs start.version key (mover start.version key).id 1 0 unit,
+      (
+        move_keeps procs start.version key (later start.version key).id 0 1 unit,
+        (move_keeps procs start.version key (stale start.version key).id 2 0 unit, tt),
+      ),
+    );
     down = later_first;
     anchored = ((tt, tt), (anchored_later (later start.version key ∷ stale start.version key ∷ []), ((tt, tt), tt)));
-    shared = λ x y hx hy. all_get (CanBeShared x) (mover start.version key ∷ later start.version key ∷ stale start.version key ∷ []) (all_get (λ z. AllIn (CanBeShared z) (mover start.version key ∷ later start.version key ∷ stale start.version key ∷ [])) (mover start.version key ∷ later start.version key ∷ stale start.version key ∷ []) (pairs start.version key) x hx) y hy;
+    shared = λ x y hx hy.
+        let of_x : AllIn (CanBeShared x) (run start.version key) = all_get (λ z. AllIn (CanBeShared z) (run start.version key)) (run start.version key) (pairs start.version key) x hx in
+        all_get (CanBeShared x) (run start.version key) of_x y hy;
   }
 
   -- both orders of the last two are parts of it
-  pub either_way : IsPart procs First start (mover start.version key ∷ later start.version key ∷ stale start.version key ∷ []) (mover start.version key ∷ later start.version key ∷ stale start.version key ∷ []) × IsPart procs First start (mover start.version key ∷ later start.version key ∷ stale start.version key ∷ []) (mover start.version key ∷ stale start.version key ∷ later start.version key ∷ [])
+  abbrev IsPartOfRun : List Txn → Type 0
+  IsPartOfRun = IsPart procs First start (run start.version key)
+
+  pub either_way : IsPartOfRun (run start.version key) × IsPartOfRun (mover start.version key ∷ stale start.version key ∷ later start.version key ∷ [])
   either_way = (
     record { fits = history; members = (inl refl, (inr (inl refl), (inr (inr (inl refl)), tt))); down = later_first },
     record { fits = history; members = (inl refl, (inr (inr (inl refl)), (inr (inl refl), tt))); down = stale_first },

@@ -1,3 +1,4 @@
 -- What the proofs of crates above may cite of this crate, and nothing else of `proofs/`: what a table is before any
--- transaction and after an effect, when two tables are equal, when a home is a region, and when a place is left for a move.
-pub use Rattle.dt_table.proofs.TableLaws.{counter_of-apply, get-put, home_of-below, homes-apply, move_at, moves_of-apply, moves_of-opening, place_for, regions-apply, same_table, value_of-maybe_moved, version-apply}
+-- transaction, after writes and after an effect, when two tables are equal, when a home is a region, and when a place is
+-- left for a move.
+pub use Rattle.dt_table.proofs.TableLaws.{all_written-keeps, counter_of-apply, get-put, home_of-below, homes-apply, move_at, moves_of-apply, moves_of-opening, place_for, regions-apply, same_table, value_of-maybe_moved, version-apply}

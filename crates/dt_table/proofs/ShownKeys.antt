@@ -17,7 +17,7 @@ use Rattle.dt_access.specs.Clash.{Bytes, same_key}
 use Rattle.dt_access.specs.Granules.{unit_of}
 use Rattle.dt_text.specs.declared.Value.{Value}
 use Rattle.dt_table.specs.Table.{Moved, Table, value_of, counter_of, is_shown, set_of_keys}
-use Rattle.dt_table.specs.StoredUnitInner.{by_bytes, has_value, with_value, moved_without_value}
+use Rattle.dt_table.specs.StoredUnitInner.{by_bytes, has_value, keys_with_value, moved_without_value}
 use Rattle.dt_table.specs.StoredMovesInner.{history, table_view, IsSoundTable}
 use Rattle.dt_table.specs.declared.stored.StoredUnit.{StoredUnit}
 use Rattle.dt_table.specs.declared.table.Table.TheInside.{Inside}
@@ -149,13 +149,13 @@ module _ (a : Inside) (sound : IsSoundTable a) (vd : IsDistinct same_key (keys_o
 
   -- the keys with a value, and the units that were moved and have none
   abbrev pub collected : List Bytes
-  collected = with_value vals ++ moved_without_value vals units
+  collected = keys_with_value vals ++ moved_without_value vals units
 
   abbrev moved_in : Bytes → Bool
   moved_in q = kept_at (λ k (s : StoredUnit). nat_lt 0 s.counter && not (has_value vals k)) q (lookup (same_key q) units)
 
-  any-with_value : (q : Bytes) → list_any (same_key q) (with_value vals) ≡ has_value vals q
-  any-with_value q = kept_any (λ k v. is_some v) vals q vd ∙ by (lookup (same_key q) vals)
+  any-keys_with_value : (q : Bytes) → list_any (same_key q) (keys_with_value vals) ≡ has_value vals q
+  any-keys_with_value q = kept_any (λ k v. is_some v) vals q vd ∙ by (lookup (same_key q) vals)
     where
       by : (o : Option (Option Value)) → kept_at (λ k (v : Option Value). is_some v) q o ≡ is_some (unwrap_or o None)
       by None = refl
@@ -171,8 +171,8 @@ module _ (a : Inside) (sound : IsSoundTable a) (vd : IsDistinct same_key (keys_o
   -- no key is collected twice
   collected_distinct : IsDistinct same_key collected
   collected_distinct =
-      distinct_append (with_value vals) (moved_without_value vals units) (kept_distinct (λ k v. is_some v) vals vd) (kept_distinct (λ k (s : StoredUnit). nat_lt 0 s.counter && not (has_value vals k)) units ud)
-      (all_map _ _ (with_value vals) (λ q h. any-moved q ∙ by q (sym (any-with_value q) ∙ h) (lookup (same_key q) units)) (each_of_them (with_value vals)))
+      distinct_append (keys_with_value vals) (moved_without_value vals units) (kept_distinct (λ k v. is_some v) vals vd) (kept_distinct (λ k (s : StoredUnit). nat_lt 0 s.counter && not (has_value vals k)) units ud)
+      (all_map _ _ (keys_with_value vals) (λ q h. any-moved q ∙ by q (sym (any-keys_with_value q) ∙ h) (lookup (same_key q) units)) (each_of_them (keys_with_value vals)))
     where
       by : (q : Bytes) → has_value vals q ≡ true → (o : Option StoredUnit) → kept_at (λ k (s : StoredUnit). nat_lt 0 s.counter && not (has_value vals k)) q o ≡ false
       by q has None = refl
@@ -213,8 +213,8 @@ module _ (a : Inside) (sound : IsSoundTable a) (vd : IsDistinct same_key (keys_o
   -- a key that is collected is shown, and stands in one of the maps; and the other way round
   any-collected : (q : Bytes) → list_any (same_key q) collected ≡ (is_shown t q && list_any (same_key q) (keys t.values ++ keys t.moves))
   any-collected q =
-      list_any-append (same_key q) (with_value vals) (moved_without_value vals units)
-      ∙ ap₂ ◌||◌ (any-with_value q) (any-moved q)
+      list_any-append (same_key q) (keys_with_value vals) (moved_without_value vals units)
+      ∙ ap₂ ◌||◌ (any-keys_with_value q) (any-moved q)
       ∙ cases q (lookup (same_key q) vals) (lookup (same_key q) units) (same_key (unit_of a.version q) q) (nat_lt 0 (counter_of t q)) (agrees q)
       ∙ sym (ap₂ ◌&&◌ shown (list_any-append (same_key q) (keys t.values) (keys t.moves) ∙ ap₂ ◌||◌ in_values in_moves))
     where

@@ -25,8 +25,8 @@ abbrev pub has_value : List (Bytes × Option Value) → Bytes → Bool
 has_value values key = is_some (unwrap_or (lookup (same_key key) values) None)
 
 -- the keys that have a value
-abbrev pub with_value : List (Bytes × Option Value) → List Bytes
-with_value values = flat_map (λ e. if is_some e.1 then e.0 ∷ [] else []) values
+abbrev pub keys_with_value : List (Bytes × Option Value) → List Bytes
+keys_with_value values = flat_map (λ e. if is_some e.1 then e.0 ∷ [] else []) values
 
 -- the units that were moved and have no value as keys
 abbrev pub moved_without_value : List (Bytes × Option Value) → List (Bytes × StoredUnit) → List Bytes

@@ -4,7 +4,7 @@ ghost use Rattle.std.specs.Map.{keys_of};
 ghost use Rattle.dt_access.specs.Clash.{same_key};
 ghost use Rattle.dt_lists.specs.Lists.{AllIn};
 ghost use Rattle.dt_text.specs.Texts.{IsKey};
-ghost use Rattle.dt_table.specs.StoredUnitInner.{by_bytes, has_value, moved_without_value, with_value};
+ghost use Rattle.dt_table.specs.StoredUnitInner.{by_bytes, has_value, keys_with_value, moved_without_value};
 
 use crate::stored::StoredUnit;
 use dt_text::{Key, Listed, NoMemory, Value};
@@ -30,7 +30,7 @@ pub fn keys_with_value(
     alloc: Global,
     values: &IndexMap<Key, Option<Value>>,
 ) -> Result<Vec<Key>, NoMemory>
-    ensures keys { IfOk result (λ keys. keys.items ≡ with_value values.now.entries) }
+    ensures keys { IfOk result (λ keys. keys.items ≡ keys_with_value values.now.entries) }
     ensures once { OnOk result (IsDistinct same_key (keys_of values.now.entries)) }
 {
     let mut keys = Vec::new(alloc);

@@ -7,9 +7,7 @@ ghost use Rattle.dt_table.specs.Table.{value_of, home_of, counter_of, next_mover
 use crate::effect::Effect;
 use crate::shown::{Shown, ShownList, add_moved_units, keys_with_value};
 use crate::stored::{StoredMove, StoredUnit, mover_of, next_mover_of, opening_values, put_value};
-use crate::units::{
-    index_homes, opening_home, put_unit, stored_or_fresh, stored_unit,
-};
+use crate::units::{index_homes, opening_home, put_unit, stored_or_fresh, stored_unit};
 use dt_access::{TxnId, unit_bytes};
 use dt_text::{Key, NoMemory, Value};
 use indexmap::IndexMap;

@@ -38,7 +38,10 @@ pub fn opening_home(homes: &IndexMap<Vec<u8>, u8>, regions: u8, unit: &[u8]) -> 
 }
 
 /// The stored unit of these bytes, if it is stored.
-pub fn stored_unit<'a>(units: &'a IndexMap<Vec<u8>, StoredUnit>, unit: &[u8]) -> Option<&'a StoredUnit>
+pub fn stored_unit<'a>(
+    units: &'a IndexMap<Vec<u8>, StoredUnit>,
+    unit: &[u8],
+) -> Option<&'a StoredUnit>
     ensures { option_copied result ≡ lookup (same_key unit.now) (by_bytes units.now.entries) }
 {
     units.get(unit)

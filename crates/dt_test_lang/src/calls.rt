@@ -383,6 +383,22 @@ fn a_procedure_is_as_long_as_it_is(rt: HostRuntime) -> Result<(), Fail> {
     Ok(())
 }
 
+#[test]
+fn a_call_uses_keys_of_128_bytes_and_no_longer_ones(rt: HostRuntime) -> Result<(), Fail> {
+    let source: &[u8] = b"proc f(k: text) read a = k ++ \"/5\"; { give 1; }";
+    let lengths: [(u32, &[u8]); 3] = [
+        (63, b"kk/5 gave 1"),
+        (126, b"kk/5 gave 1"),
+        (127, b"declaration 0 gives no key"),
+    ];
+    for (length, end) in lengths {
+        let line = repeated(rt.alloc(), b"", b"k", length, b"")?;
+        let told = told(rt.alloc(), source, b"f", line.as_slice(), b"-")?;
+        assert!(rt; told.ends_with(end));
+    }
+    Ok(())
+}
+
 /// A procedure with so many variables, each greater by one than the one before, which gives the last.
 fn counting(alloc: Global, variables: u32) -> Result<Vec<u8>, Fail> {
     let mut text = b"proc f(k: text) read a = k; { let v0 = 0; ".to_vec(alloc)?;

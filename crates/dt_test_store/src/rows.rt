@@ -20,8 +20,8 @@ enum Change {
 }
 
 /// The key of a few bytes.
-fn key_of(alloc: Global, bytes: &[u8]) -> Result<Key, Fail> {
-    if bytes.len() > 100 {
+pub(crate) fn key_of(alloc: Global, bytes: &[u8]) -> Result<Key, Fail> {
+    if bytes.len() > 128 {
         return Err(Fail::from("a key has few bytes"));
     }
     Ok(Key::read(alloc, bytes)?)
@@ -47,7 +47,7 @@ fn put(table: &mut Table, alloc: Global, key: Key, value: Option<Value>) -> Resu
 }
 
 /// Whether a key is a unit of this version.
-fn is_unit(version: u8, key: &Key) -> bool
+pub(crate) fn is_unit(version: u8, key: &Key) -> bool
     ensures { IsTrue result → IsUnit version key.now }
 {
     if version == 2 {
@@ -234,7 +234,12 @@ const UNITS: [(u8, &[(&[u8], Change)], &[u8], &[u8]); 6] = [
         b"4@1 - 5 6 -; b=7@2*0; c=none@1*2; c/1=4@1*2",
     ),
     // A listed home is that of all keys of its unit.
-    (2, &[(b"ab/1", Change::Put(1))], b"ab/2", b"none@0 - -; ab/1=1@0*0; b=7@2*0"),
+    (
+        2,
+        &[(b"ab/1", Change::Put(1))],
+        b"ab/2",
+        b"none@0 - -; ab/1=1@0*0; b=7@2*0",
+    ),
 ];
 
 #[test]

@@ -3,24 +3,17 @@ ghost use Rattle.std.specs.Prelude.{◌≡◌, [], IfOk, OnOk, replicate};
 ghost use Rattle.dt_sched.specs.Sched.{CanInsert};
 
 use crate::fitting::fits;
+use crate::rows::key_of;
 use dt_access::{Homes, Keys, Mode, Part, TxnId, put_id};
 use dt_plain::PlainSched;
 use dt_sched::Scheduler;
-use dt_text::{Key, Listed, NoMemory};
+use dt_text::{Listed, NoMemory};
 use std::alloc::Global;
 use std::test::Fail;
 
 /// A part with one key: the sequence number and the region of its id, its rank, its home, the key with its mode, and the
 /// least and the greatest of its homes.
 type Row<'a> = (u32, u8, u8, u8, &'a [u8], Mode, u8, u8);
-
-/// A short key.
-fn key_of(alloc: Global, bytes: &[u8]) -> Result<Key, Fail> {
-    if bytes.len() > 128 {
-        return Err(Fail::from("a key is short"));
-    }
-    Ok(Key::read(alloc, bytes)?)
-}
 
 fn part_of(alloc: Global, row: &Row) -> Result<Part, Fail> {
     let (seq, region, rank, home, key, mode, least, greatest) = *row;

@@ -1,9 +1,12 @@
 //! Transactions that move a key: their homes and parts, and what they come to.
+//!
+//! In version 1 a key is moved alone, in version 2 with all keys of its granule.
 ghost use Rattle.std.specs.Prelude.{◌≡◌, IfOk, map};
 ghost use Rattle.dt_access.specs.Orders.{HasAscendingKeys};
 ghost use Rattle.dt_txn.specs.Transaction.{CanRun, HasItsUses, used_of};
 
-use dt_access::{Part, TxnId, Writes, put_id};
+use crate::rows::{is_unit, key_of};
+use dt_access::{Mode, Part, TxnId, Writes, put_id};
 use dt_proc::{Procs, builtin_procs};
 use dt_table::{Effect, Table};
 use dt_text::{Key, NoMemory, Value, put_u64, put_value};
@@ -17,18 +20,18 @@ const ID: TxnId = TxnId { seq: 2, region: 0 };
 /// The id of a transaction before it.
 const MOVER: TxnId = TxnId { seq: 1, region: 1 };
 
-/// A table of three regions, in which the key `b` has the value 5 at its home, region 2.
-fn opened(alloc: Global) -> Result<Table, Fail> {
+/// A table of this version with three regions, in which the key `b` has the value 5 at its home, region 2.
+fn opened(alloc: Global, version: u8) -> Result<Table, Fail> {
     let rows = [(Key::read(alloc, b"b")?, Value::Int(5))];
-    Ok(Table::new(alloc, 1, 3, &[], rows.as_slice())?)
+    Ok(Table::new(alloc, version, 3, &[], rows.as_slice())?)
 }
 
 /// The same table after the key `b` was moved to region 1.
-fn moved(alloc: Global) -> Result<Table, Fail> {
-    let mut table = opened(alloc)?;
+fn moved(alloc: Global, version: u8) -> Result<Table, Fail> {
+    let mut table = opened(alloc, version)?;
     let key = Key::read(alloc, b"b")?;
-    if table.version() == 2 || table.mastership(&key).counter > 1000 {
-        return Err(Fail::from("a key has few moves"));
+    if !is_unit(table.version(), &key) || table.mastership(&key).counter > 1000 {
+        return Err(Fail::from("a unit has few moves"));
     }
     table.reserve(1)?;
     table.apply(Effect {
@@ -38,23 +41,34 @@ fn moved(alloc: Global) -> Result<Table, Fail> {
     Ok(table)
 }
 
-/// The transaction that moves a key to a region, by the table before any move.
-fn a_move(alloc: Global, procs: &Procs, key: &[u8; 1], target: u8) -> Result<Txn, Fail>
+/// The transaction of rank 3 that moves a key to a region, by the table before any move.
+fn a_move(alloc: Global, procs: &Procs, version: u8, key: &[u8], target: u8) -> Result<Txn, Fail>
     ensures body { IfOk result (λ txn. CanRun procs.now txn.body) }
     ensures uses { IfOk result (λ txn. HasItsUses procs.now txn) }
     ensures ascending { IfOk result (λ txn. HasAscendingKeys (map used_of txn.access)) }
 {
-    let body = Body::Move(Key::read(alloc, key)?, target);
-    let table = opened(alloc)?;
-    Ok(annotate(alloc, ID, 5, body, procs, &table)?)
+    let body = Body::Move(key_of(alloc, key)?, target);
+    let table = opened(alloc, version)?;
+    Ok(annotate(alloc, ID, 3, body, procs, &table)?)
 }
 
-/// Adds a part: its home, its keys with their modes, and all homes.
+/// A letter for each mode.
+fn letter(mode: Mode) -> u8 {
+    match mode {
+        Mode::Read => b'r',
+        Mode::Write => b'w',
+        Mode::Whole => b'W',
+    }
+}
+
+/// Adds a part: its home, its rank, its keys with their modes, and all homes.
 fn put_part(alloc: Global, out: &mut Vec<u8>, part: &Part) -> Result<(), NoMemory> {
     put_u64(alloc, out, u64::from(part.home))?;
+    out.push(b'^')?;
+    put_u64(alloc, out, u64::from(part.rank))?;
     out.push(b':')?;
     for (key, mode) in part.keys.as_slice() {
-        out.push(if mode.is_write() { b'w' } else { b'r' })?;
+        out.push(letter(*mode))?;
         out.extend_from_slice(key.bytes())?;
     }
     for home in part.homes.as_slice() {
@@ -66,9 +80,9 @@ fn put_part(alloc: Global, out: &mut Vec<u8>, part: &Part) -> Result<(), NoMemor
 }
 
 /// The homes of a move, its parts, and its part at its target, in words.
-fn parts_told(alloc: Global, key: &[u8; 1], target: u8) -> Result<Vec<u8>, Fail> {
+fn parts_told(alloc: Global, version: u8, key: &[u8], target: u8) -> Result<Vec<u8>, Fail> {
     let procs = builtin_procs(alloc)?;
-    let txn = a_move(alloc, &procs, key, target)?;
+    let txn = a_move(alloc, &procs, version, key, target)?;
     let mut out = Vec::new(alloc);
     for home in homes(alloc, &txn.copy(alloc)?)?.as_slice() {
         put_u64(alloc, &mut out, u64::from(*home))?;
@@ -83,13 +97,17 @@ fn parts_told(alloc: Global, key: &[u8; 1], target: u8) -> Result<Vec<u8>, Fail>
 
 #[test]
 fn a_move_has_a_part_with_its_key_at_each_of_its_homes(rt: HostRuntime) -> Result<(), Fail> {
-    let rows: [(&[u8; 1], u8, &[u8]); 3] = [
-        (b"b", 0, b"0 2 0:wb@0@2 2:wb@0@2 0:wb@0@2 "),
-        (b"a", 2, b"1 2 1:wa@1@2 2:wa@1@2 2:wa@1@2 "),
-        (b"b", 2, b"2 2:wb@2 2:wb@2 "),
+    let rows: [(u8, &[u8], u8, &[u8]); 4] = [
+        (1, b"b", 0, b"0 2 0^3:wb@0@2 2^3:wb@0@2 0^3:wb@0@2 "),
+        (1, b"a", 2, b"1 2 1^3:wa@1@2 2^3:wa@1@2 2^3:wa@1@2 "),
+        (1, b"b", 2, b"2 2^3:wb@2 2^3:wb@2 "),
+        (2, b"b", 0, b"0 2 0^3:Wb@0@2 2^3:Wb@0@2 0^3:Wb@0@2 "),
     ];
-    for (key, target, want) in rows {
-        assert_eq!(rt; parts_told(rt.alloc(), key, target)?.as_slice(), want);
+    for (version, key, target, want) in rows {
+        assert_eq!(rt;
+            parts_told(rt.alloc(), version, key, target)?.as_slice(),
+            want
+        );
     }
     Ok(())
 }
@@ -129,12 +147,14 @@ fn put_outcome(
     Ok(())
 }
 
-/// What a move sees of its row: the value, how often it was moved, and who made the next move.
-fn seen_told(alloc: Global, key: &[u8; 1], table: &Table) -> Result<Vec<u8>, Fail> {
+/// What a move sees of its key: the unit, the value, how often the unit was moved, and who made the next move.
+fn seen_told(alloc: Global, key: &[u8], table: &Table) -> Result<Vec<u8>, Fail> {
     let procs = builtin_procs(alloc)?;
-    let txn = a_move(alloc, &procs, key, 0)?;
+    let txn = a_move(alloc, &procs, table.version(), key, 0)?;
     let mut out = Vec::new(alloc);
     for row in see(alloc, &txn, table)?.as_slice() {
+        out.extend_from_slice(row.unit.bytes())?;
+        out.push(b' ')?;
         if let Some(value) = &row.value {
             put_value(alloc, &mut out, value)?;
         }
@@ -149,9 +169,9 @@ fn seen_told(alloc: Global, key: &[u8; 1], table: &Table) -> Result<Vec<u8>, Fai
 }
 
 /// What a move of a key to region 0 comes to on a table; from what it sees there it comes to the same.
-fn outcome_told(alloc: Global, key: &[u8; 1], table: &Table) -> Result<Vec<u8>, Fail> {
+fn outcome_told(alloc: Global, key: &[u8], table: &Table) -> Result<Vec<u8>, Fail> {
     let procs = builtin_procs(alloc)?;
-    let txn = a_move(alloc, &procs, key, 0)?;
+    let txn = a_move(alloc, &procs, table.version(), key, 0)?;
     let mut out = Vec::new(alloc);
     let (outcome, effect) = execute(alloc, &txn, &procs, table)?;
     put_outcome(alloc, &mut out, &outcome.copy(alloc)?, &effect)?;
@@ -169,11 +189,11 @@ fn outcome_told(alloc: Global, key: &[u8; 1], table: &Table) -> Result<Vec<u8>, 
 }
 
 /// What a move of a key sees and comes to, before or after the key `b` was moved.
-fn told(alloc: Global, key: &[u8; 1], is_moved: bool) -> Result<Vec<u8>, Fail> {
+fn told(alloc: Global, version: u8, key: &[u8], is_moved: bool) -> Result<Vec<u8>, Fail> {
     let table = if is_moved {
-        moved(alloc)?
+        moved(alloc, version)?
     } else {
-        opened(alloc)?
+        opened(alloc, version)?
     };
     let mut out = seen_told(alloc, key, &table)?;
     out.extend_from_slice(b": ")?;
@@ -182,14 +202,28 @@ fn told(alloc: Global, key: &[u8; 1], is_moved: bool) -> Result<Vec<u8>, Fail> {
 }
 
 #[test]
-fn a_move_is_stale_after_another_of_its_key(rt: HostRuntime) -> Result<(), Fail> {
-    let rows: [(&[u8; 1], bool, &[u8]); 3] = [
-        (b"b", false, b"5 0 : gave 0, writes 0, moves b 0 2.0"),
-        (b"b", true, b"5 1 1.1: stale b 0 1.1, writes 0"),
-        (b"a", true, b" 0 : gave 0, writes 0, moves a 0 2.0"),
+fn a_move_is_stale_after_another_of_its_unit(rt: HostRuntime) -> Result<(), Fail> {
+    let rows: [(u8, &[u8], bool, &[u8]); 6] = [
+        (1, b"b", false, b"b 5 0 : gave 0, writes 0, moves b 0 2.0"),
+        (1, b"b", true, b"b 5 1 1.1: stale b 0 1.1, writes 0"),
+        (
+            1,
+            b"b/1",
+            true,
+            b"b/1  0 : gave 0, writes 0, moves b/1 0 2.0",
+        ),
+        (2, b"b", true, b"b 5 1 1.1: stale b 0 1.1, writes 0"),
+        // The unit is named, which need not be the key.
+        (2, b"b/1", true, b"b  1 1.1: stale b 0 1.1, writes 0"),
+        (
+            2,
+            b"b-1",
+            true,
+            b"b-1  0 : gave 0, writes 0, moves b-1 0 2.0",
+        ),
     ];
-    for (key, is_moved, want) in rows {
-        assert_eq!(rt; told(rt.alloc(), key, is_moved)?.as_slice(), want);
+    for (version, key, is_moved, want) in rows {
+        assert_eq!(rt; told(rt.alloc(), version, key, is_moved)?.as_slice(), want);
     }
     Ok(())
 }

@@ -8,5 +8,5 @@ abbrev pub invariant-loop-unit : goal.invariant-loop-unit
 invariant-loop-unit l = record {
   keys : AllIn (λ e. IsKey e.0) (by_bytes l.unit-iterator);
   left : l.keys.items ++ moved_without_value l.values.entries (by_bytes l.unit-iterator)
-  ≡ l.initial.keys.items ++ moved_without_value l.values.entries (by_bytes l.units.entries);
+      ≡ l.initial.keys.items ++ moved_without_value l.values.entries (by_bytes l.units.entries);
 }
