@@ -278,7 +278,8 @@ unfolding items
 items_within n read reads zero found text ds rest within h = absurd (none-some _ h)
 items_within n read reads (suc m) found text ds rest within h =
     let start = skip_blank text in
-    by_ways _ _ _ (ds, rest) h
+    let more_items = option_and_then (λ v. option_and_then (items read m (push_item found v.0)) (after_element 93 v.1)) (read start) in
+    by_ways (first start == 93) (gave found (drop 1 start)) more_items (ds, rest) h
       (λ end_so end. omega (arith, ap length (same_read found ds (drop 1 start) rest end).1, drop_within 1 start, skip_within text, within))
       (λ more_so more.
           let (v, is, goes) = then_read _ (read start) (ds, rest) more in
@@ -300,7 +301,8 @@ unfolding members
 members_ordered n read reads zero found text ms rest within order h = absurd (none-some _ h)
 members_ordered n read reads (suc m) found text ms rest within order h =
     let start = skip_blank text in
-    by_ways _ _ _ (ms, rest) h
+    let more_members = option_and_then (λ e. option_and_then (λ with. option_and_then (members read m with) (after_element 125 e.1)) (put e.0.0 e.0.1 found)) (keyval read start) in
+    by_ways (first start == 125) (gave (close found) (drop 1 start)) more_members (ms, rest) h
       (λ end_so end.
           let is = same_read (close found) ms (drop 1 start) rest end in
           (subst (AreInOrder n) is.0 (close_ordered n found order), omega (arith, ap length is.1, drop_within 1 start, skip_within text, within)))
@@ -367,7 +369,8 @@ unfolding lines
 lines_ordered n zero doc text last within order h = absurd (none-some _ h)
 lines_ordered n (suc m) doc text last within order h =
     let start = skip_blank text in
-    by_ways _ _ _ last h
+    let more_lines = option_and_then (λ e. option_and_then (λ next. lines m next e.1) (define doc e.0)) (line start) in
+    by_ways (length start == 0) (Some doc) more_lines last h
       (λ end_so end. subst (λ (d : Document). AreNodesInOrder n d.0) (same_Some doc last end) order)
       (λ more_so more.
           let (e, read, goes) = then_read _ (line start) last more in
