@@ -314,22 +314,23 @@ members_ordered n read reads (suc m) found text ms rest within order h =
           let left = after_element_within 125 e.1 after ends in
           members_ordered n read reads m with after ms rest (omega (arith, got.1, left)) (put_ordered n e.0.0 e.0.1 got.0 found with order made) later)
 
+val_step : (n depth : ℕ) → ReadsOrder n (val depth) → (bracket brace : Bool) (text : List ℕ) (d : Data) (rest : List ℕ) → length text ≤ n
+    → (if bracket then read_map array (items (val depth) (length text) no_items (drop 1 text))
+        else if brace then read_map table (members (val depth) (length text) no_nodes (drop 1 text)) else atom text) ≡ gave d rest
+    → InOrder n d × (length rest ≤ n)
+val_step n depth reads true brace text d rest within h =
+    let (ds, read, is) = changed_read array (items (val depth) (length text) no_items (drop 1 text)) d rest h in
+    (subst (InOrder n) is tt, items_within n (val depth) reads (length text) no_items (drop 1 text) ds rest (omega (arith, drop_within 1 text, within)) read)
+val_step n depth reads false true text d rest within h =
+    let (ms, read, is) = changed_read table (members (val depth) (length text) no_nodes (drop 1 text)) d rest h in
+    let got = members_ordered n (val depth) reads (length text) no_nodes (drop 1 text) ms rest (omega (arith, drop_within 1 text, within)) tt read in
+    (subst (InOrder n) is got.0, got.1)
+val_step n depth reads false false text d rest within h = atom_ordered n text d rest within h
+
 val_ordered : (n depth : ℕ) → ReadsOrder n (val depth)
 unfolding val
 val_ordered n zero text d rest within h = atom_ordered n text d rest within h
-val_ordered n (suc depth) text d rest within h =
-    let reads = val_ordered n depth in
-    let inside : length (drop 1 text) ≤ n = omega (arith, drop_within 1 text, within) in
-    by_ways _ _ _ (d, rest) h
-      (λ bracket_so bracket.
-          let (ds, read, is) = changed_read array _ d rest bracket in
-          (subst (InOrder n) is tt, items_within n (val depth) reads (length text) no_items (drop 1 text) ds rest inside read))
-      (λ other_so other. by_ways _ _ _ (d, rest) other
-        (λ brace_so brace.
-            let (ms, read, is) = changed_read table _ d rest brace in
-            let got = members_ordered n (val depth) reads (length text) no_nodes (drop 1 text) ms rest inside tt read in
-            (subst (InOrder n) is got.0, got.1))
-        (λ plain_so plain. atom_ordered n text d rest within plain))
+val_ordered n (suc depth) text d rest within h = val_step n depth (val_ordered n depth) (first text == 91) (first text == 123) text d rest within h
 
 -- ---- lines
 
@@ -340,29 +341,43 @@ header_key_within text k rest h =
     let (after, is, same) = map_read _ (after_byte 93 found.1) (k, rest) more in
     omega (arith, ap (λ p. length p.1) same, after_byte_within 93 found.1 after is, key_read (skip_ws text) found.0 found.1 read, skip_ws_within text)
 
+abbrev expressed : Key → Definition → Expression
+expressed k what = (k, what)
+
+abbrev before_rest : Expression → List ℕ → Expression × List ℕ
+before_rest e rest = (e, rest)
+
+expression_step : (n : ℕ) (doubled headed : Bool) (text : List ℕ) (e : Expression) (rest : List ℕ) → length text ≤ n
+    → (if doubled then option_and_then (λ k. option_map (before_rest (expressed k.0 array_table)) (after_byte 93 k.1)) (header_key (drop 2 text))
+        else if headed then read_map (λ (k : Key). expressed k std_table) (header_key (drop 1 text))
+        else read_map (λ (p : Key × Data). expressed p.0 (key_value p.1)) (keyval (val recursion_limit) text)) ≡ gave e rest
+    → IsDefinitionInOrder n e.1 × (length rest ≤ n)
+expression_step n true headed text e rest within h =
+    let (k, read, more) = then_read _ (header_key (drop 2 text)) (e, rest) h in
+    let (after, is, same) = map_read (before_rest (expressed k.0 array_table)) (after_byte 93 k.1) (e, rest) more in
+    let left = header_key_within (drop 2 text) k.0 k.1 read in
+    let what : array_table ≡ e.1 = ap (λ (p : Expression × List ℕ). p.0.1) same in
+    let ends : after ≡ rest = ap (λ (p : Expression × List ℕ). p.1) same in
+    (subst (IsDefinitionInOrder n) what tt, omega (arith, ap length ends, after_byte_within 93 k.1 after is, left, drop_within 2 text, within))
+expression_step n false true text e rest within h =
+    let (k, read, same) = changed_read (λ (k : Key). expressed k std_table) (header_key (drop 1 text)) e rest h in
+    let what : std_table ≡ e.1 = ap (λ (x : Expression). x.1) same in
+    (subst (IsDefinitionInOrder n) what tt, omega (arith, header_key_within (drop 1 text) k rest read, drop_within 1 text, within))
+expression_step n false false text e rest within h =
+    let (p, read, same) = changed_read (λ (p : Key × Data). expressed p.0 (key_value p.1)) (keyval (val recursion_limit) text) e rest h in
+    let got = keyval_ordered n (val recursion_limit) (val_ordered n recursion_limit) text p rest within read in
+    let what : key_value p.1 ≡ e.1 = ap (λ (x : Expression). x.1) same in
+    (subst (IsDefinitionInOrder n) what got.0, got.1)
+
 expression_ordered : (n : ℕ) (text : List ℕ) (e : Expression) (rest : List ℕ) → length text ≤ n → expression text ≡ gave e rest → IsDefinitionInOrder n e.1 × (length rest ≤ n)
 unfolding expression
-expression_ordered n text e rest within h =
-    by_ways _ _ _ (e, rest) h
-      (λ doubled_so doubled.
-          let (k, read, more) = then_read _ (header_key (drop 2 text)) (e, rest) doubled in
-          let (after, is, same) = map_read _ (after_byte 93 k.1) (e, rest) more in
-          let left = header_key_within (drop 2 text) k.0 k.1 read in
-          (subst (IsDefinitionInOrder n) (ap (λ p. p.0.1) same) tt, omega (arith, ap (λ p. length p.1) same, after_byte_within 93 k.1 after is, left, drop_within 2 text, within)))
-      (λ other_so other. by_ways _ _ _ (e, rest) other
-        (λ headed_so headed.
-            let (k, read, same) = changed_read _ (header_key (drop 1 text)) e rest headed in
-            (subst (IsDefinitionInOrder n) (ap (λ p. p.1) same) tt, omega (arith, header_key_within (drop 1 text) k rest read, drop_within 1 text, within)))
-        (λ pair_so pair.
-            let (p, read, same) = changed_read _ (keyval (val recursion_limit) text) e rest pair in
-            let got = keyval_ordered n (val recursion_limit) (val_ordered n recursion_limit) text p rest within read in
-            (subst (IsDefinitionInOrder n) (ap (λ q. q.1) same) got.0, got.1)))
+expression_ordered n text e rest within h = expression_step n (first text == 91 && slice_index text 1 == 91) (first text == 91) text e rest within h
 
 line_ordered : (n : ℕ) (text : List ℕ) (e : Expression) (rest : List ℕ) → length text ≤ n → line text ≡ gave e rest → IsDefinitionInOrder n e.1 × (length rest ≤ n)
 unfolding line
 line_ordered n text e rest within h =
     let (found, read, more) = then_read _ (expression text) (e, rest) h in
-    expression_ordered n text e rest within (read ∙ (one_way _ _ (e, rest) more).1)
+    expression_ordered n text e rest within (read ∙ (one_way (ends_line (skip_ws found.1)) (Some found) (e, rest) more).1)
 
 lines_ordered : (n m : ℕ) (doc : Document) (text : List ℕ) (last : Document) → length text ≤ n → AreNodesInOrder n doc.0 → lines m doc text ≡ Some last → AreNodesInOrder n last.0
 unfolding lines

@@ -374,16 +374,17 @@ number_fits : (word : List ℕ) (s : Scalar) → number word ≡ Some s → IsFi
 unfolding number
 number_fits word s h = plain_fits _ s (one_way _ _ s h).1
 
+word_step : (truth untruth date : Bool) (word : List ℕ) (s : Scalar)
+    → (if truth then Some (Boolean true) else if untruth then Some (Boolean false) else if date then option_map Datetime (parse_datetime word) else number word) ≡ Some s
+    → IsFitting s
+word_step true untruth date word s h = subst IsFitting (same_Some (Boolean true) s h) tt
+word_step false true date word s h = subst IsFitting (same_Some (Boolean false) s h) tt
+word_step false false true word s h = let (t, is, same) = map_read Datetime (parse_datetime word) s h in subst IsFitting same tt
+word_step false false false word s h = number_fits word s h
+
 word_fits : (word : List ℕ) (s : Scalar) → word_value word ≡ Some s → IsFitting s
 unfolding word_value
-word_fits word s h =
-    by_ways _ _ _ s h
-      (λ yes_so yes. subst IsFitting (same_Some _ s yes) tt)
-      (λ other_so other. by_ways _ _ _ s other
-        (λ no_so no. subst IsFitting (same_Some _ s no) tt)
-        (λ more_so more. by_ways _ _ _ s more
-          (λ date_so date. let (t, is, same) = map_read Datetime (parse_datetime word) s date in subst IsFitting same tt)
-          (λ digits_so digits. number_fits word s digits)))
+word_fits word s h = word_step (bytes_eq word (codes "true")) (bytes_eq word (codes "false")) (looks_like_datetime word) word s h
 
 scalar_read : (text : List ℕ) (s : Scalar) (rest : List ℕ) → unquoted text ≡ gave s rest
     → (word_value (take (word_len text) text) ≡ Some s) × (length rest ≤ length text)
