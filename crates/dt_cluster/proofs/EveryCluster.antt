@@ -1,6 +1,6 @@
 -- Every file is a cluster or has a fault: what each step of the reading comes to is decided, in the order in which faults are told.
 -- That the tables of a document are in order, is what `TomlTables` gives.
-use Rattle.std.proofs.Common.{◌≡◌, ◌⊎◌, inl, inr, ℕ, ◌<◌, ℤ, pos, negsuc, Bool, true, false, Ordering, Less, Equal, Greater, nat_cmp, List, [], ◌∷◌, map, length, ◌≤◌, Option, Some, None, Ok, Err, codes, refl, sym, ap, ◌∙◌, subst, arith}
+use Rattle.std.proofs.Common.{◌≡◌, ◌⊎◌, inl, inr, ℕ, ◌<◌, ℤ, pos, negsuc, Bool, true, false, Ordering, Less, Equal, Greater, nat_cmp, List, [], ◌∷◌, map, length, ◌≤◌, ◌^◌, Option, Some, None, Ok, Err, codes, refl, sym, ap, ◌∙◌, subst, arith}
 use Rattle.std.proofs.lemmas.Option.{none-some, same_Some}
 use Rattle.std.proofs.lemmas.Bool.{false≢true}
 use Rattle.std.proofs.lemmas.Str.{IsUtf8-from_is_utf8, is_utf8-from_IsUtf8}
@@ -23,13 +23,14 @@ use Rattle.dt_proc.specs.Outcome.{Outcome}
 use Rattle.dt_proc.specs.SecondPass.{Checked}
 use Rattle.dt_proc.specs.declared.error.ProcError.TheVariants as refused
 use Rattle.dt_proc.proofs.Callers.{every_text}
-use Rattle.toml.specs.Data.{Data, string, integer, float, boolean, datetime, array, table, Members, no_members, member, get_member}
+use Rattle.toml.specs.Data.{Data, string, integer, float, boolean, datetime, array, table, Members, no_members, member, get_member, as_str}
 use Rattle.toml.specs.Parse.{parse_document}
 use Rattle.dt_cluster.specs.Document.{Entry, IsDocument, entries_of, AreEntries, AreEntriesAt, IsNoTable, IsFirstFaulty}
 use Rattle.dt_cluster.specs.Numbers.{NumberEntry, GivesNumber, IsAtFault, HasNumber, HasBadNumber}
 use Rattle.dt_cluster.specs.Rows.{IsHomeKey, IsHome, IsBadHome, IsRow, IsBadRow}
 use Rattle.dt_cluster.specs.File.{known_names, IsKnown, AreKnown, IsUnknownFault, HasNumbers, number_entries, IsNumberFault, GivesProcs, IsProcsFaultAt, HasProcs}
 use Rattle.dt_cluster.specs.File.{IsProcsFault, HasHomes, IsHomesFault, HasRows, IsRowsFault, IsClusterOf, IsFaultOf, IsCluster, IsClusterFault}
+use Rattle.dt_cluster.specs.ReaderParts.{HasShortProcs}
 use Rattle.dt_cluster.specs.declared.cluster.Cluster.{Cluster}
 use Rattle.dt_cluster.specs.declared.error.ClusterCause.{ClusterCause}
 use Rattle.dt_cluster.specs.declared.error.ClusterCause.TheVariants as cause
@@ -112,7 +113,7 @@ abbrev IsUnknown : Entry → ClusterCause → Type 0
 IsUnknown e c = (c ≡ cause.Unknown) × ¬ (IsKnown e)
 
 known_or : (e : Entry) → IsKnown e ⊎ ((c : ClusterCause) × IsUnknown e c)
-known_or e = by (either_has e.0 known_names (λ name. either_bytes name e.0))
+known_or e = by (either_has known_names e.0 either_bytes)
   where
     by : Either (IsKnown e) → IsKnown e ⊎ ((c : ClusterCause) × IsUnknown e c)
     by (inl known) = inl known
@@ -145,12 +146,12 @@ number_or e None = by e.absent refl
     by (Some n) is = inl (n, is)
 number_or e (Some (integer (pos n))) = by (e.allows n) refl
   where
+    same_natural : (n m : ℕ) → pos n ≡ pos m → n ≡ m
+    same_natural n m e = cc
+
     by : (b : Bool) → e.allows n ≡ b → NumberOr e (Some (integer (pos n)))
     by true is = inl (n, (refl, is))
     by false is = inr (cause.Range, (refl, λ m same. subst (λ k. e.allows k ≡ false) (same_natural n m same) is))
-
-    same_natural : (n m : ℕ) → pos n ≡ pos m → n ≡ m
-    same_natural n m e = cc
 number_or e (Some (integer (negsuc n))) = inr (cause.Range, (refl, λ m same. absurd (not_natural m same)))
   where
     not_natural : (m : ℕ) → negsuc n ≡ pos m → ⊥
@@ -340,3 +341,16 @@ every_file file = by (is_utf8 file) refl (parse_document file) refl
 -- a string that stands at a name of a document is no longer than the document
 pub string_within : (file : Bytes) (top : Members) (k s : Bytes) → IsDocument file top → get_member k top ≡ Some (string s) → length s ≤ length file
 string_within file top k s doc is = member_in_order (length file) k top (string s) (document_ordered file top doc.1) is
+
+-- the text at `procs` of a short document is short
+pub short_procs : (file : Bytes) (top : Members) → IsDocument file top → length file < 2 ^ 32 → HasShortProcs top
+short_procs file top doc short = λ text is. omega (arith, short, string_within file top (codes "procs") text doc is)
+
+pub as_str_is : (d : Data) (s : Bytes) → as_str d ≡ Some s → d ≡ string s
+as_str_is (string t) s e = ap string (same_Some t s e)
+as_str_is (integer z) s e = absurd (none-some s e)
+as_str_is (float x) s e = absurd (none-some s e)
+as_str_is (boolean b) s e = absurd (none-some s e)
+as_str_is (datetime t) s e = absurd (none-some s e)
+as_str_is (array ds) s e = absurd (none-some s e)
+as_str_is (table ms) s e = absurd (none-some s e)

@@ -1,5 +1,5 @@
 -- Words of lines and the forms that they say.
-use Rattle.std.proofs.Common.{◌≡◌, ◌≢◌, ℕ, zero, suc, ◌<◌, ◌≤◌, ◌^◌, Bool, true, false, not, cond, nat_eq, List, [], ◌∷◌, length, map, get_or, Option, Some}
+use Rattle.std.proofs.Common.{◌≡◌, ◌≢◌, ℕ, zero, suc, ◌<◌, ◌≤◌, ◌^◌, Bool, true, false, not, cond, nat_eq, List, [], ◌∷◌, length, map, drop, get_or, Option, Some}
 use Rattle.std.proofs.Common.{None, MatchOption, inl, inr, ◌++◌, refl, ap, sym, ◌∙◌, subst, arith}
 use Rattle.std.specs.Cmp.Lexicographic.{pointwise, bytes_decides}
 use Rattle.std.specs.Fmt.{decimal}
@@ -13,7 +13,7 @@ use Rattle.dt_text.specs.declared.Word.{Word}
 use Rattle.dt_text.specs.declared.Value.{Value}
 use Rattle.dt_text.proofs.Callers.{exact}
 use Rattle.dt_text.specs.Texts.{Bytes}
-use Rattle.dt_workload.specs.Lines.{Said, bare, said, Form, session_line, call_line, move_line, IsForm, IsRanked, SpellForm, HasForm, IsArgument, argument_word}
+use Rattle.dt_workload.specs.Lines.{Said, bare, said, Form, session_line, call_line, move_line, IsForm, IsRanked, IsFirstWord, SpellForm, HasForm, IsArgument, argument_word}
 use Rattle.dt_workload.proofs.OneForm.{after_front, session_or_call, session_or_move, call_or_move}
 use Rattle.std.specs.Prelude.{codes}
 use Rattle.dt_workload.specs.ReaderParts.{IsNoBeginning, ReadsForm, ReadsRegion, Refuses, form_of}
@@ -104,6 +104,37 @@ no_session cluster before name word region (Cause told) same is fault =
 no_session cluster before name word region NoMemory same is fault = tt
 
 -- ---- forms by the word that begins a line
+
+-- fewer than two words spell no form
+pub few_words : (words : List Said) → length words < 2 → (f : Form) → IsForm f → ¬ SpellForm f words
+few_words [] few f fits (head, is, e) = cc
+few_words (s ∷ []) few (session_line name region) fits (head, is, e) = let none = same_tail e in cc
+few_words (s ∷ []) few (move_line rank key region) fits (head, is, e) = let none = same_tail e in cc
+few_words (s ∷ []) few (call_line rank proc args) fits (head, is, e) = let none = same_tail e in cc
+few_words (s ∷ t ∷ words) few f fits spelled = absurd (omega (arith, few))
+
+-- the word that begins a form is bare
+first_is_bare : (f : Form) (head : Said) → IsFirstWord f head → (bs : Bytes) × (head ≡ bare bs)
+first_is_bare (session_line name region) head is = (codes "session", is)
+first_is_bare (call_line rank proc args) head (inl is) = (codes "call", is.1)
+first_is_bare (call_line rank proc args) head (inr is) = (codes "call" ++ 47 ∷ decimal rank, is)
+first_is_bare (move_line rank key region) head (inl is) = (codes "move", is.1)
+first_is_bare (move_line rank key region) head (inr is) = (codes "move" ++ 47 ∷ decimal rank, is)
+
+-- words of which the first, or the second, is a text spell no form
+pub no_first_word : (s : Said) (words : List Said) → ((bytes : Bytes) → s ≢ bare bytes) → (f : Form) → IsForm f → ¬ SpellForm f (s ∷ words)
+no_first_word s words none f fits (head, is, e) = let b = first_is_bare f head is in none b.0 (same_head e ∙ b.1)
+
+pub no_second_word : (s t : Said) (words : List Said) → ((bytes : Bytes) → t ≢ bare bytes) → (f : Form) → IsForm f → ¬ SpellForm f (s ∷ t ∷ words)
+no_second_word s t words none (session_line name region) fits (head, is, e) = none name (same_head (same_tail e))
+no_second_word s t words none (call_line rank proc args) fits (head, is, e) = none proc (same_head (same_tail e))
+no_second_word s t words none (move_line rank key region) fits (head, is, e) = none key (same_head (same_tail e))
+
+-- a list of two items at least, by its first two and the others
+pub two_and_others : {A : Type 0} (xs rest : List A) (a b : A) → 2 ≤ length xs → a ≡ get_or xs 0 a → b ≡ get_or xs 1 b → rest ≡ drop 2 xs → xs ≡ a ∷ b ∷ rest
+two_and_others [] rest a b some is is' others = absurd (omega (arith, some))
+two_and_others (x ∷ []) rest a b some is is' others = absurd (omega (arith, some))
+two_and_others (x ∷ y ∷ xs) rest a b some is is' others = rw (is, is', others) refl
 
 -- a session's line has a form only where a region is said
 pub no_session_form : (subject : Bytes) (rest : List Said) → ((n : ℕ) → n < 2 ^ 32 → rest ≢ bare (codes "at") ∷ bare (decimal n) ∷ [])
