@@ -1,6 +1,7 @@
 -- Every file is a cluster or has a fault: what each step of the reading comes to is decided, in the order in which faults are told.
 -- That the tables of a document are in order, is what `TomlTables` gives.
-use Rattle.std.proofs.Common.{◌≡◌, ◌⊎◌, inl, inr, ℕ, ◌<◌, ℤ, pos, negsuc, Bool, true, false, Ordering, Less, Equal, Greater, nat_cmp, List, [], ◌∷◌, map, length, ◌≤◌, ◌^◌, Option, Some, None, Ok, Err, codes, refl, sym, ap, ◌∙◌, subst, arith}
+use Rattle.std.proofs.Common.{◌≡◌, ◌⊎◌, inl, inr, ℕ, ◌<◌, ℤ, pos, negsuc, Bool, true, false, Ordering, Less, Equal, Greater, nat_cmp, List, [], ◌∷◌}
+use Rattle.std.proofs.Common.{map, length, ◌≤◌, ◌^◌, Option, Some, None, Ok, Err, codes, refl, sym, ap, ◌∙◌, subst, arith}
 use Rattle.std.proofs.lemmas.Option.{none-some, same_Some}
 use Rattle.std.proofs.lemmas.Bool.{false≢true}
 use Rattle.std.proofs.lemmas.Str.{IsUtf8-from_is_utf8, is_utf8-from_IsUtf8}
@@ -247,7 +248,7 @@ homes_or n version regions top order = by (listed_at n (get_member (codes "homes
     by (inl none) = inr (record { place = place.Entry (codes "homes"); cause = cause.Kind }, inl (none, refl))
     by (inr (entries, are, each)) =
         judged entries are (judge (λ (e : Entry). e.0) (λ e. Unit {0}) (λ e. (h : Bytes × ℕ) × IsHome version regions e h) (IsBadHome version regions)
-            (λ e known. home_or version regions e) entries (all_items entries))
+        (λ e known. home_or version regions e) entries (all_items entries))
 
 -- ---- rows
 
@@ -302,17 +303,20 @@ last_steps top known numbers (inl procs) (inr (fault, is)) rows =
 last_steps top known numbers (inl procs) (inl homes) (inr (fault, is)) =
     inr (fault, inr (known, inr (numbers.0, numbers.1, numbers.2, numbers.3, numbers.4, numbers.5, numbers.6, inr (procs, inr (homes, is)))))
 last_steps top known numbers (inl procs) (inl homes) (inl rows) =
-    inl (record {
-      version = numbers.1;
-      regions = numbers.0;
-      workers = numbers.2;
-      tries = numbers.3;
-      drop = numbers.4;
-      repeat = numbers.5;
-      procs = procs.0;
-      homes = homes.0;
-      rows = rows.0;
-    }, record { known = known; numbers = numbers.6; procs = procs.1; homes = homes.1; rows = rows.1 })
+    inl (
+      record {
+        version = numbers.1;
+        regions = numbers.0;
+        workers = numbers.2;
+        tries = numbers.3;
+        drop = numbers.4;
+        repeat = numbers.5;
+        procs = procs.0;
+        homes = homes.0;
+        rows = rows.0;
+      },
+      record { known = known; numbers = numbers.6; procs = procs.1; homes = homes.1; rows = rows.1 },
+    )
 
 every_document : (n : ℕ) (top : Members) → AreInOrder n top → ClusterOr top
 every_document n top order = by (names_or n top order) (numbers_or top)

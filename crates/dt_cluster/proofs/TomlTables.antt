@@ -1,7 +1,8 @@
 -- The tables of a document of TOML: the names of each ascend, also of those inside, its integers have 64 bits, and no string in
 -- it is longer than the document. One induction over the grammar of the crate `toml`: of its values, of the nodes that its
 -- lines build, and of its lines. What stands in arrays is left out: no cluster has any.
-use Rattle.std.proofs.Common.{◌≡◌, ◌⊎◌, inl, inr, ℕ, zero, suc, ◌≤◌, ◌==◌, ◌&&◌, ℤ, Bool, true, false, Ordering, Less, Equal, Greater, nat_cmp, is_eq, List, [], ◌∷◌, ◌++◌, length, drop, Option, Some, None, FitsSigned, refl, sym, ap, ◌∙◌, subst, arith}
+use Rattle.std.proofs.Common.{◌≡◌, ◌⊎◌, inl, inr, ℕ, zero, suc, ◌≤◌, ◌==◌, ◌&&◌, ℤ, Bool, true, false, Ordering, Less, Equal, Greater, nat_cmp, is_eq}
+use Rattle.std.proofs.Common.{List, [], ◌∷◌, ◌++◌, length, drop, Option, Some, None, FitsSigned, refl, sym, ap, ◌∙◌, subst, arith}
 use Rattle.std.proofs.lemmas.Bool.{and_parts, cases_Bool}
 use Rattle.std.proofs.lemmas.Cmp.{nat_list_cmp_total}
 use Rattle.std.proofs.lemmas.Option.{none-some, same_Some}
@@ -15,7 +16,9 @@ use Rattle.toml_parser.specs.Numbers.{unquoted}
 use Rattle.toml_parser.specs.declared.scalar.Scalar.{Scalar}
 use Rattle.toml_parser.specs.declared.scalar.Scalar.TheVariants.{Boolean, Integer, Float, Datetime}
 use Rattle.toml.specs.Data.{Data, string, integer, float, boolean, datetime, array, table, Items, no_items, Members, no_members, member, push_item, same_key}
-use Rattle.toml.specs.Tables.{Definition, Document, Edit, Expression, Node, Nodes, Origin, along_dots, along_header, array_table, at_found, at_key, by_dot, by_header, close, close_node, define, define_as, dot_node, dotted, get_node, header, header_node, implicit, insert, key_value, new_node, no_nodes, node, open_array, open_table, put, redefine, replace, std_table, value}
+use Rattle.toml.specs.Tables.{Definition, Document, Edit, Expression, Node, Nodes, Origin, along_dots, along_header, array_table, at_found, at_key}
+use Rattle.toml.specs.Tables.{by_dot, by_header, close, close_node, define, define_as, dot_node, dotted, get_node, header, header_node, implicit}
+use Rattle.toml.specs.Tables.{insert, key_value, new_node, no_nodes, node, open_array, open_table, put, redefine, replace, std_table, value}
 use Rattle.toml.specs.Parse.{after_byte, after_element, atom, ends_line, expression, header_key, items, key_equals, keyval, line, lines, members, parse_document, read_map, scalar_data, skip_bom, val}
 use Rattle.toml.proofs.Blanks.{skip_within}
 use Rattle.dt_cluster.proofs.TomlTexts.{changed_read, drop_within, by_ways, gave, integer_read, key_read, map_read, one_way, quoted_read, same_read, skip_ws_within, then_read, unquoted_within}
@@ -114,8 +117,8 @@ found_ordered : (n : ℕ) (k : List ℕ) (ns : Nodes) (x : Node) → AreNodesInO
 found_ordered n k no_nodes x h e = absurd (none-some x e)
 found_ordered n k (node l y ns) x h e =
     by_ways (same_key k l) (Some y) (get_node k ns) x e
-      (λ here_so here. subst (IsNodeInOrder n) (same_Some y x here) h.1)
-      (λ later_so later. found_ordered n k ns x h.2 later)
+    (λ here_so here. subst (IsNodeInOrder n) (same_Some y x here) h.1)
+    (λ later_so later. found_ordered n k ns x h.2 later)
 
 -- an edit that keeps order
 abbrev KeepsOrder : ℕ → Edit → Type 0
@@ -240,8 +243,8 @@ unfolding after_element
 after_element_within closing text rest h =
     let start = skip_blank text in
     by_ways (first start == 44) (Some (drop 1 start)) (if first start == closing then Some start else None) rest h
-      (λ more_so more. omega (arith, ap length (same_Some (drop 1 start) rest more), drop_within 1 start, skip_within text))
-      (λ last_so last. omega (arith, ap length (same_Some start rest (one_way (first start == closing) (Some start) rest last).1), skip_within text))
+    (λ more_so more. omega (arith, ap length (same_Some (drop 1 start) rest more), drop_within 1 start, skip_within text))
+    (λ last_so last. omega (arith, ap length (same_Some start rest (one_way (first start == closing) (Some start) rest last).1), skip_within text))
 
 key_equals_within : (text : List ℕ) (k : Key) (rest : List ℕ) → key_equals text ≡ gave k rest → length rest ≤ length text
 unfolding key_equals
@@ -264,13 +267,13 @@ atom_ordered : (n : ℕ) → ReadsOrder n atom
 unfolding atom
 atom_ordered n text d rest within h =
     by_ways _ _ _ (d, rest) h
-      (λ quote_so quote.
-          let (bytes, read, is) = changed_read string (quoted text) d rest quote in
-          let short = quoted_read text bytes rest quote_so read in
-          (subst (InOrder n) is (omega (arith, short, within)), omega (arith, short, within)))
-      (λ other_so other.
-          let (s, read, is) = changed_read scalar_data (unquoted text) d rest other in
-          (subst (InOrder n) is (scalar_ordered n text s rest read), omega (arith, within, unquoted_within text s rest read)))
+    (λ quote_so quote.
+    let (bytes, read, is) = changed_read string (quoted text) d rest quote in
+    let short = quoted_read text bytes rest quote_so read in
+    (subst (InOrder n) is (omega (arith, short, within)), omega (arith, short, within)))
+    (λ other_so other.
+    let (s, read, is) = changed_read scalar_data (unquoted text) d rest other in
+    (subst (InOrder n) is (scalar_ordered n text s rest read), omega (arith, within, unquoted_within text s rest read)))
 
 items_within : (n : ℕ) (read : List ℕ → Read Data) → ReadsOrder n read → (m : ℕ) (found : Items) (text : List ℕ) (ds : Items) (rest : List ℕ) → length text ≤ n
     → items read m found text ≡ gave ds rest → length rest ≤ n
@@ -280,12 +283,12 @@ items_within n read reads (suc m) found text ds rest within h =
     let start = skip_blank text in
     let more_items = option_and_then (λ v. option_and_then (items read m (push_item found v.0)) (after_element 93 v.1)) (read start) in
     by_ways (first start == 93) (gave found (drop 1 start)) more_items (ds, rest) h
-      (λ end_so end. omega (arith, ap length (same_read found ds (drop 1 start) rest end).1, drop_within 1 start, skip_within text, within))
-      (λ more_so more.
-          let (v, is, goes) = then_read _ (read start) (ds, rest) more in
-          let (after, ends, later) = then_read _ (after_element 93 v.1) (ds, rest) goes in
-          let left = (reads start v.0 v.1 (omega (arith, skip_within text, within)) is).1 in
-          items_within n read reads m (push_item found v.0) after ds rest (omega (arith, left, after_element_within 93 v.1 after ends)) later)
+    (λ end_so end. omega (arith, ap length (same_read found ds (drop 1 start) rest end).1, drop_within 1 start, skip_within text, within))
+    (λ more_so more.
+    let (v, is, goes) = then_read _ (read start) (ds, rest) more in
+    let (after, ends, later) = then_read _ (after_element 93 v.1) (ds, rest) goes in
+    let left = (reads start v.0 v.1 (omega (arith, skip_within text, within)) is).1 in
+    items_within n read reads m (push_item found v.0) after ds rest (omega (arith, left, after_element_within 93 v.1 after ends)) later)
 
 keyval_ordered : (n : ℕ) (read : List ℕ → Read Data) → ReadsOrder n read → (text : List ℕ) (pair : Key × Data) (rest : List ℕ) → length text ≤ n
     → keyval read text ≡ gave pair rest → InOrder n pair.1 × (length rest ≤ n)
@@ -303,20 +306,20 @@ members_ordered n read reads (suc m) found text ms rest within order h =
     let start = skip_blank text in
     let more_members = option_and_then (λ e. option_and_then (λ with. option_and_then (members read m with) (after_element 125 e.1)) (put e.0.0 e.0.1 found)) (keyval read start) in
     by_ways (first start == 125) (gave (close found) (drop 1 start)) more_members (ms, rest) h
-      (λ end_so end.
-          let is = same_read (close found) ms (drop 1 start) rest end in
-          (subst (AreInOrder n) is.0 (close_ordered n found order), omega (arith, ap length is.1, drop_within 1 start, skip_within text, within)))
-      (λ more_so more.
-          let (e, is, goes) = then_read _ (keyval read start) (ms, rest) more in
-          let (with, made, on) = then_read _ (put e.0.0 e.0.1 found) (ms, rest) goes in
-          let (after, ends, later) = then_read _ (after_element 125 e.1) (ms, rest) on in
-          let got = keyval_ordered n read reads start e.0 e.1 (omega (arith, skip_within text, within)) is in
-          let left = after_element_within 125 e.1 after ends in
-          members_ordered n read reads m with after ms rest (omega (arith, got.1, left)) (put_ordered n e.0.0 e.0.1 got.0 found with order made) later)
+    (λ end_so end.
+    let is = same_read (close found) ms (drop 1 start) rest end in
+    (subst (AreInOrder n) is.0 (close_ordered n found order), omega (arith, ap length is.1, drop_within 1 start, skip_within text, within)))
+    (λ more_so more.
+    let (e, is, goes) = then_read _ (keyval read start) (ms, rest) more in
+    let (with, made, on) = then_read _ (put e.0.0 e.0.1 found) (ms, rest) goes in
+    let (after, ends, later) = then_read _ (after_element 125 e.1) (ms, rest) on in
+    let got = keyval_ordered n read reads start e.0 e.1 (omega (arith, skip_within text, within)) is in
+    let left = after_element_within 125 e.1 after ends in
+    members_ordered n read reads m with after ms rest (omega (arith, got.1, left)) (put_ordered n e.0.0 e.0.1 got.0 found with order made) later)
 
 val_step : (n depth : ℕ) → ReadsOrder n (val depth) → (bracket brace : Bool) (text : List ℕ) (d : Data) (rest : List ℕ) → length text ≤ n
     → (if bracket then read_map array (items (val depth) (length text) no_items (drop 1 text))
-        else if brace then read_map table (members (val depth) (length text) no_nodes (drop 1 text)) else atom text) ≡ gave d rest
+    else if brace then read_map table (members (val depth) (length text) no_nodes (drop 1 text)) else atom text) ≡ gave d rest
     → InOrder n d × (length rest ≤ n)
 val_step n depth reads true brace text d rest within h =
     let (ds, read, is) = changed_read array (items (val depth) (length text) no_items (drop 1 text)) d rest h in
@@ -349,8 +352,8 @@ before_rest e rest = (e, rest)
 
 expression_step : (n : ℕ) (doubled headed : Bool) (text : List ℕ) (e : Expression) (rest : List ℕ) → length text ≤ n
     → (if doubled then option_and_then (λ k. option_map (before_rest (expressed k.0 array_table)) (after_byte 93 k.1)) (header_key (drop 2 text))
-        else if headed then read_map (λ (k : Key). expressed k std_table) (header_key (drop 1 text))
-        else read_map (λ (p : Key × Data). expressed p.0 (key_value p.1)) (keyval (val recursion_limit) text)) ≡ gave e rest
+    else if headed then read_map (λ (k : Key). expressed k std_table) (header_key (drop 1 text))
+    else read_map (λ (p : Key × Data). expressed p.0 (key_value p.1)) (keyval (val recursion_limit) text)) ≡ gave e rest
     → IsDefinitionInOrder n e.1 × (length rest ≤ n)
 expression_step n true headed text e rest within h =
     let (k, read, more) = then_read _ (header_key (drop 2 text)) (e, rest) h in
@@ -386,12 +389,12 @@ lines_ordered n (suc m) doc text last within order h =
     let start = skip_blank text in
     let more_lines = option_and_then (λ e. option_and_then (λ next. lines m next e.1) (define doc e.0)) (line start) in
     by_ways (length start == 0) (Some doc) more_lines last h
-      (λ end_so end. subst (λ (d : Document). AreNodesInOrder n d.0) (same_Some doc last end) order)
-      (λ more_so more.
-          let (e, read, goes) = then_read _ (line start) last more in
-          let (next, made, later) = then_read _ (define doc e.0) last goes in
-          let got = line_ordered n start e.0 e.1 (omega (arith, skip_within text, within)) read in
-          lines_ordered n m next e.1 last got.1 (define_ordered n doc e.0 next order got.0 made) later)
+    (λ end_so end. subst (λ (d : Document). AreNodesInOrder n d.0) (same_Some doc last end) order)
+    (λ more_so more.
+    let (e, read, goes) = then_read _ (line start) last more in
+    let (next, made, later) = then_read _ (define doc e.0) last goes in
+    let got = line_ordered n start e.0 e.1 (omega (arith, skip_within text, within)) read in
+    lines_ordered n m next e.1 last got.1 (define_ordered n doc e.0 next order got.0 made) later)
 
 skip_bom_within : (text : List ℕ) → length (skip_bom text) ≤ length text
 unfolding skip_bom
@@ -407,4 +410,4 @@ unfolding parse_document
 document_ordered text top h =
     let (doc, read, is) = map_read _ (lines (suc (length text)) (no_nodes, []) (skip_bom text)) top h in
     subst (AreInOrder (length text)) is
-        (close_ordered (length text) doc.0 (lines_ordered (length text) (suc (length text)) (no_nodes, []) (skip_bom text) doc (skip_bom_within text) tt read))
+    (close_ordered (length text) doc.0 (lines_ordered (length text) (suc (length text)) (no_nodes, []) (skip_bom text) doc (skip_bom_within text) tt read))

@@ -1,6 +1,8 @@
 -- The texts and the numbers of a document of TOML: what is read of a string is no longer than what it is read from, an integer
 -- has 64 bits, and what follows is no longer than what was there. `TomlTables` goes on with tables.
-use Rattle.std.proofs.Common.{◌≡◌, ◌⊎◌, inl, inr, ℕ, zero, suc, ◌+◌, ◌<◌, ◌≤◌, ◌^◌, ◌==◌, ◌&&◌, ◌||◌, not, ℤ, pos, neg_ℤ, cond, unwrap_or, Bool, true, false, nat_lt, nat_le, List, [], ◌∷◌, ◌++◌, length, take, drop, codes, Option, Some, None, is_some, FitsSigned, refl, sym, ap, ◌∙◌, subst, arith}
+use Rattle.std.proofs.Common.{◌≡◌, ◌⊎◌, inl, inr, ℕ, zero, suc, ◌+◌, ◌<◌, ◌≤◌, ◌^◌, ◌==◌, ◌&&◌, ◌||◌, not, ℤ, pos, neg_ℤ, cond, unwrap_or, Bool, true}
+use Rattle.std.proofs.Common.{false, nat_lt, nat_le, List, [], ◌∷◌, ◌++◌, length, take, drop, codes, Option, Some, None, is_some, FitsSigned, refl}
+use Rattle.std.proofs.Common.{sym, ap, ◌∙◌, subst, arith}
 use Rattle.std.proofs.lemmas.Bool.{and_parts, cases_Bool, false≢true}
 use Rattle.std.proofs.lemmas.Bool.Decides.{nat_tests}
 use Rattle.std.proofs.lemmas.List.{length-append, length-drop}
@@ -15,7 +17,9 @@ use Rattle.std.specs.Char.{is_digit}
 use Rattle.std.specs.Str.Parse.{digits_value}
 use Rattle.fast_float.specs.Text.{Parts, with_sign, scan, digits_of}
 use Rattle.toml_parser.specs.Lexical.{Read, dot, first, is_bare, is_non_eol, skip_ws, skip_from, skip_lines, skip_turn, split_while, starts_newline}
-use Rattle.toml_parser.specs.Strings.{Key, after_piece, at_delims, body, escape, escape_char, hex_escape, hex_len, is_plain, is_scalar, key, key_after, one_line, prepend, quoted, recursion_limit, simple_escape, simple_key, special, starts_string, trim_newline}
+use Rattle.toml_parser.specs.Strings.{Key, after_piece, at_delims, body, escape, escape_char, hex_escape, hex_len, is_plain, is_scalar, key}
+use Rattle.toml_parser.specs.Strings.{key_after, one_line, prepend, quoted, recursion_limit, simple_escape, simple_key, special, starts_string}
+use Rattle.toml_parser.specs.Strings.{trim_newline}
 use Rattle.toml_parser.specs.Numbers.{decimal_number, float_of, integer_of, is_decimal, looks_like_datetime, number, plain_number, prefixed_integer, radix_of, unquoted, word_len, word_value}
 use Rattle.toml.specs.Parse.{read_map}
 use Rattle.toml_datetime.specs.Parse.{parse_datetime}
@@ -113,8 +117,8 @@ escape_char_read : (text : List ℕ) (c : ℕ) (rest : List ℕ) → escape_char
 unfolding escape_char
 escape_char_read text c rest h =
     by_ways _ _ _ (c, rest) h
-      (λ hex_so hex. hex_char_read text c rest hex_so hex)
-      (λ simple_so simple. letter_read text c rest simple)
+    (λ hex_so hex. hex_char_read text c rest hex_so hex)
+    (λ simple_so simple. letter_read text c rest simple)
 
 skip_within : (comments inside : Bool) (text : List ℕ) → length (skip_from comments inside text) ≤ length text
 unfolding skip_from
@@ -136,10 +140,10 @@ escape_read : (multi : Bool) (text bytes rest : List ℕ) → escape multi text 
 unfolding escape
 escape_read multi text bytes rest h =
     by_ways _ _ _ (bytes, rest) h
-      (λ cut_so cut. cut_read text bytes rest cut)
-      (λ char_so char.
-          let (c, is, same) = changed_read encode_utf8 (escape_char text) bytes rest char in
-          omega (arith, ap length same, escape_char_read text c rest is))
+    (λ cut_so cut. cut_read text bytes rest cut)
+    (λ char_so char.
+    let (c, is, same) = changed_read encode_utf8 (escape_char text) bytes rest char in
+    omega (arith, ap length same, escape_char_read text c rest is))
 
 -- a piece of a string: the bytes that it stands for, or none where it is the end
 abbrev Piece : Type 0
@@ -172,8 +176,8 @@ delims_read delim text piece rest some h =
     let count = prefix_len (λ c. c == delim) text in
     let one = gave (one_piece (delim ∷ [])) (drop 1 text) in
     by_ways (count == 3) (gave no_piece (drop 3 text)) (if nat_lt count 6 then one else None) (piece, rest) h
-      (λ end_so end. ends_read 3 text piece rest end)
-      (λ one_so more. byte_read delim text piece rest some (one_way (nat_lt count 6) one (piece, rest) more).1)
+    (λ end_so end. ends_read 3 text piece rest end)
+    (λ one_so more. byte_read delim text piece rest some (one_way (nat_lt count 6) one (piece, rest) more).1)
 
 -- a byte that is not plain, or an escape, or the end
 byte_there : (b : ℕ) (text : List ℕ) → (first text == b) ≡ true → ¬ (b ≡ 0) → 0 < length text
@@ -194,14 +198,14 @@ special_read : (delim : ℕ) (multi : Bool) (text : List ℕ) (piece : Piece) (r
 unfolding special
 special_read delim multi text piece rest some h =
     by_ways _ _ _ (piece, rest) h
-      (λ end_so end. by_ways _ _ _ (piece, rest) end
-        (λ several_so several. delims_read delim text piece rest (byte_there delim text end_so some) several)
-        (λ one_so one. ends_read 1 text piece rest one))
-      (λ other_so other. by_ways _ _ _ (piece, rest) other
-        (λ escaped_so escaped. escaped_read multi text piece rest escaped_so escaped)
-        (λ line_so line.
-            let taken = one_way _ _ (piece, rest) line in
-            byte_read (first text) text piece rest (newline_there text (and_parts _ _ taken.0).1) taken.1))
+    (λ end_so end. by_ways _ _ _ (piece, rest) end
+    (λ several_so several. delims_read delim text piece rest (byte_there delim text end_so some) several)
+    (λ one_so one. ends_read 1 text piece rest one))
+    (λ other_so other. by_ways _ _ _ (piece, rest) other
+    (λ escaped_so escaped. escaped_read multi text piece rest escaped_so escaped)
+    (λ line_so line.
+    let taken = one_way _ _ (piece, rest) line in
+    byte_read (first text) text piece rest (newline_there text (and_parts _ _ taken.0).1) taken.1))
 
 -- a plain byte is one
 plain_first : (delim : ℕ) (multi : Bool) (text : List ℕ) → is_plain delim multi (first text) ≡ true → 0 < length text
@@ -242,10 +246,10 @@ body_read delim multi zero some text bytes rest h = absurd (none-some _ h)
 body_read delim multi (suc n) some text bytes rest h =
     let more = body_read delim multi n some in
     by_ways _ _ _ (bytes, rest) h
-      (λ plain_so plain. plain_read (body delim multi n) more text bytes rest (plain_first delim multi text plain_so) plain)
-      (λ other_so other.
-          let (p, read, after) = then_read _ (special delim multi text) (bytes, rest) other in
-          omega (arith, special_read delim multi text p.0 p.1 some read, piece_read (body delim multi n) more p.0 p.1 bytes rest after))
+    (λ plain_so plain. plain_read (body delim multi n) more text bytes rest (plain_first delim multi text plain_so) plain)
+    (λ other_so other.
+    let (p, read, after) = then_read _ (special delim multi text) (bytes, rest) other in
+    omega (arith, special_read delim multi text p.0 p.1 some read, piece_read (body delim multi n) more p.0 p.1 bytes rest after))
 
 starts_so : (text : List ℕ) → starts_string text ≡ true → ¬ (first text ≡ 0)
 starts_so text h e = grind (arith, nat_tests)
@@ -268,10 +272,10 @@ pub quoted_read : (text bytes rest : List ℕ) → starts_string text ≡ true �
 unfolding quoted
 quoted_read text bytes rest starts h =
     by_ways _ _ _ (bytes, rest) h
-      (λ several_so several.
-          let read = body_read (first text) true (length text) (starts_so text starts) (trim_newline (drop 3 text)) bytes rest several in
-          omega (arith, drop_within 3 text, trim_within (drop 3 text), read))
-      (λ one_so one. one_line_read text bytes rest starts one)
+    (λ several_so several.
+    let read = body_read (first text) true (length text) (starts_so text starts) (trim_newline (drop 3 text)) bytes rest several in
+    omega (arith, drop_within 3 text, trim_within (drop 3 text), read))
+    (λ one_so one. one_line_read text bytes rest starts one)
 
 -- ---- keys
 
@@ -283,10 +287,10 @@ simple_key_read : (text part rest : List ℕ) → simple_key text ≡ gave part 
 unfolding simple_key
 simple_key_read text part rest h =
     by_ways _ _ _ (part, rest) h
-      (λ string_so string. omega (arith, one_line_read text part rest string_so string))
-      (λ bare_so bare.
-          let is = same_read (take (prefix_len is_bare text) text) part (drop (prefix_len is_bare text) text) rest (one_way _ _ (part, rest) bare).1 in
-          omega (arith, ap length is.1, drop_within (prefix_len is_bare text) text))
+    (λ string_so string. omega (arith, one_line_read text part rest string_so string))
+    (λ bare_so bare.
+    let is = same_read (take (prefix_len is_bare text) text) part (drop (prefix_len is_bare text) text) rest (one_way _ _ (part, rest) bare).1 in
+    omega (arith, ap length is.1, drop_within (prefix_len is_bare text) text))
 
 key_after_read : (n : ℕ) (path : List (List ℕ)) (text : List ℕ) (found : Key) (rest : List ℕ) → key_after n path text ≡ gave found rest → length rest ≤ length text
 unfolding key_after
@@ -296,10 +300,10 @@ key_after_read (suc n) path text found rest h =
     let left = skip_ws part.1 in
     let within : length left ≤ length text = omega (arith, skip_ws_within part.1, simple_key_read text part.0 part.1 is) in
     by_ways _ _ _ (found, rest) more
-      (λ dotted_so dotted.
-          let next = key_after_read n (path ++ part.0 ∷ []) (skip_ws (drop 1 left)) found rest dotted in
-          omega (arith, within, drop_within 1 left, skip_ws_within (drop 1 left), next))
-      (λ last_so last. omega (arith, within, ap length (same_read (path, part.0) found left rest last).1))
+    (λ dotted_so dotted.
+    let next = key_after_read n (path ++ part.0 ∷ []) (skip_ws (drop 1 left)) found rest dotted in
+    omega (arith, within, drop_within 1 left, skip_ws_within (drop 1 left), next))
+    (λ last_so last. omega (arith, within, ap length (same_read (path, part.0) found left rest last).1))
 
 pub key_read : (text : List ℕ) (found : Key) (rest : List ℕ) → key text ≡ gave found rest → length rest ≤ length text
 key_read text found rest h = key_after_read recursion_limit [] text found rest h
@@ -343,7 +347,7 @@ float_fits negative p s h = subst IsFitting (same_Some _ s (one_way _ _ s h).1) 
 
 decimal_step : (negative infinite none bad point : Bool) (p : Parts) (s : Scalar)
     → (if infinite then Some (Float (inf negative)) else if none then Some (Float nan) else if bad then None
-        else if point then float_of negative p else integer_of negative (digits_of p)) ≡ Some s
+    else if point then float_of negative p else integer_of negative (digits_of p)) ≡ Some s
     → IsFitting s
 decimal_step negative true none bad point p s h = subst IsFitting (same_Some (Float (inf negative)) s h) tt
 decimal_step negative false true bad point p s h = subst IsFitting (same_Some (Float nan) s h) tt
@@ -359,7 +363,7 @@ decimal_fits negative word s h =
 
 plain_step : (prefixed minus plus : Bool) (radix : ℕ) (word : List ℕ) (s : Scalar)
     → (if prefixed then prefixed_integer radix (drop 2 word) else if minus then decimal_number true (drop 1 word)
-        else if plus then decimal_number false (drop 1 word) else decimal_number false word) ≡ Some s
+    else if plus then decimal_number false (drop 1 word) else decimal_number false word) ≡ Some s
     → IsFitting s
 plain_step true minus plus radix word s h = prefixed_fits radix (drop 2 word) s h
 plain_step false true plus radix word s h = decimal_fits true (drop 1 word) s h
@@ -391,8 +395,8 @@ scalar_read : (text : List ℕ) (s : Scalar) (rest : List ℕ) → unquoted text
 unfolding unquoted
 scalar_read text s rest h =
     by_ways _ _ _ (s, rest) h
-      (λ none_so none. absurd (none-some _ none))
-      (λ some_so some. split (word_value (take (word_len text) text)) some)
+    (λ none_so none. absurd (none-some _ none))
+    (λ some_so some. split (word_value (take (word_len text) text)) some)
   where
     split : (o : Option Scalar) → option_map (λ d. scalar_pair d (drop (word_len text) text)) o ≡ gave s rest → (o ≡ Some s) × (length rest ≤ length text)
     split None h = absurd (none-some _ h)
