@@ -1,6 +1,7 @@
 -- Words of lines and the forms that they say.
-use Rattle.std.proofs.Common.{◌≡◌, ◌≢◌, ℕ, zero, suc, ◌<◌, ◌≤◌, ◌^◌, Bool, true, false, not, cond, nat_eq, List, [], ◌∷◌, length, map, drop, get_or, Option, Some}
+use Rattle.std.proofs.Common.{◌≡◌, ◌≢◌, ℕ, zero, suc, ◌<◌, ◌≤◌, ◌^◌, Bool, true, false, not, cond, nat_eq, List, [], ◌∷◌, length, map, take, drop, get_or, Option, Some}
 use Rattle.std.proofs.Common.{None, MatchOption, inl, inr, ◌++◌, refl, ap, sym, ◌∙◌, subst, arith}
+use Rattle.std.proofs.lemmas.Bool.{false≢true}
 use Rattle.std.specs.Cmp.Lexicographic.{pointwise, bytes_decides}
 use Rattle.std.specs.Fmt.{decimal}
 use Rattle.dt_lists.proofs.Callers.{same_head, same_tail}
@@ -175,3 +176,40 @@ pub no_digit : (kind word digits : Bytes) → ¬ (word ≡ kind) → word ≡ ki
     → (rank : ℕ) → rank < 10 → ¬ IsRanked kind rank (bare word)
 no_digit kind word digits other cut none rank low (inl h) = other (bare-is h.1)
 no_digit kind word digits other cut none rank low (inr h) = none rank low (same_tail (after_front kind (47 ∷ digits) (47 ∷ decimal rank) (sym cut ∙ bare-is h)))
+
+-- ---- the front of a word
+
+front_taken : (front rest : Bytes) → take (length front) (front ++ rest) ≡ front
+front_taken [] rest = refl
+front_taken (b ∷ front) rest = ap (λ bs. b ∷ bs) (front_taken front rest)
+
+front_dropped : (front rest : Bytes) → drop (length front) (front ++ rest) ≡ rest
+front_dropped [] rest = refl
+front_dropped (b ∷ front) rest = front_dropped front rest
+
+front_cut : (front word : Bytes) → take (length front) word ≡ front → word ≡ front ++ drop (length front) word
+front_cut [] word e = refl
+front_cut (b ∷ front) [] e = cc
+front_cut (b ∷ front) (c ∷ word) e = λ i. same_head e i ∷ front_cut front word (same_tail e) i
+
+one_slash : (left rest : Bytes) → take 1 left ≡ 47 ∷ [] → rest ≡ drop 1 left → left ≡ 47 ∷ rest
+one_slash [] rest e after = absurd cc
+one_slash (b ∷ left) rest e after = λ i. same_head e i ∷ sym after i
+
+-- a word that does not begin with the kind
+pub begins_not : (word kind : Bytes) → pointwise nat_eq (take (length kind) word) kind ≡ false → (rest : Bytes) → word ≢ kind ++ 47 ∷ rest
+begins_not word kind other rest is =
+    false≢true (sym other ∙ (bytes_decides (take (length kind) word) kind).1 (ap (take (length kind)) is ∙ front_taken kind (47 ∷ rest)))
+
+-- a word that goes on after the kind with another byte than a slash, or ends
+pub no_slash : (word kind left : Bytes) → left ≡ drop (length kind) word → pointwise nat_eq (take 1 left) (47 ∷ []) ≡ false → (rest : Bytes) → word ≢ kind ++ 47 ∷ rest
+no_slash word kind left cut other rest is =
+    false≢true (sym other ∙ (bytes_decides (take 1 left) (47 ∷ [])).1 (ap (take 1) (cut ∙ ap (drop (length kind)) is ∙ front_dropped kind (47 ∷ rest))))
+
+-- a word that begins with the kind and a slash
+pub slash_cut : (word kind left rest : Bytes) → pointwise nat_eq (take (length kind) word) kind ≡ true → left ≡ drop (length kind) word
+    → pointwise nat_eq (take 1 left) (47 ∷ []) ≡ true → rest ≡ drop 1 left → word ≡ kind ++ 47 ∷ rest
+slash_cut word kind left rest begins cut slash after =
+    let front = (bytes_decides (take (length kind) word) kind).0 begins in
+    let is = one_slash left rest ((bytes_decides (take 1 left) (47 ∷ [])).0 slash) after in
+    front_cut kind word front ∙ ap (λ bs. kind ++ bs) (sym cut ∙ is)
