@@ -139,7 +139,7 @@ fn refused(alloc: Global, exit: u8, line: &str) -> Result<Vec<u8>, Fail> {
 }
 
 /// A cluster and a workload, one of them at fault, the exit number, and the fault that is told.
-const FAULTS: [(&str, &str, u8, &str); 13] = [
+const FAULTS: [(&str, &str, u8, &str); 17] = [
     ("regions =\n", "no line\n", 4, "detock: cluster: no toml\n"),
     (
         "regions = 9\n",
@@ -185,7 +185,7 @@ const FAULTS: [(&str, &str, u8, &str); 13] = [
     ),
     (
         ":1\n",
-        "session a at 0\nmove aaaaaaaaaaaaaaaaaaaaaaaaaaaaaaaaaaaaaaaaaaaaaaaaaaaaaaaaaaaaaaaaa to 0\n",
+        "session a at 0\nmove aaaaaaaaaaaaaaaaaaaaaaaaaaaaaaaaaaaaaaaaaaaaaaaaaaaaaaaaaaaaaaaaaaaaaaaaaaaaaaaaaaaaaaaaaaaaaaaaaaaaaaaaaaaaaaaaaaaaaaaaaaaaaaaaa to 0\n",
         5,
         "detock: workload line 2: no key\n",
     ),
@@ -212,6 +212,30 @@ const FAULTS: [(&str, &str, u8, &str); 13] = [
         "session a at 0\nsession a at 0\n",
         5,
         "detock: workload line 2: name used twice\n",
+    ),
+    (
+        ":2\n",
+        "session a at 0\ncall/10 get \"b\"\n",
+        5,
+        "detock: workload line 2: no line of a workload\n",
+    ),
+    (
+        "regions = 2\nversion = 2\n",
+        "session a at 0\nmove b to 1\nmove b/1 to 1\n",
+        5,
+        "detock: workload line 3: no key\n",
+    ),
+    (
+        "regions = 2\nversion = 2\n[homes]\n\"b/1\" = 0\n",
+        "no line\n",
+        4,
+        "detock: cluster homes.b/1: no key\n",
+    ),
+    (
+        "regions = 2\nversion = 3\n",
+        "no line\n",
+        4,
+        "detock: cluster version: out of range\n",
     ),
 ];
 
@@ -326,7 +350,7 @@ const UNREAD: [(&[&str], &[u64], u8, &str); 8] = [
         3,
         "detock: cannot read word 4\n",
     ),
-    // A workload with a move of a key of 64 bytes is read, and then the load of the events fails.
+    // A workload with a move of a key of 128 bytes is read, and then the load of the events fails.
     (
         &["replay", ":1", "n", "e"],
         &[2],
@@ -342,7 +366,7 @@ fn a_file_that_cannot_be_read_is_told_by_its_word(rt: HostRuntime) -> Result<(),
         ("w", ONE_PUT),
         (
             "n",
-            b"session a at 0\nmove aaaaaaaaaaaaaaaaaaaaaaaaaaaaaaaaaaaaaaaaaaaaaaaaaaaaaaaaaaaaaaaa to 0\n",
+            b"session a at 0\nmove aaaaaaaaaaaaaaaaaaaaaaaaaaaaaaaaaaaaaaaaaaaaaaaaaaaaaaaaaaaaaaaaaaaaaaaaaaaaaaaaaaaaaaaaaaaaaaaaaaaaaaaaaaaaaaaaaaaaaaaaaaaaaaaa to 0\n",
         ),
         ("e", ONE_PUT_EVENTS),
     ];

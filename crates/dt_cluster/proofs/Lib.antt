@@ -1,5 +1,8 @@
 mod Listing
 pub mod OneCluster
+mod TomlTexts
+mod TomlTables
+pub mod EveryCluster
 mod Valid
 pub mod FileValid
 pub mod Callers

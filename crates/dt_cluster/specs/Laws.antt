@@ -1,6 +1,6 @@
--- What holds of cluster files: a file is one cluster at most, it has one fault at most, and a file that is a cluster has none.
--- So what the reader answers is the only thing that it could answer, memory aside.
-use Rattle.std.specs.Prelude.{◌≡◌}
+-- What holds of cluster files: each file is one cluster, or has one fault, and not both. So what the reader answers is the only
+-- thing that it could answer, memory aside.
+use Rattle.std.specs.Prelude.{◌≡◌, ◌⊎◌}
 use Rattle.dt_text.specs.Texts.{Bytes}
 use Rattle.dt_cluster.specs.File.{IsCluster, IsClusterFault}
 use Rattle.dt_cluster.specs.declared.cluster.Cluster.{Cluster}
@@ -17,3 +17,7 @@ ClustersHaveNoFault = (file : Bytes) (c : Cluster) (fault : ClusterFault) → Is
 -- a file has one fault at most
 abbrev pub ClusterFilesHaveOneFault : Type 0
 ClusterFilesHaveOneFault = (file : Bytes) (f g : ClusterFault) → IsClusterFault file f → IsClusterFault file g → f ≡ g
+
+-- every file is a cluster or has a fault
+abbrev pub ClusterFilesHaveAnOutcome : Type 0
+ClusterFilesHaveAnOutcome = (file : Bytes) → ((cluster : Cluster) × IsCluster file cluster) ⊎ ((fault : ClusterFault) × IsClusterFault file fault)

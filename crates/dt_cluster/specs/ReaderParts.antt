@@ -1,9 +1,9 @@
 -- Inner words, for the private parts of the reader alone: what each part answers, said of the table that it looks at. `File`
 -- says the same of the whole document; a reader of the contracts of `dt_cluster` can skip this file.
-use Rattle.std.specs.Prelude.{◌≡◌, ℕ, List}
+use Rattle.std.specs.Prelude.{◌≡◌, ◌<◌, ◌^◌, ℕ, List, Some, length, codes}
 use Rattle.dt_lists.specs.Lists.{Pairwise}
 use Rattle.dt_text.specs.declared.value.Value.{Value}
-use Rattle.toml.specs.Data.{Members}
+use Rattle.toml.specs.Data.{Members, get_member, string}
 use Rattle.dt_text.specs.Texts.{Bytes}
 use Rattle.dt_cluster.specs.Document.{Entry, AreEntries, IsFirstFaulty}
 use Rattle.dt_cluster.specs.Numbers.{NumberEntry, HasBadNumber}
@@ -27,6 +27,10 @@ IsFaultAt place IsCause fault = (why : ClusterCause) × (fault ≡ record { plac
 -- the fault is that of an entry which holds a number
 abbrev pub IsEntryFault : Members → NumberEntry → ClusterFault → Type 0
 IsEntryFault top entry fault = IsFaultAt (place.Entry entry.name) (HasBadNumber top entry) fault
+
+-- the text at `procs`, if there is one, is so short that its places are numbers of 32 bits
+abbrev pub HasShortProcs : Members → Type 0
+HasShortProcs top = (text : Bytes) → get_member (codes "procs") top ≡ Some (string text) → length text < 2 ^ 32
 
 -- the homes that a table lists, by ascending keys
 abbrev pub AreHomesOf : Members → ℕ → ℕ → List (Bytes × ℕ) → Type 0

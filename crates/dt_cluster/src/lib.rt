@@ -13,5 +13,7 @@ mod rows;
 
 pub use cluster::{Cluster, HomeList, RowList, builtin};
 pub use error::{ClusterCause, ClusterError, ClusterFault, ClusterPlace, Label};
-pub use laws::{clusters_have_no_fault, files_are_one_cluster, files_have_one_fault};
+pub use laws::{
+    clusters_have_no_fault, files_are_one_cluster, files_have_an_outcome, files_have_one_fault,
+};
 pub use reader::read_cluster;

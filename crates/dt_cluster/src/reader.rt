@@ -1,11 +1,11 @@
 //! The reader of cluster files.
 
-ghost use Rattle.std.specs.Prelude.{◌↔◌, IfOk, IfErr, IsTrue, Err};
+ghost use Rattle.std.specs.Prelude.{◌↔◌, ◌<◌, ◌^◌, length, IfOk, IfErr, IsTrue, Err};
 ghost use Rattle.dt_lists.specs.Lists.{Has};
 ghost use Rattle.toml.specs.View.{table_view};
 ghost use Rattle.dt_proc.specs.Sound.{AreProcs};
 ghost use Rattle.dt_cluster.specs.File.{AreKnown, IsUnknownFault, known_names, HasProcs, IsProcsFault, IsToldAs, IsClusterOf, IsFaultOf, IsCluster, IsClusterFault};
-ghost use Rattle.dt_cluster.specs.ReaderParts.{TellsFault};
+ghost use Rattle.dt_cluster.specs.ReaderParts.{HasShortProcs, TellsFault};
 ghost use Rattle.dt_cluster.specs.Valid.{IsValidCluster};
 
 use crate::cluster::Cluster;
@@ -25,6 +25,7 @@ use toml::Table;
 /// and then each of its names in ascending byte order; and `rows` in the same way. Names are compared by their bytes.
 /// That a file is too long is told by who loads it.
 pub fn read_cluster(alloc: Global, bytes: &[u8]) -> Result<Cluster, ClusterError>
+    requires short { length bytes.now < 2 ^ 32 }
     ensures cluster { IfOk result (IsCluster bytes.now) }
     ensures fault { IfErr result (TellsFault (IsClusterFault bytes.now)) }
     ensures valid { IfOk result IsValidCluster }
@@ -38,6 +39,7 @@ pub fn read_cluster(alloc: Global, bytes: &[u8]) -> Result<Cluster, ClusterError
 
 /// The cluster that a document is.
 fn cluster_of(alloc: Global, top: &Table) -> Result<Cluster, ClusterError>
+    requires { HasShortProcs (table_view top.now) }
     ensures cluster { IfOk result (IsClusterOf (table_view top.now)) }
     ensures fault { IfErr result (TellsFault (IsFaultOf (table_view top.now))) }
     ensures valid { IfOk result IsValidCluster }
@@ -93,6 +95,7 @@ fn is_known(name: &[u8]) -> bool
 
 /// The procedures of a cluster: those of its text, or the built-in ones.
 fn procs_of(alloc: Global, top: &Table) -> Result<Procs, ClusterError>
+    requires { HasShortProcs (table_view top.now) }
     ensures ok { IfOk result (HasProcs (table_view top.now)) }
     ensures fault { IfErr result (TellsFault (IsProcsFault (table_view top.now))) }
     ensures sound { IfOk result AreProcs }
@@ -103,10 +106,6 @@ fn procs_of(alloc: Global, top: &Table) -> Result<Procs, ClusterError>
     let Some(text) = value.as_str() else {
         return Err(entry_fault(alloc, "procs", ClusterCause::Kind));
     };
-    // The places in a text are numbers of 32 bits; memory for a longer text there is not.
-    if text.len() > u32::MAX as usize {
-        return Err(ClusterError::NoMemory);
-    }
     match read_procs(alloc, text.as_bytes()) {
         Ok(procs) => Ok(procs),
         Err(error) => Err(refusal(error)),

@@ -1,6 +1,6 @@
 //! Workload files: the sessions of each, or its first fault.
 
-ghost use Rattle.std.specs.Prelude.{◌<◌, ◌^◌, length};
+ghost use Rattle.std.specs.Prelude.{IfOk};
 ghost use Rattle.dt_cluster.specs.Valid.{IsValidCluster};
 
 use dt_cluster::{Cluster, ClusterError, builtin, read_cluster};
@@ -61,9 +61,6 @@ fn shown(alloc: Global, workload: &Workload) -> Result<Vec<u8>, NoMemory> {
 
 /// A copy of the workload of a file, in words, or its first fault, in a cluster of so many regions.
 fn told(alloc: Global, regions: u8, file: &[u8]) -> Result<Vec<u8>, Fail> {
-    if file.len() > MANY {
-        return Err(Fail::from("a test reads few bytes"));
-    }
     if regions < 1 || regions > 8 {
         return Err(Fail::from("a cluster has 1 to 8 regions"));
     }
@@ -72,9 +69,11 @@ fn told(alloc: Global, regions: u8, file: &[u8]) -> Result<Vec<u8>, Fail> {
 
 /// A copy of the workload of a file, in words, or its first fault, in a cluster.
 fn told_in(alloc: Global, cluster: &Cluster, file: &[u8]) -> Result<Vec<u8>, Fail>
-    requires valid { IsValidCluster cluster.now }
-    requires short { length file.now < 2 ^ 32 }
+    requires { IsValidCluster cluster.now }
 {
+    if file.len() > MANY {
+        return Err(Fail::from("a test reads few bytes"));
+    }
     match read_workload(alloc, file, cluster) {
         Ok(workload) => Ok(shown(alloc, &workload.copy(alloc)?)?),
         Err(WorkloadError::Fault(line, cause)) => {
@@ -82,6 +81,20 @@ fn told_in(alloc: Global, cluster: &Cluster, file: &[u8]) -> Result<Vec<u8>, Fai
             Ok(fault.as_bytes().to_vec(alloc)?)
         }
         Err(WorkloadError::NoMemory) => Err(Fail::from(NoMemory)),
+    }
+}
+
+/// The cluster of a file.
+fn cluster_of(alloc: Global, file: &[u8]) -> Result<Cluster, Fail>
+    ensures { IfOk result IsValidCluster }
+{
+    if file.len() > MANY {
+        return Err(Fail::from("a test reads few bytes"));
+    }
+    match read_cluster(alloc, file) {
+        Ok(cluster) => Ok(cluster),
+        Err(ClusterError::Fault(_)) => Err(Fail::from("the file is a cluster")),
+        Err(ClusterError::NoMemory) => Err(Fail::from(NoMemory)),
     }
 }
 
@@ -193,11 +206,7 @@ fn in_version_2_a_move_is_of_a_granule(rt: HostRuntime) -> Result<(), Fail> {
         (b"session a at 0\nmove /x to 1", "a@0 /x>1,;"),
         (b"session a at 0\nmove /x/y to 9", "2 Key"),
     ];
-    let cluster = match read_cluster(rt.alloc(), b"regions = 2\nversion = 2") {
-        Ok(cluster) => cluster,
-        Err(ClusterError::Fault(_)) => return Err(Fail::from("this is a cluster")),
-        Err(ClusterError::NoMemory) => return Err(Fail::from(NoMemory)),
-    };
+    let cluster = cluster_of(rt.alloc(), b"regions = 2\nversion = 2")?;
     for (file, words) in rows {
         assert_eq!(rt;
             told_in(rt.alloc(), &cluster, file)?.as_slice(),

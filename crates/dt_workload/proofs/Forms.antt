@@ -1,6 +1,7 @@
 -- Words of lines and the forms that they say.
-use Rattle.std.proofs.Common.{◌≡◌, ◌≢◌, ℕ, zero, suc, ◌<◌, ◌≤◌, ◌^◌, Bool, true, false, not, cond, nat_eq, List, [], ◌∷◌, length, map, get_or, Option, Some}
+use Rattle.std.proofs.Common.{◌≡◌, ◌≢◌, ℕ, zero, suc, ◌<◌, ◌≤◌, ◌^◌, Bool, true, false, not, cond, nat_eq, List, [], ◌∷◌, length, map, take, drop, get_or, Option, Some}
 use Rattle.std.proofs.Common.{None, MatchOption, inl, inr, ◌++◌, refl, ap, sym, ◌∙◌, subst, arith}
+use Rattle.std.proofs.lemmas.Bool.{false≢true}
 use Rattle.std.specs.Cmp.Lexicographic.{pointwise, bytes_decides}
 use Rattle.std.specs.Fmt.{decimal}
 use Rattle.dt_lists.proofs.Callers.{same_head, same_tail}
@@ -13,7 +14,7 @@ use Rattle.dt_text.specs.declared.Word.{Word}
 use Rattle.dt_text.specs.declared.Value.{Value}
 use Rattle.dt_text.proofs.Callers.{exact}
 use Rattle.dt_text.specs.Texts.{Bytes}
-use Rattle.dt_workload.specs.Lines.{Said, bare, said, Form, session_line, call_line, move_line, IsForm, IsRanked, SpellForm, HasForm, IsArgument, argument_word}
+use Rattle.dt_workload.specs.Lines.{Said, bare, said, Form, session_line, call_line, move_line, IsForm, IsRanked, IsFirstWord, SpellForm, HasForm, IsArgument, argument_word}
 use Rattle.dt_workload.proofs.OneForm.{after_front, session_or_call, session_or_move, call_or_move}
 use Rattle.std.specs.Prelude.{codes}
 use Rattle.dt_workload.specs.ReaderParts.{IsNoBeginning, ReadsForm, ReadsRegion, Refuses, form_of}
@@ -105,6 +106,37 @@ no_session cluster before name word region NoMemory same is fault = tt
 
 -- ---- forms by the word that begins a line
 
+-- fewer than two words spell no form
+pub few_words : (words : List Said) → length words < 2 → (f : Form) → IsForm f → ¬ SpellForm f words
+few_words [] few f fits (head, is, e) = cc
+few_words (s ∷ []) few (session_line name region) fits (head, is, e) = let none = same_tail e in cc
+few_words (s ∷ []) few (move_line rank key region) fits (head, is, e) = let none = same_tail e in cc
+few_words (s ∷ []) few (call_line rank proc args) fits (head, is, e) = let none = same_tail e in cc
+few_words (s ∷ t ∷ words) few f fits spelled = absurd (omega (arith, few))
+
+-- the word that begins a form is bare
+first_is_bare : (f : Form) (head : Said) → IsFirstWord f head → (bs : Bytes) × (head ≡ bare bs)
+first_is_bare (session_line name region) head is = (codes "session", is)
+first_is_bare (call_line rank proc args) head (inl is) = (codes "call", is.1)
+first_is_bare (call_line rank proc args) head (inr is) = (codes "call" ++ 47 ∷ decimal rank, is)
+first_is_bare (move_line rank key region) head (inl is) = (codes "move", is.1)
+first_is_bare (move_line rank key region) head (inr is) = (codes "move" ++ 47 ∷ decimal rank, is)
+
+-- words of which the first, or the second, is a text spell no form
+pub no_first_word : (s : Said) (words : List Said) → ((bytes : Bytes) → s ≢ bare bytes) → (f : Form) → IsForm f → ¬ SpellForm f (s ∷ words)
+no_first_word s words none f fits (head, is, e) = let b = first_is_bare f head is in none b.0 (same_head e ∙ b.1)
+
+pub no_second_word : (s t : Said) (words : List Said) → ((bytes : Bytes) → t ≢ bare bytes) → (f : Form) → IsForm f → ¬ SpellForm f (s ∷ t ∷ words)
+no_second_word s t words none (session_line name region) fits (head, is, e) = none name (same_head (same_tail e))
+no_second_word s t words none (call_line rank proc args) fits (head, is, e) = none proc (same_head (same_tail e))
+no_second_word s t words none (move_line rank key region) fits (head, is, e) = none key (same_head (same_tail e))
+
+-- a list of two items at least, by its first two and the others
+pub two_and_others : {A : Type 0} (xs rest : List A) (a b : A) → 2 ≤ length xs → a ≡ get_or xs 0 a → b ≡ get_or xs 1 b → rest ≡ drop 2 xs → xs ≡ a ∷ b ∷ rest
+two_and_others [] rest a b some is is' others = absurd (omega (arith, some))
+two_and_others (x ∷ []) rest a b some is is' others = absurd (omega (arith, some))
+two_and_others (x ∷ y ∷ xs) rest a b some is is' others = rw (is, is', others) refl
+
 -- a session's line has a form only where a region is said
 pub no_session_form : (subject : Bytes) (rest : List Said) → ((n : ℕ) → n < 2 ^ 32 → rest ≢ bare (codes "at") ∷ bare (decimal n) ∷ [])
     → (f : Form) → IsForm f → ¬ SpellForm f (bare (codes "session") ∷ bare subject ∷ rest)
@@ -144,3 +176,40 @@ pub no_digit : (kind word digits : Bytes) → ¬ (word ≡ kind) → word ≡ ki
     → (rank : ℕ) → rank < 10 → ¬ IsRanked kind rank (bare word)
 no_digit kind word digits other cut none rank low (inl h) = other (bare-is h.1)
 no_digit kind word digits other cut none rank low (inr h) = none rank low (same_tail (after_front kind (47 ∷ digits) (47 ∷ decimal rank) (sym cut ∙ bare-is h)))
+
+-- ---- the front of a word
+
+front_taken : (front rest : Bytes) → take (length front) (front ++ rest) ≡ front
+front_taken [] rest = refl
+front_taken (b ∷ front) rest = ap (λ bs. b ∷ bs) (front_taken front rest)
+
+front_dropped : (front rest : Bytes) → drop (length front) (front ++ rest) ≡ rest
+front_dropped [] rest = refl
+front_dropped (b ∷ front) rest = front_dropped front rest
+
+front_cut : (front word : Bytes) → take (length front) word ≡ front → word ≡ front ++ drop (length front) word
+front_cut [] word e = refl
+front_cut (b ∷ front) [] e = cc
+front_cut (b ∷ front) (c ∷ word) e = λ i. same_head e i ∷ front_cut front word (same_tail e) i
+
+one_slash : (left rest : Bytes) → take 1 left ≡ 47 ∷ [] → rest ≡ drop 1 left → left ≡ 47 ∷ rest
+one_slash [] rest e after = absurd cc
+one_slash (b ∷ left) rest e after = λ i. same_head e i ∷ sym after i
+
+-- a word that does not begin with the kind
+pub begins_not : (word kind : Bytes) → pointwise nat_eq (take (length kind) word) kind ≡ false → (rest : Bytes) → word ≢ kind ++ 47 ∷ rest
+begins_not word kind other rest is =
+    false≢true (sym other ∙ (bytes_decides (take (length kind) word) kind).1 (ap (take (length kind)) is ∙ front_taken kind (47 ∷ rest)))
+
+-- a word that goes on after the kind with another byte than a slash, or ends
+pub no_slash : (word kind left : Bytes) → left ≡ drop (length kind) word → pointwise nat_eq (take 1 left) (47 ∷ []) ≡ false → (rest : Bytes) → word ≢ kind ++ 47 ∷ rest
+no_slash word kind left cut other rest is =
+    false≢true (sym other ∙ (bytes_decides (take 1 left) (47 ∷ [])).1 (ap (take 1) (cut ∙ ap (drop (length kind)) is ∙ front_dropped kind (47 ∷ rest))))
+
+-- a word that begins with the kind and a slash
+pub slash_cut : (word kind left rest : Bytes) → pointwise nat_eq (take (length kind) word) kind ≡ true → left ≡ drop (length kind) word
+    → pointwise nat_eq (take 1 left) (47 ∷ []) ≡ true → rest ≡ drop 1 left → word ≡ kind ++ 47 ∷ rest
+slash_cut word kind left rest begins cut slash after =
+    let front = (bytes_decides (take (length kind) word) kind).0 begins in
+    let is = one_slash left rest ((bytes_decides (take 1 left) (47 ∷ [])).0 slash) after in
+    front_cut kind word front ∙ ap (λ bs. kind ++ bs) (sym cut ∙ is)

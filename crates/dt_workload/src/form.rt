@@ -36,6 +36,7 @@ pub(crate) fn read_form<'a>(alloc: Global, line: &'a [u8]) -> Result<Option<Form
 }
 
 /// The form that words of a line have.
+#[tactic(auto, using(crate::proofs::Forms::few_words, crate::proofs::Forms::no_first_word, crate::proofs::Forms::no_second_word, crate::proofs::Forms::two_and_others))]
 fn form_of_words<'a>(
     alloc: Global,
     line: &'a [u8],
@@ -58,6 +59,7 @@ fn form_of_words<'a>(
 }
 
 /// The form of a line that begins with these two bare words.
+#[tactic(auto, using(crate::proofs::Forms::no_kind))]
 fn form_of_kind<'a>(
     alloc: Global,
     line: &'a [u8],
@@ -83,6 +85,7 @@ fn form_of_kind<'a>(
 }
 
 /// The form of a line of a session.
+#[tactic(auto, using(crate::proofs::Forms::no_session_form))]
 fn session_form<'a>(line: &[u8], subject: &'a [u8], rest: &[Word]) -> Option<Form<'a>>
     requires short { length line.now < 2 ^ 32 }
     requires inside { All (IsWordIn line.now) rest.now }
@@ -95,6 +98,7 @@ fn session_form<'a>(line: &[u8], subject: &'a [u8], rest: &[Word]) -> Option<For
 }
 
 /// The form of a line of a call of this rank.
+#[tactic(auto, using(crate::proofs::Forms::no_call_form))]
 fn call_form<'a>(
     alloc: Global,
     line: &[u8],
@@ -115,6 +119,7 @@ fn call_form<'a>(
 }
 
 /// The form of a line of a move of this rank.
+#[tactic(auto, using(crate::proofs::Forms::no_move_form))]
 fn move_form<'a>(line: &[u8], rank: u8, subject: &'a [u8], rest: &[Word]) -> Option<Form<'a>>
     requires short { length line.now < 2 ^ 32 }
     requires rank { rank < 10 }
@@ -129,6 +134,7 @@ fn move_form<'a>(line: &[u8], rank: u8, subject: &'a [u8], rest: &[Word]) -> Opt
 }
 
 /// The rank that a word says which begins a line of this kind: that of the digit after a `/`, or 5 where it is the kind alone.
+#[tactic(auto, using(crate::proofs::Forms::no_rank, crate::proofs::Forms::no_digit))]
 fn rank_after(word: &[u8], kind: &[u8]) -> Option<u8>
     requires short { length word.now < 2 ^ 32 }
     ensures { ReadsRank kind.now word.now result }
@@ -141,14 +147,13 @@ fn rank_after(word: &[u8], kind: &[u8]) -> Option<u8>
 }
 
 /// What follows the kind and a `/` in a word, if it begins so.
+#[tactic(auto, using(crate::proofs::Forms::begins_not, crate::proofs::Forms::no_slash, crate::proofs::Forms::slash_cut))]
 fn after_slash<'a>(word: &'a [u8], kind: &[u8]) -> Option<&'a [u8]>
     ensures { MatchOption result ((rest : Bytes) → word.now ≢ kind.now ++ 47 ∷ rest) (λ rest. word.now ≡ kind.now ++ 47 ∷ rest.now) }
 {
-    let size = kind.len();
-    if word.len() <= size || &word[..size] != kind || word[size] != b'/' {
-        return None;
-    }
-    Some(&word[size + 1..])
+    let left = word.strip_prefix(kind)?;
+    let rest = left.strip_prefix(b"/")?;
+    Some(rest)
 }
 
 /// The bytes of a word, if it is bare.

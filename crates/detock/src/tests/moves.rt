@@ -95,8 +95,28 @@ const CROSSED_BEGIN: &[&str] = &[
     "insert 0 1",
 ];
 
+/// A cluster whose rows `b/1` and `b/2` are one granule, which moves as one.
+const GRANULES: &[&str] = &[
+    "regions = 2",
+    "version = 2",
+    "[rows]",
+    "\"b/1\" = 10",
+    "\"b/2\" = 20",
+];
+
+/// The same rows, where each key moves by itself.
+const SINGLE_KEYS: &[&str] = &["regions = 2", "[rows]", "\"b/1\" = 10", "\"b/2\" = 20"];
+
+/// A move of `b`, and an addition to one of the rows of that granule.
+const ROW_MOVED: &[&str] = &[
+    "session m at 0",
+    "move b to 1",
+    "session p at 0",
+    "call add \"b/2\" 5",
+];
+
 /// Replays with moves.
-const CASES: [Case; 12] = [
+const CASES: [Case; 14] = [
     Case {
         shows: "a stale attempt is made again and succeeds",
         cluster: &[":2"],
@@ -245,6 +265,47 @@ const CASES: [Case; 12] = [
         shows: "a second try is not made where one is allowed",
         cluster: &["regions = 2", "tries = 1"],
         workload: MOVED,
+        events: MOVED_BEGIN,
+        then: &["submit 0 p"],
+        exit: 6,
+        told: &["detock: events line 12: rule 1"],
+    },
+    Case {
+        shows: "the move of a granule takes along its rows",
+        cluster: GRANULES,
+        workload: ROW_MOVED,
+        events: MOVED_BEGIN,
+        then: &[
+            "submit 0 p",
+            "append 1 0 1",
+            "deliver 0 1 1 2",
+            "insert 0 1",
+            "execute 0 3.0",
+            "answer 0 m",
+            "answer 0 p",
+        ],
+        exit: 0,
+        told: &[
+            "replies",
+            "reply m 1 done",
+            "reply p 1 done 25",
+            "order",
+            "1.0 m 1 1 done",
+            "2.0 p 1 1 stale b had 0 by 1.0",
+            "3.0 p 1 2 done 25",
+            "table 0",
+            "b = none home 1 moves 1",
+            "b/1 = 10 home 1 moves 1",
+            "b/2 = 25 home 1 moves 1",
+            "table 1",
+            "b/1 = 10 home 0 moves 0",
+            "b/2 = 20 home 0 moves 0",
+        ],
+    },
+    Case {
+        shows: "the move of a key takes along no other key",
+        cluster: SINGLE_KEYS,
+        workload: ROW_MOVED,
         events: MOVED_BEGIN,
         then: &["submit 0 p"],
         exit: 6,

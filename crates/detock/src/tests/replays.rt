@@ -49,6 +49,22 @@ const CROSSING: &[&str] = &[
     "call xfer \"a\" \"b\" 4",
 ];
 
+/// The same two, of which the second has a lower rank.
+const CROSSING_URGENT: &[&str] = &[
+    "session p at 0",
+    "call xfer \"b\" \"a\" 3",
+    "session q at 1",
+    "call/2 xfer \"a\" \"b\" 4",
+];
+
+/// The same two, with the rank that a call has which tells none.
+const CROSSING_OF_RANK_5: &[&str] = &[
+    "session p at 0",
+    "call/5 xfer \"b\" \"a\" 3",
+    "session q at 1",
+    "call xfer \"a\" \"b\" 4",
+];
+
 /// They stand in both logs in opposite orders, of which region 0 inserts its own.
 const CROSSING_BEGIN: &[&str] = &[
     "submit 0 p",
@@ -124,7 +140,7 @@ const CIRCLE_BEGIN: &[&str] = &[
 ];
 
 /// Replays.
-const CASES: [Case; 17] = [
+const CASES: [Case; 20] = [
     Case {
         shows: "nothing is reported of nothing",
         cluster: &[":1"],
@@ -271,6 +287,75 @@ const CASES: [Case; 17] = [
             "a = 9 home 1 moves 0",
             "b = 11 home 0 moves 0",
         ],
+    },
+    Case {
+        shows: "in a deadlocked group the lower rank runs first",
+        cluster: &["regions = 2", "[rows]", "a = 10", "b = 10"],
+        workload: CROSSING_URGENT,
+        events: CROSSING_BEGIN,
+        then: &[
+            "insert 0 1",
+            "insert 0 1",
+            "insert 1 0",
+            "insert 1 0",
+            "insert 1 1",
+            "insert 1 1",
+            "resolve 0 1.0 1.1",
+            "execute 0 1.1",
+            "execute 0 1.0",
+            "resolve 1 1.0 1.1",
+            "execute 1 1.1",
+            "execute 1 1.0",
+            "answer 0 p",
+            "answer 1 q",
+        ],
+        exit: 0,
+        told: &[
+            "replies",
+            "reply p 1 done 11 9",
+            "reply q 1 done 6 14",
+            "order",
+            "1.1 q 1 1 done 6 14",
+            "1.0 p 1 1 done 11 9",
+            "table 0",
+            "a = 9 home 1 moves 0",
+            "b = 11 home 0 moves 0",
+            "table 1",
+            "a = 9 home 1 moves 0",
+            "b = 11 home 0 moves 0",
+        ],
+    },
+    Case {
+        shows: "a higher rank does not run before a lower one of its group",
+        cluster: &["regions = 2", "[rows]", "a = 10", "b = 10"],
+        workload: CROSSING_URGENT,
+        events: CROSSING_BEGIN,
+        then: &[
+            "insert 0 1",
+            "insert 0 1",
+            "insert 1 0",
+            "insert 1 0",
+            "insert 1 1",
+            "insert 1 1",
+            "resolve 0 1.0 1.1",
+            "execute 0 1.0",
+        ],
+        exit: 6,
+        told: &["detock: events line 18: rule 6"],
+    },
+    Case {
+        shows: "a call that tells no rank has rank 5, so that ids decide",
+        cluster: &["regions = 2", "[rows]", "a = 10", "b = 10"],
+        workload: CROSSING_OF_RANK_5,
+        events: CROSSING_BEGIN,
+        then: &[
+            "insert 0 1",
+            "insert 0 1",
+            "resolve 0 1.0 1.1",
+            "execute 0 1.1",
+        ],
+        exit: 6,
+        told: &["detock: events line 14: rule 6"],
     },
     Case {
         shows: "a group is not resolved before it is known whole",
