@@ -1,4 +1,4 @@
-use Rattle.std.proofs.Common.{◌≡◌, ◌≢◌, length, subst, sym, arith, rules, tests}
+use Rattle.std.proofs.Common.{◌≡◌, ◌≢◌, length, subst, sym, rules, tests}
 use Rattle.std.specs.BTreeMap as ordered
 use Rattle.std.proofs.lemmas.Iterator.Consumers.{YieldsList-from_rest}
 use Rattle.std.proofs.lemmas.Iterator.{cases_from_all}
