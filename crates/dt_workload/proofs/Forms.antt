@@ -4,6 +4,7 @@ use Rattle.std.proofs.Common.{None, MatchOption, inl, inr, ◌++◌, refl, ap, s
 use Rattle.std.proofs.lemmas.Bool.{false≢true}
 use Rattle.std.specs.Cmp.Lexicographic.{pointwise, bytes_decides}
 use Rattle.std.specs.Fmt.{decimal}
+use Rattle.std.proofs.lemmas.Fmt.{decimal_injective}
 use Rattle.dt_lists.proofs.Callers.{same_head, same_tail}
 use Rattle.std.proofs.lemmas.Option.{same_Some}
 use Rattle.dt_lists.specs.Lists.{AllIn}
@@ -17,7 +18,7 @@ use Rattle.dt_text.specs.Texts.{Bytes}
 use Rattle.dt_workload.specs.Lines.{Said, bare, said, Form, session_line, call_line, move_line, IsForm, IsRanked, IsFirstWord, SpellForm, HasForm, IsArgument, argument_word}
 use Rattle.dt_workload.proofs.OneForm.{after_front, session_or_call, session_or_move, call_or_move}
 use Rattle.std.specs.Prelude.{codes}
-use Rattle.dt_workload.specs.ReaderParts.{IsNoBeginning, ReadsForm, ReadsRegion, Refuses, form_of}
+use Rattle.dt_workload.specs.ReaderParts.{IsNoBeginning, ReadsForm, ReadsRank, ReadsRegion, Refuses, form_of}
 use Rattle.dt_workload.specs.File.{IsSessionFault}
 use Rattle.dt_workload.specs.declared.workload.Session.{Session}
 use Rattle.dt_workload.specs.declared.error.Refusal.{Refusal}
@@ -213,3 +214,20 @@ slash_cut word kind left rest begins cut slash after =
     let front = (bytes_decides (take (length kind) word) kind).0 begins in
     let is = one_slash left rest ((bytes_decides (take 1 left) (47 ∷ [])).0 slash) after in
     front_cut kind word front ∙ ap (λ bs. kind ++ bs) (sym cut ∙ is)
+
+-- ---- ranks
+
+pub other_bytes : (b : Bool) (x y : Bytes) → b ≡ pointwise nat_eq x y → b ≡ false → ¬ (x ≡ y)
+other_bytes b x y is no_match same = false≢true (sym no_match ∙ is ∙ (bytes_decides x y).1 same)
+
+-- no number follows the slash
+pub digit_none : (kind word digits : Bytes) (answer : Option ℕ) → answer ≡ None → ¬ (word ≡ kind) → word ≡ kind ++ 47 ∷ digits
+    → ((n : ℕ) → n < 2 ^ 32 → digits ≢ decimal n) → ReadsRank kind word answer
+digit_none kind word digits None is other cut none = no_digit kind word digits other cut (λ n low. none n (omega (arith, low)))
+digit_none kind word digits (Some n) is other cut none = absurd cc
+
+-- the number that follows the slash has two digits or more
+pub digit_high : (kind word digits : Bytes) (n : ℕ) → ¬ (word ≡ kind) → word ≡ kind ++ 47 ∷ digits → n < 2 ^ 32 → digits ≡ decimal n → ¬ (n < 10)
+    → (rank : ℕ) → rank < 10 → ¬ IsRanked kind rank (bare word)
+digit_high kind word digits n other cut small is high =
+    no_digit kind word digits other cut (λ m low same. high (subst (λ k. k < 10) (decimal_injective m n (omega (arith, low)) (omega (arith, small)) (sym same ∙ is)) low))
