@@ -222,6 +222,8 @@ impl<S: Scheduler> Region<S> {
         ensures makes { MakesAppend self.old source number txn.now result self.new }
         ensures sound { IsSoundRegion self.new.state }
     {
+        // Names the region's number, so that the proof has what is kept of the region where memory runs out.
+        let _number = self.number;
         let txn = txn.copy(alloc)?;
         self.append_owned(alloc, source, number, txn)
     }
