@@ -227,7 +227,7 @@ digit_none kind word digits None is other cut none = no_digit kind word digits o
 digit_none kind word digits (Some n) is other cut none = absurd cc
 
 -- the number that follows the slash has two digits or more
-pub digit_high : (kind word digits : Bytes) (n : ℕ) → ¬ (word ≡ kind) → word ≡ kind ++ 47 ∷ digits → n < 2 ^ 32 → digits ≡ decimal n → ¬ (n < 10)
+pub digit_high : (kind word digits : Bytes) (n : ℕ) → ¬ (word ≡ kind) → word ≡ kind ++ 47 ∷ digits → n < 2 ^ 32 → digits ≡ decimal n → 10 ≤ n
     → (rank : ℕ) → rank < 10 → ¬ IsRanked kind rank (bare word)
 digit_high kind word digits n other cut small is high =
-    no_digit kind word digits other cut (λ m low same. high (subst (λ k. k < 10) (decimal_injective m n (omega (arith, low)) (omega (arith, small)) (sym same ∙ is)) low))
+    no_digit kind word digits other cut (λ m low same. absurd (omega (arith, low, high, decimal_injective m n (omega (arith, low)) (omega (arith, small)) (sym same ∙ is))))
