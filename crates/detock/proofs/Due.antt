@@ -223,7 +223,8 @@ module _ (files : Files) (words : List Bytes) where
       no_named (cluster_word t) c f a.cluster_word (subst P (one_task words s t asks.asked a.asks.asked) bad)
 
   -- a cluster's file has one fault
-  one_named : (word : Option Bytes) (f g : ClusterFault) → IsSomeAnd word (λ w. IsClusterFile w × HasFile (Some files) w (AreBadCluster f)) → IsSomeAnd word (λ w. IsClusterFile w × HasFile (Some files) w (AreBadCluster g)) → f ≡ g
+  one_named : (word : Option Bytes) (f g : ClusterFault) → IsSomeAnd word (λ w. IsClusterFile w × HasFile (Some files) w (AreBadCluster f))
+      → IsSomeAnd word (λ w. IsClusterFile w × HasFile (Some files) w (AreBadCluster g)) → f ≡ g
   one_named None f g bad worse = absurd bad
   one_named (Some word) f g (file, bad) (also, worse) =
       let (bytes, a, b) = both_files files word (AreBadCluster f) (AreBadCluster g) bad worse in go bytes a b
@@ -357,7 +358,8 @@ could_not words before now word (inr (inr (is, task, cluster, workload, asks, mi
 
 -- a status that is no fault of a device is the one that is due
 module _ (words : List Bytes) (before now : FolderView) where
-  due_of : (told : Option Files) → told ≡ before.told → (status due : Status) → IsSome told → IsDue told words due → ¬ Rose before.faults now.faults → IsRefusal words before now status → (status ≡ due) ⊎ (status ≡ NoMemory)
+  due_of : (told : Option Files) → told ≡ before.told → (status due : Status) → IsSome told → IsDue told words due → ¬ Rose before.faults now.faults
+      → IsRefusal words before now status → (status ≡ due) ⊎ (status ≡ NoMemory)
   due_of None is status due some is_due still refused = cc
   due_of (Some files) is NoMemory due some is_due still refused = inr refl
   due_of (Some files) is BadWords due some is_due still refused = inl (one_due files words BadWords due refused is_due)

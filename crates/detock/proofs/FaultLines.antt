@@ -29,7 +29,8 @@ rule_end digits n is = ap (λ number. codes ": rule " ++ (number ++ (10 ∷ []))
 -- the line of a fault in a cluster's file
 pub cluster_line : (fault : ClusterFault) → (codes "detock: cluster" ++ place_text fault.place) ++ cluster_end fault.cause ≡ fault_line (BadCluster fault)
 cluster_line fault =
-    ap (λ rest. codes "detock: cluster" ++ rest) (sym (append_assoc (place_text fault.place ++ codes ": ") (cluster_text fault.cause) (10 ∷ []) ∙ append_assoc (place_text fault.place) (codes ": ") (cluster_text fault.cause ++ 10 ∷ [])))
+    ap (λ rest. codes "detock: cluster" ++ rest) (sym (append_assoc (place_text fault.place ++ codes ": ") (cluster_text fault.cause) (10 ∷ [])
+    ∙ append_assoc (place_text fault.place) (codes ": ") (cluster_text fault.cause ++ 10 ∷ [])))
 
 -- the line of a fault in a workload's file
 pub workload_line : (number : Bytes) (line : ℕ) (cause : WorkloadCause) → number ≡ decimal line

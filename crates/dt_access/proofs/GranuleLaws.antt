@@ -1,6 +1,7 @@
 -- Granules: the keys of one granule are the granule itself and those that begin with it and a `/`, and these stand side by
 -- side in the order of keys.
-use Rattle.std.proofs.Common.{◌≡◌, ◌⊎◌, ℕ, suc, ◌+◌, ◌≤◌, Bool, true, false, not, cond, ◌==◌, nat_lt, [], ◌∷◌, ◌++◌, length, take, drop, position, Some, None, refl, ap, sym, ◌∙◌, inl, inr, eqb-true, arith}
+use Rattle.std.proofs.Common.{◌≡◌, ◌⊎◌, ℕ, suc, ◌+◌, ◌≤◌, Bool, true, false, not, cond, ◌==◌, nat_lt, [], ◌∷◌, ◌++◌}
+use Rattle.std.proofs.Common.{length, take, drop, position, Some, None, refl, ap, sym, ◌∙◌, inl, inr, eqb-true, arith}
 use Rattle.std.specs.List.{take_while, prefix_len, list_all}
 use Rattle.std.proofs.lemmas.Bool.{and_parts, and_from}
 use Rattle.std.proofs.lemmas.Bool.Decides.{nat_tests}

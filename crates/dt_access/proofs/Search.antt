@@ -1,6 +1,7 @@
 -- How a key of a granule is found in an ascending list of keys: the first key that is not less than the granule is the
 -- granule itself, or the first that is not less than the granule with a `/` behind it begins so, where there is one.
-use Rattle.std.proofs.Common.{◌≡◌, ◌⊎◌, ℕ, zero, suc, ◌-◌, ◌<◌, Bool, true, false, cond, ◌&&◌, ◌||◌, nat_lt, nat_eq, List, [], ◌∷◌, ◌++◌, length, take, drop, slice_index_or, refl, ap, ap₂, sym, ◌∙◌, subst, inl, inr, arith}
+use Rattle.std.proofs.Common.{◌≡◌, ◌⊎◌, ℕ, zero, suc, ◌-◌, ◌<◌, Bool, true, false, cond, ◌&&◌, ◌||◌, nat_lt, nat_eq, List, [], ◌∷◌}
+use Rattle.std.proofs.Common.{◌++◌, length, take, drop, slice_index_or, refl, ap, ap₂, sym, ◌∙◌, subst, inl, inr, arith}
 use Rattle.std.specs.List.Sorted.{IsPartitionedBy}
 use Rattle.std.specs.Ordering.{nat_cmp, is_lt, ordering_then}
 use Rattle.std.specs.Cmp.{nat_cmp_is}
@@ -148,7 +149,8 @@ itself_first xs i g asc ends x here of is =
     ]
 
 -- the first key from the granule with a `/` on begins with these, where some key of the list does
-row_first : (xs : List (Bytes × Mode)) (i : ℕ) (g rest : Bytes) → HasAscendingKeys xs → EndsAt (g ++ 47 ∷ []) xs i → (x : Bytes × Mode) → Has xs x → granule_of x.0 ≡ g → x.0 ≡ g ++ 47 ∷ rest → begins_with (drop i xs) g ≡ true
+row_first : (xs : List (Bytes × Mode)) (i : ℕ) (g rest : Bytes) → HasAscendingKeys xs → EndsAt (g ++ 47 ∷ []) xs i → (x : Bytes × Mode)
+    → Has xs x → granule_of x.0 ≡ g → x.0 ≡ g ++ 47 ∷ rest → begins_with (drop i xs) g ≡ true
 row_first xs i g rest asc ends x here of is =
     let f : IsFirstFrom (g ++ 47 ∷ []) x (drop i xs) = first_from (g ++ 47 ∷ []) xs i asc ends x here
     (ap (λ k. is_below k (g ++ 47 ∷ [])) is ∙ ap is_lt (common_front g (47 ∷ rest) (47 ∷ [])) ∙ not_less rest) in

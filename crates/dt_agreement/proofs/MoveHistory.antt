@@ -191,7 +191,8 @@ module _ {cluster : Cluster} {workload : Workload} {w : World} {order : List Txn
             clashing : (p q : Part) → Has (log_at (logs_of w) a.home) p → Has (log_at (logs_of w) a.home) q → (p.id ≡ r.0.by) × (q.id ≡ x.id) → AreClashing r.0.by x.id p q
             clashing p q hp hq e =
                 let m : (y : Txn) × (txn_of w r.0.by ≡ Some y) × (y.body ≡ Move (unit_of cluster.version a.key) r.0.target) × IsValid cluster.procs cluster.version cluster.regions y = maker_found a.key c r.0 r.1 in
-                let left : p.keys ≡ use_of_move cluster.version a.key ∷ [] = part_keys a.home p m.0 hp (ap (txn_of w) e.0 ∙ m.1) ∙ listed_of_move cluster cluster.regions m.0 (unit_of cluster.version a.key) r.0.target a.home m.3 m.2 in
+                let left : p.keys ≡ use_of_move cluster.version a.key ∷ [] = part_keys a.home p m.0 hp (ap (txn_of w) e.0 ∙ m.1)
+                ∙ listed_of_move cluster cluster.regions m.0 (unit_of cluster.version a.key) r.0.target a.home m.3 m.2 in
                 let right : q.keys ≡ (part_of x a.home).keys = part_keys a.home q x hq (ap (txn_of w) e.1 ∙ (in_order x hx).1) in
                 (e.0, e.1, subst₂ (λ k l. clash k l ≡ true) (sym left) (sym right) (meets_move cluster.version a (part_of x a.home).keys (listed x.body a.home x.access a ha refl)))
 

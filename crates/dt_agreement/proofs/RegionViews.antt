@@ -37,7 +37,8 @@ module _ {cluster : Cluster} {workload : Workload} {w : World} {order : List Txn
       let r : (home : ℕ) × (home < length (logs_of w)) × HasPart (log_at (logs_of w) home) t = any_at (λ log. HasPart log t) [] (logs_of w) p in
       let within : r.0 < length w.nodes = subst (λ n. r.0 < n) (logs_length w) r.1 in
       let there : HasPart (log_of w r.0) t = subst (λ l. HasPart l t) (log_is w r.0) r.2 in
-      let k : (txn : _) × (txn_of w t ≡ _) × (t.region < cluster.regions) = id_known cluster.regions w i.nodes i.ids i.asked i.logs r.0 t (subst (λ n. r.0 < n) i.nodes within) (any_image (λ y. y ≡ t) (λ p. p.id) (log_of w r.0) there) in
+      let k : (txn : _) × (txn_of w t ≡ _) × (t.region < cluster.regions) = id_known cluster.regions w i.nodes i.ids i.asked i.logs r.0 t
+      (subst (λ n. r.0 < n) i.nodes within) (any_image (λ y. y ≡ t) (λ p. p.id) (log_of w r.0) there) in
       (k.0, k.1)
 
   pub closed_full : (region : ℕ) (t : TxnId) → region < cluster.regions → IsClosed (view_at w region) t → IsClosed (logs_of w) t

@@ -24,7 +24,8 @@ requests_not home s e = rw e refl
 -- a request is of a submission that has a part there
 pub request_has : (home : ℕ) (xs : List Submission) (id : TxnId) → Has (requests home xs) id → (s : Submission) × Has xs s × (s.txn.id ≡ id) × (has_home home s.txn ≡ true)
 request_has home xs id h =
-    let r : (s : Submission) × Has (filter (λ s. has_home home s.txn) xs) s × (s.txn.id ≡ id) = any_get _ (filter (λ s. has_home home s.txn) xs) (any_of_image (λ y. y ≡ id) (λ s. s.txn.id) (filter (λ s. has_home home s.txn) xs) h) in
+    let r : (s : Submission) × Has (filter (λ s. has_home home s.txn) xs) s × (s.txn.id ≡ id) = any_get _ (filter (λ s. has_home home s.txn) xs)
+    (any_of_image (λ y. y ≡ id) (λ s. s.txn.id) (filter (λ s. has_home home s.txn) xs) h) in
     let k : Has xs r.0 × (has_home home r.0.txn ≡ true) = has_of_filtered (λ s. has_home home s.txn) xs r.0 r.1 in
     (r.0, k.0, r.2, k.1)
 

@@ -125,7 +125,13 @@ module _ {cluster : Cluster} {workload : Workload} {w : World} {order : List Txn
   sized : Sized cluster.regions v
   unfolding v n'
   sized q lt = each_of_set (λ k n. IsSized cluster.regions n) w.nodes region n' no_node
-      (let z : IsSized cluster.regions (node_at w region) = i.sized region lr in record { asked = ask_length (homes_of s.txn) s.txn.id (node_at w region).here.asked ∙ z.asked; taken = z.taken; received = z.received; inserted = z.inserted })
+      (let z : IsSized cluster.regions (node_at w region) = i.sized region lr in record {
+        asked = ask_length (homes_of s.txn) s.txn.id (node_at w region).here.asked
+            ∙ z.asked;
+        taken = z.taken;
+        received = z.received;
+        inserted = z.inserted;
+      })
       (λ k lk. i.sized k (subst (λ m. k < m) i.nodes lk)) q (subst (λ m. q < m) (sym i.nodes) lt)
 
   ids : Numbered cluster.regions v
@@ -328,7 +334,8 @@ module _ {cluster : Cluster} {workload : Workload} {w : World} {order : List Txn
   unfolding v s
   submitted_logs = logs_same
 
-  pub submitted_was : (x : Submission) → Has (submissions (world_submitted workload w region session place (attempt_for cluster w region session place call))) x → Has (submissions w) x ⊎ (attempt_for cluster w region session place call ≡ x)
+  pub submitted_was : (x : Submission) → Has (submissions (world_submitted workload w region session place (attempt_for cluster w region session place call))) x
+      → Has (submissions w) x ⊎ (attempt_for cluster w region session place call ≡ x)
   unfolding v s
   submitted_was = was
 

@@ -63,7 +63,8 @@ pub logs_length : (w : World) → length (logs_of w) ≡ length w.nodes
 logs_length w = length-map w.nodes (λ n. n.log)
 
 -- what a region inserted of what it received, it inserted of the logs
-pub view_is : (w : World) (region : ℕ) → ((home : ℕ) → home < length w.nodes → slice_index (node_at w region).here.inserted home ≤ received_of w region home) → view_at w region ≡ fronts (node_at w region).here.inserted (logs_of w)
+pub view_is : (w : World) (region : ℕ) → ((home : ℕ) → home < length w.nodes → slice_index (node_at w region).here.inserted home ≤ received_of w region home)
+    → view_at w region ≡ fronts (node_at w region).here.inserted (logs_of w)
 view_is w region le = fronts_within (node_at w region).here.inserted (received_lengths w region) (logs_of w) (λ home lt. le home (subst (λ n. home < n) (logs_length w) lt))
 
 -- a region has its own log whole

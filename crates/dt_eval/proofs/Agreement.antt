@@ -218,7 +218,8 @@ module _ (names : List Bytes) where
   at_let s f (Ok d) g = lets s f d g
   at_let s f (Err c) g = no_let s f c g
 
-  at_set : (s : RunState) (k : ℕ) (f : ExprTree) (x : Sort) → IsStoredSort x → (r : Result Datum Cause) → GivesNow names s f r → GivesSort x r → Does names s (set_row k f) (unless_aborted r (λ d. Ok (with_row_value names k (stored d) s)))
+  at_set : (s : RunState) (k : ℕ) (f : ExprTree) (x : Sort) → IsStoredSort x → (r : Result Datum Cause) → GivesNow names s f r → GivesSort x r
+      → Does names s (set_row k f) (unless_aborted r (λ d. Ok (with_row_value names k (stored d) s)))
   at_set s k f x i (Ok (Int z)) g q = sets s k f (val.Int z) g
   at_set s k f x i (Ok (Text t)) g q = sets s k f (val.Text t) g
   at_set s k f x (inl e) (Ok (Truth b)) g q = let bad : sort.Bool ≡ sort.Int = q ∙ e in cc
@@ -238,7 +239,8 @@ module _ (names : List Bytes) where
   at_step s st rest (Ok t) h k = goes_on s t st rest _ h (k t refl)
   at_step s st rest (Err c) h k = stops s st rest c h
 
-  after_sound : (writes : List Bool) (st : StmtTree) (rest : BlockTree) (s t : RunState) → AreSound (map sort_of_datum s.variables) writes (then st rest) → after_step names st s ≡ Ok t → AreSound (map sort_of_datum t.variables) writes rest
+  after_sound : (writes : List Bool) (st : StmtTree) (rest : BlockTree) (s t : RunState) → AreSound (map sort_of_datum s.variables) writes (then st rest)
+      → after_step names st s ≡ Ok t → AreSound (map sort_of_datum t.variables) writes rest
   after_sound writes st rest s t h e = subst (Leads (λ t. AreSound (map sort_of_datum t.variables) writes rest)) e (follow names writes st rest s h)
 
   pub is_block : (writes : List Bool) (b : BlockTree) (s : RunState) → AreSound (map sort_of_datum s.variables) writes b → Runs names s b (after_block names b s)

@@ -89,7 +89,8 @@ call_writes_are_keys procs number args reads fits =
   where
     one : (w : Bytes × Option Value) → AnyIn (λ u. (u.0 ≡ w.0) × (u.1 ≡ Write)) (call_keys procs number args) → IsKey w.0
     one w any =
-        let r : (u : Bytes × Mode) × _ × IsKey u.0 × ((u.0 ≡ w.0) × (u.1 ≡ Write)) = all_any (λ u. IsKey u.0) (λ u. (u.0 ≡ w.0) × (u.1 ≡ Write)) (call_keys procs number args) (call_keys_are_keys procs number args fits) any in
+        let r : (u : Bytes × Mode) × _ × IsKey u.0 × ((u.0 ≡ w.0) × (u.1 ≡ Write)) = all_any (λ u. IsKey u.0) (λ u. (u.0 ≡ w.0) × (u.1 ≡ Write))
+        (call_keys procs number args) (call_keys_are_keys procs number args fits) any in
         subst IsKey r.3.0 r.2
 
 -- from reads of just its keys a call writes keys in ascending order, so none twice
@@ -104,7 +105,8 @@ call_writes_ascend procs number args reads same = go (slice_get procs number)
     go (Some body) = writes_in_order body args reads ascend
     go None = tt
 
-reads_alike : (values others : Bytes → Option Value) (us : List (Bytes × Mode)) → AllIn (λ u. values u.0 ≡ others u.0) us → ◌≡◌ {A = List (Bytes × Option Value)} (map (λ u. (u.0, values u.0)) us) (map (λ u. (u.0, others u.0)) us)
+reads_alike : (values others : Bytes → Option Value) (us : List (Bytes × Mode)) → AllIn (λ u. values u.0 ≡ others u.0) us
+    → ◌≡◌ {A = List (Bytes × Option Value)} (map (λ u. (u.0, values u.0)) us) (map (λ u. (u.0, others u.0)) us)
 reads_alike values others [] all = refl
 reads_alike values others (u ∷ us) all = let head : ◌≡◌ {A = Bytes × Option Value} (u.0, values u.0) (u.0, others u.0) = ap (λ v. (u.0, v)) all.0 in ap₂ ◌∷◌ head (reads_alike values others us all.1)
 

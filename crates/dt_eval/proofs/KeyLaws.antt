@@ -237,7 +237,8 @@ pub record Gathers (proc : ProcTree) (args : List Value) (declarations : List Ke
   pub all : AllIn IsKey (names_given args (drop number declarations)) → HasKeys proc args
   pub first : (j : ℕ) → IsFirstBadKey (names_given args (drop number declarations)) j → IsFirstBadKey (names_of proc args) (number + j)
 
-pub gathers_none : (proc : ProcTree) (args : List Value) (declarations : List KeyDecl) (uses : List (Bytes × Mode)) → IsSoundProc proc → Fits proc args → declarations ≡ proc.keys → uses ≡ [] → Gathers proc args declarations 0 uses
+pub gathers_none : (proc : ProcTree) (args : List Value) (declarations : List KeyDecl) (uses : List (Bytes × Mode)) → IsSoundProc proc → Fits proc args
+    → declarations ≡ proc.keys → uses ≡ [] → Gathers proc args declarations 0 uses
 gathers_none proc args declarations uses sound fits same none = record {
   within = subst (AllIn (λ (d : KeyDecl). AllIn (IsItemWithin (length args)) d.items)) (sym same) (items_within proc args sound fits);
   told = λ i. fold with_use (none i) (map (use_of args) (same i));

@@ -41,7 +41,8 @@ has_before u t (a ∷ front) rest (inl e) = inl (any_put _ (front ++ t ∷ rest)
 has_before u t (a ∷ front) rest (inr h) = inr (has_before u t front rest h)
 
 -- what holds of neighbours and is transitive holds of each item and each later one
-pub each_of_steps : {A : Type 0} (R : A → A → Type 0) → ((x y z : A) → R x y → R y z → R x z) → (xs : List A) → ((i : ℕ) (a b : A) → slice_get xs i ≡ Some a → slice_get xs (suc i) ≡ Some b → R a b) → EachThen R xs
+pub each_of_steps : {A : Type 0} (R : A → A → Type 0) → ((x y z : A) → R x y → R y z → R x z) → (xs : List A)
+    → ((i : ℕ) (a b : A) → slice_get xs i ≡ Some a → slice_get xs (suc i) ≡ Some b → R a b) → EachThen R xs
 each_of_steps R trans [] step = tt
 each_of_steps R trans (x ∷ []) step = (tt, tt)
 each_of_steps R trans (x ∷ y ∷ ys) step =

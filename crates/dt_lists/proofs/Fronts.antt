@@ -44,7 +44,8 @@ pub each_front : {A : Type 0} (R : A → A → Type 0) (xs ys : List A) → IsFr
 each_front R xs ys f a = each_append_left R xs f.0 (subst (EachThen R) (sym f.1) a)
 
 -- where keys stand once, and the front has the key t, a pair that ends at t is in the front
-pub some_back : {A B : Type 0} (R : A → A → Type 0) (f : A → B) (t : B) (xs ys : List A) → IsFront xs ys → ((x y : A) → R x y → f y ≡ t) → EachThen (λ x y. ¬ (f x ≡ f y)) ys → AnyIn (λ x. f x ≡ t) xs → SomeThen R ys → SomeThen R xs
+pub some_back : {A B : Type 0} (R : A → A → Type 0) (f : A → B) (t : B) (xs ys : List A) → IsFront xs ys → ((x y : A) → R x y → f y ≡ t)
+    → EachThen (λ x y. ¬ (f x ≡ f y)) ys → AnyIn (λ x. f x ≡ t) xs → SomeThen R ys → SomeThen R xs
 some_back R f t xs ys w ends once e s =
     some_in_front R f t xs w.0 ends (subst (EachThen (λ x y. ¬ (f x ≡ f y))) (sym w.1) once) e (subst (SomeThen R) (sym w.1) s)
 

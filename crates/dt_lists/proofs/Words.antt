@@ -73,7 +73,8 @@ some_get R (x ∷ xs) (inl e) = let r : (y : _) × Has xs y × R x y = any_get (
 some_get R (x ∷ xs) (inr e) = let r : (a b : _) × Has xs a × Has xs b × R a b = some_get R xs e in (r.0, r.1, inr r.2, inr r.3, r.4)
 
 -- two different items stand one before the other
-pub some_of_two : {A : Type 0} (R : A → A → Type 0) (xs : List A) (x y : A) → Has xs x → Has xs y → x ≢ y → R x y → R y x → SomeThen (λ a b. (a ≡ x) × (b ≡ y) × R a b) xs ⊎ SomeThen (λ a b. (a ≡ y) × (b ≡ x) × R a b) xs
+pub some_of_two : {A : Type 0} (R : A → A → Type 0) (xs : List A) (x y : A) → Has xs x → Has xs y → x ≢ y → R x y → R y x
+    → SomeThen (λ a b. (a ≡ x) × (b ≡ y) × R a b) xs ⊎ SomeThen (λ a b. (a ≡ y) × (b ≡ x) × R a b) xs
 some_of_two R [] x y hx hy ne r s = absurd hx
 some_of_two R (z ∷ zs) x y (inl ex) (inl ey) ne r s = absurd (ne (cc))
 some_of_two R (z ∷ zs) x y (inl ex) (inr hy) ne r s = inl (inl (any_put _ zs y hy (ex, refl, subst (λ c. R c y) (sym ex) r)))

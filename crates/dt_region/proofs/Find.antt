@@ -1,5 +1,6 @@
 -- What is found by its id: among transactions, in a map, and among those that a region counted.
-use Rattle.std.proofs.Common.{◌≡◌, ◌≢◌, ◌<◌, ◌+◌, ◌⊎◌, ℕ, zero, suc, true, false, cond, List, [], ◌∷◌, ◌++◌, map, Option, Some, None, slice_get, refl, sym, ap, ap₂, subst, ◌∙◌, inl, inr, is_some, if◌then◌else◌, arith}
+use Rattle.std.proofs.Common.{◌≡◌, ◌≢◌, ◌<◌, ◌+◌, ◌⊎◌, ℕ, zero, suc, true, false, cond, List, [], ◌∷◌, ◌++◌, map, Option, Some, None}
+use Rattle.std.proofs.Common.{slice_get, refl, sym, ap, ap₂, subst, ◌∙◌, inl, inr, is_some, if◌then◌else◌, arith}
 use Rattle.std.proofs.lemmas.Option.{same_Some}
 use Rattle.std.specs.Map.{lookup}
 use Rattle.indexmap.specs.IndexMap.{insert_entry}
@@ -141,7 +142,8 @@ pub held_own : (number : ℕ) (submitted foreign : List Txn) (id : TxnId) (place
 held_own number submitted foreign id place counted others own at =
     find_only submitted foreign id (apart number foreign id others own) ∙ counted_at number 1 place submitted id counted own at
 
-pub held_uncounted : (number : ℕ) (submitted foreign : List Txn) (id : TxnId) → AreCounted number 1 submitted → AllIn (λ txn. txn.id.region ≢ number) foreign → id.region ≡ number → id.seq < 1 → find_txn (submitted ++ foreign) id ≡ None
+pub held_uncounted : (number : ℕ) (submitted foreign : List Txn) (id : TxnId) → AreCounted number 1 submitted → AllIn (λ txn. txn.id.region ≢ number) foreign
+    → id.region ≡ number → id.seq < 1 → find_txn (submitted ++ foreign) id ≡ None
 held_uncounted number submitted foreign id counted others own none =
     find_only submitted foreign id (apart number foreign id others own) ∙ counted_below number 1 submitted id counted none
 

@@ -122,7 +122,8 @@ hold_all_holds s [] distinct agree = tt
 hold_all_holds s (txn ∷ txns) distinct agree =
     (hold_all_keeps (hold s txn) txns txn.id txn (hold_holds s txn agree.0), hold_all_holds (hold s txn) txns distinct.1 (all_agree_after s txn txns distinct.0 agree.1))
 
-pub hold_all_foreign : (s : RegionState) (txns : List Txn) → Distinct (map (λ x. x.id) txns) → AllIn (Agrees s) txns → AllIn (λ x. x.id.region ≢ s.number) s.foreign → AllIn (λ x. x.id.region ≢ s.number) (hold_all s txns).foreign
+pub hold_all_foreign : (s : RegionState) (txns : List Txn) → Distinct (map (λ x. x.id) txns) → AllIn (Agrees s) txns → AllIn (λ x. x.id.region ≢ s.number) s.foreign
+    → AllIn (λ x. x.id.region ≢ s.number) (hold_all s txns).foreign
 hold_all_foreign s [] distinct agree others = others
 hold_all_foreign s (txn ∷ txns) distinct agree others =
     hold_all_foreign (hold s txn) txns distinct.1 (all_agree_after s txn txns distinct.0 agree.1) (hold_foreign s txn others agree.0)

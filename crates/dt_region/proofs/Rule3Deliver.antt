@@ -192,7 +192,8 @@ module _ (r : RegionView) (s : RegionState) (events : List Event) (seen : Sched)
 
     -- where some of them are new
     module _ (new : ℕ) (foreign : List Txn) (logs : View) (taken : Taken) (is : taken ≡ New new) (takes : Takes log_here first parts (Ok taken) (log_at logs home)) (others : logs ≡ set s.logs home (log_at logs home))
-        (keeps : (submitted : List Txn) → AreCounted s.number 1 submitted → AllIn (λ txn. txn.id.region ≡ s.number → Has submitted txn) (drop (count - new) txns) → foreign ≡ keep_all submitted s.foreign (drop (count - new) txns)) where
+        (keeps : (submitted : List Txn) → AreCounted s.number 1 submitted → AllIn (λ txn. txn.id.region ≡ s.number → Has submitted txn) (drop (count - new) txns)
+        → foreign ≡ keep_all submitted s.foreign (drop (count - new) txns)) where
       took : Takes log_here first parts (Ok (New new)) (log_at logs home)
       took = subst (λ x. Takes log_here first parts (Ok x) (log_at logs home)) is takes
 
@@ -206,7 +207,8 @@ module _ (r : RegionView) (s : RegionState) (events : List Event) (seen : Sched)
       deliver_is =
           let new_txns : drop (count - new) txns ≡ map (λ e. e.txn) (past_end log_here first entries) =
           ap₂ (λ m l. drop (m - new) l) (n ∙ ap length t) t ∙ last_are (λ (e : Entry). e.txn) entries (length log_here) first new took.0 reached in
-          let new_parts : drop (length parts - new) parts ≡ map (λ e. e.part) (past_end log_here first entries) = ap (λ l. drop (length l - new) l) p ∙ last_are (λ (e : Entry). e.part) entries (length log_here) first new took.0 reached in
+          let new_parts : drop (length parts - new) parts ≡ map (λ e. e.part) (past_end log_here first entries) = ap (λ l. drop (length l - new) l) p
+          ∙ last_are (λ (e : Entry). e.part) entries (length log_here) first new took.0 reached in
           let held_is : foreign ≡ keep_all s.submitted s.foreign (map (λ e. e.txn) (past_end log_here first entries)) = keeps s.submitted stands.well.0.counted (own (count - new)) ∙ ap (keep_all s.submitted s.foreign) new_txns in
           let grown : logs ≡ set s.logs home (with_entries log_here first entries) = others ∙ ap (set s.logs home) (took.3 ∙ ap (λ x. log_here ++ x) new_parts) in
           ap₂ made held_is grown

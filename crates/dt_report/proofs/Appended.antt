@@ -24,7 +24,8 @@ join-spaced w (v ∷ ws) = ap (λ t. w ++ 32 ∷ t) (join-spaced v ws)
 -- a first word, others after it, and the end of the line
 pub line_added : (old head : List ℕ) (ws : List (List ℕ)) (first before after : List ℕ) → first ≡ old ++ head → before ≡ first ++ spaced ws → after ≡ before ++ 10 ∷ [] → after ≡ old ++ line_of (head ∷ ws)
 line_added old head ws first before after begun so_far ended =
-    ended ∙ ap (λ t. t ++ 10 ∷ []) (so_far ∙ ap (λ t. t ++ spaced ws) begun ∙ append_assoc old head (spaced ws)) ∙ append_assoc old (head ++ spaced ws) (10 ∷ []) ∙ ap (λ t. old ++ (t ++ 10 ∷ [])) (sym (join-spaced head ws))
+    ended ∙ ap (λ t. t ++ 10 ∷ []) (so_far ∙ ap (λ t. t ++ spaced ws) begun ∙ append_assoc old head (spaced ws)) ∙ append_assoc old (head ++ spaced ws) (10 ∷ [])
+    ∙ ap (λ t. old ++ (t ++ 10 ∷ [])) (sym (join-spaced head ws))
 
 from_place : {A : Type 0} (xs : List A) (k : ℕ) (x : A) → k < length xs → x ≡ get_or xs k x → drop k xs ≡ x ∷ drop (k + 1) xs
 from_place xs k x within is =

@@ -108,7 +108,8 @@ module _ (view : View) (w : IsWellFormed view) (one : HasOneHomeEach view) where
         | inr other ↦ down x v (f v e) ((precedes_where_reaches x v).1 (other, c))
       ]
 
-  pub executable_by_edges : (resolved : List (List TxnId)) (done : List TxnId) (t : TxnId) → IsDownward view done → IsExecutable view resolved done t ↔ IsPresent view t × ¬ (Has done t) × ((u : TxnId) → Edge view u t → Has done u)
+  pub executable_by_edges : (resolved : List (List TxnId)) (done : List TxnId) (t : TxnId) → IsDownward view done
+      → IsExecutable view resolved done t ↔ IsPresent view t × ¬ (Has done t) × ((u : TxnId) → Edge view u t → Has done u)
   executable_by_edges resolved done t down = (
     λ x. ((closed_where_present t).0 x.closed, x.waiting, λ u e. x.preceders u ((precedes_where_reaches u t).1 (e.0, chain_step e))),
     λ r. record {

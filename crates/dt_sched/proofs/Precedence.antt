@@ -53,7 +53,8 @@ module _ (order : View → TxnId → TxnId → Type 0) (ties : BreaksTies order)
       by (inr n) = inr (λ e. ne (sym e), r, inl n)
       by (inl back) = elim (ties.total view u t ne) [ inl h ↦ inl (ne, back, inr h) | inr h ↦ inr (λ e. ne (sym e), r, inr h) ]
 
-  pub comparable_in_log_by : (view : View) (home : ℕ) (p q : Part) → Has (log_at view home) p → Has (log_at view home) q → p.id ≢ q.id → clash p.keys q.keys ≡ true → PrecedesBy order view p.id q.id ⊎ PrecedesBy order view q.id p.id
+  pub comparable_in_log_by : (view : View) (home : ℕ) (p q : Part) → Has (log_at view home) p → Has (log_at view home) q → p.id ≢ q.id
+      → clash p.keys q.keys ≡ true → PrecedesBy order view p.id q.id ⊎ PrecedesBy order view q.id p.id
   comparable_in_log_by view home p q hp hq ne c = comparable_by view p.id q.id ne
       (elim (edge_of_two view home p q hp hq ne c) [ inl e ↦ inl (chain_step e) | inr e ↦ inr (chain_step e) ])
 

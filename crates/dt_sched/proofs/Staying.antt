@@ -23,7 +23,8 @@ module _ (short long : View) (l : IsLonger short long) (w : IsWellFormed long) w
   pub all_closed_stays : (ids : List TxnId) → AllIn (IsClosed short) ids → AllIn (IsClosed long) ids
   all_closed_stays ids a = all_map (IsClosed short) (IsClosed long) ids (λ t c. closed_stays short long l w t c) a
 
-  pub resolvable_stays : (resolved more : List (List TxnId)) (done later ids : List TxnId) → AllIn (IsClosed short) done → IsWithin done later → ¬ (Has more ids) → IsResolvable short resolved done ids → IsResolvable long more later ids
+  pub resolvable_stays : (resolved more : List (List TxnId)) (done later ids : List TxnId) → AllIn (IsClosed short) done → IsWithin done later
+      → ¬ (Has more ids) → IsResolvable short resolved done ids → IsResolvable long more later ids
   resolvable_stays resolved more done later ids c wd n x =
       let closed : AllIn (IsClosed short) ids = resolvable_closed short resolved done ids c x in
       let t : TxnId = x.group.0 in
@@ -40,7 +41,8 @@ module _ (short long : View) (l : IsLonger short long) (w : IsWellFormed long) w
 
 -- where an order breaks ties, what is executable stays so until it is done
 pub executable_stays_by : (order : View → TxnId → TxnId → Type 0) → BreaksTies order → (short long : View) → IsLonger short long → IsWellFormed long
-    → (resolved more : List (List TxnId)) (done later : List TxnId) (t : TxnId) → IsWithin resolved more → IsWithin done later → ¬ (Has later t) → IsExecutableBy order short resolved done t → IsExecutableBy order long more later t
+    → (resolved more : List (List TxnId)) (done later : List TxnId) (t : TxnId) → IsWithin resolved more → IsWithin done later → ¬ (Has later t)
+    → IsExecutableBy order short resolved done t → IsExecutableBy order long more later t
 executable_stays_by order ties short long l w resolved more done later t wr wd n x = record {
   closed = closed_stays short long l w t x.closed;
   waiting = n;

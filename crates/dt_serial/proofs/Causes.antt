@@ -22,7 +22,8 @@ use Rattle.dt_serial.proofs.Rows.{same_moves}
 use Rattle.dt_serial.proofs.Runs.{version_after, table_after_append, outcomes_append, outcome_at, IsOutcomeAt, outcome_get, moves_grow, IsMoveAt, numbered_move}
 
 -- the move of each number was made by one of the run
-pub move_made : (procs : List ProcTree) (xs : List Txn) (start : Table) (key : Bytes) (i : ℕ) (m : Moved) → moves_of start key ≡ [] → slice_get (moves_of (table_after procs xs start) key) i ≡ Some m → MadeMove procs xs start key i m.by
+pub move_made : (procs : List ProcTree) (xs : List Txn) (start : Table) (key : Bytes) (i : ℕ) (m : Moved) → moves_of start key ≡ []
+    → slice_get (moves_of (table_after procs xs start) key) i ≡ Some m → MadeMove procs xs start key i m.by
 move_made procs xs start key i m none e =
     let r : IsMoveAt procs start.version xs start key i m = numbered_move procs start.version xs start key i m refl (omega (arith, ap length none)) e in
     record {

@@ -139,7 +139,8 @@ module _ (procs : List ProcTree) (order : TxnId → TxnId → Type 0) (start : T
 
   pub replayed_mover : (p : TxnId → Bool) → ((u v : TxnId) → order u v → p v ≡ true → p u ≡ true) → (key : Bytes) (c : ℕ)
       → next_mover (replay procs p txns start start) key c ≡ option_map (λ m. m.by) (if_passes (λ m. p m.by) (slice_get (moves_of (table_after procs txns start) key) c))
-  replayed_mover p closed key c = ap (λ l. option_map (λ m. m.by) (slice_get l c)) (replayed_moves p key) ∙ ap (option_map (λ m. m.by)) (get_filtered (λ m. p m.by) (moves_of (table_after procs txns start) key) c (closed_front p closed key))
+  replayed_mover p closed key c = ap (λ l. option_map (λ m. m.by) (slice_get l c)) (replayed_moves p key)
+      ∙ ap (option_map (λ m. m.by)) (get_filtered (λ m. p m.by) (moves_of (table_after procs txns start) key) c (closed_front p closed key))
 
   -- after any two pasts of it, a transaction sees the same next movers
   pub same_movers : (x : Txn) (p q : TxnId → Bool) → Has txns x → IsPast order p x.id → IsPast order q x.id
@@ -180,7 +181,8 @@ module _ (procs : List ProcTree) (order : TxnId → TxnId → Type 0) (start : T
       → unit_of start.version a.key ≡ unit_of start.version b.key → a.counter < b.counter → order x.id y.id
   across_fewer x y s a b live ky ka kb same lt = go b.counter lt (subst (λ ms. FollowsMove order ms b.counter y.id) (moves_same txns b.key a.key (sym same)) (anchor_at y b ky kb))
     where
-      joined : (d : ℕ) (n m : Moved) → a.counter ≤ d → slice_get (moves_of (table_after procs txns start) a.key) a.counter ≡ Some n → slice_get (moves_of (table_after procs txns start) a.key) d ≡ Some m → (n ≡ m) ⊎ order n.by m.by
+      joined : (d : ℕ) (n m : Moved) → a.counter ≤ d → slice_get (moves_of (table_after procs txns start) a.key) a.counter ≡ Some n
+          → slice_get (moves_of (table_after procs txns start) a.key) d ≡ Some m → (n ≡ m) ⊎ order n.by m.by
       joined d n m le p q = elim (cases_lt a.counter d) [
         | inl less ↦ inr (each_at _ (moves_of (table_after procs txns start) a.key) a.counter d n m (chain a.key) less p q)
         | inr ge ↦ inl (

@@ -1,5 +1,6 @@
 -- Serial runs and replays: they go on where a front of them ends; moves only get more; and what a replay reads.
-use Rattle.std.proofs.Common.{◌≡◌, ◌<◌, ◌≤◌, ◌⊎◌, ℕ, zero, suc, ◌+◌, Bool, true, false, cond, List, [], ◌∷◌, ◌++◌, length, map, slice_get, Some, refl, sym, ap, ap₂, subst, ◌∙◌, append-nil, length-append, inl, inr, arith}
+use Rattle.std.proofs.Common.{◌≡◌, ◌<◌, ◌≤◌, ◌⊎◌, ℕ, zero, suc, ◌+◌, Bool, true, false, cond, List, [], ◌∷◌, ◌++◌, length, map}
+use Rattle.std.proofs.Common.{slice_get, Some, refl, sym, ap, ap₂, subst, ◌∙◌, append-nil, length-append, inl, inr, arith}
 use Rattle.std.specs.Prelude.{filter}
 use Rattle.std.proofs.lemmas.Bool.{cases_Bool, cases_lt}
 use Rattle.std.proofs.lemmas.Option.{slice_get_within}
@@ -169,7 +170,8 @@ replay_moves procs version p (x ∷ xs) t c key is same e =
     made : List Moved
     made = move_at version key (one procs x t).1.moved
 
-    goal : moves_of (cond (p x.id) (apply (one procs x t).1 c) c) key ≡ chosen_moves p (moves_of t key) ++ chosen_moves p made → moves_of (cond (p x.id) (apply (one procs x t).1 c) c) key ≡ chosen_moves p (moves_of (after procs x t) key)
+    goal : moves_of (cond (p x.id) (apply (one procs x t).1 c) c) key ≡ chosen_moves p (moves_of t key) ++ chosen_moves p made
+        → moves_of (cond (p x.id) (apply (one procs x t).1 c) c) key ≡ chosen_moves p (moves_of (after procs x t) key)
     goal s = s ∙ sym (filter-append (λ m. p m.by) (moves_of t key) made) ∙ ap (chosen_moves p) (sym (after_moves procs version x t key is))
 
     kept : p x.id ≡ true → (move_at version key (one procs x t).1.moved ≡ []) ⊎ ((m : Moved) × (move_at version key (one procs x t).1.moved ≡ m ∷ [])) → chosen_moves p made ≡ made
@@ -186,7 +188,8 @@ replay_moves procs version p (x ∷ xs) t c key is same e =
 
     go : (p x.id ≡ true) ⊎ (p x.id ≡ false) → (move_at version key (one procs x t).1.moved ≡ []) ⊎ ((m : Moved) × (move_at version key (one procs x t).1.moved ≡ m ∷ []))
         → moves_of (cond (p x.id) (apply (one procs x t).1 c) c) key ≡ chosen_moves p (moves_of (after procs x t) key)
-    go (inl y) s = goal (ap (λ b. moves_of (cond b (apply (one procs x t).1 c) c) key) y ∙ moves_of-apply (one procs x t).1 c key ∙ ap (λ v. moves_of c key ++ move_at v key (one procs x t).1.moved) same ∙ ap₂ ◌++◌ e (sym (kept y s)))
+    go (inl y) s = goal (ap (λ b. moves_of (cond b (apply (one procs x t).1 c) c) key) y ∙ moves_of-apply (one procs x t).1 c key
+        ∙ ap (λ v. moves_of c key ++ move_at v key (one procs x t).1.moved) same ∙ ap₂ ◌++◌ e (sym (kept y s)))
     go (inr n) s = goal (ap (λ b. moves_of (cond b (apply (one procs x t).1 c) c) key) n ∙ e ∙ sym (append-nil (chosen_moves p (moves_of t key))) ∙ ap (λ l. chosen_moves p (moves_of t key) ++ l) (sym (dropped n s)))
 
 -- two replays read the same value of a key if they choose alike among those that change its row

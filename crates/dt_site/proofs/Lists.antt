@@ -54,7 +54,8 @@ parts_set (l ∷ logs) (suc home) part = let a : parts_in (set logs home (log_at
 
 pub parts_fronts : (lengths : List ℕ) (logs : View) → parts_in (fronts lengths logs) ≤ parts_in logs
 parts_fronts lengths [] = omega arith
-parts_fronts [] (l ∷ logs) = let a : parts_in (fronts [] logs) ≤ parts_in logs = parts_fronts [] logs in let b : parts_in ([] ∷ fronts [] logs) ≤ parts_in (l ∷ logs) = omega (arith, parts_cons [] (fronts [] logs), parts_cons l logs) in b
+parts_fronts [] (l ∷ logs) = let a : parts_in (fronts [] logs) ≤ parts_in logs = parts_fronts [] logs in let b : parts_in ([] ∷ fronts [] logs) ≤ parts_in
+    (l ∷ logs) = omega (arith, parts_cons [] (fronts [] logs), parts_cons l logs) in b
 parts_fronts (n ∷ lengths) (l ∷ logs) = let a : parts_in (fronts lengths logs) ≤ parts_in logs = parts_fronts lengths logs in let b : parts_in (take n l ∷ fronts lengths logs) ≤ parts_in (l ∷ logs) =
     omega (arith, length-take n l, parts_cons (take n l) (fronts lengths logs), parts_cons l logs) in b
 
@@ -80,7 +81,8 @@ find_more [] ys t id u e = go (cases_Bool (same_id t.id id))
     go (inr n) = inl (rw n at e)
 find_more (x ∷ xs) ys t id u e = go (cases_Bool (same_id x.id id)) (find_more xs ys t id u)
   where
-    go : (same_id x.id id ≡ true) ⊎ (same_id x.id id ≡ false) → (find_txn (xs ++ t ∷ ys) id ≡ Some u → (find_txn (xs ++ ys) id ≡ Some u) ⊎ ((t ≡ u) × (t.id ≡ id))) → (find_txn (x ∷ xs ++ ys) id ≡ Some u) ⊎ ((t ≡ u) × (t.id ≡ id))
+    go : (same_id x.id id ≡ true) ⊎ (same_id x.id id ≡ false) → (find_txn (xs ++ t ∷ ys) id ≡ Some u → (find_txn (xs ++ ys) id ≡ Some u) ⊎ ((t ≡ u) × (t.id ≡ id)))
+        → (find_txn (x ∷ xs ++ ys) id ≡ Some u) ⊎ ((t ≡ u) × (t.id ≡ id))
     go (inl y) f = let is : Some x ≡ Some u = rw y at e in inl (rw y is)
     go (inr n) f = elim (f (rw n at e)) [ inl h ↦ inl (rw n h) | inr h ↦ inr h ]
 

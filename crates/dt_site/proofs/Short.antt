@@ -128,7 +128,8 @@ module _ (cluster : Cluster) (ok : IsValidCluster cluster) (workload : Workload)
       subm r q (inl e) =
           let few : length (node_at w region).submitted ≤ n = s.submitted region in
           subst (λ x. length (get_or (set w.nodes region (node_submitted (node_at w region) (attempt_for cluster w region r.session r.place r.call))) x no_node).submitted ≤ n + 1) (sym e)
-          (subst (λ x. length x.submitted ≤ n + 1) (sym (get_or-set_same w.nodes region (node_submitted (node_at w region) (attempt_for cluster w region r.session r.place r.call)) no_node (subst (λ m. region < m) (sym i.nodes) l.regions)))
+          (subst (λ x. length x.submitted ≤ n + 1) (sym (get_or-set_same w.nodes region (node_submitted (node_at w region) (attempt_for cluster w region r.session r.place r.call)) no_node
+          (subst (λ m. region < m) (sym i.nodes) l.regions)))
           (let more : length ((node_at w region).submitted ++ attempt_for cluster w region r.session r.place r.call ∷ []) ≡ length (node_at w region).submitted + 1 =
           length_push (node_at w region).submitted (attempt_for cluster w region r.session r.place r.call) in omega arith))
       subm r q (inr m) =

@@ -226,7 +226,8 @@ more_keys_read : (ks : List KeySyntax) (b : ℕ) (st : List Sym) (us : List Plac
 more_keys_read [] b st us = refl
 more_keys_read (k ∷ ks) b st us =
     ap (run (expect.MoreKeys ∷ st)) (append_assoc (key_tokens k) (flat_map key_tokens ks) (at b tok.Begin ∷ us))
-    ∙ (mode_read k.write k.word_at st (at k.name_at (tok.Name k.name) ∷ at k.is_at tok.Is ∷ ((part_tokens k.first ++ (flat_map joined_part k.more ++ at k.end_at tok.Semicolon ∷ [])) ++ (flat_map key_tokens ks ++ at b tok.Begin ∷ us)))).1
+    ∙ (mode_read k.write k.word_at st (at k.name_at (tok.Name k.name) ∷ at k.is_at tok.Is ∷
+    ((part_tokens k.first ++ (flat_map joined_part k.more ++ at k.end_at tok.Semicolon ∷ [])) ++ (flat_map key_tokens ks ++ at b tok.Begin ∷ us)))).1
     ∙ key_goes k (expect.MoreKeys ∷ st) (flat_map key_tokens ks ++ at b tok.Begin ∷ us)
     ∙ more_keys_read ks b st us
 

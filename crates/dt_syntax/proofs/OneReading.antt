@@ -89,7 +89,8 @@ one_key k l r s e =
     let ks = part_tokens k.first ++ (flat_map joined_part k.more ++ at k.end_at tok.Semicolon ∷ r) in
     let ls = part_tokens l.first ++ (flat_map joined_part l.more ++ at l.end_at tok.Semicolon ∷ s) in
     let word_at = front_place_is k.word_at l.word_at (mode_token k.write) (mode_token l.write) (at k.name_at (tok.Name k.name) ∷ at k.is_at tok.Is ∷ ks) (at l.name_at (tok.Name l.name) ∷ at l.is_at tok.Is ∷ ls) cut in
-    let mode = mode_is k.write l.write (front_token_is k.word_at l.word_at (mode_token k.write) (mode_token l.write) (at k.name_at (tok.Name k.name) ∷ at k.is_at tok.Is ∷ ks) (at l.name_at (tok.Name l.name) ∷ at l.is_at tok.Is ∷ ls) cut) in
+    let mode = mode_is k.write l.write (front_token_is k.word_at l.word_at (mode_token k.write) (mode_token l.write) (at k.name_at (tok.Name k.name) ∷ at k.is_at tok.Is ∷ ks)
+    (at l.name_at (tok.Name l.name) ∷ at l.is_at tok.Is ∷ ls) cut) in
     let one = after_front k.word_at l.word_at (mode_token k.write) (mode_token l.write) (at k.name_at (tok.Name k.name) ∷ at k.is_at tok.Is ∷ ks) (at l.name_at (tok.Name l.name) ∷ at l.is_at tok.Is ∷ ls) cut in
     let name_at = front_place_is k.name_at l.name_at (tok.Name k.name) (tok.Name l.name) (at k.is_at tok.Is ∷ ks) (at l.is_at tok.Is ∷ ls) one in
     let called = same_name k.name l.name (front_token_is k.name_at l.name_at (tok.Name k.name) (tok.Name l.name) (at k.is_at tok.Is ∷ ks) (at l.is_at tok.Is ∷ ls) one) in

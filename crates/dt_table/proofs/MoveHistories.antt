@@ -1,5 +1,6 @@
 -- What a push to the list of all moves does to the history of each unit, and how a history is walked back.
-use Rattle.std.proofs.Common.{◌≡◌, ℕ, zero, suc, ◌+◌, ◌<◌, ◌≤◌, List, [], ◌∷◌, ◌++◌, length, get_or, slice_get, ◌↔◌, is_some, IsSome, true, true≢false, refl, sym, ap, subst, ◌∙◌, arith, Option, Some, None, length-append, add-zero, add-one}
+use Rattle.std.proofs.Common.{◌≡◌, ℕ, zero, suc, ◌+◌, ◌<◌, ◌≤◌, List, [], ◌∷◌, ◌++◌, length, get_or, slice_get, ◌↔◌, is_some, IsSome, true}
+use Rattle.std.proofs.Common.{true≢false, refl, sym, ap, subst, ◌∙◌, arith, Option, Some, None, length-append, add-zero, add-one}
 use Rattle.std.proofs.Math.ListN.{get_or-append}
 use Rattle.std.proofs.Math.Seq.{get_or-append_seam}
 use Rattle.std.proofs.lemmas.Option.{slice_get-get_or}

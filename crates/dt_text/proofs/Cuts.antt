@@ -21,7 +21,8 @@ unfolding before_end
 first_cut [] h = absurd (omega arith)
 first_cut (b ∷ bs) h = step (b == 10) b bs (prefix_len (λ b. not (b == 10)) bs) (first_cut bs) h
 
-last_step : (ends : Bool) (b : ℕ) (bs : List ℕ) (k : ℕ) → (bs ≡ [] ⊎ (cut_lines bs ≡ bs ∷ [])) → suc (length bs) ≤ cond (not ends) (1 + k) 0 → cond ends ([] ∷ cut_lines bs) (onto_first b (cut_lines bs)) ≡ (b ∷ bs) ∷ []
+last_step : (ends : Bool) (b : ℕ) (bs : List ℕ) (k : ℕ) → (bs ≡ [] ⊎ (cut_lines bs ≡ bs ∷ [])) → suc (length bs) ≤ cond (not ends) (1 + k) 0
+    → cond ends ([] ∷ cut_lines bs) (onto_first b (cut_lines bs)) ≡ (b ∷ bs) ∷ []
 last_step true b bs k ih h = absurd (omega arith)
 last_step false b bs k (inl e) h = rw e refl
 last_step false b bs k (inr e) h = rw e refl

@@ -24,7 +24,8 @@ cut_lines-within : (bs : List ℕ) → AllIn (λ l. length l ≤ length bs) (cut
 cut_lines-within [] = tt
 cut_lines-within (b ∷ bs) = within-cut (b == 10) b (length bs) (cut_lines bs) (cut_lines-within bs)
 
-within-kept : (most number : ℕ) (l : List ℕ) (kept : List FileLine) (skipped : Bool) → length l ≤ most → AllIn (IsLineWithin most) kept → AllIn (IsLineWithin most) (cond skipped kept (record { number = number; bytes = l } ∷ kept))
+within-kept : (most number : ℕ) (l : List ℕ) (kept : List FileLine) (skipped : Bool) → length l ≤ most → AllIn (IsLineWithin most) kept
+    → AllIn (IsLineWithin most) (cond skipped kept (record { number = number; bytes = l } ∷ kept))
 within-kept most number l kept true within all = all
 within-kept most number l kept false within all = (within, all)
 

@@ -1,5 +1,6 @@
 -- Which words spell a number, and which spell none.
-use Rattle.std.proofs.Common.{◌≡◌, ◌≢◌, ℕ, suc, zero, ◌+◌, ◌-◌, ◌*◌, ◌<◌, ◌≤◌, ◌^◌, List, ◌∷◌, length, get_or, take, drop, ℤ, pos, negsuc, neg_ℤ, w64, FitsSigned, Option, Some, None, Result, Ok, Err, sym, ◌∙◌, ap, subst, arith}
+use Rattle.std.proofs.Common.{◌≡◌, ◌≢◌, ℕ, suc, zero, ◌+◌, ◌-◌, ◌*◌, ◌<◌, ◌≤◌, ◌^◌, List, ◌∷◌, length, get_or, take, drop, ℤ, pos}
+use Rattle.std.proofs.Common.{negsuc, neg_ℤ, w64, FitsSigned, Option, Some, None, Result, Ok, Err, sym, ◌∙◌, ap, subst, arith}
 use Rattle.std.specs.Int.{IsInRange}
 use Rattle.std.specs.Option.{SomeIff}
 use Rattle.std.specs.Result.{OkIff, result_ok}
@@ -49,7 +50,8 @@ goes_on bs i within before digit =
     (digits_more 10 bs i within before (omega (arith, is)), omega (arith, is, digits_value_more 10 bs i within))
 
 -- digits that do not, or whose number has more than 64 bits so far
-pub stops : (bs : List ℕ) (i : ℕ) → i < length bs → AllDigits 10 (take i bs) → ¬ (IsInRange 48 57 (get_or bs i 0) × (digits_value 10 (take i bs) * 10 + (get_or bs i 0 - 48) < 2 ^ 64)) → ¬ (AllDigits 10 bs × (digits_value 10 bs < 2 ^ 64))
+pub stops : (bs : List ℕ) (i : ℕ) → i < length bs → AllDigits 10 (take i bs) → ¬ (IsInRange 48 57 (get_or bs i 0) × (digits_value 10 (take i bs) * 10 + (get_or bs i 0 - 48) < 2 ^ 64))
+    → ¬ (AllDigits 10 bs × (digits_value 10 bs < 2 ^ 64))
 stops bs i within before other (all, small) =
     let digit = digit_at bs i all within in
     let value = (goes_on bs i within before digit).1 in

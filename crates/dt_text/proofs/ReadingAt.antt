@@ -34,7 +34,8 @@ pub bare_at_end : (line : List ℕ) (at : ℕ) → length line ≤ at → BareEn
 bare_at_end line at past from = rw (past_end line at past) (step.bare_end from at)
 
 -- a bare word
-pub bare_word : (line : List ℕ) (at end : ℕ) → at < length line → get_or line at 0 ≢ 34 → is_visible (get_or line at 0) ≡ true → at + 1 ≤ end → end ≤ length line → BareEndsAt line (at + 1) end → WordAt line at (Some (Bare at end, end))
+pub bare_word : (line : List ℕ) (at end : ℕ) → at < length line → get_or line at 0 ≢ 34 → is_visible (get_or line at 0) ≡ true → at + 1 ≤ end
+    → end ≤ length line → BareEndsAt line (at + 1) end → WordAt line at (Some (Bare at end, end))
 bare_word line at end inside plain visible after within ends =
     (omega arith, within, (omega arith, within), rw (from_place line at inside) (step.gap_bare at _ _ plain visible ∙ ends at))
 

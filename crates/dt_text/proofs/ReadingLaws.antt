@@ -1,5 +1,6 @@
 -- The words that are found in a line byte by byte are those that it is made of.
-use Rattle.std.proofs.Common.{◌≡◌, ◌≢◌, ℕ, suc, ◌+◌, ◌≤◌, Bool, true, false, cond, ◌==◌, ◌||◌, ◌&&◌, nat_lt, List, [], ◌∷◌, ◌++◌, length, Option, Some, None, refl, sym, ◌∙◌, ap, subst, arith, append_assoc, append-nil, length-append}
+use Rattle.std.proofs.Common.{◌≡◌, ◌≢◌, ℕ, suc, ◌+◌, ◌≤◌, Bool, true, false, cond, ◌==◌, ◌||◌, ◌&&◌, nat_lt, List, [], ◌∷◌, ◌++◌}
+use Rattle.std.proofs.Common.{length, Option, Some, None, refl, sym, ◌∙◌, ap, subst, arith, append_assoc, append-nil, length-append}
 use Rattle.std.specs.List.{list_all}
 use Rattle.std.proofs.lemmas.List.Folds.{list_all-append}
 use Rattle.std.proofs.lemmas.Bool.{and_parts}
@@ -35,7 +36,8 @@ bare_over : (from at : ℕ) (rest : List ℕ) → MayFollowWord rest → bare_fr
 bare_over from at [] may = step.bare_end from at
 bare_over from at (b ∷ bs) may = let over : is_visible b ≡ false = rw may refl in step.bare_over from at b bs over
 
-bare_found : (more : List ℕ) (from at : ℕ) (rest : List ℕ) → list_all is_visible more ≡ true → MayFollowWord rest → bare_from from at (more ++ rest) ≡ with_word (Bare from (at + length more)) (words_from (at + length more) rest)
+bare_found : (more : List ℕ) (from at : ℕ) (rest : List ℕ) → list_all is_visible more ≡ true → MayFollowWord rest
+    → bare_from from at (more ++ rest) ≡ with_word (Bare from (at + length more)) (words_from (at + length more) rest)
 bare_found [] from at rest visible may = let e : at + 0 ≡ at = omega arith in rw e (bare_over from at rest may)
 bare_found (b ∷ more) from at rest visible may =
     let first = and_parts (is_visible b) (list_all is_visible more) visible in

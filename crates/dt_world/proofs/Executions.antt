@@ -42,7 +42,8 @@ pub outcome_there : (done : List (TxnId × Outcome)) (id : TxnId) → Has (map (
 outcome_there [] id h = absurd h
 outcome_there (d ∷ done) id h = go (cases_Bool (same_id id d.0)) h (λ r. outcome_there done id r)
   where
-    go : (same_id id d.0 ≡ true) ⊎ (same_id id d.0 ≡ false) → Has (map (λ x. x.0) (d ∷ done)) id → (Has (map (λ x. x.0) done) id → (o : Outcome) × (outcome_in done id ≡ Some o)) → (o : Outcome) × (outcome_in (d ∷ done) id ≡ Some o)
+    go : (same_id id d.0 ≡ true) ⊎ (same_id id d.0 ≡ false) → Has (map (λ x. x.0) (d ∷ done)) id
+        → (Has (map (λ x. x.0) done) id → (o : Outcome) × (outcome_in done id ≡ Some o)) → (o : Outcome) × (outcome_in (d ∷ done) id ≡ Some o)
     go (inl y) r f = (d.1, rw y refl)
     go (inr n) (inl e) f = absurd (cc (test_of_id id d.0 (sym e)))
     go (inr n) (inr r) f = let g : (o : Outcome) × (outcome_in done id ≡ Some o) = f r in (g.0, rw n g.1)
@@ -129,7 +130,8 @@ module _ (cluster : Cluster) (ok : IsValidCluster cluster) (workload : Workload)
             kept = λ region other lr h. let twice : Some other ≡ Some o = sym ((legal_agree cluster ok workload fits events legal).outcomes region id other lr h) ∙ e in cc;
           }
 
-      here : (id : TxnId) → ((region : ℕ) × (region < cluster.regions) × IsExecutedAt (world_after cluster workload events) region id) → (s : Option Submission) (o : Option Outcome) → serial_outcome cluster workload events id ≡ o
+      here : (id : TxnId) → ((region : ℕ) × (region < cluster.regions) × IsExecutedAt (world_after cluster workload events) region id)
+          → (s : Option Submission) (o : Option Outcome) → serial_outcome cluster workload events id ≡ o
           → AllIn (λ (r : Ran). IsOutcomeOf cluster.regions (world_after cluster workload events) r.id r.outcome) (option_to_list (option_and_then (λ x. option_map (ran id x) o) s))
       here id x None o e = tt
       here id x (Some s) None e = tt

@@ -111,7 +111,8 @@ module _ (cluster : Cluster) (workload : Workload) (events : List Event) where
       (grows_on cluster workload (world_after cluster workload (take i events)) (drop i events) r))
 
   -- each event is legal after those before it
-  pub legal_at : AreLegal cluster workload events → (i : ℕ) (event : Event) → slice_get events i ≡ Some event → AreLegal cluster workload (take i events) × IsLegal cluster workload (world_after cluster workload (take i events)) event
+  pub legal_at : AreLegal cluster workload events → (i : ℕ) (event : Event) → slice_get events i ≡ Some event
+      → AreLegal cluster workload (take i events) × IsLegal cluster workload (world_after cluster workload (take i events)) event
   legal_at legal i event e =
       let r : AreLegal cluster workload (take i events) × AreLegalFrom cluster workload (world_from cluster workload (opening_world cluster workload) (take i events)) (event ∷ drop (i + 1) events) =
       legal_append cluster workload (opening_world cluster workload) (take i events) (event ∷ drop (i + 1) events) (subst (AreLegal cluster workload) (split_at events i event e).0 legal) in

@@ -154,7 +154,8 @@ module _ (cluster : Cluster) (ok : IsValidCluster cluster) (workload : Workload)
         let f : IsFront (node_at (world_after cluster workload (xs ++ Submit region name ∷ [])) region).submitted (node_at (world_after cluster workload (xs ++ Submit region name ∷ ys)) region).submitted =
         subst (λ l. IsFront (node_at (world_after cluster workload (xs ++ Submit region name ∷ [])) region).submitted (node_at (world_after cluster workload l) region).submitted) (append_assoc xs (Submit region name ∷ []) ys)
         grown.submitted in
-        let long : length (node_at (world_after cluster workload (xs ++ Submit region name ∷ [])) region).submitted ≤ length (node_at (world_after cluster workload (xs ++ Submit region name ∷ ys)) region).submitted = front_length _ _ f in
+        let long : length (node_at (world_after cluster workload (xs ++ Submit region name ∷ [])) region).submitted ≤ length
+        (node_at (world_after cluster workload (xs ++ Submit region name ∷ ys)) region).submitted = front_length _ _ f in
         let is : count_at (replay_of (world_after cluster workload (xs ++ Submit region name ∷ []))) region ≡ length (node_at (world_after cluster workload (xs ++ Submit region name ∷ [])) region).submitted =
         count_is (world_after cluster workload (xs ++ Submit region name ∷ [])) region in
         omega arith
@@ -249,7 +250,8 @@ module _ (cluster : Cluster) (ok : IsValidCluster cluster) (workload : Workload)
           ∙ ap (option_map (reply_to (get_or workload.sessions place no_session) (get_or (world_after cluster workload xs).places place idle_place))) s.2
 
       pub answer_replies : (reply : Reply) → IsReply (world_after cluster workload (xs ++ Answer region name ∷ ys)) region name id reply
-          → replies_from cluster workload (xs ++ Answer region name ∷ ys) (opening_world cluster workload) (xs ++ Answer region name ∷ []) ≡ replies_from cluster workload (xs ++ Answer region name ∷ ys) (opening_world cluster workload)
+          → replies_from cluster workload (xs ++ Answer region name ∷ ys) (opening_world cluster workload) (xs ++ Answer region name ∷ []) ≡ replies_from cluster workload
+          (xs ++ Answer region name ∷ ys) (opening_world cluster workload)
           xs ++ reply ∷ []
       answer_replies reply is =
           let subs : Some is.submission ≡ Some w.submission = sym is.found ∙ still_found in

@@ -1,5 +1,6 @@
 -- What the type of a world keeps: what follows of it, and how it stays so when one site steps.
-use Rattle.std.proofs.Common.{◌≡◌, ◌<◌, ◌≤◌, ◌+◌, ℕ, zero, suc, true, false, cond, List, [], ◌∷◌, ◌++◌, length, map, get_or, set, Result, Ok, Err, IsErrAnd, refl, sym, ap, ap₂, subst, ◌∙◌, inl, inr, arith}
+use Rattle.std.proofs.Common.{◌≡◌, ◌<◌, ◌≤◌, ◌+◌, ℕ, zero, suc, true, false, cond, List, [], ◌∷◌, ◌++◌, length, map, get_or}
+use Rattle.std.proofs.Common.{set, Result, Ok, Err, IsErrAnd, refl, sym, ap, ap₂, subst, ◌∙◌, inl, inr, arith}
 use Rattle.std.proofs.lemmas.List.{length-map, length_push, map-set, get_or-set_same, get_or-set_other}
 use Rattle.dt_lists.specs.Lists.{Either, Has}
 use Rattle.dt_lists.proofs.Callers.{all_get, either_nat, get_of_map}
@@ -77,7 +78,8 @@ module _ {cluster : Cluster} {sessions : WorldSessions} {sites : List SiteView} 
   at_region t h = (all_get (IsValidSession cluster) sessions.workload.sessions k.reached.run.fits.sessions t h).region
 
   -- one region steps, and these are the sessions that the regions keep then
-  pub sessions_made : (event : Event) {region : ℕ} → region < cluster.regions → {q : SiteView} {places : List Place} → Steps cluster sessions.workload (world_of sites (places_in sessions)) event region (site_at sites region) q places
+  pub sessions_made : (event : Event) {region : ℕ} → region < cluster.regions → {q : SiteView} {places : List Place}
+      → Steps cluster sessions.workload (world_of sites (places_in sessions)) event region (site_at sites region) q places
       → region_of event ≡ region → takes_effect (world_of sites (places_in sessions)) event ≡ true
       → (later : List SessionsView) → length later ≡ cluster.regions
       → ((r : ℕ) → r < cluster.regions → SessionsStandIn cluster sessions.workload (next cluster sessions.workload (world_of sites (places_in sessions)) event) r (sessions_of later r))
@@ -158,7 +160,8 @@ pub record IsBehind (sites : List SiteView) (region : ℕ) (r : RegionView) (ori
   pub region_is : r ≡ (site_at sites region).region
   pub site_is : (later : RegionView) → record { region = later; origins = origins } ≡ in_region (site_at sites region) later
 
-pub behind : {sites : List SiteView} {region : ℕ} {p : SiteView} {r : RegionView} {origins : List Origin} → region < length sites → p ≡ get_or sites region p → record { region = r; origins = origins } ≡ p → IsBehind sites region r origins
+pub behind : {sites : List SiteView} {region : ℕ} {p : SiteView} {r : RegionView} {origins : List Origin} → region < length sites → p ≡ get_or sites region p
+    → record { region = r; origins = origins } ≡ p → IsBehind sites region r origins
 behind {sites} {region} {p} {r} {origins} lt value is =
     let here : record { region = r; origins = origins } ≡ site_at sites region = is ∙ read_at sites region p lt value in
     record {

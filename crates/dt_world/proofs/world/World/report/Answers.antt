@@ -21,7 +21,8 @@ returns-clause-report g c =
     c.in_ok-replies.ensures ∙ ap (replies_of c.args.self.now.cluster c.args.self.now.workload) c.as_slice.ensures.value in
     let order : c.in_ok-order.field-0 ≡ rans_of c.args.self.now.cluster c.args.self.now.workload c.args.events.items =
     c.in_ok-order.ensures ∙ ap (rans_of c.args.self.now.cluster c.args.self.now.workload) c.as_slice-2.ensures.value in
-    let tables : c.in_ok-tables.field-0 ≡ tables_of c.args.self.now.cluster c.args.self.now.workload c.args.events.items = c.in_ok-tables.ensures ∙ tables_are (led_by c.self.invariant c.self.view_is c.requires.legal c.requires.reached) in
+    let tables : c.in_ok-tables.field-0 ≡ tables_of c.args.self.now.cluster c.args.self.now.workload c.args.events.items = c.in_ok-tables.ensures
+    ∙ tables_are (led_by c.self.invariant c.self.view_is c.requires.legal c.requires.reached) in
     λ i. record { replies = replies i; order = order i; tables = tables i; events = c.from_vec.ensures i }
 
 pub returns-clause-all_ran : goal.returns-clause-all_ran
