@@ -1,7 +1,7 @@
--- What every legal world keeps, for any number of regions, homes and moves (`Inv`): ids, logs, what regions inserted, resolved
--- and executed, and where sessions stand. And that each annotation is rooted in one history of moves (`Rooted`), which is what
--- ties attempts together that use keys of one unit under different homes. From the two follows that all regions agree; the laws of
--- `src/laws.rt` say so.
+-- What every legal world keeps, for any number of regions, homes and moves (`Inv`): ids, logs, what regions inserted,
+-- resolved and executed, and where sessions stand. And that each annotation is rooted in one history of moves (`Rooted`),
+-- which is what ties attempts together that use keys of one unit under different homes. From the two follows that all
+-- regions agree. Read next: src/laws.rt, whose laws say so; docs/PROOF.md tells why it is so.
 use Rattle.std.specs.Prelude.{◌≡◌, ◌<◌, ◌≤◌, ◌↔◌, ◌+◌, ◌*◌, ◌==◌, ℕ, zero, suc, Bool, List, length, map, filter, take, slice_index, slice_get, Option, Some, None}
 use Rattle.std.specs.List.{list_any}
 use Rattle.dt_lists.specs.Lists.{AnyIn, AllIn, Has, Pairwise}

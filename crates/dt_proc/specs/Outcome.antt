@@ -1,5 +1,6 @@
--- What a text of procedures gives: the procedures that it means, or the first fault in it. The first pass speaks first, and the
--- second where the first has no fault. Every text has an outcome, and no text has two: these are laws.
+-- What a text of procedures gives: the procedures that it means, or the first fault in it. The first pass speaks first,
+-- and the second where the first has no fault. Every text has an outcome, and no text has two: these are laws. Read next:
+-- Sound, for what a text that passes is sure to be.
 use Rattle.std.specs.Prelude.{◌≡◌, ℕ, List, [], Ok, Err}
 use Rattle.dt_syntax.specs.declared.token.Placed.{Placed}
 use Rattle.dt_syntax.specs.declared.error.SyntaxError.{SyntaxError}

@@ -1,6 +1,6 @@
--- The second pass: what procedures mean whose syntax is right, or the first fault in their names and kinds. Procedures are walked
--- in order, and the tokens of each in order; an operator is tested after its operands. Names says what is visible where, Tree what
--- is made, and Outcome puts both passes together.
+-- The second pass: what procedures mean whose syntax is right, or the first fault in their names and kinds. Procedures
+-- are walked in order, and the tokens of each in order; an operator is tested after its operands. Names says what is
+-- visible where, and Tree what is made. Read next: Outcome, which puts both passes together.
 use Rattle.std.specs.Prelude.{ℕ, Bool, true, false, if◌then◌else◌, ◌&&◌, ◌||◌, ◌==◌, not, nat_le, nat_lt, nat_eq, List, [], ◌∷◌, ◌++◌, map, Result, Ok, Err}
 use Rattle.std.specs.List.{list_any}
 use Rattle.std.specs.Cmp.Lexicographic.{pointwise}
@@ -38,6 +38,7 @@ after_ok (Err e) next = Err e
 abbrev pub Typed : Type 0
 Typed = ExprTree × Sort
 
+-- whether two sorts are the same
 abbrev pub same_sort : Sort → Sort → Bool
 same_sort sort.Int sort.Int = true
 same_sort sort.Text sort.Text = true
@@ -52,12 +53,15 @@ needs place s typed answer = if same_sort typed.1 s then Ok answer else Err (fau
 abbrev pub needs_stored : {A : Type 0} → ℕ → Typed → A → Checked A
 needs_stored place typed answer = if same_sort typed.1 sort.Bool then Err (fault.Kind place) else Ok answer
 
+-- whether it is one of `== != < <= > >=`
 abbrev pub is_comparison : Op → Bool
 is_comparison o = level_of o == 2
 
+-- whether it is `and` or `or`
 abbrev pub is_logical : Op → Bool
 is_logical o = nat_lt (level_of o) 2
 
+-- whether it is one of `+ - * / %`
 abbrev pub is_arithmetic : Op → Bool
 is_arithmetic o = nat_le 3 (level_of o) && not (is_join o)
 
@@ -68,6 +72,7 @@ fits_both o sort.Text sort.Text = is_join o || is_comparison o
 fits_both o sort.Bool sort.Bool = is_logical o
 fits_both o _ _ = false
 
+-- two operands with an operator at this place between them: wrong kinds are told at the operator
 abbrev pub combined : ℕ → Op → Typed → Typed → Checked Typed
 combined place o a b = if fits_both o a.1 b.1 then Ok (tree.binary o a.0 b.0, sort_given o) else Err (fault.Kind place)
 
@@ -89,6 +94,7 @@ as_written place (Variable n s) = Err (fault.Kind place)
 as_written place (Key k w) = if w then Ok k else Err (fault.Kind place)
 as_written place Unknown = Err (fault.Unknown place)
 
+-- whether a name means nothing where it stands
 abbrev pub is_unknown : Meaning → Bool
 is_unknown Unknown = true
 is_unknown _ = false
@@ -97,14 +103,18 @@ is_unknown _ = false
 abbrev pub as_new : ℕ → Meaning → Checked (Unit {0})
 as_new place m = if is_unknown m then Ok tt else Err (fault.Twice place)
 
+-- the number of the key whose name stands in brackets
 abbrev pub key_of : Scope → Bracketed → Checked ℕ
 key_of scope b = as_key b.name_at (meaning_in scope b.name)
 
+-- what `int(K)`, `text(K)` and `has(K)` are for the key of a number, and what they give
 abbrev pub read_by : Reader → ℕ → Typed
 read_by reads_int k = (tree.number_of k, sort.Int)
 read_by reads_text k = (tree.text_of k, sort.Text)
 read_by reads_presence k = (tree.has_value k, sort.Bool)
 
+-- what `len(..)` and `show(..)` are, and what they give: `len` needs a text, `show` an int; a wrong kind is told at the
+-- word
 abbrev pub made_by : Maker → ℕ → Typed → Checked Typed
 made_by makes_length place a = needs place sort.Text a (tree.length_of a.0, sort.Int)
 made_by makes_text place a = needs place sort.Int a (tree.shown a.0, sort.Text)
@@ -146,15 +156,16 @@ check_all_items scope i more = after_ok (check_item scope i) (λ g. after_ok (ch
 abbrev pub with_new_variable : Scope → List ℕ → Sort → Scope
 with_new_variable scope n s = record scope { variables = scope.variables ++ (n, s) ∷ [] }
 
--- an `if` with one block, and with two
+-- an `if` with one block, of which this is told
 abbrev pub one_block : Scope → ExprTree → Checked BlockTree → Checked (Scope × StmtTree)
 one_block scope f told = after_ok told (λ c. Ok (scope, tree.choose f c done))
 
+-- an `if` with two blocks, of which these are told, the fault of the first one before that of the second
 abbrev pub two_blocks : Scope → ExprTree → Checked BlockTree → Checked BlockTree → Checked (Scope × StmtTree)
 two_blocks scope f told other = after_ok told (λ c. after_ok other (λ d. Ok (scope, tree.choose f c d)))
 
 abbrev mutual
-  -- statements
+  -- statements in order, each with what is visible after those before it
   pub check_block : Scope → Statements → Checked BlockTree
   check_block scope nothing = Ok done
   check_block scope (first s rest) =
@@ -187,10 +198,12 @@ check_part scope (text_part p t) = Ok (item.Text t)
 check_part scope (name_part p n) = after_ok (as_param p sort.Text (meaning_in scope n)) (λ k. Ok (item.Param k))
 check_part scope (show_part p b) = after_ok (as_param b.name_at sort.Int (meaning_in scope b.name)) (λ k. Ok (item.Show k))
 
+-- more parts of a key expression, in order
 abbrev pub check_parts : Scope → List (ℕ × KeyPart) → Checked (List KeyItem)
 check_parts scope [] = Ok []
 check_parts scope (m ∷ more) = after_ok (check_part scope m.1) (λ i. after_ok (check_parts scope more) (λ is. Ok (i ∷ is)))
 
+-- a declaration of a key: its name is new, and its parts are texts, or parameters that fit
 abbrev pub check_key : Scope → KeySyntax → Checked KeyDecl
 check_key scope k =
     after_ok (as_new k.name_at (meaning_in scope k.name)) (λ _. after_ok (check_part scope k.first) (λ i.
@@ -210,10 +223,12 @@ check_keys scope (k ∷ ks) =
 abbrev pub check_param : Scope → Param → Checked Scope
 check_param scope p = after_ok (as_new p.name_at (meaning_in scope p.name)) (λ _. Ok (with_new_variable scope p.name (sort_of p.kind)))
 
+-- parameters in order, each with what is visible after those before it
 abbrev pub check_more_params : Scope → List (ℕ × Param) → Checked Scope
 check_more_params scope [] = Ok scope
 check_more_params scope (m ∷ more) = after_ok (check_param scope m.1) (λ s. check_more_params s more)
 
+-- the parameters of a procedure, with nothing visible before them
 abbrev pub check_params : Params → Checked Scope
 check_params no_param = Ok (record { variables = []; keys = [] })
 check_params (params p more) = after_ok (check_param (record { variables = []; keys = [] }) p) (λ s. check_more_params s more)
@@ -225,6 +240,7 @@ check_proc before p =
     else after_ok (check_params p.params) (λ s. after_ok (check_keys s (p.key ∷ p.more_keys)) (λ r. after_ok (check_block r.1 p.body) (λ b.
     Ok (record { name = p.name; params = param_kinds p.params; keys = r.0; body = b }))))
 
+-- procedures in order, after others
 abbrev pub check_procs : List ProcTree → List ProcSyntax → Checked (List ProcTree)
 check_procs before [] = Ok []
 check_procs before (p ∷ ps) =

@@ -1,7 +1,7 @@
 -- What each rule does to one region, and how each call of a region is answered. The rules are those of a world of regions
 -- (rules 1 and 2 by the words of `Replica`, rules 4 to 6 by `stepped`): here they stand over the region's own fields, so
--- that a region can be stepped by itself. Read `Region` before; `Conditions` says next when a call may be made, and `Sound`
--- what holds of every region.
+-- that a region can be stepped by itself. Read `Region` before. Read next: `Conditions`, for when a call may be made, and
+-- `Sound`, for what holds of every region.
 use Rattle.std.specs.Prelude.{◌≡◌, ◌≢◌, ◌<◌, ◌≤◌, ◌+◌, ◌-◌, ℕ, List, [], ◌∷◌, ◌++◌, map, length, drop, set, replicate, is_some, if◌then◌else◌, Bool, true, false, Result, Ok, Err}
 use Rattle.dt_text.specs.declared.NoMemory.{NoMemory}
 use Rattle.dt_access.specs.declared.TxnId.{TxnId}

@@ -104,6 +104,7 @@ abbrev pub called : Cluster → Workload → World → ℕ → Session → Place
 called cluster workload w region session place None = w
 called cluster workload w region session place (Some call) = world_submitted workload w region session place (attempt_for cluster w region session place call)
 
+-- the world after what this look-up found submits its next call; where there is no such session nothing changes
 abbrev pub submitted : Cluster → Workload → World → ℕ → Option (Session × Place) → World
 submitted cluster workload w region None = w
 submitted cluster workload w region (Some (session, place)) = called cluster workload w region session place (slice_get session.calls place.answered)

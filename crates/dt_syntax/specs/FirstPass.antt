@@ -1,6 +1,6 @@
--- The first pass tells whether a text is made of what procedures are made of: syntax, and what is one too many. The text is read
--- from the front, and the first fault by place is told, so that it is one fault whoever looks for it. Names and kinds are left to
--- the second pass; what it may rest on is said by Limits.
+-- The first pass tells whether a text is made of what procedures are made of: syntax, and what is one too many. The text
+-- is read from the front, and the first fault by place is told, so that it is one fault whoever looks for it. Names and
+-- kinds are left to the second pass. Read next: Limits, for what the second pass may rest on.
 use Rattle.std.specs.Prelude.{◌≡◌, ◌⊎◌, ℕ, ◌+◌, ◌-◌, Bool, true, false, if◌then◌else◌, ◌&&◌, ◌||◌, ◌==◌, nat_le, nat_lt, List, [], ◌∷◌, ◌++◌, length, Some, None}
 use Rattle.dt_syntax.specs.declared.token.Token.{Token}
 use Rattle.dt_syntax.specs.declared.token.Token.TheVariants as tok
@@ -10,23 +10,28 @@ use Rattle.dt_syntax.specs.declared.error.SyntaxError.TheVariants as fault
 use Rattle.dt_syntax.specs.Tokens.{tokens_of}
 use Rattle.dt_syntax.specs.Grammar.{InGrammar, Begins}
 
+-- the word `proc`
 abbrev pub is_proc : Token → Bool
 is_proc tok.Proc = true
 is_proc _ = false
 
+-- the word `read` or `write`
 abbrev pub is_mode : Token → Bool
 is_mode tok.Read = true
 is_mode tok.Write = true
 is_mode _ = false
 
+-- a name
 abbrev pub is_name : Token → Bool
 is_name (tok.Name n) = true
 is_name _ = false
 
+-- a `,`
 abbrev pub is_comma : Token → Bool
 is_comma tok.Comma = true
 is_comma _ = false
 
+-- a `)`
 abbrev pub is_close : Token → Bool
 is_close tok.Close = true
 is_close _ = false
@@ -150,6 +155,8 @@ FaultAfter text before [] place =
     ((tokens_of text).bad ≡ Some place) ⊎ (((tokens_of text).bad ≡ None) × (place ≡ length text) × ¬ (InGrammar before))
 FaultAfter text before (t ∷ ts) place = (t.place ≡ place) × ¬ (Begins (before ++ t ∷ []))
 
+-- the first fault of a text is one of syntax, at this place: some procedures begin with the tokens before it, and none of
+-- these is one too many
 pub record IsSyntaxFault (text : List ℕ) (place : ℕ) : Type 0 where
   pub before : List Placed
   pub after : List Placed

@@ -1,6 +1,6 @@
--- What it means that a line is made of words, said without a reader: the line is spaces and words, a space after each word
--- but the last, and each word is spelled as it should be. Reading.antt finds the words from left to right, and the law
--- `WordsAreExact` there says that it finds just these.
+-- What it means that a line is made of words, said without a reader: the line is spaces and words, a space after each
+-- word but the last, and each word is spelled as it should be. Read next: Reading.antt, which finds the words from left
+-- to right; the law `WordsAreExact` there says that it finds just these.
 use Rattle.std.specs.Prelude.{◌≡◌, ◌≢◌, ℕ, ◌+◌, ◌<◌, Bool, ◌&&◌, ◌==◌, nat_le, List, [], ◌∷◌, ◌++◌, length, slice_index, IsTrue}
 use Rattle.std.specs.List.{list_all}
 use Rattle.dt_text.specs.Printed.{text_word}

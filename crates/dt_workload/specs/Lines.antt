@@ -1,6 +1,7 @@
--- The forms that a line of a workload file can have: `session NAME at REGION`, `call PROC ARG ..`, `move KEY to REGION`. The first
--- word of a call or a move tells its rank, as `call/2`; `call` alone is of rank 5, and so is `call/5`. So the words of a form are
--- a relation: a form may be spelled in two ways, but a line has one form at most. Next: `File`, what lines make together.
+-- The forms that a line of a workload file can have: `session NAME at REGION`, `call PROC ARG ..`, `move KEY to REGION`.
+-- The first word of a call or a move tells its rank, as `call/2`; `call` alone is of rank 5, and so is `call/5`. So the
+-- words of a form are a relation: a form may be spelled in two ways, but a line has one form at most. Read next: `Valid`,
+-- for what the words have to name, and `File`, for what lines make together.
 use Rattle.std.specs.Prelude.{◌≡◌, ◌⊎◌, ℕ, ◌<◌, ◌^◌, List, [], ◌∷◌, ◌++◌, map, codes, FitsSigned}
 use Rattle.std.specs.Int.{w64}
 use Rattle.std.specs.List.{slice_range}

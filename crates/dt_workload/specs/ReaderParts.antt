@@ -1,5 +1,6 @@
--- Inner words, for the private parts of the reader alone: what a line makes of the sessions so far, and why it makes nothing.
--- `File` says the same of whole files; a reader of the contracts of `dt_workload` can skip this file.
+-- Inner words, for the private parts of the reader alone: what a line makes of the sessions so far, and why it makes
+-- nothing. `File` says the same of whole files; a reader of the contracts of `dt_workload` can skip this file. Read next:
+-- `File`.
 use Rattle.std.specs.Prelude.{◌≡◌, ◌≢◌, ℕ, ◌<◌, ◌≤◌, ◌^◌, List, [], ◌∷◌, ◌++◌, slice_get, Option, MatchOption, IsSome}
 use Rattle.std.specs.Fmt.{decimal}
 use Rattle.dt_workload.specs.Lines as lines

@@ -1,6 +1,7 @@
--- What a report follows of the events, one after another. A world does not keep who was answered when; so a report plays the
--- events again, as far as they concern sessions: what each waits for, and how many attempts each region submitted. One learns
--- here what is so followed, and what the report has after the first so many events.
+-- What a report follows of the events, one after another. A world does not keep who was answered when; so a report plays
+-- the events again, as far as they concern sessions: what each waits for, and how many attempts each region submitted.
+-- One learns here what is so followed, and what the report has after the first so many events. Only the private functions
+-- of `World::report` cite this; read `WorldReport` for the report.
 use Rattle.std.specs.Prelude.{◌≡◌, ◌+◌, ℕ, List, length, map, get_or, set, take, filter_map, Option, Some, None, option_map, option_and_then}
 use Rattle.dt_access.specs.Clash.{Bytes}
 use Rattle.dt_access.specs.declared.TxnId.{TxnId}
