@@ -123,7 +123,8 @@ abbrev pub IsPlaced : ℕ → List Submission → Session → ℕ → Option Txn
 IsPlaced tries submitted session answered None = attempts_by session.name submitted ≤ tries * answered
 IsPlaced tries submitted session answered (Some id) = IsWaiting tries submitted session answered id
 
--- a session's place
+-- where a session stands is right: it has no more calls answered than there are, and its attempt, if it waits for one, is
+-- an attempt of its next call
 pub record IsPlaceOf (tries : ℕ) (w : World) (session : Session) (place : Place) : Type 0 where
   pub answered : place.answered ≤ length session.calls
   pub placed : IsPlaced tries (node_at w session.region).submitted session place.answered place.waits

@@ -15,7 +15,7 @@ pub record FoundView : Type 0 where
   pub marks : List Bool
   pub order : List ℕ
 
--- a vertex has its mark
+-- a vertex has its mark, so it is found
 abbrev pub IsMarked : List Bool → ℕ → Type 0
 IsMarked marks v = get_or marks v false ≡ true
 

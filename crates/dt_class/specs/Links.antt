@@ -18,7 +18,7 @@ abbrev pub near_end : Way → Link → ℕ
 near_end Forth l = l.source
 near_end Back l = l.target
 
--- and where it leads
+-- where a link leads for a search of this way: forth to its target, back to its source
 abbrev pub far_end : Way → Link → ℕ
 far_end Forth l = l.target
 far_end Back l = l.source

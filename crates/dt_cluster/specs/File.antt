@@ -83,7 +83,7 @@ IsProcsFaultAt (Some other) fault = fault ≡ record { place = place.Entry (code
 abbrev pub HasProcs : Members → List ProcTree → Type 0
 HasProcs top procs = GivesProcs (get_member (codes "procs") top) procs
 
--- and this is the fault of its procedures
+-- this is the fault of the procedures that a document gives
 abbrev pub IsProcsFault : Members → ClusterFault → Type 0
 IsProcsFault top fault = IsProcsFaultAt (get_member (codes "procs") top) fault
 
@@ -113,7 +113,7 @@ IsRowsFault top fault =
     × ((entries : List Entry) × AreEntriesAt (get_member (codes "rows") top) entries
     × IsFirstFaulty (λ e. e.0) (λ e. (r : Bytes × Value) × IsRow e r) IsBadRow entries name why))
 
--- a document is this cluster
+-- a document of TOML is this cluster: its names are known, and each entry gives what the cluster has
 pub record IsClusterOf (top : Members) (cluster : Cluster) : Type 0 where
   pub known : AreKnown top
   pub numbers : HasNumbers top cluster.regions cluster.version cluster.workers cluster.tries cluster.drop cluster.repeat
@@ -131,7 +131,7 @@ IsFaultOf top fault =
     ⊎ (((procs : List ProcTree) × HasProcs top procs) × (IsHomesFault top version regions fault
     ⊎ (((homes : List (Bytes × ℕ)) × HasHomes top version regions homes) × IsRowsFault top fault)))))))
 
--- the bytes are this cluster
+-- the bytes are a cluster file of this cluster
 abbrev pub IsCluster : Bytes → Cluster → Type 0
 IsCluster bytes cluster = (top : Members) × IsDocument bytes top × IsClusterOf top cluster
 

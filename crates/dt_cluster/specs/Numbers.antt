@@ -57,6 +57,6 @@ IsAtFault entry (Some other) cause = cause ≡ Kind
 abbrev pub HasNumber : Members → NumberEntry → ℕ → Type 0
 HasNumber top entry n = GivesNumber entry (get_member entry.name top) n
 
--- and this is the cause for which the entry is at fault in it
+-- the entry is at fault in a document, for this cause
 abbrev pub HasBadNumber : Members → NumberEntry → ClusterCause → Type 0
 HasBadNumber top entry cause = IsAtFault entry (get_member entry.name top) cause

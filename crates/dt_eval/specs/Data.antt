@@ -68,15 +68,15 @@ pub record RunState : Type 0 where
 abbrev pub row_at : List Bytes → RunState → ℕ → Option Value
 row_at names s k = value_in s.rows (declared_key names k)
 
--- with one more variable
+-- a state with one more variable
 abbrev pub with_variable : Datum → RunState → RunState
 with_variable d s = record { variables = s.variables ++ d ∷ []; rows = s.rows; given = s.given }
 
--- with a new value in the row of a declared key, or none
+-- a state in which the row of a declared key has a new value or none
 abbrev pub with_row_value : List Bytes → ℕ → Option Value → RunState → RunState
 with_row_value names k value s = record { variables = s.variables; rows = with_value (declared_key names k) value s.rows; given = s.given }
 
--- with one more value given
+-- a state with one more value given
 abbrev pub with_given : Option Value → RunState → RunState
 with_given value s = record { variables = s.variables; rows = s.rows; given = s.given ++ value ∷ [] }
 

@@ -54,7 +54,7 @@ IsFirstBadKey [] i = ⊥
 IsFirstBadKey (name ∷ names) zero = ¬ (IsKey name)
 IsFirstBadKey (name ∷ names) (suc i) = IsKey name × IsFirstBadKey names i
 
--- the mode of a declaration
+-- the mode of a declaration: Write where the key may be written, else Read
 abbrev pub mode_of : Bool → Mode
 mode_of true = Write
 mode_of false = Read

@@ -35,7 +35,7 @@ kind_word (Resolve region ids) = codes "resolve"
 kind_word (Execute region id) = codes "execute"
 kind_word (Answer region session) = codes "answer"
 
--- the words after its region
+-- the words of an event after that of its region
 abbrev pub argument_words : Event → List (List ℕ)
 argument_words (Submit region session) = session ∷ []
 argument_words (Append home source number) = decimal source ∷ decimal number ∷ []
@@ -45,7 +45,7 @@ argument_words (Resolve region ids) = map id_text ids
 argument_words (Execute region id) = id_text id ∷ []
 argument_words (Answer region session) = session ∷ []
 
--- the words of an event
+-- the words of an event: its kind, its region, and what else it names
 abbrev pub event_words : Event → List (List ℕ)
 event_words event = kind_word event ∷ decimal (region_of event) ∷ argument_words event
 

@@ -22,7 +22,7 @@ pub record AreEdges (view : View) (links : List Link) : Type 0 where
 pub record AreTurned (view : View) (links : List Link) : Type 0 where
   pub members : (u t : TxnId) → IsLinked links u t ↔ Edge view t u
 
--- the link turned round
+-- a link turned round
 abbrev pub turned_link : Link → Link
 turned_link l = record { from = l.to; to = l.from }
 

@@ -33,6 +33,6 @@ abbrev pub as_entry : Option (ℕ × Sort) → Meaning → Meaning
 as_entry None other = other
 as_entry (Some e) other = Variable e.0 e.1
 
--- what a name means
+-- what a name means where this is visible: a variable, else a key, else nothing
 abbrev pub meaning_in : Scope → List ℕ → Meaning
 meaning_in scope name = as_entry (entry_of scope.variables name) (as_key_entry (entry_of scope.keys name))

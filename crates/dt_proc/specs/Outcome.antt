@@ -39,10 +39,10 @@ Outcome text (Err (fault.Unknown place)) = SecondTells text (Err (fault.Unknown 
 Outcome text (Err (fault.Kind place)) = SecondTells text (Err (fault.Kind place))
 Outcome text (Ok procs) = SecondTells text (Ok procs)
 
--- every text has an outcome
+-- a law: every text has an outcome
 abbrev pub TextsHaveAnOutcome : Type 0
 TextsHaveAnOutcome = (text : List ℕ) → (told : Checked (List ProcTree)) × Outcome text told
 
--- no text has two outcomes
+-- a law: no text has two outcomes
 abbrev pub TextsHaveOneOutcome : Type 0
 TextsHaveOneOutcome = (text : List ℕ) (one other : Checked (List ProcTree)) → Outcome text one → Outcome text other → one ≡ other

@@ -76,19 +76,19 @@ fits_both o _ _ = false
 abbrev pub combined : ℕ → Op → Typed → Typed → Checked Typed
 combined place o a b = if fits_both o a.1 b.1 then Ok (tree.binary o a.0 b.0, sort_given o) else Err (fault.Kind place)
 
--- the variable of a name
+-- a name that stands for a value, at this place: it has to mean a variable
 abbrev pub as_variable : ℕ → Meaning → Checked Typed
 as_variable place (Variable n s) = Ok (tree.variable n, s)
 as_variable place (Key k w) = Err (fault.Kind place)
 as_variable place Unknown = Err (fault.Unknown place)
 
--- the number of the key of a name
+-- a name that stands for a key, at this place: the number of the key that it has to mean
 abbrev pub as_key : ℕ → Meaning → Checked ℕ
 as_key place (Variable n s) = Err (fault.Kind place)
 as_key place (Key k w) = Ok k
 as_key place Unknown = Err (fault.Unknown place)
 
--- the number of the key of a name, which is declared `write`
+-- a name that is set or cleared, at this place: the number of the key that it has to mean, which is declared `write`
 abbrev pub as_written : ℕ → Meaning → Checked ℕ
 as_written place (Variable n s) = Err (fault.Kind place)
 as_written place (Key k w) = if w then Ok k else Err (fault.Kind place)
@@ -99,7 +99,7 @@ abbrev pub is_unknown : Meaning → Bool
 is_unknown Unknown = true
 is_unknown _ = false
 
--- a name that is not visible yet
+-- a name that is given to a new thing, at this place: it must not be visible yet
 abbrev pub as_new : ℕ → Meaning → Checked (Unit {0})
 as_new place m = if is_unknown m then Ok tt else Err (fault.Twice place)
 
@@ -138,21 +138,21 @@ abbrev mutual
   check_links scope a no_link = Ok a
   check_links scope a (link p o x more) = after_ok (check scope x) (λ b. after_ok (combined p o a b) (λ c. check_links scope c more))
 
--- an item of `give`
+-- an item of `give`: a key, or an expression that gives what a row can have, of which a fault is told at its first token
 abbrev pub check_item : Scope → Item → Checked GiveTree
 check_item scope (row_item p b) = after_ok (key_of scope b) (λ k. Ok (tree.row k))
 check_item scope (value_item x) = after_ok (check scope x) (λ a. needs_stored (front_place x) a (tree.value a.0))
 
--- more items
+-- items of `give` after the first, in order
 abbrev pub check_items : Scope → List (ℕ × Item) → Checked (List GiveTree)
 check_items scope [] = Ok []
 check_items scope (m ∷ more) = after_ok (check_item scope m.1) (λ g. after_ok (check_items scope more) (λ gs. Ok (g ∷ gs)))
 
--- the items of a `give`
+-- all items of a `give`, in order
 abbrev pub check_all_items : Scope → Item → List (ℕ × Item) → Checked (List GiveTree)
 check_all_items scope i more = after_ok (check_item scope i) (λ g. after_ok (check_items scope more) (λ gs. Ok (g ∷ gs)))
 
--- a variable more
+-- what is visible with one variable more
 abbrev pub with_new_variable : Scope → List ℕ → Sort → Scope
 with_new_variable scope n s = record scope { variables = scope.variables ++ (n, s) ∷ [] }
 
@@ -192,7 +192,7 @@ as_param place s (Variable n t) = if same_sort t s then Ok n else Err (fault.Kin
 as_param place s (Key k w) = Err (fault.Kind place)
 as_param place s Unknown = Err (fault.Unknown place)
 
--- a part of a key expression
+-- a part of a key expression: a text, a text parameter, or `show` of a number parameter
 abbrev pub check_part : Scope → KeyPart → Checked KeyItem
 check_part scope (text_part p t) = Ok (item.Text t)
 check_part scope (name_part p n) = after_ok (as_param p sort.Text (meaning_in scope n)) (λ k. Ok (item.Param k))
@@ -209,7 +209,7 @@ check_key scope k =
     after_ok (as_new k.name_at (meaning_in scope k.name)) (λ _. after_ok (check_part scope k.first) (λ i.
     after_ok (check_parts scope k.more) (λ is. Ok (record { write = k.write; items = i ∷ is }))))
 
--- a key more
+-- what is visible with one key more
 abbrev pub with_new_key : Scope → List ℕ → Bool → Scope
 with_new_key scope n w = record scope { keys = scope.keys ++ (n, w) ∷ [] }
 
@@ -233,7 +233,8 @@ abbrev pub check_params : Params → Checked Scope
 check_params no_param = Ok (record { variables = []; keys = [] })
 check_params (params p more) = after_ok (check_param (record { variables = []; keys = [] }) p) (λ s. check_more_params s more)
 
--- a procedure, after others
+-- a procedure, after others: its name is new among theirs, and then its parameters, its keys and its statements are
+-- tested
 abbrev pub check_proc : List ProcTree → ProcSyntax → Checked ProcTree
 check_proc before p =
     if list_any (λ q. pointwise nat_eq q.name p.name) before then Err (fault.Twice p.name_at)

@@ -33,7 +33,7 @@ TakesSort Mul s = s ≡ sort.Int
 TakesSort Div s = s ≡ sort.Int
 TakesSort Rem s = s ≡ sort.Int
 
--- what an operator gives
+-- the sort of what an operator gives
 abbrev pub sort_given : Op → Sort
 sort_given Join = sort.Text
 sort_given Add = sort.Int

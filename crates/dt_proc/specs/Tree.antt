@@ -6,7 +6,7 @@ use Rattle.dt_syntax.specs.declared.kinds.Kind.{Kind}
 use Rattle.dt_proc.specs.declared.tree.KeyDecl.{KeyDecl}
 use Rattle.dt_syntax.specs.declared.operator.Op.{Op}
 
--- an expression
+-- an expression. A variable, or the key of a row, is told by its number
 pub data ExprTree : Type 0 where
   number : ℤ → ExprTree
   text : List ℕ → ExprTree
@@ -41,7 +41,7 @@ mutual
     done : BlockTree
     then : StmtTree → BlockTree → BlockTree
 
--- a procedure
+-- a procedure: its name, the kinds of its parameters, the declarations of its keys, and its statements
 pub record ProcTree : Type 0 where
   pub name : List ℕ
   pub params : List Kind

@@ -53,7 +53,7 @@ after_submit procs s rank body = with_submission s (txn_for procs s rank body)
 abbrev pub keep : List Txn → List Txn → Txn → List Txn
 keep submitted foreign txn = if is_some (find_txn (submitted ++ foreign) txn.id) then foreign else foreign ++ txn ∷ []
 
--- the same after several, one after another
+-- what such a region has of others after it got several transactions, one after another
 abbrev pub keep_all : List Txn → List Txn → List Txn → List Txn
 keep_all submitted foreign [] = foreign
 keep_all submitted foreign (txn ∷ txns) = keep_all submitted (keep submitted foreign txn) txns
@@ -103,7 +103,7 @@ after_step procs s event = record s { here = stepped procs (held s) s.here event
 abbrev pub with_event : RegionView → RegionState → Event → RegionView
 with_event r state event = record { state = state; events = r.events ++ event ∷ [] }
 
--- a submission gives its id
+-- a submission answers the id that the transaction got, which is the next one of the region
 abbrev pub MakesSubmit : List ProcTree → RegionView → List ℕ → ℕ → Body → Result TxnId NoMemory → RegionView → Type 0
 MakesSubmit procs r session rank body (Ok id) after =
     (id ≡ id_for r.state) × (after ≡ with_event r (after_submit procs r.state rank body) (Submit r.state.number session))

@@ -18,7 +18,7 @@ pub record IsExecutableBy (order : View → TxnId → TxnId → Type 0) (view : 
   -- if it is deadlocked with others, their group was resolved
   pub settled : (ids : List TxnId) → IsClass view t ids → 2 ≤ length ids → Has resolved ids
 
--- and so it may where the sooner one comes first
+-- t may be executed where ties are broken by rank and then by id: this is what `execute` asks for in the store
 abbrev pub IsExecutable : View → List (List TxnId) → List TxnId → TxnId → Type 0
 IsExecutable view resolved done t = IsExecutableBy IsSooner view resolved done t
 
@@ -41,7 +41,7 @@ pub record HasNothingToDoBy (order : View → TxnId → TxnId → Type 0) (view 
   pub none_executable : (t : TxnId) → ¬ (IsExecutableBy order view resolved done t)
   pub none_resolvable : (ids : List TxnId) → ¬ (IsResolvable view resolved done ids)
 
--- and so it is where the sooner one comes first
+-- nothing is left to do where ties are broken by rank and then by id
 abbrev pub HasNothingToDo : View → List (List TxnId) → List TxnId → Type 0
 HasNothingToDo view resolved done = HasNothingToDoBy IsSooner view resolved done
 

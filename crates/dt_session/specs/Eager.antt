@@ -52,7 +52,7 @@ first_events cluster region t ((s, call) ∷ sessions) placed =
     then Submit region s.name ∷ Append region region placed ∷ first_events cluster region t sessions (placed + 1)
     else Submit region s.name ∷ first_events cluster region t sessions placed
 
--- each event changes the world
+-- each event changes the world in which it happens
 abbrev pub AllChange : Cluster → Workload → World → List Event → Type 0
 AllChange cluster workload w [] = Unit {0}
 AllChange cluster workload w (event ∷ events) = (next cluster workload w event ≢ w) × AllChange cluster workload (next cluster workload w event) events

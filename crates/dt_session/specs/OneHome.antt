@@ -21,6 +21,6 @@ abbrev pub HasOneHome : Cluster → Body → Type 0
 HasOneHome cluster (Call proc args) = length (homes_at_first cluster (Call proc args)) ≡ 1
 HasOneHome cluster (Move key target) = ⊥
 
--- so has each call of each session
+-- no session of the workload wants a move, and each of their calls has one home before anything is moved
 abbrev pub CallsHaveOneHome : Cluster → Workload → Type 0
 CallsHaveOneHome cluster workload = AllIn (λ session. AllIn (λ call. HasOneHome cluster (body_of call.wanted)) session.calls) workload.sessions

@@ -39,7 +39,7 @@ abbrev pub executed_id : Event → Option TxnId
 executed_id (Execute region id) = Some id
 executed_id event = None
 
--- the ids without one of them
+-- a list of ids without this one
 abbrev pub without : TxnId → List TxnId → List TxnId
 without id ids = filter (λ other. not (same_id id other)) ids
 

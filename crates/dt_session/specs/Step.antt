@@ -56,7 +56,7 @@ MayHappen cluster workload w (Execute region id) = MayStep (received_logs w regi
 -- a session of the region may be answered
 MayHappen cluster workload w (Answer region session) = MayAnswer cluster w region (session_at workload.sessions w.places region session)
 
--- an event is legal in a world
+-- an event is legal in a world: the regions that it names exist, and its rule allows it there
 pub record IsLegal (cluster : Cluster) (workload : Workload) (w : World) (event : Event) : Type 0 where
   pub regions : RegionsExist cluster.regions event
   pub allowed : MayHappen cluster workload w event

@@ -51,6 +51,6 @@ abbrev pub body_of : Wanted → Body
 body_of (wanted.Call proc args) = Call proc args
 body_of (wanted.Move key target) = Move key target
 
--- the same with the rank that a workload gives it
+-- what a call or a move of a workload is to do, with the rank that the workload gives it
 abbrev pub ranked_body : Ranked → ℕ × Body
 ranked_body call = (call.rank, body_of call.wanted)

@@ -10,39 +10,39 @@ use Rattle.dt_syntax.specs.declared.error.SyntaxError.TheVariants as fault
 use Rattle.dt_syntax.specs.Tokens.{tokens_of}
 use Rattle.dt_syntax.specs.Grammar.{InGrammar, Begins}
 
--- the word `proc`
+-- whether a token is the word `proc`
 abbrev pub is_proc : Token → Bool
 is_proc tok.Proc = true
 is_proc _ = false
 
--- the word `read` or `write`
+-- whether a token is the word `read` or `write`
 abbrev pub is_mode : Token → Bool
 is_mode tok.Read = true
 is_mode tok.Write = true
 is_mode _ = false
 
--- a name
+-- whether a token is a name
 abbrev pub is_name : Token → Bool
 is_name (tok.Name n) = true
 is_name _ = false
 
--- a `,`
+-- whether a token is a `,`
 abbrev pub is_comma : Token → Bool
 is_comma tok.Comma = true
 is_comma _ = false
 
--- a `)`
+-- whether a token is a `)`
 abbrev pub is_close : Token → Bool
 is_close tok.Close = true
 is_close _ = false
 
--- a `(` or `{`
+-- whether a token opens a bracket: `(` or `{`
 abbrev pub is_opening : Token → Bool
 is_opening tok.Open = true
 is_opening tok.Begin = true
 is_opening _ = false
 
--- a `)` or `}`
+-- whether a token closes a bracket: `)` or `}`
 abbrev pub is_closing : Token → Bool
 is_closing tok.Close = true
 is_closing tok.End = true
@@ -120,7 +120,7 @@ is_token_too_many earlier t = is_of_expression t && nat_le 256 (in_a_row earlier
 abbrev pub is_bracket_too_many : List Placed → Token → Bool
 is_bracket_too_many earlier t = is_opening t && nat_le 64 (brackets_open earlier)
 
--- a token is one too many
+-- whether a token, after these others, is one too many of some kind
 abbrev pub is_too_many : List Placed → Token → Bool
 is_too_many earlier t =
     is_proc_too_many earlier t || is_param_too_many earlier t || is_key_too_many earlier t || is_token_too_many earlier t

@@ -18,7 +18,7 @@ use Rattle.dt_syntax.specs.declared.token.Placed.{Placed}
 abbrev pub at : ℕ → Token → Placed
 at place token = record { place = place; token = token }
 
--- '(' NAME ')'
+-- a name in brackets: '(' NAME ')'
 pub record Bracketed : Type 0 where
   pub open_at : ℕ
   pub name_at : ℕ
@@ -35,7 +35,7 @@ pub data Reader : Type 0 where
   reads_text : Reader
   reads_presence : Reader
 
--- the token of its word
+-- the token of the word by which a row is read
 abbrev pub reader_token : Reader → Token
 reader_token reads_int = IntWord
 reader_token reads_text = TextWord
@@ -46,7 +46,7 @@ pub data Maker : Type 0 where
   makes_length : Maker
   makes_text : Maker
 
--- the token of its word
+-- the token of the word by which a value is made
 abbrev pub maker_token : Maker → Token
 maker_token makes_length = Len
 maker_token makes_text = Show
@@ -127,7 +127,7 @@ level_of op.Mul = 4
 level_of op.Div = 4
 level_of op.Rem = 4
 
--- `++`
+-- whether it is `++`, which joins texts
 abbrev pub is_join : Op → Bool
 is_join op.Join = true
 is_join _ = false
@@ -168,7 +168,7 @@ kind_token kind.Text = TextWord
 abbrev pub param_tokens : Param → List Placed
 param_tokens p = at p.name_at (Name p.name) ∷ at p.colon_at Colon ∷ at p.kind_at (kind_token p.kind) ∷ []
 
--- [param {',' param}]
+-- parameters: [param {',' param}]
 pub data Params : Type 0 where
   no_param : Params
   params : Param → List (ℕ × Param) → Params
@@ -313,7 +313,7 @@ proc_tokens p =
 abbrev pub IsProc : ProcSyntax → Type 0
 IsProc p = AreStatements p.body
 
--- procs = {proc}
+-- the tokens of procedures: procs = {proc}
 abbrev pub procs_tokens : List ProcSyntax → List Placed
 procs_tokens procs = flat_map proc_tokens procs
 

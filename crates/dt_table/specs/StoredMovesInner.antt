@@ -17,7 +17,7 @@ use Rattle.dt_table.specs.declared.stored.StoredMove.{StoredMove}
 use Rattle.dt_table.specs.declared.stored.StoredUnit.{StoredUnit}
 use Rattle.dt_table.specs.declared.table.Table.TheInside.{Inside}
 
--- the move itself
+-- the move that is kept so
 abbrev pub moved_of : StoredMove → Moved
 moved_of m = record { target = m.target; by = m.by }
 

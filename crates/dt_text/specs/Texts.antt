@@ -9,7 +9,7 @@ use Rattle.std.specs.List.{list_all}
 abbrev pub Bytes : Type 0
 Bytes = List ℕ
 
--- `a` to `z` and `0` to `9`
+-- whether a byte is one of `a` to `z` and `0` to `9`
 abbrev pub is_letter_or_digit : ℕ → Bool
 is_letter_or_digit b = nat_le 97 b && nat_le b 122 || nat_le 48 b && nat_le b 57
 

@@ -58,7 +58,7 @@ IsWorkload cluster file workload = AreSessions cluster (lines_of file) workload.
 abbrev pub Needs : Type 0 → WorkloadCause → (WorkloadCause → Type 0) → WorkloadCause → Type 0
 Needs P why later told = ((told ≡ why) × ¬ P) ⊎ (P × later told)
 
--- nothing more is needed
+-- nothing more is needed, so there is no fault
 abbrev pub NothingMore : WorkloadCause → Type 0
 NothingMore told = ⊥
 

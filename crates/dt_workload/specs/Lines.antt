@@ -45,13 +45,13 @@ IsFirstWord (session_line name region) head = head ≡ bare (codes "session")
 IsFirstWord (call_line rank proc args) head = IsRanked (codes "call") rank head
 IsFirstWord (move_line rank key region) head = IsRanked (codes "move") rank head
 
--- the words after it
+-- the words of a form after the one that begins it
 abbrev pub other_words : Form → List Said
 other_words (session_line name region) = bare name ∷ bare (codes "at") ∷ bare (decimal region) ∷ []
 other_words (call_line rank proc args) = bare proc ∷ map argument_word args
 other_words (move_line rank key region) = bare key ∷ bare (codes "to") ∷ bare (decimal region) ∷ []
 
--- words spell the form
+-- the words spell the form: the word that begins it, and then the others
 abbrev pub SpellForm : Form → List Said → Type 0
 SpellForm form words = (head : Said) × IsFirstWord form head × (words ≡ head ∷ other_words form)
 

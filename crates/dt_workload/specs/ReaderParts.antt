@@ -26,7 +26,7 @@ use Rattle.dt_workload.specs.declared.workload.Ranked.{Ranked}
 use Rattle.dt_workload.specs.declared.workload.Wanted.TheVariants.{Call, Move}
 use Rattle.dt_workload.specs.declared.workload.Session.{Session}
 
--- the form that is read
+-- the form that the reader's own value stands for
 abbrev pub form_of : Form → lines.Form
 form_of (said_form.Session name region) = lines.session_line name.now region
 form_of (said_form.Call rank name args) = lines.call_line rank name.now args

@@ -18,11 +18,11 @@ use Rattle.dt_site.specs.StandsIn.{IsReached, StandsIn}
 use Rattle.dt_world.specs.WorldView.{WorldView}
 use Rattle.dt_world.specs.WorldSessions.{WorldSessions, places_in}
 
--- one of the sites
+-- the site of a region, among those of all regions
 abbrev pub site_at : List SiteView → ℕ → SiteView
 site_at sites region = get_or sites region no_site
 
--- the sessions of one of the regions
+-- the sessions of a region, among those of all regions
 abbrev pub sessions_of : List SessionsView → ℕ → SessionsView
 sessions_of all region = get_or all region no_sessions
 
