@@ -31,7 +31,7 @@
 //! A key may be moved to another home by a transaction of its own; in version 2 of a cluster a move takes along all keys of a
 //! granule. A transaction keeps how often each of its keys was moved when its region submitted it. Where it runs after a move
 //! more than that, the key's log may be another one by now, so the attempt is `Stale`: it does nothing, and its session may try
-//! again. An attempt that runs before the move is not stale, whenever it was submitted.
+//! again. An attempt that runs before the move is not stale by it, whenever it was submitted.
 //!
 //! Read next: `specs/World` (what a state is), `specs/Tries` (when a session may go on), `specs/Step` (the rules), `specs/Run`
 //! (lists of events and their serial order), `specs/Agreement` (what all regions agree on), `specs/Sessions` (the sessions of
