@@ -1,5 +1,5 @@
--- Scaffolding: a frame, which is what the code keeps of a run, and the state of the run that it stands for. Only the
--- private functions of `run` cite this. Read Meaning for what a run is.
+-- Scaffolding: a frame, which is what the code keeps of a run, and the state of the run that it stands for. Only private
+-- functions of this crate cite this. Read Meaning for what a run is.
 use Rattle.std.specs.Prelude.{◌≡◌, ◌<◌, ℕ, ℤ, Bool, List, map, length, slice_index_or, [], Option, Some, None, Result, Ok, Err}
 use Rattle.dt_proc.specs.declared.tree.KeyItem.{KeyItem}
 use Rattle.dt_proc.specs.declared.tree.KeyItem.TheVariants as item

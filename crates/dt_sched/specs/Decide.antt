@@ -1,6 +1,7 @@
--- What a region may decide from its view alone: which transactions it may execute, and which groups that wait for each
--- other it may resolve. Both wait until all that reaches a transaction is complete, so that another region, which has
--- seen other fronts of the logs, decides alike. Read next: src/laws.rt, for why it does; and Sched.antt, for who answers.
+-- What a region may decide from its own view, and from what it has resolved and done: which transactions it may execute,
+-- and which groups that wait for each other it may resolve. Both wait until all that reaches a transaction is complete,
+-- so that another region, which has seen other fronts of the logs, decides alike. Read next: src/laws.rt, for why it
+-- does; and Sched.antt, for who answers.
 use Rattle.std.specs.Prelude.{◌⊎◌, ◌≤◌, List, length}
 use Rattle.dt_lists.specs.Lists.{AllIn, Has, EachThen, Distinct}
 use Rattle.dt_access.specs.declared.TxnId.{TxnId}

@@ -1,6 +1,7 @@
 -- A scheduler as its callers see it: what was inserted, resolved and done, and nothing of how it finds its answers. So a
 -- plain one, which gathers the graph anew each time, and a quicker one have the same contracts (trait `Scheduler`). What
--- may be executed and resolved is said in Decide.antt, over the view alone. Read next: src/scheduler.rt, the trait.
+-- may be executed and resolved is said in Decide.antt, over these three things alone. Read next: src/scheduler.rt, the
+-- trait.
 use Rattle.std.specs.Prelude.{◌≡◌, ◌<◌, ℕ, List, [], ◌∷◌, ◌++◌, Option, Some, None, length, sum_by, set, replicate}
 use Rattle.dt_lists.specs.Lists.{AllIn, Has}
 use Rattle.dt_access.specs.declared.TxnId.{TxnId}

@@ -1,7 +1,6 @@
 -- What a key, a name and a text may be. Contracts see each of them as its bytes; the type's invariant says which bytes
--- these may be, so whoever holds a `Key` holds an `IsKey`. The limits (128, 32 and 256 bytes) keep every count of the
--- store within 32 bits. Read next: Printed.antt, for how they are printed, and Words.antt, for how a line is cut into
--- words.
+-- these may be, so whoever holds a `Key` holds an `IsKey`. A key has at most 128 bytes, a name 32 and a text 256. Read
+-- next: Printed.antt, for how they are printed, and Words.antt, for how a line is cut into words.
 use Rattle.std.specs.Prelude.{ℕ, ◌<◌, ◌≤◌, Bool, ◌&&◌, ◌||◌, ◌==◌, nat_le, not, List, length, Option, position, IsTrue}
 use Rattle.std.specs.List.{list_all}
 
