@@ -66,9 +66,9 @@ pub record IsNextTry (view : WorldView) (region : ℕ) (name : Bytes) (origin : 
   pub body_is : body ≡ body_of call.wanted
 
 -- what the session submits next; none exactly where it may submit nothing
-abbrev pub IsNextOf : WorldView → ℕ → Bytes → Option (Origin × (ℕ × Body)) → Type 0
+abbrev pub IsNextOf : WorldView → ℕ → Bytes → Option (Origin × ℕ × Body) → Type 0
 IsNextOf view region name None = ¬ (MaySubmit view.cluster view.state region (session_at view.workload.sessions view.state.places region name))
-IsNextOf view region name (Some (origin, (rank, body))) = IsNextTry view region name origin rank body
+IsNextOf view region name (Some (origin, rank, body)) = IsNextTry view region name origin rank body
 
 -- the session of this name at a region may be answered
 abbrev pub MayBeTold : WorldView → ℕ → Bytes → Type 0
