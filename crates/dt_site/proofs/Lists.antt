@@ -1,6 +1,6 @@
 -- Lists of logs, of transactions and of attempts, with one more item or with one of them changed.
-use Rattle.std.proofs.Common.{◌≡◌, ◌≢◌, ◌<◌, ◌≤◌, ◌+◌, ◌⊎◌, ℕ, zero, suc, Bool, true, false, cond, List, [], ◌∷◌, ◌++◌, length, get_or, set, take, slice_get}
-use Rattle.std.proofs.Common.{Some, refl, sym, ap, subst, ◌∙◌, inl, inr, append_assoc, arith}
+use Rattle.std.proofs.Common.{◌≡◌, ◌<◌, ◌≤◌, ◌+◌, ◌⊎◌, ℕ, zero, suc, Bool, true, false, cond, List, [], ◌∷◌, ◌++◌, length, get_or, set, take, slice_get}
+use Rattle.std.proofs.Common.{Some, refl, sym, ap, subst, ◌∙◌, inl, inr, append-nil, append_assoc, arith}
 use Rattle.std.specs.Prelude.{is_some}
 use Rattle.std.proofs.lemmas.Bool.{cases_Bool}
 use Rattle.std.proofs.lemmas.List.{length_push, length-take}
@@ -19,20 +19,6 @@ use Rattle.dt_region.specs.Rules.{keep, keep_all}
 use Rattle.dt_session.specs.World.{Submission}
 use Rattle.dt_site.specs.declared.site.Origin.{Origin}
 use Rattle.dt_site.specs.Site.{attempt, attempts}
-
--- changes of lists
-
-pub set_again : {A : Type 0} (xs : List A) (i : ℕ) (x y : A) → set (set xs i x) i y ≡ set xs i y
-set_again [] i x y = refl
-set_again (z ∷ xs) zero x y = refl
-set_again (z ∷ xs) (suc i) x y = ap (λ l. z ∷ l) (set_again xs i x y)
-
-pub set_apart : {A : Type 0} (xs : List A) (i j : ℕ) (x y : A) → i ≢ j → set (set xs i x) j y ≡ set (set xs j y) i x
-set_apart [] i j x y n = refl
-set_apart (z ∷ xs) zero zero x y n = absurd (n refl)
-set_apart (z ∷ xs) zero (suc j) x y n = refl
-set_apart (z ∷ xs) (suc i) zero x y n = refl
-set_apart (z ∷ xs) (suc i) (suc j) x y n = ap (λ l. z ∷ l) (set_apart xs i j x y (λ e. n (ap suc e)))
 
 pub fronts_set : (lengths : List ℕ) (logs : View) (home n : ℕ) (log : List Part) → home < length lengths → fronts (set lengths home n) (set logs home log) ≡ set (fronts lengths logs) home (take n log)
 fronts_set lengths [] home n log lt = refl
@@ -86,17 +72,13 @@ find_more (x ∷ xs) ys t id u e = go (cases_Bool (same_id x.id id)) (find_more 
     go (inl y) f = let is : Some x ≡ Some u = rw y at e in inl (rw y is)
     go (inr n) f = elim (f (rw n at e)) [ inl h ↦ inl (rw n h) | inr h ↦ inr h ]
 
-append_nil : {A : Type 0} (xs : List A) → xs ++ [] ≡ xs
-append_nil [] = refl
-append_nil (x ∷ xs) = ap (λ l. x ∷ l) (append_nil xs)
-
 -- what is held with one more transaction of another was held before, or is that one
 pub held_more : (submitted foreign : List Txn) (t : Txn) (id : TxnId) (u : Txn) → find_txn (submitted ++ keep submitted foreign t) id ≡ Some u → (find_txn (submitted ++ foreign) id ≡ Some u) ⊎ ((t ≡ u) × (t.id ≡ id))
 held_more submitted foreign t id u e = go (is_some (find_txn (submitted ++ foreign) t.id)) e
   where
     go : (b : Bool) → find_txn (submitted ++ cond b foreign (foreign ++ t ∷ [])) id ≡ Some u → (find_txn (submitted ++ foreign) id ≡ Some u) ⊎ ((t ≡ u) × (t.id ≡ id))
     go true h = inl h
-    go false h = subst (λ l. (find_txn l id ≡ Some u) ⊎ ((t ≡ u) × (t.id ≡ id))) (append_nil (submitted ++ foreign))
+    go false h = subst (λ l. (find_txn l id ≡ Some u) ⊎ ((t ≡ u) × (t.id ≡ id))) (append-nil (submitted ++ foreign))
         (find_more (submitted ++ foreign) [] t id u (subst (λ l. find_txn l id ≡ Some u) (sym (append_assoc submitted foreign (t ∷ []))) h))
 
 pub held_all : (submitted foreign txns : List Txn) (id : TxnId) (u : Txn) → find_txn (submitted ++ keep_all submitted foreign txns) id ≡ Some u → (find_txn (submitted ++ foreign) id ≡ Some u) ⊎ (Has txns u × (u.id ≡ id))
