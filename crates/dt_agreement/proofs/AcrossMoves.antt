@@ -1,5 +1,5 @@
 -- Attempts that clash are ordered across moves.
-use Rattle.std.proofs.Common.{◌≡◌, ◌≢◌, ◌<◌, ℕ, true, List, Some, sym, subst, subst₂, ◌∙◌}
+use Rattle.std.proofs.Common.{◌≡◌, ◌≢◌, ◌<◌, true, List, Some, sym, subst, subst₂, ◌∙◌}
 use Rattle.dt_lists.specs.Lists.{AnyIn, Has}
 use Rattle.dt_lists.proofs.Callers.{any_get, any_of_image}
 use Rattle.dt_lists.proofs.Callers.{Spot, spot}

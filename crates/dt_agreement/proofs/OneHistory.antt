@@ -1,24 +1,25 @@
 -- The executions of legal events are one history, and those of each region a part of it; and what the theory of serial runs
 -- says of moves, said of legal events.
-use Rattle.std.proofs.Common.{◌≡◌, ◌<◌, ◌≤◌, ◌↔◌, ℕ, List, [], ◌∷◌, ◌++◌, Some, slice_get, refl, sym, ap, subst, ◌∙◌, inl, inr, append_assoc}
+use Rattle.std.proofs.Common.{◌≡◌, ◌<◌, ◌≤◌, ℕ, Bool, true, false, List, [], ◌∷◌, ◌++◌, Some, slice_get, refl, sym, ap, subst, ◌∙◌, inl, inr, append_assoc}
 use Rattle.std.proofs.lemmas.List.Elements.{filter_map-append}
-use Rattle.dt_lists.specs.Lists.{AllIn, EachThen, Has, IsFront}
+use Rattle.dt_lists.specs.Lists.{AllIn, EachThen, Either, Has, IsFront}
 use Rattle.dt_lists.proofs.Callers.{all_get, all_put, any_get}
 use Rattle.dt_access.specs.Clash.{Bytes}
 use Rattle.dt_access.specs.Granules.{unit_of}
 use Rattle.dt_access.specs.declared.TxnId.{TxnId}
 use Rattle.dt_sched.specs.Views.{Precedes}
+use Rattle.dt_sched.proofs.Callers.{precedes_decided}
 use Rattle.dt_events.specs.declared.Event.{Event}
 use Rattle.dt_events.specs.declared.Event.TheVariants.{Execute}
-use Rattle.dt_table.specs.Table.{Moved, Table, counter_of, moves_of}
+use Rattle.dt_table.specs.Table.{Moved, counter_of, moves_of}
 use Rattle.dt_txn.specs.Execution.{one}
 use Rattle.dt_txn.specs.Replica.{done_ids}
 use Rattle.dt_txn.specs.Serial.{table_after}
 use Rattle.dt_txn.specs.Staleness.{IsStaleOutcome}
 use Rattle.dt_txn.specs.declared.Txn.{Txn}
 use Rattle.dt_txn.specs.declared.txn.Body.TheVariants.{Move}
-use Rattle.dt_serial.specs.Order.{IsDown, IsHistory, txn_ids}
-use Rattle.dt_serial.proofs.Callers.{chain, counters_exact, counters_reached, flag_down, flag_up, live_of_outcome, looked_from, move_numbered}
+use Rattle.dt_serial.specs.Order.{ByTest, IsDown, IsHistory, txn_ids}
+use Rattle.dt_serial.proofs.Callers.{chain, counters_exact, counters_reached, down_as, flag_down, flag_up, history_as, live_of_outcome, looked_from, move_numbered}
 use Rattle.dt_serial.proofs.Callers.{movers_ran, moves_front}
 use Rattle.dt_cluster.specs.declared.Cluster.{Cluster}
 use Rattle.dt_workload.specs.declared.Workload.{Workload}
@@ -38,14 +39,46 @@ use Rattle.dt_agreement.proofs.Rule6Execute.{executed_txns}
 use Rattle.dt_agreement.proofs.Runs.{run_front, run_longer, run_more, world_after_more}
 use Rattle.dt_agreement.proofs.Submissions.{txn_id, txn_stays, txns_stay}
 
+-- a test of what is decided
+
+abbrev says : {P : Type 0} → Either P → Bool
+says (inl p) = true
+says (inr n) = false
+
+said : {P : Type 0} (d : Either P) → says d ≡ true → P
+said (inl p) e = p
+said (inr n) e = cc
+
+says_so : {P : Type 0} (d : Either P) → P → says d ≡ true
+says_so (inl p) q = refl
+says_so (inr n) q = absurd (n q)
+
 module _ {cluster : Cluster} {workload : Workload} {w : World} {order : List TxnId} (i : Inv cluster workload w order) (rooted : Rooted cluster w order) where
   past : IsHistory cluster.procs (Precedes (logs_of w)) (opening_table cluster) (txns_of w order)
   past = history i rooted
 
+  abbrev test : TxnId → TxnId → Bool
+  test u t = says (precedes_decided (logs_of w) u t)
+
+  to : (u t : TxnId) → Precedes (logs_of w) u t → ByTest test u t
+  to u t r = says_so (precedes_decided (logs_of w) u t) r
+
+  from : (u t : TxnId) → ByTest test u t → Precedes (logs_of w) u t
+  from u t e = said (precedes_decided (logs_of w) u t) e
+
+  by_test : IsHistory cluster.procs (ByTest test) (opening_table cluster) (txns_of w order)
+  by_test = history_as (Precedes (logs_of w)) (ByTest test) to from cluster.procs (opening_table cluster) (txns_of w order) past
+
   pub are_one_history : AreOneHistory cluster w order
   are_one_history = record {
-    fits = past;
-    parts = λ region lr. record { fits = past; members = region_members i rooted region lr; down = region_down i rooted region lr };
+    precedes = test;
+    told = λ u t. (from u t, to u t);
+    fits = by_test;
+    parts = λ region lr. record {
+      fits = by_test;
+      members = region_members i rooted region lr;
+      down = down_as (Precedes (logs_of w)) (ByTest test) to from (txn_ids (executions_at w region)) (region_down i rooted region lr);
+    };
     kept = λ region lr. i.tables region lr;
   }
 

@@ -1,13 +1,13 @@
 -- Lists in which all that precedes an id stands before it, and the choices of ids that are a past of an id.
-use Rattle.std.proofs.Common.{◌≡◌, ◌⊎◌, Bool, true, false, cond, List, [], ◌∷◌, ◌++◌, eqb-true, eq-eqb, refl, sym, ap, subst, subst₂, ◌∙◌, inl, inr}
+use Rattle.std.proofs.Common.{◌≡◌, ◌⊎◌, Bool, true, false, cond, List, [], ◌∷◌, ◌++◌, refl, sym, ap, subst, subst₂, ◌∙◌, inl, inr}
 use Rattle.std.specs.Prelude.{filter}
-use Rattle.std.proofs.lemmas.Bool.{cases_Bool, and_parts, and_from, false_from_ne_true}
+use Rattle.std.proofs.lemmas.Bool.{cases_Bool, false_from_ne_true}
 use Rattle.dt_lists.specs.Lists.{SomeThen, Has, EachThen, Distinct}
-use Rattle.dt_lists.proofs.Callers.{any_map, any_append, any_append_left, some_map, some_get, some_of_two, some_append_left, each_append_left, each_across}
-use Rattle.dt_lists.proofs.Callers.{any_of_test, test_of_any, distinct_push, some_in_front, of_filter, filter_each, filter_before, all_get, some_each}
+use Rattle.dt_lists.proofs.Callers.{any_append, any_append_left, some_map, some_get, some_of_two, some_append_left, each_append_left, each_across}
+use Rattle.dt_lists.proofs.Callers.{distinct_push, some_in_front, of_filter, filter_each, filter_before, all_get, some_each}
 use Rattle.dt_lists.proofs.Callers.{before_has, has_before, has_middle}
 use Rattle.dt_access.proofs.Callers.{among_of_has, has_of_among, not_among}
-use Rattle.dt_access.specs.Ids.{same_id, is_among, StandsBefore}
+use Rattle.dt_access.specs.Ids.{is_among, StandsBefore}
 use Rattle.dt_access.specs.declared.TxnId.{TxnId}
 use Rattle.dt_txn.specs.declared.txn.Txn.{Txn}
 use Rattle.dt_serial.specs.Order.{txn_ids, Ordered, IsDown}

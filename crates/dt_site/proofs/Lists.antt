@@ -3,7 +3,7 @@ use Rattle.std.proofs.Common.{◌≡◌, ◌<◌, ◌≤◌, ◌+◌, ◌⊎◌,
 use Rattle.std.proofs.Common.{Some, refl, sym, ap, subst, ◌∙◌, inl, inr, append-nil, append_assoc, arith}
 use Rattle.std.specs.Prelude.{is_some}
 use Rattle.std.proofs.lemmas.Bool.{cases_Bool}
-use Rattle.std.proofs.lemmas.List.{length_push, length-take}
+use Rattle.std.proofs.lemmas.List.{length_push}
 use Rattle.std.proofs.lemmas.List.Sums.{sum_by-cons}
 use Rattle.dt_lists.specs.Lists.{Has}
 use Rattle.dt_access.proofs.Callers.{id_of_test, test_of_id}
@@ -37,13 +37,6 @@ parts_set (l ∷ logs) zero part = let a : length (l ++ part ∷ []) ≡ length 
     omega (arith, parts_cons (l ++ part ∷ []) logs, parts_cons l logs) in b
 parts_set (l ∷ logs) (suc home) part = let a : parts_in (set logs home (log_at logs home ++ part ∷ [])) ≤ parts_in logs + 1 =
     parts_set logs home part in let b : parts_in (l ∷ set logs home (log_at logs home ++ part ∷ [])) ≤ parts_in (l ∷ logs) + 1 = omega (arith, parts_cons l (set logs home (log_at logs home ++ part ∷ [])), parts_cons l logs) in b
-
-pub parts_fronts : (lengths : List ℕ) (logs : View) → parts_in (fronts lengths logs) ≤ parts_in logs
-parts_fronts lengths [] = omega arith
-parts_fronts [] (l ∷ logs) = let a : parts_in (fronts [] logs) ≤ parts_in logs = parts_fronts [] logs in let b : parts_in ([] ∷ fronts [] logs) ≤ parts_in
-    (l ∷ logs) = omega (arith, parts_cons [] (fronts [] logs), parts_cons l logs) in b
-parts_fronts (n ∷ lengths) (l ∷ logs) = let a : parts_in (fronts lengths logs) ≤ parts_in logs = parts_fronts lengths logs in let b : parts_in (take n l ∷ fronts lengths logs) ≤ parts_in (l ∷ logs) =
-    omega (arith, length-take n l, parts_cons (take n l) (fronts lengths logs), parts_cons l logs) in b
 
 -- transactions among one more
 

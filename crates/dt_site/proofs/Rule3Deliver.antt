@@ -6,6 +6,7 @@ use Rattle.std.proofs.lemmas.Bool.Decides.{nat_tests}
 use Rattle.std.proofs.lemmas.List.{length-map, length-set, length-take-le, length-drop, map-set, get_or-set_same, get_or-set_other, set-get_or}
 use Rattle.dt_lists.specs.Lists.{AllIn, Distinct, Has, IsFront}
 use Rattle.dt_lists.proofs.Callers.{map_of_set, any_front, each_front, front_map, front_take, either_le, all_get, all_image, all_map, all_put, has_map, set_apart}
+use Rattle.dt_region.proofs.Callers.{fronts_few}
 use Rattle.dt_access.specs.declared.TxnId.{TxnId}
 use Rattle.dt_access.specs.declared.Part.{Part}
 use Rattle.dt_log.specs.declared.Taken.{Taken}
@@ -29,7 +30,7 @@ use Rattle.dt_agreement.specs.Invariant.{IsPartAt}
 use Rattle.dt_agreement.proofs.Callers.{log_distinct, part_homed, received_within, log_is, received_log, received_own}
 use Rattle.dt_site.specs.Site.{SiteView, in_region, node_of}
 use Rattle.dt_site.specs.StandsIn.{IsReached, StandsIn}
-use Rattle.dt_site.proofs.Lists.{fronts_set, held_all, parts_fronts}
+use Rattle.dt_site.proofs.Lists.{fronts_set, held_all}
 use Rattle.dt_site.proofs.Standing.{Steps, inv, node_then, order, own_of, txns_stay, valid_txn}
 
 -- a list up to one place, and from there to a later one
@@ -177,7 +178,7 @@ module _ {cluster : Cluster} {workload : Workload} {w : World} (k : IsReached cl
       few : home ≢ region → (le : first ≤ length has_of) → parts_in (set p.region.state.logs home (with_entries has_of first entries)) ≤ parts_in (logs_of w)
       few other le =
           subst (λ l. parts_in (set p.region.state.logs home l) ≤ parts_in (logs_of w)) (sym (log_then le).3)
-          (subst (λ l. parts_in l ≤ parts_in (logs_of w)) (sym (logs_then other (log_then le).0)) (parts_fronts (set (received_lengths w region) home (log_then le).0) (logs_of w)))
+          (subst (λ l. parts_in l ≤ parts_in (logs_of w)) (sym (logs_then other (log_then le).0)) (fronts_few (set (received_lengths w region) home (log_then le).0) (logs_of w)))
 
       -- each entry's part is of the home's log, and so it is that of its transaction
 
