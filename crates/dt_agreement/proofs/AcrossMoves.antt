@@ -1,6 +1,6 @@
--- Attempts that clash are ordered across moves, and no attempt runs before the moves that it was annotated with.
-use Rattle.std.proofs.Common.{◌≡◌, ◌≢◌, ◌<◌, ◌≤◌, ℕ, true, List, [], ◌∷◌, ◌++◌, Some, sym, subst, subst₂, ◌∙◌}
-use Rattle.dt_lists.specs.Lists.{AnyIn, AllIn, Has}
+-- Attempts that clash are ordered across moves.
+use Rattle.std.proofs.Common.{◌≡◌, ◌≢◌, ◌<◌, true, List, Some, sym, subst, subst₂, ◌∙◌}
+use Rattle.dt_lists.specs.Lists.{AnyIn, Has}
 use Rattle.dt_lists.proofs.Callers.{any_get, any_of_image}
 use Rattle.dt_lists.proofs.Callers.{Spot, spot}
 use Rattle.dt_access.specs.Clash.{clash}
@@ -9,28 +9,24 @@ use Rattle.dt_access.specs.declared.TxnId.{TxnId}
 use Rattle.dt_access.specs.declared.Access.{Access}
 use Rattle.dt_sched.specs.Views.{Precedes}
 use Rattle.dt_events.specs.declared.Event.{Event}
-use Rattle.dt_events.specs.declared.Event.TheVariants.{Execute}
-use Rattle.dt_table.specs.Table.{Table, counter_of}
+use Rattle.dt_table.specs.Table.{Table}
 use Rattle.dt_txn.specs.declared.Txn.{Txn}
 use Rattle.dt_txn.specs.declared.Outcome.{Outcome}
 use Rattle.dt_txn.specs.Staleness.{IsStaleOutcome}
 use Rattle.dt_txn.specs.Execution.{one}
 use Rattle.dt_txn.specs.Serial.{table_after}
-use Rattle.dt_txn.specs.Replica.{done_ids}
-use Rattle.dt_serial.specs.Order.{IsLive, IsDown, IsHistory, Ordered, txn_ids, uses_in}
-use Rattle.dt_serial.proofs.Callers.{across_fewer, across_moves, counters_reached, live_of_outcome, looked_has, outcome_at, single_outcome}
+use Rattle.dt_serial.specs.Order.{IsLive, IsHistory, Ordered, uses_in}
+use Rattle.dt_serial.proofs.Callers.{across_fewer, across_moves, live_of_outcome, looked_has, outcome_at, single_outcome}
 use Rattle.dt_cluster.specs.declared.Cluster.{Cluster}
 use Rattle.dt_workload.specs.declared.Workload.{Workload}
-use Rattle.dt_session.specs.World.{World, opening_table, node_at, logs_of, txn_of, outcome_in}
-use Rattle.dt_session.specs.Step.{IsStale, IsLegal}
+use Rattle.dt_session.specs.World.{World, opening_table, logs_of, txn_of, outcome_in}
+use Rattle.dt_session.specs.Step.{IsStale}
 use Rattle.dt_session.specs.Run.{world_after, order_of, txns_of, serial_outcomes, serial_outcome}
 use Rattle.dt_agreement.specs.LegalRun.{IsLegalRun}
 use Rattle.dt_agreement.specs.Invariant.{Rooted, Inv}
 use Rattle.dt_agreement.proofs.Submissions.{txn_id}
-use Rattle.dt_agreement.proofs.Rule6Execute.{executed_txns}
-use Rattle.dt_agreement.proofs.Runs.{world_after_more, run_longer}
 use Rattle.dt_agreement.proofs.LegalWorlds.{legal_keeps}
-use Rattle.dt_agreement.proofs.MoveHistory.{history, region_members, region_down}
+use Rattle.dt_agreement.proofs.MoveHistory.{history}
 use Rattle.dt_agreement.proofs.RootedWorlds.{legal_roots}
 use Rattle.dt_agreement.proofs.AllAgree.{has_lookup, outcomes_in_order, outcome_ids, outcomes_once}
 
@@ -120,41 +116,3 @@ module _ {cluster : Cluster} {workload : Workload} {events : List Event} (run : 
       → ¬ (IsStale (serial_outcome cluster workload events a))
       → (k l : Access) → Has x.access k → Has y.access l → unit_of cluster.version k.key ≡ unit_of cluster.version l.key → k.counter < l.counter → Precedes (logs_of (world_after cluster workload events)) a b
   legal_fewer a b x y ha hb ea eb na k l hk hl unit fewer = fewer_precedes i rooted a b x y (run_of i rooted a x ha ea na) hb eb k l hk hl unit fewer
-
--- where an execution is legal, no key's unit has been moved less often than the attempt was annotated with
-pub legal_counters : {cluster : Cluster} {workload : Workload} {events : List Event} → IsLegalRun cluster workload events → (region : ℕ) (id : TxnId) (x : Txn)
-    → IsLegal cluster workload (world_after cluster workload events) (Execute region id) → txn_of (world_after cluster workload events) id ≡ Some x
-    → AllIn (λ a. a.counter ≤ counter_of (node_at (world_after cluster workload events) region).here.table a.key) x.access
-legal_counters {cluster = cluster} {workload = workload} {events = events} run region id x l found =
-    subst (λ t. AllIn (λ a. a.counter ≤ counter_of t a.key) x.access) (sym (i.tables region l.regions).table)
-    (counters_reached cluster.procs (Precedes (logs_of v)) (opening_table cluster) (txns_of v (order_of later)) (history j rooted) ran x []
-    (subst (AllIn (Has (txns_of v (order_of later)))) ran_now (region_members j rooted region l.regions))
-    (subst (λ xs. IsDown (Precedes (logs_of v)) (txn_ids xs)) ran_now (region_down j rooted region l.regions)))
-  where
-    w : World
-    w = world_after cluster workload events
-
-    later : List Event
-    later = events ++ Execute region id ∷ []
-
-    v : World
-    v = world_after cluster workload later
-
-    ran : List Txn
-    ran = txns_of w (done_ids (node_at w region).here)
-
-    i : Inv cluster workload w (order_of events)
-    i = legal_keeps run
-
-    all : IsLegalRun cluster workload later
-    all = run_longer run l
-
-    j : Inv cluster workload v (order_of later)
-    j = legal_keeps all
-
-    rooted : Rooted cluster v (order_of later)
-    rooted = legal_roots all
-
-    ran_now : txns_of v (done_ids (node_at v region).here) ≡ ran ++ x ∷ []
-    ran_now = subst (λ u. txns_of u (done_ids (node_at u region).here) ≡ ran ++ x ∷ []) (sym (world_after_more cluster workload events (Execute region id)))
-        (executed_txns i region id l.regions l.allowed x found)

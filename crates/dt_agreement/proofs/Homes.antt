@@ -89,10 +89,6 @@ test_of_home home txn h = test_of_any (λ h. eqb h home) (homes_of txn) (any_map
 
 -- asking homes
 
-pub ask_length : (homes : List ℕ) (id : TxnId) (asked : List (List TxnId)) → length (ask homes id asked) ≡ length asked
-ask_length [] id asked = refl
-ask_length (h ∷ homes) id asked = ask_length homes id (set asked h (get_or asked h [] ++ id ∷ [])) ∙ length-set asked h (get_or asked h [] ++ id ∷ [])
-
 pub ask_other : (homes : List ℕ) (id : TxnId) (asked : List (List TxnId)) (home : ℕ) → ¬ (Has homes home) → get_or (ask homes id asked) home [] ≡ get_or asked home []
 ask_other [] id asked home n = refl
 ask_other (h ∷ homes) id asked home n =

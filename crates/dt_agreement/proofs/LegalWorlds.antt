@@ -5,7 +5,7 @@ use Rattle.dt_access.specs.Ids.{is_among}
 use Rattle.dt_access.specs.declared.TxnId.{TxnId}
 use Rattle.dt_events.specs.declared.Event.{Event}
 use Rattle.dt_events.specs.declared.Event.TheVariants.{Submit, Append, Deliver, Insert, Resolve, Execute, Answer}
-use Rattle.dt_serial.proofs.Callers.{among_of_has, has_of_among}
+use Rattle.dt_access.proofs.Callers.{among_of_has, has_of_among}
 use Rattle.dt_cluster.specs.declared.Cluster.{Cluster}
 use Rattle.dt_cluster.specs.Valid.{IsValidCluster}
 use Rattle.dt_workload.specs.declared.Workload.{Workload}

@@ -25,6 +25,7 @@ pub mod RootedAnnotations
 pub mod RootedWorlds
 pub mod AllAgree
 pub mod AcrossMoves
+pub mod OneHistory
 pub mod OneHome
 pub mod Reports
 pub mod Callers

@@ -24,12 +24,13 @@ use Rattle.dt_workload.specs.declared.Workload.{Workload}
 use Rattle.dt_workload.specs.Valid.{RankedFits, IsValidSession, IsValidWorkload}
 use Rattle.dt_session.specs.World.{World, Node, Place, Submission, opening_table, no_node, node_at, asked_of, taken_of, log_of, logs_of, submissions, submission_of, attempt_of, txn_of, session_at}
 use Rattle.dt_txn.specs.Asking.{ask}
+use Rattle.dt_txn.proofs.Callers.{ask_length}
 use Rattle.dt_session.specs.Step.{MayTry, MaySubmit, awaited_at, body_of, upcoming_id, next_attempt, attempt_for, node_submitted, world_submitted, called, submitted}
 use Rattle.dt_session.specs.Run.{txns_of}
 use Rattle.dt_agreement.specs.Invariant.{IsSized, AreNumbered, has_home, requests, given_by, attempts_by, IsSubmissionOf, IsWaiting, IsPlaced, IsPlaceOf, SessionsMatch, Inv}
 use Rattle.dt_agreement.proofs.InvariantParts.{Sized, Numbered, Valid, Asked, Logs, parts_kept, lengths_kept, view_kept, sound_kept, tables_kept, ordered_kept}
 use Rattle.dt_agreement.proofs.Submissions.{Keeps, AreUnlike, submission_is_found, at_region, from_region, unlike, submission_stays, txn_stays, txns_stay}
-use Rattle.dt_agreement.proofs.Homes.{home_of_test, test_of_home, homes_once, ask_length, ask_here, ask_other}
+use Rattle.dt_agreement.proofs.Homes.{home_of_test, test_of_home, homes_once, ask_here, ask_other}
 use Rattle.dt_agreement.proofs.Requests.{requests_append, requests_here, requests_not, numbered_more}
 use Rattle.dt_agreement.proofs.Sessions.{key_of_test, test_of_key, session_found, place_changed}
 use Rattle.dt_agreement.proofs.RegionViews.{done_known}

@@ -3,9 +3,9 @@ use Rattle.std.proofs.Common.{◌≡◌, ◌≢◌, ◌<◌, ◌⊎◌, ℕ, Lis
 use Rattle.std.specs.Prelude.{Option, filter_map}
 use Rattle.std.proofs.lemmas.List.{map_push}
 use Rattle.std.proofs.lemmas.List.Elements.{filter_map-append}
-use Rattle.dt_lists.specs.Lists.{Has, Either}
+use Rattle.dt_lists.specs.Lists.{Has, Either, IsFront}
 use Rattle.dt_lists.proofs.Callers.{either_nat}
-use Rattle.dt_lists.proofs.Callers.{has_more, has_last, has_longer}
+use Rattle.dt_lists.proofs.Callers.{front_append, front_refl, has_more, has_last, has_longer}
 use Rattle.dt_access.specs.declared.TxnId.{TxnId}
 use Rattle.dt_sched.specs.Views.{Precedes}
 use Rattle.dt_sched.specs.Decide.{IsSound}
@@ -175,6 +175,15 @@ module _ {cluster : Cluster} {workload : Workload} {w : World} {order : List Txn
   pub executed_txns : txns_of (moved_on cluster w region (Execute region id)) (done_ids (node_at (moved_on cluster w region (Execute region id)) region).here) ≡ txns_of w (done_ids (node_at w region).here) ++ txn ∷ []
   executed_txns = subst (λ x. txns_of x (done_ids (node_at x region).here) ≡ txns_of w (done_ids (node_at w region).here) ++ txn ∷ []) world_is
       (txns_now (done_ids (node_at v region).here) ∙ ap (txns_of w) done_now ∙ txns_more w (done_ids (node_at w region).here) id txn found)
+
+  -- and what each region has executed goes on where it ended
+  pub executed_more : (q : ℕ) → IsFront (done_ids (node_at w q).here) (done_ids (node_at (moved_on cluster w region (Execute region id)) q).here)
+  executed_more q = subst (λ x. IsFront (done_ids (node_at w q).here) (done_ids (node_at x q).here)) world_is (by (either_nat q region))
+    where
+      by : Either (q ≡ region) → IsFront (done_ids (node_at w q).here) (done_ids (node_at v q).here)
+      by (inr n) = subst (λ x. IsFront (done_ids (node_at w q).here) (done_ids x.here)) (sym (other q n)) (front_refl (done_ids (node_at w q).here))
+      by (inl e) = subst (λ y. IsFront (done_ids (node_at w y).here) (done_ids (node_at v y).here)) (sym e)
+          (subst (IsFront (done_ids (node_at w region).here)) (sym done_now) (front_append (done_ids (node_at w region).here) (id ∷ [])))
 
   pub execute_again : Has order id → Inv cluster workload (moved_on cluster w region (Execute region id)) order
   execute_again known = subst (λ x. Inv cluster workload x order) world_is (with_order order (ordered_again known))

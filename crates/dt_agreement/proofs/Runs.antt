@@ -1,5 +1,5 @@
 -- Events one after another: worlds, what is legal, and the order of first executions, with one more event at the end.
-use Rattle.dt_access.proofs.Callers.{id_of_test, test_of_id}
+use Rattle.dt_access.proofs.Callers.{among_of_has, has_of_among, id_of_test, not_among, test_of_id}
 use Rattle.std.proofs.Common.{◌≡◌, ◌⊎◌, Bool, true, false, cond, List, [], ◌∷◌, ◌++◌, Some, None, refl, sym, ap, ◌∙◌, inl, inr, append-nil}
 use Rattle.std.specs.Prelude.{Option, filter_map, not}
 use Rattle.std.specs.List.{cons_option}
@@ -12,7 +12,6 @@ use Rattle.dt_lists.proofs.Callers.{front_refl, front_append}
 use Rattle.dt_access.specs.Ids.{same_id, is_among}
 use Rattle.dt_access.specs.declared.TxnId.{TxnId}
 use Rattle.dt_events.specs.declared.Event.{Event}
-use Rattle.dt_serial.proofs.Callers.{among_of_has, has_of_among, not_among}
 use Rattle.dt_cluster.specs.declared.Cluster.{Cluster}
 use Rattle.dt_workload.specs.declared.Workload.{Workload}
 use Rattle.dt_session.specs.World.{World, opening_world}

@@ -1,5 +1,6 @@
 pub mod LegalRun
 pub mod Invariant
+pub mod OneHistory
 pub mod Reports
 pub use Rattle.dt_serial.specs.Order
 pub use Rattle.dt_session.specs.World

@@ -1,6 +1,6 @@
 //! The laws of legal worlds. Each is the contract of a function that does nothing.
-ghost use Rattle.std.specs.Prelude.{◌≡◌, ◌≢◌, ◌↔◌, ◌<◌, ◌≤◌, ℕ, true, List, [], ◌∷◌, ◌++◌, Some};
-ghost use Rattle.dt_lists.specs.Lists.{AllIn, Has};
+ghost use Rattle.std.specs.Prelude.{◌≡◌, ◌≢◌, ◌↔◌, ◌<◌, ◌≤◌, ℕ, true, List, [], ◌∷◌, ◌++◌, Some, slice_get};
+ghost use Rattle.dt_lists.specs.Lists.{AllIn, EachThen, Has, IsFront};
 ghost use Rattle.dt_access.specs.Clash.{Bytes, clash};
 ghost use Rattle.dt_access.specs.Granules.{unit_of};
 ghost use Rattle.dt_access.specs.declared.Access.{Access};
@@ -8,9 +8,12 @@ ghost use Rattle.dt_access.specs.declared.TxnId.{TxnId};
 ghost use Rattle.dt_sched.specs.Views.{IsClass, IsClosed, Precedes};
 ghost use Rattle.dt_events.specs.declared.Event.{Event};
 ghost use Rattle.dt_events.specs.declared.Event.TheVariants.{Answer, Execute, Resolve};
-ghost use Rattle.dt_table.specs.Table.{counter_of};
+ghost use Rattle.dt_table.specs.Table.{Moved, counter_of, moves_of};
+ghost use Rattle.dt_txn.specs.Execution.{one};
 ghost use Rattle.dt_txn.specs.Replica.{IsDrained};
+ghost use Rattle.dt_txn.specs.Staleness.{IsStaleOutcome};
 ghost use Rattle.dt_txn.specs.declared.Txn.{Txn};
+ghost use Rattle.dt_txn.specs.declared.txn.Body.TheVariants.{Move};
 ghost use Rattle.dt_serial.specs.Order.{Ordered, uses_in};
 ghost use Rattle.dt_cluster.specs.declared.Cluster.{Cluster};
 ghost use Rattle.dt_workload.specs.declared.Workload.{Workload};
@@ -21,7 +24,8 @@ ghost use Rattle.dt_session.specs.Agreement.{Agree};
 ghost use Rattle.dt_session.specs.OneHome.{CallsHaveOneHome};
 ghost use Rattle.dt_agreement.specs.Reports.{IsAccounted, IsAnswered};
 ghost use Rattle.dt_agreement.specs.LegalRun.{IsLegalRun};
-ghost use Rattle.dt_agreement.specs.Invariant.{Inv, IsExecutedAt, Rooted};
+ghost use Rattle.dt_agreement.specs.Invariant.{Inv, IsExecutedAt, Rooted, history_of};
+ghost use Rattle.dt_agreement.specs.OneHistory.{AreOneHistory, SeesMover};
 
 /// Every legal world keeps the invariant, and in it every annotation is rooted in the one history of moves.
 pub fn invariant_of_legal_worlds()
@@ -60,14 +64,59 @@ pub fn across_moves()
         Precedes (logs_of (world_after cluster workload events)) a b }
 {}
 
-/// Where an execution is legal, the unit of each key that the attempt uses has been moved in that region at least as often as
-/// the attempt was annotated with.
-pub fn reached_counters()
+/// The executions of all regions are one history, in the order of first executions anywhere, and what each region executed is a
+/// part of it, with the outcomes and the table that the region keeps. The order of ids is "precedes" in the whole logs. So all
+/// that is said of serial runs, their moves and their stale attempts, is said of legal events.
+pub fn one_history()
     ensures { (cluster : Cluster) (workload : Workload) (events : List Event) →
+        IsLegalRun cluster workload events →
+        AreOneHistory cluster (world_after cluster workload events) (order_of events) }
+{}
+
+/// The moves of a key are those of its unit. Of those that all regions make together, the movers precede one another in the
+/// order of the moves, and each is a move of the unit that was annotated with the number of moves before its own. Those that a
+/// region has made are the first of them, made by what it executed. Where a region executes an attempt, the attempt sees at
+/// each entry the mover after its annotated moves exactly where that one precedes it, whatever the region ran before.
+pub fn moves_of_a_unit()
+    ensures in_order { (cluster : Cluster) (workload : Workload) (events : List Event) →
+        IsLegalRun cluster workload events → (key : Bytes) →
+        EachThen (λ m n. Precedes (logs_of (world_after cluster workload events)) m.by n.by)
+        (history_of cluster (world_after cluster workload events) (order_of events) key) }
+    ensures numbered { (cluster : Cluster) (workload : Workload) (events : List Event) →
+        IsLegalRun cluster workload events → (key : Bytes) (i : ℕ) (m : Moved) →
+        slice_get (history_of cluster (world_after cluster workload events) (order_of events) key) i ≡ Some m →
+        (x : Txn) × Has (order_of events) m.by × (txn_of (world_after cluster workload events) m.by ≡ Some x)
+        × (x.body ≡ Move (unit_of cluster.version key) m.target)
+        × AllIn (λ a. unit_of cluster.version a.key ≡ unit_of cluster.version key → a.counter ≡ i) x.access }
+    ensures first { (cluster : Cluster) (workload : Workload) (events : List Event) →
+        IsLegalRun cluster workload events → (region : ℕ) → region < cluster.regions → (key : Bytes) →
+        IsFront (moves_of (node_at (world_after cluster workload events) region).here.table key)
+        (history_of cluster (world_after cluster workload events) (order_of events) key) }
+    ensures own { (cluster : Cluster) (workload : Workload) (events : List Event) →
+        IsLegalRun cluster workload events → (region : ℕ) → region < cluster.regions → (key : Bytes) →
+        AllIn (λ m. IsExecutedAt (world_after cluster workload events) region m.by)
+        (moves_of (node_at (world_after cluster workload events) region).here.table key) }
+    ensures next { (cluster : Cluster) (workload : Workload) (before : List Event) (region : ℕ) (id : TxnId) (after : List Event) →
+        IsLegalRun cluster workload (before ++ Execute region id ∷ after) →
+        (x : Txn) → txn_of (world_after cluster workload before) id ≡ Some x →
+        AllIn (SeesMover cluster (world_after cluster workload (before ++ Execute region id ∷ after)) (order_of (before ++ Execute region id ∷ after))
+        (node_at (world_after cluster workload before) region).here.table id) x.access }
+{}
+
+/// Where an execution is legal, the unit of each key that the attempt uses has been moved in that region at least as often as
+/// the attempt was annotated with. If it is not stale there, they have been moved just as often.
+pub fn reached_counters()
+    ensures reached { (cluster : Cluster) (workload : Workload) (events : List Event) →
         IsLegalRun cluster workload events →
         (region : ℕ) (id : TxnId) (x : Txn) → IsLegal cluster workload (world_after cluster workload events) (Execute region id) →
         txn_of (world_after cluster workload events) id ≡ Some x →
         AllIn (λ a. a.counter ≤ counter_of (node_at (world_after cluster workload events) region).here.table a.key) x.access }
+    ensures exact { (cluster : Cluster) (workload : Workload) (events : List Event) →
+        IsLegalRun cluster workload events →
+        (region : ℕ) (id : TxnId) (x : Txn) → IsLegal cluster workload (world_after cluster workload events) (Execute region id) →
+        txn_of (world_after cluster workload events) id ≡ Some x →
+        ¬ (IsStaleOutcome (one cluster.procs x (node_at (world_after cluster workload events) region).here.table).0) →
+        AllIn (λ a. counter_of (node_at (world_after cluster workload events) region).here.table a.key ≡ a.counter) x.access }
 {}
 
 /// What a drained region has executed is just what is closed in its view.

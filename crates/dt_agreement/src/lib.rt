@@ -14,7 +14,7 @@
 //!    gets the same outcome for each of them, given the two facts above: an attempt that is not stale ran between the same
 //!    two moves of the unit of each of its keys everywhere, and within that stretch the log of one home orders all that clash.
 //! 4. **Agreement** (`agreement`). The ids in the order of their first execution anywhere are one such order, and what each
-//!    region executed is another, so each region has outcomes and rows of the one serial order.
+//!    region executed is another (`one_history`), so each region has outcomes and rows of the one serial order.
 //!
 //! Read next: `src/laws.rt`, the laws one by one. What a proof of a crate above may cite stands in `proofs/Callers`.
 #![tactic(auto)]
@@ -22,6 +22,6 @@
 mod laws;
 
 pub use laws::{
-    across_moves, agreement, drained_regions, invariant_of_legal_worlds, nothing_left_out,
-    one_home_each_call, reached_counters,
+    across_moves, agreement, drained_regions, invariant_of_legal_worlds, moves_of_a_unit,
+    nothing_left_out, one_history, one_home_each_call, reached_counters,
 };

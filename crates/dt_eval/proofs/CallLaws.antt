@@ -1,6 +1,8 @@
 -- What other crates use of calls: of their keys, and of what they write.
-use Rattle.std.proofs.Common.{◌≡◌, ℕ, true, false, List, [], ◌∷◌, map, slice_get, Some, Ok, Err, refl, sym, ap, ap₂, subst, ◌∙◌}
-use Rattle.std.specs.Prelude.{Option, None, Result}
+use Rattle.std.proofs.Common.{◌≡◌, ◌≤◌, ℕ, true, false, List, [], ◌∷◌, length, map, slice_get, Some, Ok, Err, refl, sym, ap, ap₂, subst, ◌∙◌, arith}
+use Rattle.std.specs.Prelude.{Option, None, Result, filter, not}
+use Rattle.std.proofs.lemmas.List.{length-map}
+use Rattle.std.proofs.lemmas.List.Filters.{length-filter_both}
 use Rattle.dt_lists.specs.Lists.{AnyIn, AllIn, EachThen}
 use Rattle.dt_lists.proofs.Callers.{all_map, all_any, each_image}
 use Rattle.dt_text.specs.Texts.{IsKey}
@@ -18,7 +20,7 @@ use Rattle.dt_eval.specs.Data.{RunState, declared_key}
 use Rattle.dt_eval.specs.Statements.{after_block}
 use Rattle.dt_eval.specs.Meaning.{keys_of, names_of, meaning, finish_of, run_opening, writes_in}
 use Rattle.dt_eval.specs.Calls.{CallFits, keys_if, meaning_if, call_keys, call_meaning}
-use Rattle.dt_eval.proofs.KeyLaws.{keys_ascend, keys_all, keys_narrow, keys_write, written_use}
+use Rattle.dt_eval.proofs.KeyLaws.{keys_ascend, keys_all, keys_few, keys_narrow, keys_write, written_use}
 use Rattle.dt_eval.proofs.RowLaws.{Keeps, IsWrittenIn, sets_any, sets_sound, block_keeps, with_value_keys, with_value_written, opening_written, opening_keys, writes_written, writes_ascend}
 
 -- of one procedure
@@ -51,6 +53,26 @@ writes_in_order proc args reads each = ended (after_block (names_of proc args) p
     ended : (r : Result RunState Cause) → Keeps (λ rows. map (λ (r : Row). r.key) rows ≡ map (λ r. r.0) reads) r → HasAscendingKeys (writes_in (finish_of r))
     ended (Ok s) same = writes_ascend s.rows (subst (EachThen KeyBefore) (sym same) each)
     ended (Err c) same = tt
+
+-- from reads of its keys alone it writes at most 16 of them
+writes_few : (proc : ProcTree) (args : List Value) (reads : List (Bytes × Option Value)) → IsSoundProc proc →
+    map (λ r. r.0) reads ≡ map (λ u. u.0) (keys_of proc args) → length (writes_in (meaning proc args reads)) ≤ 16
+writes_few proc args reads sound same = ended (after_block (names_of proc args) proc.body (run_opening args reads)) (keys_stay proc args reads)
+  where
+    few : length reads ≤ 16
+    few = omega (arith, length-map reads (λ r. r.0), ap length same, length-map (keys_of proc args) (λ u. u.0), keys_few proc args, sound.few_keys)
+
+    ended : (r : Result RunState Cause) → Keeps (λ rows. map (λ (r : Row). r.key) rows ≡ map (λ r. r.0) reads) r → length (writes_in (finish_of r)) ≤ 16
+    ended (Ok s) kept = omega (
+      arith,
+      length-map {B = Bytes × Option Value} (filter (λ (r : Row). r.changed) s.rows) (λ (r : Row). (r.key, r.value)),
+      length-filter_both (λ (r : Row). r.changed) (λ (r : Row). not r.changed) (λ r. refl) s.rows,
+      length-map s.rows (λ (r : Row). r.key),
+      ap length kept,
+      length-map reads (λ r. r.0),
+      few,
+    )
+    ended (Err c) kept = omega arith
 
 -- of calls
 
@@ -104,6 +126,12 @@ call_writes_ascend procs number args reads same = go (slice_get procs number)
     go : (p : Option ProcTree) → HasAscendingKeys (writes_in (meaning_if p args reads))
     go (Some body) = writes_in_order body args reads ascend
     go None = tt
+
+-- from reads of just its keys a call writes at most 16 keys
+pub call_writes_few : (procs : List ProcTree) (number : ℕ) (args : List Value) (reads : List (Bytes × Option Value)) → CallFits procs number args →
+    map (λ r. r.0) reads ≡ map (λ u. u.0) (call_keys procs number args) → length (writes_in (call_meaning procs number args reads)) ≤ 16
+call_writes_few procs number args reads fits same = subst (λ p. length (writes_in (meaning_if p args reads)) ≤ 16) (sym fits.named)
+    (writes_few fits.body args reads fits.sound (subst (λ p. map (λ r. r.0) reads ≡ map (λ u. u.0) (keys_if p args)) fits.named same))
 
 reads_alike : (values others : Bytes → Option Value) (us : List (Bytes × Mode)) → AllIn (λ u. values u.0 ≡ others u.0) us
     → ◌≡◌ {A = List (Bytes × Option Value)} (map (λ u. (u.0, values u.0)) us) (map (λ u. (u.0, others u.0)) us)

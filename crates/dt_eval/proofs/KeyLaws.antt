@@ -4,7 +4,7 @@ use Rattle.std.proofs.Common.{◌≡◌, ◌<◌, ◌≤◌, ◌+◌, ◌⊎◌,
 use Rattle.std.proofs.Common.{◌∷◌, map, get_or, slice_get, Some, refl, sym, ap, subst, ◌∙◌, inl, inr}
 use Rattle.std.specs.List.{fold}
 use Rattle.std.proofs.Math.Seq.{drop-cons}
-use Rattle.std.proofs.lemmas.List.{take_all, drop_all}
+use Rattle.std.proofs.lemmas.List.{length-map, take_all, drop_all}
 use Rattle.std.specs.Ordering.{nat_cmp, ordering_reverse, is_eq}
 use Rattle.std.specs.declared.cmp.Ordering.{Ordering}
 use Rattle.std.specs.declared.cmp.Ordering.TheVariants.{Less, Equal, Greater}
@@ -65,6 +65,23 @@ fold_all P (u ∷ us) vs all more = fold_all P us (with_use vs u) (with_use_all 
 -- the keys of a call stand in ascending order
 pub keys_ascend : (proc : ProcTree) (args : List Value) → HasAscendingKeys (keys_of proc args)
 keys_ascend proc args = fold_ascends (map (use_of args) proc.keys) [] tt
+
+-- a call has no more keys than its procedure has declarations
+with_use_few : (vs : List (Bytes × Mode)) (u : Bytes × Mode) → length (with_use vs u) ≤ length vs + 1
+with_use_few [] u = omega arith
+with_use_few (v ∷ vs) u = go (slice_cmp nat_cmp u.0 v.0) (with_use_few vs u)
+  where
+    go : (o : Ordering) → length (with_use vs u) ≤ length vs + 1 → length (placed_use o u v vs (with_use vs u)) ≤ length (v ∷ vs) + 1
+    go Less few = omega arith
+    go Equal few = omega arith
+    go Greater few = omega (arith, few)
+
+fold_few : (us vs : List (Bytes × Mode)) → length (fold with_use vs us) ≤ length vs + length us
+fold_few [] vs = omega arith
+fold_few (u ∷ us) vs = omega (arith, fold_few us (with_use vs u), with_use_few vs u)
+
+pub keys_few : (proc : ProcTree) (args : List Value) → length (keys_of proc args) ≤ length proc.keys
+keys_few proc args = omega (arith, fold_few (map (use_of args) proc.keys) [], length-map proc.keys (use_of args))
 
 uses_all : (P : Bytes → Type 0) (args : List Value) (ds : List KeyDecl) → AllIn P (map (λ (d : KeyDecl). key_text args d.items) ds) → AllIn (λ (u : Bytes × Mode). P u.0) (map (use_of args) ds)
 uses_all P args [] all = tt

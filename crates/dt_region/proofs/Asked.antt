@@ -1,14 +1,8 @@
--- Asking homes leaves how many lists there are, and can be taken back.
-use Rattle.std.proofs.Common.{◌≡◌, ◌<◌, ◌-◌, ℕ, zero, suc, List, [], ◌∷◌, ◌++◌, length, get_or, set, take, refl, ap, ap₂, subst, ◌∙◌, arith, length-append}
+-- Asking homes can be taken back.
+use Rattle.std.proofs.Common.{◌≡◌, ◌<◌, ◌-◌, ℕ, suc, List, [], ◌∷◌, ◌++◌, length, get_or, set, take, ap, ap₂, subst, ◌∙◌, arith, length-append}
 use Rattle.std.proofs.lemmas.List.{length-set, get_or-set_same, set-get_or, take-append-le}
 use Rattle.std.proofs.Math.Seq.{take-length}
 use Rattle.dt_lists.proofs.Callers.{set_set}
-use Rattle.dt_access.specs.declared.TxnId.{TxnId}
-use Rattle.dt_txn.specs.Asking.{ask}
-
-pub ask_length : (homes : List ℕ) (id : TxnId) (asked : List (List TxnId)) → length (ask homes id asked) ≡ length asked
-ask_length [] id asked = refl
-ask_length (h ∷ homes) id asked = ask_length homes id (set asked h (get_or asked h [] ++ id ∷ [])) ∙ length-set asked h (get_or asked h [] ++ id ∷ [])
 
 -- an id that was asked last is taken back
 

@@ -14,12 +14,12 @@ use Rattle.dt_txn.specs.declared.txn.Txn.{Txn}
 use Rattle.dt_proc.specs.Tree.{ProcTree}
 use Rattle.dt_txn.specs.Transaction.{annotate, homes_of, BodyFits, IsValid}
 use Rattle.dt_txn.specs.Asking.{ask}
+use Rattle.dt_txn.proofs.Callers.{ask_length}
 use Rattle.dt_region.specs.Region.{RegionState, RegionView, find_txn, held}
 use Rattle.dt_region.specs.Rules.{id_for, txn_for, after_submit, MakesSubmit}
 use Rattle.dt_region.specs.Sound.{AreCounted, IsSoundRegion, IsHeldPart}
 use Rattle.dt_region.specs.RegionInner.{AreWell}
 use Rattle.dt_region.proofs.Seen.{IsSeenAs}
-use Rattle.dt_region.proofs.Asked.{ask_length}
 use Rattle.dt_region.proofs.Find.{found_or_none, find_left, find_right, find_only, counted_at, apart}
 use Rattle.dt_access.proofs.Callers.{test_of_other}
 use Rattle.dt_region.proofs.Tables.{annotate_valid}

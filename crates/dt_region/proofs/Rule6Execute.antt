@@ -1,6 +1,6 @@
 -- Rule 6: what an execution makes of a region's fields is what the rule says, and keeps the region sound. Its scheduler
 -- goes along.
-use Rattle.std.proofs.Common.{◌≡◌, ℕ, Ok, true, List, [], ◌∷◌, ◌++◌, map, Some, refl, sym, ap, subst, ◌∙◌}
+use Rattle.std.proofs.Common.{◌≡◌, ◌<◌, ◌≤◌, arith, ℕ, Ok, true, List, [], ◌∷◌, ◌++◌, map, Some, refl, sym, ap, subst, ◌∙◌}
 use Rattle.dt_lists.specs.Lists.{Has}
 use Rattle.dt_access.specs.declared.Part.{Part}
 use Rattle.dt_access.specs.declared.TxnId.{TxnId}
@@ -12,13 +12,13 @@ use Rattle.dt_sched.specs.Sched.{Sched, CanExecute, after_finish}
 use Rattle.dt_sched.proofs.Callers.{complete_of_closed, part_of_complete}
 use Rattle.dt_sched.proofs.Callers.{sound_execute}
 use Rattle.dt_proc.specs.Tree.{ProcTree}
-use Rattle.dt_table.specs.Table.{Table, HasPlaceFor, MovesUnit, apply}
+use Rattle.dt_table.specs.Table.{Table, HasPlaceFor, MovesUnit, apply, places_for}
 use Rattle.dt_table.specs.declared.Effect.{Effect}
 use Rattle.dt_txn.specs.declared.txn.Txn.{Txn}
 use Rattle.dt_txn.specs.declared.outcome.Outcome.{Outcome}
 use Rattle.dt_txn.specs.Execution.{one}
 use Rattle.dt_txn.specs.Replica.{view_of, done_ids, executed}
-use Rattle.dt_txn.proofs.Callers.{moves_unit}
+use Rattle.dt_txn.proofs.Callers.{few_places, moves_unit}
 use Rattle.dt_region.specs.Region.{RegionState, RegionView, held, sched_of}
 use Rattle.dt_region.specs.Rules.{after_step, MakesStep}
 use Rattle.dt_region.specs.Conditions.{CanMove, HoldsValid}
@@ -102,6 +102,12 @@ module _ (procs : List ProcTree) (r : RegionView) (s : RegionState) (events : Li
     execute_unit t e =
         subst (λ u. MovesUnit u.version effect.moved) (sym e)
         (subst (λ x. MovesUnit s.here.table.version x.1.moved) (sym run_is) (moves_unit procs s.here.table.version s.regions txn_here s.here.table (valid_here id txn_here held_here.1)))
+
+    -- and it takes few places
+    pub execute_few : places_for effect < 4294967296
+    execute_few =
+        let few : places_for (one procs txn_here s.here.table).1 ≤ 17 = few_places procs s.here.table.version s.regions txn_here s.here.table (valid_here id txn_here held_here.1) in
+        subst (λ x. places_for x.1 < 4294967296) (sym run_is) (omega (arith, few))
 
     pub execute_place : CanMove r.state id → (t : Table) → t ≡ s.here.table → HasPlaceFor effect.moved t
     execute_place moves t e =

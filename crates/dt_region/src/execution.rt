@@ -1,21 +1,20 @@
-ghost use Rattle.std.specs.Prelude.{◌≡◌, ◌+◌, ◌<◌, ◌≤◌, [], ◌∷◌, ◌++◌, map, IfOk};
+ghost use Rattle.std.specs.Prelude.{◌≡◌, ◌+◌, ◌<◌, ◌≤◌, [], ◌∷◌, ◌++◌, map};
 ghost use Rattle.indexmap.specs.IndexMap.{spare};
 ghost use Rattle.dt_lists.specs.Lists.{Has};
 ghost use Rattle.dt_table.specs.Table.{places_for};
 
 use dt_access::TxnId;
 use dt_table::Effect;
-use dt_text::NoMemory;
 use dt_txn::Outcome;
 use indexmap::IndexMap;
 
 /// How much room in a table an effect takes.
-pub fn places_for(effect: &Effect) -> Result<u32, NoMemory>
-    ensures { IfOk result (λ places. places ≡ places_for effect.now) }
+pub fn places_for(effect: &Effect) -> u32
+    requires { places_for effect.now < 4294967296 }
+    ensures { result ≡ places_for effect.now }
 {
-    let writes = effect.writes.as_slice().len();
     let moves = if effect.moved.is_some() { 1 } else { 0 };
-    u32::try_from(writes + moves).map_err(|_| NoMemory)
+    (effect.writes.as_slice().len() + moves) as u32
 }
 
 /// Notes the outcome of an id that has none yet, as the last one. Takes no memory where there is room.

@@ -374,7 +374,7 @@ impl<S: Scheduler> Region<S> {
         }
         let (outcome, effect) = self.run(alloc, id, procs)?;
         self.events.reserve(1)?;
-        self.table.reserve(places_for(&effect)?)?;
+        self.table.reserve(places_for(&effect))?;
         self.done.reserve(1)?;
         self.scheduler.reserve(alloc, 1)?;
         self.table.apply(effect);

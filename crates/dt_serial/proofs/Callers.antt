@@ -1,11 +1,13 @@
 -- What the proofs of crates above may cite of this crate, and nothing else of `proofs/`. The laws stand here for any order
 -- of ids, where `src/laws.rt` has them for an order that a test tells; beside them what a run comes to when it grows.
 pub use Rattle.dt_serial.proofs.Causes.{move_made, reasons}
-pub use Rattle.dt_serial.proofs.History.{across_fewer}
+pub use Rattle.dt_serial.proofs.History.{across_fewer, chain}
 pub use Rattle.dt_serial.proofs.Lookups.{looked_filter, looked_from, looked_has, looked_ids, looked_members}
 pub use Rattle.dt_serial.proofs.One.{live_of_outcome}
-pub use Rattle.dt_serial.proofs.Outcome.{across_moves, counters_reached, moves_front, one_outcome, one_restricted, one_set, single_outcome}
-pub use Rattle.dt_serial.proofs.Past.{among_of_has, down_of_order, down_push, has_of_among, not_among}
+pub use Rattle.dt_serial.proofs.Outcome.{across_moves, counters_exact, counters_reached, flag_down, flag_up, move_numbered, moves_front}
+pub use Rattle.dt_serial.proofs.Outcome.{one_outcome, one_restricted, one_set, single_outcome}
+pub use Rattle.dt_serial.proofs.Past.{down_of_order, down_push}
 pub use Rattle.dt_serial.proofs.Rows.{same_moves}
 pub use Rattle.dt_serial.proofs.Runs.{movers_ran, moves_grow, outcome_at, outcomes_append, outcomes_ids, table_after_append}
+pub use Rattle.dt_serial.proofs.SameOrder.{down_as, history_as}
 pub use Rattle.dt_serial.proofs.Valid.{valid_keeps}

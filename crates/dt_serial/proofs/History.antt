@@ -7,7 +7,7 @@ use Rattle.std.proofs.lemmas.Option.{slice_get_within, slice_get-get_or}
 use Rattle.dt_lists.specs.Lists.{AllIn, Has, EachThen, Either}
 use Rattle.dt_lists.proofs.Callers.{any_get, all_get, all_put, each_map, each_across, has_map, Spot, spot_has, each_of_steps, each_at, PassesAtFront}
 use Rattle.dt_lists.proofs.Callers.{if_passes, get_filtered}
-use Rattle.dt_access.proofs.Callers.{either_id, units_of_clash}
+use Rattle.dt_access.proofs.Callers.{among_of_has, either_id, not_among, units_of_clash}
 use Rattle.dt_access.specs.Ids.{is_among}
 use Rattle.dt_access.specs.Clash.{Bytes, is_whole, uses_clash}
 use Rattle.dt_access.specs.Granules.{unit_of}
@@ -22,7 +22,7 @@ use Rattle.dt_serial.specs.Replay.{replay}
 use Rattle.dt_serial.proofs.One.{live_entries, IsMoveOf, change_of_one, clash_of_change, unit_of_change}
 use Rattle.dt_serial.proofs.Rows.{same_moves}
 use Rattle.dt_serial.proofs.Runs.{version_after, table_after_append, IsMoveAt, numbered_move, mover_in, replay_append, replay_all, replay_none, chosen_moves, replay_moves}
-use Rattle.dt_serial.proofs.Past.{among_of_has, not_among, IsPast, past_of_down, same_past, down_preceders}
+use Rattle.dt_serial.proofs.Past.{IsPast, past_of_down, same_past, down_preceders}
 
 module _ (procs : List ProcTree) (order : TxnId → TxnId → Type 0) (start : Table) (txns : List Txn) (h : IsHistory procs order start txns) where
   -- places in the run

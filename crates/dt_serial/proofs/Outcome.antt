@@ -11,8 +11,7 @@ use Rattle.dt_lists.specs.Lists.{AnyIn, AllIn, Has, IsFront, Distinct, Either}
 use Rattle.dt_lists.proofs.Callers.{any_map, any_get, any_put, any_of_image, any_append, any_append_left, all_get, all_put, all_append_left, all_map}
 use Rattle.dt_lists.proofs.Callers.{each_append_right, has_map, Spot, spot, spot_has, has_middle, if_passes, get_filtered, front_filtered, same_by_key}
 use Rattle.dt_lists.proofs.Callers.{of_filter, has_filter}
-use Rattle.dt_access.proofs.Callers.{either_id}
-use Rattle.dt_access.proofs.Callers.{uses_of_clash}
+use Rattle.dt_access.proofs.Callers.{among_of_has, either_id, has_of_among, not_among, uses_of_clash}
 use Rattle.dt_access.specs.Ids.{is_among}
 use Rattle.dt_access.specs.Clash.{Bytes, uses_clash, clash}
 use Rattle.dt_access.specs.Granules.{unit_of}
@@ -32,7 +31,7 @@ use Rattle.dt_serial.specs.Replay.{replay}
 use Rattle.dt_serial.proofs.Rows.{either_changes}
 use Rattle.dt_serial.proofs.One.{clash_of_change, mover_at, one_alike, live_entries, live_of_outcome, change_of_one}
 use Rattle.dt_serial.proofs.Runs.{table_after_append, outcomes_ids, outcome_at, AlongRun, along_put, replay_append, replay_version, replay_alike, replay_none, replay_value, replay_swap}
-use Rattle.dt_serial.proofs.Past.{has_of_among, among_of_has, not_among, among_same, IsPast, past_of_down, same_past, down_front, down_closed, filter_ids, down_filter}
+use Rattle.dt_serial.proofs.Past.{among_same, IsPast, past_of_down, same_past, down_front, down_closed, filter_ids, down_filter}
 use Rattle.dt_serial.proofs.History.{down_at, past_at, apart_at, replay_at, keys_at, anchor_at, IsMoveNumber, index, follower, live_before, same_movers, across, closed_front, replayed_moves, replayed_mover}
 
 module _ (procs : List ProcTree) (order : TxnId → TxnId → Type 0) (start : Table) (txns : List Txn) (h : IsHistory procs order start txns) where

@@ -1,33 +1,18 @@
 -- Lists in which all that precedes an id stands before it, and the choices of ids that are a past of an id.
-use Rattle.std.proofs.Common.{◌≡◌, ◌⊎◌, Bool, true, false, cond, List, [], ◌∷◌, ◌++◌, eqb-true, eq-eqb, refl, sym, ap, subst, subst₂, ◌∙◌, inl, inr}
+use Rattle.std.proofs.Common.{◌≡◌, ◌⊎◌, Bool, true, false, cond, List, [], ◌∷◌, ◌++◌, refl, sym, ap, subst, subst₂, ◌∙◌, inl, inr}
 use Rattle.std.specs.Prelude.{filter}
-use Rattle.std.proofs.lemmas.Bool.{cases_Bool, and_parts, and_from, false_from_ne_true}
+use Rattle.std.proofs.lemmas.Bool.{cases_Bool, false_from_ne_true}
 use Rattle.dt_lists.specs.Lists.{SomeThen, Has, EachThen, Distinct}
-use Rattle.dt_lists.proofs.Callers.{any_map, any_append, any_append_left, some_map, some_get, some_of_two, some_append_left, each_append_left, each_across}
-use Rattle.dt_lists.proofs.Callers.{any_of_test, test_of_any, distinct_push, some_in_front, of_filter, filter_each, filter_before, all_get, some_each}
+use Rattle.dt_lists.proofs.Callers.{any_append, any_append_left, some_map, some_get, some_of_two, some_append_left, each_append_left, each_across}
+use Rattle.dt_lists.proofs.Callers.{distinct_push, some_in_front, of_filter, filter_each, filter_before, all_get, some_each}
 use Rattle.dt_lists.proofs.Callers.{before_has, has_before, has_middle}
-use Rattle.dt_access.proofs.Callers.{same_by_parts}
-use Rattle.dt_access.specs.Ids.{same_id, is_among, StandsBefore}
+use Rattle.dt_access.proofs.Callers.{among_of_has, has_of_among, not_among}
+use Rattle.dt_access.specs.Ids.{is_among, StandsBefore}
 use Rattle.dt_access.specs.declared.TxnId.{TxnId}
 use Rattle.dt_txn.specs.declared.txn.Txn.{Txn}
 use Rattle.dt_serial.specs.Order.{txn_ids, Ordered, IsDown}
 
 -- which ids are among some
-
-id_of_test : (a b : TxnId) → same_id a b ≡ true → a ≡ b
-id_of_test a b e = let r : (_ ≡ true) × (_ ≡ true) = and_parts _ _ e in same_by_parts a b (eqb-true a.seq b.seq r.0) (eqb-true a.region b.region r.1)
-
-test_of_id : (a b : TxnId) → a ≡ b → same_id a b ≡ true
-test_of_id a b e = and_from _ _ (eq-eqb a.seq b.seq (ap (λ i. i.seq) e)) (eq-eqb a.region b.region (ap (λ i. i.region) e))
-
-pub has_of_among : (ids : List TxnId) (id : TxnId) → is_among ids id ≡ true → Has ids id
-has_of_among ids id e = any_map _ _ ids (λ i s. sym (id_of_test id i s)) (any_of_test (same_id id) ids e)
-
-pub among_of_has : (ids : List TxnId) (id : TxnId) → Has ids id → is_among ids id ≡ true
-among_of_has ids id h = test_of_any (same_id id) ids (any_map _ _ ids (λ i s. test_of_id id i (sym s)) h)
-
-pub not_among : (ids : List TxnId) (id : TxnId) → ¬ (Has ids id) → is_among ids id ≡ false
-not_among ids id n = false_from_ne_true _ (λ e. n (has_of_among ids id e))
 
 -- lists with equal members choose alike
 pub among_same : (xs ys : List TxnId) (id : TxnId) → (Has xs id → Has ys id) → (Has ys id → Has xs id) → is_among xs id ≡ is_among ys id

@@ -1,2 +1,2 @@
 -- What the proofs of crates above may cite of this crate; they cite nothing else of its proofs.
-pub use Rattle.dt_session.proofs.SessionsLaws.{idle_found}
+pub use Rattle.dt_session.proofs.SessionsLaws.{idle_found, same_name}

@@ -2,20 +2,24 @@
 use Rattle.std.proofs.Common.{◌≡◌, ◌≢◌, ◌⊎◌, ◌<◌, ◌≤◌, ◌+◌, ◌-◌, ◌==◌, ℕ, zero, suc, Bool, true, false, cond, eq-eqb, eqb, eqb-true, List, [], ◌∷◌}
 use Rattle.std.proofs.Common.{length, map, get_or, drop, slice_get, Some, None, refl, sym, ap, subst, ◌∙◌, inl, inr, arith}
 use Rattle.std.specs.Prelude.{Option, IsSome, option_and_then, option_map}
-use Rattle.std.specs.List.{All}
+use Rattle.std.specs.List.{All, AllByRecursion}
+use Rattle.std.specs.List.Sorted.{IsStrictlySortedBy}
 use Rattle.std.specs.declared.cmp.Ordering.{Ordering}
 use Rattle.std.specs.declared.cmp.Ordering.TheVariants.{Less, Equal, Greater}
 use Rattle.std.specs.Ordering.{is_lt, nat_cmp}
 use Rattle.std.specs.Cmp.Lexicographic.{bytes_decides, slice_cmp, texts_ties}
 use Rattle.std.specs.BTreeMap.{insert_entry}
-use Rattle.std.specs.Map.{lookup, set_value, values_of}
+use Rattle.std.specs.Map.{keys_of, lookup, set_value, values_of}
+use Rattle.std.proofs.lemmas.Map.{keys-set_value}
 use Rattle.std.proofs.lemmas.Bool.{cases_Bool, false_from_ne_true}
 use Rattle.std.proofs.lemmas.Option.{slice_get-get_or}
 use Rattle.std.proofs.lemmas.List.{drop_more}
 use Rattle.std.proofs.lemmas.List.Sums.{sum_by-cons}
-use Rattle.dt_lists.specs.Lists.{AllIn, Distinct}
-use Rattle.dt_lists.proofs.Callers.{place_within}
+use Rattle.dt_lists.specs.Lists.{AllIn, Distinct, EachThen, Has}
+use Rattle.dt_lists.proofs.Callers.{all_get, all_put, each_image, each_of_image, has_place, place_within}
 use Rattle.dt_access.specs.Clash.{Bytes, same_key}
+use Rattle.dt_access.specs.Orders.{HasAscendingKeys, KeyBefore}
+use Rattle.dt_access.proofs.Callers.{same_key_after, same_key_self}
 use Rattle.dt_txn.specs.declared.Body.{Body}
 use Rattle.dt_txn.specs.declared.Outcome.{Outcome}
 use Rattle.dt_workload.specs.Valid.{calls_in, session_names}
@@ -24,12 +28,12 @@ use Rattle.dt_workload.specs.declared.Ranked.{Ranked}
 use Rattle.dt_session.specs.declared.sessions.Seat.{Seat}
 use Rattle.dt_session.specs.Eager.{sessions_at, with_session}
 use Rattle.dt_session.specs.declared.sessions.Waiting.{Waiting}
-use Rattle.dt_session.specs.Sessions.{IsSoundSeat, MayBeAnswered, MayGo, MaySeatEnd, MaySeatTry, SessionsView, StandsWithin, idle_seat, is_named, seat_of}
+use Rattle.dt_session.specs.Sessions.{AreAllAnswered, AreSoundSeats, EachNameIsAnswered, IsSoundSeat, MayBeAnswered, MayGo, MaySeatEnd, MaySeatTry, SessionsView, StandsWithin, idle_seat, is_named, seat_of}
 use Rattle.dt_session.specs.World.{Place, idle_place, session_at}
 use Rattle.dt_session.specs.Tries.{Awaited, IsLast, MayEnd, MayTry, body_of, ranked_body}
 
 -- one name is another
-same_name : (a b : Bytes) → is_named a b ≡ true → a ≡ b
+pub same_name : (a b : Bytes) → is_named a b ≡ true → a ≡ b
 same_name a b e = (bytes_decides a b).0 (texts_ties a b ∙ e)
 
 -- what holds of all sessions holds of those of a region
@@ -141,6 +145,66 @@ put_sound (p ∷ entries) name seat a sound = go (cases_Bool (is_named name p.0)
         → AllIn (λ q. IsSoundSeat q.1) (set_value (is_named name) (p ∷ entries) seat)
     go (inl y) rest = rw y (sound, a.1)
     go (inr n) rest = rw n (a.0, rest)
+
+-- names ascend, so that each finds its own session
+
+ascends_of : (x : Bytes × Seat) (entries : List (Bytes × Seat)) → AllByRecursion (λ y. slice_cmp nat_cmp x.0 y ≡ Less) (keys_of entries) → AllIn (λ p. KeyBefore x.0 p.0) entries
+ascends_of x [] a = tt
+ascends_of x (p ∷ entries) a = (a.0, ascends_of x entries a.1)
+
+-- as the map has it
+pub ascends : (entries : List (Bytes × Seat)) → IsStrictlySortedBy (slice_cmp nat_cmp) (keys_of entries) → HasAscendingKeys entries
+unfolding IsStrictlySortedBy
+ascends [] a = tt
+ascends (p ∷ entries) a = (ascends_of p entries a.0, ascends entries a.1)
+
+-- another session in the place of one of its name leaves the names
+pub put_ascends : (entries : List (Bytes × Seat)) (name : Bytes) (seat : Seat) → HasAscendingKeys entries → HasAscendingKeys (set_value (is_named name) entries seat)
+put_ascends entries name seat a =
+    each_of_image KeyBefore (λ p. p.0) (set_value (is_named name) entries seat)
+    (subst (EachThen KeyBefore) (sym (keys-set_value (is_named name) entries seat)) (each_image KeyBefore (λ p. p.0) entries a))
+
+pub put_sound_seat : (entries : List (Bytes × Seat)) (name : Bytes) (seat : Seat) → AreSoundSeats entries → IsSoundSeat seat → AreSoundSeats (set_value (is_named name) entries seat)
+put_sound_seat entries name seat a sound = record { ascending = put_ascends entries name seat a.ascending; each = put_sound entries name seat a.each sound }
+
+pub finds_own : (entries : List (Bytes × Seat)) (p : Bytes × Seat) → HasAscendingKeys entries → Has entries p → lookup (is_named p.0) entries ≡ Some p.1
+finds_own [] p a h = absurd h
+finds_own (q ∷ entries) p a (inl e) =
+    let own : is_named p.0 q.0 ≡ true = ap (λ x. is_named p.0 x.0) e ∙ sym (texts_ties p.0 p.0) ∙ same_key_self p.0 in
+    rw own (ap (λ x. Some x.1) e)
+finds_own (q ∷ entries) p a (inr h) =
+    let other : is_named p.0 q.0 ≡ false = sym (texts_ties p.0 q.0) ∙ same_key_after p.0 q.0 (all_get (λ x. KeyBefore q.0 x.0) entries a.0 p h) in
+    rw other (finds_own entries p a.1 h)
+
+pub name_finds : (s : SessionsView) (index : ℕ) (o : Option Bytes) → HasAscendingKeys s.seats → o ≡ slice_get (map (λ p. p.0) s.seats) index
+    → option_and_then (seat_of s) o ≡ option_map (λ p. p.1) (slice_get s.seats index)
+name_finds s index o a e = ap (option_and_then (seat_of s)) (e ∙ get_mapped s.seats index) ∙ go (slice_get s.seats index) refl
+  where
+    get_mapped : (entries : List (Bytes × Seat)) (i : ℕ) → slice_get (map (λ p. p.0) entries) i ≡ option_map (λ p. p.0) (slice_get entries i)
+    get_mapped [] i = refl
+    get_mapped (p ∷ entries) zero = refl
+    get_mapped (p ∷ entries) (suc i) = get_mapped entries i
+
+    go : (p : Option (Bytes × Seat)) → slice_get s.seats index ≡ p → option_and_then (seat_of s) (option_map (λ q. q.0) p) ≡ option_map (λ q. q.1) p
+    go None is = refl
+    go (Some p) is = finds_own s.seats p a (has_place s.seats index p is)
+
+-- what holds of each session that a name finds holds of all, and back
+
+found_answered : (entries : List (Bytes × Seat)) (name : Bytes) (seat : Seat) → AllIn (λ p. p.1.answered ≡ length p.1.calls) entries → lookup (is_named name) entries ≡ Some seat
+    → seat.answered ≡ length seat.calls
+found_answered [] name seat a e = cc
+found_answered (p ∷ entries) name seat a e = go (cases_Bool (is_named name p.0)) (found_answered entries name seat a.1)
+  where
+    go : (is_named name p.0 ≡ true) ⊎ (is_named name p.0 ≡ false) → (lookup (is_named name) entries ≡ Some seat → seat.answered ≡ length seat.calls) → seat.answered ≡ length seat.calls
+    go (inl y) f = let here : ◌≡◌ {A = Option Seat} (Some p.1) (Some seat) = rw y at e in let same : p.1 ≡ seat = cc in subst (λ (x : Seat). x.answered ≡ length x.calls) same a.0
+    go (inr n) f = f (rw n at e)
+
+pub names_answered : (s : SessionsView) → AreAllAnswered s → EachNameIsAnswered s
+names_answered s a name seat found = found_answered s.seats name seat a found
+
+pub answered_of_names : (s : SessionsView) → HasAscendingKeys s.seats → EachNameIsAnswered s → AreAllAnswered s
+answered_of_names s a each = all_put _ s.seats (λ p h. each p.0 p.1 (finds_own s.seats p a h))
 
 -- where a session stands, by what it waits for
 

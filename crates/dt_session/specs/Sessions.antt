@@ -9,6 +9,7 @@ use Rattle.std.specs.Cmp.Lexicographic.{slice_cmp}
 use Rattle.std.specs.Map.{lookup, set_value}
 use Rattle.dt_lists.specs.Lists.{AllIn}
 use Rattle.dt_access.specs.Clash.{Bytes}
+use Rattle.dt_access.specs.Orders.{HasAscendingKeys}
 use Rattle.dt_access.specs.declared.TxnId.{TxnId}
 use Rattle.dt_txn.specs.declared.Outcome.{Outcome}
 use Rattle.dt_workload.specs.declared.Session.{Session}
@@ -120,3 +121,12 @@ StandsWithin calls answered (Some waiting) = answered < calls
 pub record IsSoundSeat (seat : Seat) : Type 0 where
   pub few : length seat.calls < 2 ^ 32
   pub within : StandsWithin (length seat.calls) seat.answered seat.waits
+
+-- what the type keeps of all sessions: they stand in byte order of their names, so that no two have one name
+pub record AreSoundSeats (seats : List (Bytes × Seat)) : Type 0 where
+  pub ascending : HasAscendingKeys seats
+  pub each : AllIn (λ p. IsSoundSeat p.1) seats
+
+-- each session that a name finds has all its calls answered
+abbrev pub EachNameIsAnswered : SessionsView → Type 0
+EachNameIsAnswered s = (name : Bytes) (seat : Seat) → seat_of s name ≡ Some seat → seat.answered ≡ length seat.calls

@@ -1,8 +1,9 @@
-ghost use Rattle.std.specs.Prelude.{◌≡◌, ◌↔◌, ◌≤◌, ◌<◌, ◌+◌, length, map, option_map, slice_get, IfOk, IsSome, IsTrue, Some};
+ghost use Rattle.std.specs.Prelude.{◌≡◌, ◌↔◌, ◌≤◌, ◌<◌, ◌+◌, length, map, option_and_then, option_map, slice_get, IfOk, IsSome, IsTrue, Some};
 ghost use Rattle.std.specs.Option.{option_copied};
 ghost use Rattle.dt_lists.specs.Lists.{Distinct};
+ghost use Rattle.dt_access.specs.Orders.{HasAscendingKeys};
 ghost use Rattle.dt_workload.specs.Valid.{calls_in, session_names};
-ghost use Rattle.dt_session.specs.Sessions.{AreAllAnswered, IsNext, MayBeAnswered, MayGo, after_answer, after_wait, all_idle, waits_of, wanted_of};
+ghost use Rattle.dt_session.specs.Sessions.{AreAllAnswered, EachNameIsAnswered, IsNext, MayBeAnswered, MayGo, after_answer, after_wait, all_idle, seat_of, waits_of, wanted_of};
 ghost use Rattle.dt_session.specs.Tries.{IsLast, IsStale, body_of, ranked_body};
 
 use dt_access::{TryCopy, TxnId};
@@ -33,7 +34,8 @@ pub struct Seat {
 
 /// The sessions of one region, found by their names.
 ///
-/// Contracts see how often a call may be tried (`tries`), and as `seats` each session with its name, in byte order of names.
+/// Contracts see how often a call may be tried (`tries`), and as `seats` each session with its name, in byte order of names. Its
+/// type keeps that no name stands twice.
 #[derive(Drop)]
 pub struct Sessions {
     tries: u32,
@@ -41,8 +43,7 @@ pub struct Sessions {
 }
 
 impl Model for Sessions {
-    ghost use Rattle.dt_lists.specs.Lists.{AllIn};
-    ghost use Rattle.dt_session.specs.Sessions.{IsSoundSeat, SessionsView};
+    ghost use Rattle.dt_session.specs.Sessions.{AreSoundSeats, SessionsView};
     ghost use Rattle.dt_session.specs.SessionsCode.{sessions_code};
 
     ghost Value = { SessionsView };
@@ -51,7 +52,7 @@ impl Model for Sessions {
 
     ghost view = { λ s. record { tries = s.tries; seats = s.seats.entries } };
 
-    ghost invariant = { λ s. AllIn (λ p. IsSoundSeat p.1) s.seats.entries };
+    ghost invariant = { λ s. AreSoundSeats s.seats.entries };
 }
 
 impl Sessions {
@@ -133,16 +134,20 @@ impl Sessions {
         Ok((ranked.rank, copy_body(alloc, &ranked.wanted)?))
     }
 
-    /// The name of the session at this place, from 0, in byte order of names. `None` exactly at or past their number.
+    /// The name of the session at this place, from 0, in byte order of names, in which no name stands twice. `None` exactly at or
+    /// past their number. The name finds the session of that place.
     pub fn name(&self, index: u32) -> Option<&Name>
-        ensures { option_copied result ≡ slice_get (map (λ p. p.0) self.now.seats) index }
+        ensures place { option_copied result ≡ slice_get (map (λ p. p.0) self.now.seats) index }
+        ensures finds { option_and_then (seat_of self.now) (option_copied result) ≡ option_map (λ p. p.1) (slice_get self.now.seats index) }
+        ensures ascending { HasAscendingKeys self.now.seats }
     {
         self.seats.keys().nth(index as usize)
     }
 
-    /// Whether every call of every session is answered.
+    /// Whether every call of every session is answered, so of each session that a name finds.
     pub fn all_answered(&self) -> bool
-        ensures { IsTrue result ↔ AreAllAnswered self.now }
+        ensures all { IsTrue result ↔ AreAllAnswered self.now }
+        ensures by_name { IsTrue result ↔ EachNameIsAnswered self.now }
     {
         self.seats
             .values()

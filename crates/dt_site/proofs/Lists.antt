@@ -1,9 +1,9 @@
 -- Lists of logs, of transactions and of attempts, with one more item or with one of them changed.
-use Rattle.std.proofs.Common.{◌≡◌, ◌≢◌, ◌<◌, ◌≤◌, ◌+◌, ◌⊎◌, ℕ, zero, suc, Bool, true, false, cond, List, [], ◌∷◌, ◌++◌, length, get_or, set, take, slice_get}
-use Rattle.std.proofs.Common.{Some, refl, sym, ap, subst, ◌∙◌, inl, inr, append_assoc, arith}
+use Rattle.std.proofs.Common.{◌≡◌, ◌<◌, ◌≤◌, ◌+◌, ◌⊎◌, ℕ, zero, suc, Bool, true, false, cond, List, [], ◌∷◌, ◌++◌, length, get_or, set, take, slice_get}
+use Rattle.std.proofs.Common.{Some, refl, sym, ap, subst, ◌∙◌, inl, inr, append-nil, append_assoc, arith}
 use Rattle.std.specs.Prelude.{is_some}
 use Rattle.std.proofs.lemmas.Bool.{cases_Bool}
-use Rattle.std.proofs.lemmas.List.{length_push, length-take}
+use Rattle.std.proofs.lemmas.List.{length_push}
 use Rattle.std.proofs.lemmas.List.Sums.{sum_by-cons}
 use Rattle.dt_lists.specs.Lists.{Has}
 use Rattle.dt_access.proofs.Callers.{id_of_test, test_of_id}
@@ -19,20 +19,6 @@ use Rattle.dt_region.specs.Rules.{keep, keep_all}
 use Rattle.dt_session.specs.World.{Submission}
 use Rattle.dt_site.specs.declared.site.Origin.{Origin}
 use Rattle.dt_site.specs.Site.{attempt, attempts}
-
--- changes of lists
-
-pub set_again : {A : Type 0} (xs : List A) (i : ℕ) (x y : A) → set (set xs i x) i y ≡ set xs i y
-set_again [] i x y = refl
-set_again (z ∷ xs) zero x y = refl
-set_again (z ∷ xs) (suc i) x y = ap (λ l. z ∷ l) (set_again xs i x y)
-
-pub set_apart : {A : Type 0} (xs : List A) (i j : ℕ) (x y : A) → i ≢ j → set (set xs i x) j y ≡ set (set xs j y) i x
-set_apart [] i j x y n = refl
-set_apart (z ∷ xs) zero zero x y n = absurd (n refl)
-set_apart (z ∷ xs) zero (suc j) x y n = refl
-set_apart (z ∷ xs) (suc i) zero x y n = refl
-set_apart (z ∷ xs) (suc i) (suc j) x y n = ap (λ l. z ∷ l) (set_apart xs i j x y (λ e. n (ap suc e)))
 
 pub fronts_set : (lengths : List ℕ) (logs : View) (home n : ℕ) (log : List Part) → home < length lengths → fronts (set lengths home n) (set logs home log) ≡ set (fronts lengths logs) home (take n log)
 fronts_set lengths [] home n log lt = refl
@@ -51,13 +37,6 @@ parts_set (l ∷ logs) zero part = let a : length (l ++ part ∷ []) ≡ length 
     omega (arith, parts_cons (l ++ part ∷ []) logs, parts_cons l logs) in b
 parts_set (l ∷ logs) (suc home) part = let a : parts_in (set logs home (log_at logs home ++ part ∷ [])) ≤ parts_in logs + 1 =
     parts_set logs home part in let b : parts_in (l ∷ set logs home (log_at logs home ++ part ∷ [])) ≤ parts_in (l ∷ logs) + 1 = omega (arith, parts_cons l (set logs home (log_at logs home ++ part ∷ [])), parts_cons l logs) in b
-
-pub parts_fronts : (lengths : List ℕ) (logs : View) → parts_in (fronts lengths logs) ≤ parts_in logs
-parts_fronts lengths [] = omega arith
-parts_fronts [] (l ∷ logs) = let a : parts_in (fronts [] logs) ≤ parts_in logs = parts_fronts [] logs in let b : parts_in ([] ∷ fronts [] logs) ≤ parts_in
-    (l ∷ logs) = omega (arith, parts_cons [] (fronts [] logs), parts_cons l logs) in b
-parts_fronts (n ∷ lengths) (l ∷ logs) = let a : parts_in (fronts lengths logs) ≤ parts_in logs = parts_fronts lengths logs in let b : parts_in (take n l ∷ fronts lengths logs) ≤ parts_in (l ∷ logs) =
-    omega (arith, length-take n l, parts_cons (take n l) (fronts lengths logs), parts_cons l logs) in b
 
 -- transactions among one more
 
@@ -86,17 +65,13 @@ find_more (x ∷ xs) ys t id u e = go (cases_Bool (same_id x.id id)) (find_more 
     go (inl y) f = let is : Some x ≡ Some u = rw y at e in inl (rw y is)
     go (inr n) f = elim (f (rw n at e)) [ inl h ↦ inl (rw n h) | inr h ↦ inr h ]
 
-append_nil : {A : Type 0} (xs : List A) → xs ++ [] ≡ xs
-append_nil [] = refl
-append_nil (x ∷ xs) = ap (λ l. x ∷ l) (append_nil xs)
-
 -- what is held with one more transaction of another was held before, or is that one
 pub held_more : (submitted foreign : List Txn) (t : Txn) (id : TxnId) (u : Txn) → find_txn (submitted ++ keep submitted foreign t) id ≡ Some u → (find_txn (submitted ++ foreign) id ≡ Some u) ⊎ ((t ≡ u) × (t.id ≡ id))
 held_more submitted foreign t id u e = go (is_some (find_txn (submitted ++ foreign) t.id)) e
   where
     go : (b : Bool) → find_txn (submitted ++ cond b foreign (foreign ++ t ∷ [])) id ≡ Some u → (find_txn (submitted ++ foreign) id ≡ Some u) ⊎ ((t ≡ u) × (t.id ≡ id))
     go true h = inl h
-    go false h = subst (λ l. (find_txn l id ≡ Some u) ⊎ ((t ≡ u) × (t.id ≡ id))) (append_nil (submitted ++ foreign))
+    go false h = subst (λ l. (find_txn l id ≡ Some u) ⊎ ((t ≡ u) × (t.id ≡ id))) (append-nil (submitted ++ foreign))
         (find_more (submitted ++ foreign) [] t id u (subst (λ l. find_txn l id ≡ Some u) (sym (append_assoc submitted foreign (t ∷ []))) h))
 
 pub held_all : (submitted foreign txns : List Txn) (id : TxnId) (u : Txn) → find_txn (submitted ++ keep_all submitted foreign txns) id ≡ Some u → (find_txn (submitted ++ foreign) id ≡ Some u) ⊎ (Has txns u × (u.id ≡ id))

@@ -7,7 +7,8 @@ use Rattle.std.proofs.lemmas.Bool.{false_from_ne_true}
 use Rattle.std.proofs.lemmas.List.{map-set, map_push, get_or-set_same, get_or-set_other, set-get_or}
 use Rattle.std.proofs.Math.Seq.{take-length}
 use Rattle.dt_lists.specs.Lists.{AllIn, Has, Distinct}
-use Rattle.dt_lists.proofs.Callers.{each_across, any_image, has_place, place_within}
+use Rattle.dt_lists.proofs.Callers.{each_across, any_image, has_place, place_within, set_set}
+use Rattle.dt_region.proofs.Callers.{fronts_few}
 use Rattle.dt_access.specs.declared.TxnId.{TxnId}
 use Rattle.dt_access.specs.declared.Part.{Part}
 use Rattle.dt_sched.specs.Views.{View, HasPart, IsWellFormed, ids_of, log_at}
@@ -27,7 +28,7 @@ use Rattle.dt_session.specs.Step.{IsLegal, next, placed}
 use Rattle.dt_agreement.proofs.Callers.{IsRequest, request_is, logs_placed, placed_well_formed, received_within, fronts_grown, log_is, logs_length}
 use Rattle.dt_site.specs.Site.{SiteView, in_region, node_of}
 use Rattle.dt_site.specs.StandsIn.{IsReached, StandsIn}
-use Rattle.dt_site.proofs.Lists.{fronts_set, held_more, parts_fronts, parts_set, set_again}
+use Rattle.dt_site.proofs.Lists.{fronts_set, held_more, parts_set}
 use Rattle.dt_site.proofs.Standing.{Steps, inv, node_then, order, own_log, own_of, txns_stay, valid_txn}
 
 module _ {cluster : Cluster} {workload : Workload} {w : World} (k : IsReached cluster workload w) {home : ℕ} (lh : home < cluster.regions) {p : SiteView} (s : StandsIn cluster.regions w home p)
@@ -107,7 +108,7 @@ module _ {cluster : Cluster} {workload : Workload} {w : World} (k : IsReached cl
         ∙ ap (fronts (set (node_at w home).received home (length log_then))) logs_now
         ∙ fronts_set (node_at w home).received (logs_of w) home (length log_then) log_then lengths_fit
         ∙ ap (set (fronts (node_at w home).received (logs_of w)) home) (take-length log_then)
-        ∙ sym (set_again (fronts (node_at w home).received (logs_of w)) home (take (length (log_of w home)) (log_at (logs_of w) home)) log_then)
+        ∙ sym (set_set (fronts (node_at w home).received (logs_of w)) home (take (length (log_of w home)) (log_at (logs_of w) home)) log_then)
         ∙ ap (λ l. set l home log_then) (sym received_before)
 
     logs_of_home : with_part p.region.state.logs (part_of txn p.region.state.number) ≡ received_logs (placed w home source (Some txn)) home
@@ -119,7 +120,7 @@ module _ {cluster : Cluster} {workload : Workload} {w : World} (k : IsReached cl
     few : parts_in (with_part p.region.state.logs (part_of txn p.region.state.number)) ≤ parts_in (logs_of w) + 1
     few =
         let later : View = logs_of (placed w home source (Some txn)) in
-        let a : parts_in (fronts (received_lengths (placed w home source (Some txn)) home) later) ≤ parts_in later = parts_fronts (received_lengths (placed w home source (Some txn)) home) later in
+        let a : parts_in (fronts (received_lengths (placed w home source (Some txn)) home) later) ≤ parts_in later = fronts_few (received_lengths (placed w home source (Some txn)) home) later in
         let b : parts_in later ≤ parts_in (logs_of w) + 1 = subst (λ l. parts_in l ≤ parts_in (logs_of w) + 1) (sym logs_now) (parts_set (logs_of w) home (part_of txn home)) in
         subst (λ l. parts_in l ≤ parts_in (logs_of w) + 1) (sym logs_of_home) (omega (arith, a, b))
 
@@ -147,7 +148,7 @@ module _ {cluster : Cluster} {workload : Workload} {w : World} (k : IsReached cl
           get_or-set_same p.region.state.logs here (log_here ++ part_of txn here ∷ []) [] fits ∙ ap (λ h. log_here ++ part_of txn h ∷ []) s.number in
           let received_is : set (map length (with_part p.region.state.logs (part_of txn here))) here 0 ≡ set (map length p.region.state.logs) here 0 =
           ap (λ l. set l here 0) (map-set length p.region.state.logs here (log_here ++ part_of txn here ∷ []))
-          ∙ set_again (map length p.region.state.logs) here (length (log_here ++ part_of txn here ∷ [])) 0 in
+          ∙ set_set (map length p.region.state.logs) here (length (log_here ++ part_of txn here ∷ [])) 0 in
           ap (λ x. node_of (in_region p x)) is
           ∙ ap₂ (λ (a : List Part) (b : List ℕ). record (node_of p) { log = a; received = b; here = after_taking p.region.state.here source }) log_is_now received_is
           ∙ ap (λ (n : Node). record n { log = n.log ++ part_of txn home ∷ []; here = after_taking n.here source }) s.node

@@ -1,11 +1,12 @@
 -- Rule 3: a region receives a stretch of a home's log. The entries are those of the world's log, from whichever place on:
 -- below what the region has, at its end, or past it.
 use Rattle.std.proofs.Common.{◌≡◌, ◌≢◌, ◌<◌, ◌≤◌, ◌+◌, ◌-◌, ◌⊎◌, ℕ, zero, suc, Bool, true, false, cond, ltb, leb, ◌&&◌, List, [], ◌∷◌, ◌++◌, length, map, set}
-use Rattle.std.proofs.Common.{take, drop, Ok, Some, refl, sym, ap, ap₂, subst, ◌∙◌, inl, inr, arith}
+use Rattle.std.proofs.Common.{take, drop, Ok, Some, refl, sym, ap, ap₂, subst, ◌∙◌, inl, inr, append-nil, arith}
 use Rattle.std.proofs.lemmas.Bool.Decides.{nat_tests}
 use Rattle.std.proofs.lemmas.List.{length-map, length-set, length-take-le, length-drop, map-set, get_or-set_same, get_or-set_other, set-get_or}
 use Rattle.dt_lists.specs.Lists.{AllIn, Distinct, Has, IsFront}
-use Rattle.dt_lists.proofs.Callers.{map_of_set, any_front, each_front, front_map, front_take, either_le, all_get, all_image, all_map, all_put, has_map}
+use Rattle.dt_lists.proofs.Callers.{map_of_set, any_front, each_front, front_map, front_take, either_le, all_get, all_image, all_map, all_put, has_map, set_apart}
+use Rattle.dt_region.proofs.Callers.{fronts_few}
 use Rattle.dt_access.specs.declared.TxnId.{TxnId}
 use Rattle.dt_access.specs.declared.Part.{Part}
 use Rattle.dt_log.specs.declared.Taken.{Taken}
@@ -29,7 +30,7 @@ use Rattle.dt_agreement.specs.Invariant.{IsPartAt}
 use Rattle.dt_agreement.proofs.Callers.{log_distinct, part_homed, received_within, log_is, received_log, received_own}
 use Rattle.dt_site.specs.Site.{SiteView, in_region, node_of}
 use Rattle.dt_site.specs.StandsIn.{IsReached, StandsIn}
-use Rattle.dt_site.proofs.Lists.{fronts_set, held_all, parts_fronts, set_apart}
+use Rattle.dt_site.proofs.Lists.{fronts_set, held_all}
 use Rattle.dt_site.proofs.Standing.{Steps, inv, node_then, order, own_of, txns_stay, valid_txn}
 
 -- a list up to one place, and from there to a later one
@@ -51,10 +52,6 @@ nothing_between (suc first) (suc last) (x ∷ xs) le = nothing_between first las
 drop_nothing : {A : Type 0} (n : ℕ) → ◌≡◌ {A = List A} (drop n []) []
 drop_nothing zero = refl
 drop_nothing (suc n) = refl
-
-append_nothing : {A : Type 0} (xs : List A) → xs ++ [] ≡ xs
-append_nothing [] = refl
-append_nothing (x ∷ xs) = ap (λ l. x ∷ l) (append_nothing xs)
 
 drop_twice : {A : Type 0} (first rest more : ℕ) (xs : List A) → more ≡ first + rest → drop rest (drop first xs) ≡ drop more xs
 drop_twice zero rest more xs e = let same : rest ≡ more = omega arith in ap (λ n. drop n xs) same
@@ -146,7 +143,7 @@ module _ {cluster : Cluster} {workload : Workload} {w : World} (k : IsReached cl
           map_drop (λ e. e.part) (length has_of - first) entries ∙ ap (drop (length has_of - first)) parts ∙ ap (λ n. drop (n - first) (drop first (take last (log_of w home)))) long
           ∙ drop_twice first (far - first) far (take last (log_of w home)) (omega arith) ∙ nothing_between far last (log_of w home) shorter in
           let few : far ≤ length (log_of w home) = subst (λ n. n ≤ length (log_of w home)) (sym has_received ∙ long) in_log in
-          (far, few, λ longer. omega arith, ap (λ l. has_of ++ l) none ∙ append_nothing has_of ∙ is)
+          (far, few, λ longer. omega arith, ap (λ l. has_of ++ l) none ∙ append-nil has_of ∙ is)
       joined far is long le (inr longer) =
           let rest : map (λ e. e.part) (drop (length has_of - first) entries) ≡ drop far (take last (log_of w home)) =
           map_drop (λ e. e.part) (length has_of - first) entries ∙ ap (drop (length has_of - first)) parts ∙ ap (λ n. drop (n - first) (drop first (take last (log_of w home)))) long
@@ -181,7 +178,7 @@ module _ {cluster : Cluster} {workload : Workload} {w : World} (k : IsReached cl
       few : home ≢ region → (le : first ≤ length has_of) → parts_in (set p.region.state.logs home (with_entries has_of first entries)) ≤ parts_in (logs_of w)
       few other le =
           subst (λ l. parts_in (set p.region.state.logs home l) ≤ parts_in (logs_of w)) (sym (log_then le).3)
-          (subst (λ l. parts_in l ≤ parts_in (logs_of w)) (sym (logs_then other (log_then le).0)) (parts_fronts (set (received_lengths w region) home (log_then le).0) (logs_of w)))
+          (subst (λ l. parts_in l ≤ parts_in (logs_of w)) (sym (logs_then other (log_then le).0)) (fronts_few (set (received_lengths w region) home (log_then le).0) (logs_of w)))
 
       -- each entry's part is of the home's log, and so it is that of its transaction
 

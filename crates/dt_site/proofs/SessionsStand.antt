@@ -19,7 +19,7 @@ use Rattle.dt_workload.specs.declared.Workload.{Workload}
 use Rattle.dt_session.specs.declared.sessions.Seat.{Seat}
 use Rattle.dt_session.specs.declared.sessions.Waiting.{Waiting}
 use Rattle.dt_session.specs.Sessions.{SessionsView, MayBeAnswered, MayGo, all_idle, idle_seat, MaySeatEnd, MaySeatTry, is_named, numbers_next, seat_of, waits_of, with_changed}
-use Rattle.dt_session.proofs.Callers.{idle_found}
+use Rattle.dt_session.proofs.Callers.{idle_found, same_name}
 use Rattle.dt_session.specs.Step.{IsLegal, MayAnswer, MaySubmit, awaited_at, next, next_attempt}
 use Rattle.dt_session.specs.Tries.{MayEnd, MayTry}
 use Rattle.dt_session.specs.World.{World, Place, Submission, attempt_of, idle_place, is_session, opening_world, outcome_at, session_at, submission_of, with_place}
@@ -31,9 +31,6 @@ use Rattle.dt_site.proofs.Standing.{inv, order}
 
 -- names
 
-named_is : (a b : Bytes) → is_named a b ≡ true → a ≡ b
-named_is a b e = (bytes_decides a b).0 (texts_ties a b ∙ e)
-
 is_it : (a b : Bytes) → a ≡ b → is_named a b ≡ true
 is_it a b e = sym (texts_ties a b) ∙ (bytes_decides a b).1 e
 
@@ -41,7 +38,7 @@ is_it a b e = sym (texts_ties a b) ∙ (bytes_decides a b).1 e
 pub seat_changed : (change : Seat → Seat) (s : SessionsView) (name : Bytes) (seat : Seat) → seat_of s name ≡ Some seat → (other : Bytes)
     → seat_of (with_changed change s name (Some seat)) other ≡ cond (is_named name other) (Some (change seat)) (seat_of s other)
 seat_changed change s name seat found other =
-    lookup-set_value (eq_by_cmp_equiv nat_list_cmp_total) (is_named name) (λ x y e. ap (λ n. is_named n y) (named_is name x e)) other (change seat) s.seats
+    lookup-set_value (eq_by_cmp_equiv nat_list_cmp_total) (is_named name) (λ x y e. ap (λ n. is_named n y) (same_name name x e)) other (change seat) s.seats
     (subst IsSome (sym found) refl)
 
 -- what a session's region is asked of the attempt that it waits for
@@ -225,7 +222,7 @@ module _ {cluster : Cluster} {workload : Workload} {w : World} (k : IsReached cl
             → seat_of (with_changed change s name (Some (seat_in w (session, place)))) called ≡ option_map (seat_in later) (session_at workload.sessions later.places region called)
         at called (inl y) =
             seat_changed change s name (seat_in w (session, place)) kept called ∙ ap (λ b. cond b (Some (change (seat_in w (session, place)))) (seat_of s called)) y ∙ ap Some is
-            ∙ ap (option_map (seat_in later)) (sym (ap₂ (λ p n. session_at workload.sessions p region n) moved (sym (named_is name called y)) ∙ at_changed region name now workload.sessions w.places session place found))
+            ∙ ap (option_map (seat_in later)) (sym (ap₂ (λ p n. session_at workload.sessions p region n) moved (sym (same_name name called y)) ∙ at_changed region name now workload.sessions w.places session place found))
         at called (inr z) =
             seat_changed change s name (seat_in w (session, place)) kept called ∙ ap (λ b. cond b (Some (change (seat_in w (session, place)))) (seat_of s called)) z
             ∙ k'.seats called ∙ seat_stays region lr called (session_at workload.sessions w.places region called) refl

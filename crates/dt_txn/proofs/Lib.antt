@@ -1,4 +1,6 @@
 pub mod Callers
+pub mod Asking
+pub mod FewPlaces
 pub mod Formed
 pub mod HomeSets
 pub mod PartKeys

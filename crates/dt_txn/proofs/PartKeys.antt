@@ -1,8 +1,7 @@
 -- The keys of parts.
-use Rattle.std.proofs.Common.{◌≡◌, ◌∙◌, ℕ, ◌+◌, ◌<◌, Bool, true, false, cond, List, [], ◌∷◌, ◌++◌, map, filter, length, take, drop, get_or, sym, subst, refl, ap}
+use Rattle.std.proofs.Common.{◌≡◌, ◌∙◌, ℕ, ◌+◌, ◌<◌, List, [], ◌∷◌, ◌++◌, map, length, take, drop, get_or, sym, subst, refl, ap}
 use Rattle.std.proofs.lemmas.List.{map-append, take-append-drop, take_more}
-use Rattle.dt_lists.specs.Lists.{AllIn, EachThen}
-use Rattle.dt_lists.proofs.Callers.{each_image, each_append_left}
+use Rattle.dt_lists.proofs.Callers.{each_append_left, each_image, filter_each}
 use Rattle.dt_access.specs.Clash.{Bytes}
 use Rattle.dt_access.specs.Orders.{HasAscendingKeys, KeyBefore}
 use Rattle.dt_access.specs.declared.Access.{Access}
@@ -13,26 +12,10 @@ use Rattle.dt_table.specs.Table.{Table, counter_of, home_of}
 use Rattle.dt_txn.specs.Accesses.{AreAscendingAccesses}
 use Rattle.dt_txn.specs.Transaction.{annotated, entries_at, used_of}
 
-pub all_filter : {A : Type 0} (P : A → Type 0) (p : A → Bool) (xs : List A) → AllIn P xs → AllIn P (filter p xs)
-all_filter P p [] all = tt
-all_filter {A} P p (x ∷ xs) all =
-    elim (p x) as (λ (b : Bool). AllIn P (cond b (x ∷ filter p xs) (filter p xs))) [
-      | true ↦ (all.0, all_filter P p xs all.1)
-      | false ↦ all_filter P p xs all.1
-    ]
-
-pub each_filter : {A : Type 0} (R : A → A → Type 0) (p : A → Bool) (xs : List A) → EachThen R xs → EachThen R (filter p xs)
-each_filter R p [] each = tt
-each_filter {A} R p (x ∷ xs) each =
-    elim (p x) as (λ (b : Bool). EachThen R (cond b (x ∷ filter p xs) (filter p xs))) [
-      | true ↦ (all_filter (R x) p xs each.0, each_filter R p xs each.1)
-      | false ↦ each_filter R p xs each.1
-    ]
-
 -- the keys of a part stand in the order of the access list
 pub part_ascends : (body : Body) (home : ℕ) (access : List Access) → AreAscendingAccesses access → HasAscendingKeys (map used_of (entries_at body home access))
 part_ascends (Call proc args) home access each =
-    each_image (λ a b. KeyBefore a.0 b.0) used_of _ (each_filter (λ a b. KeyBefore a.key b.key) _ access each)
+    each_image (λ a b. KeyBefore a.0 b.0) used_of _ (filter_each (λ a b. KeyBefore a.key b.key) _ access each)
 part_ascends (Move key target) home access each = each_image (λ a b. KeyBefore a.0 b.0) used_of access each
 
 -- keys that stand at the front of those of a part stand in order

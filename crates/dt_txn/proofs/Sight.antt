@@ -19,7 +19,8 @@ use Rattle.dt_table.specs.Table.{Table, Moved, next_mover, counter_of, moves_of}
 pub next_mover_none : (t : Table) (key : Bytes) (had : ℕ) → counter_of t key ≤ had → next_mover t key had ≡ None
 next_mover_none t key had h = ap (option_map (λ (m : Moved). m.by)) (slice_get_past (moves_of t key) had h)
 
-reads_keys : (access : List Access) (seen : List Seen) → length seen ≡ length access → map (λ r. r.0) (reads_of access seen) ≡ map (λ u. u.0) (map used_of access)
+-- what a transaction reads are the keys of its access list
+pub reads_keys : (access : List Access) (seen : List Seen) → length seen ≡ length access → map (λ r. r.0) (reads_of access seen) ≡ map (λ u. u.0) (map used_of access)
 reads_keys [] seen e = refl
 reads_keys (a ∷ access) [] e = absurd (omega arith)
 reads_keys (a ∷ access) (s ∷ seen) e = ap (λ (keys : List Bytes). a.key ∷ keys) (reads_keys access seen (omega arith))

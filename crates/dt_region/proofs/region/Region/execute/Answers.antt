@@ -2,12 +2,17 @@ use Rattle.std.proofs.Common.{[], ◌∷◌, ◌++◌, ap, ◌∙◌}
 use Rattle.dt_events.specs.declared.Event.TheVariants.{Execute}
 use Rattle.dt_sched.specs.Sched.{after_finish}
 use Rattle.dt_table.specs.Table.{apply}
-use Rattle.dt_region.proofs.Rule6Execute.{execute_held, execute_keeps, execute_made, execute_place, execute_unit}
+use Rattle.dt_region.proofs.Rule6Execute.{execute_few, execute_held, execute_keeps, execute_made, execute_place, execute_unit}
 use Rattle.dt_region.proofs.Seen.{seen_as}
 use Rattle.dt_region.proofs.region.Region.execute.Goals as goal
 
 pub run-requires-clause-held : goal.run-requires-clause-held
 run-requires-clause-held g c = execute_held c.args.procs.now _ _ _ _ (seen_as c.self.view_is c.self.invariant) c.requires.holds c.args.id (c.in_ok-executable.ensures.0 c.if-not-branch.false)
+
+pub places_for-requires : goal.places_for-requires
+places_for-requires g c =
+    execute_few c.args.procs.now _ _ _ _ (seen_as c.self.view_is c.self.invariant) c.requires.holds c.args.id (c.in_ok-executable.ensures.0 c.if-not-branch.false)
+    c.in_ok-outcome.outcome c.in_ok-outcome.effect c.in_ok-outcome.ensures
 
 pub apply-requires-clause-unit : goal.apply-requires-clause-unit
 apply-requires-clause-unit g c =

@@ -5,13 +5,14 @@ use Rattle.std.proofs.lemmas.Iterator.{cases_from_all}
 use Rattle.std.proofs.lemmas.Bool.{MatchBool-at_true}
 use Rattle.std.proofs.lemmas.List.Elements.{All-from_all_within}
 use Rattle.std.proofs.lemmas.Iterator.Search.{true_from_All}
-use Rattle.dt_session.specs.Sessions.{AreAllAnswered}
+use Rattle.dt_access.specs.Orders.{HasAscendingKeys}
+use Rattle.dt_session.specs.Sessions.{AreAllAnswered, SessionsView}
 use Rattle.dt_session.specs.declared.sessions.Seat.{Seat}
-use Rattle.dt_session.proofs.SessionsLaws.{all_of_values, values_of_all}
+use Rattle.dt_session.proofs.SessionsLaws.{all_of_values, answered_of_names, names_answered, values_of_all}
 use Rattle.dt_session.proofs.sessions.Sessions.all_answered.Goals as goal
 
-pub returns : goal.returns
-returns c =
+pub returns-clause-all : goal.returns-clause-all
+returns-clause-all c =
     let r = cases_from_all _ _ _ (λ (x : Seat). x.answered ≡ length x.calls) (λ (x : Seat). x.answered ≢ length x.calls) c.all.ensures.ran (YieldsList-from_rest (ordered.values c.self.inside.seats) c.values.ensures.rest)
     (λ x r k. search (rules, tests)) (λ x r k. search (rules, tests)) in (
       λ t. subst AreAllAnswered c.self.view_is
@@ -19,3 +20,9 @@ returns c =
       λ h. true_from_All (λ (x : Seat). x.answered ≡ length x.calls) (λ (x : Seat). x.answered ≢ length x.calls) _ _ (λ x p q. q p) r
           (values_of_all (λ (x : Seat). x.answered ≡ length x.calls) c.self.inside.seats.entries (subst AreAllAnswered (sym c.self.view_is) h)),
     )
+
+pub returns-clause-by_name : goal.returns-clause-by_name
+returns-clause-by_name c =
+    let all = returns-clause-all c in
+    let ascending : HasAscendingKeys c.args.self.now.seats = subst (λ (v : SessionsView). HasAscendingKeys v.seats) c.self.view_is c.self.invariant.ascending in
+    (λ t. names_answered c.args.self.now (all.0 t), λ each. all.1 (answered_of_names c.args.self.now ascending each))
