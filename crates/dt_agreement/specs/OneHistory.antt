@@ -2,7 +2,7 @@
 -- transactions and an order of their ids that fits it (`IsHistory`), and of lists of some of them that keep to that order
 -- (`IsPart`). One learns here what these are for events. The history is what was executed anywhere, in the order of first
 -- executions. The order is "precedes" in the whole logs. And what one region executed, in its own order, is a part. So each
--- law of serial runs is a law of legal events (`one_history` in src/laws.rt).
+-- law of serial runs is a law of legal events (`one_history` in src/laws.rt). Read next: Invariant, from which it follows.
 use Rattle.std.specs.Prelude.{◌≡◌, ◌↔◌, ◌<◌, ℕ, Bool, List, Some}
 use Rattle.dt_access.specs.declared.Access.{Access}
 use Rattle.dt_access.specs.declared.TxnId.{TxnId}

@@ -1,5 +1,5 @@
 -- The meaning by cases and the function agree, over expressions, statements and whole runs.
-use Rattle.std.proofs.Common.{◌≡◌, ◌<◌, ℕ, ℤ, pos, neg_ℤ, Bool, true, false, not, cond, List, [], ◌∷◌, ◌++◌, length, map, Some, Ok, Err, refl, sym, ap, ap₂, subst, ◌∙◌, inl, inr}
+use Rattle.std.proofs.Common.{◌≡◌, ℕ, ℤ, neg_ℤ, Bool, true, false, cond, List, [], ◌∷◌, length, map, Some, Ok, Err, refl, sym, ap, ap₂, subst, ◌∙◌, inl, inr}
 use Rattle.std.specs.Prelude.{◌↔◌, Option, None, Result, slice_get, option_map, is_some}
 use Rattle.std.proofs.lemmas.Bool.{true≢false}
 use Rattle.std.proofs.lemmas.Option.{slice_get-map}

@@ -1,7 +1,7 @@
 -- Sound statements in a frame: what each needs, and that what follows stays sound; a block keeps the variables before it.
-use Rattle.std.proofs.Common.{◌≡◌, ◌<◌, ◌+◌, ℕ, suc, Bool, true, false, cond, drop, get_or, add-one, List, [], ◌∷◌, ◌++◌, length, map, take, Some, Ok, Err}
-use Rattle.std.proofs.Common.{refl, sym, ap, ap₂, subst, ◌∙◌, append_assoc}
-use Rattle.std.specs.Prelude.{Option, None, Result}
+use Rattle.std.proofs.Common.{◌≡◌, ◌<◌, ◌+◌, ℕ, suc, Bool, true, false, cond, drop, get_or, add-one, List, [], ◌∷◌, ◌++◌, length, map, take, Ok, Err}
+use Rattle.std.proofs.Common.{refl, sym, ap, subst, ◌∙◌}
+use Rattle.std.specs.Prelude.{Result}
 use Rattle.std.proofs.lemmas.List.{map-append}
 use Rattle.std.proofs.Math.Seq.{take-append_seam, drop-cons}
 use Rattle.dt_lists.specs.Lists.{AllIn, IsFront}

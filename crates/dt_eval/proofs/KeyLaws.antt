@@ -1,11 +1,11 @@
 -- The list of the keys of a call: it ascends, and holds each key that a declaration gives, with Write if any declaration of
 -- it is.
-use Rattle.std.proofs.Common.{◌≡◌, ◌<◌, ◌≤◌, ◌+◌, ◌⊎◌, ℕ, length, take, drop, set, ◌++◌, ap₂, add-one, append_assoc, arith, zero, suc, Bool, true, false, List, []}
+use Rattle.std.proofs.Common.{◌≡◌, ◌<◌, ◌≤◌, ◌+◌, ◌||◌, ℕ, length, take, drop, set, ◌++◌, ap₂, add-one, append_assoc, arith, zero, suc, Bool, true, false, List, []}
 use Rattle.std.proofs.Common.{◌∷◌, map, get_or, slice_get, Some, refl, sym, ap, subst, ◌∙◌, inl, inr}
 use Rattle.std.specs.List.{fold}
 use Rattle.std.proofs.Math.Seq.{drop-cons}
 use Rattle.std.proofs.lemmas.List.{length-map, take_all, drop_all}
-use Rattle.std.specs.Ordering.{nat_cmp, ordering_reverse, is_eq}
+use Rattle.std.specs.Ordering.{nat_cmp, is_eq}
 use Rattle.std.specs.declared.cmp.Ordering.{Ordering}
 use Rattle.std.specs.declared.cmp.Ordering.TheVariants.{Less, Equal, Greater}
 use Rattle.std.specs.Cmp.Lexicographic.{slice_cmp, bytes_decides, texts_ties, nat_list_cmp_total}
@@ -17,7 +17,7 @@ use Rattle.dt_access.specs.Clash.{Bytes, is_whole}
 use Rattle.dt_access.specs.Orders.{KeyBefore, HasAscendingKeys}
 use Rattle.dt_access.proofs.Callers.{key_before_flip}
 use Rattle.dt_access.specs.declared.Mode.{Mode}
-use Rattle.dt_access.specs.declared.Mode.TheVariants.{Read, Write, Whole}
+use Rattle.dt_access.specs.declared.Mode.TheVariants.{Write}
 use Rattle.dt_proc.specs.declared.tree.KeyDecl.{KeyDecl}
 use Rattle.dt_proc.specs.declared.tree.KeyItem.{KeyItem}
 use Rattle.dt_proc.specs.declared.tree.KeyItem.TheVariants as item
@@ -28,7 +28,7 @@ use Rattle.dt_proc.specs.Tree.{ProcTree}
 use Rattle.dt_eval.specs.FrameInner.{IsItemWithin}
 use Rattle.dt_eval.specs.Meaning.{Fits, IsOfKind}
 use Rattle.dt_text.specs.Texts.{IsKey}
-use Rattle.dt_eval.specs.Keys.{HasKeys, IsFirstBadKey, key_text, mode_of, merged, names_given, names_of, use_of, placed_use, with_use, keys_of}
+use Rattle.dt_eval.specs.Keys.{HasKeys, IsFirstBadKey, distinct_uses, key_text, mode_of, names_given, names_of, use_of, placed_use, with_modes, with_use, keys_of}
 
 -- keys that compare as equal are the same
 pub same_by_cmp : (a b : Bytes) → slice_cmp nat_cmp a b ≡ Equal → a ≡ b
@@ -36,7 +36,7 @@ same_by_cmp a b e = (bytes_decides a b).0 (texts_ties a b ∙ ap is_eq e)
 
 -- what compares as greater stands after
 -- what holds of the keys of a list and of a new key holds of all after it was added
-with_use_all : (P : Bytes → Type 0) (vs : List (Bytes × Mode)) (u : Bytes × Mode) → AllIn (λ v. P v.0) vs → P u.0 → AllIn (λ v. P v.0) (with_use vs u)
+with_use_all : (P : Bytes → Type 0) (vs : List (Bytes × Bool)) (u : Bytes × Bool) → AllIn (λ v. P v.0) vs → P u.0 → AllIn (λ v. P v.0) (with_use vs u)
 with_use_all P [] u all p = (p, tt)
 with_use_all P (v ∷ vs) u all p = go (slice_cmp nat_cmp u.0 v.0) (with_use_all P vs u all.1 p)
   where
@@ -45,7 +45,7 @@ with_use_all P (v ∷ vs) u all p = go (slice_cmp nat_cmp u.0 v.0) (with_use_all
     go Equal later = all
     go Greater later = (all.0, later)
 
-with_use_ascends : (vs : List (Bytes × Mode)) (u : Bytes × Mode) → HasAscendingKeys vs → HasAscendingKeys (with_use vs u)
+with_use_ascends : (vs : List (Bytes × Bool)) (u : Bytes × Bool) → HasAscendingKeys vs → HasAscendingKeys (with_use vs u)
 with_use_ascends [] u a = (tt, tt)
 with_use_ascends (v ∷ vs) u a = go (slice_cmp nat_cmp u.0 v.0) refl (with_use_ascends vs u a.1)
   where
@@ -54,20 +54,35 @@ with_use_ascends (v ∷ vs) u a = go (slice_cmp nat_cmp u.0 v.0) refl (with_use_
     go Equal e later = a
     go Greater e later = (with_use_all (KeyBefore v.0) vs u a.0 (key_before_flip u.0 v.0 e), later)
 
-fold_ascends : (us vs : List (Bytes × Mode)) → HasAscendingKeys vs → HasAscendingKeys (fold with_use vs us)
+fold_ascends : (us vs : List (Bytes × Bool)) → HasAscendingKeys vs → HasAscendingKeys (fold with_use vs us)
 fold_ascends [] vs a = a
 fold_ascends (u ∷ us) vs a = fold_ascends us (with_use vs u) (with_use_ascends vs u a)
 
-fold_all : (P : Bytes → Type 0) (us vs : List (Bytes × Mode)) → AllIn (λ v. P v.0) vs → AllIn (λ u. P u.0) us → AllIn (λ v. P v.0) (fold with_use vs us)
+fold_all : (P : Bytes → Type 0) (us vs : List (Bytes × Bool)) → AllIn (λ v. P v.0) vs → AllIn (λ u. P u.0) us → AllIn (λ v. P v.0) (fold with_use vs us)
 fold_all P [] vs all more = all
 fold_all P (u ∷ us) vs all more = fold_all P us (with_use vs u) (with_use_all P vs u all more.0) more.1
 
+-- what holds of uses holds of them with their modes
+modes_all : (P : Bytes → Type 0) (us : List (Bytes × Bool)) → AllIn (λ u. P u.0) us → AllIn (λ u. P u.0) (with_modes us)
+modes_all P [] all = tt
+modes_all P (u ∷ us) all = (all.0, modes_all P us all.1)
+
+modes_any : (Q : Bytes × Bool → Type 0) (R : Bytes × Mode → Type 0) → ((u : Bytes × Bool) → Q u → R (u.0, mode_of u.1)) →
+    (us : List (Bytes × Bool)) → AnyIn Q us → AnyIn R (with_modes us)
+modes_any Q R f [] h = absurd h
+modes_any Q R f (u ∷ us) (inl q) = inl (f u q)
+modes_any Q R f (u ∷ us) (inr h) = inr (modes_any Q R f us h)
+
+modes_ascend : (us : List (Bytes × Bool)) → HasAscendingKeys us → HasAscendingKeys (with_modes us)
+modes_ascend [] a = tt
+modes_ascend (u ∷ us) a = (modes_all (KeyBefore u.0) us a.0, modes_ascend us a.1)
+
 -- the keys of a call stand in ascending order
 pub keys_ascend : (proc : ProcTree) (args : List Value) → HasAscendingKeys (keys_of proc args)
-keys_ascend proc args = fold_ascends (map (use_of args) proc.keys) [] tt
+keys_ascend proc args = modes_ascend (distinct_uses proc args) (fold_ascends (map (use_of args) proc.keys) [] tt)
 
 -- a call has no more keys than its procedure has declarations
-with_use_few : (vs : List (Bytes × Mode)) (u : Bytes × Mode) → length (with_use vs u) ≤ length vs + 1
+with_use_few : (vs : List (Bytes × Bool)) (u : Bytes × Bool) → length (with_use vs u) ≤ length vs + 1
 with_use_few [] u = omega arith
 with_use_few (v ∷ vs) u = go (slice_cmp nat_cmp u.0 v.0) (with_use_few vs u)
   where
@@ -76,24 +91,29 @@ with_use_few (v ∷ vs) u = go (slice_cmp nat_cmp u.0 v.0) (with_use_few vs u)
     go Equal few = omega arith
     go Greater few = omega (arith, few)
 
-fold_few : (us vs : List (Bytes × Mode)) → length (fold with_use vs us) ≤ length vs + length us
+fold_few : (us vs : List (Bytes × Bool)) → length (fold with_use vs us) ≤ length vs + length us
 fold_few [] vs = omega arith
 fold_few (u ∷ us) vs = omega (arith, fold_few us (with_use vs u), with_use_few vs u)
 
 pub keys_few : (proc : ProcTree) (args : List Value) → length (keys_of proc args) ≤ length proc.keys
-keys_few proc args = omega (arith, fold_few (map (use_of args) proc.keys) [], length-map proc.keys (use_of args))
+keys_few proc args = omega (
+  arith,
+  length-map {B = Bytes × Mode} (distinct_uses proc args) (λ u. (u.0, mode_of u.1)),
+  fold_few (map (use_of args) proc.keys) [],
+  length-map proc.keys (use_of args),
+)
 
-uses_all : (P : Bytes → Type 0) (args : List Value) (ds : List KeyDecl) → AllIn P (map (λ (d : KeyDecl). key_text args d.items) ds) → AllIn (λ (u : Bytes × Mode). P u.0) (map (use_of args) ds)
+uses_all : (P : Bytes → Type 0) (args : List Value) (ds : List KeyDecl) → AllIn P (map (λ (d : KeyDecl). key_text args d.items) ds) → AllIn (λ (u : Bytes × Bool). P u.0) (map (use_of args) ds)
 uses_all P args [] all = tt
 uses_all P args (d ∷ ds) all = (all.0, uses_all P args ds all.1)
 
 -- what holds of what each declaration gives holds of each key
 pub keys_all : (P : Bytes → Type 0) (proc : ProcTree) (args : List Value) → AllIn P (map (λ (d : KeyDecl). key_text args d.items) proc.keys) → AllIn (λ u. P u.0) (keys_of proc args)
-keys_all P proc args all = fold_all P (map (use_of args) proc.keys) [] tt (uses_all P args proc.keys all)
+keys_all P proc args all = modes_all P (distinct_uses proc args) (fold_all P (map (use_of args) proc.keys) [] tt (uses_all P args proc.keys all))
 
 -- a use that has Q is kept where Q outlasts a merge
-module _ (Q : Bytes × Mode → Type 0) (left : (key : Bytes) (m n : Mode) → Q (key, m) → Q (key, merged m n)) (right : (key : Bytes) (m n : Mode) → Q (key, n) → Q (key, merged m n)) where
-  with_use_keeps : (vs : List (Bytes × Mode)) (u : Bytes × Mode) → AnyIn Q vs → AnyIn Q (with_use vs u)
+module _ (Q : Bytes × Bool → Type 0) (left : (key : Bytes) (m n : Bool) → Q (key, m) → Q (key, m || n)) (right : (key : Bytes) (m n : Bool) → Q (key, n) → Q (key, m || n)) where
+  with_use_keeps : (vs : List (Bytes × Bool)) (u : Bytes × Bool) → AnyIn Q vs → AnyIn Q (with_use vs u)
   with_use_keeps [] u h = absurd h
   with_use_keeps (v ∷ vs) u h = go (slice_cmp nat_cmp u.0 v.0) h (with_use_keeps vs u)
     where
@@ -104,7 +124,7 @@ module _ (Q : Bytes × Mode → Type 0) (left : (key : Bytes) (m n : Mode) → Q
       go Greater (inl q) later = inl q
       go Greater (inr k) later = inr (later k)
 
-  with_use_adds : (vs : List (Bytes × Mode)) (u : Bytes × Mode) → Q u → AnyIn Q (with_use vs u)
+  with_use_adds : (vs : List (Bytes × Bool)) (u : Bytes × Bool) → Q u → AnyIn Q (with_use vs u)
   with_use_adds [] u q = inl q
   with_use_adds (v ∷ vs) u q = go (slice_cmp nat_cmp u.0 v.0) refl (with_use_adds vs u q)
     where
@@ -113,72 +133,54 @@ module _ (Q : Bytes × Mode → Type 0) (left : (key : Bytes) (m n : Mode) → Q
       go Equal e later = inl (right v.0 v.1 u.1 (subst (λ k. Q (k, u.1)) (same_by_cmp u.0 v.0 e) q))
       go Greater e later = inr later
 
-  fold_keeps : (us vs : List (Bytes × Mode)) → AnyIn Q vs → AnyIn Q (fold with_use vs us)
+  fold_keeps : (us vs : List (Bytes × Bool)) → AnyIn Q vs → AnyIn Q (fold with_use vs us)
   fold_keeps [] vs h = h
   fold_keeps (u ∷ us) vs h = fold_keeps us (with_use vs u) (with_use_keeps vs u h)
 
-  fold_adds : (us vs : List (Bytes × Mode)) → AnyIn Q us → AnyIn Q (fold with_use vs us)
+  fold_adds : (us vs : List (Bytes × Bool)) → AnyIn Q us → AnyIn Q (fold with_use vs us)
   fold_adds [] vs h = absurd h
   fold_adds (u ∷ us) vs (inl q) = fold_keeps us (with_use vs u) (with_use_adds vs u q)
   fold_adds (u ∷ us) vs (inr h) = fold_adds us (with_use vs u) h
 
-  -- what some declaration gives, some key has
-  pub keys_any : (proc : ProcTree) (args : List Value) → AnyIn Q (map (use_of args) proc.keys) → AnyIn Q (keys_of proc args)
-  keys_any proc args h = fold_adds (map (use_of args) proc.keys) [] h
+  -- what some declaration gives, some use has
+  uses_any : (proc : ProcTree) (args : List Value) → AnyIn Q (map (use_of args) proc.keys) → AnyIn Q (distinct_uses proc args)
+  uses_any proc args h = fold_adds (map (use_of args) proc.keys) [] h
 
--- the first or the second mode is Write, and so is the merged one
-merged_left : (m n : Mode) → m ≡ Write → merged m n ≡ Write
-merged_left m n e = ap (λ x. merged x n) e
+-- the first or the second use writes, and so do both as one
+left_writes : (m n : Bool) → m ≡ true → (m || n) ≡ true
+left_writes m n e = ap (λ x. x || n) e
 
-merged_right : (m n : Mode) → n ≡ Write → merged m n ≡ Write
-merged_right Read n e = ap (merged Read) e
-merged_right Write n e = refl
-merged_right Whole n e = refl
+right_writes : (m n : Bool) → n ≡ true → (m || n) ≡ true
+right_writes true n e = refl
+right_writes false n e = e
 
 -- no key of a procedure takes a whole granule
-abbrev IsNarrow : Bytes × Mode → Type 0
-IsNarrow u = is_whole u.1 ≡ false
-
-merged_narrow : (m n : Mode) → is_whole (merged m n) ≡ false
-merged_narrow Read Read = refl
-merged_narrow Read Write = refl
-merged_narrow Read Whole = refl
-merged_narrow Write n = refl
-merged_narrow Whole n = refl
-
-with_use_narrow : (vs : List (Bytes × Mode)) (u : Bytes × Mode) → AllIn IsNarrow vs → IsNarrow u → AllIn IsNarrow (with_use vs u)
-with_use_narrow [] u all narrow = (narrow, tt)
-with_use_narrow (v ∷ vs) u all narrow = go (slice_cmp nat_cmp u.0 v.0) (with_use_narrow vs u all.1 narrow)
-  where
-    go : (o : Ordering) → AllIn IsNarrow (with_use vs u) → AllIn IsNarrow (placed_use o u v vs (with_use vs u))
-    go Less later = (narrow, all)
-    go Equal later = (merged_narrow v.1 u.1, all.1)
-    go Greater later = (all.0, later)
-
-uses_narrow : (args : List Value) (ds : List KeyDecl) (vs : List (Bytes × Mode)) → AllIn IsNarrow vs → AllIn IsNarrow (fold with_use vs (map (use_of args) ds))
-uses_narrow args [] vs all = all
-uses_narrow args (d ∷ ds) vs all = uses_narrow args ds (with_use vs (use_of args d)) (with_use_narrow vs (use_of args d) all (declared d.write))
-  where
-    declared : (write : Bool) → is_whole (mode_of write) ≡ false
-    declared true = refl
-    declared false = refl
-
 pub keys_narrow : (proc : ProcTree) (args : List Value) → AllIn (λ u. is_whole u.1 ≡ false) (keys_of proc args)
-keys_narrow proc args = uses_narrow args proc.keys [] tt
+keys_narrow proc args = narrow (distinct_uses proc args)
+  where
+    moded : (write : Bool) → is_whole (mode_of write) ≡ false
+    moded true = refl
+    moded false = refl
+
+    narrow : (us : List (Bytes × Bool)) → AllIn (λ u. is_whole u.1 ≡ false) (with_modes us)
+    narrow [] = tt
+    narrow (u ∷ us) = (moded u.1, narrow us)
 
 -- a key that some declaration gives with `write` has mode Write
-pub keys_write : (key : Bytes) (proc : ProcTree) (args : List Value) → AnyIn (λ u. (u.0 ≡ key) × (u.1 ≡ Write)) (map (use_of args) proc.keys) → AnyIn (λ u. (u.0 ≡ key) × (u.1 ≡ Write)) (keys_of proc args)
-keys_write key proc args = keys_any (λ u. (u.0 ≡ key) × (u.1 ≡ Write)) (λ k m n q. (q.0, merged_left m n q.1)) (λ k m n q. (q.0, merged_right m n q.1)) proc args
+pub keys_write : (key : Bytes) (proc : ProcTree) (args : List Value) → AnyIn (λ u. (u.0 ≡ key) × (u.1 ≡ true)) (map (use_of args) proc.keys)
+    → AnyIn (λ u. (u.0 ≡ key) × (u.1 ≡ Write)) (keys_of proc args)
+keys_write key proc args h = modes_any _ _ (λ u q. (q.0, ap mode_of q.1)) (distinct_uses proc args)
+    (uses_any (λ u. (u.0 ≡ key) × (u.1 ≡ true)) (λ k m n q. (q.0, left_writes m n q.1)) (λ k m n q. (q.0, right_writes m n q.1)) proc args h)
 
 -- a key that some declaration gives is there
 pub keys_there : (key : Bytes) (proc : ProcTree) (args : List Value) → AnyIn (λ u. u.0 ≡ key) (map (use_of args) proc.keys) → AnyIn (λ u. u.0 ≡ key) (keys_of proc args)
-keys_there key proc args = keys_any (λ u. u.0 ≡ key) (λ k m n q. q) (λ k m n q. q) proc args
+keys_there key proc args h = modes_any _ _ (λ u q. q) (distinct_uses proc args) (uses_any (λ u. u.0 ≡ key) (λ k m n q. q) (λ k m n q. q) proc args h)
 
 -- the declaration of a number, where it is one with `write`
 pub written_use : (args : List Value) (ds : List KeyDecl) (k : ℕ) → slice_get (map (λ (d : KeyDecl). d.write) ds) k ≡ Some true →
-    AnyIn (λ u. (u.0 ≡ get_or (map (λ (d : KeyDecl). key_text args d.items) ds) k []) × (u.1 ≡ Write)) (map (use_of args) ds)
+    AnyIn (λ u. (u.0 ≡ get_or (map (λ (d : KeyDecl). key_text args d.items) ds) k []) × (u.1 ≡ true)) (map (use_of args) ds)
 written_use args [] k e = cc
-written_use args (d ∷ ds) zero e = let yes : d.write ≡ true = cc in inl (refl, ap mode_of yes)
+written_use args (d ∷ ds) zero e = inl (refl, cc)
 written_use args (d ∷ ds) (suc k) e = inr (written_use args ds k e)
 
 -- the arguments that parts of key expressions name are there
@@ -211,7 +213,7 @@ taken [] i v below is = absurd (omega arith)
 taken (x ∷ xs) zero v below is = ap (λ y. y ∷ []) (sym is)
 taken (x ∷ xs) (suc i) v below is = ap (λ ys. x ∷ ys) (taken xs i v (omega arith) is)
 
-module _ (xs : List (Bytes × Mode)) (i : ℕ) (v u : Bytes × Mode) (below : i < length xs) (is : v ≡ get_or xs i v) (further : with_use xs u ≡ take i xs ++ with_use (drop i xs) u) where
+module _ (xs : List (Bytes × Bool)) (i : ℕ) (v u : Bytes × Bool) (below : i < length xs) (is : v ≡ get_or xs i v) (further : with_use xs u ≡ take i xs ++ with_use (drop i xs) u) where
   cut : drop i xs ≡ v ∷ drop (suc i) xs
   cut = drop-cons xs i v below ∙ ap (λ x. x ∷ drop (suc i) xs) (sym is)
 
@@ -221,15 +223,15 @@ module _ (xs : List (Bytes × Mode)) (i : ℕ) (v u : Bytes × Mode) (below : i 
   pub use_before : slice_cmp nat_cmp u.0 v.0 ≡ Less → take i xs ++ u ∷ drop i xs ≡ with_use xs u
   use_before e = ap (λ ys. take i xs ++ u ∷ ys) cut ∙ sym (placed_at Less e)
 
-  pub use_same : slice_cmp nat_cmp u.0 v.0 ≡ Equal → set xs i (v.0, merged v.1 u.1) ≡ with_use xs u
-  use_same e = set_cut xs i (v.0, merged v.1 u.1) below ∙ sym (placed_at Equal e)
+  pub use_same : slice_cmp nat_cmp u.0 v.0 ≡ Equal → set xs i (v.0, v.1 || u.1) ≡ with_use xs u
+  use_same e = set_cut xs i (v.0, v.1 || u.1) below ∙ sym (placed_at Equal e)
 
   pub use_further : slice_cmp nat_cmp u.0 v.0 ≡ Greater → with_use xs u ≡ take (i + 1) xs ++ with_use (drop (i + 1) xs) u
   use_further e =
       placed_at Greater e ∙ sym (append_assoc (take i xs) (v ∷ []) (with_use (drop (suc i) xs) u)) ∙ ap (λ ys. ys ++ with_use (drop (suc i) xs) u) (sym (taken xs i v below is))
       ∙ ap (λ j. take j xs ++ with_use (drop j xs) u) (sym (add-one i))
 
-pub use_last : (xs : List (Bytes × Mode)) (i : ℕ) (u : Bytes × Mode) → length xs ≤ i → with_use xs u ≡ take i xs ++ with_use (drop i xs) u → xs ++ u ∷ [] ≡ with_use xs u
+pub use_last : (xs : List (Bytes × Bool)) (i : ℕ) (u : Bytes × Bool) → length xs ≤ i → with_use xs u ≡ take i xs ++ with_use (drop i xs) u → xs ++ u ∷ [] ≡ with_use xs u
 use_last xs i u past further = sym (further ∙ ap₂ (λ ys zs. ys ++ with_use zs u) (take_all i xs past) (drop_all i xs past))
 
 -- what was read at a place is one thing
@@ -248,13 +250,13 @@ shifted : (n j : ℕ) → n + suc j ≡ n + 1 + j
 shifted n j = omega arith
 
 -- what is known of the uses gathered from the first declarations
-pub record Gathers (proc : ProcTree) (args : List Value) (declarations : List KeyDecl) (number : ℕ) (uses : List (Bytes × Mode)) : Type 0 where
+pub record Gathers (proc : ProcTree) (args : List Value) (declarations : List KeyDecl) (number : ℕ) (uses : List (Bytes × Bool)) : Type 0 where
   pub within : AllIn (λ (d : KeyDecl). AllIn (IsItemWithin (length args)) d.items) (drop number declarations)
-  pub told : fold with_use uses (map (use_of args) (drop number declarations)) ≡ keys_of proc args
+  pub told : fold with_use uses (map (use_of args) (drop number declarations)) ≡ distinct_uses proc args
   pub all : AllIn IsKey (names_given args (drop number declarations)) → HasKeys proc args
   pub first : (j : ℕ) → IsFirstBadKey (names_given args (drop number declarations)) j → IsFirstBadKey (names_of proc args) (number + j)
 
-pub gathers_none : (proc : ProcTree) (args : List Value) (declarations : List KeyDecl) (uses : List (Bytes × Mode)) → IsSoundProc proc → Fits proc args
+pub gathers_none : (proc : ProcTree) (args : List Value) (declarations : List KeyDecl) (uses : List (Bytes × Bool)) → IsSoundProc proc → Fits proc args
     → declarations ≡ proc.keys → uses ≡ [] → Gathers proc args declarations 0 uses
 gathers_none proc args declarations uses sound fits same none = record {
   within = subst (AllIn (λ (d : KeyDecl). AllIn (IsItemWithin (length args)) d.items)) (sym same) (items_within proc args sound fits);
@@ -263,7 +265,7 @@ gathers_none proc args declarations uses sound fits same none = record {
   first = λ j h. subst (λ n. IsFirstBadKey (names_of proc args) n) (sym (zero_add j)) (subst (λ ds. IsFirstBadKey (names_given args ds) j) same h);
 }
 
-module _ (proc : ProcTree) (args : List Value) (declarations : List KeyDecl) (number : ℕ) (uses : List (Bytes × Mode)) (d : KeyDecl)
+module _ (proc : ProcTree) (args : List Value) (declarations : List KeyDecl) (number : ℕ) (uses : List (Bytes × Bool)) (d : KeyDecl)
     (below : number < length declarations) (is : d ≡ get_or declarations number d) (known : Gathers proc args declarations number uses) where
   declared : drop number declarations ≡ d ∷ drop (number + 1) declarations
   declared = drop-cons declarations number d below ∙ ap (λ x. x ∷ drop (suc number) declarations) (sym is) ∙ ap (λ j. d ∷ drop j declarations) (sym (add-one number))
@@ -271,7 +273,7 @@ module _ (proc : ProcTree) (args : List Value) (declarations : List KeyDecl) (nu
   pub gathers_within : AllIn (IsItemWithin (length args)) d.items
   gathers_within = (subst (AllIn (λ (d : KeyDecl). AllIn (IsItemWithin (length args)) d.items)) declared known.within).0
 
-  pub gathers_more : IsKey (key_text args d.items) → (more : List (Bytes × Mode)) → more ≡ with_use uses (use_of args d) → Gathers proc args declarations (number + 1) more
+  pub gathers_more : IsKey (key_text args d.items) → (more : List (Bytes × Bool)) → more ≡ with_use uses (use_of args d) → Gathers proc args declarations (number + 1) more
   gathers_more key more e = record {
     within = (subst (AllIn (λ (d : KeyDecl). AllIn (IsItemWithin (length args)) d.items)) declared known.within).1;
     told = ap (λ us. fold with_use us (map (use_of args) (drop (number + 1) declarations))) e ∙ ap (λ ds. fold with_use uses (map (use_of args) ds)) (sym declared) ∙ known.told;
@@ -282,12 +284,15 @@ module _ (proc : ProcTree) (args : List Value) (declarations : List KeyDecl) (nu
   pub gathers_bad : ¬ (IsKey (key_text args d.items)) → (i : ℕ) → i ≡ number → IsFirstBadKey (names_of proc args) i
   gathers_bad bad i e = subst (IsFirstBadKey (names_of proc args)) (add_zero number ∙ sym e) (known.first 0 (subst (λ ds. IsFirstBadKey (names_given args ds) 0) (sym declared) bad))
 
-module _ (proc : ProcTree) (args : List Value) (declarations : List KeyDecl) (number : ℕ) (uses : List (Bytes × Mode)) (past : length declarations ≤ number) (known : Gathers proc args declarations number uses) where
-  pub gathers_all : uses ≡ keys_of proc args
-  gathers_all = ap (λ ds. fold with_use uses (map (use_of args) ds)) (sym (drop_all number declarations past)) ∙ known.told
+module _ (proc : ProcTree) (args : List Value) (declarations : List KeyDecl) (number : ℕ) (uses : List (Bytes × Bool)) (past : length declarations ≤ number) (known : Gathers proc args declarations number uses) where
+  all_used : uses ≡ distinct_uses proc args
+  all_used = ap (λ ds. fold with_use uses (map (use_of args) ds)) (sym (drop_all number declarations past)) ∙ known.told
 
   pub gathers_keys : HasKeys proc args
   gathers_keys = known.all (subst (λ ds. AllIn IsKey (names_given args ds)) (sym (drop_all number declarations past)) tt)
 
-  pub gathers_ascend : HasAscendingKeys uses
+  pub gathers_all : with_modes uses ≡ keys_of proc args
+  gathers_all = ap with_modes all_used
+
+  pub gathers_ascend : HasAscendingKeys (with_modes uses)
   gathers_ascend = subst HasAscendingKeys (sym gathers_all) (keys_ascend proc args)

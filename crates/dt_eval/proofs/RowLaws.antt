@@ -1,9 +1,9 @@
 -- What a run does with its rows: a property of the rows that each `set` and `clear` of a block keeps, the block keeps.
-use Rattle.std.proofs.Common.{◌≡◌, ◌⊎◌, ℕ, Bool, true, false, cond, List, [], ◌∷◌, ◌++◌, length, map, Some, Ok, Err, refl, sym, ap, ap₂, subst, ◌∙◌, inl, inr}
+use Rattle.std.proofs.Common.{◌≡◌, ℕ, Bool, true, false, cond, List, [], ◌∷◌, ◌++◌, map, Some, Ok, Err, refl, sym, ap, ap₂, subst, ◌∙◌}
 use Rattle.std.specs.Prelude.{Option, None, Result, slice_get}
 use Rattle.std.specs.Cmp.Lexicographic.{bytes_decides, texts_ties}
 use Rattle.std.specs.Ordering.{is_eq}
-use Rattle.std.proofs.lemmas.Bool.{cases_Bool, true≢false}
+use Rattle.std.proofs.lemmas.Bool.{true≢false}
 use Rattle.std.specs.List.{filter}
 use Rattle.dt_lists.specs.Lists.{AllIn, EachThen}
 use Rattle.dt_lists.proofs.Callers.{filter_each, of_filter}
@@ -12,7 +12,7 @@ use Rattle.dt_access.specs.Clash.{Bytes, same_key}
 use Rattle.dt_access.specs.Orders.{KeyBefore, HasAscendingKeys, HasDistinctKeys}
 use Rattle.dt_text.specs.declared.Value.{Value}
 use Rattle.dt_proc.specs.declared.tree.Sort.{Sort}
-use Rattle.dt_proc.specs.Tree.{GiveTree, value, let_new, set_row, clear_row, choose, abort_with, give_all, BlockTree, done, then}
+use Rattle.dt_proc.specs.Tree.{GiveTree, let_new, set_row, clear_row, choose, abort_with, give_all, BlockTree, done, then}
 use Rattle.dt_proc.specs.Sound.{AreSound}
 use Rattle.dt_eval.specs.declared.finish.Cause.{Cause}
 use Rattle.dt_eval.specs.declared.state.Datum.{Datum}

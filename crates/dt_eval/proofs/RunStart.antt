@@ -1,6 +1,6 @@
 -- A run before its first statement: the places of its keys, and that its statements are sound.
-use Rattle.std.proofs.Common.{◌≡◌, ◌<◌, ◌+◌, cond, ℕ, suc, zero, Bool, true, false, List, [], ◌∷◌, ◌++◌, map, length, get_or, take, drop, add-one, append_assoc}
-use Rattle.std.proofs.Common.{Some, refl, sym, ap, ap₂, subst, ◌∙◌, inl, inr, arith}
+use Rattle.std.proofs.Common.{◌≡◌, ◌<◌, ◌+◌, cond, ℕ, suc, Bool, true, false, List, [], ◌∷◌, ◌++◌, map, length, get_or, drop, add-one, append_assoc}
+use Rattle.std.proofs.Common.{Some, refl, sym, ap, ap₂, subst, ◌∙◌, inl, inr}
 use Rattle.std.specs.Prelude.{Option, None}
 use Rattle.std.specs.List.{position, position_from}
 use Rattle.std.proofs.lemmas.Iterator.Adapters.{position_from-zero}

@@ -1,6 +1,6 @@
 -- What expressions give, the rows that a run has, and the state of a run between two statements. A row is found by its
 -- key, so two declared names of one key are one row. Read next: Cases.
-use Rattle.std.specs.Prelude.{ℕ, Bool, true, false, cond, List, [], ◌∷◌, ◌++◌, map, Option, Some, None, Result, Ok, Err, slice_index_or}
+use Rattle.std.specs.Prelude.{ℕ, true, cond, List, [], ◌∷◌, ◌++◌, map, Option, Some, None, Result, Ok, Err, slice_index_or}
 use Rattle.dt_access.specs.Clash.{Bytes, same_key}
 use Rattle.dt_text.specs.declared.Value.{Value}
 use Rattle.dt_text.specs.declared.Value.TheVariants as val

@@ -1,6 +1,6 @@
 -- What statements do, as a function on the state of a run: a block ends at the first abort, and its lets with it. Cases
 -- says the same line by line, for reading. Read next: Meaning, which makes a whole run of them.
-use Rattle.std.specs.Prelude.{ℕ, true, false, List, [], ◌∷◌, Option, Result, Ok, Err}
+use Rattle.std.specs.Prelude.{true, false, List, [], ◌∷◌, Option, Result, Ok, Err}
 use Rattle.dt_access.specs.Clash.{Bytes}
 use Rattle.dt_text.specs.declared.Value.{Value}
 use Rattle.dt_proc.specs.Tree.{ExprTree, GiveTree, row, value, StmtTree, let_new, set_row, clear_row, choose, abort_with, give_all, BlockTree, done, then}

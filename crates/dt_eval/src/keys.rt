@@ -1,7 +1,7 @@
 ghost use Rattle.std.specs.Prelude.{◌≡◌, ◌<◌, ◌^◌, ◌++◌, ℕ, Some, IfOk, OnOk, length};
 ghost use Rattle.dt_lists.specs.Lists.{AllIn};
 ghost use Rattle.dt_text.specs.Texts.{IsKey};
-ghost use Rattle.dt_eval.specs.Keys.{HasKeys, IsFirstBadKey, item_text, key_text, keys_of, merged, names_of, plain, use_of, with_use};
+ghost use Rattle.dt_eval.specs.Keys.{HasKeys, IsFirstBadKey, item_text, key_text, keys_of, mode_of, names_of, plain, use_of, with_modes, with_use};
 ghost use Rattle.dt_eval.specs.Meaning.{Fits};
 ghost use Rattle.dt_eval.specs.FrameInner.{IsItemWithin};
 
@@ -55,19 +55,19 @@ pub fn keys_of(alloc: Global, body: &Proc, args: &[Value]) -> Result<Keys, KeysE
     let mut uses = Vec::new(alloc);
     let declarations = body.keys();
     for (number, declared) in declarations.iter().enumerate() {
-        let (key, mode) = use_of(alloc, number, declared, args)?;
-        add_use(&mut uses, key, mode)?;
+        let (key, write) = use_of(alloc, number, declared, args)?;
+        add_use(&mut uses, key, write)?;
     }
-    Ok(Keys::from_vec(uses))
+    Ok(Keys::from_vec(with_modes(alloc, uses)?))
 }
 
-/// The key and the mode of the declaration of this number.
+/// The key of the declaration of this number, and whether it may be written.
 fn use_of(
     alloc: Global,
     number: usize,
     declared: &KeyDecl,
     args: &[Value],
-) -> Result<(Key, Mode), KeysError>
+) -> Result<(Key, bool), KeysError>
     requires number { number < 2 ^ 32 }
     requires items { AllIn (IsItemWithin (length args.now)) declared.now.items }
     ensures uses { IfOk result (λ used. (used ≡ use_of args.now declared.now) × IsKey (key_text args.now declared.now.items)) }
@@ -77,12 +77,7 @@ fn use_of(
     if !Key::is_key(text.as_slice()) {
         return Err(KeysError::BadKey(number as u32));
     }
-    let mode = if declared.write {
-        Mode::Write
-    } else {
-        Mode::Read
-    };
-    Ok((Key::new(alloc, text.as_slice())?, mode))
+    Ok((Key::new(alloc, text.as_slice())?, declared.write))
 }
 
 /// What a key expression gives.
@@ -130,34 +125,42 @@ fn add_argument(alloc: Global, text: &mut Vec<u8>, argument: &Value) -> Result<(
     Ok(())
 }
 
-/// Adds a use to uses in ascending order of keys: a key that is there already stays once, and its modes are merged.
-fn add_use(uses: &mut Vec<(Key, Mode)>, key: Key, mode: Mode) -> Result<(), NoMemory>
-    ensures { OnOk result (uses.new.items ≡ with_use uses.old.items (key, mode)) }
+/// Adds a use to uses in ascending order of keys: a key that is there already stays once, and may be written if either use
+/// of it writes.
+fn add_use(uses: &mut Vec<(Key, bool)>, key: Key, write: bool) -> Result<(), NoMemory>
+    ensures { OnOk result (uses.new.items ≡ with_use uses.old.items (key, write)) }
 {
     for place in 0..uses.len() {
         match key.cmp(&uses[place].0) {
             Ordering::Less => {
-                uses.insert(place, (key, mode))?;
+                uses.insert(place, (key, write))?;
                 return Ok(());
             }
             Ordering::Equal => {
-                uses[place].1 = merged(uses[place].1, mode);
+                uses[place].1 |= write;
                 return Ok(());
             }
             Ordering::Greater => {}
         }
     }
-    uses.push((key, mode))?;
+    uses.push((key, write))?;
     Ok(())
 }
 
-/// `Write` if either mode allows more than to read.
-fn merged(first: Mode, second: Mode) -> Mode
-    ensures { result ≡ merged first second }
+/// The uses with their modes.
+fn with_modes(alloc: Global, uses: Vec<(Key, bool)>) -> Result<Vec<(Key, Mode)>, NoMemory>
+    ensures { IfOk result (λ keys. keys.items ≡ with_modes uses.items) }
 {
-    if first.is_write() || second.is_write() {
-        Mode::Write
-    } else {
-        Mode::Read
-    }
+    Ok(
+        uses.into_iter()
+            .map(|(key, write)| (key, mode_of(write)))
+            .collect(alloc)?,
+    )
+}
+
+/// `Write` where the key may be written, else `Read`.
+fn mode_of(write: bool) -> Mode
+    ensures { result ≡ mode_of write }
+{
+    if write { Mode::Write } else { Mode::Read }
 }

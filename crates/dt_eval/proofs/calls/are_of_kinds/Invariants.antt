@@ -1,4 +1,4 @@
-use Rattle.std.proofs.Common.{◌≡◌, drop}
+use Rattle.std.proofs.Common.{drop}
 use Rattle.std.specs.Prelude.{◌↔◌}
 use Rattle.dt_lists.specs.Lists.{Pairwise}
 use Rattle.dt_eval.specs.Meaning.{IsOfKind}

@@ -6,5 +6,5 @@ abbrev pub invariant-loop-place : goal.invariant-loop-place
 invariant-loop-place l = record {
   same : l.uses.items ≡ l.fn.uses.items;
   key : l.key ≡ l.fn.key;
-  further : with_use l.uses.items (l.key, l.mode) ≡ take l.place l.uses.items ++ with_use (drop l.place l.uses.items) (l.key, l.mode);
+  further : with_use l.uses.items (l.key, l.write) ≡ take l.place l.uses.items ++ with_use (drop l.place l.uses.items) (l.key, l.write);
 }

@@ -3,6 +3,7 @@ use Rattle.std.proofs.Common.{Err}
 use Rattle.std.specs.Prelude.{Result, IsErrAnd}
 use Rattle.dt_eval.specs.declared.keys.KeysError.{KeysError}
 use Rattle.dt_eval.specs.declared.keys.KeysError.TheVariants.{BadKey}
+use Rattle.dt_access.specs.Orders.{HasAscendingKeys}
 use Rattle.dt_eval.specs.Keys.{with_use}
 use Rattle.dt_eval.proofs.KeyLaws.{gathers_none, gathers_more, gathers_bad, gathers_ascend}
 use Rattle.dt_eval.proofs.keys.keys_of.Goals as goal
@@ -16,7 +17,8 @@ loop-number-preserved c =
     c.in_ok-key.ensures.uses.1 c.add_use.new.uses.items (c.in_ok-add_use.ensures ∙ ap (with_use c.loop-number.uses.items) c.in_ok-key.ensures.uses.0)
 
 pub from_vec-requires : goal.from_vec-requires
-from_vec-requires c = gathers_ascend c.args.body.now c.args.args.now c.keys-declarations.result.now c.loop-number.number c.loop-number.uses.items (omega arith) c.loop-number.invariant
+from_vec-requires c = subst HasAscendingKeys (sym c.in_ok-with_modes.ensures)
+    (gathers_ascend c.args.body.now c.args.args.now c.keys-declarations.result.now c.loop-number.number c.loop-number.uses.items (omega arith) c.loop-number.invariant)
 
 told : {A : Type 0} (r : Result A KeysError) (x y : KeysError) → IsErrAnd r (λ e. e ≡ x) → r ≡ Err y → x ≡ y
 told r x y h e = sym (subst (λ r. IsErrAnd r (λ e. e ≡ x)) e h)

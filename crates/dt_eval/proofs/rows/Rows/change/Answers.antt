@@ -1,5 +1,4 @@
-use Rattle.std.proofs.Common.{◌≡◌, ◌<◌, ℕ, true, List, length, set, get_or, sym, ap, ap₂, subst, ◌∙◌, length-set}
-use Rattle.std.specs.Prelude.{Option}
+use Rattle.std.proofs.Common.{◌<◌, length, sym, ap, subst, ◌∙◌}
 use Rattle.dt_eval.specs.Data.{declared_key, with_value}
 use Rattle.dt_eval.proofs.RowPlaces.{row_invariant, row_changed}
 use Rattle.dt_eval.proofs.rows.Rows.change.Goals as goal

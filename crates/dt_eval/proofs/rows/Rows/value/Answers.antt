@@ -1,5 +1,5 @@
 use Rattle.std.proofs.Common.{◌≡◌, ◌<◌, sym, ap, subst, ◌∙◌}
-use Rattle.std.specs.Prelude.{Option, option_copied, length}
+use Rattle.std.specs.Prelude.{option_copied, length}
 use Rattle.dt_eval.specs.declared.state.Row.{Row}
 use Rattle.dt_eval.specs.Data.{declared_key, value_in}
 use Rattle.dt_eval.proofs.RowPlaces.{value_is}
