@@ -1,4 +1,4 @@
-use Rattle.std.proofs.Common.{◌≡◌, List, slice_get, Some, sym, ap, ap₂, subst, ◌∙◌}
+use Rattle.std.proofs.Common.{◌≡◌, List, slice_get, Some, sym, ap, subst, ◌∙◌}
 use Rattle.dt_lists.specs.Lists.{AllIn}
 use Rattle.dt_lists.proofs.Callers.{all_more}
 use Rattle.dt_access.specs.declared.Part.{Part}
