@@ -36,16 +36,17 @@ pub record AreOfLog (sites : List SiteView) (home first last : ℕ) (entries : L
   pub txns : AllIn (λ e. held (site_at sites home).region.state e.part.id ≡ Some e.txn) entries
 
 -- the length of a log that was read is that of the site's log
-pub length_is : {sites : List SiteView} {region : ℕ} {r : RegionView} {origins : List Origin} → IsBehind sites region r origins → (home : ℕ) {log : List Part} {n : ℕ} → n ≡ length log → log ≡ log_at r.state.logs home
+length_is : {sites : List SiteView} {region : ℕ} {r : RegionView} {origins : List Origin} → IsBehind sites region r origins → (home : ℕ) {log : List Part} {n : ℕ} → n ≡ length log → log ≡ log_at r.state.logs home
     → n ≡ length (log_at (site_at sites region).region.state.logs home)
 length_is b home n_is log_is = n_is ∙ ap length (log_is ∙ ap (λ (x : RegionView). log_at x.state.logs home) b.region_is)
 
-pub delivery_is : (sites : List SiteView) (region home first last : ℕ) (join : Bool) {n m : ℕ} {test : Bool} → n ≡ length (log_at (site_at sites home).region.state.logs home) → last ≤ n
-    → m ≡ length (log_at (site_at sites region).region.state.logs home) → test ≡ joins m first last → test ≡ join → IsDelivery sites region home first last join
-delivery_is sites region home first last join long within received is on = record {
-  reaches = subst (λ x. last ≤ x) long within;
-  joined = subst (λ x. joins x first last ≡ join) received (sym is ∙ on);
-}
+module _ {sites : List SiteView} {home region : ℕ} {r r' : RegionView} {origins origins' : List Origin} (source : IsBehind sites home r origins) (here : IsBehind sites region r' origins') where
+  pub delivery_is : (first last : ℕ) (join : Bool) {log received : List Part} {n m : ℕ} {test : Bool} → n ≡ length log → log ≡ log_at r.state.logs home → last ≤ n
+      → m ≡ length received → received ≡ log_at r'.state.logs home → test ≡ joins m first last → test ≡ join → IsDelivery sites region home first last join
+  delivery_is first last join n_is log_is within m_is received_is is on = record {
+    reaches = subst (λ x. last ≤ x) (length_is source home n_is log_is) within;
+    joined = subst (λ x. joins x first last ≡ join) (length_is here home m_is received_is) (sym is ∙ on);
+  }
 
 pub entries_are : {sites : List SiteView} {home : ℕ} {r : RegionView} {origins : List Origin} → IsBehind sites home r origins → (first last : ℕ) (entries : List Entry)
     → map (λ (e : Entry). e.part) entries ≡ drop first (take last (log_at r.state.logs home)) → AllIn (λ (e : Entry). held r.state e.part.id ≡ Some e.txn) entries → AreOfLog sites home first last entries
