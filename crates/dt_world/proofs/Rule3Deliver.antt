@@ -4,13 +4,13 @@ use Rattle.std.proofs.Common.{◌≡◌, ◌<◌, ◌≤◌, ◌+◌, ℕ, zero,
 use Rattle.std.proofs.lemmas.List.{length-take-le, map_push, take_more}
 use Rattle.std.proofs.lemmas.Option.{get_or_from_slice_get}
 use Rattle.dt_lists.specs.Lists.{AllIn}
-use Rattle.dt_lists.proofs.Callers.{place_within, all_map}
+use Rattle.dt_lists.proofs.Callers.{all_map, all_more, place_within}
 use Rattle.dt_access.specs.declared.Part.{Part}
 use Rattle.dt_log.specs.declared.Taken.{Taken}
 use Rattle.dt_sched.specs.Views.{log_at}
 use Rattle.dt_events.specs.declared.Event.TheVariants.{Deliver}
 use Rattle.dt_txn.specs.declared.Entry.{Entry}
-use Rattle.dt_region.specs.Region.{RegionView, held}
+use Rattle.dt_region.specs.Region.{RegionState, RegionView, held}
 use Rattle.dt_region.specs.Conditions.{CanDeliver}
 use Rattle.dt_region.specs.Rules.{MakesDelivery}
 use Rattle.dt_region.specs.Sound.{IsSoundRegion}
@@ -109,6 +109,10 @@ entries_more log first place items new e le at before is =
     ∙ sym (drop_push first (take place log) e.part (omega arith))
     ∙ ap (λ x. drop first (take place log ++ x ∷ [])) (sym (get_or_from_slice_get log place e.part e.part at))
     ∙ ap (drop first) (sym (take_more log place e.part lt))
+
+pub entries_held : (state : RegionState) (items new : List Entry) (e : Entry) → AllIn (λ x. held state x.part.id ≡ Some x.txn) items → held state e.part.id ≡ Some e.txn
+    → new ≡ items ++ e ∷ [] → AllIn (λ x. held state x.part.id ≡ Some x.txn) new
+entries_held state items new e all one is = subst (AllIn (λ x. held state x.part.id ≡ Some x.txn)) (sym is) (all_more (λ x. held state x.part.id ≡ Some x.txn) items e all one)
 
 -- no delivery is legal whose places are out of order, or that goes past the end of the home's log
 
