@@ -56,6 +56,37 @@ by_number f g (x ∷ xs) a d e =
 pub item_at : {A : Type 0} (xs : List A) (at : ℕ) (r e : A) → at < length xs → r ≡ get_or xs at r → r ≡ e → slice_get xs at ≡ Some e
 item_at xs at r e lt is same = slice_get-get_or xs at r lt ∙ ap Some (sym is ∙ same)
 
+-- what an execution adds to the order, where its attempt was not executed before: these are the ids then
+pub record NotesNew (view : WorldView) (events : List Event) (at region : ℕ) (id : TxnId) (new : List TxnId) : Type 0 where
+  pub seen : new ≡ order_of (take (at + 1) events)
+  pub order : (r : Ran) → ran_at view.state region id ≡ Some r → rans_at view events at ++ r ∷ [] ≡ rans_at view events (at + 1)
+
+-- and where it was
+pub record NotesAgain (view : WorldView) (events : List Event) (at : ℕ) (new : List TxnId) : Type 0 where
+  pub seen : new ≡ order_of (take (at + 1) events)
+  pub order : rans_at view events at ≡ rans_at view events (at + 1)
+
+-- what a submission of the session at a place does to what is followed
+pub record FollowsSubmission (view : WorldView) (events : List Event) (at region place : ℕ) (course : SessionReplayView) : Type 0 where
+  pub place_there : place < length course.waits
+  pub region_there : region < length course.submitted
+  pub few : count_at course region + 1 ≤ length (node_at view.state region).submitted
+  pub replay : after_submission course place region ≡ replay_at view events (at + 1)
+  pub replies : replies_at view events at ≡ replies_at view events (at + 1)
+
+-- what an answer to it does: it waited for an attempt, and waits for nothing then
+pub record FollowsAnswer (view : WorldView) (events : List Event) (at region place : ℕ) (course : SessionReplayView) : Type 0 where
+  pub place_there : place < length course.waits
+  pub region_there : region < view.cluster.regions
+  pub waited : ¬ (wait_at course place ≡ None)
+  pub replay : after_reply course place ≡ replay_at view events (at + 1)
+
+-- and this is the attempt, whose outcome is the reply
+pub record FollowsReply (view : WorldView) (events : List Event) (at region : ℕ) (name : Bytes) (id : TxnId) : Type 0 where
+  pub own : id.region ≡ region
+  pub executed : IsExecutedAt view.state region id
+  pub replies : (reply : Reply) → IsReply view.state region name id reply → replies_at view events at ++ reply ∷ [] ≡ replies_at view events (at + 1)
+
 module _ {view : WorldView} {events : List Event} (led : LedTo view events) where
   -- the tables that regions keep are those of the report
   pub tables_are : map (λ (n : Node). shown n.here.table) view.state.nodes ≡ tables_of view.cluster view.workload events
@@ -82,20 +113,26 @@ module _ {view : WorldView} {events : List Event} (led : LedTo view events) wher
     note_executed = subst (λ w. IsExecutedAt w region id) (sym led.reached) (executed_at view.cluster led.valid view.workload led.fits events led.legal at region id item).1
 
     module _ (keys new : List TxnId) (before : keys ≡ order_of (take at events)) (inserted : new ≡ cond (is_among keys id) keys (keys ++ id ∷ [])) where
-      pub seen_new : is_among keys id ≡ false → new ≡ order_of (take (at + 1) events)
+      seen_new : is_among keys id ≡ false → new ≡ order_of (take (at + 1) events)
       seen_new absent = inserted ∙ ap (λ b. cond b keys (keys ++ id ∷ [])) absent ∙ ap (λ l. l ++ id ∷ []) before
           ∙ sym (order_new view.cluster led.valid view.workload led.fits events led.legal at region id item (subst (λ l. is_among l id ≡ false) before absent))
 
-      pub seen_again : is_among keys id ≡ true → new ≡ order_of (take (at + 1) events)
+      seen_again : is_among keys id ≡ true → new ≡ order_of (take (at + 1) events)
       seen_again there = inserted ∙ ap (λ b. cond b keys (keys ++ id ∷ [])) there ∙ before
           ∙ sym (order_again view.cluster led.valid view.workload led.fits events led.legal at region id item (subst (λ l. is_among l id ≡ true) before there))
 
-      pub rans_again : is_among keys id ≡ true → rans_at view events at ≡ rans_at view events (at + 1)
+      rans_again : is_among keys id ≡ true → rans_at view events at ≡ rans_at view events (at + 1)
       rans_again there = ap (filter_map (ran_of view.cluster view.workload events)) (sym (order_again view.cluster led.valid view.workload led.fits events led.legal at region id item (subst (λ l. is_among l id ≡ true) before there)))
 
-      pub rans_new : is_among keys id ≡ false → (r : Ran) → ran_at view.state region id ≡ Some r → rans_at view events at ++ r ∷ [] ≡ rans_at view events (at + 1)
+      rans_new : is_among keys id ≡ false → (r : Ran) → ran_at view.state region id ≡ Some r → rans_at view events at ++ r ∷ [] ≡ rans_at view events (at + 1)
       rans_new absent r is = sym (rans_more view.cluster led.valid view.workload led.fits events led.legal at region id r item
           (subst (λ l. is_among l id ≡ false) before absent) (subst (λ w. ran_at w region id ≡ Some r) led.reached is))
+
+      pub notes_new : is_among keys id ≡ false → NotesNew view events at region id new
+      notes_new absent = record { seen = seen_new absent; order = rans_new absent }
+
+      pub notes_again : is_among keys id ≡ true → NotesAgain view events at new
+      notes_again there = record { seen = seen_again there; order = rans_again there }
 
   pub seen_other : (at : ℕ) (event : Event) → slice_get events at ≡ Some event → executed_id event ≡ None → order_of (take at events) ≡ order_of (take (at + 1) events)
   seen_other at event item none = sym (order_other view.cluster led.valid view.workload led.fits events led.legal at event item none)
@@ -107,7 +144,7 @@ module _ {view : WorldView} {events : List Event} (led : LedTo view events) wher
 
   -- an event that neither submits nor answers
 
-  pub plain_replies : (at : ℕ) (event : Event) → slice_get events at ≡ Some event → answered_session view.workload (world_after view.cluster view.workload (take at events)) event ≡ None
+  plain_replies : (at : ℕ) (event : Event) → slice_get events at ≡ Some event → answered_session view.workload (world_after view.cluster view.workload (take at events)) event ≡ None
       → replies_at view events at ≡ replies_at view events (at + 1)
   plain_replies at event item none = sym (
       ap (replies_from view.cluster view.workload events (opening_world view.cluster view.workload)) (split_at events at event item).1
@@ -139,23 +176,32 @@ module _ {view : WorldView} {events : List Event} (led : LedTo view events) wher
     follow_somewhere = submit_somewhere view.cluster led.valid view.workload led.fits (take at events) (drop (at + 1) events) region name (legal_split at (Submit region name) item)
 
     module _ (place : ℕ) (found : position (is_session region name) view.workload.sessions ≡ Some place) (course : SessionReplayView) (is : course ≡ replay_at view events at) where
-      pub follow_place : place < length course.waits
+      follow_place : place < length course.waits
       follow_place = subst (λ (c : SessionReplayView). place < length c.waits) (sym is)
           (submit_place view.cluster led.valid view.workload led.fits (take at events) (drop (at + 1) events) region name (legal_split at (Submit region name) item) place found)
 
-      pub follow_region : region < length course.submitted
+      follow_region : region < length course.submitted
       follow_region = subst (λ (c : SessionReplayView). region < length c.submitted) (sym is)
           (submit_region view.cluster led.valid view.workload led.fits (take at events) (drop (at + 1) events) region name (legal_split at (Submit region name) item) place found)
 
-      pub follow_few : count_at course region + 1 ≤ length (node_at view.state region).submitted
+      follow_few : count_at course region + 1 ≤ length (node_at view.state region).submitted
       follow_few = subst (λ (c : SessionReplayView). count_at c region + 1 ≤ length (node_at view.state region).submitted) (sym is)
           (subst (λ w. count_at (replay_at view events at) region + 1 ≤ length (node_at w region).submitted) (ap (world_after view.cluster view.workload) (sym (split_at events at (Submit region name) item).0) ∙ sym led.reached)
           (submit_few view.cluster led.valid view.workload led.fits (take at events) (drop (at + 1) events) region name (legal_split at (Submit region name) item) place found))
 
-      pub follow_submitted : after_submission course place region ≡ replay_at view events (at + 1)
+      follow_submitted : after_submission course place region ≡ replay_at view events (at + 1)
       follow_submitted = ap (λ c. after_submission c place region) is
           ∙ sym (submit_follows view.cluster led.valid view.workload led.fits (take at events) (drop (at + 1) events) region name (legal_split at (Submit region name) item) place found)
           ∙ ap (λ l. replay_of (world_after view.cluster view.workload l)) (sym (split_at events at (Submit region name) item).1)
+
+      pub follows_submission : FollowsSubmission view events at region place course
+      follows_submission = record {
+        place_there = follow_place;
+        region_there = follow_region;
+        few = follow_few;
+        replay = follow_submitted;
+        replies = plain_replies at (Submit region name) item refl;
+      }
 
   -- an answer
 
@@ -164,37 +210,40 @@ module _ {view : WorldView} {events : List Event} (led : LedTo view events) wher
     reply_somewhere = answer_somewhere view.cluster led.valid view.workload led.fits (take at events) (drop (at + 1) events) region name (legal_split at (Answer region name) item)
 
     module _ (place : ℕ) (found : position (is_session region name) view.workload.sessions ≡ Some place) (course : SessionReplayView) (is : course ≡ replay_at view events at) where
-      pub reply_region : region < view.cluster.regions
+      reply_region : region < view.cluster.regions
       reply_region = answer_region view.cluster led.valid view.workload led.fits (take at events) (drop (at + 1) events) region name (legal_split at (Answer region name) item) place found
 
-      pub reply_place : place < length course.waits
+      reply_place : place < length course.waits
       reply_place = subst (λ (c : SessionReplayView). place < length c.waits) (sym is)
           (answer_place view.cluster led.valid view.workload led.fits (take at events) (drop (at + 1) events) region name (legal_split at (Answer region name) item) place found)
 
-      pub reply_waits : ¬ (wait_at course place ≡ None)
+      reply_waits : ¬ (wait_at course place ≡ None)
       reply_waits e = answer_waits view.cluster led.valid view.workload led.fits (take at events) (drop (at + 1) events) region name (legal_split at (Answer region name) item) place found
           (subst (λ (c : SessionReplayView). wait_at c place ≡ None) is e)
 
-      pub reply_followed : after_reply course place ≡ replay_at view events (at + 1)
+      reply_followed : after_reply course place ≡ replay_at view events (at + 1)
       reply_followed = ap (λ c. after_reply c place) is
           ∙ sym (answer_follows view.cluster led.valid view.workload led.fits (take at events) (drop (at + 1) events) region name (legal_split at (Answer region name) item) place found)
           ∙ ap (λ l. replay_of (world_after view.cluster view.workload l)) (sym (split_at events at (Answer region name) item).1)
+
+      pub follows_answer : FollowsAnswer view events at region place course
+      follows_answer = record { place_there = reply_place; region_there = reply_region; waited = reply_waits; replay = reply_followed }
 
       module _ (id : TxnId) (waits : wait_at course place ≡ Some id) where
         waits_then : wait_at (replay_at view events at) place ≡ Some id
         waits_then = subst (λ (c : SessionReplayView). wait_at c place ≡ Some id) is waits
 
-        pub reply_own : id.region ≡ region
+        reply_own : id.region ≡ region
         reply_own = answer_own view.cluster led.valid view.workload led.fits (take at events) (drop (at + 1) events) region name (legal_split at (Answer region name) item) place found id waits_then
 
         the_end : view.state ≡ world_after view.cluster view.workload (take at events ++ Answer region name ∷ drop (at + 1) events)
         the_end = led.reached ∙ ap (world_after view.cluster view.workload) (split_at events at (Answer region name) item).0
 
-        pub reply_executed : IsExecutedAt view.state region id
+        reply_executed : IsExecutedAt view.state region id
         reply_executed = subst (λ w. IsExecutedAt w region id) (sym the_end)
             (answer_executed view.cluster led.valid view.workload led.fits (take at events) (drop (at + 1) events) region name (legal_split at (Answer region name) item) place found id waits_then)
 
-        pub reply_added : (reply : Reply) → IsReply view.state region name id reply → replies_at view events at ++ reply ∷ [] ≡ replies_at view events (at + 1)
+        reply_added : (reply : Reply) → IsReply view.state region name id reply → replies_at view events at ++ reply ∷ [] ≡ replies_at view events (at + 1)
         reply_added reply r =
             let added : replies_from view.cluster view.workload (take at events ++ Answer region name ∷ drop (at + 1) events) (opening_world view.cluster view.workload) (take at events ++ Answer region name ∷ []) ≡ replies_from
             view.cluster view.workload (take at events ++ Answer region name ∷ drop (at + 1) events) (opening_world view.cluster view.workload) (take at events) ++ reply ∷ [] =
@@ -202,6 +251,9 @@ module _ {view : WorldView} {events : List Event} (led : LedTo view events) wher
             (subst (λ w. IsReply w region name id reply) the_end r) in
             sym (subst₂ (λ (all now : List Event). replies_from view.cluster view.workload all (opening_world view.cluster view.workload) now ≡ replies_from view.cluster view.workload all (opening_world view.cluster view.workload)
             (take at events) ++ reply ∷ []) (sym (split_at events at (Answer region name) item).0) (sym (split_at events at (Answer region name) item).1) added)
+
+        pub follows_reply : FollowsReply view events at region name id
+        follows_reply = record { own = reply_own; executed = reply_executed; replies = reply_added }
 
 -- all replies are of what regions keep
 

@@ -4,13 +4,13 @@ use Rattle.std.proofs.Common.{◌≡◌, ◌<◌, ◌≤◌, ◌+◌, ℕ, zero,
 use Rattle.std.proofs.lemmas.List.{length-take-le, map_push, take_more}
 use Rattle.std.proofs.lemmas.Option.{get_or_from_slice_get}
 use Rattle.dt_lists.specs.Lists.{AllIn}
-use Rattle.dt_lists.proofs.Callers.{place_within, all_map}
+use Rattle.dt_lists.proofs.Callers.{all_map, all_more, place_within}
 use Rattle.dt_access.specs.declared.Part.{Part}
 use Rattle.dt_log.specs.declared.Taken.{Taken}
 use Rattle.dt_sched.specs.Views.{log_at}
 use Rattle.dt_events.specs.declared.Event.TheVariants.{Deliver}
 use Rattle.dt_txn.specs.declared.Entry.{Entry}
-use Rattle.dt_region.specs.Region.{RegionView, held}
+use Rattle.dt_region.specs.Region.{RegionState, RegionView, held}
 use Rattle.dt_region.specs.Conditions.{CanDeliver}
 use Rattle.dt_region.specs.Rules.{MakesDelivery}
 use Rattle.dt_region.specs.Sound.{IsSoundRegion}
@@ -36,16 +36,17 @@ pub record AreOfLog (sites : List SiteView) (home first last : ℕ) (entries : L
   pub txns : AllIn (λ e. held (site_at sites home).region.state e.part.id ≡ Some e.txn) entries
 
 -- the length of a log that was read is that of the site's log
-pub length_is : {sites : List SiteView} {region : ℕ} {r : RegionView} {origins : List Origin} → IsBehind sites region r origins → (home : ℕ) {log : List Part} {n : ℕ} → n ≡ length log → log ≡ log_at r.state.logs home
+length_is : {sites : List SiteView} {region : ℕ} {r : RegionView} {origins : List Origin} → IsBehind sites region r origins → (home : ℕ) {log : List Part} {n : ℕ} → n ≡ length log → log ≡ log_at r.state.logs home
     → n ≡ length (log_at (site_at sites region).region.state.logs home)
 length_is b home n_is log_is = n_is ∙ ap length (log_is ∙ ap (λ (x : RegionView). log_at x.state.logs home) b.region_is)
 
-pub delivery_is : (sites : List SiteView) (region home first last : ℕ) (join : Bool) {n m : ℕ} {test : Bool} → n ≡ length (log_at (site_at sites home).region.state.logs home) → last ≤ n
-    → m ≡ length (log_at (site_at sites region).region.state.logs home) → test ≡ joins m first last → test ≡ join → IsDelivery sites region home first last join
-delivery_is sites region home first last join long within received is on = record {
-  reaches = subst (λ x. last ≤ x) long within;
-  joined = subst (λ x. joins x first last ≡ join) received (sym is ∙ on);
-}
+module _ {sites : List SiteView} {home region : ℕ} {r r' : RegionView} {origins origins' : List Origin} (source : IsBehind sites home r origins) (here : IsBehind sites region r' origins') where
+  pub delivery_is : (first last : ℕ) (join : Bool) {log received : List Part} {n m : ℕ} {test : Bool} → n ≡ length log → log ≡ log_at r.state.logs home → last ≤ n
+      → m ≡ length received → received ≡ log_at r'.state.logs home → test ≡ joins m first last → test ≡ join → IsDelivery sites region home first last join
+  delivery_is first last join n_is log_is within m_is received_is is on = record {
+    reaches = subst (λ x. last ≤ x) (length_is source home n_is log_is) within;
+    joined = subst (λ x. joins x first last ≡ join) (length_is here home m_is received_is) (sym is ∙ on);
+  }
 
 pub entries_are : {sites : List SiteView} {home : ℕ} {r : RegionView} {origins : List Origin} → IsBehind sites home r origins → (first last : ℕ) (entries : List Entry)
     → map (λ (e : Entry). e.part) entries ≡ drop first (take last (log_at r.state.logs home)) → AllIn (λ (e : Entry). held r.state e.part.id ≡ Some e.txn) entries → AreOfLog sites home first last entries
@@ -108,6 +109,10 @@ entries_more log first place items new e le at before is =
     ∙ sym (drop_push first (take place log) e.part (omega arith))
     ∙ ap (λ x. drop first (take place log ++ x ∷ [])) (sym (get_or_from_slice_get log place e.part e.part at))
     ∙ ap (drop first) (sym (take_more log place e.part lt))
+
+pub entries_held : (state : RegionState) (items new : List Entry) (e : Entry) → AllIn (λ x. held state x.part.id ≡ Some x.txn) items → held state e.part.id ≡ Some e.txn
+    → new ≡ items ++ e ∷ [] → AllIn (λ x. held state x.part.id ≡ Some x.txn) new
+entries_held state items new e all one is = subst (AllIn (λ x. held state x.part.id ≡ Some x.txn)) (sym is) (all_more (λ x. held state x.part.id ≡ Some x.txn) items e all one)
 
 -- no delivery is legal whose places are out of order, or that goes past the end of the home's log
 

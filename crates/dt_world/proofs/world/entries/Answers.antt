@@ -1,11 +1,9 @@
-use Rattle.std.proofs.Common.{◌≡◌, List, slice_get, Some, sym, ap, ap₂, subst, ◌∙◌}
-use Rattle.dt_lists.specs.Lists.{AllIn}
-use Rattle.dt_lists.proofs.Callers.{all_more}
+use Rattle.std.proofs.Common.{◌≡◌, List, slice_get, Some, sym, ap, ◌∙◌}
 use Rattle.dt_access.specs.declared.Part.{Part}
 use Rattle.dt_sched.specs.Views.{log_at}
 use Rattle.dt_txn.specs.declared.Entry.{Entry}
 use Rattle.dt_region.specs.Region.{held}
-use Rattle.dt_world.proofs.Rule3Deliver.{entries_more}
+use Rattle.dt_world.proofs.Rule3Deliver.{entries_held, entries_more}
 use Rattle.dt_world.proofs.world.entries.Goals as goal
 
 pub loop-place-preserved : goal.loop-place-preserved
@@ -18,6 +16,5 @@ loop-place-preserved g c =
     record {
       parts = entries_more (log_at c.args.source.now.state.logs c.args.home) c.args.first c.loop-place.place c.loop-place.entries.items c.push.new.self.items entry
           c.loop-place.auto.place at c.loop-place.invariant.parts c.in_ok-push.ensures.items;
-      txns = subst (AllIn (λ (e : Entry). held c.args.source.now.state e.part.id ≡ Some e.txn)) (sym c.in_ok-push.ensures.items)
-          (all_more (λ (e : Entry). held c.args.source.now.state e.part.id ≡ Some e.txn) c.loop-place.entries.items entry c.loop-place.invariant.txns kept);
+      txns = entries_held c.args.source.now.state c.loop-place.entries.items c.push.new.self.items entry c.loop-place.invariant.txns kept c.in_ok-push.ensures.items;
     }

@@ -6,7 +6,7 @@ use Rattle.dt_events.specs.declared.Event.TheVariants.{Deliver}
 use Rattle.dt_session.specs.Step.{IsLegal}
 use Rattle.dt_world.specs.WorldView.{WorldView}
 use Rattle.dt_world.proofs.OneSite.{region_here, sound_here, same_lawful, same_view}
-use Rattle.dt_world.proofs.Rule3Deliver.{can_take, deliver_done, deliver_none, delivery_is, entries_are, length_is, out_of_order, past_log}
+use Rattle.dt_world.proofs.Rule3Deliver.{can_take, deliver_done, deliver_none, delivery_is, entries_are, out_of_order, past_log}
 use Rattle.dt_world.proofs.WorldLaws.{a_site, behind, made_before, out_of_memory}
 use Rattle.dt_world.proofs.WorldFacts.{steps_few}
 use Rattle.dt_world.proofs.world.World.deliver.Goals as goal
@@ -26,16 +26,14 @@ pub invariant_of-self : goal.invariant_of-self
 invariant_of-self g c =
     let home = behind (a_site c.self.invariant c.if-home-self.false) c.index.ensures c.behind-self.view_is in
     let region = behind (a_site c.self.invariant c.if-region-self.false) c.index-2.ensures c.behind-self-2.view_is in
-    let delivery = delivery_is c.self.inside.sites.items c.args.region c.args.home c.args.first c.args.last false (length_is home c.args.home c.len.ensures c.log.ensures) c.if-last-len.false
-    (length_is region c.args.home c.len-received.ensures c.log-2.ensures) c.joins.ensures c.if-not-joins.true in
+    let delivery = delivery_is home region c.args.first c.args.last false c.len.ensures c.log.ensures c.if-last-len.false c.len-received.ensures c.log-2.ensures c.joins.ensures c.if-not-joins.true in
     (deliver_none c.self.invariant c.if-region-self.false c.if-home-self.false c.if-first-last.false delivery.reaches delivery.joined).lawful
 
 pub returns-then-not-joins : goal.returns-then-not-joins
 returns-then-not-joins g c =
     let home = behind (a_site c.self.invariant c.if-home-self.false) c.index.ensures c.behind-self.view_is in
     let region = behind (a_site c.self.invariant c.if-region-self.false) c.index-2.ensures c.behind-self-2.view_is in
-    let delivery = delivery_is c.self.inside.sites.items c.args.region c.args.home c.args.first c.args.last false (length_is home c.args.home c.len.ensures c.log.ensures) c.if-last-len.false
-    (length_is region c.args.home c.len-received.ensures c.log-2.ensures) c.joins.ensures c.if-not-joins.true in
+    let delivery = delivery_is home region c.args.first c.args.last false c.len.ensures c.log.ensures c.if-last-len.false c.len-received.ensures c.log-2.ensures c.joins.ensures c.if-not-joins.true in
     made_before c.self.view_is (deliver_none c.self.invariant c.if-region-self.false c.if-home-self.false c.if-first-last.false delivery.reaches delivery.joined)
 
 pub entries-requires-clause-sound : goal.entries-requires-clause-sound
@@ -57,8 +55,7 @@ pub deliver-requires-clause-can : goal.deliver-requires-clause-can
 deliver-requires-clause-can g c =
     let home = behind (a_site c.self.invariant c.if-home-self.false) c.index.ensures c.behind-self.view_is in
     let region = behind (a_site c.self.invariant c.if-region-self.false) c.index-2.ensures c.behind-self-2.view_is in
-    let delivery = delivery_is c.self.inside.sites.items c.args.region c.args.home c.args.first c.args.last true (length_is home c.args.home c.len.ensures c.log.ensures) c.if-last-len.false
-    (length_is region c.args.home c.len-received.ensures c.log-2.ensures) c.joins.ensures c.if-not-joins.false in
+    let delivery = delivery_is home region c.args.first c.args.last true c.len.ensures c.log.ensures c.if-last-len.false c.len-received.ensures c.log-2.ensures c.joins.ensures c.if-not-joins.false in
     let entries = entries_are home c.args.first c.args.last c.in_ok-entries.entries.items c.in_ok-entries.ensures.parts c.in_ok-entries.ensures.txns in
     let here = behind (a_site c.self.invariant c.if-region-self.false) c.index_mut.ensures.value c.behind-self-3.view_is in
     let few = steps_few c.self.invariant c.self.view_is c.requires in
@@ -68,8 +65,7 @@ pub invariant_of-self-2 : goal.invariant_of-self-2
 invariant_of-self-2 g c =
     let home = behind (a_site c.self.invariant c.if-home-self.false) c.index.ensures c.behind-self.view_is in
     let region = behind (a_site c.self.invariant c.if-region-self.false) c.index-2.ensures c.behind-self-2.view_is in
-    let delivery = delivery_is c.self.inside.sites.items c.args.region c.args.home c.args.first c.args.last true (length_is home c.args.home c.len.ensures c.log.ensures) c.if-last-len.false
-    (length_is region c.args.home c.len-received.ensures c.log-2.ensures) c.joins.ensures c.if-not-joins.false in
+    let delivery = delivery_is home region c.args.first c.args.last true c.len.ensures c.log.ensures c.if-last-len.false c.len-received.ensures c.log-2.ensures c.joins.ensures c.if-not-joins.false in
     let entries = entries_are home c.args.first c.args.last c.in_ok-entries.entries.items c.in_ok-entries.ensures.parts c.in_ok-entries.ensures.txns in
     let here = behind (a_site c.self.invariant c.if-region-self.false) c.index_mut.ensures.value c.behind-self-3.view_is in
     (deliver_done c.self.invariant c.if-region-self.false c.if-home-self.false c.if-first-last.false delivery.reaches delivery.joined c.in_ok-entries.entries.items entries.parts entries.txns here
@@ -79,8 +75,7 @@ pub returns : goal.returns
 returns g c =
     let home = behind (a_site c.self.invariant c.if-home-self.false) c.index.ensures c.behind-self.view_is in
     let region = behind (a_site c.self.invariant c.if-region-self.false) c.index-2.ensures c.behind-self-2.view_is in
-    let delivery = delivery_is c.self.inside.sites.items c.args.region c.args.home c.args.first c.args.last true (length_is home c.args.home c.len.ensures c.log.ensures) c.if-last-len.false
-    (length_is region c.args.home c.len-received.ensures c.log-2.ensures) c.joins.ensures c.if-not-joins.false in
+    let delivery = delivery_is home region c.args.first c.args.last true c.len.ensures c.log.ensures c.if-last-len.false c.len-received.ensures c.log-2.ensures c.joins.ensures c.if-not-joins.false in
     let entries = entries_are home c.args.first c.args.last c.in_ok-entries.entries.items c.in_ok-entries.ensures.parts c.in_ok-entries.ensures.txns in
     let here = behind (a_site c.self.invariant c.if-region-self.false) c.index_mut.ensures.value c.behind-self-3.view_is in
     made_before c.self.view_is (deliver_done c.self.invariant c.if-region-self.false c.if-home-self.false c.if-first-last.false delivery.reaches delivery.joined

@@ -1,5 +1,5 @@
 use Rattle.std.proofs.lemmas.Grind.{common_steps}
-use Rattle.std.proofs.Common.{◌≡◌, ◌<◌, length, subst, arith}
+use Rattle.std.proofs.Common.{◌<◌, length, subst, arith}
 use Rattle.dt_world.specs.WorldInner.{IsNextOf}
 use Rattle.dt_world.proofs.OneSite.{put_back}
 use Rattle.dt_world.proofs.Rule1Submit.{may_wait, submit_fits, submit_place, submit_rank, submits_at, waits_made}
