@@ -1,7 +1,7 @@
 -- What a workload file is, and what fault is told of a file that is none. A file is read line by line: the lines before the
 -- first faulty one are some sessions, and that line's fault is the first of its causes in a fixed order, so each file is one
 -- workload or has one fault (`Laws`). The forms of lines are in `Lines`, and what a workload is in `Valid`.
-use Rattle.std.specs.Prelude.{◌≡◌, ◌⊎◌, ℕ, ◌<◌, List, [], ◌∷◌, ◌++◌, map, flat_map, length, slice_get, Option, Some, None, IsSome}
+use Rattle.std.specs.Prelude.{◌≡◌, ◌⊎◌, ℕ, ◌<◌, List, [], ◌∷◌, ◌++◌, map, flat_map, slice_get, Option, Some, None, IsSome}
 use Rattle.std.specs.Option.{option_and_then}
 use Rattle.dt_lists.specs.Lists.{Has, Pairwise}
 use Rattle.dt_text.specs.Texts.{IsName}
