@@ -1,17 +1,16 @@
 -- Every file is a cluster or has a fault: what each step of the reading comes to is decided, in the order in which faults are told.
 -- That the tables of a document are in order, is what `TomlTables` gives.
-use Rattle.std.proofs.Common.{◌≡◌, ◌⊎◌, inl, inr, ℕ, ◌<◌, ℤ, pos, negsuc, Bool, true, false, Ordering, Less, Equal, Greater, nat_cmp, List, [], ◌∷◌}
+use Rattle.std.proofs.Common.{◌≡◌, ◌⊎◌, inl, inr, ℕ, ◌<◌, pos, negsuc, Bool, true, false, Ordering, Less, Equal, Greater, nat_cmp, List, [], ◌∷◌}
 use Rattle.std.proofs.Common.{map, length, ◌≤◌, ◌^◌, Option, Some, None, Ok, Err, codes, refl, sym, ap, ◌∙◌, subst, arith}
 use Rattle.std.proofs.lemmas.Option.{none-some, same_Some}
 use Rattle.std.proofs.lemmas.Bool.{false≢true}
 use Rattle.std.proofs.lemmas.Str.{IsUtf8-from_is_utf8, is_utf8-from_IsUtf8}
-use Rattle.std.specs.Prelude.{IsUtf8}
 use Rattle.std.specs.Str.{is_utf8}
 use Rattle.std.specs.Ordering.{match_ordering}
 use Rattle.std.specs.Cmp.Lexicographic.{slice_cmp}
 use Rattle.std.specs.List.{AllByRecursion}
 use Rattle.std.specs.List.Sorted.{IsStrictlySortedBy}
-use Rattle.dt_lists.specs.Lists.{AllIn, Either, Has, Pairwise}
+use Rattle.dt_lists.specs.Lists.{AllIn, Either, Pairwise}
 use Rattle.dt_lists.proofs.Callers.{either_and, either_has}
 use Rattle.dt_text.specs.Texts.{Bytes, IsKey, IsStr}
 use Rattle.dt_text.proofs.Callers.{either_bytes, either_key, either_lt, either_str}
@@ -29,8 +28,8 @@ use Rattle.toml.specs.Parse.{parse_document}
 use Rattle.dt_cluster.specs.Document.{Entry, IsDocument, entries_of, AreEntries, AreEntriesAt, IsNoTable, IsFirstFaulty}
 use Rattle.dt_cluster.specs.Numbers.{NumberEntry, GivesNumber, IsAtFault, HasNumber, HasBadNumber}
 use Rattle.dt_cluster.specs.Rows.{IsHomeKey, IsHome, IsBadHome, IsRow, IsBadRow}
-use Rattle.dt_cluster.specs.File.{known_names, IsKnown, AreKnown, IsUnknownFault, HasNumbers, number_entries, IsNumberFault, GivesProcs, IsProcsFaultAt, HasProcs}
-use Rattle.dt_cluster.specs.File.{IsProcsFault, HasHomes, IsHomesFault, HasRows, IsRowsFault, IsClusterOf, IsFaultOf, IsCluster, IsClusterFault}
+use Rattle.dt_cluster.specs.File.{known_names, IsKnown, AreKnown, IsUnknownFault, HasNumbers, number_entries, IsNumberFault, GivesProcs, IsProcsFaultAt}
+use Rattle.dt_cluster.specs.File.{HasHomes, IsHomesFault, HasRows, IsRowsFault, IsClusterOf, IsFaultOf, IsCluster, IsClusterFault}
 use Rattle.dt_cluster.specs.ReaderParts.{HasShortProcs}
 use Rattle.dt_cluster.specs.declared.cluster.Cluster.{Cluster}
 use Rattle.dt_cluster.specs.declared.error.ClusterCause.{ClusterCause}

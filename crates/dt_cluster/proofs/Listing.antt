@@ -1,18 +1,16 @@
 -- The entries of a map as those of the table that it stands for, and what the accessors of values find.
 use Rattle.std.proofs.lemmas.Bool.{false≢true}
-use Rattle.std.proofs.Common.{◌≡◌, ◌↔◌, ◌⊎◌, inl, inr, ℕ, ℤ, ◌<◌, ◌≤◌, Bool, true, false, cond, not, ◌&&◌, List, [], ◌∷◌, ◌++◌, length, map, position, Option}
-use Rattle.std.proofs.Common.{Some, None, option_map, String, Global, BTreeMap, Ordering, Less, Equal, Greater, string_bytes, nat_cmp, is_eq, refl, sym, ap}
-use Rattle.std.proofs.Common.{◌∙◌, IsTrue, Result, Ok, Err, IfErr}
+use Rattle.std.proofs.Common.{◌≡◌, ◌↔◌, ℕ, Bool, true, false, cond, not, List, [], ◌∷◌, ◌++◌, map}
+use Rattle.std.proofs.Common.{Some, None, String, Global, Less, string_bytes, nat_cmp, refl, ap}
+use Rattle.std.proofs.Common.{IsTrue, Result, Ok, Err, IfErr}
 use Rattle.std.specs.Result.{IsErrAnd}
 use Rattle.std.specs.Cmp.Lexicographic.{slice_cmp}
 use Rattle.std.specs.List.{AllByRecursion, list_all}
 use Rattle.std.specs.List.Sorted.{IsStrictlySortedBy}
-use Rattle.std.specs.Map.{keys_of, lookup}
+use Rattle.std.specs.Map.{keys_of}
 use Rattle.std.specs.String.{string_cmp}
-use Rattle.std.specs.Ordering.{match_ordering}
 use Rattle.dt_text.specs.Texts.{first_outside}
 use Rattle.dt_text.proofs.Callers.{outside_where}
-use Rattle.toml.specs.Data.{Data, string, integer, float, boolean, datetime, array, table, as_str, as_integer, as_table, get_member, same_key, Members}
 use Rattle.toml.specs.View.{view, members_view}
 use Rattle.toml.specs.declared.value.Value.{Value}
 use Rattle.dt_cluster.specs.Document.{Entry, entries_of, AreEntries}

@@ -1,18 +1,17 @@
 -- A file is one cluster at most, or has one fault at most, and not both.
-use Rattle.std.proofs.Common.{◌≡◌, ◌⊎◌, inl, inr, ℕ, ◌<◌, ℤ, pos, Bool, true, false, List, [], ◌∷◌, map, Option, Some, None, Ok, Err, refl, ap, sym, ◌∙◌, subst, codes, Result}
+use Rattle.std.proofs.Common.{◌≡◌, ◌⊎◌, inl, inr, ℕ, ℤ, pos, List, [], ◌∷◌, Option, Some, None, Ok, Err, refl, ap, sym, ◌∙◌, subst, codes, Result}
 use Rattle.std.proofs.lemmas.Bool.{false≢true}
-use Rattle.dt_lists.specs.Lists.{AllIn, Has, Pairwise}
+use Rattle.dt_lists.specs.Lists.{AllIn, Pairwise}
 use Rattle.dt_text.specs.Texts.{IsKey, IsStr}
 use Rattle.dt_text.specs.declared.value.Value.{Value}
 use Rattle.dt_text.specs.declared.value.Value.TheVariants.{Int, Text}
 use Rattle.dt_proc.specs.Tree.{ProcTree}
-use Rattle.dt_proc.specs.Outcome.{Outcome}
 use Rattle.dt_proc.specs.declared.error.ProcError.{ProcError}
 use Rattle.dt_proc.specs.declared.error.ProcError.TheVariants as refused
 use Rattle.dt_proc.proofs.Callers.{one_outcome}
 use Rattle.toml.specs.Data.{Data, string, integer, float, boolean, datetime, array, table, Members, get_member}
 use Rattle.dt_text.specs.Texts.{Bytes}
-use Rattle.dt_cluster.specs.Document.{Entry, IsDocument, entries_of, AreEntries, AreEntriesAt, IsNoTable, IsFirstFaulty}
+use Rattle.dt_cluster.specs.Document.{Entry, IsDocument, AreEntries, AreEntriesAt, IsNoTable, IsFirstFaulty}
 use Rattle.dt_cluster.specs.Numbers.{NumberEntry, GivesNumber, IsAtFault, HasNumber, HasBadNumber, regions_entry, version_entry, workers_entry, tries_entry, drop_entry, repeat_entry}
 use Rattle.dt_cluster.specs.Rows.{IsHomeKey, IsHome, IsNoHome, IsBadHome, IsValue, IsNoValue, IsRow, IsBadRow}
 use Rattle.dt_cluster.specs.File.{IsKnown, AreKnown, IsUnknownFault, HasNumbers, number_entries, IsNumberFault, GivesProcs, IsToldAs, IsProcsFaultAt, HasProcs}
@@ -20,7 +19,6 @@ use Rattle.dt_cluster.specs.File.{IsProcsFault, HasHomes, IsHomesFault, HasRows,
 use Rattle.dt_cluster.specs.declared.cluster.Cluster.{Cluster}
 use Rattle.dt_cluster.specs.declared.error.ClusterCause.{ClusterCause}
 use Rattle.dt_cluster.specs.declared.error.ClusterCause.TheVariants as cause
-use Rattle.dt_cluster.specs.declared.error.ClusterPlace.{ClusterPlace}
 use Rattle.dt_cluster.specs.declared.error.ClusterPlace.TheVariants as place
 use Rattle.dt_cluster.specs.declared.error.ClusterFault.{ClusterFault}
 

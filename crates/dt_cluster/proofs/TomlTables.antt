@@ -1,9 +1,8 @@
 -- The tables of a document of TOML: the names of each ascend, also of those inside, its integers have 64 bits, and no string in
 -- it is longer than the document. One induction over the grammar of the crate `toml`: of its values, of the nodes that its
 -- lines build, and of its lines. What stands in arrays is left out: no cluster has any.
-use Rattle.std.proofs.Common.{◌≡◌, ◌⊎◌, inl, inr, ℕ, zero, suc, ◌≤◌, ◌==◌, ◌&&◌, ℤ, Bool, true, false, Ordering, Less, Equal, Greater, nat_cmp, is_eq}
-use Rattle.std.proofs.Common.{List, [], ◌∷◌, ◌++◌, length, drop, Option, Some, None, FitsSigned, refl, sym, ap, ◌∙◌, subst, arith}
-use Rattle.std.proofs.lemmas.Bool.{and_parts, cases_Bool}
+use Rattle.std.proofs.Common.{◌≡◌, ℕ, zero, suc, ◌≤◌, ◌==◌, ◌&&◌, Bool, true, false, Ordering, Less, Equal, Greater, nat_cmp}
+use Rattle.std.proofs.Common.{List, [], ◌∷◌, ◌++◌, length, drop, Option, Some, None, FitsSigned, refl, ap, ◌∙◌, subst, arith}
 use Rattle.std.proofs.lemmas.Cmp.{nat_list_cmp_total}
 use Rattle.std.proofs.lemmas.Option.{none-some, same_Some}
 use Rattle.std.specs.Prelude.{if◌then◌else◌, option_map, option_and_then, slice_index}
@@ -11,11 +10,11 @@ use Rattle.std.specs.Int.{w64}
 use Rattle.std.specs.Cmp.Lexicographic.{slice_cmp}
 use Rattle.std.specs.Ordering.{match_ordering, ordering_reverse}
 use Rattle.toml_parser.specs.Lexical.{Read, first, skip_ws, skip_blank}
-use Rattle.toml_parser.specs.Strings.{Key, key, quoted, recursion_limit, starts_string}
+use Rattle.toml_parser.specs.Strings.{Key, key, quoted, recursion_limit}
 use Rattle.toml_parser.specs.Numbers.{unquoted}
 use Rattle.toml_parser.specs.declared.scalar.Scalar.{Scalar}
 use Rattle.toml_parser.specs.declared.scalar.Scalar.TheVariants.{Boolean, Integer, Float, Datetime}
-use Rattle.toml.specs.Data.{Data, string, integer, float, boolean, datetime, array, table, Items, no_items, Members, no_members, member, push_item, same_key}
+use Rattle.toml.specs.Data.{Data, string, integer, array, table, Items, no_items, Members, no_members, member, push_item, same_key}
 use Rattle.toml.specs.Tables.{Definition, Document, Edit, Expression, Node, Nodes, Origin, along_dots, along_header, array_table, at_found, at_key}
 use Rattle.toml.specs.Tables.{by_dot, by_header, close, close_node, define, define_as, dot_node, dotted, get_node, header, header_node, implicit}
 use Rattle.toml.specs.Tables.{insert, key_value, new_node, no_nodes, node, open_array, open_table, put, redefine, replace, std_table, value}

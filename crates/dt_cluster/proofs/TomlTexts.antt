@@ -1,6 +1,6 @@
 -- The texts and the numbers of a document of TOML: what is read of a string is no longer than what it is read from, an integer
 -- has 64 bits, and what follows is no longer than what was there. `TomlTables` goes on with tables.
-use Rattle.std.proofs.Common.{◌≡◌, ◌⊎◌, inl, inr, ℕ, zero, suc, ◌+◌, ◌<◌, ◌≤◌, ◌^◌, ◌==◌, ◌&&◌, ◌||◌, not, ℤ, pos, neg_ℤ, cond, unwrap_or, Bool, true}
+use Rattle.std.proofs.Common.{◌≡◌, inl, inr, ℕ, zero, suc, ◌+◌, ◌<◌, ◌≤◌, ◌^◌, ◌==◌, ◌&&◌, ◌||◌, not, ℤ, pos, unwrap_or, Bool, true}
 use Rattle.std.proofs.Common.{false, nat_lt, nat_le, List, [], ◌∷◌, ◌++◌, length, take, drop, codes, Option, Some, None, is_some, FitsSigned, refl}
 use Rattle.std.proofs.Common.{sym, ap, ◌∙◌, subst, arith}
 use Rattle.std.proofs.lemmas.Bool.{and_parts, cases_Bool, false≢true}
@@ -8,16 +8,15 @@ use Rattle.std.proofs.lemmas.Bool.Decides.{nat_tests}
 use Rattle.std.proofs.lemmas.List.{length-append, length-drop}
 use Rattle.std.proofs.lemmas.Option.{none-some, same_Some}
 use Rattle.std.proofs.lemmas.Str.{length-encode, len_utf8_bounds, len_utf8_ascii}
-use Rattle.std.specs.Prelude.{if◌then◌else◌, option_map, option_and_then, encode_utf8, slice_index}
+use Rattle.std.specs.Prelude.{if◌then◌else◌, option_map, option_and_then, encode_utf8}
 use Rattle.std.specs.Int.{w64}
 use Rattle.std.specs.Str.{bytes_eq}
 use Rattle.std.specs.Float.Ieee.{inf, nan}
-use Rattle.std.specs.List.{prefix_len, list_all}
-use Rattle.std.specs.Char.{is_digit}
+use Rattle.std.specs.List.{prefix_len}
 use Rattle.std.specs.Str.Parse.{digits_value}
 use Rattle.fast_float.specs.Text.{Parts, with_sign, scan, digits_of}
-use Rattle.toml_parser.specs.Lexical.{Read, dot, first, is_bare, is_non_eol, skip_ws, skip_from, skip_lines, skip_turn, split_while, starts_newline}
-use Rattle.toml_parser.specs.Strings.{Key, after_piece, at_delims, body, escape, escape_char, hex_escape, hex_len, is_plain, is_scalar, key}
+use Rattle.toml_parser.specs.Lexical.{Read, first, is_bare, is_non_eol, skip_ws, skip_from, skip_lines, skip_turn, starts_newline}
+use Rattle.toml_parser.specs.Strings.{Key, after_piece, at_delims, body, escape, escape_char, hex_escape, hex_len, is_plain, key}
 use Rattle.toml_parser.specs.Strings.{key_after, one_line, prepend, quoted, recursion_limit, simple_escape, simple_key, special, starts_string}
 use Rattle.toml_parser.specs.Strings.{trim_newline}
 use Rattle.toml_parser.specs.Numbers.{decimal_number, float_of, integer_of, is_decimal, looks_like_datetime, number, plain_number, prefixed_integer, radix_of, unquoted, word_len, word_value}

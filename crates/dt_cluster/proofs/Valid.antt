@@ -1,7 +1,6 @@
 -- What a file gives is a cluster that can be.
-use Rattle.std.proofs.Common.{◌≡◌, ◌⊎◌, inl, inr, ℕ, ◌<◌, ◌≤◌, ℤ, pos, Bool, true, false, ◌&&◌, ◌||◌, ◌==◌, nat_le, List, [], ◌∷◌, map, Option, Some, None}
-use Rattle.std.proofs.Common.{Ordering, Less, Equal, Greater, nat_cmp, refl, sym, ap, ◌∙◌, subst, arith, FitsSigned}
-use Rattle.std.specs.Int.{w64}
+use Rattle.std.proofs.Common.{◌≡◌, inl, ℕ, ◌<◌, ◌≤◌, true, ◌||◌, ◌==◌, List, [], ◌∷◌, map, Option, Some, None}
+use Rattle.std.proofs.Common.{Ordering, Less, Equal, nat_cmp, refl, sym, ap, ◌∙◌, arith}
 use Rattle.std.specs.Cmp.{tied_itself}
 use Rattle.std.proofs.lemmas.Cmp.{nat_list_cmp_total}
 use Rattle.std.proofs.lemmas.Bool.Decides.{nat_tests}
@@ -10,15 +9,15 @@ use Rattle.std.specs.List.{AllByRecursion}
 use Rattle.std.specs.List.Sorted.{IsStrictlySortedBy}
 use Rattle.dt_lists.specs.Lists.{AllIn, Distinct, Pairwise}
 use Rattle.dt_access.specs.Granules.{unit_of}
-use Rattle.dt_text.specs.Texts.{IsKey, IsStr}
+use Rattle.dt_text.specs.Texts.{IsKey}
 use Rattle.dt_text.specs.declared.value.Value.{Value}
 use Rattle.dt_text.specs.declared.value.Value.TheVariants.{Int, Text}
 use Rattle.dt_proc.specs.Sound.{AreProcs}
-use Rattle.toml.specs.Data.{Data, string, integer, float, boolean, datetime, array, table, Members, get_member}
+use Rattle.toml.specs.Data.{Data, string, integer, float, boolean, datetime, array, table, Members}
 use Rattle.dt_text.specs.Texts.{Bytes}
-use Rattle.dt_cluster.specs.Document.{Entry, AreEntries, AreEntriesAt}
+use Rattle.dt_cluster.specs.Document.{Entry, AreEntriesAt}
 use Rattle.dt_cluster.specs.Numbers.{NumberEntry, GivesNumber, within, regions_entry, version_entry, workers_entry, tries_entry, drop_entry, repeat_entry}
-use Rattle.dt_cluster.specs.Rows.{IsHome, IsRow, IsValue}
+use Rattle.dt_cluster.specs.Rows.{IsValue}
 use Rattle.dt_cluster.specs.File.{HasNumbers, HasHomes, HasRows}
 use Rattle.dt_cluster.specs.Valid.{IsRowValue, IsDrop, IsValidCluster}
 use Rattle.dt_cluster.specs.declared.cluster.Cluster.{Cluster}

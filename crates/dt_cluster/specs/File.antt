@@ -18,7 +18,6 @@ use Rattle.dt_cluster.specs.Rows.{IsHome, IsBadHome, IsRow, IsBadRow}
 use Rattle.dt_cluster.specs.declared.cluster.Cluster.{Cluster}
 use Rattle.dt_cluster.specs.declared.error.ClusterCause.{ClusterCause}
 use Rattle.dt_cluster.specs.declared.error.ClusterCause.TheVariants as cause
-use Rattle.dt_cluster.specs.declared.error.ClusterPlace.{ClusterPlace}
 use Rattle.dt_cluster.specs.declared.error.ClusterPlace.TheVariants as place
 use Rattle.dt_cluster.specs.declared.error.ClusterFault.{ClusterFault}
 

@@ -1,6 +1,6 @@
 -- The entries of a cluster file that hold numbers: which numbers each may have, what stands for it where it is absent,
 -- and what its fault is. Read next: `Rows`, for the other entries, and `File`, which puts all in their order.
-use Rattle.std.specs.Prelude.{◌≡◌, ℕ, Bool, true, false, ◌&&◌, ◌||◌, ◌==◌, nat_le, ℤ, pos, Option, Some, None, codes}
+use Rattle.std.specs.Prelude.{◌≡◌, ℕ, Bool, true, false, ◌&&◌, ◌||◌, ◌==◌, nat_le, pos, Option, Some, None, codes}
 use Rattle.toml.specs.Data.{Data, integer, Members, get_member}
 use Rattle.dt_text.specs.Texts.{Bytes}
 use Rattle.dt_cluster.specs.declared.error.ClusterCause.{ClusterCause}

@@ -1,15 +1,13 @@
 -- What of a workload file is decided: which words say a form, and what each need of a line comes to.
-use Rattle.std.proofs.Common.{◌≡◌, ◌≢◌, ◌⊎◌, inl, inr, ℕ, zero, suc, ◌<◌, ◌≤◌, ◌^◌, ℤ, pos, neg_ℤ, w64, FitsSigned, Bool, true, false, List, [], ◌∷◌, ◌++◌, map, length, get_or}
-use Rattle.std.proofs.Common.{codes, slice_get, Option, Some, None, refl, sym, ap, ap₂, ◌∙◌, subst, arith}
+use Rattle.std.proofs.Common.{◌≡◌, ◌≢◌, ◌⊎◌, inl, inr, ℕ, ◌<◌, ◌≤◌, ◌^◌, ℤ, pos, neg_ℤ, w64, FitsSigned, List, [], ◌∷◌, ◌++◌, map, get_or}
+use Rattle.std.proofs.Common.{codes, Option, Some, None, refl, sym, ap, ap₂, ◌∙◌, subst, arith}
 use Rattle.std.specs.Option.{SomeIff}
-use Rattle.std.specs.List.{list_all}
 use Rattle.std.specs.Fmt.{decimal, signed_decimal}
-use Rattle.std.specs.Str.Parse.{digits_value}
-use Rattle.dt_lists.specs.Lists.{AllIn, Has, Pairwise, Either}
-use Rattle.dt_lists.proofs.Callers.{either_not, either_and, either_and3, either_or, either_same, either_all, either_has, either_nat, either_le, either_true, either_list, same_head, same_tail}
-use Rattle.dt_text.specs.Texts.{IsKey, IsName, IsStr, is_key_byte, is_name_byte, is_text_byte}
+use Rattle.dt_lists.specs.Lists.{AllIn, Either}
+use Rattle.dt_lists.proofs.Callers.{either_and, either_or, either_same, either_all, either_nat, either_le, same_head, same_tail}
+use Rattle.dt_text.specs.Texts.{IsStr}
 use Rattle.dt_text.specs.Numbers.{ReadsSignedNumber}
-use Rattle.dt_text.proofs.Callers.{SpellsBelow, either_bytes, either_key, either_lt, either_name, either_spelled, either_str, minus_none, minus_some, plain_none, plain_some}
+use Rattle.dt_text.proofs.Callers.{SpellsBelow, either_bytes, either_lt, either_spelled, either_str, minus_none, minus_some, plain_none, plain_some}
 use Rattle.dt_text.specs.declared.Value.{Value}
 use Rattle.dt_text.specs.declared.Value.TheVariants.{Int, Text}
 use Rattle.dt_text.specs.Texts.{Bytes}

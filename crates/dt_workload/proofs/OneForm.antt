@@ -1,6 +1,6 @@
 -- A line has one form.
 use Rattle.std.proofs.Common.{inl, inr, ◌++◌, length, length-append, subst, ◌≡◌, ℕ, suc, ◌<◌, ℤ, pos, negsuc}
-use Rattle.std.proofs.Common.{List, [], ◌∷◌, map, drop, get_or, Some, FitsSigned, refl, sym, ap, ◌∙◌, arith}
+use Rattle.std.proofs.Common.{List, [], ◌∷◌, map, drop, get_or, FitsSigned, refl, sym, ap, ◌∙◌, arith}
 use Rattle.std.specs.Prelude.{codes}
 use Rattle.std.specs.Int.{w64}
 use Rattle.std.specs.Fmt.{decimal, signed_decimal}

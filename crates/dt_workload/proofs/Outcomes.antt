@@ -1,9 +1,9 @@
 -- Every file is a workload or has a fault: each line goes on the sessions of those before it, or is the first faulty one.
-use Rattle.std.proofs.Common.{◌≡◌, ◌≢◌, ◌⊎◌, inl, inr, ℕ, ◌<◌, Bool, true, List, [], ◌∷◌, ◌++◌, map, length, slice_get, Option, Some, None, IsSome, is_some}
-use Rattle.std.proofs.Common.{refl, sym, ap, ◌∙◌, subst, arith, append_assoc, append-nil}
+use Rattle.std.proofs.Common.{◌≡◌, ◌⊎◌, inl, inr, ℕ, ◌<◌, List, [], ◌∷◌, ◌++◌, map, slice_get, Option, Some, None, IsSome}
+use Rattle.std.proofs.Common.{refl, sym, ap, ◌∙◌, subst, append_assoc, append-nil}
 use Rattle.std.specs.Option.{option_and_then}
 use Rattle.std.proofs.lemmas.Option.{same_Some}
-use Rattle.dt_lists.specs.Lists.{AllIn, Has, Pairwise, Either}
+use Rattle.dt_lists.specs.Lists.{Has, Pairwise, Either}
 use Rattle.dt_lists.proofs.Callers.{either_and, either_not, either_all, either_has}
 use Rattle.dt_access.specs.Granules.{unit_of}
 use Rattle.dt_text.specs.Texts.{IsKey, IsName}
@@ -18,12 +18,12 @@ use Rattle.dt_proc.specs.Names.{place_of_name}
 use Rattle.dt_proc.specs.Sound.{IsSoundProc}
 use Rattle.dt_syntax.specs.declared.kinds.Kind.{Kind}
 use Rattle.dt_syntax.specs.declared.kinds.Kind.TheVariants as kind
-use Rattle.dt_eval.specs.Meaning.{IsOfKind, Fits, HasKeys, names_of}
+use Rattle.dt_eval.specs.Meaning.{IsOfKind, names_of}
 use Rattle.dt_eval.specs.Calls.{CallFits}
 use Rattle.dt_cluster.specs.declared.Cluster.{Cluster}
 use Rattle.dt_cluster.specs.Valid.{IsValidCluster}
 use Rattle.dt_text.specs.Texts.{Bytes}
-use Rattle.dt_workload.specs.Lines.{Said, said, Form, session_line, call_line, move_line, SpellForm, HasForm, IsForm}
+use Rattle.dt_workload.specs.Lines.{said, Form, session_line, call_line, move_line, SpellForm, HasForm, IsForm}
 use Rattle.dt_workload.specs.Valid.{IsMovable, session_names, session_count_at, calls_in}
 use Rattle.dt_workload.specs.File.{AreSessions, IsWorkload, Needs, NothingMore, FitsIf, GivesKeys, proc_name, proc_named}
 use Rattle.dt_workload.specs.File.{IsFormFault, IsLineFault, IsWorkloadFault}

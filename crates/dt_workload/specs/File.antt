@@ -2,7 +2,7 @@
 -- the first faulty one are some sessions, and that line's fault is the first of its causes in a fixed order, so each file
 -- is one workload or has one fault (`Laws`). The forms of lines are in `Lines`, and what a workload is in `Valid`. Read
 -- next: `Laws`.
-use Rattle.std.specs.Prelude.{◌≡◌, ◌⊎◌, ℕ, ◌<◌, List, [], ◌∷◌, ◌++◌, map, flat_map, length, slice_get, Option, Some, None, IsSome}
+use Rattle.std.specs.Prelude.{◌≡◌, ◌⊎◌, ℕ, ◌<◌, List, [], ◌∷◌, ◌++◌, map, flat_map, slice_get, Option, Some, None, IsSome}
 use Rattle.std.specs.Option.{option_and_then}
 use Rattle.dt_lists.specs.Lists.{Has, Pairwise}
 use Rattle.dt_text.specs.Texts.{IsName}

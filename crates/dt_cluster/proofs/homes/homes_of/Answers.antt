@@ -1,8 +1,8 @@
-use Rattle.std.proofs.Common.{◌≡◌, ◌∷◌, [], inl, inr, sym, ◌∙◌, subst, string_bytes}
+use Rattle.std.proofs.Common.{◌∷◌, [], inl, inr, sym, ◌∙◌, subst, string_bytes}
 use Rattle.toml.specs.View.{view}
 use Rattle.dt_lists.specs.Lists.{Pairwise}
 use Rattle.dt_cluster.specs.Rows.{IsHome}
-use Rattle.dt_cluster.specs.ReaderParts.{IsBadHomeOf, TellsFault}
+use Rattle.dt_cluster.specs.ReaderParts.{IsBadHomeOf}
 use Rattle.dt_cluster.proofs.Listing.{listed, listed_are, tells_more, err_passed, one_more, nothing_more}
 use Rattle.dt_cluster.proofs.homes.homes_of.Goals as goal
 

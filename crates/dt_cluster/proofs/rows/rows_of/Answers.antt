@@ -1,8 +1,8 @@
-use Rattle.std.proofs.Common.{◌≡◌, ◌∷◌, [], inl, inr, sym, ◌∙◌, subst, string_bytes}
+use Rattle.std.proofs.Common.{◌∷◌, [], inl, inr, sym, ◌∙◌, subst, string_bytes}
 use Rattle.toml.specs.View.{view}
 use Rattle.dt_lists.specs.Lists.{Pairwise}
 use Rattle.dt_cluster.specs.Rows.{IsRow}
-use Rattle.dt_cluster.specs.ReaderParts.{IsBadRowOf, TellsFault}
+use Rattle.dt_cluster.specs.ReaderParts.{IsBadRowOf}
 use Rattle.dt_cluster.proofs.Listing.{listed, listed_are, tells_more, err_passed, one_more, nothing_more}
 use Rattle.dt_cluster.proofs.rows.rows_of.Goals as goal
 

@@ -1,5 +1,5 @@
 -- The entries so far are the rows so far: what is left decides.
-use Rattle.std.proofs.Common.{ℕ, List, ◌++◌}
+use Rattle.std.proofs.Common.{List, ◌++◌}
 use Rattle.dt_lists.specs.Lists.{Pairwise}
 use Rattle.dt_text.specs.declared.value.Value.{Value}
 use Rattle.dt_text.specs.Texts.{Bytes}
