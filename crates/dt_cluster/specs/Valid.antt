@@ -20,8 +20,9 @@ IsRowValue (Text t) = IsStr t
 abbrev pub IsDrop : ℕ → Type 0
 IsDrop d = (d ≡ 0) ⊎ (2 ≤ d) × (d ≤ 1000)
 
--- a cluster that can be: its numbers are in their ranges, its procedures are sound, no key is listed twice for a home or for a
--- value, the keys that are listed for a home have one of their own (in version 2 they are granules), the listed homes are regions, and the listed values can stand in rows
+-- a cluster that can be: its version is 1 or 2, its other numbers are in their ranges, its procedures are sound, no key is
+-- listed twice for a home or for a value, the keys that are listed for a home are units (in version 2 they are granules),
+-- the listed homes are regions, and the listed values can stand in rows
 pub record IsValidCluster (cluster : Cluster) : Type 0 where
   pub some_version : 1 ≤ cluster.version
   pub known_version : cluster.version ≤ 2

@@ -21,8 +21,9 @@ use toml::Table;
 /// Reads a cluster file.
 ///
 /// The answer is the cluster that the file is, or its first fault. The faults are tried in this order: the bytes are no
-/// document of TOML; the least unknown name at the top; `regions`, `version`, `workers`, `tries`, `drop` and `repeat`; `procs`; `homes`,
-/// and then each of its names in ascending byte order; and `rows` in the same way. Names are compared by their bytes.
+/// document of TOML; the least unknown name at the top; `regions`, `version`, `workers`, `tries`, `drop` and `repeat`;
+/// `procs`; `homes`, and then each of its names in ascending byte order; and `rows` in the same way. Names are compared by
+/// their bytes.
 /// That a file is too long is told by who loads it.
 pub fn read_cluster(alloc: Global, bytes: &[u8]) -> Result<Cluster, ClusterError>
     requires short { length bytes.now < 2 ^ 32 }

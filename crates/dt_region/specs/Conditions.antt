@@ -20,7 +20,7 @@ use Rattle.dt_txn.specs.Replica.{taken_from}
 use Rattle.dt_region.specs.Region.{RegionState, held}
 use Rattle.dt_region.specs.Rules.{with_entries}
 
--- a table is one for so many regions: the homes that are listed for keys are regions, and keys were moved to regions
+-- a table is one for so many regions: the homes that are listed for units are regions, and units were moved to regions
 pub record IsTableFor (regions : ℕ) (table : Table) : Type 0 where
   pub sized : table.regions ≡ regions
   pub homes : AllIn (λ listed. listed.1 < regions) table.homes

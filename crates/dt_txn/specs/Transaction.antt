@@ -24,7 +24,7 @@ abbrev pub uses_of : List ProcTree → ℕ → Body → List (Bytes × Mode)
 uses_of procs version (Call proc args) = call_keys procs proc args
 uses_of procs version (Move key target) = (key, mode_of_move version) ∷ []
 
--- the keys alone, which are those of either version
+-- the keys that a body uses, without their modes: they are the same in both versions
 abbrev pub keys_used : List ProcTree → Body → List Bytes
 keys_used procs (Call proc args) = map (λ u. u.0) (call_keys procs proc args)
 keys_used procs (Move key target) = key ∷ []

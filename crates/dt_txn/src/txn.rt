@@ -31,7 +31,7 @@ impl Body {
 #[derive(Drop)]
 pub struct Txn {
     pub id: TxnId,
-    /// From 0 to 9. Of those that are deadlocked with each other the lesser one goes first.
+    /// From 0 to 9. Of transactions that are deadlocked with each other, the one of the lesser rank goes first.
     pub rank: u8,
     pub body: Body,
     /// The keys that it uses, in ascending order, with what the submitting region knew of them.

@@ -94,7 +94,8 @@ IsCallFault cluster before name args told =
     (Needs (GivesKeys (proc_named cluster name) args) cause.Key
     (Needs (calls_in before < 20000) cause.TooMany NothingMore)))) told
 
--- the fault of a move's line after some sessions: it needs a session before it, a key that can be moved, a region, and room for one more
+-- the fault of a move's line after some sessions: it needs a session before it, a key that can be moved, a region, and room
+-- for one more call or move
 abbrev pub IsMoveFault : Cluster → List Session → Bytes → ℕ → WorkloadCause → Type 0
 IsMoveFault cluster before key region told =
     Needs (¬ (before ≡ [])) cause.NoSession

@@ -19,7 +19,8 @@ use Rattle.dt_workload.specs.declared.workload.Workload.{Workload}
 abbrev pub IsMovable : ℕ → Bytes → Type 0
 IsMovable version key = IsKey key × (unit_of version key ≡ key)
 
--- a call names a procedure, which its arguments fit and by which they name keys; a move is of a key that can be moved, to a region
+-- a call names a procedure, which its arguments fit and by which they name keys; a move is of a key that can be moved, to a
+-- region
 abbrev pub WantedFits : Cluster → Wanted → Type 0
 WantedFits cluster (Call proc args) = CallFits cluster.procs proc args
 WantedFits cluster (Move key target) = IsMovable cluster.version key × (target < cluster.regions)
