@@ -95,15 +95,17 @@ fn parts_told(alloc: Global, version: u8, key: &[u8], target: u8) -> Result<Vec<
     Ok(out)
 }
 
+/// A version, a key, its target, and what is told of its move.
+const PARTS: [(u8, &[u8], u8, &[u8]); 4] = [
+    (1, b"b", 0, b"0 2 0^3:wb@0@2 2^3:wb@0@2 0^3:wb@0@2 "),
+    (1, b"a", 2, b"1 2 1^3:wa@1@2 2^3:wa@1@2 2^3:wa@1@2 "),
+    (1, b"b", 2, b"2 2^3:wb@2 2^3:wb@2 "),
+    (2, b"b", 0, b"0 2 0^3:Wb@0@2 2^3:Wb@0@2 0^3:Wb@0@2 "),
+];
+
 #[test]
 fn a_move_has_a_part_with_its_key_at_each_of_its_homes(rt: HostRuntime) -> Result<(), Fail> {
-    let rows: [(u8, &[u8], u8, &[u8]); 4] = [
-        (1, b"b", 0, b"0 2 0^3:wb@0@2 2^3:wb@0@2 0^3:wb@0@2 "),
-        (1, b"a", 2, b"1 2 1^3:wa@1@2 2^3:wa@1@2 2^3:wa@1@2 "),
-        (1, b"b", 2, b"2 2^3:wb@2 2^3:wb@2 "),
-        (2, b"b", 0, b"0 2 0^3:Wb@0@2 2^3:Wb@0@2 0^3:Wb@0@2 "),
-    ];
-    for (version, key, target, want) in rows {
+    for (version, key, target, want) in PARTS {
         assert_eq!(rt;
             parts_told(rt.alloc(), version, key, target)?.as_slice(),
             want
@@ -201,28 +203,30 @@ fn told(alloc: Global, version: u8, key: &[u8], is_moved: bool) -> Result<Vec<u8
     Ok(out)
 }
 
+/// A version, a key, whether `b` was moved, and what is told of a move of the key.
+const OUTCOMES: [(u8, &[u8], bool, &[u8]); 6] = [
+    (1, b"b", false, b"b 5 0 : gave 0, writes 0, moves b 0 2.0"),
+    (1, b"b", true, b"b 5 1 1.1: stale b 0 1.1, writes 0"),
+    (
+        1,
+        b"b/1",
+        true,
+        b"b/1  0 : gave 0, writes 0, moves b/1 0 2.0",
+    ),
+    (2, b"b", true, b"b 5 1 1.1: stale b 0 1.1, writes 0"),
+    // The unit is named, which need not be the key.
+    (2, b"b/1", true, b"b  1 1.1: stale b 0 1.1, writes 0"),
+    (
+        2,
+        b"b-1",
+        true,
+        b"b-1  0 : gave 0, writes 0, moves b-1 0 2.0",
+    ),
+];
+
 #[test]
 fn a_move_is_stale_after_another_of_its_unit(rt: HostRuntime) -> Result<(), Fail> {
-    let rows: [(u8, &[u8], bool, &[u8]); 6] = [
-        (1, b"b", false, b"b 5 0 : gave 0, writes 0, moves b 0 2.0"),
-        (1, b"b", true, b"b 5 1 1.1: stale b 0 1.1, writes 0"),
-        (
-            1,
-            b"b/1",
-            true,
-            b"b/1  0 : gave 0, writes 0, moves b/1 0 2.0",
-        ),
-        (2, b"b", true, b"b 5 1 1.1: stale b 0 1.1, writes 0"),
-        // The unit is named, which need not be the key.
-        (2, b"b/1", true, b"b  1 1.1: stale b 0 1.1, writes 0"),
-        (
-            2,
-            b"b-1",
-            true,
-            b"b-1  0 : gave 0, writes 0, moves b-1 0 2.0",
-        ),
-    ];
-    for (version, key, is_moved, want) in rows {
+    for (version, key, is_moved, want) in OUTCOMES {
         assert_eq!(rt; told(rt.alloc(), version, key, is_moved)?.as_slice(), want);
     }
     Ok(())

@@ -1,5 +1,5 @@
 //! Cases of worlds, each with what comes of its events.
-use crate::scripts::{Play, Script, add};
+use crate::scripts::{File, Play};
 use std::alloc::Global;
 use std::test::Fail;
 
@@ -248,27 +248,16 @@ const KEPT: &[&str] = &[
     "execute 1 2.0",
 ];
 
-/// A file of these lines.
-fn file_of(alloc: Global, lines: &[&str]) -> Result<Vec<u8>, Fail> {
-    let mut file = Vec::new(alloc);
-    for line in lines {
-        add(&mut file, line)?;
-    }
-    Ok(file)
-}
-
 /// The case, as it is tried.
 fn play_of(alloc: Global, case: &Case) -> Result<Play, Fail> {
-    let mut events = Script::new(alloc);
+    let mut play = Play::new(alloc);
+    play.cluster.add_all(case.cluster)?;
+    play.workload.add_all(case.workload)?;
     for line in case.events {
-        events.add(alloc, line)?;
+        play.events.add(line, &[])?;
     }
-    Ok(Play {
-        cluster: file_of(alloc, case.cluster)?,
-        workload: file_of(alloc, case.workload)?,
-        events,
-        report: file_of(alloc, case.report)?,
-    })
+    play.report.add_all(case.report)?;
+    Ok(play)
 }
 
 #[test]
@@ -283,6 +272,13 @@ fn events_are_refused_by_their_rules_and_the_others_reported(rt: HostRuntime) ->
         );
     }
     Ok(())
+}
+
+/// A text of these lines.
+fn file_of(alloc: Global, lines: &[&str]) -> Result<Vec<u8>, Fail> {
+    let mut file = File::new(alloc);
+    file.add_all(lines)?;
+    file.bytes()
 }
 
 #[test]

@@ -1,5 +1,5 @@
 //! Deadlocked groups of many members, with the report that is to come of each.
-use crate::scripts::{Play, Script, add};
+use crate::scripts::{File, Play, Script};
 use crate::sizes::{one_home_each, one_row_each};
 use std::alloc::Global;
 use std::test::Fail;
@@ -8,28 +8,22 @@ use std::test::Fail;
 /// to the row of the next one, and of the last region to that of the first. The ranks are one, or descend while the ids ascend.
 pub fn circle(alloc: Global, regions: u32, descending: bool) -> Result<Play, Fail> {
     let mut play = Play::new(alloc);
-    one_home_each(alloc, &mut play.cluster, regions)?;
-    add(&mut play.cluster, "[rows]")?;
+    one_home_each(&mut play.cluster, regions)?;
+    play.cluster.add("[rows]", &[])?;
     for region in 0..regions {
         let value = region.saturating_add(10);
-        let next = next_of(regions, region);
+        play.cluster.add("k# = #", &[region, value])?;
+        play.workload.add("session s# at #", &[region, region])?;
         let rank = if descending { 9 - region.min(9) } else { 5 };
-        add(
-            &mut play.cluster,
-            format!(in alloc; "k{region} = {value}")?.as_str(),
-        )?;
-        add(
-            &mut play.workload,
-            format!(in alloc; "session s{region} at {region}")?.as_str(),
-        )?;
-        let call = format!(in alloc; "call/{rank} xfer \"k{region}\" \"k{next}\" 1")?;
-        add(&mut play.workload, call.as_str())?;
+        let next = next_of(regions, region);
+        play.workload
+            .add("call/# xfer \"k#\" \"k#\" 1", &[rank, region, next])?;
     }
-    place_circle(alloc, &mut play.events, regions)?;
+    place_circle(&mut play.events, regions)?;
     for region in 0..regions {
         run_circle(alloc, &mut play.events, regions, descending, region)?;
     }
-    report_circle(alloc, &mut play.report, regions, descending)?;
+    report_circle(&mut play.report, regions, descending)?;
     Ok(play)
 }
 
@@ -39,7 +33,7 @@ fn next_of(regions: u32, region: u32) -> u32 {
     if next < regions { next } else { 0 }
 }
 
-/// The regions in the order in which their transfers run.
+/// The region whose transfer runs at this place.
 fn runs_at(regions: u32, descending: bool, place: u32) -> u32 {
     if descending {
         regions.saturating_sub(place).saturating_sub(1)
@@ -49,23 +43,13 @@ fn runs_at(regions: u32, descending: bool, place: u32) -> u32 {
 }
 
 /// Submits the transfers. Each home places first that of its own region, and then that of the region before it.
-fn place_circle(alloc: Global, events: &mut Script, regions: u32) -> Result<(), Fail> {
+fn place_circle(events: &mut Script, regions: u32) -> Result<(), Fail> {
     for region in 0..regions {
-        events.add(
-            alloc,
-            format!(in alloc; "submit {region} s{region}")?.as_str(),
-        )?;
-        events.add(
-            alloc,
-            format!(in alloc; "append {region} {region} 0")?.as_str(),
-        )?;
+        events.add("submit # s#", &[region, region])?;
+        events.add("append # # 0", &[region, region])?;
     }
     for region in 0..regions {
-        let next = next_of(regions, region);
-        events.add(
-            alloc,
-            format!(in alloc; "append {next} {region} 0")?.as_str(),
-        )?;
+        events.add("append # # 0", &[next_of(regions, region), region])?;
     }
     Ok(())
 }
@@ -78,36 +62,23 @@ fn run_circle(
     descending: bool,
     region: u32,
 ) -> Result<(), Fail> {
-    let mut ids = String::new(alloc);
+    let mut resolve = String::from_str(alloc, "resolve #")?;
     for other in 0..regions {
-        ids = format!(in alloc; "{ids} 1.{other}")?;
+        resolve = format!(in alloc; "{resolve} 1.{other}")?;
     }
+    let refused = format!(in alloc; "{resolve} !5")?;
     for home in 0..regions {
-        if home != region {
-            events.add(
-                alloc,
-                format!(in alloc; "deliver {region} {home} 0 2")?.as_str(),
-            )?;
-        }
-        events.add(alloc, format!(in alloc; "insert {region} {home}")?.as_str())?;
-        events.add(
-            alloc,
-            format!(in alloc; "resolve {region}{ids} !5")?.as_str(),
-        )?;
-        events.add(alloc, format!(in alloc; "insert {region} {home}")?.as_str())?;
+        events.add("deliver # # 0 2", &[region, home])?;
+        events.add("insert # #", &[region, home])?;
+        events.add(refused.as_str(), &[region])?;
+        events.add("insert # #", &[region, home])?;
     }
-    events.add(alloc, format!(in alloc; "resolve {region}{ids}")?.as_str())?;
+    events.add(resolve.as_str(), &[region])?;
     for place in 0..regions {
         let first = runs_at(regions, descending, place);
-        events.add(
-            alloc,
-            format!(in alloc; "execute {region} 1.{first}")?.as_str(),
-        )?;
+        events.add("execute # 1.#", &[region, first])?;
     }
-    events.add(
-        alloc,
-        format!(in alloc; "answer {region} s{region}")?.as_str(),
-    )
+    events.add("answer # s#", &[region, region])
 }
 
 /// What the transfer of a region leaves in the row that it takes from, and in the other one. The first to run takes from a row that
@@ -130,109 +101,74 @@ fn left(regions: u32, descending: bool, region: u32) -> (u32, u32) {
 }
 
 /// The report of the circle: each region answers its own session.
-fn report_circle(
-    alloc: Global,
-    report: &mut Vec<u8>,
-    regions: u32,
-    descending: bool,
-) -> Result<(), Fail> {
-    add(report, "replies")?;
+fn report_circle(report: &mut File, regions: u32, descending: bool) -> Result<(), Fail> {
+    report.add("replies", &[])?;
     for region in 0..regions {
         let (own, other) = left(regions, descending, region);
-        add(
-            report,
-            format!(in alloc; "reply s{region} 1 done {own} {other}")?.as_str(),
-        )?;
+        report.add("reply s# 1 done # #", &[region, own, other])?;
     }
-    add(report, "order")?;
+    report.add("order", &[])?;
     for place in 0..regions {
         let region = runs_at(regions, descending, place);
         let (own, other) = left(regions, descending, region);
-        let ran = format!(in alloc; "1.{region} s{region} 1 1 done {own} {other}")?;
-        add(report, ran.as_str())?;
+        report.add("1.# s# 1 1 done # #", &[region, region, own, other])?;
     }
-    one_row_each(alloc, report, regions)
+    one_row_each(report, regions)
 }
 
 /// Ten transfers of all ranks between two rows, by turns from the one and from the other, which all wait for each other: the lesser the
 /// id, the greater the rank.
 pub fn all_ranks(alloc: Global) -> Result<Play, Fail> {
     let mut play = Play::new(alloc);
-    for line in ["regions = 2", "[rows]", "a = 100", "b = 100"] {
-        add(&mut play.cluster, line)?;
-    }
+    play.cluster
+        .add_all(&["regions = 2", "[rows]", "a = 100", "b = 100"])?;
     for number in 0..10 {
         let region = number % 2;
-        let rank = 9 - number;
-        let keys = if region == 0 {
-            "\"b\" \"a\""
-        } else {
-            "\"a\" \"b\""
+        play.workload.add("session s# at #", &[number, region])?;
+        let call = match region {
+            0 => "call/# xfer \"b\" \"a\" #",
+            _ => "call/# xfer \"a\" \"b\" #",
         };
-        let amount = number + 1;
-        add(
-            &mut play.workload,
-            format!(in alloc; "session s{number} at {region}")?.as_str(),
-        )?;
-        let call = format!(in alloc; "call/{rank} xfer {keys} {amount}")?;
-        add(&mut play.workload, call.as_str())?;
+        play.workload.add(call, &[9 - number, number + 1])?;
     }
-    place_ranks(alloc, &mut play.events)?;
-    run_ranks(alloc, &mut play.events)?;
-    for line in RANKS_REPORT {
-        add(&mut play.report, line)?;
-    }
+    place_ranks(&mut play.events)?;
+    run_ranks(&mut play.events)?;
+    play.report.add_all(&RANKS_REPORT)?;
     Ok(play)
 }
 
 /// Submits the transfers. Each home places first those of its own region, and then those of the other.
-fn place_ranks(alloc: Global, events: &mut Script) -> Result<(), Fail> {
+fn place_ranks(events: &mut Script) -> Result<(), Fail> {
     for number in 0..10 {
         let region = number % 2;
-        let request = number / 2;
-        events.add(
-            alloc,
-            format!(in alloc; "submit {region} s{number}")?.as_str(),
-        )?;
-        events.add(
-            alloc,
-            format!(in alloc; "append {region} {region} {request}")?.as_str(),
-        )?;
+        events.add("submit # s#", &[region, number])?;
+        events.add("append # # #", &[region, region, number / 2])?;
     }
     for number in 0..10 {
         let region = number % 2;
-        let other = 1 - region;
-        let request = number / 2;
-        events.add(
-            alloc,
-            format!(in alloc; "append {other} {region} {request}")?.as_str(),
-        )?;
+        events.add("append # # #", &[1 - region, region, number / 2])?;
     }
     Ok(())
 }
 
 /// Region 0 has all of them, and runs the one of the least rank first.
-fn run_ranks(alloc: Global, events: &mut Script) -> Result<(), Fail> {
-    events.add(alloc, "deliver 0 1 0 10")?;
+fn run_ranks(events: &mut Script) -> Result<(), Fail> {
+    events.add("deliver 0 1 0 10", &[])?;
     for _ in 0..10 {
-        events.add(alloc, "insert 0 0")?;
-        events.add(alloc, "insert 0 1")?;
+        events.add("insert 0 0", &[])?;
+        events.add("insert 0 1", &[])?;
     }
-    for line in [
-        "execute 0 5.1 !6",
-        "resolve 0 1.0 1.1 !5",
-        "resolve 0 5.1 5.0 4.1 4.0 3.1 3.0 2.1 2.0 1.1 1.0 !5",
-        "resolve 0 1.0 1.1 2.0 2.1 3.0 3.1 4.0 4.1 5.0 5.1",
-    ] {
-        events.add(alloc, line)?;
-    }
+    events.add("execute 0 5.1 !6", &[])?;
+    events.add("resolve 0 1.0 1.1 !5", &[])?;
+    events.add("resolve 0 5.1 5.0 4.1 4.0 3.1 3.0 2.1 2.0 1.1 1.0 !5", &[])?;
+    events.add("resolve 0 1.0 1.1 2.0 2.1 3.0 3.1 4.0 4.1 5.0 5.1", &[])?;
     for behind in 0..5 {
         let id = 5 - behind;
-        events.add(alloc, format!(in alloc; "execute 0 {id}.0 !6")?.as_str())?;
-        events.add(alloc, format!(in alloc; "execute 0 {id}.1")?.as_str())?;
-        events.add(alloc, format!(in alloc; "execute 0 {id}.0")?.as_str())?;
+        events.add("execute 0 #.0 !6", &[id])?;
+        events.add("execute 0 #.1", &[id])?;
+        events.add("execute 0 #.0", &[id])?;
     }
-    events.add(alloc, "answer 0 s0")
+    events.add("answer 0 s0", &[])
 }
 
 /// The report of the transfers of all ranks.

@@ -1,43 +1,95 @@
 //! Cases that stand in texts: a cluster, its sessions, their events, and what is to come of them.
-use crate::worlds::{kept, put_refused, told};
+use crate::worlds::{kept, told};
+use dt_text::put_u64;
 use std::alloc::Global;
 use std::test::Fail;
+
+/// A text, line by line.
+#[derive(Drop)]
+pub struct File {
+    alloc: Global,
+    bytes: Vec<u8>,
+}
+
+impl File {
+    pub fn new(alloc: Global) -> Self {
+        File {
+            alloc,
+            bytes: Vec::new(alloc),
+        }
+    }
+
+    /// Adds a line, in which each `#` stands for the next of these numbers.
+    pub fn add(&mut self, line: &str, numbers: &[u32]) -> Result<(), Fail> {
+        self.fill(line.as_bytes(), numbers)
+    }
+
+    /// Adds these lines.
+    pub fn add_all(&mut self, lines: &[&str]) -> Result<(), Fail> {
+        for line in lines {
+            self.add(line, &[])?;
+        }
+        Ok(())
+    }
+
+    /// Adds what another text holds.
+    pub fn extend(&mut self, other: &File) -> Result<(), Fail> {
+        self.bytes.extend_from_slice(other.bytes.as_slice())?;
+        Ok(())
+    }
+
+    /// A copy of its bytes.
+    pub fn bytes(&self) -> Result<Vec<u8>, Fail> {
+        Ok(self.bytes.as_slice().to_vec(self.alloc)?)
+    }
+
+    fn fill(&mut self, line: &[u8], numbers: &[u32]) -> Result<(), Fail> {
+        let mut place: usize = 0;
+        for byte in line {
+            if *byte == b'#' {
+                if let Some(number) = numbers.get(place) {
+                    put_u64(self.alloc, &mut self.bytes, u64::from(*number))?;
+                }
+                place = place.saturating_add(1);
+            } else {
+                self.bytes.push(*byte)?;
+            }
+        }
+        self.bytes.push(b'\n')?;
+        Ok(())
+    }
+}
 
 /// Events as they are tried, and what is to come of them.
 #[derive(Drop)]
 pub struct Script {
     /// All events.
-    tried: Vec<u8>,
+    tried: File,
     /// The legal ones.
-    made: Vec<u8>,
+    made: File,
     /// The line and the rule of each of the others.
-    refused: Vec<u8>,
+    refused: File,
     lines: u32,
 }
 
 impl Script {
     pub fn new(alloc: Global) -> Self {
         Script {
-            tried: Vec::new(alloc),
-            made: Vec::new(alloc),
-            refused: Vec::new(alloc),
+            tried: File::new(alloc),
+            made: File::new(alloc),
+            refused: File::new(alloc),
             lines: 0,
         }
     }
 
-    /// Adds an event. Behind a `!` stands the rule by which it is refused.
-    pub fn add(&mut self, alloc: Global, line: &str) -> Result<(), Fail> {
+    /// Adds an event, in which each `#` stands for the next of these numbers. Behind a `!` stands the rule by which it is refused.
+    pub fn add(&mut self, line: &str, numbers: &[u32]) -> Result<(), Fail> {
         let event = event_of(line);
         self.lines = self.lines.saturating_add(1);
-        self.tried.extend_from_slice(event)?;
-        self.tried.push(b'\n')?;
+        self.tried.fill(event, numbers)?;
         match rule_of(line) {
-            Some(rule) => put_refused(alloc, &mut self.refused, self.lines, rule),
-            None => {
-                self.made.extend_from_slice(event)?;
-                self.made.push(b'\n')?;
-                Ok(())
-            }
+            Some(rule) => self.refused.add("line #: rule #", &[self.lines, rule]),
+            None => self.made.fill(event, numbers),
         }
     }
 }
@@ -52,48 +104,49 @@ fn event_of(line: &str) -> &[u8] {
 }
 
 /// The rule that stands in a line behind a `!`.
-fn rule_of(line: &str) -> Option<u8> {
+fn rule_of(line: &str) -> Option<u32> {
     let bytes = line.as_bytes();
     let place = bytes.iter().position(|byte| *byte == b'!')?;
     let digit = bytes.get(place + 1)?;
-    Some(digit.saturating_sub(b'0'))
+    Some(u32::from(digit.saturating_sub(b'0')))
 }
 
 /// A cluster, its sessions, their events, and the report that is to come of those that are legal, up to its events.
 #[derive(Drop)]
 pub struct Play {
-    pub cluster: Vec<u8>,
-    pub workload: Vec<u8>,
+    pub cluster: File,
+    pub workload: File,
     pub events: Script,
-    pub report: Vec<u8>,
+    pub report: File,
 }
 
 impl Play {
     pub fn new(alloc: Global) -> Self {
         Play {
-            cluster: Vec::new(alloc),
-            workload: Vec::new(alloc),
+            cluster: File::new(alloc),
+            workload: File::new(alloc),
             events: Script::new(alloc),
-            report: Vec::new(alloc),
+            report: File::new(alloc),
         }
     }
 
     /// What is to come of it: the line and the rule of each event that is refused, and the report of the others.
     pub fn wanted(&self, alloc: Global) -> Result<Vec<u8>, Fail> {
-        let mut want = self.events.refused.as_slice().to_vec(alloc)?;
-        want.extend_from_slice(self.report.as_slice())?;
-        want.extend_from_slice(b"events\n")?;
-        want.extend_from_slice(self.events.made.as_slice())?;
-        Ok(want)
+        let mut want = File::new(alloc);
+        want.extend(&self.events.refused)?;
+        want.extend(&self.report)?;
+        want.add("events", &[])?;
+        want.extend(&self.events.made)?;
+        want.bytes()
     }
 
     /// What comes of it.
     pub fn told(&self, alloc: Global) -> Result<Vec<u8>, Fail> {
         told(
             alloc,
-            self.cluster.as_slice(),
-            self.workload.as_slice(),
-            self.events.tried.as_slice(),
+            self.cluster.bytes.as_slice(),
+            self.workload.bytes.as_slice(),
+            self.events.tried.bytes.as_slice(),
         )
     }
 
@@ -101,16 +154,9 @@ impl Play {
     pub fn kept(&self, alloc: Global) -> Result<Vec<u8>, Fail> {
         kept(
             alloc,
-            self.cluster.as_slice(),
-            self.workload.as_slice(),
-            self.events.tried.as_slice(),
+            self.cluster.bytes.as_slice(),
+            self.workload.bytes.as_slice(),
+            self.events.tried.bytes.as_slice(),
         )
     }
-}
-
-/// Adds a line.
-pub fn add(file: &mut Vec<u8>, line: &str) -> Result<(), Fail> {
-    file.extend_from_slice(line.as_bytes())?;
-    file.push(b'\n')?;
-    Ok(())
 }

@@ -61,22 +61,28 @@ fn are_answered(alloc: Global, workload: &[u8], callers: &[&[u8]]) -> Result<boo
     Ok(sessions.all_answered())
 }
 
+/// A session with a call.
+const ONE: &[u8] = b"session x at 0\ncall get \"b\"\n";
+
+/// Two sessions here, one of them with two calls, and one at another region.
+const TWO: &[u8] =
+    b"session y at 0\ncall get \"b\"\ncall get \"b\"\nsession x at 0\ncall get \"b\"\nsession z at 1\ncall get \"b\"\n";
+
+/// Sessions, those that make calls, one after another, and whether all are answered then.
+const CALLERS: [(&[u8], &[&[u8]], bool); 8] = [
+    (b"", &[], true),
+    (b"session x at 0\n", &[], true),
+    (b"session z at 1\ncall get \"b\"\n", &[], true),
+    (ONE, &[], false),
+    (ONE, &[b"x"], true),
+    (TWO, &[b"y", b"y"], false),
+    (TWO, &[b"x", b"y"], false),
+    (TWO, &[b"y", b"x", b"y"], true),
+];
+
 #[test]
 fn all_are_answered_once_every_call_is(rt: HostRuntime) -> Result<(), Fail> {
-    let one = b"session x at 0\ncall get \"b\"\n";
-    let three =
-        b"session y at 0\ncall get \"b\"\ncall get \"b\"\nsession x at 0\ncall get \"b\"\nsession z at 1\ncall get \"b\"\n";
-    let rows: [(&[u8], &[&[u8]], bool); 8] = [
-        (b"", &[], true),
-        (b"session x at 0\n", &[], true),
-        (b"session z at 1\ncall get \"b\"\n", &[], true),
-        (one, &[], false),
-        (one, &[b"x"], true),
-        (three, &[b"y", b"y"], false),
-        (three, &[b"x", b"y"], false),
-        (three, &[b"y", b"x", b"y"], true),
-    ];
-    for (workload, callers, want) in rows {
+    for (workload, callers, want) in CALLERS {
         assert_eq!(rt; are_answered(rt.alloc(), workload, callers)?, want);
     }
     Ok(())

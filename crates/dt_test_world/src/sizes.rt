@@ -1,6 +1,6 @@
 //! Worlds of many members, made by loops, each with the report that is to come of it.
 use crate::circles::{all_ranks, circle};
-use crate::scripts::{Play, Script, add};
+use crate::scripts::{File, Play, Script};
 use crate::tries::tries_of_a_call;
 use std::alloc::Global;
 use std::test::Fail;
@@ -34,16 +34,19 @@ fn play_of(alloc: Global, size: Size) -> Result<Play, Fail> {
     }
 }
 
+/// Groups that are resolved.
+const GROUPS: [Size; 6] = [
+    Size::Circle(2, false),
+    Size::Circle(4, false),
+    Size::Circle(4, true),
+    Size::Circle(5, false),
+    Size::Circle(8, true),
+    Size::Ranks,
+];
+
 #[test]
 fn groups_have_many_members(rt: HostRuntime) -> Result<(), Fail> {
-    for size in [
-        Size::Circle(2, false),
-        Size::Circle(4, false),
-        Size::Circle(4, true),
-        Size::Circle(5, false),
-        Size::Circle(8, true),
-        Size::Ranks,
-    ] {
+    for size in GROUPS {
         let play = play_of(rt.alloc(), size)?;
         assert_eq!(rt;
             play.told(rt.alloc())?,
@@ -53,17 +56,20 @@ fn groups_have_many_members(rt: HostRuntime) -> Result<(), Fail> {
     }
     Ok(())
 }
+
+/// Calls of many homes, and calls of many tries, of which the last one succeeds or not.
+const CALLS: [Size; 6] = [
+    Size::Homes(1),
+    Size::Homes(3),
+    Size::Homes(8),
+    Size::Tries(2, 2),
+    Size::Tries(8, 7),
+    Size::Tries(8, 8),
+];
 
 #[test]
 fn calls_have_many_homes_and_tries(rt: HostRuntime) -> Result<(), Fail> {
-    for size in [
-        Size::Homes(1),
-        Size::Homes(3),
-        Size::Homes(8),
-        Size::Tries(2, 2),
-        Size::Tries(8, 7),
-        Size::Tries(8, 8),
-    ] {
+    for size in CALLS {
         let play = play_of(rt.alloc(), size)?;
         assert_eq!(rt;
             play.told(rt.alloc())?,
@@ -73,10 +79,13 @@ fn calls_have_many_homes_and_tries(rt: HostRuntime) -> Result<(), Fail> {
     }
     Ok(())
 }
+
+/// One session of many calls, and many sessions.
+const SESSIONS: [Size; 2] = [Size::Calls(1, 300), Size::Calls(320, 1)];
 
 #[test]
 fn sessions_make_many_calls(rt: HostRuntime) -> Result<(), Fail> {
-    for size in [Size::Calls(1, 300), Size::Calls(320, 1)] {
+    for size in SESSIONS {
         let play = play_of(rt.alloc(), size)?;
         assert_eq!(rt;
             play.told(rt.alloc())?,
@@ -87,9 +96,12 @@ fn sessions_make_many_calls(rt: HostRuntime) -> Result<(), Fail> {
     Ok(())
 }
 
+/// Granules of many rows, and of long names.
+const GRANULES: [Size; 3] = [Size::Rows(300, 1), Size::Rows(2, 124), Size::Rows(0, 128)];
+
 #[test]
 fn granules_have_many_rows(rt: HostRuntime) -> Result<(), Fail> {
-    for size in [Size::Rows(300, 1), Size::Rows(2, 124), Size::Rows(0, 128)] {
+    for size in GRANULES {
         let play = play_of(rt.alloc(), size)?;
         assert_eq!(rt;
             play.told(rt.alloc())?,
@@ -101,23 +113,21 @@ fn granules_have_many_rows(rt: HostRuntime) -> Result<(), Fail> {
 }
 
 /// The beginning of a cluster of so many regions, each the home of one key.
-pub fn one_home_each(alloc: Global, cluster: &mut Vec<u8>, regions: u32) -> Result<(), Fail> {
-    add(cluster, format!(in alloc; "regions = {regions}")?.as_str())?;
-    add(cluster, "[homes]")?;
+pub fn one_home_each(cluster: &mut File, regions: u32) -> Result<(), Fail> {
+    cluster.add("regions = #\n[homes]", &[regions])?;
     for home in 0..regions {
-        add(cluster, format!(in alloc; "k{home} = {home}")?.as_str())?;
+        cluster.add("k# = #", &[home, home])?;
     }
     Ok(())
 }
 
 /// The tables of all regions, each with the rows of all: a row has 10 more than the number of its home.
-pub fn one_row_each(alloc: Global, report: &mut Vec<u8>, regions: u32) -> Result<(), Fail> {
+pub fn one_row_each(report: &mut File, regions: u32) -> Result<(), Fail> {
     for region in 0..regions {
-        add(report, format!(in alloc; "table {region}")?.as_str())?;
+        report.add("table #", &[region])?;
         for home in 0..regions {
             let value = home.saturating_add(10);
-            let row = format!(in alloc; "k{home} = {value} home {home} moves 0")?;
-            add(report, row.as_str())?;
+            report.add("k# = # home # moves 0", &[home, value, home])?;
         }
     }
     Ok(())
@@ -126,120 +136,76 @@ pub fn one_row_each(alloc: Global, report: &mut Vec<u8>, regions: u32) -> Result
 /// A call that writes the key of each region, and runs in all of them.
 fn homes_of_a_call(alloc: Global, homes: u32) -> Result<Play, Fail> {
     let mut play = Play::new(alloc);
-    let mut keys = String::new(alloc);
-    let mut sets = String::new(alloc);
+    play.cluster.add("procs = '''proc wide(n: int)", &[])?;
     for home in 0..homes {
-        keys = format!(in alloc; "{keys} write a{home} = \"k{home}\";")?;
-        sets = format!(in alloc; "{sets} set a{home} = n + {home};")?;
+        play.cluster.add("write a# = \"k#\";", &[home, home])?;
     }
-    let wide = format!(in alloc; "procs = '''proc wide(n: int){keys} {{{sets} }}'''")?;
-    add(&mut play.cluster, wide.as_str())?;
-    one_home_each(alloc, &mut play.cluster, homes)?;
-    for line in ["session s at 0", "call wide 10"] {
-        add(&mut play.workload, line)?;
+    play.cluster.add("{", &[])?;
+    for home in 0..homes {
+        play.cluster.add("set a# = n + #;", &[home, home])?;
     }
-    events_of_homes(alloc, &mut play.events, homes)?;
-    for line in ["replies", "reply s 1 done", "order", "1.0 s 1 1 done"] {
-        add(&mut play.report, line)?;
-    }
-    one_row_each(alloc, &mut play.report, homes)?;
+    play.cluster.add("}'''", &[])?;
+    one_home_each(&mut play.cluster, homes)?;
+    play.workload.add_all(&["session s at 0", "call wide 10"])?;
+    events_of_homes(&mut play.events, homes)?;
+    play.report
+        .add_all(&["replies", "reply s 1 done", "order", "1.0 s 1 1 done"])?;
+    one_row_each(&mut play.report, homes)?;
     Ok(play)
 }
 
 /// The call has a part at each home, and no region runs it before it has the last one.
-fn events_of_homes(alloc: Global, events: &mut Script, homes: u32) -> Result<(), Fail> {
-    events.add(alloc, "submit 0 s")?;
+fn events_of_homes(events: &mut Script, homes: u32) -> Result<(), Fail> {
+    events.add("submit 0 s", &[])?;
     for home in 0..homes {
-        events.add(alloc, format!(in alloc; "append {home} 0 0")?.as_str())?;
+        events.add("append # 0 0", &[home])?;
     }
     for region in 0..homes {
         for home in 0..homes {
-            if home != region {
-                events.add(
-                    alloc,
-                    format!(in alloc; "deliver {region} {home} 0 1")?.as_str(),
-                )?;
-            }
-            events.add(
-                alloc,
-                format!(in alloc; "execute {region} 1.0 !6")?.as_str(),
-            )?;
-            events.add(alloc, format!(in alloc; "insert {region} {home}")?.as_str())?;
+            events.add("deliver # # 0 1", &[region, home])?;
+            events.add("execute # 1.0 !6", &[region])?;
+            events.add("insert # #", &[region, home])?;
         }
-        events.add(alloc, format!(in alloc; "execute {region} 1.0")?.as_str())?;
+        events.add("execute # 1.0", &[region])?;
     }
-    events.add(alloc, "answer 0 s")
+    events.add("answer 0 s", &[])
 }
 
 /// Sessions at up to five regions by turns, each with so many calls: puts of keys of their own, at home in the region of the session.
 /// One more region receives all logs whole.
 fn calls_of_sessions(alloc: Global, sessions: u32, calls: u32) -> Result<Play, Fail> {
     let mut play = Play::new(alloc);
+    let mut order = File::new(alloc);
     let homes = sessions.min(5);
-    let regions = homes + 1;
-    add(
-        &mut play.cluster,
-        format!(in alloc; "regions = {regions}\n[homes]")?.as_str(),
-    )?;
-    let mut order = b"order\n".to_vec(alloc)?;
-    add(&mut play.report, "replies")?;
+    play.cluster.add("regions = #\n[homes]", &[homes + 1])?;
+    play.report.add("replies", &[])?;
     for session in 0..sessions {
         let region = session % homes;
-        add(
-            &mut play.workload,
-            format!(in alloc; "session s{session} at {region}")?.as_str(),
-        )?;
+        play.workload.add("session s# at #", &[session, region])?;
         for call in 0..calls {
             let key = key_of(calls, session, call);
-            add(
-                &mut play.cluster,
-                format!(in alloc; "k{key} = {region}")?.as_str(),
-            )?;
-            let put = format!(in alloc; "call put \"k{key}\" {session}")?;
-            add(&mut play.workload, put.as_str())?;
-            let number = (session / homes).saturating_mul(calls).saturating_add(call);
-            let call = Call {
-                session,
-                region,
-                call,
-                number,
-            };
-            make_call(alloc, &mut play.events, call)?;
-            report_call(alloc, &mut play.report, &mut order, call)?;
+            play.cluster.add("k# = #", &[key, region])?;
+            play.workload.add("call put \"k#\" #", &[key, session])?;
+            let id = key_of(calls, session / homes, call).saturating_sub(999);
+            make_call(&mut play.events, session, region, id)?;
+            let number = call.saturating_add(1);
+            play.report.add("reply s# # done", &[session, number])?;
+            order.add("#.# s# # 1 done", &[id, region, session, number])?;
         }
     }
-    play.report.extend_from_slice(order.as_slice())?;
+    play.report.add("order", &[])?;
+    play.report.extend(&order)?;
     for home in 0..homes {
-        let length = (sessions / homes).saturating_mul(calls);
-        receive(alloc, &mut play.events, homes, home, length)?;
-        put_table(alloc, &mut play.report, home, (homes, sessions, calls))?;
+        receive(
+            &mut play.events,
+            homes,
+            home,
+            (sessions / homes).saturating_mul(calls),
+        )?;
+        put_table(&mut play.report, home, sessions, calls)?;
     }
-    add(
-        &mut play.report,
-        format!(in alloc; "table {homes}")?.as_str(),
-    )?;
+    play.report.add("table #", &[homes])?;
     Ok(play)
-}
-
-/// A region receives a log of this length whole, and inserts it.
-fn receive(
-    alloc: Global,
-    events: &mut Script,
-    region: u32,
-    home: u32,
-    length: u32,
-) -> Result<(), Fail> {
-    events.add(
-        alloc,
-        format!(in alloc; "deliver {region} {home} 0 {length}")?.as_str(),
-    )?;
-    for _ in 0..length {
-        events.add(alloc, format!(in alloc; "insert {region} {home}")?.as_str())?;
-    }
-    events.add(
-        alloc,
-        format!(in alloc; "insert {region} {home} !4")?.as_str(),
-    )
 }
 
 /// The number in the key of a call: keys of one length, which ascend as the sessions and their calls do.
@@ -250,84 +216,32 @@ fn key_of(calls: u32, session: u32, call: u32) -> u32 {
         .saturating_add(1000)
 }
 
-/// A call of a session: its number there, and its number in its region, both from 0.
-#[derive(Clone, Copy)]
-struct Call {
-    session: u32,
-    region: u32,
-    call: u32,
-    number: u32,
+/// The events by which a session makes its call, of this sequence number in its region.
+fn make_call(events: &mut Script, session: u32, region: u32, id: u32) -> Result<(), Fail> {
+    events.add("submit # s#", &[region, session])?;
+    events.add("append # # #", &[region, region, id.saturating_sub(1)])?;
+    events.add("insert # #", &[region, region])?;
+    events.add("execute # #.#", &[region, id, region])?;
+    events.add("answer # s#", &[region, session])
 }
 
-/// The events by which a session makes its call.
-fn make_call(alloc: Global, events: &mut Script, made: Call) -> Result<(), Fail> {
-    let Call {
-        session,
-        region,
-        number,
-        ..
-    } = made;
-    let id = number.saturating_add(1);
-    events.add(
-        alloc,
-        format!(in alloc; "submit {region} s{session}")?.as_str(),
-    )?;
-    events.add(
-        alloc,
-        format!(in alloc; "append {region} {region} {number}")?.as_str(),
-    )?;
-    events.add(
-        alloc,
-        format!(in alloc; "insert {region} {region}")?.as_str(),
-    )?;
-    events.add(
-        alloc,
-        format!(in alloc; "execute {region} {id}.{region}")?.as_str(),
-    )?;
-    events.add(
-        alloc,
-        format!(in alloc; "answer {region} s{session}")?.as_str(),
-    )
+/// A region receives a log of this length whole, and inserts it.
+fn receive(events: &mut Script, region: u32, home: u32, length: u32) -> Result<(), Fail> {
+    events.add("deliver # # 0 #", &[region, home, length])?;
+    for _ in 0..length {
+        events.add("insert # #", &[region, home])?;
+    }
+    events.add("insert # # !4", &[region, home])
 }
 
-/// Its reply and its place in the order.
-fn report_call(
-    alloc: Global,
-    replies: &mut Vec<u8>,
-    order: &mut Vec<u8>,
-    made: Call,
-) -> Result<(), Fail> {
-    let Call {
-        session,
-        region,
-        ..
-    } = made;
-    let id = made.number.saturating_add(1);
-    let call = made.call.saturating_add(1);
-    add(
-        replies,
-        format!(in alloc; "reply s{session} {call} done")?.as_str(),
-    )?;
-    add(
-        order,
-        format!(in alloc; "{id}.{region} s{session} {call} 1 done")?.as_str(),
-    )
-}
-
-/// The table of a region: the rows of its own sessions alone, as there are so many homes, sessions, and calls of each session.
-fn put_table(
-    alloc: Global,
-    report: &mut Vec<u8>,
-    region: u32,
-    (homes, sessions, calls): (u32, u32, u32),
-) -> Result<(), Fail> {
-    add(report, format!(in alloc; "table {region}")?.as_str())?;
+/// The table of a region: the rows of its own sessions alone.
+fn put_table(report: &mut File, region: u32, sessions: u32, calls: u32) -> Result<(), Fail> {
+    report.add("table #", &[region])?;
     for session in 0..sessions {
-        if session % homes.max(1) == region {
+        if session % 5 == region {
             for call in 0..calls {
                 let key = key_of(calls, session, call);
-                let row = format!(in alloc; "k{key} = {session} home {region} moves 0")?;
-                add(report, row.as_str())?;
+                report.add("k# = # home # moves 0", &[key, session, region])?;
             }
         }
     }
@@ -363,56 +277,43 @@ fn rows_of_a_granule(alloc: Global, rows: u32, width: u32) -> Result<Play, Fail>
     for _ in 0..width {
         name.push_str("b")?;
     }
-    add(&mut play.cluster, "regions = 2\nversion = 2\n[rows]")?;
+    let row = format!(in alloc; "\"{name}/#\" = #")?;
+    play.cluster.add("regions = 2\nversion = 2\n[rows]", &[])?;
     for number in 100..rows.saturating_add(100) {
-        add(
-            &mut play.cluster,
-            format!(in alloc; "\"{name}/{number}\" = {number}")?.as_str(),
-        )?;
+        play.cluster.add(row.as_str(), &[number, number])?;
     }
-    add(
-        &mut play.workload,
-        format!(in alloc; "session m at 0\nmove {name} to 1")?.as_str(),
+    let wants = format!(in alloc;
+        "session m at 0\nmove {name} to 1\nsession p at 0\ncall add \"{name}\" 5"
     )?;
-    add(
-        &mut play.workload,
-        format!(in alloc; "session p at 0\ncall add \"{name}\" 5")?.as_str(),
-    )?;
+    play.workload.add(wants.as_str(), &[])?;
     for line in MOVED {
-        play.events.add(alloc, line)?;
+        play.events.add(line, &[])?;
     }
     report_rows(alloc, &mut play.report, rows, name.as_str())?;
     Ok(play)
 }
 
 /// The report of it: region 0 has moved all rows, and region 1 none.
-fn report_rows(alloc: Global, report: &mut Vec<u8>, rows: u32, name: &str) -> Result<(), Fail> {
-    for line in [
+fn report_rows(alloc: Global, report: &mut File, rows: u32, name: &str) -> Result<(), Fail> {
+    report.add_all(&[
         "replies",
         "reply m 1 done",
         "reply p 1 done 5",
         "order",
         "1.0 m 1 1 done",
-    ] {
-        add(report, line)?;
-    }
-    add(
-        report,
-        format!(in alloc; "2.0 p 1 1 stale {name} had 0 by 1.0")?.as_str(),
-    )?;
-    add(report, "3.0 p 1 2 done 5\ntable 0")?;
-    add(
-        report,
-        format!(in alloc; "{name} = 5 home 1 moves 1")?.as_str(),
-    )?;
-    for number in 100..rows.saturating_add(100) {
-        let row = format!(in alloc; "{name}/{number} = {number} home 1 moves 1")?;
-        add(report, row.as_str())?;
-    }
-    add(report, "table 1")?;
-    for number in 100..rows.saturating_add(100) {
-        let row = format!(in alloc; "{name}/{number} = {number} home 0 moves 0")?;
-        add(report, row.as_str())?;
+    ])?;
+    let stale = format!(in alloc; "2.0 p 1 1 stale {name} had 0 by 1.0\n3.0 p 1 2 done 5")?;
+    report.add(stale.as_str(), &[])?;
+    let first = format!(in alloc; "table 0\n{name} = 5 home 1 moves 1")?;
+    report.add(first.as_str(), &[])?;
+    let row = format!(in alloc; "{name}/# = # home # moves #")?;
+    for region in 0..2 {
+        if region == 1 {
+            report.add("table 1", &[])?;
+        }
+        for number in 100..rows.saturating_add(100) {
+            report.add(row.as_str(), &[number, number, 1 - region, 1 - region])?;
+        }
     }
     Ok(())
 }
