@@ -251,13 +251,17 @@ const KEPT: &[&str] = &[
 /// The case, as it is tried.
 fn play_of(alloc: Global, case: &Case) -> Result<Play, Fail> {
     let mut play = Play::new(alloc);
+    fill(&mut play, case)?;
+    Ok(play)
+}
+
+fn fill(play: &mut Play, case: &Case) -> Result<(), Fail> {
     play.cluster.add_all(case.cluster)?;
     play.workload.add_all(case.workload)?;
     for line in case.events {
         play.events.add(line, &[])?;
     }
-    play.report.add_all(case.report)?;
-    Ok(play)
+    play.report.add_all(case.report)
 }
 
 #[test]

@@ -6,8 +6,7 @@ use std::test::Fail;
 
 /// Transfers in a circle, one at each of so many regions: from the row of its region, which has 10 more than the number of the region,
 /// to the row of the next one, and of the last region to that of the first. The ranks are one, or descend while the ids ascend.
-pub fn circle(alloc: Global, regions: u32, descending: bool) -> Result<Play, Fail> {
-    let mut play = Play::new(alloc);
+pub fn circle(alloc: Global, play: &mut Play, regions: u32, descending: bool) -> Result<(), Fail> {
     one_home_each(&mut play.cluster, regions)?;
     play.cluster.add("[rows]", &[])?;
     for region in 0..regions {
@@ -23,8 +22,7 @@ pub fn circle(alloc: Global, regions: u32, descending: bool) -> Result<Play, Fai
     for region in 0..regions {
         run_circle(alloc, &mut play.events, regions, descending, region)?;
     }
-    report_circle(&mut play.report, regions, descending)?;
-    Ok(play)
+    report_circle(&mut play.report, regions, descending)
 }
 
 /// The region after this one, and after the last one the first.
@@ -118,8 +116,7 @@ fn report_circle(report: &mut File, regions: u32, descending: bool) -> Result<()
 
 /// Ten transfers of all ranks between two rows, by turns from the one and from the other, which all wait for each other: the lesser the
 /// id, the greater the rank.
-pub fn all_ranks(alloc: Global) -> Result<Play, Fail> {
-    let mut play = Play::new(alloc);
+pub fn all_ranks(play: &mut Play) -> Result<(), Fail> {
     play.cluster
         .add_all(&["regions = 2", "[rows]", "a = 100", "b = 100"])?;
     for number in 0..10 {
@@ -133,8 +130,7 @@ pub fn all_ranks(alloc: Global) -> Result<Play, Fail> {
     }
     place_ranks(&mut play.events)?;
     run_ranks(&mut play.events)?;
-    play.report.add_all(&RANKS_REPORT)?;
-    Ok(play)
+    play.report.add_all(&RANKS_REPORT)
 }
 
 /// Submits the transfers. Each home places first those of its own region, and then those of the other.

@@ -118,6 +118,8 @@ pub struct Play {
     pub workload: File,
     pub events: Script,
     pub report: File,
+    /// The report from its order on, where that is made apart.
+    pub order: File,
 }
 
 impl Play {
@@ -127,17 +129,23 @@ impl Play {
             workload: File::new(alloc),
             events: Script::new(alloc),
             report: File::new(alloc),
+            order: File::new(alloc),
         }
     }
 
     /// What is to come of it: the line and the rule of each event that is refused, and the report of the others.
     pub fn wanted(&self, alloc: Global) -> Result<Vec<u8>, Fail> {
         let mut want = File::new(alloc);
+        self.put_wanted(&mut want)?;
+        want.bytes()
+    }
+
+    fn put_wanted(&self, want: &mut File) -> Result<(), Fail> {
         want.extend(&self.events.refused)?;
         want.extend(&self.report)?;
+        want.extend(&self.order)?;
         want.add("events", &[])?;
-        want.extend(&self.events.made)?;
-        want.bytes()
+        want.extend(&self.events.made)
     }
 
     /// What comes of it.

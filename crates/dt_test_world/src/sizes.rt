@@ -24,13 +24,19 @@ enum Size {
 
 /// The world of this size.
 fn play_of(alloc: Global, size: Size) -> Result<Play, Fail> {
+    let mut play = Play::new(alloc);
+    fill(alloc, &mut play, size)?;
+    Ok(play)
+}
+
+fn fill(alloc: Global, play: &mut Play, size: Size) -> Result<(), Fail> {
     match size {
-        Size::Circle(regions, descending) => circle(alloc, regions, descending),
-        Size::Ranks => all_ranks(alloc),
-        Size::Homes(homes) => homes_of_a_call(alloc, homes),
-        Size::Tries(tries, moves) => tries_of_a_call(alloc, tries, moves),
-        Size::Calls(sessions, calls) => calls_of_sessions(alloc, sessions, calls),
-        Size::Rows(rows, width) => rows_of_a_granule(alloc, rows, width),
+        Size::Circle(regions, descending) => circle(alloc, play, regions, descending),
+        Size::Ranks => all_ranks(play),
+        Size::Homes(homes) => homes_of_a_call(play, homes),
+        Size::Tries(tries, moves) => tries_of_a_call(play, tries, moves),
+        Size::Calls(sessions, calls) => calls_of_sessions(play, sessions, calls),
+        Size::Rows(rows, width) => rows_of_a_granule(alloc, play, rows, width),
     }
 }
 
@@ -134,8 +140,7 @@ pub fn one_row_each(report: &mut File, regions: u32) -> Result<(), Fail> {
 }
 
 /// A call that writes the key of each region, and runs in all of them.
-fn homes_of_a_call(alloc: Global, homes: u32) -> Result<Play, Fail> {
-    let mut play = Play::new(alloc);
+fn homes_of_a_call(play: &mut Play, homes: u32) -> Result<(), Fail> {
     play.cluster.add("procs = '''proc wide(n: int)", &[])?;
     for home in 0..homes {
         play.cluster.add("write a# = \"k#\";", &[home, home])?;
@@ -150,8 +155,7 @@ fn homes_of_a_call(alloc: Global, homes: u32) -> Result<Play, Fail> {
     events_of_homes(&mut play.events, homes)?;
     play.report
         .add_all(&["replies", "reply s 1 done", "order", "1.0 s 1 1 done"])?;
-    one_row_each(&mut play.report, homes)?;
-    Ok(play)
+    one_row_each(&mut play.report, homes)
 }
 
 /// The call has a part at each home, and no region runs it before it has the last one.
@@ -173,39 +177,30 @@ fn events_of_homes(events: &mut Script, homes: u32) -> Result<(), Fail> {
 
 /// Sessions at up to five regions by turns, each with so many calls: puts of keys of their own, at home in the region of the session.
 /// One more region receives all logs whole.
-fn calls_of_sessions(alloc: Global, sessions: u32, calls: u32) -> Result<Play, Fail> {
-    let mut play = Play::new(alloc);
-    let mut order = File::new(alloc);
+fn calls_of_sessions(play: &mut Play, sessions: u32, calls: u32) -> Result<(), Fail> {
     let homes = sessions.min(5);
     play.cluster.add("regions = #\n[homes]", &[homes + 1])?;
     play.report.add("replies", &[])?;
+    play.order.add("order", &[])?;
     for session in 0..sessions {
         let region = session % homes;
         play.workload.add("session s# at #", &[session, region])?;
         for call in 0..calls {
-            let key = key_of(calls, session, call);
-            play.cluster.add("k# = #", &[key, region])?;
-            play.workload.add("call put \"k#\" #", &[key, session])?;
             let id = key_of(calls, session / homes, call).saturating_sub(999);
-            make_call(&mut play.events, session, region, id)?;
-            let number = call.saturating_add(1);
-            play.report.add("reply s# # done", &[session, number])?;
-            order.add("#.# s# # 1 done", &[id, region, session, number])?;
+            make_call(
+                play,
+                key_of(calls, session, call),
+                (session, region),
+                (call, id),
+            )?;
         }
     }
-    play.report.add("order", &[])?;
-    play.report.extend(&order)?;
     for home in 0..homes {
-        receive(
-            &mut play.events,
-            homes,
-            home,
-            (sessions / homes).saturating_mul(calls),
-        )?;
-        put_table(&mut play.report, home, sessions, calls)?;
+        let length = (sessions / homes).saturating_mul(calls);
+        receive(&mut play.events, homes, home, length)?;
+        put_table(&mut play.order, home, sessions, calls)?;
     }
-    play.report.add("table #", &[homes])?;
-    Ok(play)
+    play.order.add("table #", &[homes])
 }
 
 /// The number in the key of a call: keys of one length, which ascend as the sessions and their calls do.
@@ -216,13 +211,25 @@ fn key_of(calls: u32, session: u32, call: u32) -> u32 {
         .saturating_add(1000)
 }
 
-/// The events by which a session makes its call, of this sequence number in its region.
-fn make_call(events: &mut Script, session: u32, region: u32, id: u32) -> Result<(), Fail> {
+/// A put of this key by a session: the call of this number, from 0, and of this sequence number in its region.
+fn make_call(
+    play: &mut Play,
+    key: u32,
+    (session, region): (u32, u32),
+    (call, id): (u32, u32),
+) -> Result<(), Fail> {
+    play.cluster.add("k# = #", &[key, region])?;
+    play.workload.add("call put \"k#\" #", &[key, session])?;
+    let events = &mut play.events;
     events.add("submit # s#", &[region, session])?;
     events.add("append # # #", &[region, region, id.saturating_sub(1)])?;
     events.add("insert # #", &[region, region])?;
     events.add("execute # #.#", &[region, id, region])?;
-    events.add("answer # s#", &[region, session])
+    events.add("answer # s#", &[region, session])?;
+    let number = call.saturating_add(1);
+    play.report.add("reply s# # done", &[session, number])?;
+    play.order
+        .add("#.# s# # 1 done", &[id, region, session, number])
 }
 
 /// A region receives a log of this length whole, and inserts it.
@@ -271,31 +278,27 @@ const MOVED: [&str; 18] = [
 ];
 
 /// A granule of so many rows, whose name is so long. It is moved, and the name itself, which is a key of it too, gets a value.
-fn rows_of_a_granule(alloc: Global, rows: u32, width: u32) -> Result<Play, Fail> {
-    let mut play = Play::new(alloc);
+fn rows_of_a_granule(alloc: Global, play: &mut Play, rows: u32, width: u32) -> Result<(), Fail> {
     let mut name = String::new(alloc);
     for _ in 0..width {
         name.push_str("b")?;
     }
-    let row = format!(in alloc; "\"{name}/#\" = #")?;
-    play.cluster.add("regions = 2\nversion = 2\n[rows]", &[])?;
-    for number in 100..rows.saturating_add(100) {
-        play.cluster.add(row.as_str(), &[number, number])?;
-    }
-    let wants = format!(in alloc;
-        "session m at 0\nmove {name} to 1\nsession p at 0\ncall add \"{name}\" 5"
-    )?;
-    play.workload.add(wants.as_str(), &[])?;
+    want_rows(alloc, play, name.as_str())?;
     for line in MOVED {
         play.events.add(line, &[])?;
     }
-    report_rows(alloc, &mut play.report, rows, name.as_str())?;
-    Ok(play)
+    let row = format!(in alloc; "{name}/#")?;
+    put_rows(alloc, play, rows, row.as_str())
 }
 
-/// The report of it: region 0 has moved all rows, and region 1 none.
-fn report_rows(alloc: Global, report: &mut File, rows: u32, name: &str) -> Result<(), Fail> {
-    report.add_all(&[
+/// The cluster but for its rows, what is wanted, and the report but for the rows.
+fn want_rows(alloc: Global, play: &mut Play, name: &str) -> Result<(), Fail> {
+    play.cluster.add("regions = 2\nversion = 2\n[rows]", &[])?;
+    let moved = format!(in alloc; "session m at 0\nmove {name} to 1")?;
+    play.workload.add(moved.as_str(), &[])?;
+    let added = format!(in alloc; "session p at 0\ncall add \"{name}\" 5")?;
+    play.workload.add(added.as_str(), &[])?;
+    play.report.add_all(&[
         "replies",
         "reply m 1 done",
         "reply p 1 done 5",
@@ -303,17 +306,20 @@ fn report_rows(alloc: Global, report: &mut File, rows: u32, name: &str) -> Resul
         "1.0 m 1 1 done",
     ])?;
     let stale = format!(in alloc; "2.0 p 1 1 stale {name} had 0 by 1.0\n3.0 p 1 2 done 5")?;
-    report.add(stale.as_str(), &[])?;
+    play.report.add(stale.as_str(), &[])?;
     let first = format!(in alloc; "table 0\n{name} = 5 home 1 moves 1")?;
-    report.add(first.as_str(), &[])?;
-    let row = format!(in alloc; "{name}/# = # home # moves #")?;
-    for region in 0..2 {
-        if region == 1 {
-            report.add("table 1", &[])?;
-        }
-        for number in 100..rows.saturating_add(100) {
-            report.add(row.as_str(), &[number, number, 1 - region, 1 - region])?;
-        }
+    play.report.add(first.as_str(), &[])?;
+    play.order.add("table 1", &[])
+}
+
+/// The rows, each with its number as its value: region 0 has moved all, and region 1 none.
+fn put_rows(alloc: Global, play: &mut Play, rows: u32, row: &str) -> Result<(), Fail> {
+    let opening = format!(in alloc; "\"{row}\" = #")?;
+    let shown = format!(in alloc; "{row} = # home # moves #")?;
+    for number in 100..rows.saturating_add(100) {
+        play.cluster.add(opening.as_str(), &[number, number])?;
+        play.report.add(shown.as_str(), &[number, number, 1, 1])?;
+        play.order.add(shown.as_str(), &[number, number, 0, 0])?;
     }
     Ok(())
 }

@@ -1,11 +1,9 @@
 //! Calls that are tried again and again, while their row is moved to and fro.
-use crate::scripts::{File, Play, Script};
-use std::alloc::Global;
+use crate::scripts::{Play, Script};
 use std::test::Fail;
 
 /// A put that may be tried so often, and as many moves of its row to and fro, or one less, each while the put is under way.
-pub fn tries_of_a_call(alloc: Global, tries: u32, moves: u32) -> Result<Play, Fail> {
-    let mut play = Play::new(alloc);
+pub fn tries_of_a_call(play: &mut Play, tries: u32, moves: u32) -> Result<(), Fail> {
     play.cluster.add("regions = 2", &[])?;
     play.cluster.add("tries = #", &[tries])?;
     play.workload.add("session m at 0", &[])?;
@@ -20,8 +18,7 @@ pub fn tries_of_a_call(alloc: Global, tries: u32, moves: u32) -> Result<Play, Fa
     }
     play.events.add("submit 0 p !1", &[])?;
     play.events.add("answer 0 p", &[])?;
-    report_tries(alloc, &mut play.report, tries, moves)?;
-    Ok(play)
+    report_tries(play, tries, moves)
 }
 
 /// How many requests the homes 0 and 1 were asked for by so many moves, each with a try.
@@ -83,27 +80,29 @@ fn try_alone(events: &mut Script, moves: u32) -> Result<(), Fail> {
 }
 
 /// The report of the tries and the moves.
-fn report_tries(alloc: Global, report: &mut File, tries: u32, moves: u32) -> Result<(), Fail> {
-    let mut order = File::new(alloc);
-    report.add("replies", &[])?;
+fn report_tries(play: &mut Play, tries: u32, moves: u32) -> Result<(), Fail> {
+    play.report.add("replies", &[])?;
+    play.order.add("order", &[])?;
     for number in 0..moves {
         let (id, last) = ids_of(number);
         let call = number.saturating_add(1);
-        report.add("reply m # done", &[call])?;
-        order.add("#.0 m # 1 done", &[id, call])?;
-        order.add("#.0 p 1 # stale b had # by #.0", &[last, call, number, id])?;
+        play.report.add("reply m # done", &[call])?;
+        play.order.add("#.0 m # 1 done", &[id, call])?;
+        play.order.add("#.0 p 1 # stale b had # by #.0", &[last, call, number, id])?;
     }
     if moves < tries {
         let (id, _) = ids_of(moves);
-        order.add("#.0 p 1 # done", &[id, tries])?;
-        order.add("table 0\nb = 7 home # moves #", &[moves % 2, moves])?;
-        report.add("reply p 1 done\norder", &[])?;
+        play.report.add("reply p 1 done", &[])?;
+        play.order.add("#.0 p 1 # done", &[id, tries])?;
+        play.order
+            .add("table 0\nb = 7 home # moves #", &[moves % 2, moves])?;
     } else {
         let number = moves.saturating_sub(1);
         let (id, _) = ids_of(number);
-        order.add("table 0\nb = none home # moves #", &[moves % 2, moves])?;
-        report.add("reply p 1 stale b had # by #.0\norder", &[number, id])?;
+        play.report
+            .add("reply p 1 stale b had # by #.0", &[number, id])?;
+        play.order
+            .add("table 0\nb = none home # moves #", &[moves % 2, moves])?;
     }
-    order.add("table 1", &[])?;
-    report.extend(&order)
+    play.order.add("table 1", &[])
 }
