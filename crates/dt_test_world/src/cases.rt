@@ -16,26 +16,29 @@ struct Case {
     report: &'static [&'static str],
 }
 
+/// The case of what is repeated.
+const REPEATING: Case = Case {
+    shows: "repeated requests and deliveries change nothing, and none is made up",
+    cluster: &["regions = 2"],
+    workload: TWO_PUTS,
+    events: REPEATED,
+    report: &[
+        "replies",
+        "reply x 1 done",
+        "order",
+        "2.0 y 1 1 done",
+        "1.0 x 1 1 done",
+        "table 0",
+        "b = 1 home 0 moves 0",
+        "d = 2 home 0 moves 0",
+        "table 1",
+        "d = 2 home 0 moves 0",
+    ],
+};
+
 /// The cases.
 const CASES: [Case; 5] = [
-    Case {
-        shows: "repeated requests and deliveries change nothing, and none is made up",
-        cluster: &["regions = 2"],
-        workload: TWO_PUTS,
-        events: REPEATED,
-        report: &[
-            "replies",
-            "reply x 1 done",
-            "order",
-            "2.0 y 1 1 done",
-            "1.0 x 1 1 done",
-            "table 0",
-            "b = 1 home 0 moves 0",
-            "d = 2 home 0 moves 0",
-            "table 1",
-            "d = 2 home 0 moves 0",
-        ],
-    },
+    REPEATING,
     Case {
         shows: "a session is answered by its own region alone",
         cluster: &["regions = 2"],
@@ -287,7 +290,7 @@ fn file_of(alloc: Global, lines: &[&str]) -> Result<Vec<u8>, Fail> {
 
 #[test]
 fn a_region_keeps_its_own_events_that_took_effect(rt: HostRuntime) -> Result<(), Fail> {
-    let kept = play_of(rt.alloc(), &CASES[0])?.kept(rt.alloc())?;
+    let kept = play_of(rt.alloc(), &REPEATING)?.kept(rt.alloc())?;
     assert_eq!(rt; kept, file_of(rt.alloc(), KEPT)?);
     Ok(())
 }

@@ -18,8 +18,8 @@ enum Size {
     Tries(u32, u32),
     /// Sessions at up to five regions, and the calls of each.
     Calls(u32, u32),
-    /// Rows of a granule, and the length of its name.
-    Rows(u32, u32),
+    /// Rows of a granule of this name.
+    Rows(u32, &'static str),
 }
 
 /// The world of this size.
@@ -36,8 +36,21 @@ fn fill(alloc: Global, play: &mut Play, size: Size) -> Result<(), Fail> {
         Size::Homes(homes) => homes_of_a_call(play, homes),
         Size::Tries(tries, moves) => tries_of_a_call(play, tries, moves),
         Size::Calls(sessions, calls) => calls_of_sessions(play, sessions, calls),
-        Size::Rows(rows, width) => rows_of_a_granule(alloc, play, rows, width),
+        Size::Rows(rows, name) => rows_of_a_granule(alloc, play, rows, name),
     }
+}
+
+/// Names of 124 and of 128 bytes. A key has at most 128.
+const LONG_NAME: &str =
+    "bbbbbbbbbbbbbbbbbbbbbbbbbbbbbbbbbbbbbbbbbbbbbbbbbbbbbbbbbbbbbbbbbbbbbbbbbbbbbbbbbbbbbbbbbbbbbbbbbbbbbbbbbbbbbbbbbbbbbbbbbbbb";
+
+const LONGEST_NAME: &str =
+    "bbbbbbbbbbbbbbbbbbbbbbbbbbbbbbbbbbbbbbbbbbbbbbbbbbbbbbbbbbbbbbbbbbbbbbbbbbbbbbbbbbbbbbbbbbbbbbbbbbbbbbbbbbbbbbbbbbbbbbbbbbbbbbbb";
+
+/// Whether all comes of the world of this size that is to come of it.
+fn comes_as_wanted(alloc: Global, size: Size) -> Result<bool, Fail> {
+    let play = play_of(alloc, size)?;
+    Ok(play.told(alloc)? == play.wanted(alloc)?)
 }
 
 /// Groups that are resolved.
@@ -53,67 +66,31 @@ const GROUPS: [Size; 6] = [
 #[test]
 fn groups_have_many_members(rt: HostRuntime) -> Result<(), Fail> {
     for size in GROUPS {
-        let play = play_of(rt.alloc(), size)?;
-        assert_eq!(rt;
-            play.told(rt.alloc())?,
-            play.wanted(rt.alloc())?,
-            "{size:?}"
-        );
+        assert!(rt; comes_as_wanted(rt.alloc(), size)?, "{size:?}");
     }
     Ok(())
 }
 
-/// Calls of many homes, and calls of many tries, of which the last one succeeds or not.
-const CALLS: [Size; 6] = [
+/// Calls of many homes; calls of many tries, of which the last one succeeds or not; one session of many calls, and many sessions; and
+/// granules of many rows, and of long names.
+const OTHERS: [Size; 11] = [
     Size::Homes(1),
     Size::Homes(3),
     Size::Homes(8),
     Size::Tries(2, 2),
     Size::Tries(8, 7),
     Size::Tries(8, 8),
+    Size::Calls(1, 300),
+    Size::Calls(320, 1),
+    Size::Rows(300, "b"),
+    Size::Rows(2, LONG_NAME),
+    Size::Rows(0, LONGEST_NAME),
 ];
 
 #[test]
-fn calls_have_many_homes_and_tries(rt: HostRuntime) -> Result<(), Fail> {
-    for size in CALLS {
-        let play = play_of(rt.alloc(), size)?;
-        assert_eq!(rt;
-            play.told(rt.alloc())?,
-            play.wanted(rt.alloc())?,
-            "{size:?}"
-        );
-    }
-    Ok(())
-}
-
-/// One session of many calls, and many sessions.
-const SESSIONS: [Size; 2] = [Size::Calls(1, 300), Size::Calls(320, 1)];
-
-#[test]
-fn sessions_make_many_calls(rt: HostRuntime) -> Result<(), Fail> {
-    for size in SESSIONS {
-        let play = play_of(rt.alloc(), size)?;
-        assert_eq!(rt;
-            play.told(rt.alloc())?,
-            play.wanted(rt.alloc())?,
-            "{size:?}"
-        );
-    }
-    Ok(())
-}
-
-/// Granules of many rows, and of long names.
-const GRANULES: [Size; 3] = [Size::Rows(300, 1), Size::Rows(2, 124), Size::Rows(0, 128)];
-
-#[test]
-fn granules_have_many_rows(rt: HostRuntime) -> Result<(), Fail> {
-    for size in GRANULES {
-        let play = play_of(rt.alloc(), size)?;
-        assert_eq!(rt;
-            play.told(rt.alloc())?,
-            play.wanted(rt.alloc())?,
-            "{size:?}"
-        );
+fn there_are_many_homes_tries_calls_sessions_and_rows(rt: HostRuntime) -> Result<(), Fail> {
+    for size in OTHERS {
+        assert!(rt; comes_as_wanted(rt.alloc(), size)?, "{size:?}");
     }
     Ok(())
 }
@@ -158,21 +135,26 @@ fn homes_of_a_call(play: &mut Play, homes: u32) -> Result<(), Fail> {
     one_row_each(&mut play.report, homes)
 }
 
-/// The call has a part at each home, and no region runs it before it has the last one.
+/// The call has a part at each home.
 fn events_of_homes(events: &mut Script, homes: u32) -> Result<(), Fail> {
     events.add("submit 0 s", &[])?;
     for home in 0..homes {
         events.add("append # 0 0", &[home])?;
     }
     for region in 0..homes {
-        for home in 0..homes {
-            events.add("deliver # # 0 1", &[region, home])?;
-            events.add("execute # 1.0 !6", &[region])?;
-            events.add("insert # #", &[region, home])?;
-        }
-        events.add("execute # 1.0", &[region])?;
+        run_call(events, homes, region)?;
     }
     events.add("answer 0 s", &[])
+}
+
+/// A region does not run the call before it has the last part.
+fn run_call(events: &mut Script, homes: u32, region: u32) -> Result<(), Fail> {
+    for home in 0..homes {
+        events.add("deliver # # 0 1", &[region, home])?;
+        events.add("execute # 1.0 !6", &[region])?;
+        events.add("insert # #", &[region, home])?;
+    }
+    events.add("execute # 1.0", &[region])
 }
 
 /// Sessions at up to five regions by turns, each with so many calls: puts of keys of their own, at home in the region of the session.
@@ -218,18 +200,22 @@ fn make_call(
     (session, region): (u32, u32),
     (call, id): (u32, u32),
 ) -> Result<(), Fail> {
+    let number = call.saturating_add(1);
     play.cluster.add("k# = #", &[key, region])?;
     play.workload.add("call put \"k#\" #", &[key, session])?;
-    let events = &mut play.events;
+    play.report.add("reply s# # done", &[session, number])?;
+    play.order
+        .add("#.# s# # 1 done", &[id, region, session, number])?;
+    run_put(&mut play.events, session, region, id)
+}
+
+/// The events by which the session makes its call.
+fn run_put(events: &mut Script, session: u32, region: u32, id: u32) -> Result<(), Fail> {
     events.add("submit # s#", &[region, session])?;
     events.add("append # # #", &[region, region, id.saturating_sub(1)])?;
     events.add("insert # #", &[region, region])?;
     events.add("execute # #.#", &[region, id, region])?;
-    events.add("answer # s#", &[region, session])?;
-    let number = call.saturating_add(1);
-    play.report.add("reply s# # done", &[session, number])?;
-    play.order
-        .add("#.# s# # 1 done", &[id, region, session, number])
+    events.add("answer # s#", &[region, session])
 }
 
 /// A region receives a log of this length whole, and inserts it.
@@ -277,40 +263,47 @@ const MOVED: [&str; 18] = [
     "answer 0 p",
 ];
 
-/// A granule of so many rows, whose name is so long. It is moved, and the name itself, which is a key of it too, gets a value.
-fn rows_of_a_granule(alloc: Global, play: &mut Play, rows: u32, width: u32) -> Result<(), Fail> {
-    let mut name = String::new(alloc);
-    for _ in 0..width {
-        name.push_str("b")?;
-    }
-    want_rows(alloc, play, name.as_str())?;
+/// A granule of this name, of so many rows. It is moved, and the name itself, which is a key of it too, gets a value.
+fn rows_of_a_granule(alloc: Global, play: &mut Play, rows: u32, name: &str) -> Result<(), Fail> {
+    play.cluster.add("regions = 2\nversion = 2\n[rows]", &[])?;
+    want_rows(alloc, &mut play.workload, name)?;
     for line in MOVED {
         play.events.add(line, &[])?;
     }
+    report_move(alloc, &mut play.report, name)?;
+    play.order.add("table 1", &[])?;
     let row = format!(in alloc; "{name}/#")?;
     put_rows(alloc, play, rows, row.as_str())
 }
 
-/// The cluster but for its rows, what is wanted, and the report but for the rows.
-fn want_rows(alloc: Global, play: &mut Play, name: &str) -> Result<(), Fail> {
-    play.cluster.add("regions = 2\nversion = 2\n[rows]", &[])?;
-    let moved = format!(in alloc; "session m at 0\nmove {name} to 1")?;
-    play.workload.add(moved.as_str(), &[])?;
-    let added = format!(in alloc; "session p at 0\ncall add \"{name}\" 5")?;
-    play.workload.add(added.as_str(), &[])?;
-    play.report.add_all(&[
-        "replies",
-        "reply m 1 done",
-        "reply p 1 done 5",
-        "order",
-        "1.0 m 1 1 done",
-    ])?;
-    let stale = format!(in alloc; "2.0 p 1 1 stale {name} had 0 by 1.0\n3.0 p 1 2 done 5")?;
-    play.report.add(stale.as_str(), &[])?;
-    let first = format!(in alloc; "table 0\n{name} = 5 home 1 moves 1")?;
-    play.report.add(first.as_str(), &[])?;
-    play.order.add("table 1", &[])
+/// A move of the granule, and a call of the key of its name.
+fn want_rows(alloc: Global, workload: &mut File, name: &str) -> Result<(), Fail> {
+    workload.add("session m at 0", &[])?;
+    workload.add(format!(in alloc; "move {name} to 1")?.as_str(), &[])?;
+    workload.add("session p at 0", &[])?;
+    workload.add(format!(in alloc; "call add \"{name}\" 5")?.as_str(), &[])
 }
+
+/// The report of them, up to the row of the name in the table of region 0.
+fn report_move(alloc: Global, report: &mut File, name: &str) -> Result<(), Fail> {
+    report.add_all(&MOVE_REPORT)?;
+    let stale = format!(in alloc; "2.0 p 1 1 stale {name} had 0 by 1.0")?;
+    report.add(stale.as_str(), &[])?;
+    report.add("3.0 p 1 2 done 5\ntable 0", &[])?;
+    report.add(
+        format!(in alloc; "{name} = 5 home 1 moves 1")?.as_str(),
+        &[],
+    )
+}
+
+/// The beginning of that report.
+const MOVE_REPORT: [&str; 5] = [
+    "replies",
+    "reply m 1 done",
+    "reply p 1 done 5",
+    "order",
+    "1.0 m 1 1 done",
+];
 
 /// The rows, each with its number as its value: region 0 has moved all, and region 1 none.
 fn put_rows(alloc: Global, play: &mut Play, rows: u32, row: &str) -> Result<(), Fail> {
