@@ -1,12 +1,12 @@
 //! Deadlocked groups of many members, with the report that is to come of each.
 use crate::scripts::{File, Play, Script};
 use crate::sizes::{one_home_each, one_row_each};
-use std::alloc::Global;
 use std::test::Fail;
 
 /// Transfers in a circle, one at each of so many regions: from the row of its region, which has 10 more than the number of the region,
-/// to the row of the next one, and of the last region to that of the first. The ranks are one, or descend while the ids ascend.
-pub fn circle(alloc: Global, play: &mut Play, regions: u32, descending: bool) -> Result<(), Fail> {
+/// to the row of the next one, and of the last region to that of the first. The ids are these; the ranks are one, or descend while the
+/// ids ascend.
+pub fn circle(play: &mut Play, regions: u32, ids: &str, descending: bool) -> Result<(), Fail> {
     one_home_each(&mut play.cluster, regions)?;
     play.cluster.add("[rows]", &[])?;
     for region in 0..regions {
@@ -20,7 +20,7 @@ pub fn circle(alloc: Global, play: &mut Play, regions: u32, descending: bool) ->
     }
     place_circle(&mut play.events, regions)?;
     for region in 0..regions {
-        run_circle(alloc, &mut play.events, regions, descending, region)?;
+        run_circle(&mut play.events, (regions, ids), descending, region)?;
     }
     report_circle(&mut play.report, regions, descending)
 }
@@ -52,26 +52,20 @@ fn place_circle(events: &mut Script, regions: u32) -> Result<(), Fail> {
     Ok(())
 }
 
-/// One region receives all logs, and resolves and runs the circle once it has all of them.
+/// One region receives all logs, and resolves and runs the circle, which has these ids, once it has all of them.
 fn run_circle(
-    alloc: Global,
     events: &mut Script,
-    regions: u32,
+    (regions, ids): (u32, &str),
     descending: bool,
     region: u32,
 ) -> Result<(), Fail> {
-    let mut resolve = String::from_str(alloc, "resolve #")?;
-    for other in 0..regions {
-        resolve = format!(in alloc; "{resolve} 1.{other}")?;
-    }
-    let refused = format!(in alloc; "{resolve} !5")?;
     for home in 0..regions {
         events.add("deliver # # 0 2", &[region, home])?;
         events.add("insert # #", &[region, home])?;
-        events.add(refused.as_str(), &[region])?;
+        events.add_named("resolve # $ !5", ids, &[region])?;
         events.add("insert # #", &[region, home])?;
     }
-    events.add(resolve.as_str(), &[region])?;
+    events.add_named("resolve # $", ids, &[region])?;
     for place in 0..regions {
         let first = runs_at(regions, descending, place);
         events.add("execute # 1.#", &[region, first])?;

@@ -21,7 +21,12 @@ impl File {
 
     /// Adds a line, in which each `#` stands for the next of these numbers.
     pub fn add(&mut self, line: &str, numbers: &[u32]) -> Result<(), Fail> {
-        self.fill(line.as_bytes(), numbers)
+        self.fill(line.as_bytes(), "", numbers)
+    }
+
+    /// Adds a line, in which each `$` stands for this name, and each `#` for the next of these numbers.
+    pub fn add_named(&mut self, line: &str, name: &str, numbers: &[u32]) -> Result<(), Fail> {
+        self.fill(line.as_bytes(), name, numbers)
     }
 
     /// Adds these lines.
@@ -43,16 +48,18 @@ impl File {
         Ok(self.bytes.as_slice().to_vec(self.alloc)?)
     }
 
-    fn fill(&mut self, line: &[u8], numbers: &[u32]) -> Result<(), Fail> {
+    fn fill(&mut self, line: &[u8], name: &str, numbers: &[u32]) -> Result<(), Fail> {
         let mut place: usize = 0;
         for byte in line {
-            if *byte == b'#' {
-                if let Some(number) = numbers.get(place) {
-                    put_u64(self.alloc, &mut self.bytes, u64::from(*number))?;
+            match *byte {
+                b'#' => {
+                    if let Some(number) = numbers.get(place) {
+                        put_u64(self.alloc, &mut self.bytes, u64::from(*number))?;
+                    }
+                    place = place.saturating_add(1);
                 }
-                place = place.saturating_add(1);
-            } else {
-                self.bytes.push(*byte)?;
+                b'$' => self.bytes.extend_from_slice(name.as_bytes())?,
+                other => self.bytes.push(other)?,
             }
         }
         self.bytes.push(b'\n')?;
@@ -84,12 +91,17 @@ impl Script {
 
     /// Adds an event, in which each `#` stands for the next of these numbers. Behind a `!` stands the rule by which it is refused.
     pub fn add(&mut self, line: &str, numbers: &[u32]) -> Result<(), Fail> {
+        self.add_named(line, "", numbers)
+    }
+
+    /// Adds an event, in which also each `$` stands for this name.
+    pub fn add_named(&mut self, line: &str, name: &str, numbers: &[u32]) -> Result<(), Fail> {
         let event = event_of(line);
         self.lines = self.lines.saturating_add(1);
-        self.tried.fill(event, numbers)?;
+        self.tried.fill(event, name, numbers)?;
         match rule_of(line) {
             Some(rule) => self.refused.add("line #: rule #", &[self.lines, rule]),
-            None => self.made.fill(event, numbers),
+            None => self.made.fill(event, name, numbers),
         }
     }
 }

@@ -8,8 +8,8 @@ use std::test::Fail;
 /// What is many.
 #[derive(Clone, Copy, Debug)]
 enum Size {
-    /// Transfers in a circle, one at each of so many regions; whether their ranks descend while their ids ascend.
-    Circle(u32, bool),
+    /// Transfers in a circle, one at each of so many regions; their ids, and whether their ranks descend while their ids ascend.
+    Circle(u32, &'static str, bool),
     /// Transfers of all ranks, which wait for each other.
     Ranks,
     /// A call over so many homes.
@@ -25,18 +25,18 @@ enum Size {
 /// The world of this size.
 fn play_of(alloc: Global, size: Size) -> Result<Play, Fail> {
     let mut play = Play::new(alloc);
-    fill(alloc, &mut play, size)?;
+    fill(&mut play, size)?;
     Ok(play)
 }
 
-fn fill(alloc: Global, play: &mut Play, size: Size) -> Result<(), Fail> {
+fn fill(play: &mut Play, size: Size) -> Result<(), Fail> {
     match size {
-        Size::Circle(regions, descending) => circle(alloc, play, regions, descending),
+        Size::Circle(regions, ids, descending) => circle(play, regions, ids, descending),
         Size::Ranks => all_ranks(play),
         Size::Homes(homes) => homes_of_a_call(play, homes),
         Size::Tries(tries, moves) => tries_of_a_call(play, tries, moves),
         Size::Calls(sessions, calls) => calls_of_sessions(play, sessions, calls),
-        Size::Rows(rows, name) => rows_of_a_granule(alloc, play, rows, name),
+        Size::Rows(rows, name) => rows_of_a_granule(play, rows, name),
     }
 }
 
@@ -55,11 +55,11 @@ fn comes_as_wanted(alloc: Global, size: Size) -> Result<bool, Fail> {
 
 /// Groups that are resolved.
 const GROUPS: [Size; 6] = [
-    Size::Circle(2, false),
-    Size::Circle(4, false),
-    Size::Circle(4, true),
-    Size::Circle(5, false),
-    Size::Circle(8, true),
+    Size::Circle(2, "1.0 1.1", false),
+    Size::Circle(4, "1.0 1.1 1.2 1.3", false),
+    Size::Circle(4, "1.0 1.1 1.2 1.3", true),
+    Size::Circle(5, "1.0 1.1 1.2 1.3 1.4", false),
+    Size::Circle(8, "1.0 1.1 1.2 1.3 1.4 1.5 1.6 1.7", true),
     Size::Ranks,
 ];
 
@@ -264,55 +264,51 @@ const MOVED: [&str; 18] = [
 ];
 
 /// A granule of this name, of so many rows. It is moved, and the name itself, which is a key of it too, gets a value.
-fn rows_of_a_granule(alloc: Global, play: &mut Play, rows: u32, name: &str) -> Result<(), Fail> {
+fn rows_of_a_granule(play: &mut Play, rows: u32, name: &str) -> Result<(), Fail> {
     play.cluster.add("regions = 2\nversion = 2\n[rows]", &[])?;
-    want_rows(alloc, &mut play.workload, name)?;
+    for line in MOVED_WORKLOAD {
+        play.workload.add_named(line, name, &[])?;
+    }
     for line in MOVED {
         play.events.add(line, &[])?;
     }
-    report_move(alloc, &mut play.report, name)?;
+    for line in MOVED_REPORT {
+        play.report.add_named(line, name, &[])?;
+    }
     play.order.add("table 1", &[])?;
-    let row = format!(in alloc; "{name}/#")?;
-    put_rows(alloc, play, rows, row.as_str())
+    put_rows(play, rows, name)
 }
 
 /// A move of the granule, and a call of the key of its name.
-fn want_rows(alloc: Global, workload: &mut File, name: &str) -> Result<(), Fail> {
-    workload.add("session m at 0", &[])?;
-    workload.add(format!(in alloc; "move {name} to 1")?.as_str(), &[])?;
-    workload.add("session p at 0", &[])?;
-    workload.add(format!(in alloc; "call add \"{name}\" 5")?.as_str(), &[])
-}
+const MOVED_WORKLOAD: [&str; 4] = [
+    "session m at 0",
+    "move $ to 1",
+    "session p at 0",
+    "call add \"$\" 5",
+];
 
 /// The report of them, up to the row of the name in the table of region 0.
-fn report_move(alloc: Global, report: &mut File, name: &str) -> Result<(), Fail> {
-    report.add_all(&MOVE_REPORT)?;
-    let stale = format!(in alloc; "2.0 p 1 1 stale {name} had 0 by 1.0")?;
-    report.add(stale.as_str(), &[])?;
-    report.add("3.0 p 1 2 done 5\ntable 0", &[])?;
-    report.add(
-        format!(in alloc; "{name} = 5 home 1 moves 1")?.as_str(),
-        &[],
-    )
-}
-
-/// The beginning of that report.
-const MOVE_REPORT: [&str; 5] = [
+const MOVED_REPORT: [&str; 9] = [
     "replies",
     "reply m 1 done",
     "reply p 1 done 5",
     "order",
     "1.0 m 1 1 done",
+    "2.0 p 1 1 stale $ had 0 by 1.0",
+    "3.0 p 1 2 done 5",
+    "table 0",
+    "$ = 5 home 1 moves 1",
 ];
 
 /// The rows, each with its number as its value: region 0 has moved all, and region 1 none.
-fn put_rows(alloc: Global, play: &mut Play, rows: u32, row: &str) -> Result<(), Fail> {
-    let opening = format!(in alloc; "\"{row}\" = #")?;
-    let shown = format!(in alloc; "{row} = # home # moves #")?;
+fn put_rows(play: &mut Play, rows: u32, name: &str) -> Result<(), Fail> {
     for number in 100..rows.saturating_add(100) {
-        play.cluster.add(opening.as_str(), &[number, number])?;
-        play.report.add(shown.as_str(), &[number, number, 1, 1])?;
-        play.order.add(shown.as_str(), &[number, number, 0, 0])?;
+        play.cluster
+            .add_named("\"$/#\" = #", name, &[number, number])?;
+        play.report
+            .add_named("$/# = # home 1 moves 1", name, &[number, number])?;
+        play.order
+            .add_named("$/# = # home 0 moves 0", name, &[number, number])?;
     }
     Ok(())
 }
