@@ -46,29 +46,35 @@ fn asked(
     })
 }
 
+/// A ring with a vertex behind it.
+const RING: &[(u32, u32)] = &[(0, 1), (1, 2), (2, 0), (2, 3)];
+
+/// Two rings, of which the one reaches the other by two equal edges, and an edge from a vertex to itself.
+const RINGS: &[(u32, u32)] = &[(3, 0), (0, 3), (1, 2), (2, 1), (3, 2), (3, 2), (1, 1)];
+
+/// Edges of a graph of four vertices, and what is asked of a vertex.
+const REACHED: [(&[(u32, u32)], Ask, u32, &[u32]); 16] = [
+    (RING, Ask::Class, 0, &[0, 1, 2]),
+    (RING, Ask::Class, 2, &[0, 1, 2]),
+    (RING, Ask::Class, 3, &[3]),
+    (RING, Ask::Behind, 0, &[0, 1, 2, 3]),
+    (RING, Ask::Behind, 3, &[3]),
+    (RING, Ask::Ahead, 3, &[0, 1, 2, 3]),
+    (RING, Ask::Ahead, 0, &[0, 1, 2]),
+    (RINGS, Ask::Class, 3, &[0, 3]),
+    (RINGS, Ask::Class, 1, &[1, 2]),
+    (RINGS, Ask::Behind, 0, &[0, 1, 2, 3]),
+    (RINGS, Ask::Behind, 1, &[1, 2]),
+    (RINGS, Ask::Ahead, 1, &[0, 1, 2, 3]),
+    (RINGS, Ask::Ahead, 3, &[0, 3]),
+    (&[], Ask::Behind, 1, &[1]),
+    (&[], Ask::Ahead, 1, &[1]),
+    (&[], Ask::Class, 1, &[1]),
+];
+
 #[test]
 fn reach_and_classes_of_small_graphs(rt: HostRuntime) -> Result<(), Fail> {
-    let ring = [(0, 1), (1, 2), (2, 0), (2, 3)];
-    let rings = [(3, 0), (0, 3), (1, 2), (2, 1), (3, 2), (3, 2), (1, 1)];
-    let rows: [(&[(u32, u32)], Ask, u32, &[u32]); 16] = [
-        (&ring, Ask::Class, 0, &[0, 1, 2]),
-        (&ring, Ask::Class, 2, &[0, 1, 2]),
-        (&ring, Ask::Class, 3, &[3]),
-        (&ring, Ask::Behind, 0, &[0, 1, 2, 3]),
-        (&ring, Ask::Behind, 3, &[3]),
-        (&ring, Ask::Ahead, 3, &[0, 1, 2, 3]),
-        (&ring, Ask::Ahead, 0, &[0, 1, 2]),
-        (&rings, Ask::Class, 3, &[0, 3]),
-        (&rings, Ask::Class, 1, &[1, 2]),
-        (&rings, Ask::Behind, 0, &[0, 1, 2, 3]),
-        (&rings, Ask::Behind, 1, &[1, 2]),
-        (&rings, Ask::Ahead, 1, &[0, 1, 2, 3]),
-        (&rings, Ask::Ahead, 3, &[0, 3]),
-        (&[], Ask::Behind, 1, &[1]),
-        (&[], Ask::Ahead, 1, &[1]),
-        (&[], Ask::Class, 1, &[1]),
-    ];
-    for (edges, ask, vertex, want) in rows {
+    for (edges, ask, vertex, want) in REACHED {
         assert_eq!(rt; asked(rt.alloc(), 4, edges, ask, vertex)?.as_slice(), want);
     }
     Ok(())
@@ -86,16 +92,18 @@ fn line(alloc: Global, vertices: u32, closed: bool) -> Result<Vec<(u32, u32)>, F
     Ok(edges)
 }
 
+/// Whether a line of 500 vertices is closed, what is asked of a vertex, and how many are told.
+const LINES: [(bool, Ask, u32, usize); 5] = [
+    (false, Ask::Behind, 0, 500),
+    (false, Ask::Behind, 499, 1),
+    (false, Ask::Ahead, 499, 500),
+    (false, Ask::Class, 250, 1),
+    (true, Ask::Class, 250, 500),
+];
+
 #[test]
 fn long_lines_are_followed_to_their_end(rt: HostRuntime) -> Result<(), Fail> {
-    let rows = [
-        (false, Ask::Behind, 0, 500),
-        (false, Ask::Behind, 499, 1),
-        (false, Ask::Ahead, 499, 500),
-        (false, Ask::Class, 250, 1),
-        (true, Ask::Class, 250, 500),
-    ];
-    for (closed, ask, vertex, want) in rows {
+    for (closed, ask, vertex, want) in LINES {
         let edges = line(rt.alloc(), 500, closed)?;
         let found = asked(rt.alloc(), 500, edges.as_slice(), ask, vertex)?;
         assert_eq!(rt; found.len(), want);
@@ -131,22 +139,25 @@ fn source(
     })
 }
 
+/// Two rings, of which the one reaches the other by one edge.
+const JOINED: &[(u32, u32)] = &[(1, 2), (2, 1), (3, 2), (3, 0), (0, 3)];
+
+/// Edges of a graph of four vertices, those that are blocked, and the class that comes first.
+const SOURCES: [(&[(u32, u32)], &[u32], &[u32]); 9] = [
+    (RING, &[], &[0, 1, 2]),
+    (RING, &[3], &[0, 1, 2]),
+    (RING, &[1], &[]),
+    (JOINED, &[], &[0, 3]),
+    (JOINED, &[1, 2], &[0, 3]),
+    (JOINED, &[0], &[]),
+    (&[(3, 3)], &[0, 1, 2], &[3]),
+    (&[], &[0, 2, 3], &[1]),
+    (&[], &[0, 1, 2, 3], &[]),
+];
+
 #[test]
 fn classes_that_nothing_outside_reaches(rt: HostRuntime) -> Result<(), Fail> {
-    let ring = [(0, 1), (1, 2), (2, 0), (2, 3)];
-    let rings = [(1, 2), (2, 1), (3, 2), (3, 0), (0, 3)];
-    let rows: [(&[(u32, u32)], &[u32], &[u32]); 9] = [
-        (&ring, &[], &[0, 1, 2]),
-        (&ring, &[3], &[0, 1, 2]),
-        (&ring, &[1], &[]),
-        (&rings, &[], &[0, 3]),
-        (&rings, &[1, 2], &[0, 3]),
-        (&rings, &[0], &[]),
-        (&[(3, 3)], &[0, 1, 2], &[3]),
-        (&[], &[0, 2, 3], &[1]),
-        (&[], &[0, 1, 2, 3], &[]),
-    ];
-    for (edges, blocked, want) in rows {
+    for (edges, blocked, want) in SOURCES {
         assert_eq!(rt; source(rt.alloc(), 4, edges, blocked)?.as_slice(), want);
     }
     Ok(())

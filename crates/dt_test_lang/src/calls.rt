@@ -165,39 +165,44 @@ fn told(
     ends(alloc, body, arguments.as_slice(), values.as_slice())
 }
 
+/// The least number, and the greatest.
+const LEAST: &[u8] = b"-9223372036854775808";
+
+const MOST: &[u8] = b"9223372036854775807";
+
+/// Calls of built-in procedures: the name, the arguments, the values of the rows, and what the call comes to.
+const BUILT_IN: [(&[u8], &[u8], &[u8], &[u8]); 26] = [
+    (b"put", b"b 7", b"-", b"wb gave;b=7"),
+    (b"put", b"b 7", b"7", b"wb gave;b=7"),
+    (b"note", b"b x", b"1", b"wb gave;b=\"x\""),
+    (b"get", b"b", b"7", b"rb gave 7"),
+    (b"get", b"b", b"-", b"rb gave none"),
+    (b"del", b"b", b"7", b"wb gave;b=none"),
+    (b"add", b"b 1", b"-", b"wb gave 1;b=1"),
+    (b"add", b"b 1", b"4", b"wb gave 5;b=5"),
+    (b"add", b"b 1", MOST, b"wb overflow"),
+    (b"add", b"b 1", b"x", b"wb kind"),
+    (b"div", b"b 2", b"-7", b"rb gave -3"),
+    (b"div", b"b 2", b"-", b"rb kind"),
+    (b"div", b"b 0", b"9", b"rb zero"),
+    (b"div", b"b -1", LEAST, b"rb overflow"),
+    (b"sum", b"y x", b"1 20", b"rx ry gave 21"),
+    (b"sum", b"x x", b"4", b"rx gave 8"),
+    (b"sum", b"A A", b"-", b"declaration 0 gives no key"),
+    (b"sum", b"x A", b"-", b"declaration 1 gives no key"),
+    (b"sum", b"x", b"-", b"unfit"),
+    (b"xfer", b"b a 3", b"1 5", b"wa wb gave 2 4;a=4;b=2"),
+    (b"xfer", b"b a 3", b"1 2", b"wa wb word funds"),
+    (b"xfer", b"b a 3", b"- 5", b"wa wb kind"),
+    (b"xfer", b"b b 3", b"5", b"wb gave 5 5;b=5"),
+    (b"xfer", b"a a 1", b"-", b"wa kind"),
+    (b"put", b"b c", b"-", b"unfit"),
+    (b"get", b"b 1", b"-", b"unfit"),
+];
+
 #[test]
 fn calls_of_built_in_procedures_end_as_their_texts_say(rt: HostRuntime) -> Result<(), Fail> {
-    let least: &[u8] = b"-9223372036854775808";
-    let most: &[u8] = b"9223372036854775807";
-    let calls: [(&[u8], &[u8], &[u8], &[u8]); 26] = [
-        (b"put", b"b 7", b"-", b"wb gave;b=7"),
-        (b"put", b"b 7", b"7", b"wb gave;b=7"),
-        (b"note", b"b x", b"1", b"wb gave;b=\"x\""),
-        (b"get", b"b", b"7", b"rb gave 7"),
-        (b"get", b"b", b"-", b"rb gave none"),
-        (b"del", b"b", b"7", b"wb gave;b=none"),
-        (b"add", b"b 1", b"-", b"wb gave 1;b=1"),
-        (b"add", b"b 1", b"4", b"wb gave 5;b=5"),
-        (b"add", b"b 1", most, b"wb overflow"),
-        (b"add", b"b 1", b"x", b"wb kind"),
-        (b"div", b"b 2", b"-7", b"rb gave -3"),
-        (b"div", b"b 2", b"-", b"rb kind"),
-        (b"div", b"b 0", b"9", b"rb zero"),
-        (b"div", b"b -1", least, b"rb overflow"),
-        (b"sum", b"y x", b"1 20", b"rx ry gave 21"),
-        (b"sum", b"x x", b"4", b"rx gave 8"),
-        (b"sum", b"A A", b"-", b"declaration 0 gives no key"),
-        (b"sum", b"x A", b"-", b"declaration 1 gives no key"),
-        (b"sum", b"x", b"-", b"unfit"),
-        (b"xfer", b"b a 3", b"1 5", b"wa wb gave 2 4;a=4;b=2"),
-        (b"xfer", b"b a 3", b"1 2", b"wa wb word funds"),
-        (b"xfer", b"b a 3", b"- 5", b"wa wb kind"),
-        (b"xfer", b"b b 3", b"5", b"wb gave 5 5;b=5"),
-        (b"xfer", b"a a 1", b"-", b"wa kind"),
-        (b"put", b"b c", b"-", b"unfit"),
-        (b"get", b"b 1", b"-", b"unfit"),
-    ];
-    for (name, line, rows, want) in calls {
+    for (name, line, rows, want) in BUILT_IN {
         assert_eq!(rt; told(rt.alloc(), b"", name, line, rows)?.as_slice(), want);
     }
     Ok(())

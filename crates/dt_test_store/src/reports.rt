@@ -114,19 +114,21 @@ fn wanted(alloc: Global, words: &str) -> Result<String, Fail> {
     Ok(format!(in alloc; "{replies}{order}table 0\nc = none home 1 moves 2\ntable 1\nevents\n")?)
 }
 
+/// Outcomes, each with its words.
+const WORDS: [(What, &str); 8] = [
+    (What::Gave, "done 7 -13 none \"x\\\"\\\\y\""),
+    (What::GaveNothing, "done"),
+    (What::Funds, "abort \"funds\""),
+    (What::Overflow, "abort overflow"),
+    (What::Zero, "abort zero"),
+    (What::Kind, "abort kind"),
+    (What::Long, "abort long"),
+    (What::Stale, "stale b had 0 by 1.5"),
+];
+
 #[test]
 fn each_outcome_has_its_words_in_a_report(rt: HostRuntime) -> Result<(), Fail> {
-    let rows = [
-        (What::Gave, "done 7 -13 none \"x\\\"\\\\y\""),
-        (What::GaveNothing, "done"),
-        (What::Funds, "abort \"funds\""),
-        (What::Overflow, "abort overflow"),
-        (What::Zero, "abort zero"),
-        (What::Kind, "abort kind"),
-        (What::Long, "abort long"),
-        (What::Stale, "stale b had 0 by 1.5"),
-    ];
-    for (what, words) in rows {
+    for (what, words) in WORDS {
         assert_eq!(rt;
             told(rt.alloc(), what, 1)?.as_slice(),
             wanted(rt.alloc(), words)?.as_bytes()

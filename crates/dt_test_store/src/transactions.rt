@@ -1,9 +1,8 @@
 //! Transactions that move a key: their homes and parts, and what they come to.
 //!
 //! In version 1 a key is moved alone, in version 2 with all keys of its granule.
-ghost use Rattle.std.specs.Prelude.{◌≡◌, IfOk, map};
-ghost use Rattle.dt_access.specs.Orders.{HasAscendingKeys};
-ghost use Rattle.dt_txn.specs.Transaction.{CanRun, HasItsUses, used_of};
+ghost use Rattle.std.specs.Prelude.{◌≡◌, IfOk};
+ghost use Rattle.dt_txn.specs.Transaction.{CanRun, HasItsUses};
 
 use crate::rows::{is_unit, key_of};
 use dt_access::{Mode, Part, TxnId, Writes, put_id};
@@ -45,7 +44,6 @@ fn moved(alloc: Global, version: u8) -> Result<Table, Fail> {
 fn a_move(alloc: Global, procs: &Procs, version: u8, key: &[u8], target: u8) -> Result<Txn, Fail>
     ensures body { IfOk result (λ txn. CanRun procs.now txn.body) }
     ensures uses { IfOk result (λ txn. HasItsUses procs.now txn) }
-    ensures ascending { IfOk result (λ txn. HasAscendingKeys (map used_of txn.access)) }
 {
     let body = Body::Move(key_of(alloc, key)?, target);
     let table = opened(alloc, version)?;
@@ -79,31 +77,38 @@ fn put_part(alloc: Global, out: &mut Vec<u8>, part: &Part) -> Result<(), NoMemor
     Ok(())
 }
 
+/// Adds the homes of a transaction, its parts, and its part at a home.
+fn put_parts(alloc: Global, out: &mut Vec<u8>, txn: &Txn, target: u8) -> Result<(), NoMemory> {
+    for home in homes(alloc, txn)?.as_slice() {
+        put_u64(alloc, out, u64::from(*home))?;
+        out.push(b' ')?;
+    }
+    for part in parts(alloc, txn)? {
+        put_part(alloc, out, &part)?;
+    }
+    put_part(alloc, out, &part_at(alloc, txn, target)?)
+}
+
 /// The homes of a move, its parts, and its part at its target, in words.
 fn parts_told(alloc: Global, version: u8, key: &[u8], target: u8) -> Result<Vec<u8>, Fail> {
     let procs = builtin_procs(alloc)?;
     let txn = a_move(alloc, &procs, version, key, target)?;
     let mut out = Vec::new(alloc);
-    for home in homes(alloc, &txn.copy(alloc)?)?.as_slice() {
-        put_u64(alloc, &mut out, u64::from(*home))?;
-        out.push(b' ')?;
-    }
-    for part in parts(alloc, &txn)? {
-        put_part(alloc, &mut out, &part)?;
-    }
-    put_part(alloc, &mut out, &part_at(alloc, &txn, target)?)?;
+    put_parts(alloc, &mut out, &txn.copy(alloc)?, target)?;
     Ok(out)
 }
 
+/// A version, a key, its target, and what is told of its move.
+const PARTS: [(u8, &[u8], u8, &[u8]); 4] = [
+    (1, b"b", 0, b"0 2 0^3:wb@0@2 2^3:wb@0@2 0^3:wb@0@2 "),
+    (1, b"a", 2, b"1 2 1^3:wa@1@2 2^3:wa@1@2 2^3:wa@1@2 "),
+    (1, b"b", 2, b"2 2^3:wb@2 2^3:wb@2 "),
+    (2, b"b", 0, b"0 2 0^3:Wb@0@2 2^3:Wb@0@2 0^3:Wb@0@2 "),
+];
+
 #[test]
 fn a_move_has_a_part_with_its_key_at_each_of_its_homes(rt: HostRuntime) -> Result<(), Fail> {
-    let rows: [(u8, &[u8], u8, &[u8]); 4] = [
-        (1, b"b", 0, b"0 2 0^3:wb@0@2 2^3:wb@0@2 0^3:wb@0@2 "),
-        (1, b"a", 2, b"1 2 1^3:wa@1@2 2^3:wa@1@2 2^3:wa@1@2 "),
-        (1, b"b", 2, b"2 2^3:wb@2 2^3:wb@2 "),
-        (2, b"b", 0, b"0 2 0^3:Wb@0@2 2^3:Wb@0@2 0^3:Wb@0@2 "),
-    ];
-    for (version, key, target, want) in rows {
+    for (version, key, target, want) in PARTS {
         assert_eq!(rt;
             parts_told(rt.alloc(), version, key, target)?.as_slice(),
             want
@@ -147,41 +152,70 @@ fn put_outcome(
     Ok(())
 }
 
-/// What a move sees of its key: the unit, the value, how often the unit was moved, and who made the next move.
-fn seen_told(alloc: Global, key: &[u8], table: &Table) -> Result<Vec<u8>, Fail> {
-    let procs = builtin_procs(alloc)?;
-    let txn = a_move(alloc, &procs, table.version(), key, 0)?;
-    let mut out = Vec::new(alloc);
-    for row in see(alloc, &txn, table)?.as_slice() {
+/// Adds what a transaction sees: the unit of each key, the value, how often the unit was moved, and who made the next move.
+fn put_seen(alloc: Global, out: &mut Vec<u8>, txn: &Txn, table: &Table) -> Result<(), NoMemory> {
+    for row in see(alloc, txn, table)?.as_slice() {
         out.extend_from_slice(row.unit.bytes())?;
         out.push(b' ')?;
         if let Some(value) = &row.value {
-            put_value(alloc, &mut out, value)?;
+            put_value(alloc, out, value)?;
         }
         out.push(b' ')?;
-        put_u64(alloc, &mut out, u64::from(row.counter))?;
+        put_u64(alloc, out, u64::from(row.counter))?;
         out.push(b' ')?;
         if let Some(mover) = row.mover {
-            put_id(alloc, &mut out, mover)?;
+            put_id(alloc, out, mover)?;
         }
     }
-    Ok(out)
+    Ok(())
 }
 
-/// What a move of a key to region 0 comes to on a table; from what it sees there it comes to the same.
-fn outcome_told(alloc: Global, key: &[u8], table: &Table) -> Result<Vec<u8>, Fail> {
-    let procs = builtin_procs(alloc)?;
-    let txn = a_move(alloc, &procs, table.version(), key, 0)?;
-    let mut out = Vec::new(alloc);
-    let (outcome, effect) = execute(alloc, &txn, &procs, table)?;
-    put_outcome(alloc, &mut out, &outcome.copy(alloc)?, &effect)?;
-    let seen = see(alloc, &txn, table)?;
+/// Adds what a transaction comes to on a table.
+fn put_executed(
+    alloc: Global,
+    out: &mut Vec<u8>,
+    txn: &Txn,
+    procs: &Procs,
+    table: &Table,
+) -> Result<(), Fail>
+    requires body { CanRun procs.now txn.now.body }
+    requires uses { HasItsUses procs.now txn.now }
+{
+    let (outcome, effect) = execute(alloc, txn, procs, table)?;
+    put_outcome(alloc, out, &outcome.copy(alloc)?, &effect)?;
+    Ok(())
+}
+
+/// Adds what it comes to from what it sees there.
+fn put_executed_seen(
+    alloc: Global,
+    out: &mut Vec<u8>,
+    txn: &Txn,
+    procs: &Procs,
+    table: &Table,
+) -> Result<(), Fail>
+    requires body { CanRun procs.now txn.now.body }
+    requires uses { HasItsUses procs.now txn.now }
+{
+    let seen = see(alloc, txn, table)?;
     if seen.len() != txn.access.as_slice().len() {
         return Err(Fail::from("each row is seen"));
     }
-    let (outcome, effect) = execute_seen(alloc, &txn, &procs, &seen)?;
-    let mut same = Vec::new(alloc);
-    put_outcome(alloc, &mut same, &outcome, &effect)?;
+    let (outcome, effect) = execute_seen(alloc, txn, procs, &seen)?;
+    put_outcome(alloc, out, &outcome, &effect)?;
+    Ok(())
+}
+
+/// What a move of a key to region 0 sees in a table, and what it comes to there; from what it sees it comes to the same.
+fn told_on(alloc: Global, key: &[u8], table: &Table) -> Result<Vec<u8>, Fail> {
+    let procs = builtin_procs(alloc)?;
+    let txn = a_move(alloc, &procs, table.version(), key, 0)?;
+    let mut out = Vec::new(alloc);
+    put_seen(alloc, &mut out, &txn, table)?;
+    out.extend_from_slice(b": ")?;
+    let mut same = out.as_slice().to_vec(alloc)?;
+    put_executed(alloc, &mut out, &txn, &procs, table)?;
+    put_executed_seen(alloc, &mut same, &txn, &procs, table)?;
     if same != out {
         return Err(Fail::from("it comes to the same"));
     }
@@ -195,34 +229,33 @@ fn told(alloc: Global, version: u8, key: &[u8], is_moved: bool) -> Result<Vec<u8
     } else {
         opened(alloc, version)?
     };
-    let mut out = seen_told(alloc, key, &table)?;
-    out.extend_from_slice(b": ")?;
-    out.extend_from_slice(outcome_told(alloc, key, &table)?.as_slice())?;
-    Ok(out)
+    told_on(alloc, key, &table)
 }
+
+/// A version, a key, whether `b` was moved, and what is told of a move of the key.
+const OUTCOMES: [(u8, &[u8], bool, &[u8]); 6] = [
+    (1, b"b", false, b"b 5 0 : gave 0, writes 0, moves b 0 2.0"),
+    (1, b"b", true, b"b 5 1 1.1: stale b 0 1.1, writes 0"),
+    (
+        1,
+        b"b/1",
+        true,
+        b"b/1  0 : gave 0, writes 0, moves b/1 0 2.0",
+    ),
+    (2, b"b", true, b"b 5 1 1.1: stale b 0 1.1, writes 0"),
+    // The unit is named, which need not be the key.
+    (2, b"b/1", true, b"b  1 1.1: stale b 0 1.1, writes 0"),
+    (
+        2,
+        b"b-1",
+        true,
+        b"b-1  0 : gave 0, writes 0, moves b-1 0 2.0",
+    ),
+];
 
 #[test]
 fn a_move_is_stale_after_another_of_its_unit(rt: HostRuntime) -> Result<(), Fail> {
-    let rows: [(u8, &[u8], bool, &[u8]); 6] = [
-        (1, b"b", false, b"b 5 0 : gave 0, writes 0, moves b 0 2.0"),
-        (1, b"b", true, b"b 5 1 1.1: stale b 0 1.1, writes 0"),
-        (
-            1,
-            b"b/1",
-            true,
-            b"b/1  0 : gave 0, writes 0, moves b/1 0 2.0",
-        ),
-        (2, b"b", true, b"b 5 1 1.1: stale b 0 1.1, writes 0"),
-        // The unit is named, which need not be the key.
-        (2, b"b/1", true, b"b  1 1.1: stale b 0 1.1, writes 0"),
-        (
-            2,
-            b"b-1",
-            true,
-            b"b-1  0 : gave 0, writes 0, moves b-1 0 2.0",
-        ),
-    ];
-    for (version, key, is_moved, want) in rows {
+    for (version, key, is_moved, want) in OUTCOMES {
         assert_eq!(rt; told(rt.alloc(), version, key, is_moved)?.as_slice(), want);
     }
     Ok(())

@@ -30,44 +30,46 @@ fn told(alloc: Global, file: &[u8]) -> Result<Vec<u8>, Fail> {
     }
 }
 
+/// Files, each with its events as they are printed, or the first line that is none.
+const FILES: [(&[u8], &[u8]); 30] = [
+    (b"", b""),
+    (b"submit 0 a", b"submit 0 a\n"),
+    (b"append 255 0 4294967295", b"append 255 0 4294967295\n"),
+    (b"deliver 1 0 0 2", b"deliver 1 0 0 2\n"),
+    (b"insert 1 0", b"insert 1 0\n"),
+    (b"resolve 0 2.0 1.1 1.1", b"resolve 0 2.0 1.1 1.1\n"),
+    (b"execute 0 4294967295.255", b"execute 0 4294967295.255\n"),
+    (b"answer 0 s_01", b"answer 0 s_01\n"),
+    (b"  insert   1 0  ", b"insert 1 0\n"),
+    (b"#\n\nanswer 0 a\ninsert 1 0", b"answer 0 a\ninsert 1 0\n"),
+    (b"submit", b"no event in line 1"),
+    (b"submit 0", b"no event in line 1"),
+    (b"submit 0 a b", b"no event in line 1"),
+    (b"submit 256 a", b"no event in line 1"),
+    (b"submit 0 A", b"no event in line 1"),
+    (b"submit 0 \"a\"", b"no event in line 1"),
+    (b"submit 0 a\t", b"no event in line 1"),
+    (b"append 0 0 00", b"no event in line 1"),
+    (b"append 0 0 4294967296", b"no event in line 1"),
+    (b"deliver 0 0 0", b"no event in line 1"),
+    (b"insert 0 256", b"no event in line 1"),
+    (b"insert 0 -1", b"no event in line 1"),
+    (b"resolve 0 1.0", b"no event in line 1"),
+    (b"execute 0 0.1", b"no event in line 1"),
+    (b"execute 0 1", b"no event in line 1"),
+    (b"execute 0 1.0 2.0", b"no event in line 1"),
+    (b"Insert 1 0", b"no event in line 1"),
+    (b"jump 0 a", b"no event in line 1"),
+    (
+        b"# rows\xff\nsubmit 0 a\n\nappend 0 0 00\nnothing\n",
+        b"no event in line 4",
+    ),
+    (b"submit 0 a\nsubmit 0", b"no event in line 2"),
+];
+
 #[test]
 fn each_line_is_an_event_in_one_spelling_or_none(rt: HostRuntime) -> Result<(), Fail> {
-    let files: [(&[u8], &[u8]); 30] = [
-        (b"", b""),
-        (b"submit 0 a", b"submit 0 a\n"),
-        (b"append 255 0 4294967295", b"append 255 0 4294967295\n"),
-        (b"deliver 1 0 0 2", b"deliver 1 0 0 2\n"),
-        (b"insert 1 0", b"insert 1 0\n"),
-        (b"resolve 0 2.0 1.1 1.1", b"resolve 0 2.0 1.1 1.1\n"),
-        (b"execute 0 4294967295.255", b"execute 0 4294967295.255\n"),
-        (b"answer 0 s_01", b"answer 0 s_01\n"),
-        (b"  insert   1 0  ", b"insert 1 0\n"),
-        (b"#\n\nanswer 0 a\ninsert 1 0", b"answer 0 a\ninsert 1 0\n"),
-        (b"submit", b"no event in line 1"),
-        (b"submit 0", b"no event in line 1"),
-        (b"submit 0 a b", b"no event in line 1"),
-        (b"submit 256 a", b"no event in line 1"),
-        (b"submit 0 A", b"no event in line 1"),
-        (b"submit 0 \"a\"", b"no event in line 1"),
-        (b"submit 0 a\t", b"no event in line 1"),
-        (b"append 0 0 00", b"no event in line 1"),
-        (b"append 0 0 4294967296", b"no event in line 1"),
-        (b"deliver 0 0 0", b"no event in line 1"),
-        (b"insert 0 256", b"no event in line 1"),
-        (b"insert 0 -1", b"no event in line 1"),
-        (b"resolve 0 1.0", b"no event in line 1"),
-        (b"execute 0 0.1", b"no event in line 1"),
-        (b"execute 0 1", b"no event in line 1"),
-        (b"execute 0 1.0 2.0", b"no event in line 1"),
-        (b"Insert 1 0", b"no event in line 1"),
-        (b"jump 0 a", b"no event in line 1"),
-        (
-            b"# rows\xff\nsubmit 0 a\n\nappend 0 0 00\nnothing\n",
-            b"no event in line 4",
-        ),
-        (b"submit 0 a\nsubmit 0", b"no event in line 2"),
-    ];
-    for (file, want) in files {
+    for (file, want) in FILES {
         assert_eq!(rt; told(rt.alloc(), file)?.as_slice(), want);
     }
     Ok(())

@@ -153,23 +153,25 @@ fn granule_told(alloc: Global, key: &[u8]) -> Result<Vec<u8>, Fail> {
     Ok(out)
 }
 
+/// Keys, each with its granule, and a `!` behind it where it is its own one.
+const GRANULES: [(&[u8], &[u8]); 10] = [
+    (b"b", b"b!"),
+    (b"b/1", b"b"),
+    (b"b/1/x", b"b"),
+    (b"b-1", b"b-1!"),
+    (b"a/", b"a"),
+    (b"/", b"/!"),
+    (b"//", b"/"),
+    (b"/x", b"/x!"),
+    (b"/x/y", b"/x"),
+    (b"//x", b"/"),
+];
+
 #[test]
 fn a_granule_ends_before_the_first_slash_with_a_byte_before_it(
     rt: HostRuntime,
 ) -> Result<(), Fail> {
-    let rows: [(&[u8], &[u8]); 10] = [
-        (b"b", b"b!"),
-        (b"b/1", b"b"),
-        (b"b/1/x", b"b"),
-        (b"b-1", b"b-1!"),
-        (b"a/", b"a"),
-        (b"/", b"/!"),
-        (b"//", b"/"),
-        (b"/x", b"/x!"),
-        (b"/x/y", b"/x"),
-        (b"//x", b"/"),
-    ];
-    for (key, want) in rows {
+    for (key, want) in GRANULES {
         assert_eq!(rt; granule_told(rt.alloc(), key)?.as_slice(), want);
     }
     Ok(())
@@ -186,26 +188,28 @@ fn id_of(alloc: Global, word: &[u8]) -> Result<Vec<u8>, Fail>
     Ok(out)
 }
 
+/// Words, each with the id that it spells, printed, or nothing.
+const IDS: [(&[u8], &[u8]); 15] = [
+    (b"1.0", b"1.0"),
+    (b"20.7", b"20.7"),
+    (b"4294967295.255", b"4294967295.255"),
+    (b"", b""),
+    (b".", b""),
+    (b"1", b""),
+    (b"1.", b""),
+    (b".1", b""),
+    (b"0.1", b""),
+    (b"01.1", b""),
+    (b"1.01", b""),
+    (b"1.256", b""),
+    (b"4294967296.0", b""),
+    (b"1.0.0", b""),
+    (b"+1.0", b""),
+];
+
 #[test]
 fn an_id_has_one_spelling(rt: HostRuntime) -> Result<(), Fail> {
-    let words: [(&[u8], &[u8]); 15] = [
-        (b"1.0", b"1.0"),
-        (b"20.7", b"20.7"),
-        (b"4294967295.255", b"4294967295.255"),
-        (b"", b""),
-        (b".", b""),
-        (b"1", b""),
-        (b"1.", b""),
-        (b".1", b""),
-        (b"0.1", b""),
-        (b"01.1", b""),
-        (b"1.01", b""),
-        (b"1.256", b""),
-        (b"4294967296.0", b""),
-        (b"1.0.0", b""),
-        (b"+1.0", b""),
-    ];
-    for (word, want) in words {
+    for (word, want) in IDS {
         assert!(rt; word.len() < 20);
         assert_eq!(rt; id_of(rt.alloc(), word)?.as_slice(), want);
     }

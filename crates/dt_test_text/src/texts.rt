@@ -138,36 +138,38 @@ fn words_of(alloc: Global, line: &[u8]) -> Result<Vec<u8>, Fail>
     Ok(out)
 }
 
+/// Bytes, and the key, name or text that they are, or the first cause against it.
+const READ: [(What, &[u8], &[u8]); 23] = [
+    (What::Key, b"", b"no bytes"),
+    (What::Key, b"stock/7", b"stock/7"),
+    (What::Key, b"a-z_0.9/", b"a-z_0.9/"),
+    (What::Key, &[b'a'; 65], &[b'a'; 65]),
+    (What::Key, &[b'a'; 128], &[b'a'; 128]),
+    (What::Key, &[b'a'; 129], b"too many bytes"),
+    (What::Key, &[b' '; 129], b"too many bytes"),
+    (What::Key, b"a B", b"bad byte at 1"),
+    (What::Key, b"A", b"bad byte at 0"),
+    (What::Key, b"ab\xc3\xa4", b"bad byte at 2"),
+    (What::Name, b"", b"no bytes"),
+    (What::Name, b"s_00", b"s_00"),
+    (What::Name, &[b'z'; 32], &[b'z'; 32]),
+    (What::Name, &[b'z'; 33], b"too many bytes"),
+    (What::Name, b"a-b", b"bad byte at 1"),
+    (What::Name, b"ab/", b"bad byte at 2"),
+    (What::Name, b"S", b"bad byte at 0"),
+    (What::Text, b"", b"\"\"\"\""),
+    (What::Text, b" ~\"\\", b"\" ~\\\"\\\\\"\" ~\\\"\\\\\""),
+    (What::Text, &[b' '; 257], b"too many bytes"),
+    (What::Text, &[b'\n'; 257], b"too many bytes"),
+    (What::Text, b"a\tb", b"bad byte at 1"),
+    (What::Text, b"\x7f", b"bad byte at 0"),
+];
+
 #[test]
 fn keys_names_and_texts_are_read_or_refused_by_the_first_cause(
     rt: HostRuntime,
 ) -> Result<(), Fail> {
-    let rows: [(What, &[u8], &[u8]); 23] = [
-        (What::Key, b"", b"no bytes"),
-        (What::Key, b"stock/7", b"stock/7"),
-        (What::Key, b"a-z_0.9/", b"a-z_0.9/"),
-        (What::Key, &[b'a'; 65], &[b'a'; 65]),
-        (What::Key, &[b'a'; 128], &[b'a'; 128]),
-        (What::Key, &[b'a'; 129], b"too many bytes"),
-        (What::Key, &[b' '; 129], b"too many bytes"),
-        (What::Key, b"a B", b"bad byte at 1"),
-        (What::Key, b"A", b"bad byte at 0"),
-        (What::Key, b"ab\xc3\xa4", b"bad byte at 2"),
-        (What::Name, b"", b"no bytes"),
-        (What::Name, b"s_00", b"s_00"),
-        (What::Name, &[b'z'; 32], &[b'z'; 32]),
-        (What::Name, &[b'z'; 33], b"too many bytes"),
-        (What::Name, b"a-b", b"bad byte at 1"),
-        (What::Name, b"ab/", b"bad byte at 2"),
-        (What::Name, b"S", b"bad byte at 0"),
-        (What::Text, b"", b"\"\"\"\""),
-        (What::Text, b" ~\"\\", b"\" ~\\\"\\\\\"\" ~\\\"\\\\\""),
-        (What::Text, &[b' '; 257], b"too many bytes"),
-        (What::Text, &[b'\n'; 257], b"too many bytes"),
-        (What::Text, b"a\tb", b"bad byte at 1"),
-        (What::Text, b"\x7f", b"bad byte at 0"),
-    ];
-    for (row, (what, bytes, want)) in rows.iter().enumerate() {
+    for (row, (what, bytes, want)) in READ.iter().enumerate() {
         assert_eq!(rt;
             told(rt.alloc(), *what, bytes)?.as_slice(),
             *want,
@@ -224,38 +226,40 @@ fn numbers_have_one_spelling(rt: HostRuntime) -> Result<(), Fail> {
     Ok(())
 }
 
+/// Bytes, and the lines of such a file, or the words of such a line.
+const CUT: [(What, &[u8], &[u8]); 27] = [
+    (What::Lines, b"", b""),
+    (What::Lines, b"\n", b""),
+    (What::Lines, b"a", b"1:a;"),
+    (What::Lines, b"a\n", b"1:a;"),
+    (What::Lines, b"a\n\nb", b"1:a;3:b;"),
+    (What::Lines, b"  \n# \xff\tx\n  #\n a ", b"4: a ;"),
+    (What::Lines, b"a #\n\t\n \r\n\r", b"1:a #;2:\t;3: \r;4:\r;"),
+    (What::Lines, b"#\n\t#\n", b"2:\t#;"),
+    (What::Words, b"", b""),
+    (What::Words, b"   ", b""),
+    (What::Words, b"call put \"b\" 5", b"0-4;5-8;\"b\";13-14;"),
+    (What::Words, b"  a   b ", b"2-3;6-7;"),
+    (What::Words, b"\"b\"5", b"none"),
+    (What::Words, b"\"b\"\"c\"", b"none"),
+    (What::Words, b"5\"b\"", b"0-4;"),
+    (What::Words, b"\"\" \"a b\"", b"\"\";\"a b\";"),
+    (What::Words, b"\"\\\"\\\\\"", b"\"\\\"\\\\\";"),
+    (What::Words, b"\"a", b"none"),
+    (What::Words, b"\"\\", b"none"),
+    (What::Words, b"\"\\\"", b"none"),
+    (What::Words, b"\"\\n\"", b"none"),
+    (What::Words, b"a\tb", b"none"),
+    (What::Words, b"\t", b"none"),
+    (What::Words, b"a\r", b"none"),
+    (What::Words, b"\"a\tb\"", b"none"),
+    (What::Words, b"a \x7f", b"none"),
+    (What::Words, b"a\\b #", b"0-3;4-5;"),
+];
+
 #[test]
 fn a_file_is_made_of_lines_and_a_line_of_words(rt: HostRuntime) -> Result<(), Fail> {
-    let rows: [(What, &[u8], &[u8]); 27] = [
-        (What::Lines, b"", b""),
-        (What::Lines, b"\n", b""),
-        (What::Lines, b"a", b"1:a;"),
-        (What::Lines, b"a\n", b"1:a;"),
-        (What::Lines, b"a\n\nb", b"1:a;3:b;"),
-        (What::Lines, b"  \n# \xff\tx\n  #\n a ", b"4: a ;"),
-        (What::Lines, b"a #\n\t\n \r\n\r", b"1:a #;2:\t;3: \r;4:\r;"),
-        (What::Lines, b"#\n\t#\n", b"2:\t#;"),
-        (What::Words, b"", b""),
-        (What::Words, b"   ", b""),
-        (What::Words, b"call put \"b\" 5", b"0-4;5-8;\"b\";13-14;"),
-        (What::Words, b"  a   b ", b"2-3;6-7;"),
-        (What::Words, b"\"b\"5", b"none"),
-        (What::Words, b"\"b\"\"c\"", b"none"),
-        (What::Words, b"5\"b\"", b"0-4;"),
-        (What::Words, b"\"\" \"a b\"", b"\"\";\"a b\";"),
-        (What::Words, b"\"\\\"\\\\\"", b"\"\\\"\\\\\";"),
-        (What::Words, b"\"a", b"none"),
-        (What::Words, b"\"\\", b"none"),
-        (What::Words, b"\"\\\"", b"none"),
-        (What::Words, b"\"\\n\"", b"none"),
-        (What::Words, b"a\tb", b"none"),
-        (What::Words, b"\t", b"none"),
-        (What::Words, b"a\r", b"none"),
-        (What::Words, b"\"a\tb\"", b"none"),
-        (What::Words, b"a \x7f", b"none"),
-        (What::Words, b"a\\b #", b"0-3;4-5;"),
-    ];
-    for (row, (what, bytes, want)) in rows.iter().enumerate() {
+    for (row, (what, bytes, want)) in CUT.iter().enumerate() {
         assert_eq!(rt;
             told(rt.alloc(), *what, bytes)?.as_slice(),
             *want,
@@ -282,20 +286,22 @@ fn told_of_many(
     Ok(told(alloc, what, bytes.as_slice())?.len())
 }
 
+/// A piece that stands so often between others, and how many bytes are told of it.
+const LONG: [(What, &[u8], &[u8], u32, &[u8], usize); 7] = [
+    // A text has 256 bytes, however many its word has.
+    (What::Text, b"", b"\"", 256, b"", 1028),
+    (What::Words, b"\"", b"\\\"", 255, b"\"", 513),
+    (What::Words, b"\"", b"\\\"", 256, b"\"", 515),
+    (What::Words, b"\"", b"\\\"", 257, b"\"", 4),
+    // Words, bytes of a word and lines as many as there are.
+    (What::Words, b"", b"\"\" ", 600, b"", 1800),
+    (What::Words, b"", b"a", 70000, b"", 8),
+    (What::Lines, b"", b"#\n", 70000, b"a\nb", 16),
+];
+
 #[test]
 fn there_is_no_limit_but_those_that_are_said(rt: HostRuntime) -> Result<(), Fail> {
-    let rows: [(What, &[u8], &[u8], u32, &[u8], usize); 7] = [
-        // A text has 256 bytes, however many its word has.
-        (What::Text, b"", b"\"", 256, b"", 1028),
-        (What::Words, b"\"", b"\\\"", 255, b"\"", 513),
-        (What::Words, b"\"", b"\\\"", 256, b"\"", 515),
-        (What::Words, b"\"", b"\\\"", 257, b"\"", 4),
-        // Words, bytes of a word and lines as many as there are.
-        (What::Words, b"", b"\"\" ", 600, b"", 1800),
-        (What::Words, b"", b"a", 70000, b"", 8),
-        (What::Lines, b"", b"#\n", 70000, b"a\nb", 16),
-    ];
-    for (row, (what, front, piece, times, back, want)) in rows.iter().enumerate() {
+    for (row, (what, front, piece, times, back, want)) in LONG.iter().enumerate() {
         let told = told_of_many(rt.alloc(), *what, front, piece, *times, back)?;
         assert_eq!(rt; told, *want, "row {row}");
     }

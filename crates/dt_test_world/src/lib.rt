@@ -5,8 +5,16 @@
 #[cfg(test)]
 mod cases;
 #[cfg(test)]
+mod circles;
+#[cfg(test)]
 mod regions;
 #[cfg(test)]
+mod scripts;
+#[cfg(test)]
 mod sessions;
+#[cfg(test)]
+mod sizes;
+#[cfg(test)]
+mod tries;
 #[cfg(test)]
 mod worlds;

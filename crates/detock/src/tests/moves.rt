@@ -116,7 +116,7 @@ const ROW_MOVED: &[&str] = &[
 ];
 
 /// Replays with moves.
-const CASES: [Case; 14] = [
+const CASES: [Case; 13] = [
     Case {
         shows: "a stale attempt is made again and succeeds",
         cluster: &[":2"],
@@ -244,22 +244,6 @@ const CASES: [Case; 14] = [
         then: &["resolve 0 1.0 1.1 2.0", "execute 0 1.1"],
         exit: 6,
         told: &["detock: events line 18: rule 6"],
-    },
-    Case {
-        shows: "a third try is not made where two are allowed",
-        cluster: &["regions = 2", "tries = 2"],
-        workload: MOVED,
-        events: MOVED_BEGIN,
-        then: &[
-            "submit 0 p",
-            "append 1 0 1",
-            "deliver 0 1 1 2",
-            "insert 0 1",
-            "execute 0 3.0",
-            "submit 0 p",
-        ],
-        exit: 6,
-        told: &["detock: events line 17: rule 1"],
     },
     Case {
         shows: "a second try is not made where one is allowed",

@@ -140,7 +140,7 @@ const CIRCLE_BEGIN: &[&str] = &[
 ];
 
 /// Replays.
-const CASES: [Case; 20] = [
+const CASES: [Case; 19] = [
     Case {
         shows: "nothing is reported of nothing",
         cluster: &[":1"],
@@ -149,28 +149,6 @@ const CASES: [Case; 20] = [
         then: &[],
         exit: 0,
         told: &["replies", "order", "table 0"],
-    },
-    Case {
-        shows: "a put is reported whole",
-        cluster: &[":1"],
-        workload: &["session a at 0", "call put \"b\" 5"],
-        events: &[
-            "submit 0 a",
-            "append 0 0 0",
-            "insert 0 0",
-            "execute 0 1.0",
-            "answer 0 a",
-        ],
-        then: &[],
-        exit: 0,
-        told: &[
-            "replies",
-            "reply a 1 done",
-            "order",
-            "1.0 a 1 1 done",
-            "table 0",
-            "b = 5 home 0 moves 0",
-        ],
     },
     Case {
         shows: "repeated and lost deliveries change nothing",
