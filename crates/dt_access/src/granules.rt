@@ -1,6 +1,6 @@
 ghost use Rattle.std.specs.Prelude.{◌≡◌, ◌↔◌, ◌==◌, IsTrue, IfOk, position};
 ghost use Rattle.dt_text.specs.Texts.{IsKey};
-ghost use Rattle.dt_access.specs.Granules.{granule_of, unit_of};
+ghost use Rattle.dt_access.specs.Granules.{IsUnit, granule_of, unit_of};
 
 use dt_text::{Key, NoMemory};
 use std::alloc::Global;
@@ -18,6 +18,13 @@ pub fn is_granule(key: &Key) -> bool
     ensures { IsTrue result ↔ (granule_of key.now ≡ key.now) }
 {
     granule_bytes(key.bytes()).len() == key.bytes().len()
+}
+
+/// Whether a key is a unit in a cluster of this version, so that it has a home and moves of its own. Takes no memory.
+pub fn is_unit(version: u8, key: &Key) -> bool
+    ensures { IsTrue result ↔ IsUnit version key.now }
+{
+    version != 2 || is_granule(key)
 }
 
 /// The bytes of a key's unit in a cluster of this version. Takes no memory.

@@ -9,10 +9,10 @@ use Rattle.dt_lists.specs.Lists.{AnyIn, AllIn, Has}
 use Rattle.dt_lists.proofs.Callers.{any_get, any_append, any_of_image, all_get, all_put}
 use Rattle.dt_lists.proofs.Callers.{place_of}
 use Rattle.dt_access.specs.Clash.{Bytes, same_key}
-use Rattle.dt_access.specs.Granules.{unit_of}
+use Rattle.dt_access.specs.Granules.{IsUnit, unit_of}
 use Rattle.dt_access.specs.declared.Mode.{Mode}
 use Rattle.dt_access.specs.declared.TxnId.{TxnId}
-use Rattle.dt_table.specs.Table.{Table, Moved, IsUnit, moves_of, opening_home, home_after, home_of}
+use Rattle.dt_table.specs.Table.{Table, Moved, moves_of, opening_home, home_after, home_of}
 use Rattle.dt_txn.specs.declared.Body.{Body}
 use Rattle.dt_txn.specs.declared.txn.Body.TheVariants.{Call, Move}
 use Rattle.dt_txn.specs.declared.Txn.{Txn}

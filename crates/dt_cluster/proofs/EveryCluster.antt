@@ -16,7 +16,7 @@ use Rattle.dt_text.specs.Texts.{Bytes, IsKey, IsStr}
 use Rattle.dt_text.proofs.Callers.{either_bytes, either_key, either_lt, either_str}
 use Rattle.dt_text.specs.declared.value.Value.{Value}
 use Rattle.dt_text.specs.declared.value.Value.TheVariants.{Int, Text}
-use Rattle.dt_access.specs.Granules.{unit_of}
+use Rattle.dt_access.specs.Granules.{IsUnitKey, unit_of}
 use Rattle.dt_proc.specs.Tree.{ProcTree}
 use Rattle.dt_proc.specs.Builtin.{builtin_procs}
 use Rattle.dt_proc.specs.Outcome.{Outcome}
@@ -27,7 +27,7 @@ use Rattle.toml.specs.Data.{Data, string, integer, float, boolean, datetime, arr
 use Rattle.toml.specs.Parse.{parse_document}
 use Rattle.dt_cluster.specs.Document.{Entry, IsDocument, entries_of, AreEntries, AreEntriesAt, IsNoTable, IsFirstFaulty}
 use Rattle.dt_cluster.specs.Numbers.{NumberEntry, GivesNumber, IsAtFault, HasNumber, HasBadNumber}
-use Rattle.dt_cluster.specs.Rows.{IsHomeKey, IsHome, IsBadHome, IsRow, IsBadRow}
+use Rattle.dt_cluster.specs.Rows.{IsHome, IsBadHome, IsRow, IsBadRow}
 use Rattle.dt_cluster.specs.File.{known_names, IsKnown, AreKnown, IsUnknownFault, HasNumbers, number_entries, IsNumberFault, GivesProcs, IsProcsFaultAt}
 use Rattle.dt_cluster.specs.File.{HasHomes, IsHomesFault, HasRows, IsRowsFault, IsClusterOf, IsFaultOf, IsCluster, IsClusterFault}
 use Rattle.dt_cluster.specs.ReaderParts.{HasShortProcs}
@@ -205,7 +205,7 @@ procs_or (Some (table ms)) = inr (record { place = place.Entry (codes "procs"); 
 abbrev HomeOr : ℕ → ℕ → Entry → Type 0
 HomeOr version regions e = ((h : Bytes × ℕ) × IsHome version regions e h) ⊎ ((c : ClusterCause) × IsBadHome version regions e c)
 
-home_value_or : (version regions : ℕ) (name : Bytes) (d : Data) → IsHomeKey version name → HomeOr version regions (name, d)
+home_value_or : (version regions : ℕ) (name : Bytes) (d : Data) → IsUnitKey version name → HomeOr version regions (name, d)
 home_value_or version regions name (integer (pos n)) key = by (either_lt n regions)
   where
     same_natural : (n m : ℕ) → pos n ≡ pos m → n ≡ m
@@ -228,7 +228,7 @@ home_value_or version regions name (table ms) key = inr (cause.Kind, inr (key, r
 home_or : (version regions : ℕ) (e : Entry) → HomeOr version regions e
 home_or version regions (name, d) = by (either_and _ _ (either_key name) (either_bytes (unit_of version name) name))
   where
-    by : Either (IsHomeKey version name) → HomeOr version regions (name, d)
+    by : Either (IsUnitKey version name) → HomeOr version regions (name, d)
     by (inl key) = home_value_or version regions name d key
     by (inr not_so) = inr (cause.BadKey, inl (refl, not_so))
 

@@ -1,6 +1,7 @@
 -- A file is one cluster at most, or has one fault at most, and not both.
 use Rattle.std.proofs.Common.{◌≡◌, ◌⊎◌, inl, inr, ℕ, ℤ, pos, List, [], ◌∷◌, Option, Some, None, Ok, Err, refl, ap, sym, ◌∙◌, subst, codes, Result}
 use Rattle.std.proofs.lemmas.Bool.{false≢true}
+use Rattle.dt_access.specs.Granules.{IsUnitKey}
 use Rattle.dt_lists.specs.Lists.{AllIn, Pairwise}
 use Rattle.dt_text.specs.Texts.{IsKey, IsStr}
 use Rattle.dt_text.specs.declared.value.Value.{Value}
@@ -13,7 +14,7 @@ use Rattle.toml.specs.Data.{Data, string, integer, float, boolean, datetime, arr
 use Rattle.dt_text.specs.Texts.{Bytes}
 use Rattle.dt_cluster.specs.Document.{Entry, IsDocument, AreEntries, AreEntriesAt, IsNoTable, IsFirstFaulty}
 use Rattle.dt_cluster.specs.Numbers.{NumberEntry, GivesNumber, IsAtFault, HasNumber, HasBadNumber, regions_entry, version_entry, workers_entry, tries_entry, drop_entry, repeat_entry}
-use Rattle.dt_cluster.specs.Rows.{IsHomeKey, IsHome, IsNoHome, IsBadHome, IsValue, IsNoValue, IsRow, IsBadRow}
+use Rattle.dt_cluster.specs.Rows.{IsHome, IsNoHome, IsBadHome, IsValue, IsNoValue, IsRow, IsBadRow}
 use Rattle.dt_cluster.specs.File.{IsKnown, AreKnown, IsUnknownFault, HasNumbers, number_entries, IsNumberFault, GivesProcs, IsToldAs, IsProcsFaultAt, HasProcs}
 use Rattle.dt_cluster.specs.File.{IsProcsFault, HasHomes, IsHomesFault, HasRows, IsRowsFault, IsClusterOf, IsFaultOf, IsCluster, IsClusterFault}
 use Rattle.dt_cluster.specs.declared.cluster.Cluster.{Cluster}
@@ -139,7 +140,7 @@ one_home version regions e h k is is' =
     λ i. (names i, homes i)
 
 home_or_bad : (version regions : ℕ) (e : Entry) (c : ClusterCause) → ((h : Bytes × ℕ) × IsHome version regions e h) → IsBadHome version regions e c → ⊥
-home_or_bad version regions e c (h, is) (inl bad) = bad.1 (subst (IsHomeKey version) is.0 is.1)
+home_or_bad version regions e c (h, is) (inl bad) = bad.1 (subst (IsUnitKey version) is.0 is.1)
 home_or_bad version regions e c (h, is) (inr bad) = (subst (λ d. IsNoHome regions d c) is.2 bad.1).1 h.1 refl is.3
 
 one_no_home : (regions : ℕ) (d : Data) (b c : ClusterCause) → IsNoHome regions d b → IsNoHome regions d c → b ≡ c

@@ -6,22 +6,18 @@ use Rattle.std.specs.Int.{w64}
 use Rattle.dt_text.specs.Texts.{IsKey, IsStr}
 use Rattle.dt_text.specs.declared.value.Value.{Value}
 use Rattle.dt_text.specs.declared.value.Value.TheVariants.{Int, Text}
-use Rattle.dt_access.specs.Granules.{unit_of}
+use Rattle.dt_access.specs.Granules.{IsUnitKey}
 use Rattle.toml.specs.Data.{Data, integer, string}
 use Rattle.dt_text.specs.Texts.{Bytes}
 use Rattle.dt_cluster.specs.Document.{Entry}
 use Rattle.dt_cluster.specs.declared.error.ClusterCause.{ClusterCause}
 use Rattle.dt_cluster.specs.declared.error.ClusterCause.TheVariants.{BadKey, BadText, Kind, Range}
 
--- the name of an entry of `homes`: a key that has a home of its own, which in version 2 is a granule
-abbrev pub IsHomeKey : ℕ → Bytes → Type 0
-IsHomeKey version key = IsKey key × (unit_of version key ≡ key)
-
--- an entry of `homes`, in a cluster of this version with so many regions: such a key, and an integer that is the number of a
--- region
+-- an entry of `homes`, in a cluster of this version with so many regions: its name is a key that is a unit, which in version
+-- 2 is a granule, and its value an integer that is the number of a region
 abbrev pub IsHome : ℕ → ℕ → Entry → Bytes × ℕ → Type 0
 IsHome version regions entry home =
-    (home.0 ≡ entry.0) × IsHomeKey version home.0 × (entry.1 ≡ integer (pos home.1)) × (home.1 < regions)
+    (home.0 ≡ entry.0) × IsUnitKey version home.0 × (entry.1 ≡ integer (pos home.1)) × (home.1 < regions)
 
 -- a value that is no home is no integer, or no region's number
 abbrev pub IsNoHome : ℕ → Data → ClusterCause → Type 0
@@ -31,7 +27,7 @@ IsNoHome regions other cause = cause ≡ Kind
 -- why an entry of `homes` is none: its name is no key that has a home of its own; else its value is no home
 abbrev pub IsBadHome : ℕ → ℕ → Entry → ClusterCause → Type 0
 IsBadHome version regions entry cause =
-    ((cause ≡ BadKey) × ¬ (IsHomeKey version entry.0)) ⊎ (IsHomeKey version entry.0 × IsNoHome regions entry.1 cause)
+    ((cause ≡ BadKey) × ¬ (IsUnitKey version entry.0)) ⊎ (IsUnitKey version entry.0 × IsNoHome regions entry.1 cause)
 
 -- the value is this one: an integer is the number, which has 64 bits, and a string the text
 abbrev pub IsValue : Data → Value → Type 0

@@ -7,7 +7,7 @@ use Rattle.dt_lists.specs.Lists.{AllIn, Distinct}
 use Rattle.dt_text.specs.Texts.{IsKey, IsStr}
 use Rattle.dt_text.specs.declared.value.Value.{Value}
 use Rattle.dt_text.specs.declared.value.Value.TheVariants.{Int, Text}
-use Rattle.dt_access.specs.Granules.{unit_of}
+use Rattle.dt_access.specs.Granules.{IsUnit}
 use Rattle.dt_proc.specs.Sound.{AreProcs}
 use Rattle.dt_cluster.specs.declared.cluster.Cluster.{Cluster}
 
@@ -36,7 +36,7 @@ pub record IsValidCluster (cluster : Cluster) : Type 0 where
   pub repeat : cluster.repeat ≤ 1000
   pub procs : AreProcs cluster.procs
   pub home_keys : AllIn (λ h. IsKey h.0) cluster.homes
-  pub home_units : AllIn (λ h. unit_of cluster.version h.0 ≡ h.0) cluster.homes
+  pub home_units : AllIn (λ h. IsUnit cluster.version h.0) cluster.homes
   pub homes_once : Distinct (map (λ h. h.0) cluster.homes)
   pub homes : AllIn (λ h. h.1 < cluster.regions) cluster.homes
   pub row_keys : AllIn (λ r. IsKey r.0) cluster.rows

@@ -1,5 +1,4 @@
 ghost use Rattle.std.specs.Prelude.{◌≡◌, ◌↔◌, IsTrue, IfOk, IfErr};
-ghost use Rattle.dt_access.specs.Granules.{unit_of};
 ghost use Rattle.toml.specs.View.{view, table_view};
 ghost use Rattle.dt_cluster.specs.Rows.{IsHome, IsBadHome};
 ghost use Rattle.dt_cluster.specs.File.{HasHomes, IsHomesFault};
@@ -9,7 +8,7 @@ ghost use Rattle.dt_cluster.specs.declared.error.ClusterPlace.TheVariants.{Home}
 use crate::cluster::HomeList;
 use crate::entries::{entry_fault, home_fault, value_at};
 use crate::error::{ClusterCause, ClusterError};
-use dt_access::is_granule;
+use dt_access::is_unit;
 use dt_text::{Key, Listed};
 use std::alloc::Global;
 use toml::{Table, Value};
@@ -65,7 +64,7 @@ fn home(
         return Err(home_fault(alloc, name, ClusterCause::BadKey));
     }
     let key = Key::new(alloc, name.as_bytes())?;
-    if !has_home(version, &key) {
+    if !is_unit(version, &key) {
         return Err(home_fault(alloc, name, ClusterCause::BadKey));
     }
     let Some(number) = value.as_integer() else {
@@ -75,11 +74,4 @@ fn home(
         Ok(home) if home < regions => Ok((key, home)),
         _ => Err(home_fault(alloc, name, ClusterCause::Range)),
     }
-}
-
-/// Whether a key has a home of its own: in version 2 it is a granule.
-fn has_home(version: u8, key: &Key) -> bool
-    ensures { IsTrue result ↔ (unit_of version key.now ≡ key.now) }
-{
-    version != 2 || is_granule(key)
 }

@@ -1,5 +1,4 @@
 ghost use Rattle.std.specs.Prelude.{◌≡◌, IfOk};
-ghost use Rattle.dt_events.specs.Events.{region_of};
 ghost use Rattle.dt_events.specs.declared.event.Event.TheVariants.{Append, Deliver};
 
 use dt_access::{Ids, TryCopy, TxnId};
@@ -50,21 +49,6 @@ pub enum Event {
 }
 
 impl Event {
-    /// The region that the event belongs to. Takes no memory.
-    pub fn region(&self) -> u8
-        ensures { result ≡ region_of self.now }
-    {
-        match self {
-            Event::Submit { region, .. } => *region,
-            Event::Append { home, .. } => *home,
-            Event::Deliver { region, .. } => *region,
-            Event::Insert { region, .. } => *region,
-            Event::Resolve { region, .. } => *region,
-            Event::Execute { region, .. } => *region,
-            Event::Answer { region, .. } => *region,
-        }
-    }
-
     /// An equal event.
     pub fn copy(&self, alloc: Global) -> Result<Self, NoMemory>
         ensures { IfOk result (λ copied. copied ≡ self.now) }

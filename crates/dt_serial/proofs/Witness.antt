@@ -6,11 +6,11 @@ use Rattle.std.specs.Cmp.Lexicographic.{bytes_decides}
 use Rattle.dt_lists.specs.Lists.{AllIn, Has}
 use Rattle.dt_lists.proofs.Callers.{all_get, get_front}
 use Rattle.dt_access.specs.Clash.{Bytes, same_key, uses_clash}
-use Rattle.dt_access.specs.Granules.{mode_of_move, unit_of}
+use Rattle.dt_access.specs.Granules.{IsUnit, mode_of_move, unit_of}
 use Rattle.dt_access.specs.declared.TxnId.{TxnId}
 use Rattle.dt_access.specs.declared.Access.{Access}
 use Rattle.dt_proc.specs.Tree.{ProcTree}
-use Rattle.dt_table.specs.Table.{Table, Moved, IsUnit, moves_of}
+use Rattle.dt_table.specs.Table.{Table, Moved, moves_of}
 use Rattle.dt_txn.specs.declared.txn.Body.TheVariants.{Move}
 use Rattle.dt_txn.specs.declared.txn.Txn.{Txn}
 use Rattle.dt_txn.specs.Execution.{stale_at}

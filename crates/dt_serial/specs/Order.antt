@@ -5,7 +5,7 @@ use Rattle.std.specs.Prelude.{◌≡◌, ◌≢◌, ◌⊎◌, ℕ, zero, suc, B
 use Rattle.dt_lists.specs.Lists.{AnyIn, AllIn, Has, Distinct}
 use Rattle.dt_access.specs.Ids.{StandsBefore}
 use Rattle.dt_access.specs.Clash.{Bytes, is_whole, uses_clash}
-use Rattle.dt_access.specs.Granules.{mode_of_move, unit_of}
+use Rattle.dt_access.specs.Granules.{IsUnit, mode_of_move, unit_of}
 use Rattle.dt_access.specs.declared.TxnId.{TxnId}
 use Rattle.dt_access.specs.declared.Access.{Access}
 use Rattle.dt_access.specs.declared.Mode.{Mode}
@@ -13,7 +13,7 @@ use Rattle.dt_access.specs.declared.Mode.TheVariants.{Write}
 use Rattle.dt_text.specs.declared.Value.{Value}
 use Rattle.dt_proc.specs.Tree.{ProcTree}
 use Rattle.dt_table.specs.declared.Effect.{Effect}
-use Rattle.dt_table.specs.Table.{Table, Moved, IsUnit, moves_of}
+use Rattle.dt_table.specs.Table.{Table, Moved, moves_of}
 use Rattle.dt_txn.specs.declared.txn.Body.TheVariants.{Move}
 use Rattle.dt_txn.specs.declared.txn.Txn.{Txn}
 use Rattle.dt_txn.specs.Execution.{result_of, stale_of, see}

@@ -10,11 +10,11 @@ use Rattle.std.proofs.lemmas.List.{map-id}
 use Rattle.indexmap.specs.IndexMap.{insert_entry}
 use Rattle.dt_lists.specs.Lists.{AllIn}
 use Rattle.dt_access.specs.Clash.{Bytes, same_key}
-use Rattle.dt_access.specs.Granules.{unit_of}
+use Rattle.dt_access.specs.Granules.{IsUnit, unit_of}
 use Rattle.dt_text.specs.Texts.{IsKey}
 use Rattle.dt_text.specs.declared.Value.{Value}
 use Rattle.dt_access.specs.declared.TxnId.{TxnId}
-use Rattle.dt_table.specs.Table.{Moved, Table, IsUnit, value_of, moves_of, home_of, counter_of, opening_home, home_after, next_mover, written, moved}
+use Rattle.dt_table.specs.Table.{Moved, Table, value_of, moves_of, home_of, counter_of, opening_home, home_after, next_mover, written, moved}
 use Rattle.dt_table.specs.StoredUnitInner.{by_bytes, fresh_unit, stored_of}
 use Rattle.dt_table.specs.StoredMovesInner.{mover_in, history, moved_of, histories_of, IsBelow, AreLinked, FitsMoves, IsSoundTable, table_view}
 use Rattle.dt_table.specs.declared.stored.StoredMove.{StoredMove}

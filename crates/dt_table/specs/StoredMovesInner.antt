@@ -8,10 +8,11 @@ use Rattle.std.specs.Cmp.Lexicographic.{slice_cmp}
 use Rattle.std.specs.FinMap.{FinMap, from_entries}
 use Rattle.indexmap.specs.IndexMap.{spare}
 use Rattle.dt_lists.specs.Lists.{AllIn}
+use Rattle.dt_access.specs.Granules.{IsUnit}
 use Rattle.dt_access.specs.Clash.{Bytes}
 use Rattle.dt_access.specs.declared.TxnId.{TxnId}
 use Rattle.dt_text.specs.Texts.{IsKey}
-use Rattle.dt_table.specs.Table.{Moved, TableView, IsUnit, opening_home, home_after}
+use Rattle.dt_table.specs.Table.{Moved, TableView, opening_home, home_after}
 use Rattle.dt_table.specs.StoredUnitInner.{by_bytes}
 use Rattle.dt_table.specs.declared.stored.StoredMove.{StoredMove}
 use Rattle.dt_table.specs.declared.stored.StoredUnit.{StoredUnit}

@@ -11,7 +11,7 @@ use Rattle.std.specs.Cmp.Lexicographic.{slice_cmp}
 use Rattle.std.specs.Map.{lookup}
 use Rattle.std.specs.FinMap.{FinMap, get, insert, from_entries, empty, keys, retain_keys}
 use Rattle.dt_access.specs.Clash.{Bytes, same_key}
-use Rattle.dt_access.specs.Granules.{unit_of}
+use Rattle.dt_access.specs.Granules.{IsUnit, unit_of}
 use Rattle.dt_access.specs.declared.TxnId.{TxnId}
 use Rattle.dt_text.specs.declared.Value.{Value}
 use Rattle.dt_table.specs.declared.effect.Effect.{Effect}
@@ -35,10 +35,6 @@ pub record Table : Type 0 where
 pub record TableView : Type 0 where
   pub state : Table
   pub spare : ℕ
-
--- the key is a unit of this version
-abbrev pub IsUnit : ℕ → Bytes → Type 0
-IsUnit version key = unit_of version key ≡ key
 
 -- the value of a key, or none
 abbrev pub value_of : Table → Bytes → Option Value

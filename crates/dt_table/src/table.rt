@@ -1,8 +1,9 @@
 ghost use Rattle.std.specs.Prelude.{◌≡◌, ◌+◌, ◌^◌, ◌<◌, ◌≤◌, ◌↔◌, ℕ, IsOk, IsSome, IfOk, OnOk};
 ghost use Rattle.std.specs.Option.{option_copied};
+ghost use Rattle.dt_access.specs.Granules.{IsUnit};
 ghost use Rattle.dt_access.specs.Orders.{HasDistinctKeys};
 ghost use Rattle.dt_text.specs.Texts.{IsKey};
-ghost use Rattle.dt_table.specs.Table.{value_of, home_of, counter_of, next_mover, written, moved, apply, opening, shown, shown_at, places_for, IsUnit, MovesUnit, HasPlaceFor};
+ghost use Rattle.dt_table.specs.Table.{value_of, home_of, counter_of, next_mover, written, moved, apply, opening, shown, shown_at, places_for, MovesUnit, HasPlaceFor};
 
 use crate::effect::Effect;
 use crate::shown::{Shown, ShownList, add_moved_units, keys_with_value};

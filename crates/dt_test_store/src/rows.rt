@@ -1,8 +1,7 @@
 //! Rows: their values, homes and moves after changes, and which of them are shown.
 ghost use Rattle.std.specs.Prelude.{◌≡◌, IsTrue};
-ghost use Rattle.dt_table.specs.Table.{IsUnit};
 
-use dt_access::{TxnId, Writes, is_granule};
+use dt_access::{TxnId, Writes, is_unit};
 use dt_table::{Effect, Table};
 use dt_text::{Key, NoMemory, Value, put_u64, put_value};
 use std::alloc::Global;
@@ -44,16 +43,6 @@ fn put(table: &mut Table, alloc: Global, key: Key, value: Option<Value>) -> Resu
         moved: None,
     });
     Ok(())
-}
-
-/// Whether a key is a unit of this version.
-pub(crate) fn is_unit(version: u8, key: &Key) -> bool
-    ensures { IsTrue result → IsUnit version key.now }
-{
-    if version == 2 {
-        return is_granule(key);
-    }
-    true
 }
 
 /// Moves a unit, by the transaction of this number in region 0.

@@ -4,8 +4,8 @@
 ghost use Rattle.std.specs.Prelude.{◌≡◌, IfOk};
 ghost use Rattle.dt_txn.specs.Transaction.{CanRun, HasItsUses};
 
-use crate::rows::{is_unit, key_of};
-use dt_access::{Mode, Part, TxnId, Writes, put_id};
+use crate::rows::key_of;
+use dt_access::{Mode, Part, TxnId, Writes, is_unit, put_id};
 use dt_proc::{Procs, builtin_procs};
 use dt_table::{Effect, Table};
 use dt_text::{Key, NoMemory, Value, put_u64, put_value};

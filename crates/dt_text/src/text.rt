@@ -1,5 +1,4 @@
 ghost use Rattle.std.specs.Prelude.{◌≡◌, ◌↔◌, ◌<◌, ◌≤◌, ◌^◌, ℕ, List, length, refl, nat_eq, IfOk, IsTrue, OnOk, OnErr, Some, [], ◌∷◌, ◌++◌};
-ghost use Rattle.std.specs.List.{list_all};
 ghost use Rattle.std.specs.Ordering.{nat_cmp};
 ghost use Rattle.std.specs.Cmp.{partial_equiv_from_equiv};
 ghost use Rattle.std.specs.Cmp.Lexicographic.{pointwise, slice_cmp, nat_list_eq_equiv, nat_list_cmp_total, texts_ties, texts_po, bytes_decides};
@@ -59,13 +58,6 @@ impl Str {
         }
     }
 
-    /// Whether the bytes are those of a text.
-    pub fn is_str(bytes: &[u8]) -> bool
-        ensures { IsTrue result ↔ IsStr bytes.now }
-    {
-        bytes.len() <= Str::LONGEST && are_allowed(bytes)
-    }
-
     /// The text that has these bytes.
     pub fn new(alloc: Global, bytes: &[u8]) -> Result<Self, NoMemory>
         requires { IsStr bytes.now }
@@ -120,13 +112,6 @@ fn first_bad(bytes: &[u8]) -> Option<usize>
     ensures { result ≡ first_outside is_text_byte bytes.now }
 {
     bytes.iter().position(|byte| !is_text_byte(*byte))
-}
-
-/// Whether a text may have each of the bytes.
-fn are_allowed(bytes: &[u8]) -> bool
-    ensures { result ≡ list_all is_text_byte bytes.now }
-{
-    bytes.iter().all(|byte| is_text_byte(*byte))
 }
 
 impl PartialEq for Str {

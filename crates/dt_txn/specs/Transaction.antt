@@ -6,7 +6,7 @@
 use Rattle.std.specs.Prelude.{◌≡◌, ◌<◌, ◌==◌, nat_lt, ℕ, List, [], ◌∷◌, ◌++◌, map, filter, if◌then◌else◌}
 use Rattle.dt_lists.specs.Lists.{AllIn}
 use Rattle.dt_access.specs.Clash.{Bytes}
-use Rattle.dt_access.specs.Granules.{mode_of_move}
+use Rattle.dt_access.specs.Granules.{IsUnit, mode_of_move}
 use Rattle.dt_access.specs.declared.TxnId.{TxnId}
 use Rattle.dt_access.specs.declared.Mode.{Mode}
 use Rattle.dt_access.specs.declared.Access.{Access}
@@ -14,7 +14,7 @@ use Rattle.dt_access.specs.declared.Part.{Part}
 use Rattle.dt_access.specs.Orders.{HasAscendingKeys}
 use Rattle.dt_proc.specs.Tree.{ProcTree}
 use Rattle.dt_eval.specs.Calls.{CallFits, call_keys}
-use Rattle.dt_table.specs.Table.{Table, IsUnit, home_of, counter_of}
+use Rattle.dt_table.specs.Table.{Table, home_of, counter_of}
 use Rattle.dt_txn.specs.declared.txn.Body.{Body}
 use Rattle.dt_txn.specs.declared.txn.Body.TheVariants.{Call, Move}
 use Rattle.dt_txn.specs.declared.txn.Txn.{Txn}

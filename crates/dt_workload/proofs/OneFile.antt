@@ -1,4 +1,5 @@
 -- Bytes are one workload of a cluster or have one fault, and never both.
+use Rattle.dt_access.specs.Granules.{IsUnitKey}
 use Rattle.std.proofs.Common.{◌≡◌, ◌≢◌, ◌⊎◌, inl, inr, ℕ, zero, suc, ◌+◌, ◌<◌, ◌≤◌, ◌==◌, Bool, true, false, cond, not, nat_lt, List, [], ◌∷◌, ◌++◌, length}
 use Rattle.std.proofs.Common.{map, slice_get, Option, Some, None, refl, sym, ap, ◌∙◌, subst, arith, append_assoc, append-nil, length-append}
 use Rattle.std.specs.Prelude.{nat_eq, IsSome}
@@ -22,7 +23,7 @@ use Rattle.dt_cluster.specs.Valid.{IsValidCluster}
 use Rattle.dt_text.specs.Texts.{Bytes}
 use Rattle.dt_workload.specs.Lines.{Form, session_line, call_line, move_line, HasForm}
 use Rattle.dt_workload.specs.File.{proc_name, wanted_line, ranked_line, all_lines, AreSessions, IsWorkload, Needs, NothingMore, proc_named, FitsIf, GivesKeys, IsFormFault, IsLineFault, IsWorkloadFault}
-use Rattle.dt_workload.specs.Valid.{session_names, session_count_at, calls_in, IsMovable, WantedFits, RankedFits, IsValidSession, IsValidWorkload}
+use Rattle.dt_workload.specs.Valid.{session_names, session_count_at, calls_in, WantedFits, RankedFits, IsValidSession, IsValidWorkload}
 use Rattle.dt_workload.specs.declared.workload.Wanted.{Wanted}
 use Rattle.dt_workload.specs.declared.workload.Wanted.TheVariants.{Call, Move}
 use Rattle.dt_workload.specs.declared.workload.Ranked.{Ranked}
@@ -287,7 +288,7 @@ one_form_fault cluster before (call_line rank name args) =
     (one_need (FitsIf (proc_named cluster name) args) cause.Args _ (one_need (GivesKeys (proc_named cluster name) args) cause.Key _
     (one_need (calls_in before < 20000) cause.TooMany NothingMore no_need))))
 one_form_fault cluster before (move_line rank key region) =
-    one_need (¬ (before ≡ [])) cause.NoSession _ (one_need (IsMovable cluster.version key) cause.Key _
+    one_need (¬ (before ≡ [])) cause.NoSession _ (one_need (IsUnitKey cluster.version key) cause.Key _
     (one_need (region < cluster.regions) cause.Region _ (one_need (calls_in before < 20000) cause.TooMany NothingMore no_need)))
 
 one_line_fault : (cluster : Cluster) (before : List Session) (line : Bytes) → HasOneCause (IsLineFault cluster before line)
@@ -359,7 +360,7 @@ no_wanted_fault cluster once front last wanted others later fit =
         (met (GivesKeys (proc_named cluster name) args) cause.Key _ (subst (λ o. GivesKeys o args) (sym is) can.keys)
         (met (calls_in (front ++ last ∷ []) < 20000) cause.TooMany NothingMore (room_for_one front last wanted others later fit.few_calls) all_met))))
     by rank (Move key target) can =
-        met (¬ (front ++ last ∷ [] ≡ [])) cause.NoSession _ (some_before front last) (met (IsMovable cluster.version key) cause.Key _ can.0
+        met (¬ (front ++ last ∷ [] ≡ [])) cause.NoSession _ (some_before front last) (met (IsUnitKey cluster.version key) cause.Key _ can.0
         (met (target < cluster.regions) cause.Region _ can.1
         (met (calls_in (front ++ last ∷ []) < 20000) cause.TooMany NothingMore (room_for_one front last wanted others later fit.few_calls) all_met)))
 

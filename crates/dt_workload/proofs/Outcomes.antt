@@ -5,7 +5,7 @@ use Rattle.std.specs.Option.{option_and_then}
 use Rattle.std.proofs.lemmas.Option.{same_Some}
 use Rattle.dt_lists.specs.Lists.{Has, Pairwise, Either}
 use Rattle.dt_lists.proofs.Callers.{either_and, either_not, either_all, either_has}
-use Rattle.dt_access.specs.Granules.{unit_of}
+use Rattle.dt_access.specs.Granules.{IsUnitKey, unit_of}
 use Rattle.dt_text.specs.Texts.{IsKey, IsName}
 use Rattle.dt_text.specs.Lines.{FileLine, lines_of}
 use Rattle.dt_text.specs.Reading.{words_of}
@@ -24,7 +24,7 @@ use Rattle.dt_cluster.specs.declared.Cluster.{Cluster}
 use Rattle.dt_cluster.specs.Valid.{IsValidCluster}
 use Rattle.dt_text.specs.Texts.{Bytes}
 use Rattle.dt_workload.specs.Lines.{said, Form, session_line, call_line, move_line, SpellForm, HasForm, IsForm}
-use Rattle.dt_workload.specs.Valid.{IsMovable, session_names, session_count_at, calls_in}
+use Rattle.dt_workload.specs.Valid.{session_names, session_count_at, calls_in}
 use Rattle.dt_workload.specs.File.{AreSessions, IsWorkload, Needs, NothingMore, FitsIf, GivesKeys, proc_name, proc_named}
 use Rattle.dt_workload.specs.File.{IsFormFault, IsLineFault, IsWorkloadFault}
 use Rattle.dt_workload.specs.ReaderParts.{FormGoesOn, LineGoesOn, IsWithWanted, wanting}
@@ -83,13 +83,13 @@ with_wanted before some wanted =
     let cut = last_of before some in
     (cut.0 ++ wanting cut.1 wanted ∷ [], (cut.0, cut.1, cut.2, refl))
 
-either_movable : (version : ℕ) (key : Bytes) → Either (IsMovable version key)
+either_movable : (version : ℕ) (key : Bytes) → Either (IsUnitKey version key)
 either_movable version key = either_and _ _ (either_key key) (either_bytes (unit_of version key) key)
 
 move_comes_to : (cluster : Cluster) (before : List Session) (rank : ℕ) → rank < 10 → (key : Bytes) (region : ℕ) → FormComesTo cluster before (move_line rank key region)
 move_comes_to cluster before rank digit key region =
     need (¬ (before ≡ [])) cause.NoSession _ _ (either_some before) (λ some.
-    need (IsMovable cluster.version key) cause.Key _ _ (either_movable cluster.version key) (λ is.
+    need (IsUnitKey cluster.version key) cause.Key _ _ (either_movable cluster.version key) (λ is.
     need (region < cluster.regions) cause.Region _ _ (either_lt region cluster.regions) (λ there.
     need (calls_in before < 20000) cause.TooMany NothingMore _ (either_lt (calls_in before) 20000) (λ room.
     let after = with_wanted before some (record { rank = rank; wanted = Move key region }) in

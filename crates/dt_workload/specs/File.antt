@@ -2,6 +2,7 @@
 -- the first faulty one are some sessions, and that line's fault is the first of its causes in a fixed order, so each file
 -- is one workload or has one fault (`Laws`). The forms of lines are in `Lines`, and what a workload is in `Valid`. Read
 -- next: `Laws`.
+use Rattle.dt_access.specs.Granules.{IsUnitKey}
 use Rattle.std.specs.Prelude.{◌≡◌, ◌⊎◌, ℕ, ◌<◌, List, [], ◌∷◌, ◌++◌, map, flat_map, slice_get, Option, Some, None, IsSome}
 use Rattle.std.specs.Option.{option_and_then}
 use Rattle.dt_lists.specs.Lists.{Has, Pairwise}
@@ -14,7 +15,7 @@ use Rattle.dt_eval.specs.Meaning.{Fits, HasKeys}
 use Rattle.dt_cluster.specs.declared.Cluster.{Cluster}
 use Rattle.dt_text.specs.Texts.{Bytes}
 use Rattle.dt_workload.specs.Lines.{Form, session_line, call_line, move_line, HasForm}
-use Rattle.dt_workload.specs.Valid.{IsMovable, session_names, session_count_at, calls_in, IsValidWorkload}
+use Rattle.dt_workload.specs.Valid.{session_names, session_count_at, calls_in, IsValidWorkload}
 use Rattle.dt_workload.specs.declared.workload.Wanted.{Wanted}
 use Rattle.dt_workload.specs.declared.workload.Wanted.TheVariants.{Call, Move}
 use Rattle.dt_workload.specs.declared.workload.Ranked.{Ranked}
@@ -99,7 +100,7 @@ IsCallFault cluster before name args told =
 abbrev pub IsMoveFault : Cluster → List Session → Bytes → ℕ → WorkloadCause → Type 0
 IsMoveFault cluster before key region told =
     Needs (¬ (before ≡ [])) cause.NoSession
-    (Needs (IsMovable cluster.version key) cause.Key
+    (Needs (IsUnitKey cluster.version key) cause.Key
     (Needs (region < cluster.regions) cause.Region
     (Needs (calls_in before < 20000) cause.TooMany NothingMore))) told
 

@@ -1,13 +1,14 @@
 -- Inner words, for the private parts of the reader alone: what a line makes of the sessions so far, and why it makes
 -- nothing. `File` says the same of whole files; a reader of the contracts of `dt_workload` can skip this file. Read next:
 -- `File`.
+use Rattle.dt_access.specs.Granules.{IsUnitKey}
 use Rattle.std.specs.Prelude.{◌≡◌, ◌≢◌, ℕ, ◌<◌, ◌≤◌, ◌^◌, List, [], ◌∷◌, ◌++◌, slice_get, Option, MatchOption, IsSome}
 use Rattle.std.specs.Fmt.{decimal}
 use Rattle.dt_workload.specs.Lines as lines
 use Rattle.dt_text.specs.Texts.{Bytes}
 use Rattle.dt_workload.specs.Lines.{Said, bare, SpellForm, IsRanked, IsForm, HasForm}
 use Rattle.dt_workload.specs.File.{proc_name, Needs, NothingMore, FitsIf, GivesKeys}
-use Rattle.dt_workload.specs.Valid.{IsMovable, session_names, session_count_at, calls_in}
+use Rattle.dt_workload.specs.Valid.{session_names, session_count_at, calls_in}
 use Rattle.dt_proc.specs.Tree.{ProcTree}
 use Rattle.dt_text.specs.declared.Value.{Value}
 use Rattle.dt_lists.specs.Lists.{Has}
@@ -82,7 +83,7 @@ FormGoesOn cluster before (lines.call_line rank name args) after =
     (number : ℕ) × (proc_name (slice_get cluster.procs number) ≡ name) × CallFits cluster.procs number args
     × (calls_in before < 20000) × (rank < 10) × IsWithWanted before (record { rank = rank; wanted = Call number args }) after
 FormGoesOn cluster before (lines.move_line rank key target) after =
-    IsMovable cluster.version key × (target < cluster.regions) × (calls_in before < 20000) × (rank < 10) × IsWithWanted before (record { rank = rank; wanted = Move key target }) after
+    IsUnitKey cluster.version key × (target < cluster.regions) × (calls_in before < 20000) × (rank < 10) × IsWithWanted before (record { rank = rank; wanted = Move key target }) after
 
 -- a line goes on some sessions: by its form
 abbrev pub LineGoesOn : Cluster → List Session → Bytes → List Session → Type 0

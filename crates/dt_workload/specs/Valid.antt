@@ -10,20 +10,16 @@ use Rattle.dt_cluster.specs.declared.Cluster.{Cluster}
 use Rattle.dt_text.specs.Texts.{Bytes}
 use Rattle.dt_workload.specs.declared.workload.Wanted.{Wanted}
 use Rattle.dt_workload.specs.declared.workload.Wanted.TheVariants.{Call, Move}
-use Rattle.dt_access.specs.Granules.{unit_of}
+use Rattle.dt_access.specs.Granules.{IsUnitKey}
 use Rattle.dt_workload.specs.declared.workload.Ranked.{Ranked}
 use Rattle.dt_workload.specs.declared.workload.Session.{Session}
 use Rattle.dt_workload.specs.declared.workload.Workload.{Workload}
 
--- a key that can be moved in a cluster of this version: in version 2 it is a granule
-abbrev pub IsMovable : ℕ → Bytes → Type 0
-IsMovable version key = IsKey key × (unit_of version key ≡ key)
-
--- a call names a procedure, which its arguments fit and by which they name keys; a move is of a key that can be moved, to a
+-- a call names a procedure, which its arguments fit and by which they name keys; a move is of a key that is a unit, to a
 -- region
 abbrev pub WantedFits : Cluster → Wanted → Type 0
 WantedFits cluster (Call proc args) = CallFits cluster.procs proc args
-WantedFits cluster (Move key target) = IsMovable cluster.version key × (target < cluster.regions)
+WantedFits cluster (Move key target) = IsUnitKey cluster.version key × (target < cluster.regions)
 
 -- a call or a move with its rank, which is one digit
 abbrev pub RankedFits : Cluster → Ranked → Type 0

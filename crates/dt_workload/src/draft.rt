@@ -3,7 +3,6 @@ ghost use Rattle.dt_lists.specs.Lists.{Has};
 ghost use Rattle.dt_text.specs.Texts.{IsName};
 ghost use Rattle.dt_eval.specs.Calls.{CallFits};
 ghost use Rattle.dt_eval.specs.Meaning.{Fits, HasKeys};
-ghost use Rattle.dt_access.specs.Granules.{unit_of};
 ghost use Rattle.dt_cluster.specs.Valid.{IsValidCluster};
 ghost use Rattle.dt_workload.specs.File.{IsCallFault, IsLineFault, IsMoveFault, IsSessionFault, proc_name, proc_named};
 ghost use Rattle.dt_workload.specs.Valid.{calls_in, session_names, session_count_at};
@@ -14,7 +13,7 @@ ghost use Rattle.dt_workload.specs.declared.error.WorkloadCause.TheVariants as c
 use crate::error::{Refusal, WorkloadCause};
 use crate::form::{Form, read_form};
 use crate::workload::{Bodies, Ranked, Session, SessionList, Wanted, Workload};
-use dt_access::is_granule;
+use dt_access::is_unit;
 use dt_cluster::Cluster;
 use dt_eval::{Args, KeysError, fits, keys_of};
 use dt_proc::Proc;
@@ -141,7 +140,7 @@ impl Draft {
             return Err(Refusal::Cause(WorkloadCause::Key));
         }
         let key = Key::new(alloc, word)?;
-        if !is_movable(cluster.version, &key) {
+        if !is_unit(cluster.version, &key) {
             return Err(Refusal::Cause(WorkloadCause::Key));
         }
         if region >= u32::from(cluster.regions) {
@@ -179,13 +178,6 @@ impl Draft {
             sessions: SessionList::from_vec(sessions),
         }
     }
-}
-
-/// Whether a key can be moved: in version 2 it is a granule.
-fn is_movable(version: u8, key: &Key) -> bool
-    ensures { IsTrue result ↔ (unit_of version key.now ≡ key.now) }
-{
-    version != 2 || is_granule(key)
 }
 
 /// The name of a session.

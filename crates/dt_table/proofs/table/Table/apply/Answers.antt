@@ -1,6 +1,7 @@
 use Rattle.std.proofs.Common.{◌≡◌, ◌+◌, ◌<◌, ◌^◌, ℕ, ap, arith, rules, subst, sym, ◌∙◌}
 use Rattle.std.proofs.lemmas.Grind.{common_steps}
-use Rattle.dt_table.specs.Table.{Table, HasPlaceFor, IsUnit, MovesUnit, all_written, counter_of}
+use Rattle.dt_access.specs.Granules.{IsUnit}
+use Rattle.dt_table.specs.Table.{Table, HasPlaceFor, MovesUnit, all_written, counter_of}
 use Rattle.dt_table.proofs.TableLaws.{all_written-keeps}
 use Rattle.dt_table.proofs.table.Table.apply.Goals as goal
 

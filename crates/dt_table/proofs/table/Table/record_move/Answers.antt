@@ -1,7 +1,8 @@
 use Rattle.std.proofs.Common.{◌≡◌, ℕ, ◌+◌, ◌<◌, ◌^◌, ◌∷◌, [], ◌++◌, Option, Some, ap, ap₂, sym, subst, ◌∙◌, arith, length}
 use Rattle.indexmap.specs.IndexMap.{insert_entry}
+use Rattle.dt_access.specs.Granules.{IsUnit}
 use Rattle.dt_access.specs.Clash.{Bytes, same_key}
-use Rattle.dt_table.specs.Table.{TableView, IsUnit, counter_of}
+use Rattle.dt_table.specs.Table.{TableView, counter_of}
 use Rattle.dt_table.specs.StoredUnitInner.{by_bytes, stored_of}
 use Rattle.dt_table.specs.StoredMovesInner.{AreLinked, histories_of, table_view}
 use Rattle.dt_table.specs.declared.stored.StoredUnit.{StoredUnit}
