@@ -1,3 +1,4 @@
+pub mod Callers
 pub mod Scan
 pub mod Same
 pub mod Growth

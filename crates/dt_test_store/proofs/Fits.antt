@@ -1,11 +1,9 @@
 -- What may be inserted.
-use Rattle.std.proofs.Common.{◌≡◌, ◌*◌, ◌<◌, ◌≤◌, ◌↔◌, Bool, true, false, [], ◌∷◌, length, arith, IsTrue}
+use Rattle.std.proofs.Common.{◌*◌, ◌<◌, ◌≤◌, [], ◌∷◌, length, arith}
 use Rattle.std.proofs.lemmas.List.Sums.{sum_by-cons}
 use Rattle.dt_lists.specs.Lists.{AllIn}
-use Rattle.dt_lists.proofs.Callers.{all_get}
-use Rattle.dt_access.specs.declared.Part.{Part}
 use Rattle.dt_sched.specs.Views.{View}
-use Rattle.dt_sched.specs.Sched.{parts_in, CanInsert}
+use Rattle.dt_sched.specs.Sched.{parts_in}
 use Rattle.dt_test_store.specs.Fitting.{IsShort}
 
 -- few short logs have few parts
@@ -15,14 +13,3 @@ few_parts (log ∷ view) a =
     let rest : parts_in view ≤ 100 * length view = few_parts view a.1 in
     let short : length log < 100 = a.0 in
     omega (arith, sum_by-cons length log view, rest, short)
-
--- a part that may be inserted has its home among the logs
-pub home_there : (view : View) (part : Part) → CanInsert view part → part.home < length view
-home_there view part c = all_get (λ home. home < length view) part.homes c.within part.home c.homed
-
--- what a test that answered true tells, and one that answered false
-pub tested : {P : Type 0} (b : Bool) → (IsTrue b ↔ P) → b ≡ true → P
-tested b k e = k.0 e
-
-pub refuted : {P : Type 0} (b : Bool) → (IsTrue b ↔ P) → b ≡ false → ¬ P
-refuted b k e p = let t : b ≡ true = k.1 p in cc
