@@ -33,12 +33,12 @@ pub record AsksBuilt (words : List Bytes) (task : Task) : Type 0 where
   pub asked : Asks words task
   pub built : ¬ IsThreaded task
 
--- and the task names this cluster
+-- the words ask for a task that is built, and the task names this cluster
 pub record AsksOn (told : Option Files) (words : List Bytes) (task : Task) (cluster : Cluster) : Type 0 where
   pub asks : AsksBuilt words task
   pub cluster_word : NamesThis told task cluster
 
--- or this cluster, and the file of this workload
+-- the words ask for a task that is built, and these are the cluster that it names and the workload of its file
 pub record AsksWith (told : Option Files) (words : List Bytes) (task : Task) (cluster : Cluster) (workload : Workload) : Type 0 where
   pub asks : AsksBuilt words task
   pub loaded : Loaded told task cluster workload

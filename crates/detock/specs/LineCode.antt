@@ -1,6 +1,7 @@
 -- Lines are written in pieces: how they end.
 --
--- Scaffolding: only the contracts of the writers of fault lines cite this. The lines themselves stand in Statuses.
+-- Scaffolding: only the contracts of the writers of fault lines cite this, and a reader of promises skips it. Read next:
+-- Statuses, for the lines themselves.
 use Rattle.std.specs.Prelude.{[], ◌∷◌, ◌++◌, codes}
 use Rattle.dt_access.specs.Clash.{Bytes}
 use Rattle.dt_cluster.specs.declared.ClusterCause.{ClusterCause}

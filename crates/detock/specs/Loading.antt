@@ -23,7 +23,7 @@ file_limit = 16777216
 abbrev pub HasFile : Option Files → Bytes → (Bytes → Type 0) → Type 0
 HasFile told name P = (bytes : Bytes) × IfSome told (λ files. files name ≡ Some bytes) × P bytes
 
--- these bytes hold a cluster
+-- these bytes hold a cluster: they are not too long, and are a cluster file of this cluster
 pub record HoldCluster (cluster : Cluster) (bytes : Bytes) : Type 0 where
   pub short : length bytes ≤ file_limit
   pub form : IsCluster bytes cluster

@@ -1,6 +1,7 @@
 -- What the parts of the program answer where they refuse.
 --
--- Scaffolding: only the contracts of the steps below the top call cite this. What a caller is promised stands in Causes.
+-- Scaffolding: the top call is made of steps (a file, a cluster, a workload, the events), and only the contracts of these
+-- cite this. Read next: Causes, for what a caller is promised.
 use Rattle.std.specs.Prelude.{◌≡◌, ℕ, ◌<◌, ◌≤◌, List, length}
 use Rattle.dt_access.specs.Clash.{Bytes}
 use Rattle.dt_text.specs.Lines.{lines_of}

@@ -1,7 +1,8 @@
 -- What the program ends with: its exit numbers and fault lines.
 --
--- A caller learns how a call ended by a number, and a person by one line, whose text is fixed here to the byte. A byte of a
--- name that is no visible character of ASCII is printed as `?`, so that a line is one line on every terminal.
+-- A caller learns how a call ended by a number, and a person by one line, whose text is fixed here to the byte. A byte of
+-- a name that is no visible character of ASCII is printed as `?`, so that a line is one line on every terminal. This is
+-- the last of the files here. Read next: src/top.rt, the call that promises all this.
 use Rattle.std.specs.Prelude.{Option, Some, None, ℕ, [], ◌∷◌, ◌++◌, codes, map, ◌&&◌, nat_le, if◌then◌else◌}
 use Rattle.std.specs.Fmt.{decimal}
 use Rattle.std.specs.declared.io.ErrorKind.{ErrorKind}

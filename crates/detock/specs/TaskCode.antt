@@ -1,6 +1,7 @@
 -- What the reader of the command line gives.
 --
--- Scaffolding: it ties the program's own types for words to the tasks that they stand for.
+-- Scaffolding: it ties the program's own types for words to the tasks that they stand for, and a reader of promises skips
+-- it. Read next: Tasks, for the tasks.
 use Rattle.dt_access.specs.Clash.{Bytes}
 use Rattle.detock.specs.Tasks.{Task, Replay, IsBuiltin, IsClusterFile, builtin_word}
 use Rattle.detock.specs.declared.words.ClusterWord.{ClusterWord}

@@ -8,7 +8,7 @@ use Rattle.std.specs.Prelude.{◌≡◌, ◌≢◌, ℕ, ◌<◌, ◌≤◌, ◌
 use Rattle.std.specs.Fmt.{decimal}
 use Rattle.dt_access.specs.Clash.{Bytes}
 
--- the bytes of words
+-- words of the command line, each as its bytes
 abbrev pub word_bytes : {A : Type 0} → List (String A) → List Bytes
 word_bytes words = map string_bytes words
 
@@ -42,7 +42,7 @@ pub data Task : Type 0 where
   Run : (cluster workload : Bytes) → Task
   Big : (size : Bytes) → Task
 
--- the words that ask for it
+-- the words by which a task is asked for
 abbrev pub task_words : Task → List Bytes
 task_words (Replay cluster workload events) = codes "replay" ∷ cluster ∷ workload ∷ events ∷ []
 task_words (Run cluster workload) = codes "run" ∷ cluster ∷ workload ∷ []
@@ -59,7 +59,7 @@ pub record Asks (words : List Bytes) (task : Task) : Type 0 where
   pub form : words ≡ task_words task
   pub right : IsTask task
 
--- the words ask for some task
+-- the words ask for some task, so they are of one of the forms
 abbrev pub AreAForm : List Bytes → Type 0
 AreAForm words = (task : Task) × Asks words task
 

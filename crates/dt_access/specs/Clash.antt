@@ -1,7 +1,7 @@
 -- When two uses of rows clash. Of two transactions that use one row, where one of them does more than read it, the order
--- matters; so it does where one takes a granule as a whole and the other uses a row of it. Of all others it does not. So a
--- graph of what has to wait for what has its edges just where parts clash. Granules stand in Granules.antt, the order of
--- keys in Orders.antt.
+-- matters; so it does where one takes a granule as a whole and the other uses a row of it. Of all others it does not. So
+-- a graph of what has to wait for what has its edges just where parts clash. Read Granules.antt before, for what a
+-- granule is. Read next: Views.antt of dt_sched, for the graph.
 use Rattle.std.specs.Prelude.{Bool, true, false, ◌&&◌, ◌||◌, nat_eq, List}
 use Rattle.std.specs.List.{list_any}
 use Rattle.std.specs.Cmp.Lexicographic.{pointwise}

@@ -1,6 +1,7 @@
 -- Ids of transactions: how two are compared, and how an id is spelled. An id is the number of a submission in its region,
 -- with that region. Every region can compare any two ids without asking another, so a group of transactions that wait for
--- each other is put in the same order everywhere. What orders transactions before ids do: dt_sched.
+-- each other is put in the same order everywhere. Ranks come before ids in that order (`IsSooner` of dt_sched). Read
+-- next: Granules.antt.
 use Rattle.std.specs.Prelude.{◌≡◌, ◌≢◌, ℕ, ◌<◌, ◌^◌, ◌⊎◌, Bool, ◌&&◌, ◌==◌, List, ◌∷◌, ◌++◌, Option, MatchOption}
 use Rattle.std.specs.Fmt.{decimal}
 use Rattle.std.specs.List.{list_any}

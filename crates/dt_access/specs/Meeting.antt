@@ -1,5 +1,6 @@
--- How a clash is found: apart on rows, by going along both lists, and on granules, where for each granule that one list
--- takes as a whole the other is searched for a key of it. What a clash is stands in Clash.antt.
+-- How the code finds a clash: apart on rows, by going along both lists, and on granules, where for each granule that one
+-- list takes as a whole the other is searched for a key of it. Both go along sorted lists, so neither compares each use
+-- with each. Only the private functions of `clash` cite this; read Clash.antt for what a clash is.
 use Rattle.std.specs.Prelude.{◌≡◌, ℕ, Bool, true, false, ◌&&◌, List, [], ◌∷◌}
 use Rattle.std.specs.List.{list_any}
 use Rattle.std.specs.List.Sorted.{IsPartitionPoint}

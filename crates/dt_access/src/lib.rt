@@ -1,5 +1,10 @@
 //! What a transaction wants of the rows: ids, granules of keys, access lists, the parts that homes order, and when two
 //! parts clash.
+//!
+//! A part is what one home of a transaction puts into its log: the keys of that home, each with how it is used, all homes of
+//! the transaction, and its rank. Two parts that clash have to run in the order of the log; all others may change places.
+//!
+//! Read next: `specs/Granules.antt` and `specs/Clash.antt`; `specs/Ids.antt` for how ids are ordered and spelled.
 #![tactic(auto)]
 
 mod access;

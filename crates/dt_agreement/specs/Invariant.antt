@@ -1,7 +1,7 @@
--- What every legal world keeps, for any number of regions, homes and moves (`Inv`): ids, logs, what regions inserted, resolved
--- and executed, and where sessions stand. And that each annotation is rooted in one history of moves (`Rooted`), which is what
--- ties attempts together that use keys of one unit under different homes. From the two follows that all regions agree; the laws of
--- `src/laws.rt` say so.
+-- What every legal world keeps, for any number of regions, homes and moves (`Inv`): ids, logs, what regions inserted,
+-- resolved and executed, and where sessions stand. And that each annotation is rooted in one history of moves (`Rooted`),
+-- which is what ties attempts together that use keys of one unit under different homes. From the two follows that all
+-- regions agree. Read next: src/laws.rt, whose laws say so; docs/PROOF.md tells why it is so.
 use Rattle.std.specs.Prelude.{◌≡◌, ◌<◌, ◌≤◌, ◌↔◌, ◌+◌, ◌*◌, ◌==◌, ℕ, zero, suc, Bool, List, length, map, filter, take, slice_index, slice_get, Option, Some, None}
 use Rattle.std.specs.List.{list_any}
 use Rattle.dt_lists.specs.Lists.{AnyIn, AllIn, Has, Pairwise}
@@ -123,7 +123,8 @@ abbrev pub IsPlaced : ℕ → List Submission → Session → ℕ → Option Txn
 IsPlaced tries submitted session answered None = attempts_by session.name submitted ≤ tries * answered
 IsPlaced tries submitted session answered (Some id) = IsWaiting tries submitted session answered id
 
--- a session's place
+-- where a session stands is right: it has no more calls answered than there are, and its attempt, if it waits for one, is
+-- an attempt of its next call
 pub record IsPlaceOf (tries : ℕ) (w : World) (session : Session) (place : Place) : Type 0 where
   pub answered : place.answered ≤ length session.calls
   pub placed : IsPlaced tries (node_at w session.region).submitted session place.answered place.waits

@@ -1,5 +1,5 @@
 -- The built-in clusters, which need no file: `:1` to `:8` on the command line. They mean what a file with the line
--- `regions = N` alone means. What a cluster has to be is in `Valid`.
+-- `regions = N` alone means. Read next: `Valid`, for what a cluster has to be.
 use Rattle.std.specs.Prelude.{ℕ, []}
 use Rattle.dt_proc.specs.Builtin.{builtin_procs}
 use Rattle.dt_cluster.specs.declared.cluster.Cluster.{Cluster}

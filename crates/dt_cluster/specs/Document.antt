@@ -1,6 +1,6 @@
--- A cluster file as a document of TOML, and a table of it as the list of its entries by ascending names. What a document is,
--- is the crate `toml`'s matter (`parse_document`); all that is said of cluster files stands on its table. Next: `Numbers` and
--- `Rows`, the entries one by one, and `File`, the whole file.
+-- A cluster file as a document of TOML, and a table of it as the list of its entries by ascending names. What a document
+-- is, is the crate `toml`'s matter (`parse_document`); all that is said of cluster files stands on its table. Read next:
+-- `Numbers` and `Rows`, the entries one by one, and then `File`, the whole file.
 use Rattle.std.specs.Prelude.{◌≡◌, ◌⊎◌, List, [], ◌∷◌, map, Option, Some, None, IsUtf8}
 use Rattle.std.specs.Ordering.{nat_cmp}
 use Rattle.std.specs.Cmp.Lexicographic.{slice_cmp}

@@ -1,6 +1,7 @@
--- What a cluster file is, and what fault is told of a file that is none. The faults have an order: unknown names, the numbers,
--- the procedures, the homes, the rows; the first fault in that order is told, so a file has at most one (`Laws`). The entries
--- are in `Numbers` and `Rows`, and what every cluster that is read keeps is in `Valid`.
+-- What a cluster file is, and what fault is told of a file that is none. The faults have an order: unknown names, the
+-- numbers, the procedures, the homes, the rows; the first fault in that order is told, so a file has at most one
+-- (`Laws`). The entries are in `Numbers` and `Rows`. Read next: `Laws`, and `Valid` for what every cluster that is read
+-- keeps.
 use Rattle.std.specs.Prelude.{◌≡◌, ◌⊎◌, ℕ, List, [], ◌∷◌, Option, Some, None, Ok, Err, codes}
 use Rattle.dt_lists.specs.Lists.{AllIn, Has, Pairwise}
 use Rattle.dt_text.specs.declared.value.Value.{Value}
@@ -25,6 +26,7 @@ abbrev pub known_names : List Bytes
 known_names =
     codes "regions" ∷ codes "version" ∷ codes "workers" ∷ codes "tries" ∷ codes "drop" ∷ codes "repeat" ∷ codes "procs" ∷ codes "homes" ∷ codes "rows" ∷ []
 
+-- the entry has a name that may stand at the top
 abbrev pub IsKnown : Entry → Type 0
 IsKnown entry = Has known_names entry.0
 
@@ -45,6 +47,7 @@ HasNumbers top regions version workers tries drop repeat =
     HasNumber top regions_entry regions × HasNumber top version_entry version × HasNumber top workers_entry workers × HasNumber top tries_entry tries
     × HasNumber top drop_entry drop × HasNumber top repeat_entry repeat
 
+-- the entries that hold numbers, in the order in which their faults are told
 abbrev pub number_entries : List NumberEntry
 number_entries = regions_entry ∷ version_entry ∷ workers_entry ∷ tries_entry ∷ drop_entry ∷ repeat_entry ∷ []
 
@@ -75,9 +78,11 @@ IsProcsFaultAt None fault = ⊥
 IsProcsFaultAt (Some (string text)) fault = (e : ProcError) × Outcome text (Err e) × IsToldAs e fault
 IsProcsFaultAt (Some other) fault = fault ≡ record { place = place.Entry (codes "procs"); cause = cause.Kind }
 
+-- these are the procedures that a document gives
 abbrev pub HasProcs : Members → List ProcTree → Type 0
 HasProcs top procs = GivesProcs (get_member (codes "procs") top) procs
 
+-- this is the fault of the procedures that a document gives
 abbrev pub IsProcsFault : Members → ClusterFault → Type 0
 IsProcsFault top fault = IsProcsFaultAt (get_member (codes "procs") top) fault
 
@@ -107,7 +112,7 @@ IsRowsFault top fault =
     × ((entries : List Entry) × AreEntriesAt (get_member (codes "rows") top) entries
     × IsFirstFaulty (λ e. e.0) (λ e. (r : Bytes × Value) × IsRow e r) IsBadRow entries name why))
 
--- a document is this cluster
+-- a document of TOML is this cluster: its names are known, and each entry gives what the cluster has
 pub record IsClusterOf (top : Members) (cluster : Cluster) : Type 0 where
   pub known : AreKnown top
   pub numbers : HasNumbers top cluster.regions cluster.version cluster.workers cluster.tries cluster.drop cluster.repeat
@@ -125,7 +130,7 @@ IsFaultOf top fault =
     ⊎ (((procs : List ProcTree) × HasProcs top procs) × (IsHomesFault top version regions fault
     ⊎ (((homes : List (Bytes × ℕ)) × HasHomes top version regions homes) × IsRowsFault top fault)))))))
 
--- the bytes are this cluster
+-- the bytes are a cluster file of this cluster
 abbrev pub IsCluster : Bytes → Cluster → Type 0
 IsCluster bytes cluster = (top : Members) × IsDocument bytes top × IsClusterOf top cluster
 

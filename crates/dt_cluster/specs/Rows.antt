@@ -1,6 +1,6 @@
--- The entries of the tables `homes` and `rows`: a home is a key, in version 2 a
--- granule, with the number of a region, a row a key with a number or a
--- text. For an entry that is none, the cause. `File` goes through them by ascending names.
+-- The entries of the tables `homes` and `rows`. A home is a key, in version 2 a granule, with the number of a region; a
+-- row is a key with a number or a text. Of an entry that is no such thing it is said for which cause. Read next: `File`,
+-- which goes through them by ascending names.
 use Rattle.std.specs.Prelude.{◌≡◌, ◌⊎◌, ◌<◌, ℕ, pos, FitsSigned}
 use Rattle.std.specs.Int.{w64}
 use Rattle.dt_text.specs.Texts.{IsKey, IsStr}

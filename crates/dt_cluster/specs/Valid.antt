@@ -1,5 +1,6 @@
--- What every cluster is that a file, or a number of regions, gives: its numbers are in their ranges, its procedures are sound,
--- and its homes and rows can stand in a table. Whoever takes a cluster may rely on this (`IsValidCluster`).
+-- What every cluster is that a file, or a number of regions, gives: its numbers are in their ranges, its procedures are
+-- sound, and its homes and rows can stand in a table. Whoever takes a cluster may rely on this (`IsValidCluster`). Read
+-- next: `World` of dt_session, which begins with a cluster.
 use Rattle.std.specs.Prelude.{◌≡◌, ◌<◌, ◌≤◌, ◌⊎◌, ℕ, map, FitsSigned}
 use Rattle.std.specs.Int.{w64}
 use Rattle.dt_lists.specs.Lists.{AllIn, Distinct}

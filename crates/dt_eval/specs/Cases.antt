@@ -1,6 +1,7 @@
--- The meaning of procedures by cases, to be read aloud: each line says when an expression gives a value or aborts, and what a
--- statement does with the variables, the rows and the values given so far. Meaning says the same by a function, which proofs
--- compute with; that both agree is a law.
+-- The meaning of procedures by cases, to be read aloud: each line says when an expression gives a value or aborts, and
+-- what a statement does with the variables, the rows and the values given so far. Meaning says the same by a function,
+-- which proofs compute with; that both agree is a law. Read next: Keys, for what a call uses, and Calls, for what the
+-- store asks of a call.
 use Rattle.std.specs.Prelude.{◌≡◌, ◌≢◌, ◌⊎◌, ℕ, ℤ, pos, neg_ℤ, ◌+ℤ◌, ◌-ℤ◌, ◌*ℤ◌, ◌<ℤ◌, ◌≤ℤ◌, int_div, int_rem, ◌<◌, ◌≤◌, Bool, true, false, not, ◌&&◌, ◌||◌}
 use Rattle.std.specs.Prelude.{List, [], ◌∷◌, ◌++◌, length, slice_get, Option, Some, None, Result, Ok, Err, FitsSigned}
 use Rattle.std.specs.Int.{w64}

@@ -1,5 +1,5 @@
--- What expressions give, the rows that a run has, and the state of a run between two statements. A row is found by its key, so
--- two declared names of one key are one row. Read Cases next.
+-- What expressions give, the rows that a run has, and the state of a run between two statements. A row is found by its
+-- key, so two declared names of one key are one row. Read next: Cases.
 use Rattle.std.specs.Prelude.{ℕ, Bool, true, false, cond, List, [], ◌∷◌, ◌++◌, map, Option, Some, None, Result, Ok, Err, slice_index_or}
 use Rattle.dt_access.specs.Clash.{Bytes, same_key}
 use Rattle.dt_text.specs.declared.Value.{Value}
@@ -68,15 +68,15 @@ pub record RunState : Type 0 where
 abbrev pub row_at : List Bytes → RunState → ℕ → Option Value
 row_at names s k = value_in s.rows (declared_key names k)
 
--- with one more variable
+-- a state with one more variable
 abbrev pub with_variable : Datum → RunState → RunState
 with_variable d s = record { variables = s.variables ++ d ∷ []; rows = s.rows; given = s.given }
 
--- with a new value in the row of a declared key, or none
+-- a state in which the row of a declared key has a new value or none
 abbrev pub with_row_value : List Bytes → ℕ → Option Value → RunState → RunState
 with_row_value names k value s = record { variables = s.variables; rows = with_value (declared_key names k) value s.rows; given = s.given }
 
--- with one more value given
+-- a state with one more value given
 abbrev pub with_given : Option Value → RunState → RunState
 with_given value s = record { variables = s.variables; rows = s.rows; given = s.given ++ value ∷ [] }
 

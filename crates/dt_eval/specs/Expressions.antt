@@ -1,5 +1,6 @@
--- What expressions give, as a function: the value of an expression from the variables and the rows, or the cause of its abort.
--- The left operand comes first, and `and` and `or` may not need the right one. Cases says the same line by line.
+-- What expressions give, as a function: the value of an expression from the variables and the rows, or the cause of its
+-- abort. The left operand comes first, and `and` and `or` may not need the right one. Cases says the same line by line,
+-- for reading. Read next: Statements.
 use Rattle.std.specs.Prelude.{ℕ, zero, suc, ℤ, pos, negsuc, neg_ℤ, ◌+ℤ◌, ◌-ℤ◌, ◌*ℤ◌, int_lt, int_le, int_div, int_rem, ◌^◌, nat_lt, nat_le, Bool, true, false}
 use Rattle.std.specs.Prelude.{not, ◌&&◌, ◌||◌, cond, List, [], ◌∷◌, ◌++◌, length, slice_get, is_some, Option, Some, None, Result, Ok, Err}
 use Rattle.std.specs.Fmt.{signed_decimal}
@@ -99,32 +100,32 @@ abbrev pub variable_in : Option Datum → Result Datum Cause
 variable_in (Some d) = Ok d
 variable_in None = Err cause.Kind
 
--- the number in a row
+-- the number in a row; Kind where the row has none
 abbrev pub number_in : Option Value → Result Datum Cause
 number_in (Some (val.Int z)) = Ok (Int z)
 number_in _ = Err cause.Kind
 
--- the text in a row
+-- the text in a row; Kind where the row has none
 abbrev pub text_in : Option Value → Result Datum Cause
 text_in (Some (val.Text t)) = Ok (Text t)
 text_in _ = Err cause.Kind
 
--- how many bytes a text has
+-- how many bytes a text has; the last line cannot come
 abbrev pub byte_count : Datum → Result Datum Cause
 byte_count (Text t) = Ok (Int (pos (length t)))
 byte_count _ = Err cause.Kind
 
--- the printed form of a number
+-- the printed form of a number; the last line cannot come
 abbrev pub printed_datum : Datum → Result Datum Cause
 printed_datum (Int z) = Ok (Text (signed_decimal z))
 printed_datum _ = Err cause.Kind
 
--- the number with the other sign
+-- the number with the other sign, or Overflow; the last line cannot come
 abbrev pub negated : Datum → Result Datum Cause
 negated (Int z) = in_range (neg_ℤ z)
 negated _ = Err cause.Kind
 
--- the other truth
+-- the opposite of a truth; the last line cannot come
 abbrev pub other_truth : Datum → Result Datum Cause
 other_truth (Truth b) = Ok (Truth (not b))
 other_truth _ = Err cause.Kind

@@ -1,4 +1,5 @@
--- Scaffolding: what the code keeps of a run, as the state of the run.
+-- Scaffolding: a frame, which is what the code keeps of a run, and the state of the run that it stands for. Only private
+-- functions of this crate cite this. Read Meaning for what a run is.
 use Rattle.std.specs.Prelude.{◌≡◌, ◌<◌, ℕ, ℤ, Bool, List, map, length, slice_index_or, [], Option, Some, None, Result, Ok, Err}
 use Rattle.dt_proc.specs.declared.tree.KeyItem.{KeyItem}
 use Rattle.dt_proc.specs.declared.tree.KeyItem.TheVariants as item

@@ -1,5 +1,6 @@
--- The keys that a call uses. They follow from its arguments alone, before it runs, so that the order of calls can be found
--- without running them. A key that is declared twice is used once, for writing if either declaration writes.
+-- The keys that a call uses. They follow from its arguments alone, before it runs, so that the order of calls can be
+-- found without running them. A key that is declared twice is used once, for writing if either declaration writes. Read
+-- next: Meaning, which runs a call on the rows of these keys.
 use Rattle.std.specs.Prelude.{◌≡◌, ℕ, zero, suc, Bool, true, false, List, [], ◌∷◌, map, slice_get, Option, Some, None}
 use Rattle.std.specs.Fmt.{signed_decimal}
 use Rattle.std.specs.List.{flat_map, fold}
@@ -53,7 +54,7 @@ IsFirstBadKey [] i = ⊥
 IsFirstBadKey (name ∷ names) zero = ¬ (IsKey name)
 IsFirstBadKey (name ∷ names) (suc i) = IsKey name × IsFirstBadKey names i
 
--- the mode of a declaration
+-- the mode of a declaration: Write where the key may be written, else Read
 abbrev pub mode_of : Bool → Mode
 mode_of true = Write
 mode_of false = Read

@@ -1,5 +1,6 @@
--- Laws of the meaning of procedures: the meaning by cases is the function, only the keys of a call count for it, and only keys
--- that are declared for writing are written. Agreement between regions rests on the last two.
+-- Laws of the meaning of procedures: the meaning by cases is the function, only the keys of a call count for it, and only
+-- keys that are declared for writing are written. Agreement between regions rests on the last two. Read next: `Execution`
+-- of dt_txn, which runs calls.
 use Rattle.std.specs.Prelude.{◌≡◌, ◌↔◌, List, map, Option}
 use Rattle.dt_lists.specs.Lists.{AnyIn, AllIn}
 use Rattle.dt_access.specs.Clash.{Bytes}

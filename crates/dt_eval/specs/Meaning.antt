@@ -1,5 +1,6 @@
--- What a call of a procedure means: which arguments it takes, and how its run ends, from the values of the rows of its keys. It
--- is a function of these alone, so every region finds the same. Read Cases for the meaning line by line.
+-- What a call of a procedure means: which arguments it takes, and how its run ends, from the values of the rows of its
+-- keys. It is a function of these alone, so every region finds the same. Read Cases for the meaning line by line. Read
+-- next: Laws, for what follows.
 use Rattle.std.specs.Prelude.{false, cond, List, [], ◌∷◌, map, Option, Result, Ok, Err}
 use Rattle.std.specs.List.{filter}
 use Rattle.dt_lists.specs.Lists.{Pairwise}

@@ -1,5 +1,5 @@
--- What statements do, as a function on the state of a run: a block ends at the first abort, and its lets with it. Cases says the
--- same line by line.
+-- What statements do, as a function on the state of a run: a block ends at the first abort, and its lets with it. Cases
+-- says the same line by line, for reading. Read next: Meaning, which makes a whole run of them.
 use Rattle.std.specs.Prelude.{ℕ, true, false, List, [], ◌∷◌, Option, Result, Ok, Err}
 use Rattle.dt_access.specs.Clash.{Bytes}
 use Rattle.dt_text.specs.declared.Value.{Value}
@@ -36,6 +36,7 @@ chosen (Truth true) first second = first
 chosen (Truth false) first second = second
 chosen _ first second = Err cause.Kind
 
+-- statements, and statements in order
 abbrev mutual
   -- the state after a statement, or the cause of its abort
   pub after_step : List Bytes → StmtTree → RunState → Result RunState Cause

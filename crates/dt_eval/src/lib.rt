@@ -1,4 +1,9 @@
 //! What a call of a procedure means: which rows it uses, and what it gives from their values.
+//!
+//! Which rows those are follows from the arguments alone, and what it gives from their values alone: so calls can be ordered
+//! before they run, and every region that runs one on the same values finds the same.
+//!
+//! Read next: `specs/Cases.antt`, the meaning case by case; `specs/Keys.antt`, the rows that a call uses; `src/laws.rt`.
 #![tactic(auto)]
 
 mod calls;

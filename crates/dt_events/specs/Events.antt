@@ -1,6 +1,7 @@
 -- Events as text: the words of an event's line, and the lines that are events. An event is one atomic step of one region,
--- and a file of events is a whole run, which can be told, kept and played again. What each kind of step does is not said
--- here (dt_session); how lines and words are cut is said in dt_text.
+-- and a file of events is a whole run, which can be told, kept and played again. How lines and words are cut is said in
+-- dt_text. Read next: Laws, why text and events are as good as each other; and `Step` of dt_session, for what each kind
+-- of step does.
 use Rattle.std.specs.Prelude.{◌≡◌, ℕ, ◌<◌, ◌≤◌, ◌^◌, ◌⊎◌, List, [], ◌∷◌, ◌++◌, length, map, codes, Option, Some, None}
 use Rattle.std.specs.List.{slice_range, join_with_byte}
 use Rattle.std.specs.Fmt.{decimal}
@@ -34,7 +35,7 @@ kind_word (Resolve region ids) = codes "resolve"
 kind_word (Execute region id) = codes "execute"
 kind_word (Answer region session) = codes "answer"
 
--- the words after its region
+-- the words of an event after that of its region
 abbrev pub argument_words : Event → List (List ℕ)
 argument_words (Submit region session) = session ∷ []
 argument_words (Append home source number) = decimal source ∷ decimal number ∷ []
@@ -44,7 +45,7 @@ argument_words (Resolve region ids) = map id_text ids
 argument_words (Execute region id) = id_text id ∷ []
 argument_words (Answer region session) = session ∷ []
 
--- the words of an event
+-- the words of an event: its kind, its region, and what else it names
 abbrev pub event_words : Event → List (List ℕ)
 event_words event = kind_word event ∷ decimal (region_of event) ∷ argument_words event
 

@@ -1,5 +1,5 @@
--- Only for the functions that the reader of events is made of: what each of them finds in a list of words. The contracts
--- of the public calls say what a line and a file are by Events.antt.
+-- Only for the functions that the reader of events is made of: what each of them finds in a list of words. Read
+-- Events.antt for what the public calls promise of a line and of a file.
 use Rattle.std.specs.Prelude.{◌≡◌, ◌≢◌, ℕ, ◌<◌, ◌^◌, List, length, map, Option, MatchOption}
 use Rattle.std.specs.Borrow.{Bor}
 use Rattle.dt_lists.specs.Lists.{AllIn}

@@ -1,4 +1,7 @@
 //! Events: the atomic steps of regions, and their text.
+//!
+//! Read next: `specs/Events.antt`, how each kind of event is written and what a file of events is. When an event may happen,
+//! and what it does, is said in `dt_session`.
 #![tactic(auto)]
 
 mod event;

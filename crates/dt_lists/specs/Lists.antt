@@ -1,6 +1,6 @@
 -- The words by which all crates speak of lists: some item, each item, one item before another, no item twice. Each is
 -- defined by recursion on the list, so that proofs go along the list; std's `Any`, `All` and `Contains` say the same by
--- index. What follows from them stands in proofs/Callers.antt; chains of steps stand in Chain.antt.
+-- index. What follows from them stands in proofs/Callers.antt. Read next: Chain.antt, chains of steps.
 use Rattle.std.specs.Prelude.{◌≡◌, ◌⊎◌, List, [], ◌∷◌, ◌++◌}
 
 -- some item of the list has P

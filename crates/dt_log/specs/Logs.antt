@@ -1,6 +1,7 @@
--- What it is to take a delivery of log entries into a log. A home's log reaches the other regions in packets that may come
--- twice, or overlap what was received: what is there already is left alone, what is new is added at the back, and a packet
--- that would leave a gap is refused. So what a region has of a log is a front of it, always. Views of logs: dt_sched.
+-- What it is to take a delivery of log entries into a log. A home's log reaches the other regions in packets that may
+-- come twice, or overlap what was received: what is there already is left alone, what is new is added at the back, and a
+-- packet that would leave a gap is refused. So what a region has of a log is a front of it, always. Read next: Views.antt
+-- of dt_sched, what a region makes of the fronts that it has.
 use Rattle.std.specs.Prelude.{◌≡◌, ℕ, ◌+◌, ◌-◌, ◌<◌, ◌≤◌, ◌⊎◌, List, ◌++◌, length, drop, Result, Ok, Err}
 use Rattle.dt_lists.specs.Lists.{IsFront}
 use Rattle.dt_text.specs.declared.NoMemory.{NoMemory}

@@ -1,4 +1,6 @@
 //! The log of one home, as a region has received it: a list of parts that only grows at its end.
+//!
+//! Read next: `specs/Logs.antt`, what becomes of a delivery that comes twice, too late or too early.
 #![tactic(auto)]
 
 ghost use Rattle.std.specs.Prelude.{◌≡◌, ◌≢◌, ◌+◌, ◌<◌, ◌≤◌, ◌^◌, [], ◌∷◌, ◌++◌, length, vec_len, slice_get, option_copied, OnOk, OnErr, IfOk};

@@ -1,6 +1,6 @@
 -- The graph that the plain scheduler gathers for an answer: the ids that have a part in the logs, and a link for each
--- edge, forth and turned round, so that a search along links finds what an id reaches and what reaches it.
--- Edges and reach themselves are those of the view (dt_sched); a search along links stands in Links.antt.
+-- edge, forth and turned round, so that a search along links finds what an id reaches and what reaches it. Edges and
+-- reach themselves are those of the view (dt_sched). Read next: Links.antt, a search along links.
 use Rattle.std.specs.Prelude.{◌⊎◌, ◌↔◌, List}
 use Rattle.dt_lists.specs.Lists.{Has, Distinct}
 use Rattle.dt_access.specs.declared.TxnId.{TxnId}
@@ -22,7 +22,7 @@ pub record AreEdges (view : View) (links : List Link) : Type 0 where
 pub record AreTurned (view : View) (links : List Link) : Type 0 where
   pub members : (u t : TxnId) → IsLinked links u t ↔ Edge view t u
 
--- the link turned round
+-- a link turned round
 abbrev pub turned_link : Link → Link
 turned_link l = record { from = l.to; to = l.from }
 

@@ -1,5 +1,6 @@
--- How the plain scheduler finds the rank of a transaction: it looks for the first part of it, log by log. That all parts of
--- a transaction have the same rank is in the view (dt_sched).
+-- How the plain scheduler finds the rank of a transaction: it looks for the first part of it, log by log. That all parts
+-- of a transaction have the same rank is in the view (dt_sched), so any of them would serve. Only the private functions
+-- of the scheduler cite this. Read next: Views.antt of dt_sched, for what a rank decides.
 use Rattle.std.specs.Prelude.{ℕ, List, Option, map, slice_get}
 use Rattle.std.specs.List.{filter}
 use Rattle.dt_access.specs.Ids.{same_id}

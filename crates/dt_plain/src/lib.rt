@@ -1,4 +1,10 @@
 //! The plain scheduler: it goes through all inserted parts for every answer, as the definitions do.
+//!
+//! It is plain on purpose: it keeps nothing but what was inserted, resolved and done, so that what it answers is easily seen
+//! to be right. It is slow for thousands of parts. The trait that it meets, and the words of its answers, are those of
+//! `dt_sched`.
+//!
+//! Read next: `specs/Graphs.antt`, the graph that it gathers for an answer.
 #![tactic(auto)]
 
 mod class;

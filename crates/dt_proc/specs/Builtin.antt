@@ -1,5 +1,6 @@
--- The built-in procedures, as trees. Each cluster has them unless its file names others, so their meaning is fixed here and not
--- by a text that is read. Beside each stands its text; that the text means the tree is tested.
+-- The built-in procedures, as trees. Each cluster has them unless its file names others, so their meaning is fixed here
+-- and not by a text that is read. Beside each stands its text; that the text means the tree is tested. Read next: Builtin
+-- of dt_cluster, for the clusters that have them.
 use Rattle.std.specs.Prelude.{ℕ, true, false, List, [], ◌∷◌, codes}
 use Rattle.dt_syntax.specs.declared.kinds.Kind.TheVariants.{Int, Text}
 use Rattle.dt_syntax.specs.declared.operator.Op.TheVariants.{Less, Add, Sub, Div}
@@ -15,6 +16,7 @@ written_key param = record { write = true; items = Param param ∷ [] }
 abbrev pub read_key : ℕ → KeyDecl
 read_key param = record { write = false; items = Param param ∷ [] }
 
+-- a block of one statement
 abbrev pub one_step : StmtTree → BlockTree
 one_step s = then s done
 

@@ -1,5 +1,6 @@
--- What a name means where it stands. Parameters and lets share one list and keys have another; the first entry of a name counts,
--- and a name that is visible may not be given anew, so there is no second. SecondPass says when each becomes visible.
+-- What a name means where it stands. Parameters and lets share one list and keys have another; the first entry of a name
+-- counts, and a name that is visible may not be given anew, so there is no second. Read next: SecondPass, for when each
+-- becomes visible.
 use Rattle.std.specs.Prelude.{ℕ, suc, Bool, if◌then◌else◌, List, [], ◌∷◌, Option, Some, None, nat_eq, position}
 use Rattle.std.specs.Option.{option_map}
 use Rattle.std.specs.Cmp.Lexicographic.{pointwise}
@@ -22,14 +23,16 @@ abbrev pub entry_of : {A : Type 0} → List (List ℕ × A) → List ℕ → Opt
 entry_of [] name = None
 entry_of (e ∷ es) name = if pointwise nat_eq e.0 name then Some (0, e.1) else option_map (λ r. (suc r.0, r.1)) (entry_of es name)
 
+-- the entry of a key as the meaning of its name; a name without one means nothing
 abbrev pub as_key_entry : Option (ℕ × Bool) → Meaning
 as_key_entry None = Unknown
 as_key_entry (Some e) = Key e.0 e.1
 
+-- the entry of a variable as the meaning of its name; without one, the other meaning
 abbrev pub as_entry : Option (ℕ × Sort) → Meaning → Meaning
 as_entry None other = other
 as_entry (Some e) other = Variable e.0 e.1
 
--- what a name means
+-- what a name means where this is visible: a variable, else a key, else nothing
 abbrev pub meaning_in : Scope → List ℕ → Meaning
 meaning_in scope name = as_entry (entry_of scope.variables name) (as_key_entry (entry_of scope.keys name))

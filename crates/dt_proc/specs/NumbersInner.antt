@@ -1,4 +1,5 @@
--- Scaffolding: variables that are found by a map from their names, since there may be very many of them.
+-- Scaffolding: variables that are found by a map from their names, since there may be very many of them. Skip it; read
+-- Names for what a name means.
 use Rattle.std.specs.Prelude.{◌≡◌, ◌==◌, ℕ, Bool, false, List, Option, Some, None}
 use Rattle.std.specs.Ordering.{nat_cmp}
 use Rattle.std.specs.Cmp.Lexicographic.{slice_cmp}

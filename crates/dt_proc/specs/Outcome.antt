@@ -1,5 +1,6 @@
--- What a text of procedures gives: the procedures that it means, or the first fault in it. The first pass speaks first, and the
--- second where the first has no fault. Every text has an outcome, and no text has two: these are laws.
+-- What a text of procedures gives: the procedures that it means, or the first fault in it. The first pass speaks first,
+-- and the second where the first has no fault. Every text has an outcome, and no text has two: these are laws. Read next:
+-- Sound, for what a text that passes is sure to be.
 use Rattle.std.specs.Prelude.{◌≡◌, ℕ, List, [], Ok, Err}
 use Rattle.dt_syntax.specs.declared.token.Placed.{Placed}
 use Rattle.dt_syntax.specs.declared.error.SyntaxError.{SyntaxError}
@@ -38,10 +39,10 @@ Outcome text (Err (fault.Unknown place)) = SecondTells text (Err (fault.Unknown 
 Outcome text (Err (fault.Kind place)) = SecondTells text (Err (fault.Kind place))
 Outcome text (Ok procs) = SecondTells text (Ok procs)
 
--- every text has an outcome
+-- a law: every text has an outcome
 abbrev pub TextsHaveAnOutcome : Type 0
 TextsHaveAnOutcome = (text : List ℕ) → (told : Checked (List ProcTree)) × Outcome text told
 
--- no text has two outcomes
+-- a law: no text has two outcomes
 abbrev pub TextsHaveOneOutcome : Type 0
 TextsHaveOneOutcome = (text : List ℕ) (one other : Checked (List ProcTree)) → Outcome text one → Outcome text other → one ≡ other

@@ -1,5 +1,6 @@
 -- What holds of every procedure, so that a run of it has no case that cannot come: kinds fit, and what is named is there.
--- Procedures that a text means are sound, and so are the built-in ones; a run needs nothing else of them.
+-- Procedures that a text means are sound, and so are the built-in ones; a run needs nothing else of them. Read next:
+-- Meaning of dt_eval, for what such a procedure does.
 use Rattle.std.specs.Prelude.{◌≡◌, ◌⊎◌, ℕ, ◌<◌, ◌≤◌, Bool, true, List, [], ◌∷◌, ◌++◌, length, map, slice_get, Some, FitsSigned}
 use Rattle.std.specs.Int.{w64}
 use Rattle.dt_lists.specs.Lists.{AllIn, Distinct}
@@ -32,7 +33,7 @@ TakesSort Mul s = s ≡ sort.Int
 TakesSort Div s = s ≡ sort.Int
 TakesSort Rem s = s ≡ sort.Int
 
--- what an operator gives
+-- the sort of what an operator gives
 abbrev pub sort_given : Op → Sort
 sort_given Join = sort.Text
 sort_given Add = sort.Int
@@ -69,6 +70,7 @@ HasSort variables keys (binary o f g) s =
 abbrev pub IsStoredSort : Sort → Type 0
 IsStoredSort s = (s ≡ sort.Int) ⊎ (s ≡ sort.Text)
 
+-- an item of `give` fits: it names a key that is there, or its expression gives what a row can have
 abbrev pub IsSoundGift : List Sort → ℕ → GiveTree → Type 0
 IsSoundGift variables keys (row k) = k < keys
 IsSoundGift variables keys (value f) = (s : Sort) × IsStoredSort s × HasSort variables keys f s
@@ -96,6 +98,7 @@ IsSoundItem params (Text t) = IsStr t
 IsSoundItem params (Param n) = slice_get params n ≡ Some kind.Text
 IsSoundItem params (Show n) = slice_get params n ≡ Some kind.Int
 
+-- the sort that the arguments of a kind of parameter have
 abbrev pub sort_of : Kind → Sort
 sort_of kind.Int = sort.Int
 sort_of kind.Text = sort.Text

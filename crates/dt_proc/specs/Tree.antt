@@ -1,11 +1,12 @@
 -- What procedures are: trees of statements and expressions, without a word on where they lie in memory. Names are gone: a
--- variable, a key and a procedure are numbers. What a tree means when it runs is said above, by dt_eval.
+-- variable, a key and a procedure are numbers. What a tree means when it runs is said by dt_eval, in its Cases. Read
+-- next: Sound, for what holds of every tree; then SecondPass, for how a text gives one.
 use Rattle.std.specs.Prelude.{ℕ, ℤ, Bool, List}
 use Rattle.dt_syntax.specs.declared.kinds.Kind.{Kind}
 use Rattle.dt_proc.specs.declared.tree.KeyDecl.{KeyDecl}
 use Rattle.dt_syntax.specs.declared.operator.Op.{Op}
 
--- an expression
+-- an expression. A variable, or the key of a row, is told by its number
 pub data ExprTree : Type 0 where
   number : ℤ → ExprTree
   text : List ℕ → ExprTree
@@ -40,7 +41,7 @@ mutual
     done : BlockTree
     then : StmtTree → BlockTree → BlockTree
 
--- a procedure
+-- a procedure: its name, the kinds of its parameters, the declarations of its keys, and its statements
 pub record ProcTree : Type 0 where
   pub name : List ℕ
   pub params : List Kind

@@ -1,4 +1,5 @@
--- Scaffolding: the codes by which proofs tell trees apart.
+-- Scaffolding, which the toolchain asks for: a code of each tree, by which proofs tell trees apart. Skip it; read Tree
+-- for the trees.
 use Rattle.std.specs.Prelude.{◌≡◌, ℕ, List, refl}
 use Rattle.std.proofs.Common.{ap, arith}
 use Rattle.std.specs.Coded.{Coded, code_by, coded×, coded_ℕ, coded_ℤ, coded_bool, coded_list}
@@ -11,21 +12,26 @@ use Rattle.dt_proc.specs.declared.tree.KeyDecl.{KeyDecl}
 use Rattle.dt_proc.specs.Tree.{ExprTree, number, text, truth, variable, number_of, text_of, has_value, length_of, shown, negative, opposite, binary, GiveTree}
 use Rattle.dt_proc.specs.Tree.{row, value, StmtTree, let_new, set_row, clear_row, choose, abort_with, give_all, BlockTree, done, then, ProcTree}
 
+-- the number in front of a code, which tells the case
 abbrev tag : Gv → ℕ
 tag (gcons (gnum n) g) = n
 tag _ = 0
 
+-- a code without what stands in front of it
 abbrev rest : Gv → Gv
 rest (gcons a b) = b
 rest _ = gnil
 
+-- what stands in front of a code
 abbrev front : Gv → Gv
 front (gcons a b) = a
 front _ = gnil
 
+-- the code of bytes
 abbrev coded_bytes : Coded (List ℕ)
 coded_bytes = coded_list coded_ℕ
 
+-- the code of an expression: the number of its case, and then its parts
 abbrev formula_code : ExprTree → Gv
 formula_code (number z) = gcons (gnum 0) (coded_ℤ.code z)
 formula_code (text t) = gcons (gnum 1) (coded_bytes.code t)
@@ -40,6 +46,7 @@ formula_code (negative f) = gcons (gnum 9) (formula_code f)
 formula_code (opposite f) = gcons (gnum 10) (formula_code f)
 formula_code (binary o f g) = gcons (gnum 11) (gcons (op.the_row.coded.code o) (gcons (formula_code f) (formula_code g)))
 
+-- two expressions of one code are the same
 pub formula_inj : (x y : ExprTree) → formula_code x ≡ formula_code y → x ≡ y
 formula_inj (number z) (number w) e = ap number (coded_ℤ.inj z w (ap rest e))
 formula_inj (text t) (text u) e = ap text (coded_bytes.inj t u (ap rest e))
@@ -57,21 +64,26 @@ formula_inj (binary o f g) (binary p h k) e =
     (formula_inj f h (ap (λ v. front (rest (rest v))) e) i) (formula_inj g k (ap (λ v. rest (rest (rest v))) e) i)
 formula_inj x y e = absurd (omega (arith, ap tag e))
 
+-- expressions are told apart by these codes
 abbrev pub coded_formula : Coded ExprTree
 coded_formula = record { code = formula_code; inj = formula_inj }
 
+-- the code of an item of `give`
 abbrev gift_code : GiveTree → Gv
 gift_code (row n) = gcons (gnum 0) (gnum n)
 gift_code (value f) = gcons (gnum 1) (formula_code f)
 
+-- two items of one code are the same
 pub gift_inj : (x y : GiveTree) → gift_code x ≡ gift_code y → x ≡ y
 gift_inj (row n) (row m) e = ap row (coded_ℕ.inj n m (ap rest e))
 gift_inj (value f) (value g) e = ap value (formula_inj f g (ap rest e))
 gift_inj x y e = absurd (omega (arith, ap tag e))
 
+-- lists of items are told apart by these codes
 abbrev coded_gifts : Coded (List GiveTree)
 coded_gifts = coded_list (record { code = gift_code; inj = gift_inj })
 
+-- the codes of a statement and of a block
 abbrev mutual
   step_code : StmtTree → Gv
   step_code (let_new f) = gcons (gnum 0) (formula_code f)
@@ -85,6 +97,7 @@ abbrev mutual
   block_code done = gcons (gnum 0) gnil
   block_code (then s b) = gcons (gnum 1) (gcons (step_code s) (block_code b))
 
+-- two statements of one code are the same, and so are two blocks
 mutual
   pub step_inj : (x y : StmtTree) → step_code x ≡ step_code y → x ≡ y
   step_inj (let_new f) (let_new g) e = ap let_new (formula_inj f g (ap rest e))
@@ -104,6 +117,7 @@ mutual
       λ i. then (step_inj s t (ap (λ v. front (rest v)) e) i) (block_inj a b (ap (λ v. rest (rest v)) e) i)
   block_inj x y e = absurd (omega (arith, ap tag e))
 
+-- blocks are told apart by these codes
 abbrev pub coded_block : Coded BlockTree
 coded_block = record { code = block_code; inj = block_inj }
 
@@ -115,5 +129,6 @@ coded_proc =
     (λ p. (p.name, (p.params, (p.keys, p.body))))
     (λ p. record { name = p.0; params = p.1.0; keys = p.1.1.0; body = p.1.1.1 }) (λ _. refl)
 
+-- lists of procedures are told apart by the codes of their fields
 abbrev pub coded_procs : Coded (List ProcTree)
 coded_procs = coded_list coded_proc

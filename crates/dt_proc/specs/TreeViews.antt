@@ -1,5 +1,5 @@
--- What the trees in memory stand for: each expression, item and block of the code as a tree of Tree, without boxes and lists.
--- Contracts speak of these trees alone.
+-- What the trees in memory stand for: each expression, item and block of the code as a tree of Tree, without boxes and
+-- lists. Contracts speak of these trees alone. Read next: Tree.
 use Rattle.std.specs.Prelude.{ℕ, ◌+◌, List, [], ◌∷◌, map}
 use Rattle.dt_proc.specs.declared.tree.Expr.{Expr, Int, Text, Bool, Var, IntOf, TextOf, Has, Len', Show', Neg', Not', Binary'}
 use Rattle.dt_proc.specs.declared.tree.Give.{Give}
@@ -9,6 +9,7 @@ use Rattle.dt_proc.specs.declared.tree.Stmt.TheVariants.{Let, Set, Clear, If, Ab
 use Rattle.dt_proc.specs.Tree.{ExprTree, number, text, truth, variable, number_of, text_of, has_value, length_of, shown, negative, opposite, binary, GiveTree}
 use Rattle.dt_proc.specs.Tree.{row, value, StmtTree, let_new, set_row, clear_row, choose, abort_with, give_all, BlockTree, done, then}
 
+-- the tree of an expression
 abbrev pub expr_tree : Expr → ExprTree
 expr_tree (Int z) = number z
 expr_tree (Text t) = text t
@@ -23,10 +24,12 @@ expr_tree (Neg' p e) = negative (expr_tree e)
 expr_tree (Not' p e) = opposite (expr_tree e)
 expr_tree (Binary' o p e q f) = binary o (expr_tree e) (expr_tree f)
 
+-- the tree of an item of `give`
 abbrev pub give_tree : Give → GiveTree
 give_tree (Row k) = row k
 give_tree (Value e) = value (expr_tree e)
 
+-- the tree of a statement; the blocks of an `if` are seen as trees already
 abbrev pub stmt_tree : Stmt → StmtTree
 stmt_tree (Let e) = let_new (expr_tree e)
 stmt_tree (Set k e) = set_row k (expr_tree e)
@@ -35,6 +38,7 @@ stmt_tree (If e a b) = choose (expr_tree e) a b
 stmt_tree (Abort t) = abort_with t
 stmt_tree (Giving gs) = give_all (map give_tree gs)
 
+-- the tree of statements in order
 abbrev pub block_tree : List Stmt → BlockTree
 block_tree [] = done
 block_tree (s ∷ ss) = then (stmt_tree s) (block_tree ss)

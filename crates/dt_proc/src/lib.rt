@@ -1,4 +1,10 @@
 //! Procedures: their trees, and the reader of their text.
+//!
+//! The reader goes over the text twice. What it is made of was tested by the first pass, in the crate below; here names and
+//! kinds are tested, and the trees are made.
+//!
+//! Read next: `specs/Tree.antt`, what a procedure is; `specs/SecondPass.antt`, what a text means; `specs/Sound.antt`, what
+//! holds of every procedure. What a tree does when it runs is said in `dt_eval`.
 #![tactic(auto)]
 
 mod builtin;

@@ -1,5 +1,6 @@
 -- The transactions of other regions that a region keeps, as contracts see them: the list, in the order in which they
--- came. How it grows is said in `Rules`, by the word `keep`.
+-- came. A transaction is kept once, so that one is found by its id. Read next: `Rules`, where the word `keep` says how
+-- the list grows.
 use Rattle.std.specs.Prelude.{◌≡◌, ℕ, List}
 use Rattle.dt_lists.specs.Lists.{AllIn}
 use Rattle.dt_access.specs.declared.TxnId.{TxnId}

@@ -1,6 +1,6 @@
 -- What one region is: its number, the transactions that it knows, the logs as far as it received them, and what it made
 -- of them. What it asked, placed, inserted, resolved and executed, with its table, stands in its `Replica`, which the
--- world's definitions use too, so that the rules mean the same in both. `Rules` says next how each rule changes it.
+-- world's definitions use too, so that the rules mean the same in both. Read next: `Rules`, for how each rule changes it.
 use Rattle.std.specs.Prelude.{ℕ, List, [], ◌∷◌, ◌++◌, Option, Some, None, if◌then◌else◌}
 use Rattle.std.specs.Map.{lookup}
 use Rattle.dt_access.specs.Ids.{same_id}

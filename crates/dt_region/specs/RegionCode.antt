@@ -1,5 +1,5 @@
 -- Only proofs need this file: each type that contracts see has a code, by which the toolchain tells its values apart.
--- Here are those of a replica and of a region, each by its fields.
+-- Here are those of a replica and of a region, each by its fields. Skip it; read `Region` for what they are.
 use Rattle.std.specs.Prelude.{ℕ, List, refl}
 use Rattle.std.specs.Coded.{Coded, code_by, coded×, coded_ℕ, coded_list}
 use Rattle.dt_table.specs.Table.{Table}
@@ -17,6 +17,7 @@ use Rattle.dt_events.specs.contracts.event.Event as event
 use Rattle.dt_events.specs.declared.Event.{Event}
 use Rattle.dt_region.specs.Region.{RegionState, RegionView}
 
+-- the code of lists of lists of ids
 abbrev ids_code : Coded (List (List TxnId))
 ids_code = coded_list (coded_list id.the_row.coded)
 

@@ -1,4 +1,5 @@
--- Only proofs need this file: how a region keeps what contracts see of it, and what its type says of its fields.
+-- Only proofs need this file: how a region keeps what contracts see of it, and what its type says of its fields. Skip it;
+-- read `Region` for what callers see, and `Sound` for what every region keeps.
 use Rattle.std.specs.Prelude.{◌≡◌}
 use Rattle.dt_sched.specs.Sched.{Sched}
 use Rattle.dt_region.specs.Region.{RegionState, RegionView, sched_of}

@@ -1,7 +1,7 @@
 -- What each rule does to one region, and how each call of a region is answered. The rules are those of a world of regions
 -- (rules 1 and 2 by the words of `Replica`, rules 4 to 6 by `stepped`): here they stand over the region's own fields, so
--- that a region can be stepped by itself. Read `Region` before; `Conditions` says next when a call may be made, and `Sound`
--- what holds of every region.
+-- that a region can be stepped by itself. Read `Region` before. Read next: `Conditions`, for when a call may be made, and
+-- `Sound`, for what holds of every region.
 use Rattle.std.specs.Prelude.{◌≡◌, ◌≢◌, ◌<◌, ◌≤◌, ◌+◌, ◌-◌, ℕ, List, [], ◌∷◌, ◌++◌, map, length, drop, set, replicate, is_some, if◌then◌else◌, Bool, true, false, Result, Ok, Err}
 use Rattle.dt_text.specs.declared.NoMemory.{NoMemory}
 use Rattle.dt_access.specs.declared.TxnId.{TxnId}
@@ -53,7 +53,7 @@ after_submit procs s rank body = with_submission s (txn_for procs s rank body)
 abbrev pub keep : List Txn → List Txn → Txn → List Txn
 keep submitted foreign txn = if is_some (find_txn (submitted ++ foreign) txn.id) then foreign else foreign ++ txn ∷ []
 
--- the same after several, one after another
+-- what such a region has of others after it got several transactions, one after another
 abbrev pub keep_all : List Txn → List Txn → List Txn → List Txn
 keep_all submitted foreign [] = foreign
 keep_all submitted foreign (txn ∷ txns) = keep_all submitted (keep submitted foreign txn) txns
@@ -103,7 +103,7 @@ after_step procs s event = record s { here = stepped procs (held s) s.here event
 abbrev pub with_event : RegionView → RegionState → Event → RegionView
 with_event r state event = record { state = state; events = r.events ++ event ∷ [] }
 
--- a submission gives its id
+-- a submission answers the id that the transaction got, which is the next one of the region
 abbrev pub MakesSubmit : List ProcTree → RegionView → List ℕ → ℕ → Body → Result TxnId NoMemory → RegionView → Type 0
 MakesSubmit procs r session rank body (Ok id) after =
     (id ≡ id_for r.state) × (after ≡ with_event r (after_submit procs r.state rank body) (Submit r.state.number session))

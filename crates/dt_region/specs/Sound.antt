@@ -1,6 +1,6 @@
--- What every region keeps true, through all its calls: its type says it, and each call ensures it. So a reader of a region
--- may rely on it without knowing which calls were made. The last field is what the laws of the scheduler ask for
--- (`IsSound` of `Decide`, in the crate of the scheduler).
+-- What every region keeps true, through all its calls: its type says it, and each call ensures it. So a reader of a
+-- region may rely on it without knowing which calls were made. The last field is what the laws of the scheduler ask for
+-- (`IsSound` of `Decide`, in the crate of the scheduler). Read next: src/region.rt, the calls.
 use Rattle.std.specs.Prelude.{◌≡◌, ◌≢◌, ◌<◌, ◌≤◌, ◌+◌, ℕ, List, [], ◌∷◌, length, slice_index, Some}
 use Rattle.dt_lists.specs.Lists.{AllIn, Distinct}
 use Rattle.dt_access.specs.declared.Part.{Part}

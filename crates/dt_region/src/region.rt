@@ -172,8 +172,8 @@ impl<S: Scheduler> Region<S> {
     }
 
     /// Submits a body of this rank for a session: it becomes the transaction of the region's next id, annotated by the
-    /// region's table, and each of its homes is asked for its part. Gives the id, and keeps the event. Whether the session may submit is
-    /// for the caller to know. After `NoMemory` the region is as before.
+    /// region's table, and each of its homes is asked for its part. Gives the id, and keeps the event. Whether the session
+    /// may submit is for the caller to know. After `NoMemory` the region is as before.
     pub fn submit(
         &mut self,
         alloc: Global,

@@ -1,5 +1,6 @@
 -- What holds of the text of a report. The last section has the events, so that a run can be replayed from its report
--- alone: whoever has the text has the one list of events that it ends with.
+-- alone: whoever has the text has the one list of events that it ends with. Read next: `WorldReport` of dt_world, for
+-- what the report says of the events.
 use Rattle.std.specs.Prelude.{◌≡◌}
 use Rattle.dt_report.specs.Report.{report_text}
 use Rattle.dt_report.specs.Printable.{IsPrintable}

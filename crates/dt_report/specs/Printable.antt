@@ -23,7 +23,7 @@ use Rattle.dt_report.specs.declared.report.Report.{Report}
 abbrev pub IsNumber : ℕ → Type 0
 IsNumber n = n < 2 ^ 64
 
--- the two numbers of an id
+-- the two numbers of an id have 64 bits at most
 abbrev pub IsPrintableId : TxnId → Type 0
 IsPrintableId id = IsNumber id.seq × IsNumber id.region
 

@@ -35,8 +35,8 @@ cause_word Zero = codes "zero"
 cause_word Kind = codes "kind"
 cause_word Long = codes "long"
 
--- an outcome: `done` with the values that were given, `abort` with its cause, or `stale` with the key that was moved, how
--- many moves of it were known, and the id of the mover
+-- an outcome: `done` with the values that were given, `abort` with its cause, or `stale` with the unit that was moved (a
+-- key, in version 2 of a cluster a granule), how many moves of it were known, and the id of the mover
 abbrev pub outcome_words : Outcome → List (List ℕ)
 outcome_words (Gave values) = codes "done" ∷ map value_word values
 outcome_words (Aborted cause) = codes "abort" ∷ cause_word cause ∷ []

@@ -1,4 +1,5 @@
--- Scaffolding: words as the printers append them, one after another. What a line of words is, Report.antt says.
+-- Scaffolding: words as the printers append them, one after another. Skip it; read Report.antt for what a line of words
+-- is.
 use Rattle.std.specs.Prelude.{ℕ, List, [], ◌∷◌, ◌++◌}
 
 -- words, each with a space before it

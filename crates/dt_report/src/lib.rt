@@ -1,4 +1,7 @@
 //! What a replay or a run reports, and the text of it.
+//!
+//! Read next: `specs/Report.antt`, the sections and their lines. Which events, outcomes and rows are reported is said in
+//! `dt_world`.
 #![tactic(auto)]
 
 mod laws;

@@ -1,6 +1,7 @@
--- What a region may decide from its view alone: which transactions it may execute, and which groups that wait for each
--- other it may resolve. Both wait until all that reaches a transaction is complete, so that another region, which has seen
--- other fronts of the logs, decides alike. That it does is in dt_sched/src/laws.rt.
+-- What a region may decide from its own view, and from what it has resolved and done: which transactions it may execute,
+-- and which groups that wait for each other it may resolve. Both wait until all that reaches a transaction is complete,
+-- so that another region, which has seen other fronts of the logs, decides alike. Read next: src/laws.rt, for why it
+-- does; and Sched.antt, for who answers.
 use Rattle.std.specs.Prelude.{◌⊎◌, ◌≤◌, List, length}
 use Rattle.dt_lists.specs.Lists.{AllIn, Has, EachThen, Distinct}
 use Rattle.dt_access.specs.declared.TxnId.{TxnId}
@@ -18,7 +19,7 @@ pub record IsExecutableBy (order : View → TxnId → TxnId → Type 0) (view : 
   -- if it is deadlocked with others, their group was resolved
   pub settled : (ids : List TxnId) → IsClass view t ids → 2 ≤ length ids → Has resolved ids
 
--- and so it may where the sooner one comes first
+-- t may be executed where ties are broken by rank and then by id: this is what `execute` asks for in the store
 abbrev pub IsExecutable : View → List (List TxnId) → List TxnId → TxnId → Type 0
 IsExecutable view resolved done t = IsExecutableBy IsSooner view resolved done t
 
@@ -41,7 +42,7 @@ pub record HasNothingToDoBy (order : View → TxnId → TxnId → Type 0) (view 
   pub none_executable : (t : TxnId) → ¬ (IsExecutableBy order view resolved done t)
   pub none_resolvable : (ids : List TxnId) → ¬ (IsResolvable view resolved done ids)
 
--- and so it is where the sooner one comes first
+-- nothing is left to do where ties are broken by rank and then by id
 abbrev pub HasNothingToDo : View → List (List TxnId) → List TxnId → Type 0
 HasNothingToDo view resolved done = HasNothingToDoBy IsSooner view resolved done
 

@@ -1,6 +1,7 @@
 -- A scheduler as its callers see it: what was inserted, resolved and done, and nothing of how it finds its answers. So a
--- plain one, which gathers the graph anew each time, and a quicker one have the same contracts (trait `Scheduler`).
--- What may be executed and resolved is said in Decide.antt, over the view alone.
+-- plain one, which gathers the graph anew each time, and a quicker one have the same contracts (trait `Scheduler`). What
+-- may be executed and resolved is said in Decide.antt, over these three things alone. Read next: src/scheduler.rt, the
+-- trait.
 use Rattle.std.specs.Prelude.{◌≡◌, ◌<◌, ℕ, List, [], ◌∷◌, ◌++◌, Option, Some, None, length, sum_by, set, replicate}
 use Rattle.dt_lists.specs.Lists.{AllIn, Has}
 use Rattle.dt_access.specs.declared.TxnId.{TxnId}
@@ -42,19 +43,19 @@ pub record CanInsert (view : View) (part : Part) : Type 0 where
 abbrev pub with_part : View → Part → View
 with_part view part = set view part.home (log_at view part.home ++ part ∷ [])
 
--- a part was inserted
+-- a scheduler after a part was inserted
 abbrev pub after_insert : Sched → Part → Sched
 after_insert s part = record s { logs = with_part s.logs part }
 
--- a class was resolved
+-- a scheduler after a class was resolved
 abbrev pub after_resolve : Sched → List TxnId → Sched
 after_resolve s ids = record s { resolved = s.resolved ++ ids ∷ [] }
 
--- an id was done
+-- a scheduler after an id was done
 abbrev pub after_finish : Sched → TxnId → Sched
 after_finish s id = record s { done = s.done ++ id ∷ [] }
 
--- the id may be executed now
+-- the id may be executed now, by what was inserted, resolved and done
 abbrev pub CanExecute : Sched → TxnId → Type 0
 CanExecute s id = IsExecutable s.logs s.resolved s.done id
 

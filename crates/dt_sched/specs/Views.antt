@@ -1,7 +1,7 @@
 -- The dependency graph. Each home keeps a log of the parts of transactions that use its rows; what a region has inserted
 -- of all logs is its view. Two parts that clash in one log make an edge from the earlier to the later. Logs of several
--- homes may disagree, so edges can go round; ranks then break the tie, and ids where ranks are the same. That any order
--- serves for this which every view computes alike: Ties.antt. What a region may do with it: Decide.antt.
+-- homes may disagree, so edges can go round; ranks then break the tie, and ids where ranks are the same. Any order serves
+-- for this that every view computes alike (Ties.antt). Read next: Decide.antt, for what a region may do with its view.
 use Rattle.std.specs.Prelude.{◌≡◌, ◌≢◌, ◌<◌, ◌⊎◌, ◌↔◌, ℕ, List, [], get_or, map, length, true}
 use Rattle.std.specs.List.{filter, flat_map}
 use Rattle.dt_lists.specs.Lists.{AnyIn, AllIn, SomeThen, Has, IsFront, Pairwise, Distinct}

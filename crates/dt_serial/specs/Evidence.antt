@@ -1,6 +1,7 @@
 -- Why a transaction did not give values. An abort comes from its procedure on the very table that it saw, and a stale
 -- attempt from a move that was made before it; both are shown in the serial run, where a client can check them. The law
--- `reasons` says that every outcome has such a reason.
+-- `reasons` says that every outcome has such a reason. Read next: that law in src/laws.rt; of the regions of a world
+-- `HasCause` in `Agreement` of dt_session says the same.
 use Rattle.std.specs.Prelude.{◌≡◌, ℕ, List, [], ◌∷◌, ◌++◌, slice_get, Some}
 use Rattle.dt_lists.specs.Lists.{AnyIn, Has}
 use Rattle.dt_access.specs.Clash.{Bytes}

@@ -87,7 +87,7 @@ pub record IsPart (procs : List ProcTree) (order : TxnId → TxnId → Type 0) (
   pub members : AllIn (λ x. Has history x) txns
   pub down : IsDown order (txn_ids txns)
 
--- the order that a test tells
+-- the order of two ids that a test tells
 abbrev pub ByTest : (TxnId → TxnId → Bool) → TxnId → TxnId → Type 0
 ByTest precedes u t = precedes u t ≡ true
 

@@ -1,5 +1,6 @@
 -- Running a part of a history over again: some of its transactions, each with the effect that it had in the whole run. It
--- is how a part is compared with its history: the part's own run gives the same table (`one_table` in src/laws.rt).
+-- is how a part is compared with its history: the part's own run gives the same table (`one_table` in src/laws.rt). Only
+-- proofs speak of it. Read next: proofs/Runs.antt, for whoever changes them.
 use Rattle.std.specs.Prelude.{Bool, List, [], ◌∷◌, if◌then◌else◌}
 use Rattle.dt_access.specs.declared.TxnId.{TxnId}
 use Rattle.dt_proc.specs.Tree.{ProcTree}

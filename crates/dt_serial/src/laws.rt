@@ -26,7 +26,7 @@ pub fn one_outcome()
         Has (outcomes procs history start) (i, o) → Has (outcomes procs history start) (i, p) → o ≡ p }
 {}
 
-/// The table after a part of a history hangs on its members alone: it is that of the history, restricted to them.
+/// The table after a part of a history depends on its members alone: it is that of the history, restricted to them.
 pub fn one_table()
     ensures members { (procs : List ProcTree) (precedes : TxnId → TxnId → Bool) (start : Table) (history left right : List Txn) →
         IsPart procs (ByTest precedes) start history left → IsPart procs (ByTest precedes) start history right →
@@ -40,7 +40,7 @@ pub fn one_table()
 /// is a move of the unit that was annotated with the number of moves before its own. After a part of the history the moves
 /// of a unit are the first ones of the history, made by members of the part. A transaction of a part sees at a key that it
 /// uses the mover that follows its annotated moves in the whole history, if that one precedes it, and else none: so whether
-/// it is stale, and by whom, hangs on the history and the order alone.
+/// it is stale, and by whom, depends on the history and the order alone.
 pub fn moves_of_a_unit()
     ensures in_order { (procs : List ProcTree) (precedes : TxnId → TxnId → Bool) (start : Table) (history : List Txn) →
         IsHistory procs (ByTest precedes) start history → (key : Bytes) →
@@ -74,8 +74,8 @@ pub fn reached_counters()
 {}
 
 /// Of two transactions of a history that are not stale, and whose uses clash, one precedes the other, whatever was
-/// moved between them. The mover that follows the annotated moves of one that is not stale is itself, or it precedes
-/// that mover.
+/// moved between them. One that is not stale is itself the mover that follows the moves it was annotated with, or it
+/// precedes that mover.
 pub fn across_moves()
     ensures ordered { (procs : List ProcTree) (precedes : TxnId → TxnId → Bool) (start : Table) (history : List Txn) → IsHistory procs (ByTest precedes) start history →
         (x y : Txn) (o p : Outcome) → Has history x → Has history y → x.id ≢ y.id →

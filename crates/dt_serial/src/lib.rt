@@ -6,12 +6,12 @@
 //! alone: there is no region here, no log and no event, and no code that runs.
 //!
 //! - A *history* (`IsHistory`) is one run of all transactions, and an order of ids that fits it: what precedes a
-//!   transaction stands before it, of two that clash one precedes the other, and each comes after the moves that it was
-//!   annotated with.
+//!   transaction stands before it; of two that clash, and were annotated with equally many moves of what they clash on, one
+//!   precedes the other; and each comes after the moves that it was annotated with.
 //! - A *part* of a history (`IsPart`) is what one region may have run: some of its transactions, in an order of the
 //!   region's own, each after all that precedes it.
 //! - The laws hold of every part. `one_outcome`: each transaction has the outcome that it has in the history. `one_table`:
-//!   the table hangs on which transactions are in the part, and not on their order. `moves_of_a_unit`: the moves of a unit
+//!   the table depends on which transactions are in the part, not on their order. `moves_of_a_unit`: the moves of a unit
 //!   are the first ones that it has in the history. `reached_counters`: no unit was moved less often than a transaction
 //!   that runs was annotated with. `across_moves` orders transactions on both sides of a move. `reasons`: an abort or a
 //!   stale attempt has its cause.

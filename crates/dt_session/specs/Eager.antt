@@ -1,6 +1,7 @@
--- Lists of events that waste nothing. One learns here what an eager list is: each event changes the world, and each region
--- begins by submitting the first call of each of its sessions, in the order of their names. A cluster that runs by itself
--- makes such a list. What is left undone at the end is no matter here: `Finished` says when all is done.
+-- Lists of events that waste nothing. One learns here what an eager list is: each event changes the world, and each
+-- region begins by submitting the first call of each of its sessions, in the order of their names. A cluster that runs by
+-- itself is to make such a list; so far none does, and only the order of the sessions (`sessions_at`) is used. What is
+-- left undone at the end is no matter here. Read next: `Finished`, for when all is done.
 use Rattle.std.specs.Prelude.{◌≢◌, ◌<◌, ◌+◌, ◌==◌, ℕ, List, [], ◌∷◌, flat_map, filter, Bool, if◌then◌else◌}
 use Rattle.std.specs.Ordering.{nat_cmp, is_lt}
 use Rattle.std.specs.Cmp.Lexicographic.{slice_cmp}
@@ -51,7 +52,7 @@ first_events cluster region t ((s, call) ∷ sessions) placed =
     then Submit region s.name ∷ Append region region placed ∷ first_events cluster region t sessions (placed + 1)
     else Submit region s.name ∷ first_events cluster region t sessions placed
 
--- each event changes the world
+-- each event changes the world in which it happens
 abbrev pub AllChange : Cluster → Workload → World → List Event → Type 0
 AllChange cluster workload w [] = Unit {0}
 AllChange cluster workload w (event ∷ events) = (next cluster workload w event ≢ w) × AllChange cluster workload (next cluster workload w event) events

@@ -1,5 +1,6 @@
 -- When nothing is left to do: every call of every session is answered, and every region has executed every attempt. Then
--- all regions have the same rows, as `Agree` says of regions that are drained of the same logs.
+-- all regions have the same rows, since the table of each is that of what it executed (`Agree`, part `tables`). Read
+-- `Agreement` before; nothing stands on this file.
 use Rattle.std.specs.Prelude.{◌≡◌, ◌<◌, ℕ, List, [], ◌∷◌, length}
 use Rattle.dt_lists.specs.Lists.{AllIn, Has}
 use Rattle.dt_events.specs.declared.Event.{Event}

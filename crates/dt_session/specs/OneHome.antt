@@ -1,6 +1,6 @@
 -- Workloads that cannot deadlock. Where no call is a move, and the keys of each call have one home in the opening table,
 -- every transaction has one home for good, since nothing is ever moved. Then each class has one member and rule 5 never
--- applies: the law `one_home_each_call` of the crate of laws says so.
+-- applies: the law `one_home_each_call` of the crate of laws says so. Read next: that law in src/laws.rt of dt_agreement.
 use Rattle.std.specs.Prelude.{◌≡◌, ℕ, List, length}
 use Rattle.dt_lists.specs.Lists.{AllIn}
 use Rattle.dt_txn.specs.declared.Body.{Body}
@@ -21,6 +21,6 @@ abbrev pub HasOneHome : Cluster → Body → Type 0
 HasOneHome cluster (Call proc args) = length (homes_at_first cluster (Call proc args)) ≡ 1
 HasOneHome cluster (Move key target) = ⊥
 
--- so has each call of each session
+-- no session of the workload wants a move, and each of their calls has one home before anything is moved
 abbrev pub CallsHaveOneHome : Cluster → Workload → Type 0
 CallsHaveOneHome cluster workload = AllIn (λ session. AllIn (λ call. HasOneHome cluster (body_of call.wanted)) session.calls) workload.sessions

@@ -1,6 +1,6 @@
 -- Lists of events. One learns here the world after a list, when a list is legal, and what its serial order is: the ids in
--- the order of their first execution anywhere. Running that order one by one on the opening table gives each id its serial
--- outcome, and each region its table. `Agreement` says that regions keep just these.
+-- the order of their first execution anywhere. Running that order one by one on the opening table gives each id its
+-- serial outcome, and each region its table. Read next: `Agreement`, which says that regions keep just these.
 use Rattle.std.specs.Prelude.{ℕ, List, [], ◌∷◌, filter, filter_map, not, Option, Some, None, if◌then◌else◌}
 use Rattle.dt_access.specs.Ids.{same_id, is_among}
 use Rattle.dt_access.specs.declared.TxnId.{TxnId}
@@ -39,7 +39,7 @@ abbrev pub executed_id : Event → Option TxnId
 executed_id (Execute region id) = Some id
 executed_id event = None
 
--- the ids without one of them
+-- a list of ids without this one
 abbrev pub without : TxnId → List TxnId → List TxnId
 without id ids = filter (λ other. not (same_id id other)) ids
 

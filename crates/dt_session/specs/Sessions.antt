@@ -1,7 +1,8 @@
--- The sessions of one region, as their keeper sees them: each with its calls, how many of these are answered, and the attempt
--- that it waits for, with the number of that attempt. One learns here which session may go on (`MayGo`, `MayBeAnswered`, in
--- the words of `Tries`), and what submitting an attempt (`after_wait`) and being answered (`after_answer`) change. No world is
--- spoken of: the outcome of the attempt that is waited for is told by whoever asks. `Step` asks the same of a whole world.
+-- The sessions of one region, as their keeper sees them: each with its calls, how many of these are answered, and the
+-- attempt that it waits for, with the number of that attempt. One learns here which session may go on (`MayGo`,
+-- `MayBeAnswered`, in the words of `Tries`), and what submitting an attempt (`after_wait`) and being answered
+-- (`after_answer`) change. No world is spoken of: the outcome of the attempt that is waited for is told by whoever asks.
+-- Read next: src/sessions.rt, the keeper; `Step` asks the same of a whole world.
 use Rattle.std.specs.Prelude.{◌≡◌, ◌<◌, ◌≤◌, ◌+◌, ◌-◌, ◌^◌, ℕ, List, length, map, slice_get, Bool, Option, Some, None, option_map, option_and_then}
 use Rattle.std.specs.Ordering.{nat_cmp, is_eq}
 use Rattle.std.specs.Cmp.Lexicographic.{slice_cmp}
@@ -49,7 +50,8 @@ abbrev pub MaySeatTry : ℕ → Option Seat → Option Outcome → Type 0
 MaySeatTry tries None last = ⊥
 MaySeatTry tries (Some seat) last = MayTry tries (length seat.calls) seat.answered (awaited_in seat last)
 
--- the session of a name may submit an attempt, where the attempt that it waits for has this outcome
+-- the session of a name may submit an attempt, where the attempt that it waits for, if it waits for one, has this outcome
+-- here
 abbrev pub MayGo : SessionsView → Bytes → Option Outcome → Type 0
 MayGo s name last = MaySeatTry s.tries (seat_of s name) last
 
@@ -71,7 +73,7 @@ abbrev pub MaySeatEnd : ℕ → Option Seat → Option Outcome → Type 0
 MaySeatEnd tries None last = ⊥
 MaySeatEnd tries (Some seat) last = MayEnd tries (awaited_in seat last)
 
--- the session of a name may be answered, where the attempt that it waits for has this outcome
+-- the session of a name may be answered, where the attempt that it waits for has this outcome here
 abbrev pub MayBeAnswered : SessionsView → Bytes → Option Outcome → Type 0
 MayBeAnswered s name last = MaySeatEnd s.tries (seat_of s name) last
 
@@ -108,12 +110,13 @@ wanted_of s name call = option_and_then (λ (seat : Seat). slice_get seat.calls 
 abbrev pub AreAllAnswered : SessionsView → Type 0
 AreAllAnswered s = AllIn (λ p. p.1.answered ≡ length p.1.calls) s.seats
 
--- a session with this much answered that waits or not: what it waits for is one of its calls
+-- where a session with so many calls can stand: while it waits, at one of its calls, so not all of them are answered;
+-- while it is idle, before one of them or behind the last
 abbrev pub StandsWithin : ℕ → ℕ → Option Waiting → Type 0
 StandsWithin calls answered None = answered ≤ calls
 StandsWithin calls answered (Some waiting) = answered < calls
 
--- what the type keeps of each session: its calls can be counted, and it stands at one of them, or after all of them
+-- what the type keeps of each session: its calls are counted by 32 bits, and it stands where it can
 pub record IsSoundSeat (seat : Seat) : Type 0 where
   pub few : length seat.calls < 2 ^ 32
   pub within : StandsWithin (length seat.calls) seat.answered seat.waits

@@ -56,7 +56,7 @@ MayHappen cluster workload w (Execute region id) = MayStep (received_logs w regi
 -- a session of the region may be answered
 MayHappen cluster workload w (Answer region session) = MayAnswer cluster w region (session_at workload.sessions w.places region session)
 
--- an event is legal in a world
+-- an event is legal in a world: the regions that it names exist, and its rule allows it there
 pub record IsLegal (cluster : Cluster) (workload : Workload) (w : World) (event : Event) : Type 0 where
   pub regions : RegionsExist cluster.regions event
   pub allowed : MayHappen cluster workload w event
@@ -104,6 +104,7 @@ abbrev pub called : Cluster → Workload → World → ℕ → Session → Place
 called cluster workload w region session place None = w
 called cluster workload w region session place (Some call) = world_submitted workload w region session place (attempt_for cluster w region session place call)
 
+-- the world after what this look-up found submits its next call; where there is no such session nothing changes
 abbrev pub submitted : Cluster → Workload → World → ℕ → Option (Session × Place) → World
 submitted cluster workload w region None = w
 submitted cluster workload w region (Some (session, place)) = called cluster workload w region session place (slice_get session.calls place.answered)

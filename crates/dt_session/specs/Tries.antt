@@ -1,7 +1,8 @@
--- When a session may go on. A session makes its calls one after another; a call that was stale at its region it tries again,
--- at most so often as the cluster allows. One learns here the two questions that are asked of a session: whether it may
--- submit an attempt (`MayTry`), and whether it may be answered (`MayEnd`). Both are said over plain numbers and the attempt
--- that it waits for, so that rules 1 and 7 of a world (`Step`) and the sessions of one region (`Sessions`) say the same.
+-- When a session may go on. A session makes its calls one after another; a call that was stale at its region it may try
+-- again, while it has had fewer attempts than the cluster allows. One learns here the two questions that are asked of a
+-- session: whether it may submit an attempt (`MayTry`), and whether it may be answered (`MayEnd`). Both are said over
+-- plain numbers and the attempt that it waits for, so that rules 1 and 7 of a world (`Step`) and the sessions of one
+-- region (`Sessions`) say the same. Read next: `Step`.
 use Rattle.std.specs.Prelude.{◌≡◌, ◌<◌, ◌+◌, ℕ, Option, Some, None}
 use Rattle.dt_txn.specs.declared.Body.{Body}
 use Rattle.dt_txn.specs.declared.txn.Body.TheVariants.{Call, Move}
@@ -50,6 +51,6 @@ abbrev pub body_of : Wanted → Body
 body_of (wanted.Call proc args) = Call proc args
 body_of (wanted.Move key target) = Move key target
 
--- the same with the rank that a workload gives it
+-- what a call or a move of a workload is to do, with the rank that the workload gives it
 abbrev pub ranked_body : Ranked → ℕ × Body
 ranked_body call = (call.rank, body_of call.wanted)

@@ -1,7 +1,8 @@
 -- The world: the state of all regions and of all sessions, as one value. One learns here what a region holds (what it
 -- submitted, its own log, how much it received of the other logs, and its replica: what it asked, placed and made of the
--- logs) and where a session stands. Each event of `Step` turns one world into the next; `Run` does so for whole lists.
--- A region's number is its place in `nodes`, and a session's place in `places` is its place in the workload.
+-- logs) and where a session stands. Each event of `Step` turns one world into the next; `Run` does so for whole lists. A
+-- region's number is its place in `nodes`, and a session's place in `places` is its place in the workload. Read next:
+-- `Tries`, for when a session may go on; then `Step`.
 use Rattle.std.specs.Prelude.{ℕ, List, [], ◌∷◌, length, map, flat_map, get_or, set, slice_index, replicate, Option, Some, None, option_map, unwrap_or, if◌then◌else◌, Bool, ◌&&◌, ◌==◌}
 use Rattle.std.specs.Map.{lookup}
 use Rattle.dt_access.specs.Clash.{Bytes, same_key}

@@ -8,13 +8,13 @@
 //!
 //! | rule | event | what happens |
 //! |---|---|---|
-//! | 1 | `Submit` | a session's next call gets an id, its region's table says which homes its keys have, and each home is asked for its part |
+//! | 1 | `Submit` | a session's next call, or the same call again where its attempt was stale, gets an id; its region's table says which homes its keys have, and each home is asked for its part |
 //! | 2 | `Append` | a home places the next part that a region asked for at the end of its log |
 //! | 3 | `Deliver` | a region receives more of a home's log |
 //! | 4 | `Insert` | a region takes the next part that it received into its graph of what comes before what |
 //! | 5 | `Resolve` | a region finds a deadlocked group, all of whose parts it has: from now on it goes by ranks and ids |
 //! | 6 | `Execute` | a region runs a transaction before which all that precedes it has run |
-//! | 7 | `Answer` | a session learns the outcome that its region has for its attempt, or a stale one is tried again |
+//! | 7 | `Answer` | a session learns the outcome that its region has for its attempt; not where that is stale and a try is left |
 //!
 //! Two payments that cross: the key `a` has its home in region 0, `b` in region 1. A session of region 0 pays from `a` to
 //! `b` (id 1.0) while one of region 1 pays from `b` to `a` (id 1.1). Each is asked for at both homes:
@@ -29,12 +29,14 @@
 //! told outcomes of the one order 1.0, 1.1.
 //!
 //! A key may be moved to another home by a transaction of its own; in version 2 of a cluster a move takes along all keys of a
-//! granule. An attempt that was annotated before a move of one of its keys is then `Stale`: it does nothing, and its session
-//! may try again.
+//! granule. A transaction keeps how often each of its keys was moved when its region submitted it. Where it runs after a move
+//! more than that, the key's log may be another one by now, so the attempt is `Stale`: it does nothing, and its session may try
+//! again. An attempt that runs before the move is not stale by it, whenever it was submitted.
 //!
-//! Read next: `specs/World` (what a state is), `specs/Tries` (when a session may go on), `specs/Step` (the rules), `specs/Run` (lists of events and their serial
-//! order), `specs/Agreement` (what all regions agree on), `specs/Sessions` (the sessions of one region). `specs/OneHome`, `specs/Eager` and `specs/Finished` name kinds of
-//! workloads and of lists. What a region does by itself in rules 1, 2 and 4 to 6 is defined below, in `dt_txn`.
+//! Read next: `specs/World` (what a state is), `specs/Tries` (when a session may go on), `specs/Step` (the rules), `specs/Run`
+//! (lists of events and their serial order), `specs/Agreement` (what all regions agree on), `specs/Sessions` (the sessions of
+//! one region). `specs/OneHome`, `specs/Eager` and `specs/Finished` name kinds of workloads and of lists. What a region does by
+//! itself in rules 1, 2 and 4 to 6 is defined below, in `dt_txn`.
 #![tactic(auto)]
 
 mod sessions;

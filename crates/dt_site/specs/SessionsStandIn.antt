@@ -1,7 +1,8 @@
--- When sessions are those of a region in a world. A region keeps its own account of its sessions: it finds them by their names,
--- and knows the number of the attempt that each waits for. One learns here that this account agrees with a world of all
--- regions (`SessionsStandIn`). Then what it allows of a session is what rules 1 and 7 allow in the world. From the accounts of
--- all regions one reads where each session of the workload stands (`places_of`).
+-- When sessions are those of a region in a world. A region keeps its own account of its sessions: it finds them by their
+-- names, and knows the number of the attempt that each waits for. One learns here that this account agrees with a world
+-- of all regions (`SessionsStandIn`). Then what it allows of a session is what rules 1 and 7 allow in the world. From the
+-- accounts of all regions one reads where each session of the workload stands (`places_of`). Read next: `WorldSessions`
+-- of dt_world, the sessions of all regions together.
 use Rattle.std.specs.Prelude.{◌≡◌, ℕ, List, [], map, get_or, Option, Some, None, option_map}
 use Rattle.dt_access.specs.Clash.{Bytes}
 use Rattle.dt_cluster.specs.declared.Cluster.{Cluster}

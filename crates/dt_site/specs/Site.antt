@@ -1,7 +1,7 @@
--- A site: one region of a cluster, and whose its submissions are. A region knows transactions alone; that one is an attempt
--- of a session, at which of its calls, stands beside them here, in the same order. `node_of` says which node of a world a
--- site is, so that the rules of a region and those of a world speak of the same thing. Read `StandsIn` next: when a site is
--- that node of a given world.
+-- A site: one region of a cluster, and of each of its submissions the session that made it. A region knows transactions
+-- alone; that one is an attempt of a session, at which of its calls, stands beside them here, in the same order.
+-- `node_of` says which node of a world a site is, so that the rules of a region and those of a world speak of the same
+-- thing. Read `StandsIn` next: when a site is that node of a given world.
 use Rattle.std.specs.Prelude.{◌≡◌, ℕ, List, [], ◌∷◌, ◌++◌, length, map, set, Result, Ok, Err}
 use Rattle.dt_text.specs.declared.NoMemory.{NoMemory}
 use Rattle.dt_access.specs.declared.TxnId.{TxnId}
@@ -16,7 +16,7 @@ use Rattle.dt_region.specs.Rules.{after_submit, id_for, opening_state, with_even
 use Rattle.dt_session.specs.World.{Node, Submission}
 use Rattle.dt_site.specs.declared.site.Origin.{Origin}
 
--- a region, and whose its submissions are, in their order
+-- a region, and of each of its submissions, in their order, the session that made it
 pub record SiteView : Type 0 where
   pub region : RegionView
   pub origins : List Origin

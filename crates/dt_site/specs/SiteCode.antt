@@ -1,4 +1,4 @@
--- The toolchain asks for this; skip it. It is the code by which proofs tell sites apart.
+-- The toolchain asks for this; skip it. It is the code by which proofs tell sites apart. Read `Site` for what they are.
 use Rattle.std.specs.Prelude.{List, refl}
 use Rattle.std.specs.Coded.{Coded, code_by, coded×, coded_list}
 use Rattle.dt_region.specs.Region.{RegionView}
@@ -7,5 +7,6 @@ use Rattle.dt_site.specs.contracts.site.Origin as origin
 use Rattle.dt_site.specs.declared.site.Origin.{Origin}
 use Rattle.dt_site.specs.Site.{SiteView}
 
+-- a site is stored as its fields
 abbrev pub site_code : Coded SiteView
 site_code = code_by (RegionView × List Origin) (coded× region_code (coded_list origin.the_row.coded)) (λ p. (p.region, p.origins)) (λ q. record { region = q.0; origins = q.1 }) (λ _. refl)

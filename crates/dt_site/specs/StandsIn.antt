@@ -1,7 +1,8 @@
 -- When a site is a node of a world. A region keeps its own account of what happened: its copies of logs, and the
--- transactions that it holds. One learns here that this account agrees with a world of all regions (`StandsIn`): its logs are
--- fronts of the world's logs, what it holds is what was submitted, and what it asked, placed and made is the node's. Where
--- the world is one that legal events lead to (`IsReached`), such a site may be given the world's requests and deliveries.
+-- transactions that it holds. One learns here that this account agrees with a world of all regions (`StandsIn`): its logs
+-- are fronts of the world's logs, what it holds is what was submitted, and what it asked, placed and made is the node's.
+-- Where the world is one that legal events lead to (`IsReached`), such a site may be given the world's requests and
+-- deliveries. Read next: `SessionsStandIn`, the same of a region's sessions; then src/site.rt, the calls.
 use Rattle.std.specs.Prelude.{◌≡◌, ℕ, List, length, Some}
 use Rattle.dt_access.specs.declared.TxnId.{TxnId}
 use Rattle.dt_events.specs.declared.Event.{Event}

@@ -24,7 +24,7 @@ pub struct Origin {
     pub attempt: u32,
 }
 
-/// A region, and whose its submissions are.
+/// A region, and of each of its submissions the session that made it.
 #[derive(Drop)]
 pub struct Site<S: Scheduler> {
     /// All its calls but `submit` are made here; a submission goes by `Site::submit`, so that it has its origin.

@@ -1,5 +1,5 @@
--- Scaffolding of the first pass: what is counted of the tokens so far, as the code keeps it. What one too many means is said by
--- FirstPass, which counts the tokens anew at each place.
+-- Scaffolding of the first pass: what is counted of the tokens so far, as the code keeps it. The code counts as it goes;
+-- FirstPass, which says what one too many means, counts the tokens anew at each place. Read FirstPass.
 use Rattle.std.specs.Prelude.{ℕ, ◌≤◌, List}
 use Rattle.dt_syntax.specs.declared.token.Placed.{Placed}
 use Rattle.dt_syntax.specs.declared.counts.Counts.{Counts}

@@ -1,6 +1,6 @@
--- The first pass tells whether a text is made of what procedures are made of: syntax, and what is one too many. The text is read
--- from the front, and the first fault by place is told, so that it is one fault whoever looks for it. Names and kinds are left to
--- the second pass; what it may rest on is said by Limits.
+-- The first pass tells whether a text is made of what procedures are made of: syntax, and what is one too many. The text
+-- is read from the front, and the first fault by place is told, so that it is one fault whoever looks for it. Names and
+-- kinds are left to the second pass. Read next: Limits, for what the second pass may rest on.
 use Rattle.std.specs.Prelude.{◌≡◌, ◌⊎◌, ℕ, ◌+◌, ◌-◌, Bool, true, false, if◌then◌else◌, ◌&&◌, ◌||◌, ◌==◌, nat_le, nat_lt, List, [], ◌∷◌, ◌++◌, length, Some, None}
 use Rattle.dt_syntax.specs.declared.token.Token.{Token}
 use Rattle.dt_syntax.specs.declared.token.Token.TheVariants as tok
@@ -10,34 +10,39 @@ use Rattle.dt_syntax.specs.declared.error.SyntaxError.TheVariants as fault
 use Rattle.dt_syntax.specs.Tokens.{tokens_of}
 use Rattle.dt_syntax.specs.Grammar.{InGrammar, Begins}
 
+-- whether a token is the word `proc`
 abbrev pub is_proc : Token → Bool
 is_proc tok.Proc = true
 is_proc _ = false
 
+-- whether a token is the word `read` or `write`
 abbrev pub is_mode : Token → Bool
 is_mode tok.Read = true
 is_mode tok.Write = true
 is_mode _ = false
 
+-- whether a token is a name
 abbrev pub is_name : Token → Bool
 is_name (tok.Name n) = true
 is_name _ = false
 
+-- whether a token is a `,`
 abbrev pub is_comma : Token → Bool
 is_comma tok.Comma = true
 is_comma _ = false
 
+-- whether a token is a `)`
 abbrev pub is_close : Token → Bool
 is_close tok.Close = true
 is_close _ = false
 
--- a `(` or `{`
+-- whether a token opens a bracket: `(` or `{`
 abbrev pub is_opening : Token → Bool
 is_opening tok.Open = true
 is_opening tok.Begin = true
 is_opening _ = false
 
--- a `)` or `}`
+-- whether a token closes a bracket: `)` or `}`
 abbrev pub is_closing : Token → Bool
 is_closing tok.Close = true
 is_closing tok.End = true
@@ -115,7 +120,7 @@ is_token_too_many earlier t = is_of_expression t && nat_le 256 (in_a_row earlier
 abbrev pub is_bracket_too_many : List Placed → Token → Bool
 is_bracket_too_many earlier t = is_opening t && nat_le 64 (brackets_open earlier)
 
--- a token is one too many
+-- whether a token, after these others, is one too many of some kind
 abbrev pub is_too_many : List Placed → Token → Bool
 is_too_many earlier t =
     is_proc_too_many earlier t || is_param_too_many earlier t || is_key_too_many earlier t || is_token_too_many earlier t
@@ -150,6 +155,8 @@ FaultAfter text before [] place =
     ((tokens_of text).bad ≡ Some place) ⊎ (((tokens_of text).bad ≡ None) × (place ≡ length text) × ¬ (InGrammar before))
 FaultAfter text before (t ∷ ts) place = (t.place ≡ place) × ¬ (Begins (before ++ t ∷ []))
 
+-- the first fault of a text is one of syntax, at this place: some procedures begin with the tokens before it, and none of
+-- these is one too many
 pub record IsSyntaxFault (text : List ℕ) (place : ℕ) : Type 0 where
   pub before : List Placed
   pub after : List Placed

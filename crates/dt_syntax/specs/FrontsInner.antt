@@ -1,4 +1,6 @@
--- Scaffolding of the two passes: what may come first where a part of the grammar ends. No public statement speaks of it.
+-- Scaffolding of the two passes: what may come first where a part of the grammar ends. A walk down the grammar has to
+-- know where a part ends, and it sees the next token alone. No public statement speaks of it; read Grammar for the
+-- grammar.
 use Rattle.std.specs.Prelude.{◌≡◌, ◌<◌, ℕ, Bool, true, List, [], ◌∷◌, MatchBool}
 use Rattle.dt_syntax.specs.declared.token.Token.{Token}
 use Rattle.dt_syntax.specs.declared.token.Token.TheVariants as tok
@@ -12,7 +14,7 @@ abbrev pub Stops : ℕ → Token → Type 0
 Stops n (tok.Op o) = level_of o < n
 Stops n _ = Unit {0}
 
--- nor with what comes first of these
+-- an expression of the level does not go on with the first of these tokens, and there is one
 abbrev pub FrontStops : ℕ → List Placed → Type 0
 FrontStops n [] = ⊥
 FrontStops n (t ∷ ts) = Stops n t.token
@@ -27,9 +29,10 @@ abbrev pub EndsBlock : List Placed → Bool → Type 0
 EndsBlock [] ends = ends ≡ true
 EndsBlock (t ∷ ts) ends = MatchBool ends (t.token ≡ tok.End) (¬ (t.token ≡ tok.End))
 
--- a parameter after a `,`, and a part of a key expression after a `++`
+-- the tokens of a parameter after a `,`
 abbrev pub comma_param : ℕ × Param → List Placed
 comma_param m = at m.0 tok.Comma ∷ param_tokens m.1
 
+-- the tokens of a part of a key expression after a `++`
 abbrev pub joined_part : ℕ × KeyPart → List Placed
 joined_part m = at m.0 (tok.Op op.Join) ∷ part_tokens m.1

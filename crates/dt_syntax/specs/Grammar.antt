@@ -1,6 +1,6 @@
 -- The grammar of procedures. A syntax tree has a place for each of its tokens; what it spells is the list of its tokens
--- from left to right, rule for rule as in the grammar that stands beside each function. A text belongs to the grammar where
--- its tokens are what some procedures spell. FirstPass says what is told of a text that does not.
+-- from left to right, rule for rule as in the grammar that stands beside each function. A text belongs to the grammar
+-- where its tokens are what some procedures spell. Read next: FirstPass, for what is told of a text that does not.
 use Rattle.std.specs.Prelude.{◌≡◌, ℕ, suc, ◌<◌, ◌≤◌, ℤ, Bool, true, false, List, [], ◌∷◌, ◌++◌, map}
 use Rattle.std.specs.List.{flat_map}
 use Rattle.dt_lists.specs.Lists.{AllIn}
@@ -18,13 +18,14 @@ use Rattle.dt_syntax.specs.declared.token.Placed.{Placed}
 abbrev pub at : ℕ → Token → Placed
 at place token = record { place = place; token = token }
 
--- '(' NAME ')'
+-- a name in brackets: '(' NAME ')'
 pub record Bracketed : Type 0 where
   pub open_at : ℕ
   pub name_at : ℕ
   pub name : List ℕ
   pub close_at : ℕ
 
+-- the tokens of a name in brackets
 abbrev pub bracketed_tokens : Bracketed → List Placed
 bracketed_tokens b = at b.open_at Open ∷ at b.name_at (Name b.name) ∷ at b.close_at Close ∷ []
 
@@ -34,6 +35,7 @@ pub data Reader : Type 0 where
   reads_text : Reader
   reads_presence : Reader
 
+-- the token of the word by which a row is read
 abbrev pub reader_token : Reader → Token
 reader_token reads_int = IntWord
 reader_token reads_text = TextWord
@@ -44,6 +46,7 @@ pub data Maker : Type 0 where
   makes_length : Maker
   makes_text : Maker
 
+-- the token of the word by which a value is made
 abbrev pub maker_token : Maker → Token
 maker_token makes_length = Len
 maker_token makes_text = Show
@@ -89,6 +92,7 @@ abbrev mutual
   syntax_tokens (of_key p r b) = at p (reader_token r) ∷ bracketed_tokens b
   syntax_tokens (made p m o x q) = at p (maker_token m) ∷ at o Open ∷ (syntax_tokens x ++ at q Close ∷ [])
 
+  -- operators, each with its operand behind it
   pub links_tokens : Links → List Placed
   links_tokens no_link = []
   links_tokens (link p o x more) = at p (OpToken o) ∷ (syntax_tokens x ++ links_tokens more)
@@ -123,7 +127,7 @@ level_of op.Mul = 4
 level_of op.Div = 4
 level_of op.Rem = 4
 
--- `++`
+-- whether it is `++`, which joins texts
 abbrev pub is_join : Op → Bool
 is_join op.Join = true
 is_join _ = false
@@ -155,22 +159,26 @@ pub record Param : Type 0 where
   pub kind_at : ℕ
   pub kind : Kind
 
+-- the token of a kind: 'int' | 'text'
 abbrev pub kind_token : Kind → Token
 kind_token kind.Int = IntWord
 kind_token kind.Text = TextWord
 
+-- the tokens of a parameter
 abbrev pub param_tokens : Param → List Placed
 param_tokens p = at p.name_at (Name p.name) ∷ at p.colon_at Colon ∷ at p.kind_at (kind_token p.kind) ∷ []
 
--- [param {',' param}]
+-- parameters: [param {',' param}]
 pub data Params : Type 0 where
   no_param : Params
   params : Param → List (ℕ × Param) → Params
 
+-- the kinds of parameters, in order
 abbrev pub param_kinds : Params → List Kind
 param_kinds no_param = []
 param_kinds (params p more) = p.kind ∷ map (λ m. m.1.kind) more
 
+-- the tokens of parameters, with a `,` before each but the first
 abbrev pub params_tokens : Params → List Placed
 params_tokens no_param = []
 params_tokens (params first more) = param_tokens first ++ flat_map (λ m. at m.0 Comma ∷ param_tokens m.1) more
@@ -181,6 +189,7 @@ pub data KeyPart : Type 0 where
   name_part : ℕ → List ℕ → KeyPart
   show_part : ℕ → Bracketed → KeyPart
 
+-- the tokens of a part of a key expression
 abbrev pub part_tokens : KeyPart → List Placed
 part_tokens (text_part p t) = at p (Text t) ∷ []
 part_tokens (name_part p n) = at p (Name n) ∷ []
@@ -197,10 +206,12 @@ pub record KeySyntax : Type 0 where
   pub more : List (ℕ × KeyPart)
   pub end_at : ℕ
 
+-- the word of a declaration: 'write' where the key may be written, else 'read'
 abbrev pub mode_token : Bool → Token
 mode_token true = Write
 mode_token false = Read
 
+-- the tokens of a declaration of a key
 abbrev pub key_tokens : KeySyntax → List Placed
 key_tokens k =
     at k.word_at (mode_token k.write) ∷ at k.name_at (Name k.name) ∷ at k.is_at Is
@@ -211,6 +222,7 @@ pub data Item : Type 0 where
   row_item : ℕ → Bracketed → Item
   value_item : Syntax → Item
 
+-- the tokens of an item of `give`
 abbrev pub item_tokens : Item → List Placed
 item_tokens (row_item p b) = at p Row ∷ bracketed_tokens b
 item_tokens (value_item x) = syntax_tokens x
@@ -231,6 +243,7 @@ mutual
     nothing : Statements
     first : Statement → Statements → Statements
 
+-- the tokens of items, with a `,` before each but the first
 abbrev pub items_tokens : Item → List (ℕ × Item) → List Placed
 items_tokens item more = item_tokens item ++ flat_map (λ m. at m.0 Comma ∷ item_tokens m.1) more
 
@@ -249,10 +262,12 @@ abbrev mutual
   statement_tokens (abort p q t e) = at p Abort ∷ at q (Text t) ∷ at e Semicolon ∷ []
   statement_tokens (give p i more e) = at p Give ∷ (items_tokens i more ++ at e Semicolon ∷ [])
 
+  -- statements in order
   pub statements_tokens : Statements → List Placed
   statements_tokens nothing = []
   statements_tokens (first s ss) = statement_tokens s ++ statements_tokens ss
 
+-- the item is of the grammar: its expression, if it has one, is an expr
 abbrev pub IsItem : Item → Type 0
 IsItem (row_item p b) = Unit {0}
 IsItem (value_item x) = IsLevel 0 x
@@ -268,6 +283,7 @@ abbrev mutual
   IsStatement (abort p q t e) = Unit {0}
   IsStatement (give p i more e) = IsItem i × AllIn (λ m. IsItem m.1) more
 
+  -- each expression in each of the statements is an expr
   pub AreStatements : Statements → Type 0
   AreStatements nothing = Unit {0}
   AreStatements (first s ss) = IsStatement s × AreStatements ss
@@ -286,19 +302,22 @@ pub record ProcSyntax : Type 0 where
   pub body : Statements
   pub end_at : ℕ
 
+-- the tokens of a procedure
 abbrev pub proc_tokens : ProcSyntax → List Placed
 proc_tokens p =
     at p.word_at Proc ∷ at p.name_at (Name p.name) ∷ at p.open_at Open
     ∷ (params_tokens p.params ++ at p.close_at Close ∷ (key_tokens p.key ++ (flat_map key_tokens p.more_keys
     ++ at p.begin_at Begin ∷ (statements_tokens p.body ++ at p.end_at End ∷ []))))
 
+-- the procedure is of the grammar: each expression in its block is an expr
 abbrev pub IsProc : ProcSyntax → Type 0
 IsProc p = AreStatements p.body
 
--- procs = {proc}
+-- the tokens of procedures: procs = {proc}
 abbrev pub procs_tokens : List ProcSyntax → List Placed
 procs_tokens procs = flat_map proc_tokens procs
 
+-- each of the procedures is of the grammar
 abbrev pub AreProcSyntaxes : List ProcSyntax → Type 0
 AreProcSyntaxes procs = AllIn IsProc procs
 

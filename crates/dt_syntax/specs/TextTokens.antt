@@ -1,6 +1,6 @@
--- The texts of procedures are written as the text words of lines: between two `"`, with a `\` before each `"` and `\`. The
--- definition of a text word stands with the words of lines; this law says that the lexer finds just these. See Tokens for how
--- it finds them.
+-- The texts of procedures are written as the text words of lines: between two `"`, with a `\` before each `"` and `\`.
+-- The definition of a text word stands with the words of lines; this law says that the lexer finds just these. So one who
+-- knows how a text stands in a line can write one in a procedure. Read Tokens for how the lexer finds them.
 use Rattle.std.specs.Prelude.{◌≡◌, ◌↔◌, ℕ, List, ◌∷◌, ◌++◌, length, Some}
 use Rattle.dt_text.specs.Texts.{IsStr}
 use Rattle.dt_text.specs.Printed.{text_word}

@@ -1,4 +1,5 @@
--- Scaffolding: the toolchain asks for these codes, by which proofs tell tables apart; skip them.
+-- Scaffolding: the toolchain asks for these codes, by which proofs tell tables apart. Skip them; read Table.antt for the
+-- tables.
 use Rattle.std.specs.Prelude.{ℕ, List, Option, refl}
 use Rattle.std.specs.Coded.{Coded, code_by, coded×, coded_ℕ, coded_list, coded_option}
 use Rattle.std.specs.FinMap as map
@@ -11,12 +12,15 @@ use Rattle.dt_text.specs.contracts.value.Value as value
 use Rattle.dt_text.specs.declared.Value.{Value}
 use Rattle.dt_table.specs.Table.{Moved, Table, TableView}
 
+-- a move is stored as its fields
 abbrev moved_code : Coded Moved
 moved_code = code_by (ℕ × TxnId) (coded× coded_ℕ id.the_row.coded) (λ m. (m.target, m.by)) (λ p. record { target = p.0; by = p.1 }) (λ _. refl)
 
+-- the code of the map of values
 abbrev values_code : Coded (map.FinMap (slice_cmp nat_cmp) (Option Value))
 values_code = map.code (coded_list coded_ℕ) (coded_option value.the_row.coded)
 
+-- the code of the map of moves
 abbrev moves_code : Coded (map.FinMap (slice_cmp nat_cmp) (List Moved))
 moves_code = map.code (coded_list coded_ℕ) (coded_list moved_code)
 
@@ -28,6 +32,6 @@ table_code = code_by (ℕ × (ℕ × (List (Bytes × ℕ) × (map.FinMap (slice_
     (λ p. record { version = p.0; regions = p.1.0; homes = p.1.1.0; values = p.1.1.1.0; moves = p.1.1.1.1 })
     (λ _. refl)
 
--- and with its room
+-- a table is stored so, with its room
 abbrev pub table_view_code : Coded TableView
 table_view_code = code_by (Table × ℕ) (coded× table_code coded_ℕ) (λ k. (k.state, k.spare)) (λ p. record { state = p.0; spare = p.1 }) (λ _. refl)

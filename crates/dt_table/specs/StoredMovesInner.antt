@@ -1,6 +1,7 @@
--- Scaffolding: how the code keeps moves. Those of all units stand in one list, each with the place of the move of the same
--- unit that it follows; so a unit's moves are read backwards from its last one. `table_view` is the table that is kept so,
--- and `IsSoundTable` what every table keeps.
+-- Scaffolding: how the code keeps moves. Those of all units stand in one list, each with the place of the move of the
+-- same unit that it follows; so a unit's moves are read backwards from its last one. `table_view` is the table that is
+-- kept so, and `IsSoundTable` what every table keeps. Only the private functions of a table cite this; read Table.antt
+-- for what callers see.
 use Rattle.std.specs.Prelude.{◌≡◌, ◌+◌, ◌-◌, ◌<◌, ◌^◌, ℕ, zero, suc, slice_get, option_map, List, [], ◌∷◌, ◌++◌, map, length, get_or, min, Option, Some, None, vec_len, vec_capacity}
 use Rattle.std.specs.Ordering.{nat_cmp}
 use Rattle.std.specs.Cmp.Lexicographic.{slice_cmp}
@@ -16,7 +17,7 @@ use Rattle.dt_table.specs.declared.stored.StoredMove.{StoredMove}
 use Rattle.dt_table.specs.declared.stored.StoredUnit.{StoredUnit}
 use Rattle.dt_table.specs.declared.table.Table.TheInside.{Inside}
 
--- the move itself
+-- the move that is kept so
 abbrev pub moved_of : StoredMove → Moved
 moved_of m = record { target = m.target; by = m.by }
 

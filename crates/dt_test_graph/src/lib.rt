@@ -1,4 +1,4 @@
-//! Tests of the scheduler's graph: what a vertex reaches, and its class.
+//! Tests of directed graphs: what a vertex reaches, and its class.
 //! Each is a table of outside values with one loop and one assertion; there is no other code here.
 #![tactic(auto)]
 

@@ -1,5 +1,6 @@
--- For the tests of schedulers: what a part may look like beside those that were inserted before.
--- The condition itself is CanInsert of dt_sched/specs/Sched.antt.
+-- For the tests of schedulers: what a part may look like beside those that were inserted before. A test calls `insert` on
+-- parts that it made itself, and has to show that they may be inserted. Read `CanInsert` in Sched.antt of dt_sched for
+-- the condition itself.
 use Rattle.std.specs.Prelude.{◌≡◌, ◌<◌, List, length}
 use Rattle.dt_access.specs.declared.Part.{Part}
 

@@ -1,5 +1,6 @@
--- What it is to read a number. Its one spelling is its printed form: `0`, or digits of which the first is not `0`,
--- with `-` before them where it is less than 0.
+-- What it is to read a number. Its one spelling is its printed form: `0`, or digits of which the first is not `0`, with
+-- `-` before them where it is less than 0. So no two words spell one number, and what was printed is read back as the
+-- same number. Read next: Printed.antt, for how values are printed.
 use Rattle.std.specs.Prelude.{◌≡◌, ◌≢◌, ℕ, ℤ, ◌<◌, ◌^◌, ◌↔◌, List, length, slice_index, Option, MatchOption, FitsSigned}
 use Rattle.std.specs.Int.{w64}
 use Rattle.std.specs.Fmt.{decimal, signed_decimal}

@@ -1,5 +1,6 @@
 -- How texts and values are printed. A value has one printed form, and it is read back as the same value: a `\` before
--- each `"` and `\` of a text lets the reader tell the text's end. What the reader makes of such a word stands in Words.antt.
+-- each `"` and `\` of a text lets the reader tell the text's end. Read next: Words.antt, for what the reader makes of
+-- such a word.
 use Rattle.std.specs.Prelude.{ℕ, if◌then◌else◌, ◌||◌, ◌==◌, List, [], ◌∷◌, ◌++◌}
 use Rattle.std.specs.Fmt.{signed_decimal}
 use Rattle.std.specs.List.{flat_map}

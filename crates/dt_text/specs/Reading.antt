@@ -1,5 +1,6 @@
 -- The words of a line, found byte by byte from a place on. That they are the words which the line is made of, and that
--- there are none exactly where it is made of no words, is the law `WordsAreExact`.
+-- there are none exactly where it is made of no words, is the law `WordsAreExact`. Read Words.antt before. Read next:
+-- src/word.rt, the reader.
 use Rattle.std.specs.Prelude.{◌≡◌, ℕ, ◌+◌, ◌<◌, ◌≤◌, if◌then◌else◌, ◌==◌, ◌||◌, ◌&&◌, nat_lt, ◌↔◌, List, [], ◌∷◌, ◌++◌, length, Option, Some, None}
 use Rattle.std.specs.Option.{option_map}
 use Rattle.dt_text.specs.Texts.{is_text_byte, IsStr}

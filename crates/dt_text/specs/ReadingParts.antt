@@ -1,5 +1,5 @@
 -- Only for the functions that the reader of words is made of (`read_word`, `read_item`, ..): what each of them finds, in
--- terms of the words from a place of the line on. No contract of a public call needs this file; read Words.antt for what
+-- terms of the words from a place of the line on. No contract of a public call needs this file. Read Words.antt for what
 -- a line means, and Reading.antt for how its words are found.
 use Rattle.std.specs.Prelude.{◌≡◌, ℕ, ◌<◌, ◌≤◌, ◌∷◌, ◌++◌, [], if◌then◌else◌, nat_lt, List, length, drop, Option, Some, None, IsTrue}
 use Rattle.dt_text.specs.Texts.{is_text_byte}

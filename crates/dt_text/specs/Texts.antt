@@ -1,6 +1,6 @@
 -- What a key, a name and a text may be. Contracts see each of them as its bytes; the type's invariant says which bytes
--- these may be, so whoever holds a `Key` holds an `IsKey`. The limits (128, 32 and 256 bytes) keep every count of the
--- store within 32 bits. How they are printed stands in Printed.antt, how a line is cut into words in Words.antt.
+-- these may be, so whoever holds a `Key` holds an `IsKey`. A key has at most 128 bytes, a name 32 and a text 256. Read
+-- next: Printed.antt, for how they are printed, and Words.antt, for how a line is cut into words.
 use Rattle.std.specs.Prelude.{ℕ, ◌<◌, ◌≤◌, Bool, ◌&&◌, ◌||◌, ◌==◌, nat_le, not, List, length, Option, position, IsTrue}
 use Rattle.std.specs.List.{list_all}
 
@@ -8,7 +8,7 @@ use Rattle.std.specs.List.{list_all}
 abbrev pub Bytes : Type 0
 Bytes = List ℕ
 
--- `a` to `z` and `0` to `9`
+-- whether a byte is one of `a` to `z` and `0` to `9`
 abbrev pub is_letter_or_digit : ℕ → Bool
 is_letter_or_digit b = nat_le 97 b && nat_le b 122 || nat_le 48 b && nat_le b 57
 

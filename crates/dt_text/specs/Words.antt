@@ -1,6 +1,6 @@
--- What it means that a line is made of words, said without a reader: the line is spaces and words, a space after each word
--- but the last, and each word is spelled as it should be. Reading.antt finds the words from left to right, and the law
--- `WordsAreExact` there says that it finds just these.
+-- What it means that a line is made of words, said without a reader: the line is spaces and words, a space after each
+-- word but the last, and each word is spelled as it should be. Read next: Reading.antt, which finds the words from left
+-- to right; the law `WordsAreExact` there says that it finds just these.
 use Rattle.std.specs.Prelude.{◌≡◌, ◌≢◌, ℕ, ◌+◌, ◌<◌, Bool, ◌&&◌, ◌==◌, nat_le, List, [], ◌∷◌, ◌++◌, length, slice_index, IsTrue}
 use Rattle.std.specs.List.{list_all}
 use Rattle.dt_text.specs.Printed.{text_word}
@@ -8,7 +8,7 @@ use Rattle.dt_text.specs.Texts.{IsStr}
 use Rattle.dt_text.specs.declared.word.Word.{Word}
 use Rattle.dt_text.specs.declared.word.Word.TheVariants.{Bare, Text}
 
--- a visible character of ASCII
+-- whether a byte is a visible character of ASCII
 abbrev pub is_visible : ℕ → Bool
 is_visible b = nat_le 33 b && nat_le b 126
 
@@ -21,7 +21,7 @@ abbrev pub Spells : List ℕ → ℕ → Word → Type 0
 Spells bs at (Bare from to) = IsBareWord bs × (from ≡ at) × (to ≡ at + length bs)
 Spells bs at (Text text) = IsStr text × (bs ≡ text_word text)
 
--- nothing but spaces
+-- the bytes are spaces, or there are none
 abbrev pub AreSpaces : List ℕ → Type 0
 AreSpaces bs = IsTrue (list_all (λ b. b == 32) bs)
 

@@ -1,4 +1,7 @@
 //! Texts: keys, names, values and numbers, each with its one spelling.
+//!
+//! Read next: `specs/Texts.antt`, which bytes keys, names and texts are; `specs/Lines.antt` and `specs/Words.antt`, how a file
+//! is cut into lines and a line into words.
 #![tactic(auto)]
 
 mod bytes;

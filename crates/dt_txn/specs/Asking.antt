@@ -1,5 +1,6 @@
 -- How a transaction's homes are asked to place it: one learns here that the id of a new submission goes to the end of
 -- what its region asked of each of its homes, so that each home places that region's requests in order. Rule 1 uses it.
+-- Read next: Replica.antt, for what a region keeps beside.
 use Rattle.std.specs.Prelude.{ℕ, List, [], ◌∷◌, ◌++◌, get_or, set}
 use Rattle.dt_access.specs.declared.TxnId.{TxnId}
 

@@ -36,7 +36,7 @@ seen_of t a = record {
 abbrev pub see : Txn → Table → List Seen
 see txn t = map (seen_of t) txn.access
 
--- nothing changes
+-- the effect of a transaction that changes nothing
 abbrev pub no_effect : Effect
 no_effect = record { writes = []; moved = None }
 

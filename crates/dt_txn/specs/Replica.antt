@@ -1,6 +1,7 @@
 -- What one region keeps for itself, and the effects of its steps on it: what rules 1 and 2 do to a region's requests, and
 -- what rules 4 to 6 do to what it made of the logs. A region (`dt_region`) and a world of regions (`dt_session`) both
--- stand on these words, so that they mean the same.
+-- stand on these words, so that they mean the same. Read next: `Rules` of dt_region for one region, or `Step` of
+-- dt_session for all.
 use Rattle.std.specs.Prelude.{◌≡◌, ◌<◌, ◌+◌, ℕ, List, [], ◌∷◌, ◌++◌, take, map, set, slice_index, length, replicate, Option, Some, None}
 use Rattle.dt_access.specs.declared.TxnId.{TxnId}
 use Rattle.dt_events.specs.declared.Event.{Event}

@@ -1,6 +1,7 @@
--- What a workload file is, and what fault is told of a file that is none. A file is read line by line: the lines before the
--- first faulty one are some sessions, and that line's fault is the first of its causes in a fixed order, so each file is one
--- workload or has one fault (`Laws`). The forms of lines are in `Lines`, and what a workload is in `Valid`.
+-- What a workload file is, and what fault is told of a file that is none. A file is read line by line: the lines before
+-- the first faulty one are some sessions, and that line's fault is the first of its causes in a fixed order, so each file
+-- is one workload or has one fault (`Laws`). The forms of lines are in `Lines`, and what a workload is in `Valid`. Read
+-- next: `Laws`.
 use Rattle.std.specs.Prelude.{◌≡◌, ◌⊎◌, ℕ, ◌<◌, List, [], ◌∷◌, ◌++◌, map, flat_map, slice_get, Option, Some, None, IsSome}
 use Rattle.std.specs.Option.{option_and_then}
 use Rattle.dt_lists.specs.Lists.{Has, Pairwise}
@@ -32,6 +33,7 @@ abbrev pub wanted_line : List ProcTree → ℕ → Wanted → Form
 wanted_line procs rank (Call number args) = call_line rank (proc_name (slice_get procs number)) args
 wanted_line procs rank (Move key target) = move_line rank key target
 
+-- the line of what a session wants, with its rank
 abbrev pub ranked_line : List ProcTree → Ranked → Form
 ranked_line procs ranked = wanted_line procs ranked.rank ranked.wanted
 
@@ -56,7 +58,7 @@ IsWorkload cluster file workload = AreSessions cluster (lines_of file) workload.
 abbrev pub Needs : Type 0 → WorkloadCause → (WorkloadCause → Type 0) → WorkloadCause → Type 0
 Needs P why later told = ((told ≡ why) × ¬ P) ⊎ (P × later told)
 
--- nothing more is needed
+-- nothing more is needed, so there is no fault
 abbrev pub NothingMore : WorkloadCause → Type 0
 NothingMore told = ⊥
 

@@ -1,5 +1,6 @@
--- What holds of workload files: in a cluster each file is one workload, or has one fault at one line, and not both; and each
--- file is one of the two. So the answer of the reader is the only one that a file can have, memory aside.
+-- What holds of workload files: in a cluster each file is one workload, or has one fault at one line, and not both; and
+-- each file is one of the two. So the answer of the reader is the only one that a file can have, memory aside. Read next:
+-- `World` of dt_session, for what becomes of a workload.
 use Rattle.std.specs.Prelude.{◌≡◌, ◌⊎◌, ℕ}
 use Rattle.dt_cluster.specs.declared.Cluster.{Cluster}
 use Rattle.dt_cluster.specs.Valid.{IsValidCluster}

@@ -1,6 +1,7 @@
--- The forms that a line of a workload file can have: `session NAME at REGION`, `call PROC ARG ..`, `move KEY to REGION`. The first
--- word of a call or a move tells its rank, as `call/2`; `call` alone is of rank 5, and so is `call/5`. So the words of a form are
--- a relation: a form may be spelled in two ways, but a line has one form at most. Next: `File`, what lines make together.
+-- The forms that a line of a workload file can have: `session NAME at REGION`, `call PROC ARG ..`, `move KEY to REGION`.
+-- The first word of a call or a move tells its rank, as `call/2`; `call` alone is of rank 5, and so is `call/5`. So the
+-- words of a form are a relation: a form may be spelled in two ways, but a line has one form at most. Read next: `Valid`,
+-- for what the words have to name, and `File`, for what lines make together.
 use Rattle.std.specs.Prelude.{◌≡◌, ◌⊎◌, ℕ, ◌<◌, ◌^◌, List, [], ◌∷◌, ◌++◌, map, codes, FitsSigned}
 use Rattle.std.specs.Int.{w64}
 use Rattle.std.specs.List.{slice_range}
@@ -44,13 +45,13 @@ IsFirstWord (session_line name region) head = head ≡ bare (codes "session")
 IsFirstWord (call_line rank proc args) head = IsRanked (codes "call") rank head
 IsFirstWord (move_line rank key region) head = IsRanked (codes "move") rank head
 
--- the words after it
+-- the words of a form after the one that begins it
 abbrev pub other_words : Form → List Said
 other_words (session_line name region) = bare name ∷ bare (codes "at") ∷ bare (decimal region) ∷ []
 other_words (call_line rank proc args) = bare proc ∷ map argument_word args
 other_words (move_line rank key region) = bare key ∷ bare (codes "to") ∷ bare (decimal region) ∷ []
 
--- words spell the form
+-- the words spell the form: the word that begins it, and then the others
 abbrev pub SpellForm : Form → List Said → Type 0
 SpellForm form words = (head : Said) × IsFirstWord form head × (words ≡ head ∷ other_words form)
 

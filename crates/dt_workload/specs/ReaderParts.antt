@@ -1,5 +1,6 @@
--- Inner words, for the private parts of the reader alone: what a line makes of the sessions so far, and why it makes nothing.
--- `File` says the same of whole files; a reader of the contracts of `dt_workload` can skip this file.
+-- Inner words, for the private parts of the reader alone: what a line makes of the sessions so far, and why it makes
+-- nothing. `File` says the same of whole files; a reader of the contracts of `dt_workload` can skip this file. Read next:
+-- `File`.
 use Rattle.std.specs.Prelude.{◌≡◌, ◌≢◌, ℕ, ◌<◌, ◌≤◌, ◌^◌, List, [], ◌∷◌, ◌++◌, slice_get, Option, MatchOption, IsSome}
 use Rattle.std.specs.Fmt.{decimal}
 use Rattle.dt_workload.specs.Lines as lines
@@ -25,7 +26,7 @@ use Rattle.dt_workload.specs.declared.workload.Ranked.{Ranked}
 use Rattle.dt_workload.specs.declared.workload.Wanted.TheVariants.{Call, Move}
 use Rattle.dt_workload.specs.declared.workload.Session.{Session}
 
--- the form that is read
+-- the form that the reader's own value stands for
 abbrev pub form_of : Form → lines.Form
 form_of (said_form.Session name region) = lines.session_line name.now region
 form_of (said_form.Call rank name args) = lines.call_line rank name.now args

@@ -102,7 +102,7 @@ pub record SubmitsAt (view : WorldView) (sites : List SiteView) (region : ℕ) (
 
 module _ {cluster : Cluster} {sessions : WorldSessions} {sites : List SiteView} {steps : ℕ} (k : IsLawful cluster sessions sites steps) {region : ℕ} (lr : region < cluster.regions)
     (name : Bytes) {origin : Origin} {rank : ℕ} {body : Body} {p : SiteView} where
-  pub submits_at : {now : WorldView} → view_in cluster sessions sites steps ≡ now → p ≡ get_or sites region p → IsNextOf now region name (Some (origin, (rank, body)))
+  pub submits_at : {now : WorldView} → view_in cluster sessions sites steps ≡ now → p ≡ get_or sites region p → IsNextOf now region name (Some (origin, rank, body))
       → SubmitsAt (view_in cluster sessions sites steps) sites region name p origin rank body
   submits_at view value seen = record { site = read_at sites region p (a_site k lr) value; next = subst (λ v. IsNextTry v region name origin rank body) (sym view) seen }
 

@@ -143,7 +143,7 @@ module _ {cluster : Cluster} {sessions : WorldSessions} {sites : List SiteView} 
 
       -- so with what that call is to do, it is the session's next try
       pub next_try : (rank : ℕ) (body : Body) (copied : Bytes) → copied ≡ name → option_map ranked_body (wanted_of here name call) ≡ Some (rank, body)
-          → IsNextOf (view_in cluster sessions sites steps) region name (Some (record { session = copied; call = call; attempt = attempt }, (rank, body)))
+          → IsNextOf (view_in cluster sessions sites steps) region name (Some (record { session = copied; call = call; attempt = attempt }, rank, body))
       next_try rank body copied same made = record {
         session = found.session;
         place = found.place;

@@ -1,6 +1,7 @@
--- What a report follows of the events, one after another. A world does not keep who was answered when; so a report plays the
--- events again, as far as they concern sessions: what each waits for, and how many attempts each region submitted. One learns
--- here what is so followed, and what the report has after the first so many events.
+-- What a report follows of the events, one after another. A world does not keep who was answered when; so a report plays
+-- the events again, as far as they concern sessions: what each waits for, and how many attempts each region submitted.
+-- One learns here what is so followed, and what the report has after the first so many events. Only the private functions
+-- of `World::report` cite this; read `WorldReport` for the report.
 use Rattle.std.specs.Prelude.{◌≡◌, ◌+◌, ℕ, List, length, map, get_or, set, take, filter_map, Option, Some, None, option_map, option_and_then}
 use Rattle.dt_access.specs.Clash.{Bytes}
 use Rattle.dt_access.specs.declared.TxnId.{TxnId}
@@ -19,7 +20,7 @@ pub record SessionReplayView : Type 0 where
   pub waits : List (Option TxnId)
   pub submitted : List ℕ
 
--- both in a world
+-- what each session waits for in a world, and how many attempts each region has submitted there
 abbrev pub replay_of : World → SessionReplayView
 replay_of w = record { waits = map (λ p. p.waits) w.places; submitted = map (λ n. length n.submitted) w.nodes }
 
@@ -31,15 +32,15 @@ count_at c region = get_or c.submitted region 0
 abbrev pub next_in : SessionReplayView → ℕ → TxnId
 next_in c region = record { seq = count_at c region + 1; region = region }
 
--- after a region submitted the attempt of a session, which waits for it
+-- what is followed after a region submitted an attempt of the session at this place, which waits for it
 abbrev pub after_submission : SessionReplayView → ℕ → ℕ → SessionReplayView
 after_submission c place region = record { waits = set c.waits place (Some (next_in c region)); submitted = set c.submitted region (count_at c region + 1) }
 
--- after a session was answered
+-- what is followed after the session at this place was answered: it waits for nothing
 abbrev pub after_reply : SessionReplayView → ℕ → SessionReplayView
 after_reply c place = record c { waits = set c.waits place None }
 
--- what a session waits for
+-- what the session at this place of the workload waits for
 abbrev pub wait_at : SessionReplayView → ℕ → Option TxnId
 wait_at c place = get_or c.waits place None
 

@@ -1,6 +1,6 @@
--- Only proofs need this file, and the private calls of a world. It says what the type of a world keeps of its own fields: of the
--- sessions that its regions keep, of the sites of all regions, and of the number of steps (`IsLawful`). And it has words for
--- what the private calls answer of one session. Callers read `WorldView` instead.
+-- Only proofs need this file, and the private calls of a world. It says what the type of a world keeps of its own fields:
+-- of the sessions that its regions keep, of the sites of all regions, and of the number of steps (`IsLawful`). And it has
+-- words for what the private calls answer of one session. Read `WorldView` for what callers see.
 use Rattle.std.specs.Prelude.{◌≡◌, ◌<◌, ◌+◌, ℕ, List, length, map, get_or, slice_get, Option, Some, None}
 use Rattle.std.specs.List.{range_with_len}
 use Rattle.dt_access.specs.Clash.{Bytes}
@@ -18,11 +18,11 @@ use Rattle.dt_site.specs.StandsIn.{IsReached, StandsIn}
 use Rattle.dt_world.specs.WorldView.{WorldView}
 use Rattle.dt_world.specs.WorldSessions.{WorldSessions, places_in}
 
--- one of the sites
+-- the site of a region, among those of all regions
 abbrev pub site_at : List SiteView → ℕ → SiteView
 site_at sites region = get_or sites region no_site
 
--- the sessions of one of the regions
+-- the sessions of a region, among those of all regions
 abbrev pub sessions_of : List SessionsView → ℕ → SessionsView
 sessions_of all region = get_or all region no_sessions
 
@@ -66,9 +66,9 @@ pub record IsNextTry (view : WorldView) (region : ℕ) (name : Bytes) (origin : 
   pub body_is : body ≡ body_of call.wanted
 
 -- what the session submits next; none exactly where it may submit nothing
-abbrev pub IsNextOf : WorldView → ℕ → Bytes → Option (Origin × (ℕ × Body)) → Type 0
+abbrev pub IsNextOf : WorldView → ℕ → Bytes → Option (Origin × ℕ × Body) → Type 0
 IsNextOf view region name None = ¬ (MaySubmit view.cluster view.state region (session_at view.workload.sessions view.state.places region name))
-IsNextOf view region name (Some (origin, (rank, body))) = IsNextTry view region name origin rank body
+IsNextOf view region name (Some (origin, rank, body)) = IsNextTry view region name origin rank body
 
 -- the session of this name at a region may be answered
 abbrev pub MayBeTold : WorldView → ℕ → Bytes → Type 0

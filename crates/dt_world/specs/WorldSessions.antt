@@ -1,6 +1,7 @@
--- The sessions of a world. Each region keeps its own (`Sessions` of the theory of sessions), and where a session stands is read
--- off what its region keeps; so the places of a world, in the order of the workload, are kept nowhere else. One learns here
--- what the regions keep at first, and how they are put together. What relates them to a world is `SessionsStandIn`.
+-- The sessions of a world. Each region keeps its own (`Sessions` of the theory of sessions), and where a session stands
+-- is read off what its region keeps; so the places of a world, in the order of the workload, are kept nowhere else. One
+-- learns here what the regions keep at first, and how they are put together. What relates them to a world is
+-- `SessionsStandIn`. Read next: `WorldInner`, for what a world keeps of them, if you change its code.
 use Rattle.std.specs.Prelude.{List, [], map}
 use Rattle.std.specs.List.{range_with_len}
 use Rattle.dt_cluster.specs.declared.Cluster.{Cluster}

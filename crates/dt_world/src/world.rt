@@ -157,7 +157,7 @@ impl<S: Scheduler + Drop> World<S> {
         if region >= self.cluster.regions {
             return Err(StepError::Illegal(1));
         }
-        let Some((origin, (rank, body))) = self.next_attempt(alloc, region, name)? else {
+        let Some((origin, rank, body)) = self.next_attempt(alloc, region, name)? else {
             return Err(StepError::Illegal(1));
         };
         let id = self.sites[region as usize].submit(
@@ -309,7 +309,7 @@ impl<S: Scheduler + Drop> World<S> {
         alloc: Global,
         region: u8,
         name: &Name,
-    ) -> Result<Option<(Origin, (u8, Body))>, NoMemory>
+    ) -> Result<Option<(Origin, u8, Body)>, NoMemory>
         requires { region < self.now.cluster.regions }
         ensures { IfOk result (IsNextOf self.now region name.now) }
     {
@@ -324,7 +324,7 @@ impl<S: Scheduler + Drop> World<S> {
             call,
             attempt,
         };
-        Ok(Some((origin, (rank, body))))
+        Ok(Some((origin, rank, body)))
     }
 
     /// Whether a session of a region may be answered.
