@@ -1,6 +1,6 @@
 -- A line has one form.
-use Rattle.std.proofs.Common.{inl, inr, ◌++◌, length, length-append, subst, ◌≡◌, ℕ, suc, ◌<◌, ◌^◌, ℤ, pos, negsuc}
-use Rattle.std.proofs.Common.{List, [], ◌∷◌, map, drop, get_or, FitsSigned, refl, sym, ap, ◌∙◌, arith}
+use Rattle.std.proofs.Common.{inl, inr, ◌++◌, length, length-append, subst, ◌≡◌, ℕ, suc, ◌<◌, ℤ, pos, negsuc}
+use Rattle.std.proofs.Common.{List, [], ◌∷◌, map, drop, get_or, Some, FitsSigned, refl, sym, ap, ◌∙◌, arith}
 use Rattle.std.specs.Prelude.{codes}
 use Rattle.std.specs.Int.{w64}
 use Rattle.std.specs.Fmt.{decimal, signed_decimal}
@@ -10,8 +10,7 @@ use Rattle.std.proofs.lemmas.Option.{same_Some}
 use Rattle.dt_lists.specs.Lists.{AllIn}
 use Rattle.dt_text.specs.declared.Value.{Value}
 use Rattle.dt_text.specs.declared.Value.TheVariants.{Int, Text}
-use Rattle.dt_text.proofs.Callers.{no_minus}
-use Rattle.dt_text.proofs.Callers.{exact}
+use Rattle.dt_text.proofs.Callers.{exact, no_minus, same_number}
 use Rattle.dt_text.specs.Texts.{Bytes}
 use Rattle.dt_workload.specs.Lines.{bare, quoted, said, Form, session_line, call_line, move_line, argument_word, Said, IsRanked, IsFirstWord, other_words, SpellForm, IsArgument, IsForm, HasForm}
 
@@ -23,9 +22,6 @@ same_quoted e = cc
 
 not_both : {a b : Bytes} → bare a ≡ quoted b → ⊥
 not_both e = cc
-
-same_number : (m n : ℕ) → m < 2 ^ 32 → n < 2 ^ 32 → decimal m ≡ decimal n → m ≡ n
-same_number m n small_m small_n e = decimal_injective m n (omega arith) (omega arith) e
 
 -- numbers of 64 bits with a sign are one where they are printed alike
 same_signed : (y z : ℤ) → FitsSigned w64 y → FitsSigned w64 z → signed_decimal y ≡ signed_decimal z → y ≡ z
