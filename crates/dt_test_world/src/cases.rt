@@ -1,5 +1,5 @@
 //! Cases of worlds, each with what comes of its events.
-use crate::scripts::Play;
+use crate::scripts::{File, Play};
 use std::alloc::Global;
 use std::test::Fail;
 
@@ -16,26 +16,29 @@ struct Case {
     report: &'static [&'static str],
 }
 
+/// The case of what is repeated.
+const REPEATING: Case = Case {
+    shows: "repeated requests and deliveries change nothing, and none is made up",
+    cluster: &["regions = 2"],
+    workload: TWO_PUTS,
+    events: REPEATED,
+    report: &[
+        "replies",
+        "reply x 1 done",
+        "order",
+        "2.0 y 1 1 done",
+        "1.0 x 1 1 done",
+        "table 0",
+        "b = 1 home 0 moves 0",
+        "d = 2 home 0 moves 0",
+        "table 1",
+        "d = 2 home 0 moves 0",
+    ],
+};
+
 /// The cases.
 const CASES: [Case; 5] = [
-    Case {
-        shows: "repeated requests and deliveries change nothing, and none is made up",
-        cluster: &["regions = 2"],
-        workload: TWO_PUTS,
-        events: REPEATED,
-        report: &[
-            "replies",
-            "reply x 1 done",
-            "order",
-            "2.0 y 1 1 done",
-            "1.0 x 1 1 done",
-            "table 0",
-            "b = 1 home 0 moves 0",
-            "d = 2 home 0 moves 0",
-            "table 1",
-            "d = 2 home 0 moves 0",
-        ],
-    },
+    REPEATING,
     Case {
         shows: "a session is answered by its own region alone",
         cluster: &["regions = 2"],
@@ -228,6 +231,26 @@ const REPEATED: &[&str] = &[
     "answer 0 x",
 ];
 
+/// What the regions keep of these: each its own, and of these those that took effect.
+const KEPT: &[&str] = &[
+    "region 0",
+    "submit 0 x",
+    "append 0 0 0",
+    "submit 0 y",
+    "append 0 0 1",
+    "insert 0 0",
+    "insert 0 0",
+    "execute 0 2.0",
+    "execute 0 1.0",
+    "answer 0 x",
+    "region 1",
+    "deliver 1 0 0 1",
+    "insert 1 0",
+    "deliver 1 0 0 2",
+    "insert 1 0",
+    "execute 1 2.0",
+];
+
 /// The case, as it is tried.
 fn play_of(alloc: Global, case: &Case) -> Result<Play, Fail> {
     let mut play = Play::new(alloc);
@@ -255,5 +278,19 @@ fn events_are_refused_by_their_rules_and_the_others_reported(rt: HostRuntime) ->
             case.shows
         );
     }
+    Ok(())
+}
+
+/// A text of these lines.
+fn file_of(alloc: Global, lines: &[&str]) -> Result<Vec<u8>, Fail> {
+    let mut file = File::new(alloc);
+    file.add_all(lines)?;
+    file.bytes()
+}
+
+#[test]
+fn a_region_keeps_its_own_events_that_took_effect(rt: HostRuntime) -> Result<(), Fail> {
+    let kept = play_of(rt.alloc(), &REPEATING)?.kept(rt.alloc())?;
+    assert_eq!(rt; kept, file_of(rt.alloc(), KEPT)?);
     Ok(())
 }

@@ -35,9 +35,17 @@ fn sessions_stand_in_the_order_of_their_names(rt: HostRuntime) -> Result<(), Fai
     Ok(())
 }
 
+/// The name of these bytes.
+fn name_of(alloc: Global, bytes: &[u8]) -> Result<Name, Fail> {
+    if bytes.len() > Name::LONGEST {
+        return Err(Fail::from("a name has few bytes"));
+    }
+    Ok(Name::read(alloc, bytes)?)
+}
+
 /// A session submits its next call, and is answered.
 fn make_call(alloc: Global, sessions: &mut Sessions, name: &[u8]) -> Result<(), Fail> {
-    let name = Name::read(alloc, name)?;
+    let name = name_of(alloc, name)?;
     let Some(_) = sessions.next(&name, None) else {
         return Err(Fail::from("the session has a call left"));
     };

@@ -5,7 +5,7 @@ ghost use Rattle.dt_workload.specs.Valid.{IsValidWorkload};
 ghost use Rattle.dt_test_world.specs.Led.{HasLed};
 
 use dt_cluster::{Cluster, ClusterError, read_cluster};
-use dt_events::{Event, read_events};
+use dt_events::{Event, put_event, read_events};
 use dt_plain::PlainSched;
 use dt_report::print;
 use dt_text::NoMemory;
@@ -56,6 +56,7 @@ fn make(
     requires led { HasLed world.old made.old.items }
     requires steps { world.old.steps ≡ length made.old.items }
     ensures led { OnOk result (HasLed world.new made.new.items) }
+    ensures cluster { OnOk result (world.new.cluster ≡ world.old.cluster) }
     ensures steps { OnOk result (world.new.steps ≡ length made.new.items) }
 {
     if made.len() >= MANY {
@@ -71,10 +72,15 @@ fn make(
     }
 }
 
-/// Makes the events of a file one after another: the line and the rule of each that is refused, and the report of the others.
-fn play(alloc: Global, cluster: &Cluster, workload: &Workload, file: &[u8]) -> Result<Vec<u8>, Fail>
+/// A world, the events that led to it, and the line and the rule of each that was refused on the way.
+type Played = (World<PlainSched>, Vec<Event>, Vec<u8>);
+
+/// Makes the events of a file one after another, as far as they are legal.
+fn play(alloc: Global, cluster: &Cluster, workload: &Workload, file: &[u8]) -> Result<Played, Fail>
     requires cluster { IsValidCluster cluster.now }
     requires workload { IsValidWorkload cluster.now workload.now }
+    ensures led { IfOk result (λ played. HasLed played.0 played.1.items) }
+    ensures cluster { IfOk result (λ played. played.0.cluster ≡ cluster.now) }
 {
     if file.len() >= MANY {
         return Err(Fail::from("a test has few bytes"));
@@ -87,13 +93,11 @@ fn play(alloc: Global, cluster: &Cluster, workload: &Workload, file: &[u8]) -> R
             put_refused(alloc, &mut told, line, rule)?;
         }
     }
-    let report = world.report(alloc, made)?;
-    told.extend_from_slice(print(alloc, &report)?.as_slice())?;
-    Ok(told)
+    Ok((world, made, told))
 }
 
 /// Adds the line of an event and the rule by which it is refused.
-fn put_refused(alloc: Global, told: &mut Vec<u8>, line: u32, rule: u8) -> Result<(), Fail> {
+pub fn put_refused(alloc: Global, told: &mut Vec<u8>, line: u32, rule: u8) -> Result<(), Fail> {
     let refused = format!(in alloc; "line {line}: rule {rule}\n")?;
     told.extend_from_slice(refused.as_bytes())?;
     Ok(())
@@ -108,5 +112,28 @@ pub fn told(
 ) -> Result<Vec<u8>, Fail> {
     let cluster = cluster_of(alloc, cluster)?;
     let workload = workload_of(alloc, &cluster, workload)?;
-    play(alloc, &cluster, &workload, events)
+    let (world, made, mut told) = play(alloc, &cluster, &workload, events)?;
+    let report = world.report(alloc, made)?;
+    told.extend_from_slice(print(alloc, &report)?.as_slice())?;
+    Ok(told)
+}
+
+/// What each region keeps of these events, a line each, behind a line with its number.
+pub fn kept(
+    alloc: Global,
+    cluster: &[u8],
+    workload: &[u8],
+    events: &[u8],
+) -> Result<Vec<u8>, Fail> {
+    let cluster = cluster_of(alloc, cluster)?;
+    let workload = workload_of(alloc, &cluster, workload)?;
+    let (world, _, _) = play(alloc, &cluster, &workload, events)?;
+    let mut told = Vec::new(alloc);
+    for region in 0..cluster.regions {
+        told.extend_from_slice(format!(in alloc; "region {region}\n")?.as_bytes())?;
+        for event in world.kept(region) {
+            put_event(alloc, &mut told, event)?;
+        }
+    }
+    Ok(told)
 }
