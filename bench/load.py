@@ -2,6 +2,7 @@
 import random
 from dataclasses import dataclass
 
+MOST_CALLS = 20000  # that a workload may have
 REGIONS = 4
 TRIES = 3
 RANK = 5  # of a call that gives none

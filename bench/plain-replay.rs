@@ -6,7 +6,7 @@
 //!
 //! It knows just what the loads of `bench/make-load` have: version 2, rows that are numbers, moves, and the procedures `xfer`,
 //! `sum`, `get` and `add`. A file of another kind makes it panic.
-use std::collections::HashMap;
+use std::collections::{HashMap, HashSet};
 use std::fmt::{self, Display, Formatter};
 use std::io::Write;
 use std::{env, fs, process};
@@ -358,29 +358,23 @@ impl Graph {
 
     /// Whether these are several that are complete, not resolved, reach each other, and that no other one here leads to.
     fn is_resolvable(&self, members: &[TxnNo]) -> bool {
+        let inside: HashSet<TxnNo> = members.iter().copied().collect();
         let is_one = |no: TxnNo| self.vertices.get(no).is_some_and(|it| it.is_here && it.missing == 0 && it.group.is_none());
-        let is_closed = |no: TxnNo| {
-            let mut before = self.vertices[no].before.iter().filter(|it| self.vertices[**it].is_here);
-            before.all(|it| members.contains(it))
-        };
+        let is_closed = |no: TxnNo| self.vertices[no].before.iter().all(|it| inside.contains(it) || !self.vertices[*it].is_here);
         members.len() >= 2
             && members.iter().all(|it| is_one(*it) && is_closed(*it))
-            && self.search(members, |it| &it.before) == members.len()
-            && self.search(members, |it| &it.behind) == members.len()
+            && self.reaches_all(members[0], &inside, |it| &it.before)
+            && self.reaches_all(members[0], &inside, |it| &it.behind)
     }
 
-    /// How many of these a search from the first one finds.
-    fn search(&self, members: &[TxnNo], next: impl Fn(&Vertex) -> &Vec<TxnNo>) -> usize {
-        let (mut seen, mut at) = (vec![members[0]], 0);
-        while at < seen.len() {
-            for other in next(&self.vertices[seen[at]]) {
-                if members.contains(other) && !seen.contains(other) {
-                    seen.push(*other);
-                }
-            }
-            at += 1;
+    /// Whether a search within these finds them all.
+    fn reaches_all(&self, start: TxnNo, inside: &HashSet<TxnNo>, next: impl Fn(&Vertex) -> &Vec<TxnNo>) -> bool {
+        let (mut seen, mut waiting) = (HashSet::from([start]), vec![start]);
+        while let Some(no) = waiting.pop() {
+            let found = next(&self.vertices[no]).iter().filter(|it| inside.contains(it));
+            waiting.extend(found.filter(|it| seen.insert(**it)));
         }
-        seen.len()
+        seen.len() == inside.len()
     }
 
     fn resolve(&mut self, mut members: Vec<TxnNo>, txns: &[Txn]) {
