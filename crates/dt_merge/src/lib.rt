@@ -1,0 +1,2 @@
+//! The theory of many regions.
+#![tactic(auto)]
