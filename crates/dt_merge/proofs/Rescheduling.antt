@@ -149,7 +149,7 @@ module _ {W E O : Type 0} (g : Regions W E O) (law : AreLocal g) where
       unfolding here
       supplied_here q from =
           let c : Part (λ y. eqb (g.region y) q) events (those_of g q others) = front_of others (shorter others e s) q in
-          law.lasting (after g w c.front) (after g w others) e q (good_front c.front c.rest c.is) (unfold here in good_here) from
+          law.lasting there (after g w c.front) (after g w others) e q legal_there (good_front c.front c.rest c.is) (unfold here in good_here) from
           (subst (g.Grown (g.own (after g w c.front) q)) (sym (r.ends q c.front c.rest c.is c.passed)) (law.grown_refl (g.own (after g w c.front) q)))
           (s.fed others e [] c.front c.rest q refl c.is from c.passed)
 

@@ -1,1 +1,2 @@
 pub mod Regional
+pub mod Own

@@ -59,9 +59,9 @@ pub record AreLocal {W E O : Type 0} (g : Regions W E O) : Type 0 where
   pub grows : (w : W) (e : E) → g.Good w → g.Legal w e → Below g w (g.next w e)
   pub grown_refl : (a : O) → g.Grown a a
   pub grown_trans : (a b c : O) → g.Grown a b → g.Grown b c → g.Grown a c
-  -- a legal event finds what it takes, and what is there stays there
+  -- a legal event finds what it takes, and what an event takes that is legal somewhere stays there
   pub supplied : (w : W) (e : E) (q : ℕ) → g.source e ≡ Some q → g.Legal w e → g.Supplied w e
-  pub lasting : (w v : W) (e : E) (q : ℕ) → g.Good w → g.Good v → g.source e ≡ Some q → g.Grown (g.own w q) (g.own v q) → g.Supplied w e → g.Supplied v e
+  pub lasting : (u w v : W) (e : E) (q : ℕ) → g.Legal u e → g.Good w → g.Good v → g.source e ≡ Some q → g.Grown (g.own w q) (g.own v q) → g.Supplied w e → g.Supplied v e
   -- the law of locality. Two worlds on the way to a third have the same own part of the event's region. Where the event is
   -- legal in the one, and the other has what it takes from elsewhere, it is legal in the other, and does the same to that part
   pub local : (w v z : W) (e : E) → g.Good w → g.Good v → g.Good z → Below g w z → Below g v z → g.own w (g.region e) ≡ g.own v (g.region e)
