@@ -1,2 +1,3 @@
 pub mod Regional
 pub mod Own
+pub mod WorldRegions
