@@ -5,3 +5,6 @@ mod Frame
 mod OwnSteps
 mod Growing
 mod Locality
+mod Worlds
+mod Merges
+mod Chronicles

@@ -51,6 +51,16 @@ requests_front home xs ys f = (
   ∙ ap (requests home) f.1,
 )
 
+-- the transaction of an id stays that of a world which is below another
+pub txn_up : (w z : World) → IsBelow w z → (id : TxnId) (x : Txn) → txn_of w id ≡ Some x → txn_of z id ≡ Some x
+txn_up w z b id x e = go (submission_of w id) refl e
+  where
+    go : (o : Option Submission) → submission_of w id ≡ o → option_map (λ s. s.txn) o ≡ Some x → txn_of z id ≡ Some x
+    go None is e = cc
+    go (Some s) is e =
+        ap (option_map (λ y. y.txn))
+        (subst (λ l. find_submission l id ≡ Some s) (b id.region).submitted.1 (found_on (node_at w id.region).submitted (b id.region).submitted.0 id s is)) ∙ e
+
 -- what one world has stands in a world that it is below
 
 module _ {cluster : Cluster} {workload : Workload} (w z : World) where
@@ -59,15 +69,6 @@ module _ {cluster : Cluster} {workload : Workload} (w z : World) where
   asked_front gw gz source home ls lh grown =
       subst₂ IsFront (sym (gw.inv.asked source home ls lh)) (sym (gz.inv.asked source home ls lh))
       (requests_front home (node_at w source).submitted (node_at z source).submitted grown.submitted)
-
-  pub txn_up : IsBelow w z → (id : TxnId) (x : Txn) → txn_of w id ≡ Some x → txn_of z id ≡ Some x
-  txn_up b id x e = go (submission_of w id) refl e
-    where
-      go : (o : Option Submission) → submission_of w id ≡ o → option_map (λ s. s.txn) o ≡ Some x → txn_of z id ≡ Some x
-      go None is e = cc
-      go (Some s) is e =
-          ap (option_map (λ y. y.txn))
-          (subst (λ l. find_submission l id ≡ Some s) (b id.region).submitted.1 (found_on (node_at w id.region).submitted (b id.region).submitted.0 id s is)) ∙ e
 
   -- what a region received of the logs of the one, it would have received of those of the other
   pub received_up : IsLawful cluster workload w → IsLawful cluster workload z → IsBelow w z → (region : ℕ) → region < cluster.regions

@@ -1,3 +1,4 @@
 pub mod Regional
 pub mod Own
 pub mod WorldRegions
+pub mod Merge
