@@ -1,5 +1,6 @@
 mod Cuts
 mod Rescheduling
+mod SideBySide
 mod OwnParts
 mod Frame
 mod OwnSteps

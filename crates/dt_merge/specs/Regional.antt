@@ -2,8 +2,8 @@
 -- that is each region's own: an event changes the own part of one region, and is legal by that part and, if it takes
 -- something from another region, by that being there. Nothing else is known here of worlds and events. Read next:
 -- proofs/Rescheduling.antt, what follows: lists of events of many regions may be reordered.
-use Rattle.std.specs.Prelude.{◌≡◌, ◌≢◌, ◌==◌, ℕ, List, [], ◌∷◌, ◌++◌, filter, Option, Some}
-use Rattle.dt_lists.specs.Lists.{IsFront}
+use Rattle.std.specs.Prelude.{◌≡◌, ◌≢◌, ◌<◌, ◌≤◌, ◌==◌, ℕ, zero, suc, List, [], ◌∷◌, ◌++◌, filter, Option, Some}
+use Rattle.dt_lists.specs.Lists.{AllIn, IsFront}
 
 -- worlds, their events, and the own parts of regions
 pub record Regions (W E O : Type 0) : Type 1 where
@@ -82,3 +82,21 @@ pub record Rescheduled {W E O : Type 0} (g : Regions W E O) (w : W) (events othe
   pub legal : AreLegalIn g w others
   pub ends : (q : ℕ) (front rest : List E) → events ≡ front ++ rest → those_of g q front ≡ those_of g q others → g.own (after g w others) q ≡ g.own (after g w front) q
   pub changing : AllChangeIn g w events → AllChangeIn g w others
+
+-- the turns of the first n regions, one after another
+abbrev pub joined : {E : Type 0} → (ℕ → List E) → ℕ → List E
+joined turns zero = []
+joined turns (suc n) = joined turns n ++ turns n
+
+-- each of the first n regions makes a turn of its own events, which are legal as if no other region did anything
+pub record AreTurns {W E O : Type 0} (g : Regions W E O) (w : W) (turns : ℕ → List E) (n : ℕ) : Type 0 where
+  pub mine : (q : ℕ) → q < n → AllIn (λ e. g.region e ≡ q) (turns q)
+  pub legal : (q : ℕ) → q < n → AreLegalIn g w (turns q)
+
+-- what follows of it: one after another they are legal too; each region ends as after its own turn, and all others stay; and
+-- where each event of each turn changes something, so does each of them all
+pub record AreSideBySide {W E O : Type 0} (g : Regions W E O) (w : W) (turns : ℕ → List E) (n : ℕ) : Type 0 where
+  pub legal : AreLegalIn g w (joined turns n)
+  pub each : (q : ℕ) → q < n → g.own (after g w (joined turns n)) q ≡ g.own (after g w (turns q)) q
+  pub others : (q : ℕ) → n ≤ q → g.own (after g w (joined turns n)) q ≡ g.own w q
+  pub changing : ((q : ℕ) → q < n → AllChangeIn g w (turns q)) → AllChangeIn g w (joined turns n)
