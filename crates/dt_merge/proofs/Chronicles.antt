@@ -17,9 +17,9 @@ use Rattle.dt_merge.specs.Own.{Own, own, HasGrown, IsSupplied, source_of}
 use Rattle.dt_merge.specs.WorldRegions.{IsLawful, world_regions}
 use Rattle.dt_merge.specs.Regional.{Regions, after, AreLegalIn, AllChangeIn, those_of, AreLocal, IsRescheduling, Rescheduled}
 use Rattle.dt_merge.specs.Merge.{Stamped, events_of, region_at, those_at, kept_at, HasLowerStamp, ComesBefore, AreKept, IsMerge, AreLater, HasCause, IsChronicle}
-use Rattle.dt_merge.proofs.Rescheduling.{rescheduled, rescheduled_whole}
+use Rattle.dt_merge.proofs.Reordering.{rescheduled, rescheduled_whole}
 use Rattle.dt_merge.proofs.Worlds.{world_local}
-use Rattle.dt_merge.proofs.Merges.{merge_keeps, not_above}
+use Rattle.dt_merge.proofs.MergeLists.{merge_keeps, not_above}
 
 -- worlds with stamped events: the stamps are nothing to a world
 abbrev stamped_regions : Cluster → Workload → Regions World Stamped Own

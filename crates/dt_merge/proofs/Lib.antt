@@ -1,11 +1,11 @@
 mod Cuts
-mod Rescheduling
+mod Reordering
 mod SideBySide
 mod OwnParts
-mod Frame
+mod Frames
 mod OwnSteps
 mod Growing
-mod Locality
+mod LocalEvents
 mod Worlds
-mod Merges
+mod MergeLists
 mod Chronicles

@@ -12,13 +12,13 @@ use Rattle.dt_session.specs.Step.{IsLegal, RegionsExist, next}
 use Rattle.dt_session.specs.Run.{world_from, AreLegalFrom}
 use Rattle.dt_session.specs.Eager.{AllChange}
 use Rattle.dt_agreement.proofs.Callers.{next_keeps, ordered, places_parallel}
-use Rattle.dt_merge.specs.Own.{own}
+use Rattle.dt_merge.specs.Own.{IsBelow, own}
 use Rattle.dt_merge.specs.WorldRegions.{IsLawful, world_regions}
 use Rattle.dt_merge.specs.Regional.{Regions, after, AreLegalIn, AllChangeIn, AreLocal}
 use Rattle.dt_merge.proofs.OwnParts.{same_lists, same_places}
-use Rattle.dt_merge.proofs.Frame.{frame}
+use Rattle.dt_merge.proofs.Frames.{frame}
 use Rattle.dt_merge.proofs.Growing.{grown_refl, grown_trans, grows}
-use Rattle.dt_merge.proofs.Locality.{is_supplied, locality, supply_lasts}
+use Rattle.dt_merge.proofs.LocalEvents.{is_supplied, locality, supply_lasts}
 
 -- the region of a legal event exists
 region_there : (regions : ℕ) (event : Event) → RegionsExist regions event → region_of event < regions
@@ -41,12 +41,16 @@ whole {cluster = cluster} {workload = workload} w v gw gv same = λ k. record { 
     places = same_places workload.sessions w.places v.places (places_parallel cluster workload w gw.order gw.inv) (places_parallel cluster workload v gv.order gv.inv)
         (λ q. ap (λ o. o.places) (same q))
 
+-- what regions submit and place stays
+pub legal_grows : (cluster : Cluster) (workload : Workload) (w : World) (e : Event) → IsLawful cluster workload w → IsLegal cluster workload w e → IsBelow w (next cluster workload w e)
+legal_grows cluster workload w e good legal = grows cluster workload w e (subst (λ m. region_of e < m) (sym good.inv.nodes) (region_there cluster.regions e legal.regions))
+
 pub world_local : (cluster : Cluster) → IsValidCluster cluster → (workload : Workload) → IsValidWorkload cluster workload → AreLocal (world_regions cluster workload)
 world_local cluster ok workload fits = record {
   kept = λ w e good legal. record { order = ordered good.order e; inv = next_keeps cluster ok workload fits w good.order e legal good.inv };
   whole = whole;
   frame = λ w e q n. frame cluster workload w q e n;
-  grows = λ w e good legal. grows cluster workload w e (subst (λ m. region_of e < m) (sym good.inv.nodes) (region_there cluster.regions e legal.regions));
+  grows = legal_grows cluster workload;
   grown_refl = λ a. grown_refl a.node;
   grown_trans = λ a b c f g. grown_trans a.node b.node c.node f g;
   supplied = λ w e q from legal. is_supplied w e legal;

@@ -24,6 +24,10 @@ pub merges_same : (kept : List (List Stamped)) (a b : List Stamped) → IsMerge 
 merges_same kept a b m n = ascending_same ComesBefore before_irreflexive before_transitive a b m.ascending n.ascending
     (λ x h. (n.members x).1 ((m.members x).0 h)) (λ x h. (m.members x).1 ((n.members x).0 h))
 
+-- where nothing is kept, nothing is merged
+pub merge_of_none : (kept : List (List Stamped)) → ((region : ℕ) → kept_at kept region ≡ []) → IsMerge kept []
+merge_of_none kept none = record { ascending = tt; members = λ x. (λ h. absurd h, λ h. subst (λ l. Has l x) (none (region_at x)) h) }
+
 module _ (kept : List (List Stamped)) (each : AreKept kept) where
   region_of_kept : (region : ℕ) (x : Stamped) → Has (kept_at kept region) x → region_at x ≡ region
   region_of_kept region x h = all_get (λ y. region_at y ≡ region) (kept_at kept region) (each region).0 x h
@@ -45,10 +49,6 @@ module _ (kept : List (List Stamped)) (each : AreKept kept) where
       up x h =
           let is : region_at x ≡ region = region_of_kept region x h in
           has_filter (λ y. eqb (region_at y) region) merged x ((m.members x).1 (subst (λ q. Has (kept_at kept q) x) (sym is) h)) (eq-eqb (region_at x) region is)
-
-  -- where nothing is kept, nothing is merged
-  pub merge_of_none : ((region : ℕ) → kept_at kept region ≡ []) → IsMerge kept []
-  merge_of_none none = record { ascending = tt; members = λ x. (λ h. absurd h, λ h. subst (λ l. Has l x) (none (region_at x)) h) }
 
   -- the merge begins with a head that comes before all other heads, and goes on with the merge of what is left
   module _ (region : ℕ) (x : Stamped) (rest : List Stamped) (there : region < length kept) (head : kept_at kept region ≡ x ∷ rest)
