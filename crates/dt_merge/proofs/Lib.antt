@@ -9,3 +9,4 @@ mod LocalEvents
 mod Worlds
 mod MergeLists
 mod Chronicles
+mod Weights

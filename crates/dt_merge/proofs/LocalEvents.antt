@@ -48,7 +48,7 @@ requests_front : (home : ℕ) (xs ys : List Submission) → IsFront xs ys → Is
 requests_front home xs ys f = (
   requests home f.0,
   sym (ap (map (λ s. s.txn.id)) (filter-append (λ s. has_home home s.txn) xs f.0) ∙ map-append (λ s. s.txn.id) (filter (λ s. has_home home s.txn) xs) (filter (λ s. has_home home s.txn) f.0))
-  ∙ ap (requests home) f.1,
+      ∙ ap (requests home) f.1,
 )
 
 -- the transaction of an id stays that of a world which is below another

@@ -51,8 +51,8 @@ module _ {W E O : Type 0} (g : Regions W E O) (law : AreLocal g) where
   follow q [] w v gw gv same below mine legal = record { legal = tt; same = same; changing = λ c. tt }
   follow q (e ∷ turn) w v gw gv same below mine legal =
       let later : Followed g q turn (g.next w e) (g.next v e) = follow q turn (g.next w e) (g.next v e)
-          (good_w q e w v gw gv same below mine.0 legal.0) (good_v q e w v gw gv same below mine.0 legal.0)
-          (same_on q e w v gw gv same below mine.0 legal.0) (below_on q e w v gw gv same below mine.0 legal.0) mine.1 legal.1 in
+      (good_w q e w v gw gv same below mine.0 legal.0) (good_v q e w v gw gv same below mine.0 legal.0)
+      (same_on q e w v gw gv same below mine.0 legal.0) (below_on q e w v gw gv same below mine.0 legal.0) mine.1 legal.1 in
       record {
         legal = ((now q e w v gw gv same below mine.0 legal.0).0, later.legal);
         same = later.same;
@@ -118,7 +118,7 @@ module _ {W E O : Type 0} (g : Regions W E O) (law : AreLocal g) where
     de.0,
     ed.0,
     law.whole (g.next (g.next w d) e) (g.next (g.next w e) d) (law.kept (g.next w d) e (law.kept w d good legal_d) de.0) (law.kept (g.next w e) d (law.kept w e good legal_e) ed.0)
-    (λ q. by q (either_nat (g.region e) q) (either_nat (g.region d) q)),
+        (λ q. by q (either_nat (g.region e) q) (either_nat (g.region d) q)),
   )
     where
       de : g.Legal (g.next w d) e × (g.own (g.next w e) (g.region e) ≡ g.own (g.next (g.next w d) e) (g.region e))

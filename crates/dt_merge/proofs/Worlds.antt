@@ -21,7 +21,7 @@ use Rattle.dt_merge.proofs.Growing.{grown_refl, grown_trans, grows}
 use Rattle.dt_merge.proofs.LocalEvents.{is_supplied, locality, supply_lasts}
 
 -- the region of a legal event exists
-region_there : (regions : ℕ) (event : Event) → RegionsExist regions event → region_of event < regions
+pub region_there : (regions : ℕ) (event : Event) → RegionsExist regions event → region_of event < regions
 region_there regions (Submit region name) l = l
 region_there regions (Append home source number) l = l.0
 region_there regions (Deliver region home first last) l = l.0

@@ -2,3 +2,4 @@ pub mod Regional
 pub mod Own
 pub mod WorldRegions
 pub mod Merge
+pub mod Weight
