@@ -14,9 +14,9 @@ use Rattle.dt_session.specs.Run.{world_from, world_after, AreLegalFrom, AreLegal
 use Rattle.dt_session.specs.Eager.{AllChange}
 use Rattle.dt_agreement.proofs.Callers.{legal_keeps}
 use Rattle.dt_merge.specs.Own.{Own, own, HasGrown, IsSupplied, source_of}
-use Rattle.dt_merge.specs.WorldRegions.{IsLawful, world_regions}
-use Rattle.dt_merge.specs.Regional.{Regions, after, AreLegalIn, AllChangeIn, those_of, AreLocal, IsRescheduling, Rescheduled}
-use Rattle.dt_merge.specs.Merge.{Stamped, events_of, region_at, those_at, kept_at, HasLowerStamp, ComesBefore, AreKept, IsMerge, AreLater, HasCause, IsChronicle}
+use Rattle.dt_merge.specs.WorldRegions.{HasInvariant, world_regions}
+use Rattle.dt_merge.specs.Regional.{Regions, after_all, AreLegalIn, AllChangeIn, those_of, AreLocal, IsRescheduling, Rescheduled}
+use Rattle.dt_merge.specs.Merge.{Stamped, events_of, region_at, those_at, kept_at, HasLowerStamp, ComesBefore, AreKept, IsMerge, AreLater, IsFed, IsChronicle}
 use Rattle.dt_merge.proofs.Reordering.{rescheduled, rescheduled_whole}
 use Rattle.dt_merge.proofs.Worlds.{world_local}
 use Rattle.dt_merge.proofs.MergeLists.{merge_keeps, not_above}
@@ -28,7 +28,7 @@ stamped_regions cluster workload = record {
   source = λ x. source_of x.event;
   next = λ w x. next cluster workload w x.event;
   own = own workload;
-  Good = IsLawful cluster workload;
+  Good = HasInvariant cluster workload;
   Legal = λ w x. IsLegal cluster workload w x.event;
   Supplied = λ w x. IsSupplied w x.event;
   Grown = λ before now. HasGrown before.node now.node;
@@ -50,7 +50,7 @@ stamped_local cluster ok workload fits =
     }
 
 module _ (cluster : Cluster) (workload : Workload) where
-  after_is : (w : World) (items : List Stamped) → after (stamped_regions cluster workload) w items ≡ world_from cluster workload w (events_of items)
+  after_is : (w : World) (items : List Stamped) → after_all (stamped_regions cluster workload) w items ≡ world_from cluster workload w (events_of items)
   after_is w [] = refl
   after_is w (x ∷ items) = after_is (next cluster workload w x.event) items
 
@@ -92,8 +92,8 @@ module _ {cluster : Cluster} {workload : Workload} {all : List Stamped} {kept : 
       x_in_all : Has all x
       x_in_all = (in_all (region_at x) x ((m.members x).0 (subst (λ l. Has l x) (sym is) (has_middle before x behind)))).0
 
-      cause : HasCause cluster workload all x q
-      cause = all_get (λ y. (p : ℕ) → source_of y.event ≡ Some p → HasCause cluster workload all y p) all c.caused x x_in_all q from
+      cause : IsFed cluster workload all x q
+      cause = all_get (λ y. (p : ℕ) → source_of y.event ≡ Some p → IsFed cluster workload all y p) all c.caused x x_in_all q from
 
       rising : EachThen HasLowerStamp (those_at q front ++ those_at q rest)
       rising = subst (EachThen HasLowerStamp) (c.lists q ∙ ap (those_at q) cut ∙ filter-append (λ y. eqb (region_at y) q) front rest) (c.rising q)
@@ -120,7 +120,7 @@ module _ {cluster : Cluster} {workload : Workload} {all : List Stamped} {kept : 
               let low : cause.stamp < x.stamp = cause.lower in
               omega arith
 
-      fed : IsSupplied (after (stamped_regions cluster workload) (opening_world cluster workload) front) x.event
+      fed : IsSupplied (after_all (stamped_regions cluster workload) (opening_world cluster workload) front) x.event
       fed = subst (λ w. IsSupplied w x.event) (sym (after_is cluster workload (opening_world cluster workload) front))
           (cause.supplied front rest cut (all_put (λ y. region_at y ≡ q → cause.stamp < y.stamp) rest later_one))
 
@@ -128,7 +128,7 @@ module _ {cluster : Cluster} {workload : Workload} {all : List Stamped} {kept : 
     rescheduling = record { fronts = λ q. ([], append-nil (those_at q merged) ∙ own_order q ∙ c.lists q); fed = fed }
 
     module _ (ok : IsValidCluster cluster) (fits : IsValidWorkload cluster workload) where
-      opening : IsLawful cluster workload (opening_world cluster workload)
+      opening : HasInvariant cluster workload (opening_world cluster workload)
       opening = record { order = []; inv = legal_keeps cluster ok workload fits [] tt }
 
       result : Rescheduled (stamped_regions cluster workload) (opening_world cluster workload) all merged

@@ -9,4 +9,4 @@ mod LocalEvents
 mod Worlds
 mod MergeLists
 mod Chronicles
-mod Weights
+mod Weighing

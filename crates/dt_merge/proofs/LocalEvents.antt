@@ -27,8 +27,8 @@ use Rattle.dt_session.specs.Tries.{Awaited, MayEnd, MayTry, attempt_after}
 use Rattle.dt_session.specs.Step.{IsLegal, MaySubmit, MayAnswer, awaited_at, next_attempt, attempt_for, called, submitted, placed, received, answered, next}
 use Rattle.dt_agreement.specs.Invariant.{IsPlaceOf, Inv, has_home, requests}
 use Rattle.dt_agreement.proofs.Callers.{IsKnown, IsRequest, WaitsAt, executable_known, log_is, logs_length, received_within, request_is, session_found, waiting_for}
-use Rattle.dt_merge.specs.Own.{Own, own, places_at, HasGrown, IsBelow, source_of, IsSupplied}
-use Rattle.dt_merge.specs.WorldRegions.{IsLawful}
+use Rattle.dt_merge.specs.Own.{Own, own, places_at, HasGrown, HaveGrown, source_of, IsSupplied}
+use Rattle.dt_merge.specs.WorldRegions.{HasInvariant}
 use Rattle.dt_merge.proofs.OwnParts.{local, found_own, found_on, fronts_stay, logs_longer}
 use Rattle.dt_merge.proofs.OwnSteps.{append_own, received_own, deliver_own, move_own, answer_own, submit_own, own_answered, own_submitted, own_appended, own_delivered, own_moved}
 
@@ -52,7 +52,7 @@ requests_front home xs ys f = (
 )
 
 -- the transaction of an id stays that of a world which is below another
-pub txn_up : (w z : World) → IsBelow w z → (id : TxnId) (x : Txn) → txn_of w id ≡ Some x → txn_of z id ≡ Some x
+pub txn_up : (w z : World) → HaveGrown w z → (id : TxnId) (x : Txn) → txn_of w id ≡ Some x → txn_of z id ≡ Some x
 txn_up w z b id x e = go (submission_of w id) refl e
   where
     go : (o : Option Submission) → submission_of w id ≡ o → option_map (λ s. s.txn) o ≡ Some x → txn_of z id ≡ Some x
@@ -64,14 +64,14 @@ txn_up w z b id x e = go (submission_of w id) refl e
 -- what one world has stands in a world that it is below
 
 module _ {cluster : Cluster} {workload : Workload} (w z : World) where
-  pub asked_front : IsLawful cluster workload w → IsLawful cluster workload z → (source home : ℕ) → source < cluster.regions → home < cluster.regions
+  pub asked_front : HasInvariant cluster workload w → HasInvariant cluster workload z → (source home : ℕ) → source < cluster.regions → home < cluster.regions
       → HasGrown (node_at w source) (node_at z source) → IsFront (asked_of w source home) (asked_of z source home)
   asked_front gw gz source home ls lh grown =
       subst₂ IsFront (sym (gw.inv.asked source home ls lh)) (sym (gz.inv.asked source home ls lh))
       (requests_front home (node_at w source).submitted (node_at z source).submitted grown.submitted)
 
   -- what a region received of the logs of the one, it would have received of those of the other
-  pub received_up : IsLawful cluster workload w → IsLawful cluster workload z → IsBelow w z → (region : ℕ) → region < cluster.regions
+  pub received_up : HasInvariant cluster workload w → HasInvariant cluster workload z → HaveGrown w z → (region : ℕ) → region < cluster.regions
       → received_logs w region ≡ fronts (received_lengths w region) (logs_of z)
   received_up gw gz b region lr =
       fronts_stay (received_lengths w region) (logs_of w) (logs_of z) (logs_longer w.nodes z.nodes (gw.inv.nodes ∙ sym gz.inv.nodes) b) within
@@ -81,12 +81,12 @@ module _ {cluster : Cluster} {workload : Workload} (w z : World) where
           let lh : home < cluster.regions = subst (λ n. home < n) (logs_length w ∙ gw.inv.nodes) lt in
           subst (λ l. slice_index (received_lengths w region) home ≤ length l) (sym (log_is w home)) (received_within cluster workload w gw.order gw.inv region home lr lh)
 
-module _ {cluster : Cluster} {workload : Workload} (w v z : World) (gw : IsLawful cluster workload w) (gv : IsLawful cluster workload v) (gz : IsLawful cluster workload z)
-    (bw : IsBelow w z) (bv : IsBelow v z) (region : ℕ) (lr : region < cluster.regions) (same : own workload w region ≡ own workload v region) where
+module _ {cluster : Cluster} {workload : Workload} (w v z : World) (gw : HasInvariant cluster workload w) (gv : HasInvariant cluster workload v) (gz : HasInvariant cluster workload z)
+    (bw : HaveGrown w z) (bv : HaveGrown v z) (region : ℕ) (lr : region < cluster.regions) (same : own workload w region ≡ own workload v region) where
   nodes : node_at w region ≡ node_at v region
   nodes = ap (λ o. o.node) same
 
-  room : (u : World) → IsLawful cluster workload u → region < length u.nodes
+  room : (u : World) → HasInvariant cluster workload u → region < length u.nodes
   room u g = subst (λ m. region < m) (sym g.inv.nodes) lr
 
   found : (name : Bytes) → session_at workload.sessions w.places region name ≡ session_at workload.sessions v.places region name
@@ -251,7 +251,7 @@ from_is true source q e = cc
 from_is false source q e = some_same e
 
 -- the law of locality
-pub locality : {cluster : Cluster} {workload : Workload} (w v z : World) (event : Event) → IsLawful cluster workload w → IsLawful cluster workload v → IsLawful cluster workload z → IsBelow w z → IsBelow v z
+pub locality : {cluster : Cluster} {workload : Workload} (w v z : World) (event : Event) → HasInvariant cluster workload w → HasInvariant cluster workload v → HasInvariant cluster workload z → HaveGrown w z → HaveGrown v z
     → own workload w (region_of event) ≡ own workload v (region_of event) → IsLegal cluster workload w event → ((q : ℕ) → source_of event ≡ Some q → IsSupplied v event)
     → IsLegal cluster workload v event × (own workload (next cluster workload w event) (region_of event) ≡ own workload (next cluster workload v event) (region_of event))
 locality w v z (Submit region name) gw gv gz bw bv same l supplied =
@@ -292,7 +292,7 @@ is_supplied w (Resolve region ids) l = tt
 is_supplied w (Execute region id) l = tt
 is_supplied w (Answer region name) l = tt
 
-pub supply_lasts : {cluster : Cluster} {workload : Workload} (u w v : World) (event : Event) (q : ℕ) → IsLegal cluster workload u event → IsLawful cluster workload w → IsLawful cluster workload v
+pub supply_lasts : {cluster : Cluster} {workload : Workload} (u w v : World) (event : Event) (q : ℕ) → IsLegal cluster workload u event → HasInvariant cluster workload w → HasInvariant cluster workload v
     → source_of event ≡ Some q → HasGrown (node_at w q) (node_at v q) → IsSupplied w event → IsSupplied v event
 supply_lasts u w v (Submit region name) q l gw gv from grown s = tt
 supply_lasts u w v (Append home source number) q l gw gv from grown s =

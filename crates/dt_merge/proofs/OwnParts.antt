@@ -29,10 +29,10 @@ abbrev pub local : ℕ → List Session → List Session
 local region sessions = filter (λ s. eqb s.region region) sessions
 
 module _ (region : ℕ) (s : Session) (sessions : List Session) (here : eqb s.region region ≡ true) where
-  local_yes : local region (s ∷ sessions) ≡ s ∷ local region sessions
+  pub local_yes : local region (s ∷ sessions) ≡ s ∷ local region sessions
   local_yes = rw here refl
 
-  places_yes : (x : Place) (places : List Place) → places_at region (s ∷ sessions) (x ∷ places) ≡ x ∷ places_at region sessions places
+  pub places_yes : (x : Place) (places : List Place) → places_at region (s ∷ sessions) (x ∷ places) ≡ x ∷ places_at region sessions places
   places_yes x places = rw here refl
 
 and_no : (b : Bool) → (b && false) ≡ false
@@ -40,10 +40,10 @@ and_no true = refl
 and_no false = refl
 
 module _ (region : ℕ) (s : Session) (sessions : List Session) (elsewhere : eqb s.region region ≡ false) where
-  local_no : local region (s ∷ sessions) ≡ local region sessions
+  pub local_no : local region (s ∷ sessions) ≡ local region sessions
   local_no = rw elsewhere refl
 
-  places_no : (x : Place) (places : List Place) → places_at region (s ∷ sessions) (x ∷ places) ≡ places_at region sessions places
+  pub places_no : (x : Place) (places : List Place) → places_at region (s ∷ sessions) (x ∷ places) ≡ places_at region sessions places
   places_no x places = rw elsewhere refl
 
   session_no : (name : Bytes) → is_session region name s ≡ false
@@ -137,9 +137,6 @@ changed_elsewhere q region other [] places name p = refl
 changed_elsewhere q region other (s ∷ sessions) [] name p = refl
 changed_elsewhere q region other (s ∷ sessions) (x ∷ places) name p = go (cases_Bool (eqb s.region region)) (changed_elsewhere q region other sessions places name p)
   where
-    after : Bool → List Place
-    after b = cond b (p ∷ places) (x ∷ with_place sessions places region name p)
-
     not_q : eqb s.region region ≡ true → eqb s.region q ≡ false
     not_q t = false_from_ne_true (eqb s.region q) (λ u. other (sym (eqb-true s.region region t) ∙ eqb-true s.region q u))
 

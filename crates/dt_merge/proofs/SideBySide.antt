@@ -2,7 +2,7 @@
 use Rattle.std.proofs.Common.{◌≡◌, ◌≢◌, ◌<◌, ◌≤◌, ◌⊎◌, ℕ, zero, suc, Bool, false, eqb, List, [], ◌∷◌, ◌++◌, Some, refl, sym, ap, subst, subst₂, ◌∙◌, inl, inr, arith}
 use Rattle.dt_lists.specs.Lists.{AllIn, Either}
 use Rattle.dt_lists.proofs.Callers.{all_map, either_nat, filter_none}
-use Rattle.dt_merge.specs.Regional.{Regions, after, AreLegalIn, AllChangeIn, those_of, Below, AreLocal, joined, AreTurns, AreSideBySide}
+use Rattle.dt_merge.specs.Regional.{Regions, after_all, AreLegalIn, AllChangeIn, those_of, Below, AreLocal, one_by_one, AreTurns, AreSideBySide}
 use Rattle.dt_merge.proofs.Reordering.{after_append, legal_together, change_together, not_here, good_after, below_refl, below_after, still}
 
 below_other : (q n : ℕ) → q < suc n → (q < n) ⊎ (n ≡ q)
@@ -14,7 +14,7 @@ not_above n q le is = let none : ⊥ = omega arith in none
 -- a turn made in one world may be made in another that has the same own part of its region, and no less of the others
 record Followed {W E O : Type 0} (g : Regions W E O) (q : ℕ) (turn : List E) (w v : W) : Type 0 where
   pub legal : AreLegalIn g v turn
-  pub same : g.own (after g w turn) q ≡ g.own (after g v turn) q
+  pub same : g.own (after_all g w turn) q ≡ g.own (after_all g v turn) q
   pub changing : AllChangeIn g w turn → AllChangeIn g v turn
 
 module _ {W E O : Type 0} (g : Regions W E O) (law : AreLocal g) where
@@ -63,41 +63,41 @@ module _ {W E O : Type 0} (g : Regions W E O) (law : AreLocal g) where
 
   module _ (w : W) (good : g.Good w) (turns : ℕ → List E) (n : ℕ) (t : AreTurns g w turns (suc n)) (r : AreSideBySide g w turns n) where
     so_far : W
-    so_far = after g w (joined turns n)
+    so_far = after_all g w (one_by_one turns n)
 
     last : n < suc n
     last = omega arith
 
     turn : Followed g n (turns n) w so_far
     unfolding so_far
-    turn = follow n (turns n) w (after g w (joined turns n)) good (good_after g law w (joined turns n) good r.legal) (sym (r.others n (omega arith)))
-        (below_after g law w (joined turns n) good r.legal) (t.mine n last) (t.legal n last)
+    turn = follow n (turns n) w (after_all g w (one_by_one turns n)) good (good_after g law w (one_by_one turns n) good r.legal) (sym (r.others n (omega arith)))
+        (below_after g law w (one_by_one turns n) good r.legal) (t.mine n last) (t.legal n last)
 
-    quiet : (q : ℕ) → n ≢ q → g.own (after g so_far (turns n)) q ≡ g.own so_far q
+    quiet : (q : ℕ) → n ≢ q → g.own (after_all g so_far (turns n)) q ≡ g.own so_far q
     quiet q other = still g law so_far (turns n) q (filter_none (λ e. eqb (g.region e) q) (turns n)
         (all_map (λ e. g.region e ≡ n) (λ e. eqb (g.region e) q ≡ false) (turns n) (λ e is. not_here g q e (λ h. other (sym is ∙ h))) (t.mine n last)))
 
-    joins : (q : ℕ) → g.own (after g w (joined turns (suc n))) q ≡ g.own (after g so_far (turns n)) q
+    joins : (q : ℕ) → g.own (after_all g w (one_by_one turns (suc n))) q ≡ g.own (after_all g so_far (turns n)) q
     unfolding so_far
-    joins q = ap (λ v. g.own v q) (after_append g w (joined turns n) (turns n))
+    joins q = ap (λ v. g.own v q) (after_append g w (one_by_one turns n) (turns n))
 
-    each_more : (q : ℕ) → q < suc n → g.own (after g w (joined turns (suc n))) q ≡ g.own (after g w (turns q)) q
+    each_more : (q : ℕ) → q < suc n → g.own (after_all g w (one_by_one turns (suc n))) q ≡ g.own (after_all g w (turns q)) q
     each_more q lt = joins q ∙ by (below_other q n lt)
       where
-        by : (q < n) ⊎ (n ≡ q) → g.own (after g so_far (turns n)) q ≡ g.own (after g w (turns q)) q
+        by : (q < n) ⊎ (n ≡ q) → g.own (after_all g so_far (turns n)) q ≡ g.own (after_all g w (turns q)) q
         by (inl early) = quiet q (λ is. let none : ⊥ = omega arith in none) ∙ unfold so_far in r.each q early
-        by (inr is) = subst (λ p. g.own (after g so_far (turns n)) p ≡ g.own (after g w (turns p)) p) is (sym turn.same)
+        by (inr is) = subst (λ p. g.own (after_all g so_far (turns n)) p ≡ g.own (after_all g w (turns p)) p) is (sym turn.same)
 
-    others_more : (q : ℕ) → suc n ≤ q → g.own (after g w (joined turns (suc n))) q ≡ g.own w q
+    others_more : (q : ℕ) → suc n ≤ q → g.own (after_all g w (one_by_one turns (suc n))) q ≡ g.own w q
     others_more q le = joins q ∙ quiet q (not_above n q le) ∙ unfold so_far in r.others q (omega arith)
 
     one_more : AreSideBySide g w turns (suc n)
     unfolding so_far
     one_more = record {
-      legal = legal_together g w (joined turns n) (turns n) r.legal turn.legal;
+      legal = legal_together g w (one_by_one turns n) (turns n) r.legal turn.legal;
       each = each_more;
       others = others_more;
-      changing = λ c. change_together g w (joined turns n) (turns n) (r.changing (λ q lt. c q (omega arith))) (turn.changing (c n last));
+      changing = λ c. change_together g w (one_by_one turns n) (turns n) (r.changing (λ q lt. c q (omega arith))) (turn.changing (c n last));
     }
 
   -- the law of turns side by side

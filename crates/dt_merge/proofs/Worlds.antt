@@ -12,9 +12,9 @@ use Rattle.dt_session.specs.Step.{IsLegal, RegionsExist, next}
 use Rattle.dt_session.specs.Run.{world_from, AreLegalFrom}
 use Rattle.dt_session.specs.Eager.{AllChange}
 use Rattle.dt_agreement.proofs.Callers.{next_keeps, ordered, places_parallel}
-use Rattle.dt_merge.specs.Own.{IsBelow, own}
-use Rattle.dt_merge.specs.WorldRegions.{IsLawful, world_regions}
-use Rattle.dt_merge.specs.Regional.{Regions, after, AreLegalIn, AllChangeIn, AreLocal}
+use Rattle.dt_merge.specs.Own.{HaveGrown, own}
+use Rattle.dt_merge.specs.WorldRegions.{HasInvariant, world_regions}
+use Rattle.dt_merge.specs.Regional.{Regions, after_all, AreLegalIn, AllChangeIn, AreLocal}
 use Rattle.dt_merge.proofs.OwnParts.{same_lists, same_places}
 use Rattle.dt_merge.proofs.Frames.{frame}
 use Rattle.dt_merge.proofs.Growing.{grown_refl, grown_trans, grows}
@@ -31,7 +31,7 @@ region_there regions (Execute region id) l = l
 region_there regions (Answer region name) l = l
 
 -- a world is what its regions have as their own
-pub whole : {cluster : Cluster} {workload : Workload} (w v : World) → IsLawful cluster workload w → IsLawful cluster workload v → ((q : ℕ) → own workload w q ≡ own workload v q) → w ≡ v
+pub whole : {cluster : Cluster} {workload : Workload} (w v : World) → HasInvariant cluster workload w → HasInvariant cluster workload v → ((q : ℕ) → own workload w q ≡ own workload v q) → w ≡ v
 whole {cluster = cluster} {workload = workload} w v gw gv same = λ k. record { nodes = nodes k; places = places k }
   where
     nodes : w.nodes ≡ v.nodes
@@ -42,7 +42,7 @@ whole {cluster = cluster} {workload = workload} w v gw gv same = λ k. record { 
         (λ q. ap (λ o. o.places) (same q))
 
 -- what regions submit and place stays
-pub legal_grows : (cluster : Cluster) (workload : Workload) (w : World) (e : Event) → IsLawful cluster workload w → IsLegal cluster workload w e → IsBelow w (next cluster workload w e)
+pub legal_grows : (cluster : Cluster) (workload : Workload) (w : World) (e : Event) → HasInvariant cluster workload w → IsLegal cluster workload w e → HaveGrown w (next cluster workload w e)
 legal_grows cluster workload w e good legal = grows cluster workload w e (subst (λ m. region_of e < m) (sym good.inv.nodes) (region_there cluster.regions e legal.regions))
 
 pub world_local : (cluster : Cluster) → IsValidCluster cluster → (workload : Workload) → IsValidWorkload cluster workload → AreLocal (world_regions cluster workload)
@@ -61,7 +61,7 @@ world_local cluster ok workload fits = record {
 -- lists of events in either language
 
 module _ (cluster : Cluster) (workload : Workload) where
-  pub after_is : (w : World) (events : List Event) → after (world_regions cluster workload) w events ≡ world_from cluster workload w events
+  pub after_is : (w : World) (events : List Event) → after_all (world_regions cluster workload) w events ≡ world_from cluster workload w events
   after_is w [] = refl
   after_is w (e ∷ events) = after_is (next cluster workload w e) events
 

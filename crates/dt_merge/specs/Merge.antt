@@ -58,7 +58,7 @@ AreLater q s items = AllIn (λ x. region_at x ≡ q → s < x.stamp) items
 
 -- the cause of an event that takes something from region q: a stamp below its own, such that what it takes is there as soon
 -- as q made its events up to that stamp
-pub record HasCause (cluster : Cluster) (workload : Workload) (all : List Stamped) (x : Stamped) (q : ℕ) : Type 0 where
+pub record IsFed (cluster : Cluster) (workload : Workload) (all : List Stamped) (x : Stamped) (q : ℕ) : Type 0 where
   pub stamp : ℕ
   pub lower : stamp < x.stamp
   pub supplied : (front rest : List Stamped) → all ≡ front ++ rest → AreLater q stamp rest → IsSupplied (world_after cluster workload (events_of front)) x.event
@@ -70,4 +70,4 @@ pub record IsChronicle (cluster : Cluster) (workload : Workload) (all : List Sta
   pub changing : AllChange cluster workload (opening_world cluster workload) (events_of all)
   pub lists : (region : ℕ) → kept_at kept region ≡ those_at region all
   pub rising : (region : ℕ) → EachThen HasLowerStamp (kept_at kept region)
-  pub caused : AllIn (λ x. (q : ℕ) → source_of x.event ≡ Some q → HasCause cluster workload all x q) all
+  pub caused : AllIn (λ x. (q : ℕ) → source_of x.event ≡ Some q → IsFed cluster workload all x q) all

@@ -1,6 +1,6 @@
 -- What is one region's own in a world: its node, and where its sessions stand. One learns here what of a world an event
 -- rests on besides the own part of its region: nothing, or what it takes from one other region (`source_of`), if that is
--- there (`IsSupplied`). Whatever regions submitted and placed stays, so one world can be below another (`IsBelow`). Read
+-- there (`IsSupplied`). Whatever regions submitted and placed stays, so one world can be below another (`HaveGrown`). Read
 -- next: src/laws.rt, for what follows.
 use Rattle.std.specs.Prelude.{◌<◌, ◌≤◌, ◌==◌, ℕ, List, [], ◌∷◌, length, Option, Some, None, if◌then◌else◌}
 use Rattle.dt_lists.specs.Lists.{IsFront}
@@ -32,8 +32,8 @@ pub record HasGrown (before now : Node) : Type 0 where
   pub log : IsFront before.log now.log
 
 -- all that regions submitted and placed in the one world stands in the other
-abbrev pub IsBelow : World → World → Type 0
-IsBelow w v = (region : ℕ) → HasGrown (node_at w region) (node_at v region)
+abbrev pub HaveGrown : World → World → Type 0
+HaveGrown w v = (region : ℕ) → HasGrown (node_at w region) (node_at v region)
 
 -- the other region that an event takes something from, if it does: requests, or entries of its log
 abbrev pub source_of : Event → Option ℕ

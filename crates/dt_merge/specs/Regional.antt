@@ -25,9 +25,9 @@ pub record Regions (W E O : Type 0) : Type 1 where
   pub Grown : O → O → Type 0
 
 -- the world after events, from a world
-abbrev pub after : {W E O : Type 0} → Regions W E O → W → List E → W
-after g w [] = w
-after g w (e ∷ events) = after g (g.next w e) events
+abbrev pub after_all : {W E O : Type 0} → Regions W E O → W → List E → W
+after_all g w [] = w
+after_all g w (e ∷ events) = after_all g (g.next w e) events
 
 -- each event is legal in the world of those before it, from a world
 abbrev pub AreLegalIn : {W E O : Type 0} → Regions W E O → W → List E → Type 0
@@ -74,19 +74,19 @@ pub record AreLocal {W E O : Type 0} (g : Regions W E O) : Type 0 where
 pub record IsRescheduling {W E O : Type 0} (g : Regions W E O) (w : W) (events others : List E) : Type 0 where
   pub fronts : (q : ℕ) → IsFront (those_of g q others) (those_of g q events)
   pub fed : (before : List E) (e : E) (behind front rest : List E) (q : ℕ) → others ≡ before ++ e ∷ behind → events ≡ front ++ rest
-      → g.source e ≡ Some q → those_of g q front ≡ those_of g q before → g.Supplied (after g w front) e
+      → g.source e ≡ Some q → those_of g q front ≡ those_of g q before → g.Supplied (after_all g w front) e
 
 -- what follows of it: it is legal; a region ends as where the first list has just its events of that region; and where each
 -- event of the first list changes something, so does each of the second
 pub record Rescheduled {W E O : Type 0} (g : Regions W E O) (w : W) (events others : List E) : Type 0 where
   pub legal : AreLegalIn g w others
-  pub ends : (q : ℕ) (front rest : List E) → events ≡ front ++ rest → those_of g q front ≡ those_of g q others → g.own (after g w others) q ≡ g.own (after g w front) q
+  pub ends : (q : ℕ) (front rest : List E) → events ≡ front ++ rest → those_of g q front ≡ those_of g q others → g.own (after_all g w others) q ≡ g.own (after_all g w front) q
   pub changing : AllChangeIn g w events → AllChangeIn g w others
 
 -- the turns of the first n regions, one after another
-abbrev pub joined : {E : Type 0} → (ℕ → List E) → ℕ → List E
-joined turns zero = []
-joined turns (suc n) = joined turns n ++ turns n
+abbrev pub one_by_one : {E : Type 0} → (ℕ → List E) → ℕ → List E
+one_by_one turns zero = []
+one_by_one turns (suc n) = one_by_one turns n ++ turns n
 
 -- each of the first n regions makes a turn of its own events, which are legal as if no other region did anything
 pub record AreTurns {W E O : Type 0} (g : Regions W E O) (w : W) (turns : ℕ → List E) (n : ℕ) : Type 0 where
@@ -96,7 +96,7 @@ pub record AreTurns {W E O : Type 0} (g : Regions W E O) (w : W) (turns : ℕ �
 -- what follows of it: one after another they are legal too; each region ends as after its own turn, and all others stay; and
 -- where each event of each turn changes something, so does each of them all
 pub record AreSideBySide {W E O : Type 0} (g : Regions W E O) (w : W) (turns : ℕ → List E) (n : ℕ) : Type 0 where
-  pub legal : AreLegalIn g w (joined turns n)
-  pub each : (q : ℕ) → q < n → g.own (after g w (joined turns n)) q ≡ g.own (after g w (turns q)) q
-  pub others : (q : ℕ) → n ≤ q → g.own (after g w (joined turns n)) q ≡ g.own w q
-  pub changing : ((q : ℕ) → q < n → AllChangeIn g w (turns q)) → AllChangeIn g w (joined turns n)
+  pub legal : AreLegalIn g w (one_by_one turns n)
+  pub each : (q : ℕ) → q < n → g.own (after_all g w (one_by_one turns n)) q ≡ g.own (after_all g w (turns q)) q
+  pub others : (q : ℕ) → n ≤ q → g.own (after_all g w (one_by_one turns n)) q ≡ g.own w q
+  pub changing : ((q : ℕ) → q < n → AllChangeIn g w (turns q)) → AllChangeIn g w (one_by_one turns n)

@@ -3,6 +3,7 @@
 -- next: src/laws.rt.
 use Rattle.std.specs.Prelude.{◌+◌, ◌*◌, ℕ, zero, suc, length, set, sum, sum_by}
 use Rattle.dt_cluster.specs.declared.Cluster.{Cluster}
+use Rattle.dt_workload.specs.Valid.{calls_in}
 use Rattle.dt_workload.specs.declared.Workload.{Workload}
 use Rattle.dt_session.specs.World.{World}
 use Rattle.dt_merge.specs.Own.{Own, own}
@@ -23,11 +24,7 @@ weight region o =
 abbrev pub world_weight : ℕ → Workload → World → ℕ
 world_weight regions workload w = sum_below (λ region. weight region (own workload w region)) regions
 
--- how many calls and moves a workload has
-abbrev pub calls_of : Workload → ℕ
-calls_of workload = sum_by (λ session. length session.calls) workload.sessions
-
 -- how many events can change something: of each attempt one submission and one answer, an append in each region, and in each
 -- region of each log one delivery and one insertion, one execution and one resolution
 abbrev pub most_events : Cluster → Workload → ℕ
-most_events cluster workload = calls_of workload * cluster.tries * (2 + cluster.regions + cluster.regions * (2 * cluster.regions + 2))
+most_events cluster workload = calls_in workload.sessions * cluster.tries * (2 + cluster.regions + cluster.regions * (2 * cluster.regions + 2))

@@ -13,7 +13,7 @@ use Rattle.dt_merge.specs.Own.{Own, own, HasGrown, source_of, IsSupplied}
 use Rattle.dt_merge.specs.Regional.{Regions}
 
 -- the world keeps the invariant, with some order of first executions
-pub record IsLawful (cluster : Cluster) (workload : Workload) (w : World) : Type 0 where
+pub record HasInvariant (cluster : Cluster) (workload : Workload) (w : World) : Type 0 where
   pub order : List TxnId
   pub inv : Inv cluster workload w order
 
@@ -24,7 +24,7 @@ world_regions cluster workload = record {
   source = source_of;
   next = next cluster workload;
   own = own workload;
-  Good = IsLawful cluster workload;
+  Good = HasInvariant cluster workload;
   Legal = IsLegal cluster workload;
   Supplied = IsSupplied;
   Grown = λ before now. HasGrown before.node now.node;

@@ -11,9 +11,9 @@ ghost use Rattle.dt_session.specs.World.{World, node_at, opening_world};
 ghost use Rattle.dt_session.specs.Step.{IsLegal, next};
 ghost use Rattle.dt_session.specs.Run.{AreLegal, AreLegalFrom, world_after, world_from};
 ghost use Rattle.dt_session.specs.Eager.{AllChange};
-ghost use Rattle.dt_merge.specs.Own.{HasGrown, IsBelow, IsSupplied, own, source_of};
-ghost use Rattle.dt_merge.specs.WorldRegions.{IsLawful, world_regions};
-ghost use Rattle.dt_merge.specs.Regional.{AreLegalIn, AreSideBySide, AreTurns, IsRescheduling, Rescheduled, after};
+ghost use Rattle.dt_merge.specs.Own.{HasGrown, HaveGrown, IsSupplied, own, source_of};
+ghost use Rattle.dt_merge.specs.WorldRegions.{HasInvariant, world_regions};
+ghost use Rattle.dt_merge.specs.Regional.{AreLegalIn, AreSideBySide, AreTurns, IsRescheduling, Rescheduled, after_all};
 ghost use Rattle.dt_merge.specs.Merge.{AreKept, ComesBefore, IsChronicle, IsMerge, Stamped, events_of, kept_at, those_at};
 
 /// An event leaves what is the own of other regions.
@@ -29,20 +29,20 @@ pub fn frame()
 /// same to that part, whatever other regions did. Two worlds that have the same own part of each region are one.
 pub fn locality()
     ensures grows { (cluster : Cluster) (workload : Workload) (w : World) (event : Event) →
-        IsLawful cluster workload w → IsLegal cluster workload w event → IsBelow w (next cluster workload w event) }
+        HasInvariant cluster workload w → IsLegal cluster workload w event → HaveGrown w (next cluster workload w event) }
     ensures supplied { (cluster : Cluster) (workload : Workload) (w : World) (event : Event) →
         IsLegal cluster workload w event → IsSupplied w event }
     ensures lasting { (cluster : Cluster) (workload : Workload) (u w v : World) (event : Event) (source : ℕ) →
-        IsLegal cluster workload u event → IsLawful cluster workload w → IsLawful cluster workload v →
+        IsLegal cluster workload u event → HasInvariant cluster workload w → HasInvariant cluster workload v →
         source_of event ≡ Some source → HasGrown (node_at w source) (node_at v source) → IsSupplied w event → IsSupplied v event }
     ensures local { (cluster : Cluster) (workload : Workload) (w v z : World) (event : Event) →
-        IsLawful cluster workload w → IsLawful cluster workload v → IsLawful cluster workload z → IsBelow w z → IsBelow v z →
+        HasInvariant cluster workload w → HasInvariant cluster workload v → HasInvariant cluster workload z → HaveGrown w z → HaveGrown v z →
         own workload w (region_of event) ≡ own workload v (region_of event) → IsLegal cluster workload w event →
         ((source : ℕ) → source_of event ≡ Some source → IsSupplied v event) →
         IsLegal cluster workload v event
         × (own workload (next cluster workload w event) (region_of event) ≡ own workload (next cluster workload v event) (region_of event)) }
     ensures whole { (cluster : Cluster) (workload : Workload) (w v : World) →
-        IsLawful cluster workload w → IsLawful cluster workload v →
+        HasInvariant cluster workload w → HasInvariant cluster workload v →
         ((region : ℕ) → own workload w region ≡ own workload v region) → w ≡ v }
 {}
 
@@ -50,7 +50,7 @@ pub fn locality()
 /// lead to the same world.
 pub fn commuting()
     ensures { (cluster : Cluster) (workload : Workload) → IsValidCluster cluster → IsValidWorkload cluster workload →
-        (w : World) (d e : Event) → IsLawful cluster workload w →
+        (w : World) (d e : Event) → HasInvariant cluster workload w →
         IsLegal cluster workload w d → IsLegal cluster workload w e → region_of d ≢ region_of e →
         IsLegal cluster workload (next cluster workload w d) e × IsLegal cluster workload (next cluster workload w e) d
         × (next cluster workload (next cluster workload w d) e ≡ next cluster workload (next cluster workload w e) d) }
@@ -60,7 +60,7 @@ pub fn commuting()
 /// ends as after its own turn, and each event that changed something does so.
 pub fn side_by_side()
     ensures { (cluster : Cluster) (workload : Workload) → IsValidCluster cluster → IsValidWorkload cluster workload →
-        (w : World) → IsLawful cluster workload w → (turns : ℕ → List Event) (regions : ℕ) →
+        (w : World) → HasInvariant cluster workload w → (turns : ℕ → List Event) (regions : ℕ) →
         AreTurns (world_regions cluster workload) w turns regions → AreSideBySide (world_regions cluster workload) w turns regions }
 {}
 
@@ -69,10 +69,10 @@ pub fn side_by_side()
 /// events are those of lists of events.
 pub fn rescheduling()
     ensures law { (cluster : Cluster) (workload : Workload) → IsValidCluster cluster → IsValidWorkload cluster workload →
-        (w : World) → IsLawful cluster workload w → (events others : List Event) → AreLegalFrom cluster workload w events →
+        (w : World) → HasInvariant cluster workload w → (events others : List Event) → AreLegalFrom cluster workload w events →
         IsRescheduling (world_regions cluster workload) w events others → Rescheduled (world_regions cluster workload) w events others }
     ensures worlds { (cluster : Cluster) (workload : Workload) (w : World) (events : List Event) →
-        after (world_regions cluster workload) w events ≡ world_from cluster workload w events }
+        after_all (world_regions cluster workload) w events ≡ world_from cluster workload w events }
     ensures legal { (cluster : Cluster) (workload : Workload) (w : World) (events : List Event) →
         AreLegalIn (world_regions cluster workload) w events → AreLegalFrom cluster workload w events }
 {}

@@ -30,7 +30,7 @@ use Rattle.dt_agreement.specs.Invariant.{Inv, IsPlaceOf}
 use Rattle.dt_agreement.proofs.Callers.{IsKnown, IsNextRequest, Submits, append_cases, executable_known, next_keeps, ordered, received_own, session_found, submits}
 use Rattle.dt_merge.specs.Own.{Own, own}
 use Rattle.dt_merge.specs.Weight.{sum_below, weight, world_weight}
-use Rattle.dt_merge.specs.WorldRegions.{IsLawful}
+use Rattle.dt_merge.specs.WorldRegions.{HasInvariant}
 use Rattle.dt_merge.proofs.Frames.{frame}
 use Rattle.dt_merge.proofs.OwnParts.{local, found_own}
 use Rattle.dt_merge.proofs.OwnSteps.{attempt_of_own, submit_own, append_own, deliver_own, move_own, answer_own, own_answered, own_submitted, own_appended, own_delivered, own_moved}
@@ -122,7 +122,7 @@ answered_with (t ∷ sessions) (x ∷ places) region name s p now e = go (cases_
         let b : sum_by (λ z. z.answered) (x ∷ places) ≡ x.answered + sum_by (λ z. z.answered) places = here places x in
         omega arith
 
-module _ (cluster : Cluster) (ok : IsValidCluster cluster) (workload : Workload) (w : World) (g : IsLawful cluster workload w) (region : ℕ) (lr : region < cluster.regions) where
+module _ (cluster : Cluster) (ok : IsValidCluster cluster) (workload : Workload) (w : World) (g : HasInvariant cluster workload w) (region : ℕ) (lr : region < cluster.regions) where
   room : region < length w.nodes
   room = subst (λ m. region < m) (sym g.inv.nodes) lr
 
@@ -148,7 +148,7 @@ module _ (cluster : Cluster) (ok : IsValidCluster cluster) (workload : Workload)
       let s : Submits cluster workload w region name = submits cluster ok workload w g.order region name may g.inv in
       let now : Place = record s.place { waits = Some (attempt_of_own cluster region s.session s.place s.call (own workload w region) (next_attempt w s.place.waits)).txn.id } in
       let sum_now : sum_by (λ p. p.answered) (with_place (local region workload.sessions) (own workload w region).places region s.session.name now) + s.place.answered
-          ≡ sum_by (λ p. p.answered) (own workload w region).places + s.place.answered =
+      ≡ sum_by (λ p. p.answered) (own workload w region).places + s.place.answered =
       answered_with (local region workload.sessions) (own workload w region).places region s.session.name s.session s.place now (in_own name s.session s.place s.named s.found) in
       subst (λ v. weight region (own workload w region) < weight region (own workload v region)) (sym s.next)
       (subst (λ x. weight region (own workload w region) < weight region x) (sym (own_submitted cluster workload w region room s.session s.place s.call))
@@ -171,7 +171,7 @@ module _ (cluster : Cluster) (ok : IsValidCluster cluster) (workload : Workload)
           session_found (IsPlaceOf cluster.tries w) workload.sessions w.places region name session place g.inv.sessions.places e in
           let now : Place = record { answered = place.answered + 1; waits = None } in
           let sum_now : sum_by (λ p. p.answered) (with_place (local region workload.sessions) (own workload w region).places region session.name now) + place.answered
-              ≡ sum_by (λ p. p.answered) (own workload w region).places + (place.answered + 1) =
+          ≡ sum_by (λ p. p.answered) (own workload w region).places + (place.answered + 1) =
           answered_with (local region workload.sessions) (own workload w region).places region session.name session place now (in_own name session place f.1 e) in
           subst (λ x. weight region (own workload w region) < weight region x) (sym (own_answered cluster workload w region session place))
           (by_answered (length (node_at w region).submitted) (sum_by (λ p. p.answered) (own workload w region).places)
@@ -261,7 +261,7 @@ module _ (cluster : Cluster) (ok : IsValidCluster cluster) (workload : Workload)
       (length_push (node_at w region).here.done outcome))
 
 -- a legal event leaves the world, or raises the weight of its region
-pub rises : (cluster : Cluster) → IsValidCluster cluster → (workload : Workload) (w : World) (event : Event) → IsLawful cluster workload w → IsLegal cluster workload w event
+pub rises : (cluster : Cluster) → IsValidCluster cluster → (workload : Workload) (w : World) (event : Event) → HasInvariant cluster workload w → IsLegal cluster workload w event
     → (next cluster workload w event ≡ w) ⊎ (weight (region_of event) (own workload w (region_of event)) < weight (region_of event) (own workload (next cluster workload w event) (region_of event)))
 unfolding Rises
 rises cluster ok workload w (Submit region name) g l = inr (submit_rises cluster ok workload w g region l.regions name l.allowed)
@@ -273,7 +273,7 @@ rises cluster ok workload w (Execute region id) g l = inr (execute_rises cluster
 rises cluster ok workload w (Answer region name) g l = inr (answer_rises cluster ok workload w g region l.regions name l.allowed)
 
 -- so where it changes something, the weight of the world rises
-pub world_rises : (cluster : Cluster) → IsValidCluster cluster → (workload : Workload) (w : World) (event : Event) → IsLawful cluster workload w → IsLegal cluster workload w event
+pub world_rises : (cluster : Cluster) → IsValidCluster cluster → (workload : Workload) (w : World) (event : Event) → HasInvariant cluster workload w → IsLegal cluster workload w event
     → next cluster workload w event ≢ w → world_weight cluster.regions workload w < world_weight cluster.regions workload (next cluster workload w event)
 world_rises cluster ok workload w event g l changes = elim (rises cluster ok workload w event g l) [
   | inl same ↦ absurd (changes same)
@@ -283,7 +283,7 @@ world_rises cluster ok workload w event g l changes = elim (rises cluster ok wor
 
 module _ (cluster : Cluster) (ok : IsValidCluster cluster) (workload : Workload) (fits : IsValidWorkload cluster workload) where
   -- a list of events that change something is no longer than what has happened
-  pub events_weighed : (w : World) (events : List Event) → IsLawful cluster workload w → AreLegalFrom cluster workload w events → AllChange cluster workload w events
+  pub events_weighed : (w : World) (events : List Event) → HasInvariant cluster workload w → AreLegalFrom cluster workload w events → AllChange cluster workload w events
       → length events + world_weight cluster.regions workload w ≤ world_weight cluster.regions workload (world_from cluster workload w events)
   events_weighed w [] g l c = omega arith
   events_weighed w (e ∷ events) g l c =
