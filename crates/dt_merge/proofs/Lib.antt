@@ -10,3 +10,4 @@ mod Worlds
 mod MergeLists
 mod Chronicles
 mod Weighing
+mod Bound

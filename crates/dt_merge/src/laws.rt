@@ -1,5 +1,5 @@
 //! The laws of many regions. Each is the contract of a function that does nothing.
-ghost use Rattle.std.specs.Prelude.{◌≡◌, ◌≢◌, ◌<◌, ℕ, List, [], ◌∷◌, Some, length, set};
+ghost use Rattle.std.specs.Prelude.{◌≡◌, ◌≢◌, ◌⊎◌, ◌<◌, ◌≤◌, ◌+◌, ℕ, List, [], ◌∷◌, Some, length, set};
 ghost use Rattle.dt_access.specs.declared.TxnId.{TxnId};
 ghost use Rattle.dt_events.specs.Events.{region_of};
 ghost use Rattle.dt_events.specs.declared.Event.{Event};
@@ -12,6 +12,7 @@ ghost use Rattle.dt_session.specs.Step.{IsLegal, next};
 ghost use Rattle.dt_session.specs.Run.{AreLegal, AreLegalFrom, world_after, world_from};
 ghost use Rattle.dt_session.specs.Eager.{AllChange};
 ghost use Rattle.dt_merge.specs.Own.{HasGrown, HaveGrown, IsSupplied, own, source_of};
+ghost use Rattle.dt_merge.specs.Weight.{most_events, weight, world_weight};
 ghost use Rattle.dt_merge.specs.WorldRegions.{HasInvariant, world_regions};
 ghost use Rattle.dt_merge.specs.Regional.{AreLegalIn, AreSideBySide, AreTurns, IsRescheduling, Rescheduled, after_all};
 ghost use Rattle.dt_merge.specs.Merge.{AreKept, ComesBefore, IsChronicle, IsMerge, Stamped, events_of, kept_at, those_at};
@@ -62,6 +63,23 @@ pub fn side_by_side()
     ensures { (cluster : Cluster) (workload : Workload) → IsValidCluster cluster → IsValidWorkload cluster workload →
         (w : World) → HasInvariant cluster workload w → (turns : ℕ → List Event) (regions : ℕ) →
         AreTurns (world_regions cluster workload) w turns regions → AreSideBySide (world_regions cluster workload) w turns regions }
+{}
+
+/// A legal event leaves the world as it is, or raises the weight of its region. So a list of legal events that all change
+/// something is no longer than the weight by which they raise that of the world, and the weight of a world is bounded.
+pub fn weights()
+    ensures rises { (cluster : Cluster) (workload : Workload) → IsValidCluster cluster → (w : World) (event : Event) →
+        HasInvariant cluster workload w → IsLegal cluster workload w event → (next cluster workload w event ≡ w)
+        ⊎ (weight (region_of event) (own workload w (region_of event)) < weight (region_of event) (own workload (next cluster workload w event) (region_of event))) }
+    ensures weighed { (cluster : Cluster) (workload : Workload) → IsValidCluster cluster → IsValidWorkload cluster workload →
+        (w : World) (events : List Event) → HasInvariant cluster workload w → AreLegalFrom cluster workload w events →
+        AllChange cluster workload w events →
+        length events + world_weight cluster.regions workload w ≤ world_weight cluster.regions workload (world_from cluster workload w events) }
+    ensures bounded { (cluster : Cluster) (workload : Workload) → IsValidCluster cluster → (w : World) →
+        HasInvariant cluster workload w → world_weight cluster.regions workload w ≤ most_events cluster workload }
+    ensures few { (cluster : Cluster) (workload : Workload) → IsValidCluster cluster → IsValidWorkload cluster workload →
+        (w : World) (events : List Event) → HasInvariant cluster workload w → AreLegalFrom cluster workload w events →
+        AllChange cluster workload w events → length events ≤ most_events cluster workload }
 {}
 
 /// A list of legal events may be put into another order which leaves the order of each region, and in which each event finds

@@ -15,11 +15,14 @@
 //! 4. **The merge** (`merge_of_a_chronicle`). An event has a greater stamp than what it takes from another region. So the
 //!    order of stamps is such an order: the merge is legal, and leads to the very world that the regions are in.
 //!
+//! Beside this stands a bound (`weights`): each event that changes something raises the weight of its region, and no weight goes
+//! past what the calls, the tries and the regions allow. So there are only so many such events.
+//!
 //! Read next: `specs/Own`, `specs/Merge`, then `src/laws.rt`.
 #![tactic(auto)]
 
 mod laws;
 
 pub use laws::{
-    commuting, frame, locality, merge_of_a_chronicle, merges, rescheduling, side_by_side,
+    commuting, frame, locality, merge_of_a_chronicle, merges, rescheduling, side_by_side, weights,
 };
