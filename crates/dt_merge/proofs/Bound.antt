@@ -58,7 +58,7 @@ sum_under f g (suc n) h =
     omega arith
 
 sum_of_one : (m n : ℕ) → sum_below (λ q. m) n ≡ n * m
-sum_of_one m zero = refl
+sum_of_one m zero = omega arith
 sum_of_one m (suc n) = let a : sum_below (λ q. m) n ≡ n * m = sum_of_one m n in omega arith
 
 sum_two : (f g : ℕ → ℕ) (n : ℕ) → sum_below (λ q. f q + g q) n ≡ sum_below f n + sum_below g n
@@ -90,11 +90,17 @@ one_exactly r m (suc k) = go (one_exactly r m k) (cases_Bool (eqb r k))
   where
     go : ((k ≤ r) × (sum_below (λ q. cond (eqb r q) m 0) k ≡ 0)) ⊎ ((r < k) × (sum_below (λ q. cond (eqb r q) m 0) k ≡ m)) → (eqb r k ≡ true) ⊎ (eqb r k ≡ false)
         → ((suc k ≤ r) × (sum_below (λ q. cond (eqb r q) m 0) (suc k) ≡ 0)) ⊎ ((r < suc k) × (sum_below (λ q. cond (eqb r q) m 0) (suc k) ≡ m))
-    go (inl h) (inl t) = let is : r ≡ k = eqb-true r k t in inr (omega arith, ap₂ (λ a b. a + b) h.1 (at_one r m k true t))
+    go (inl h) (inl t) =
+        let is : r ≡ k = eqb-true r k t in
+        let a : sum_below (λ q. cond (eqb r q) m 0) k ≡ 0 = h.1 in
+        let b : cond (eqb r k) m 0 ≡ m = at_one r m k true t in
+        inr (omega arith, omega arith)
     go (inl h) (inr n) =
         let le : k ≤ r = h.0 in
+        let a : sum_below (λ q. cond (eqb r q) m 0) k ≡ 0 = h.1 in
+        let b : cond (eqb r k) m 0 ≡ 0 = at_one r m k false n in
         let apart : r ≢ k = λ is. (let t : eqb r k ≡ true = eq-eqb r k is in cc) in
-        inl (past k r le apart, ap₂ (λ a b. a + b) h.1 (at_one r m k false n))
+        inl (past k r le apart, omega arith)
     go (inr h) (inl t) = let is : r ≡ k = eqb-true r k t in let lt : r < k = h.0 in absurd (let none : ⊥ = omega arith in none)
     go (inr h) (inr n) =
         let lt : r < k = h.0 in
@@ -132,7 +138,7 @@ more_list f g (s ∷ sessions) a (inr h) =
     omega arith
 
 scaled : (t : ℕ) (sessions : List Session) → sum_by (λ s. length s.calls * t) sessions ≡ sum_by (λ s. length s.calls) sessions * t
-scaled t [] = refl
+scaled t [] = omega arith
 scaled t (s ∷ sessions) =
     let rest : sum_by (λ x. length x.calls * t) sessions ≡ sum_by (λ x. length x.calls) sessions * t = scaled t sessions in
     sum_by-cons (λ x. length x.calls * t) s sessions ∙ (let e : length s.calls * t + sum_by (λ x. length x.calls * t) sessions ≡ (length s.calls + sum_by (λ x. length x.calls) sessions) * t = omega arith in e)
@@ -221,11 +227,11 @@ attempts_within tries w session place p = go place.waits p.placed
         omega arith
 
 -- the first of a list of ids
-first_of : TxnId → List TxnId → TxnId
+abbrev first_of : TxnId → List TxnId → TxnId
 first_of d [] = d
 first_of d (id ∷ ids) = id
 
-no_id : TxnId
+abbrev no_id : TxnId
 no_id = record { seq = 0; region = 0 }
 
 first_has : (ids : List TxnId) → 2 ≤ length ids → Has ids (first_of no_id ids)
