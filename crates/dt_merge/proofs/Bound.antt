@@ -1,7 +1,7 @@
 -- What can happen is bounded: the weight of a legal world is at most what the calls, the tries and the regions allow.
-use Rattle.std.proofs.Common.{◌≡◌, ◌≢◌, ◌<◌, ◌≤◌, ◌+◌, ◌*◌, ◌⊎◌, ℕ, zero, suc, Bool, true, false, cond, eqb, List, [], ◌∷◌, ◌++◌, length, get_or, map, set, take, Some, None}
-use Rattle.std.proofs.Common.{refl, sym, ap, ap₂, subst, ◌∙◌, inl, inr, arith, eqb-true, eq-eqb}
-use Rattle.std.specs.Prelude.{Option, filter, flat_map, slice_index, sum, sum_by}
+use Rattle.std.proofs.Common.{◌≡◌, ◌≢◌, ◌<◌, ◌≤◌, ◌+◌, ◌*◌, ◌⊎◌, ℕ, zero, suc, Bool, true, false, cond, eqb, List, [], ◌∷◌, length, get_or, map, take, Some, None}
+use Rattle.std.proofs.Common.{refl, sym, ap, subst, ◌∙◌, inl, inr, arith, eqb-true, eq-eqb}
+use Rattle.std.specs.Prelude.{Option, flat_map, slice_index, sum, sum_by}
 use Rattle.std.proofs.lemmas.Bool.{cases_Bool}
 use Rattle.std.proofs.lemmas.List.{length-append, length-map, length-set}
 use Rattle.std.proofs.lemmas.List.Sums.{sum_by-cons}
@@ -15,7 +15,6 @@ use Rattle.dt_access.specs.declared.Part.{Part}
 use Rattle.dt_sched.specs.Views.{View, HasPart, IsClass, IsClosed, ids_of, log_at}
 use Rattle.dt_sched.specs.Decide.{IsSound}
 use Rattle.dt_sched.proofs.Callers.{class_unique, complete_of_closed, present_of_complete}
-use Rattle.dt_txn.specs.declared.Txn.{Txn}
 use Rattle.dt_txn.specs.Replica.{done_ids, fronts}
 use Rattle.dt_cluster.specs.Valid.{IsValidCluster}
 use Rattle.dt_cluster.specs.declared.Cluster.{Cluster}
@@ -26,8 +25,8 @@ use Rattle.dt_events.specs.declared.Event.{Event}
 use Rattle.dt_session.specs.Step.{next}
 use Rattle.dt_session.specs.Run.{world_from, AreLegalFrom}
 use Rattle.dt_session.specs.Eager.{AllChange}
-use Rattle.dt_session.specs.World.{World, Node, Place, Submission, no_node, node_at, log_of, received_lengths, received_logs, received_of, logs_of, submissions, txn_of, view_at}
-use Rattle.dt_agreement.specs.Invariant.{Inv, IsPartAt, IsPlaceOf, IsPlaced, IsSubmissionOf, IsWaiting, attempts_by}
+use Rattle.dt_session.specs.World.{World, Place, Submission, no_node, node_at, log_of, received_lengths, received_logs, received_of, logs_of, submissions, txn_of, view_at}
+use Rattle.dt_agreement.specs.Invariant.{IsPartAt, IsPlaceOf, IsPlaced, IsSubmissionOf, attempts_by}
 use Rattle.dt_agreement.proofs.Callers.{IsKnown, done_known, fronts_at, log_distinct, logs_length, next_keeps, ordered, received_log, received_within, test_of_key, txn_there}
 use Rattle.dt_merge.specs.Own.{own, places_at}
 use Rattle.dt_merge.specs.Weight.{most_events, sum_below, weight, world_weight}

@@ -1,9 +1,8 @@
 -- The merge of what regions keep is legal, changes something at each event, and leads to the world of the chronicle.
 use Rattle.std.proofs.Common.{◌≡◌, ◌<◌, ◌≤◌, ◌⊎◌, ℕ, true, eqb, List, [], ◌∷◌, ◌++◌, Some, refl, sym, ap, subst, ◌∙◌, inl, inr, arith, append-nil, eqb-true, eq-eqb}
-use Rattle.std.specs.Prelude.{filter}
 use Rattle.std.proofs.lemmas.List.Elements.{filter-append}
-use Rattle.dt_lists.specs.Lists.{AllIn, EachThen, Has}
-use Rattle.dt_lists.proofs.Callers.{all_get, all_put, any_append, any_append_left, any_append_right, each_across, each_append_right, has_filter, has_middle, has_of_filtered}
+use Rattle.dt_lists.specs.Lists.{EachThen, Has}
+use Rattle.dt_lists.proofs.Callers.{all_get, all_put, any_append, any_append_right, each_across, each_append_right, has_filter, has_middle, has_of_filtered}
 use Rattle.dt_cluster.specs.Valid.{IsValidCluster}
 use Rattle.dt_cluster.specs.declared.Cluster.{Cluster}
 use Rattle.dt_workload.specs.Valid.{IsValidWorkload}
@@ -15,8 +14,8 @@ use Rattle.dt_session.specs.Eager.{AllChange}
 use Rattle.dt_agreement.proofs.Callers.{legal_keeps}
 use Rattle.dt_merge.specs.Own.{Own, own, HasGrown, IsSupplied, source_of}
 use Rattle.dt_merge.specs.WorldRegions.{HasInvariant, world_regions}
-use Rattle.dt_merge.specs.Regional.{Regions, after_all, AreLegalIn, AllChangeIn, those_of, AreLocal, IsRescheduling, Rescheduled}
-use Rattle.dt_merge.specs.Merge.{Stamped, events_of, region_at, those_at, kept_at, HasLowerStamp, ComesBefore, AreKept, IsMerge, AreLater, IsFed, IsChronicle}
+use Rattle.dt_merge.specs.Regional.{Regions, after_all, AreLegalIn, AllChangeIn, AreLocal, IsRescheduling, Rescheduled}
+use Rattle.dt_merge.specs.Merge.{Stamped, events_of, region_at, those_at, kept_at, HasLowerStamp, ComesBefore, AreKept, IsMerge, IsFed, IsChronicle}
 use Rattle.dt_merge.proofs.Reordering.{rescheduled, rescheduled_whole}
 use Rattle.dt_merge.proofs.Worlds.{world_local}
 use Rattle.dt_merge.proofs.MergeLists.{merge_keeps, not_above}

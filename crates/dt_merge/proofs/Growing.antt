@@ -1,5 +1,5 @@
 -- What regions submit and place stays: an event leaves the submissions of its region and its log, or adds to them.
-use Rattle.std.proofs.Common.{◌≡◌, ◌<◌, ◌≢◌, ℕ, Bool, true, false, cond, eqb, leb, ltb, ◌&&◌, [], ◌∷◌, ◌++◌, length, Some, None, refl, sym, ap, subst, ◌∙◌, inl, inr}
+use Rattle.std.proofs.Common.{◌≡◌, ◌<◌, ℕ, Bool, true, false, cond, eqb, leb, ltb, ◌&&◌, [], ◌∷◌, length, Some, None, sym, ap, subst, inl, inr}
 use Rattle.std.specs.Prelude.{Option, option_and_then, slice_get}
 use Rattle.dt_lists.specs.Lists.{Either}
 use Rattle.dt_lists.proofs.Callers.{either_nat, front_refl, front_append, front_trans}

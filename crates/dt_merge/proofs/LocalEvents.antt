@@ -1,13 +1,13 @@
 -- The law of locality: two worlds on the way to a third have the same own part of a region. Where an event of the region is
 -- legal in the one, and the other has what it takes from elsewhere, it is legal in the other, and does the same to that part.
-use Rattle.std.proofs.Common.{◌≡◌, ◌≢◌, ◌<◌, ◌≤◌, ◌+◌, ◌⊎◌, ℕ, Bool, true, false, cond, eqb, leb, ltb, ◌&&◌, List, [], ◌∷◌, ◌++◌, length, get_or, map, set, Some, None}
+use Rattle.std.proofs.Common.{◌≡◌, ◌≢◌, ◌<◌, ◌≤◌, ◌+◌, ℕ, Bool, true, false, cond, eqb, leb, ltb, ◌&&◌, List, [], ◌++◌, length, get_or, map, set, Some, None}
 use Rattle.std.proofs.Common.{refl, sym, ap, ap₂, subst, subst₂, ◌∙◌, inl, inr, arith, eqb-true}
 use Rattle.std.specs.Prelude.{Option, option_map, option_and_then, unwrap_or, filter, slice_get, slice_index}
-use Rattle.std.proofs.lemmas.Bool.{cases_Bool, false_from_ne_true}
+use Rattle.std.proofs.lemmas.Bool.{false_from_ne_true}
 use Rattle.std.proofs.lemmas.List.{length-append, map-append}
 use Rattle.std.proofs.lemmas.List.Elements.{filter-append}
-use Rattle.dt_lists.specs.Lists.{Has, IsFront, Either}
-use Rattle.dt_lists.proofs.Callers.{either_nat, get_front, at_place, has_place, front_refl, front_append}
+use Rattle.dt_lists.specs.Lists.{Has, IsFront}
+use Rattle.dt_lists.proofs.Callers.{either_nat, get_front, at_place, has_place}
 use Rattle.dt_access.specs.Clash.{Bytes}
 use Rattle.dt_access.specs.declared.TxnId.{TxnId}
 use Rattle.dt_sched.specs.Views.{log_at}
@@ -21,13 +21,13 @@ use Rattle.dt_cluster.specs.declared.Cluster.{Cluster}
 use Rattle.dt_workload.specs.declared.Ranked.{Ranked}
 use Rattle.dt_workload.specs.declared.Session.{Session}
 use Rattle.dt_workload.specs.declared.Workload.{Workload}
-use Rattle.dt_session.specs.World.{World, Node, Place, Submission, no_node, node_at, asked_of, taken_of, log_of, logs_of, received_of, received_lengths, received_logs}
+use Rattle.dt_session.specs.World.{World, Place, Submission, node_at, asked_of, taken_of, log_of, logs_of, received_of, received_lengths, received_logs}
 use Rattle.dt_session.specs.World.{submission_of, find_submission, txn_of, attempt_of, outcome_in, outcome_at, session_at}
 use Rattle.dt_session.specs.Tries.{Awaited, MayEnd, MayTry, attempt_after}
-use Rattle.dt_session.specs.Step.{IsLegal, MaySubmit, MayAnswer, awaited_at, next_attempt, attempt_for, called, submitted, placed, received, answered, next}
-use Rattle.dt_agreement.specs.Invariant.{IsPlaceOf, Inv, has_home, requests}
+use Rattle.dt_session.specs.Step.{IsLegal, MaySubmit, MayAnswer, awaited_at, next_attempt, called, submitted, answered, next}
+use Rattle.dt_agreement.specs.Invariant.{IsPlaceOf, has_home, requests}
 use Rattle.dt_agreement.proofs.Callers.{IsKnown, IsRequest, WaitsAt, executable_known, log_is, logs_length, received_within, request_is, session_found, waiting_for}
-use Rattle.dt_merge.specs.Own.{Own, own, places_at, HasGrown, HaveGrown, source_of, IsSupplied}
+use Rattle.dt_merge.specs.Own.{own, HasGrown, HaveGrown, source_of, IsSupplied}
 use Rattle.dt_merge.specs.WorldRegions.{HasInvariant}
 use Rattle.dt_merge.proofs.OwnParts.{local, found_own, found_on, fronts_stay, logs_longer}
 use Rattle.dt_merge.proofs.OwnSteps.{append_own, received_own, deliver_own, move_own, answer_own, submit_own, own_answered, own_submitted, own_appended, own_delivered, own_moved}

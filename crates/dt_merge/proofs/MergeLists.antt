@@ -1,8 +1,8 @@
 -- What regions keep has one merge: of each region the merge has what the region keeps, and it begins with the least head.
-use Rattle.std.proofs.Common.{◌≡◌, ◌≢◌, ◌<◌, ◌≤◌, ◌⊎◌, ◌↔◌, ℕ, Bool, true, false, eqb, List, [], ◌∷◌, ◌++◌, length, get_or, set}
+use Rattle.std.proofs.Common.{◌≡◌, ◌≢◌, ◌<◌, ◌≤◌, ◌↔◌, ℕ, true, eqb, List, [], ◌∷◌, length, set}
 use Rattle.std.proofs.Common.{refl, sym, ap, subst, ◌∙◌, inl, inr, arith, eqb-true, eq-eqb}
 use Rattle.std.proofs.lemmas.List.{get_or-set_same, get_or-set_other}
-use Rattle.dt_lists.specs.Lists.{AllIn, EachThen, Has, Either}
+use Rattle.dt_lists.specs.Lists.{EachThen, Has, Either}
 use Rattle.dt_lists.proofs.Callers.{all_get, all_put, ascending_same, each_map, either_nat, filter_each, has_filter, has_of_filtered}
 use Rattle.dt_merge.specs.Merge.{Stamped, region_at, those_at, kept_at, HasLowerStamp, ComesBefore, AreKept, IsMerge}
 

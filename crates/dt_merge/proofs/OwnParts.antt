@@ -1,14 +1,12 @@
 -- A world is what its regions have as their own; and a session of a region is found, and its place is changed, in the own
 -- part of that region.
 use Rattle.std.proofs.Common.{◌≡◌, ◌≢◌, ◌<◌, ◌≤◌, ◌⊎◌, ℕ, zero, suc, Bool, true, false, cond, eqb, ◌&&◌, List, [], ◌∷◌, ◌++◌, length, get_or, map, take, Some, None}
-use Rattle.std.proofs.Common.{refl, sym, ap, ap₂, subst, ◌∙◌, inl, inr, eqb-true, eq-eqb, arith}
+use Rattle.std.proofs.Common.{refl, sym, ap, ap₂, ◌∙◌, inl, inr, eqb-true, eq-eqb, arith}
 use Rattle.std.specs.Prelude.{Option, filter, slice_index}
 use Rattle.std.proofs.lemmas.Bool.{cases_Bool, false_from_ne_true}
 use Rattle.std.proofs.lemmas.List.{take-append-le}
-use Rattle.dt_lists.specs.Lists.{IsFront, Pairwise}
 use Rattle.dt_lists.proofs.Callers.{same_head, same_tail}
 use Rattle.dt_access.specs.Clash.{Bytes, same_key}
-use Rattle.dt_access.specs.declared.Part.{Part}
 use Rattle.dt_access.specs.declared.TxnId.{TxnId}
 use Rattle.dt_access.specs.Ids.{same_id}
 use Rattle.dt_sched.specs.Views.{View, log_at, IsLonger}

@@ -1,5 +1,5 @@
 -- What an event does to the own part of its region, as a function of that part.
-use Rattle.std.proofs.Common.{◌≡◌, ◌<◌, ◌+◌, ℕ, Bool, true, false, cond, List, [], ◌∷◌, ◌++◌, length, set, Some, None, refl}
+use Rattle.std.proofs.Common.{◌≡◌, ◌<◌, ◌+◌, ℕ, Bool, true, false, cond, [], ◌∷◌, ◌++◌, length, set, Some, None, refl}
 use Rattle.std.specs.Prelude.{Option, slice_index}
 use Rattle.std.proofs.lemmas.List.{get_or-set_same}
 use Rattle.dt_txn.specs.declared.Txn.{Txn}

@@ -1,8 +1,8 @@
 -- What regions do side by side they may do one after another; and two events of different regions may change places.
-use Rattle.std.proofs.Common.{◌≡◌, ◌≢◌, ◌<◌, ◌≤◌, ◌⊎◌, ℕ, zero, suc, Bool, false, eqb, List, [], ◌∷◌, ◌++◌, Some, refl, sym, ap, subst, subst₂, ◌∙◌, inl, inr, arith}
+use Rattle.std.proofs.Common.{◌≡◌, ◌≢◌, ◌<◌, ◌≤◌, ◌⊎◌, ℕ, zero, suc, false, eqb, List, [], ◌∷◌, refl, sym, ap, subst, subst₂, ◌∙◌, inl, inr, arith}
 use Rattle.dt_lists.specs.Lists.{AllIn, Either}
 use Rattle.dt_lists.proofs.Callers.{all_map, either_nat, filter_none}
-use Rattle.dt_merge.specs.Regional.{Regions, after_all, AreLegalIn, AllChangeIn, those_of, Below, AreLocal, one_by_one, AreTurns, AreSideBySide}
+use Rattle.dt_merge.specs.Regional.{Regions, after_all, AreLegalIn, AllChangeIn, Below, AreLocal, one_by_one, AreTurns, AreSideBySide}
 use Rattle.dt_merge.proofs.Reordering.{after_append, legal_together, change_together, not_here, good_after, below_refl, below_after, still}
 
 below_other : (q n : ℕ) → q < suc n → (q < n) ⊎ (n ≡ q)

@@ -16,7 +16,7 @@ use Rattle.dt_events.specs.Events.{region_of}
 use Rattle.dt_txn.specs.declared.Txn.{Txn}
 use Rattle.dt_txn.specs.Transaction.{part_of}
 use Rattle.dt_txn.specs.Execution.{one}
-use Rattle.dt_txn.specs.Replica.{MayStep, Replica, executed, stepped}
+use Rattle.dt_txn.specs.Replica.{MayStep, executed, stepped}
 use Rattle.dt_cluster.specs.Valid.{IsValidCluster}
 use Rattle.dt_cluster.specs.declared.Cluster.{Cluster}
 use Rattle.dt_workload.specs.Valid.{IsValidWorkload}
@@ -26,14 +26,14 @@ use Rattle.dt_session.specs.World.{World, Place, is_session, node_at, log_of, re
 use Rattle.dt_session.specs.Step.{IsLegal, MayAnswer, MaySubmit, answered, next, next_attempt, placed, received, submitted}
 use Rattle.dt_session.specs.Run.{world_from, AreLegalFrom}
 use Rattle.dt_session.specs.Eager.{AllChange}
-use Rattle.dt_agreement.specs.Invariant.{Inv, IsPlaceOf}
-use Rattle.dt_agreement.proofs.Callers.{IsKnown, IsNextRequest, Submits, append_cases, executable_known, next_keeps, ordered, received_own, session_found, submits}
+use Rattle.dt_agreement.specs.Invariant.{IsPlaceOf}
+use Rattle.dt_agreement.proofs.Callers.{IsKnown, Submits, append_cases, executable_known, next_keeps, ordered, received_own, session_found, submits}
 use Rattle.dt_merge.specs.Own.{Own, own}
 use Rattle.dt_merge.specs.Weight.{sum_below, weight, world_weight}
 use Rattle.dt_merge.specs.WorldRegions.{HasInvariant}
 use Rattle.dt_merge.proofs.Frames.{frame}
 use Rattle.dt_merge.proofs.OwnParts.{local, found_own}
-use Rattle.dt_merge.proofs.OwnSteps.{attempt_of_own, submit_own, append_own, deliver_own, move_own, answer_own, own_answered, own_submitted, own_appended, own_delivered, own_moved}
+use Rattle.dt_merge.proofs.OwnSteps.{attempt_of_own, move_own, own_answered, own_submitted, own_appended, own_delivered, own_moved}
 use Rattle.dt_merge.proofs.Worlds.{region_there}
 
 -- sums

@@ -1,5 +1,5 @@
 -- Worlds of regions and sessions are as `Regional` wants them: their events are local.
-use Rattle.std.proofs.Common.{◌≡◌, ◌≢◌, ◌<◌, ℕ, List, [], ◌∷◌, length, refl, sym, ap, ap₂, subst, ◌∙◌, Some}
+use Rattle.std.proofs.Common.{◌≡◌, ◌<◌, ℕ, List, [], ◌∷◌, refl, sym, ap, subst, ◌∙◌}
 use Rattle.dt_events.specs.declared.Event.{Event}
 use Rattle.dt_events.specs.declared.Event.TheVariants.{Submit, Append, Deliver, Insert, Resolve, Execute, Answer}
 use Rattle.dt_events.specs.Events.{region_of}
@@ -7,14 +7,13 @@ use Rattle.dt_cluster.specs.Valid.{IsValidCluster}
 use Rattle.dt_cluster.specs.declared.Cluster.{Cluster}
 use Rattle.dt_workload.specs.Valid.{IsValidWorkload}
 use Rattle.dt_workload.specs.declared.Workload.{Workload}
-use Rattle.dt_session.specs.World.{World, no_node, node_at}
+use Rattle.dt_session.specs.World.{World, no_node}
 use Rattle.dt_session.specs.Step.{IsLegal, RegionsExist, next}
 use Rattle.dt_session.specs.Run.{world_from, AreLegalFrom}
-use Rattle.dt_session.specs.Eager.{AllChange}
 use Rattle.dt_agreement.proofs.Callers.{next_keeps, ordered, places_parallel}
 use Rattle.dt_merge.specs.Own.{HaveGrown, own}
 use Rattle.dt_merge.specs.WorldRegions.{HasInvariant, world_regions}
-use Rattle.dt_merge.specs.Regional.{Regions, after_all, AreLegalIn, AllChangeIn, AreLocal}
+use Rattle.dt_merge.specs.Regional.{after_all, AreLegalIn, AreLocal}
 use Rattle.dt_merge.proofs.OwnParts.{same_lists, same_places}
 use Rattle.dt_merge.proofs.Frames.{frame}
 use Rattle.dt_merge.proofs.Growing.{grown_refl, grown_trans, grows}

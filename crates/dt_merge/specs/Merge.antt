@@ -3,7 +3,7 @@
 -- is: all of it, in ascending order of stamps, and of regions where stamps are equal (`IsMerge`). It is to be read as one
 -- run, though the events were made side by side. How they came about is told by a chronicle (`IsChronicle`): one list in the
 -- order in which they were made. Read next: src/laws.rt, that the merge is a legal list, which leads to the same world.
-use Rattle.std.specs.Prelude.{◌≡◌, ◌<◌, ◌≤◌, ◌==◌, ◌⊎◌, ◌↔◌, ℕ, List, [], ◌++◌, length, map, filter, get_or, Some}
+use Rattle.std.specs.Prelude.{◌≡◌, ◌<◌, ◌==◌, ◌⊎◌, ◌↔◌, ℕ, List, [], ◌++◌, map, filter, get_or, Some}
 use Rattle.dt_lists.specs.Lists.{AllIn, EachThen, Has}
 use Rattle.dt_events.specs.declared.Event.{Event}
 use Rattle.dt_events.specs.Events.{region_of}
