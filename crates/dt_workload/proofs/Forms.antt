@@ -1,5 +1,5 @@
 -- Words of lines and the forms that they say.
-use Rattle.std.proofs.Common.{◌≡◌, ◌≢◌, ℕ, zero, suc, ◌<◌, ◌≤◌, ◌^◌, Bool, true, false, not, cond, nat_eq, List, [], ◌∷◌, length, map, take, drop, get_or, Option, Some}
+use Rattle.std.proofs.Common.{◌≡◌, ◌≢◌, ℕ, zero, suc, ◌<◌, ◌≤◌, ◌^◌, Bool, true, false, not, nat_eq, List, [], ◌∷◌, length, map, take, drop, get_or, Option, Some}
 use Rattle.std.proofs.Common.{None, MatchOption, inl, inr, ◌++◌, refl, ap, sym, ◌∙◌, subst, arith}
 use Rattle.std.proofs.lemmas.Bool.{false≢true}
 use Rattle.std.specs.Cmp.Lexicographic.{pointwise, bytes_decides}
@@ -9,7 +9,7 @@ use Rattle.dt_lists.proofs.Callers.{same_head, same_tail}
 use Rattle.std.proofs.lemmas.Option.{same_Some}
 use Rattle.dt_lists.specs.Lists.{AllIn}
 use Rattle.dt_text.specs.Texts.{IsName, is_name_byte, first_outside}
-use Rattle.dt_text.proofs.Callers.{outside_where}
+use Rattle.dt_text.proofs.Callers.{byte_outside}
 use Rattle.dt_text.specs.Reading.{words_of}
 use Rattle.dt_text.specs.declared.Word.{Word}
 use Rattle.dt_text.specs.declared.Value.{Value}
@@ -89,14 +89,9 @@ pub nothing_said : (P : Value → Type 0) (Q : Type 0) (found : Option Value) �
 nothing_said P Q None is h = h
 nothing_said P Q (Some v) is h = absurd cc
 
-refused : (some all : Bool) (n place : ℕ) → some ≡ not all → cond some (Some n) None ≡ Some place → all ≡ true → ⊥
-refused true true n place e found h = absurd cc
-refused true false n place e found h = absurd cc
-refused false all n place e found h = absurd cc
-
 -- a byte that no name has stands in no name
 pub no_name_outside : (word : Bytes) (place : ℕ) → first_outside is_name_byte word ≡ Some place → ¬ IsName word
-no_name_outside word place found name = refused _ _ _ place (outside_where is_name_byte word) found name.2
+no_name_outside word place found name = byte_outside is_name_byte word place found name.2
 
 -- where no session of a name can begin, its line is at fault for that
 pub no_session : (cluster : Cluster) (before : List Session) (name word : Bytes) (region : ℕ) (why : Refusal) → name ≡ word → IsName name
