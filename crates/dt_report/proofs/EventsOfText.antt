@@ -11,7 +11,7 @@ use Rattle.std.proofs.lemmas.Bool.Decides.{nat_tests}
 use Rattle.std.proofs.lemmas.List.Concat.{flat_map-append}
 use Rattle.std.proofs.lemmas.List.Folds.{list_all-append}
 use Rattle.dt_lists.specs.Lists.{AllIn}
-use Rattle.dt_lists.proofs.Callers.{all_append}
+use Rattle.dt_lists.proofs.Callers.{all_append, same_head, same_tail}
 use Rattle.dt_text.specs.Texts.{IsKey, IsName, IsStr, is_key_byte, is_name_byte, is_text_byte}
 use Rattle.dt_text.specs.Printed.{text_item, text_items, text_word}
 use Rattle.dt_text.specs.declared.Value.{Value}
@@ -229,12 +229,6 @@ split report =
 
 -- ---- the first line that is the heading
 
-head-is : {A : Type 0} {x y : A} {xs ys : List A} → x ∷ xs ≡ y ∷ ys → x ≡ y
-head-is e = cc
-
-tail-is : {A : Type 0} {x y : A} {xs ys : List A} → x ∷ xs ≡ y ∷ ys → xs ≡ ys
-tail-is e = cc
-
 -- a byte that ends no line is not 10
 no_end : (b : ℕ) (bs : List ℕ) → list_all within_line (b ∷ bs) ≡ true → 10 ≡ b → ⊥
 no_end b bs all e = true≢false (sym (and_parts _ _ all).0 ∙ ap within_line (sym e))
@@ -242,12 +236,12 @@ no_end b bs all e = true≢false (sym (and_parts _ _ all).0 ∙ ap within_line (
 -- equal texts have equal first lines, and equal rests
 first_line : (xs ys rest rest' : List ℕ) → list_all within_line xs ≡ true → list_all within_line ys ≡ true → xs ++ 10 ∷ rest ≡ ys ++ 10 ∷ rest'
     → (xs ≡ ys) × (rest ≡ rest')
-first_line [] [] rest rest' left right e = (refl, tail-is e)
-first_line [] (y ∷ ys) rest rest' left right e = absurd (no_end y ys right (head-is e))
-first_line (x ∷ xs) [] rest rest' left right e = absurd (no_end x xs left (sym (head-is e)))
+first_line [] [] rest rest' left right e = (refl, same_tail e)
+first_line [] (y ∷ ys) rest rest' left right e = absurd (no_end y ys right (same_head e))
+first_line (x ∷ xs) [] rest rest' left right e = absurd (no_end x xs left (sym (same_head e)))
 first_line (x ∷ xs) (y ∷ ys) rest rest' left right e =
-    let later : (xs ≡ ys) × (rest ≡ rest') = first_line xs ys rest rest' (and_parts _ _ left).1 (and_parts _ _ right).1 (tail-is e) in
-    ((λ i. head-is e i ∷ later.0 i), later.1)
+    let later : (xs ≡ ys) × (rest ≡ rest') = first_line xs ys rest rest' (and_parts _ _ left).1 (and_parts _ _ right).1 (same_tail e) in
+    ((λ i. same_head e i ∷ later.0 i), later.1)
 
 next_line : (line : List ℕ) (lines : List (List ℕ)) (rest : List ℕ) → ended (line ∷ lines) ++ rest ≡ line ++ 10 ∷ (ended lines ++ rest)
 next_line line lines rest = append_assoc (line ++ 10 ∷ []) (ended lines) rest ∙ append_assoc line (10 ∷ []) (ended lines ++ rest)
@@ -281,8 +275,8 @@ same_items n [] [] e = refl
 same_items n [] (y ∷ ys) e = cc
 same_items n (x ∷ xs) [] e = cc
 same_items n (x ∷ xs) (y ∷ ys) e =
-    let first : x ≡ y = ap (λ (p : ℕ × Event). p.1) (head-is e) in
-    λ i. first i ∷ same_items (n + 1) xs ys (tail-is e) i
+    let first : x ≡ y = ap (λ (p : ℕ × Event). p.1) (same_head e) in
+    λ i. first i ∷ same_items (n + 1) xs ys (same_tail e) i
 
 pub tell_events : TextsTellEvents
 tell_events left right may_left may_right e =
