@@ -31,6 +31,7 @@ use Rattle.detock.specs.Loading.{HasFile, HasCluster, NamesThis, HoldCluster, Ho
 use Rattle.detock.specs.Causes.{AsksBuilt, AsksOn, AsksWith, AreBadCluster, HasBadCluster, AreBadWorkload, HasBadWorkload, IsFirstIllegal, AreBadEvents, HasBadEvents, WasMissed, CouldNotRead, IsReplayable, IsDue}
 use Rattle.detock.specs.RefusalCode.{IsRefusal}
 use Rattle.detock.proofs.WordForms.{two_bytes}
+use Rattle.dt_lists.proofs.Callers.{same_head, same_tail}
 
 -- the bytes of one file
 both_files : (files : Files) (name : Bytes) (P Q : Bytes → Type 0) → HasFile (Some files) name P → HasFile (Some files) name Q → (bytes : Bytes) × P bytes × Q bytes
@@ -101,28 +102,22 @@ one_without (line ∷ lines) l m (inr (some, later)) (inl (none, here)) = absurd
 one_without (line ∷ lines) l m (inr (some, later)) (inr (also, after)) = one_without lines l m later after
 
 -- what two lists with equal items begin and go on with
-heads_of : {A : Type 0} {x y : A} {xs ys : List A} → x ∷ xs ≡ y ∷ ys → x ≡ y
-heads_of same = cc
-
-tails_of : {A : Type 0} {x y : A} {xs ys : List A} → x ∷ xs ≡ y ∷ ys → xs ≡ ys
-tails_of same = cc
-
 -- of events, the first that is not legal is one
 module _ (cluster : Cluster) (workload : Workload) where
   one_illegal : (w : World) (a b after later : List (ℕ × Event)) (x y : ℕ × Event) → a ++ x ∷ after ≡ b ++ y ∷ later
       → AreLegalFrom cluster workload w (unnumbered a) → AreLegalFrom cluster workload w (unnumbered b)
       → ¬ IsLegal cluster workload (world_from cluster workload w (unnumbered a)) x.1
       → ¬ IsLegal cluster workload (world_from cluster workload w (unnumbered b)) y.1 → x ≡ y
-  one_illegal w [] [] after later x y same before also never none = heads_of same
+  one_illegal w [] [] after later x y same before also never none = same_head same
   one_illegal w [] (z ∷ b) after later x y same before (legal, also) never none =
-      let P : ℕ × Event → Type 0 = λ event. IsLegal cluster workload w event.1 in absurd (never (subst P (sym (heads_of same)) legal))
+      let P : ℕ × Event → Type 0 = λ event. IsLegal cluster workload w event.1 in absurd (never (subst P (sym (same_head same)) legal))
   one_illegal w (z ∷ a) [] after later x y same (legal, before) also never none =
-      let P : ℕ × Event → Type 0 = λ event. IsLegal cluster workload w event.1 in absurd (none (subst P (heads_of same) legal))
+      let P : ℕ × Event → Type 0 = λ event. IsLegal cluster workload w event.1 in absurd (none (subst P (same_head same) legal))
   one_illegal w (u ∷ a) (v ∷ b) after later x y same (legal, before) (too, also) never none =
-      let head : v ≡ u = sym (heads_of same) in
+      let head : v ≡ u = sym (same_head same) in
       let P : ℕ × Event → Type 0 = λ event. AreLegalFrom cluster workload (next cluster workload w event.1) (unnumbered b) in
       let Q : ℕ × Event → Type 0 = λ event. ¬ IsLegal cluster workload (world_from cluster workload (next cluster workload w event.1) (unnumbered b)) y.1 in
-      one_illegal (next cluster workload w u.1) a b after later x y (tails_of same) before (subst P head also) never (subst Q head none)
+      one_illegal (next cluster workload w u.1) a b after later x y (same_tail same) before (subst P head also) never (subst Q head none)
 
   -- it has one line and one rule
   same_illegal : (events : List (ℕ × Event)) (l m n k : ℕ) → IsFirstIllegal cluster workload events l n → IsFirstIllegal cluster workload events m k → (l ≡ m) × (n ≡ k)

@@ -6,7 +6,7 @@ use Rattle.std.specs.Cmp.Lexicographic.{slice_cmp, nat_list_cmp_total, bytes_dec
 use Rattle.std.specs.List.{list_any}
 use Rattle.dt_lists.specs.Lists.{AllIn}
 use Rattle.dt_access.specs.declared.access.Mode.{Mode}
-use Rattle.dt_access.specs.Clash.{Bytes, same_key, is_write, rows_clash}
+use Rattle.dt_access.specs.Clash.{Bytes, same_key, may_change, rows_clash}
 use Rattle.dt_access.specs.Meeting.{meet_on_row}
 use Rattle.dt_access.specs.Orders.{KeyBefore, HasAscendingKeys}
 use Rattle.dt_access.proofs.KeyOrder.{same_key_before, same_key_after, same_key_equal, key_before_flip}
@@ -21,13 +21,13 @@ AllIn-before a b (y ∷ ys) h all =
 none-before : (a : Bytes × Mode) (bs : List (Bytes × Mode)) → AllIn (λ y. KeyBefore a.0 y.0) bs → list_any (rows_clash a) bs ≡ false
 none-before a [] all = refl
 none-before a (y ∷ ys) all =
-    ap (λ t. t && (is_write a.1 || is_write y.1) || list_any (rows_clash a) ys) (same_key_before a.0 y.0 all.0) ∙ none-before a ys all.1
+    ap (λ t. t && (may_change a.1 || may_change y.1) || list_any (rows_clash a) ys) (same_key_before a.0 y.0 all.0) ∙ none-before a ys all.1
 
 -- a use of a key that is less than all keys of the other list makes no clash
 skip-right : (b : Bytes × Mode) (xs bs : List (Bytes × Mode)) → AllIn (λ x. KeyBefore b.0 x.0) xs → meet_on_row xs (b ∷ bs) ≡ meet_on_row xs bs
 skip-right b [] bs all = refl
 skip-right b (x ∷ xs) bs all =
-    ap (λ t. t && (is_write x.1 || is_write b.1) || list_any (rows_clash x) bs || meet_on_row xs (b ∷ bs)) (same_key_after x.0 b.0 all.0) ∙ ap (λ t. list_any (rows_clash x) bs || t) (skip-right b xs bs all.1)
+    ap (λ t. t && (may_change x.1 || may_change b.1) || list_any (rows_clash x) bs || meet_on_row xs (b ∷ bs)) (same_key_after x.0 b.0 all.0) ∙ ap (λ t. list_any (rows_clash x) bs || t) (skip-right b xs bs all.1)
 
 -- what is left of the first pair of uses, where their keys are the same and the first one clashes with no later one
 or-heads : (same w later c d : Bool) → same ≡ true → later ≡ false → d ≡ c → (((same && w) || later) || d) ≡ (w || c)
@@ -58,18 +58,18 @@ module _ (l r ls rs : List (Bytes × Mode)) (a b : Bytes × Mode) (el : l ≡ a 
       (asl, ar.1, ap (λ t. meet_on_row t rs) el ∙ sym step ∙ sym (ap (λ t. meet_on_row t (b ∷ rs)) el) ∙ sym (ap (meet_on_row l) er))
 
   -- where the first keys are the same, their modes clash or the rests do
-  row-heads : slice_cmp nat_cmp a.0 b.0 ≡ Equal → meet_on_row l r ≡ ((is_write a.1 || is_write b.1) || meet_on_row ls rs)
+  row-heads : slice_cmp nat_cmp a.0 b.0 ≡ Equal → meet_on_row l r ≡ ((may_change a.1 || may_change b.1) || meet_on_row ls rs)
   row-heads h =
       let k : same_key a.0 b.0 ≡ true = same_key_equal a.0 b.0 h in
       let e : a.0 ≡ b.0 = (bytes_decides a.0 b.0).0 k in
       let later : list_any (rows_clash a) rs ≡ false = none-before a rs (subst (λ q. AllIn (λ (y : Bytes × Mode). KeyBefore q y.0) rs) (sym e) ar.0) in
       let rest : meet_on_row ls (b ∷ rs) ≡ meet_on_row ls rs = skip-right b ls rs (subst (λ q. AllIn (λ (y : Bytes × Mode). KeyBefore q y.0) ls) e al.0) in
-      ap (λ t. meet_on_row t r) el ∙ ap (meet_on_row (a ∷ ls)) er ∙ or-heads (same_key a.0 b.0) (is_write a.1 || is_write b.1) (list_any (rows_clash a) rs) (meet_on_row ls rs) (meet_on_row ls (b ∷ rs)) k later rest
+      ap (λ t. meet_on_row t r) el ∙ ap (meet_on_row (a ∷ ls)) er ∙ or-heads (same_key a.0 b.0) (may_change a.1 || may_change b.1) (list_any (rows_clash a) rs) (meet_on_row ls rs) (meet_on_row ls (b ∷ rs)) k later rest
 
-  pub row-found : slice_cmp nat_cmp a.0 b.0 ≡ Equal → (is_write a.1 || is_write b.1) ≡ true → true ≡ meet_on_row l r
+  pub row-found : slice_cmp nat_cmp a.0 b.0 ≡ Equal → (may_change a.1 || may_change b.1) ≡ true → true ≡ meet_on_row l r
   row-found h w = sym (row-heads h ∙ ap (λ t. t || meet_on_row ls rs) w)
 
-  pub row-equal : slice_cmp nat_cmp a.0 b.0 ≡ Equal → (is_write a.1 || is_write b.1) ≡ false → HasAscendingKeys ls × HasAscendingKeys rs × (meet_on_row ls rs ≡ meet_on_row l r)
+  pub row-equal : slice_cmp nat_cmp a.0 b.0 ≡ Equal → (may_change a.1 || may_change b.1) ≡ false → HasAscendingKeys ls × HasAscendingKeys rs × (meet_on_row ls rs ≡ meet_on_row l r)
   row-equal h w = (al.1, ar.1, sym (row-heads h ∙ ap (λ t. t || meet_on_row ls rs) w))
 
 -- nothing clashes with an empty list

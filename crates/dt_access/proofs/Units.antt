@@ -5,7 +5,7 @@ use Rattle.std.proofs.lemmas.Bool.{and_parts, and_from, or_left, or_right}
 use Rattle.std.specs.Cmp.Lexicographic.{bytes_decides}
 use Rattle.std.proofs.lemmas.Cmp.{nat_list_eq_equiv}
 use Rattle.dt_access.specs.Granules.{Bytes, granule_of, unit_of, mode_of_move}
-use Rattle.dt_access.specs.Clash.{same_key, same_granule, is_write, is_whole, rows_clash, granules_clash, uses_clash}
+use Rattle.dt_access.specs.Clash.{same_key, same_granule, may_change, is_whole, rows_clash, granules_clash, uses_clash}
 use Rattle.dt_access.specs.declared.access.Mode.{Mode}
 use Rattle.dt_access.specs.declared.access.Mode.TheVariants.{Write, Whole}
 
@@ -17,11 +17,11 @@ either_case false b e = inr e
 -- it does not matter which of two uses comes first
 pub uses_clash_symmetric : (a b : Bytes × Mode) → uses_clash a b ≡ uses_clash b a
 uses_clash_symmetric a b = ap₂ ◌||◌
-    (ap₂ ◌&&◌ (nat_list_eq_equiv.symm a.0 b.0) (or_comm (is_write a.1) (is_write b.1)))
+    (ap₂ ◌&&◌ (nat_list_eq_equiv.symm a.0 b.0) (or_comm (may_change a.1) (may_change b.1)))
     (ap₂ ◌&&◌ (nat_list_eq_equiv.symm (granule_of a.0) (granule_of b.0)) (or_comm (is_whole a.1) (is_whole b.1)))
 
 -- uses of one row clash where one of them does more than read it
-pub uses_of_row : (a b : Bytes × Mode) → a.0 ≡ b.0 → (is_write a.1 || is_write b.1) ≡ true → uses_clash a b ≡ true
+pub uses_of_row : (a b : Bytes × Mode) → a.0 ≡ b.0 → (may_change a.1 || may_change b.1) ≡ true → uses_clash a b ≡ true
 uses_of_row a b same w = or_left _ _ (and_from _ _ ((bytes_decides a.0 b.0).1 same) w)
 
 -- uses of one granule clash where one of them takes it as a whole
@@ -30,9 +30,9 @@ uses_of_granule a b same w = or_right _ _ (and_from _ _ ((bytes_decides (granule
 
 -- uses clash on a row or on a granule, in words
 pub clash_cases : (a b : Bytes × Mode) → uses_clash a b ≡ true
-    → ((a.0 ≡ b.0) × ((is_write a.1 || is_write b.1) ≡ true)) ⊎ ((granule_of a.0 ≡ granule_of b.0) × ((is_whole a.1 || is_whole b.1) ≡ true))
+    → ((a.0 ≡ b.0) × ((may_change a.1 || may_change b.1) ≡ true)) ⊎ ((granule_of a.0 ≡ granule_of b.0) × ((is_whole a.1 || is_whole b.1) ≡ true))
 clash_cases a b e = elim (either_case (rows_clash a b) (granules_clash a b) e) [
-  | inl r ↦ let p : (same_key a.0 b.0 ≡ true) × ((is_write a.1 || is_write b.1) ≡ true) = and_parts _ _ r in inl ((bytes_decides a.0 b.0).0 p.0, p.1)
+  | inl r ↦ let p : (same_key a.0 b.0 ≡ true) × ((may_change a.1 || may_change b.1) ≡ true) = and_parts _ _ r in inl ((bytes_decides a.0 b.0).0 p.0, p.1)
   | inr g ↦ let p : (same_granule a.0 b.0 ≡ true) × ((is_whole a.1 || is_whole b.1) ≡ true) = and_parts _ _ g in inr ((bytes_decides (granule_of a.0) (granule_of b.0)).0 p.0, p.1)
 ]
 
@@ -67,4 +67,4 @@ moves_clash version a b mode same = by (version == 2) mode same
   where
     by : (t : Bool) → a.1 ≡ cond t Whole Write → cond t (granule_of a.0) a.0 ≡ cond t (granule_of b.0) b.0 → uses_clash a b ≡ true
     by true m s = uses_of_granule a b s (or_left _ _ (ap is_whole m))
-    by false m s = uses_of_row a b s (or_left _ _ (ap is_write m))
+    by false m s = uses_of_row a b s (or_left _ _ (ap may_change m))

@@ -18,11 +18,11 @@ same_key a b = pointwise nat_eq a b
 abbrev pub same_granule : Bytes → Bytes → Bool
 same_granule a b = same_key (granule_of a) (granule_of b)
 
--- whether the mode allows more than to read
-abbrev pub is_write : Mode → Bool
-is_write Read = false
-is_write Write = true
-is_write Whole = true
+-- whether a use in this mode may change the row: its value, or its home by a move
+abbrev pub may_change : Mode → Bool
+may_change Read = false
+may_change Write = true
+may_change Whole = true
 
 -- whether the mode takes all rows of the key's granule
 abbrev pub is_whole : Mode → Bool
@@ -30,9 +30,9 @@ is_whole Read = false
 is_whole Write = false
 is_whole Whole = true
 
--- two uses of rows are of one row, and at least one of them does more than read it
+-- two uses of rows are of one row, and at least one of them may change it
 abbrev pub rows_clash : Bytes × Mode → Bytes × Mode → Bool
-rows_clash a b = same_key a.0 b.0 && (is_write a.1 || is_write b.1)
+rows_clash a b = same_key a.0 b.0 && (may_change a.1 || may_change b.1)
 
 -- two uses of rows are of one granule, and at least one of them takes it as a whole
 abbrev pub granules_clash : Bytes × Mode → Bytes × Mode → Bool

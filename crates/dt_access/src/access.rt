@@ -1,5 +1,5 @@
 ghost use Rattle.std.specs.Prelude.{◌≡◌, IfOk};
-ghost use Rattle.dt_access.specs.Clash.{is_whole, is_write};
+ghost use Rattle.dt_access.specs.Clash.{is_whole, may_change};
 
 use crate::copies::TryCopy;
 use dt_text::{Key, NoMemory};
@@ -15,9 +15,9 @@ pub enum Mode {
 }
 
 impl Mode {
-    /// Whether the mode allows more than to read the row. Takes no memory.
-    pub fn is_write(&self) -> bool
-        ensures { result ≡ is_write self.now }
+    /// Whether a use in this mode may change the row: its value, or its home by a move. Takes no memory.
+    pub fn may_change(&self) -> bool
+        ensures { result ≡ may_change self.now }
     {
         !matches!(self, Mode::Read)
     }

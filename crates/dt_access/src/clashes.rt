@@ -33,7 +33,7 @@ fn meet_on_row(mut left: &[(Key, Mode)], mut right: &[(Key, Mode)]) -> bool
             Ordering::Less => left = left_rest,
             Ordering::Greater => right = right_rest,
             Ordering::Equal => {
-                if left_mode.is_write() || right_mode.is_write() {
+                if left_mode.may_change() || right_mode.may_change() {
                     return true;
                 }
                 left = left_rest;

@@ -20,7 +20,7 @@ use Rattle.dt_txn.specs.Execution.{one}
 use Rattle.dt_txn.specs.Transaction.{uses_of, annotated, annotate, targets_of, homes_of, BodyFits, IsValid}
 use Rattle.dt_txn.specs.Serial.{after, table_after}
 use Rattle.dt_serial.specs.Evidence.{MadeMove}
-use Rattle.dt_table.proofs.Callers.{homes-apply, moves_of-opening, regions-apply, version-apply}
+use Rattle.dt_table.proofs.Callers.{homes-apply, moves_of-opening, regions-apply, version-apply, home_after-below}
 use Rattle.dt_serial.proofs.Callers.{move_made}
 use Rattle.dt_cluster.specs.declared.Cluster.{Cluster}
 use Rattle.dt_cluster.specs.Valid.{IsValidCluster}
@@ -72,10 +72,6 @@ looked_up P test (e ∷ es) d a p = go (test e.0) (looked_up P test es d a.1 p)
 
 pub opening_home_below : (cluster : Cluster) → IsValidCluster cluster → (key : Bytes) → opening_home cluster.regions cluster.homes key < cluster.regions
 opening_home_below cluster valid key = looked_up (λ h. h < cluster.regions) (same_key key) cluster.homes (slice_index key 0 % cluster.regions) valid.homes (let some : 1 ≤ cluster.regions = valid.some in omega arith)
-
-pub home_after_below : (regions home : ℕ) (moves : List Moved) → home < regions → AllIn (λ m. m.target < regions) moves → home_after home moves < regions
-home_after_below regions home [] lt a = lt
-home_after_below regions home (m ∷ moves) lt a = home_after_below regions m.target moves a.0 a.1
 
 -- the version, the regions and the listed homes of a table stay
 
@@ -129,7 +125,7 @@ pub home_below : (cluster : Cluster) → IsValidCluster cluster → (txns : List
     → home_of (table_after cluster.procs txns (opening_table cluster)) key < cluster.regions
 home_below cluster valid txns a key =
     subst (λ h. home_after h (moves_of t key) < cluster.regions) (sym (opening_home_stays cluster txns t key refl))
-    (home_after_below cluster.regions (opening_home cluster.regions cluster.homes (unit_of cluster.version key)) (moves_of t key)
+    (home_after-below cluster.regions (opening_home cluster.regions cluster.homes (unit_of cluster.version key)) (moves_of t key)
     (opening_home_below cluster valid (unit_of cluster.version key)) (targets_below cluster txns a key))
   where
     t : Table

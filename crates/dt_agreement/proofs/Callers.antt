@@ -2,7 +2,7 @@
 -- passed on, then the laws of legal lists, then small facts of one world that keeps the invariant, by what they speak of:
 -- events, logs, ids, views, sessions.
 pub use Rattle.dt_agreement.proofs.Submissions.{IsKnown, find_has, from_region, numbered, home_region, submission_is_found, txn_there, txn_id}
-pub use Rattle.dt_agreement.proofs.Views.{fronts_at, fronts_grown, log_is, logs_length, received_log, received_own}
+pub use Rattle.dt_agreement.proofs.Views.{log_is, logs_length, received_log, received_own}
 pub use Rattle.dt_agreement.proofs.Logs.{part_homed}
 pub use Rattle.dt_agreement.proofs.Sessions.{key_of_test, test_of_key, session_of_test, session_found}
 pub use Rattle.dt_agreement.proofs.Runs.{world_from_append, world_after_more, legal_append, legal_more, append_legal, more_legal, with_executed, ordered, order_of_more}

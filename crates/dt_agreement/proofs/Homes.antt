@@ -3,7 +3,7 @@ use Rattle.std.proofs.Common.{◌≡◌, ◌<◌, ◌⊎◌, ℕ, true, false, l
 use Rattle.std.proofs.lemmas.Bool.{cases_Bool}
 use Rattle.std.proofs.lemmas.Bool.Decides.{nat_tests}
 use Rattle.std.proofs.lemmas.List.{length-set, get_or-set_same, get_or-set_other}
-use Rattle.dt_lists.specs.Lists.{AllIn, Has, EachThen, Distinct}
+use Rattle.dt_lists.specs.Lists.{Has, EachThen, Distinct}
 use Rattle.dt_lists.proofs.Callers.{any_map, all_map, all_get, each_map}
 use Rattle.dt_lists.proofs.Callers.{any_of_test, test_of_any}
 use Rattle.dt_access.specs.declared.TxnId.{TxnId}
@@ -11,6 +11,7 @@ use Rattle.dt_txn.specs.declared.Txn.{Txn}
 use Rattle.dt_txn.specs.Transaction.{with_number, set_of, targets_of, homes_of}
 use Rattle.dt_txn.specs.Asking.{ask}
 use Rattle.dt_agreement.specs.Invariant.{has_home}
+use Rattle.dt_txn.proofs.Callers.{with_number_all}
 
 -- the set with one more number
 
@@ -48,15 +49,6 @@ has_set_of [] x h = h
 has_set_of (n ∷ ns) x (inl e) = has_with_number n (set_of ns) x (inl e)
 has_set_of (n ∷ ns) x (inr k) = has_with_number n (set_of ns) x (inr (has_set_of ns x k))
 
-all_with_number : (P : ℕ → Type 0) (n : ℕ) (ms : List ℕ) → P n → AllIn P ms → AllIn P (with_number n ms)
-all_with_number P n [] p a = (p, tt)
-all_with_number P n (m ∷ ms) p a = go (cases_Bool (ltb n m)) (cases_Bool (eqb n m)) (all_with_number P n ms p a.1)
-  where
-    go : (ltb n m ≡ true) ⊎ (ltb n m ≡ false) → (eqb n m ≡ true) ⊎ (eqb n m ≡ false) → AllIn P (with_number n ms) → AllIn P (with_number n (m ∷ ms))
-    go (inl q) b r = rw q (p, a)
-    go (inr q) (inl s) r = rw (q, s) a
-    go (inr q) (inr s) r = rw (q, s) (a.0, r)
-
 ascending_with : (n : ℕ) (ms : List ℕ) → EachThen (λ x y. x < y) ms → EachThen (λ x y. x < y) (with_number n ms)
 ascending_with n [] a = (tt, tt)
 ascending_with n (m ∷ ms) a = go (cases_Bool (ltb n m)) (cases_Bool (eqb n m)) (ascending_with n ms a.1)
@@ -70,7 +62,7 @@ ascending_with n (m ∷ ms) a = go (cases_Bool (ltb n m)) (cases_Bool (eqb n m))
     go : (ltb n m ≡ true) ⊎ (ltb n m ≡ false) → (eqb n m ≡ true) ⊎ (eqb n m ≡ false) → EachThen (λ x y. x < y) (with_number n ms) → EachThen (λ x y. x < y) (with_number n (m ∷ ms))
     go (inl q) b r = let lt : n < m = below q in rw q ((lt, all_map _ _ ms (λ y (k : m < y). let s : n < y = omega arith in s) a.0), a)
     go (inr q) (inl s) r = rw (q, s) a
-    go (inr q) (inr s) r = rw (q, s) (all_with_number (λ y. m < y) n ms (above q s) a.0, r)
+    go (inr q) (inr s) r = rw (q, s) (with_number_all (λ y. m < y) n ms (above q s) a.0, r)
 
 pub set_ascending : (ns : List ℕ) → EachThen (λ x y. x < y) (set_of ns)
 set_ascending [] = tt

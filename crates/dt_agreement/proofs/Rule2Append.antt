@@ -27,7 +27,8 @@ use Rattle.dt_agreement.proofs.Submissions.{Keeps, txns_same, txn_same, txn_foun
 use Rattle.dt_agreement.proofs.Requests.{request_has}
 use Rattle.dt_agreement.proofs.Homes.{home_of_test}
 use Rattle.dt_agreement.proofs.Logs.{logs_well_formed}
-use Rattle.dt_agreement.proofs.Views.{view_is, log_is, fronts_grown, grown_longer, received_own, received_other}
+use Rattle.dt_txn.proofs.Callers.{fronts_grown}
+use Rattle.dt_agreement.proofs.Views.{view_is, log_is, grown_longer, received_own, received_other}
 use Rattle.dt_agreement.proofs.RegionViews.{view_fronts, order_closed}
 
 -- what a request asks for: a submitted transaction of the source that has a part at the home

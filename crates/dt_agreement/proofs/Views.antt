@@ -1,25 +1,15 @@
 -- Fronts of logs as views, and the view of a region.
 use Rattle.std.proofs.Common.{◌≡◌, ◌≢◌, ◌<◌, ◌≤◌, ℕ, zero, suc, List, [], ◌∷◌, ◌++◌, length, set, take, refl, ap, ap₂, subst, ◌∙◌, arith}
 use Rattle.std.specs.Prelude.{slice_index}
-use Rattle.std.proofs.lemmas.List.{take-take, take-append-le, length-map, get_or-set_same, get_or-set_other}
+use Rattle.std.proofs.lemmas.List.{take-take, length-map, get_or-set_same, get_or-set_other}
 use Rattle.dt_lists.specs.Lists.{IsFront}
 use Rattle.dt_lists.proofs.Callers.{front_refl, front_take, front_takes, front_empty, front_append, pairwise_refl}
 use Rattle.dt_lists.proofs.Callers.{get_of_map}
 use Rattle.dt_access.specs.declared.Part.{Part}
 use Rattle.dt_sched.specs.Views.{View, log_at, IsLonger}
 use Rattle.dt_txn.specs.Replica.{fronts}
+use Rattle.dt_txn.proofs.Callers.{fronts_at}
 use Rattle.dt_session.specs.World.{World, no_node, node_at, logs_of, log_of, received_of, received_lengths, received_logs, view_at}
-
-pub fronts_at : (lengths : List ℕ) (view : View) (home : ℕ) → log_at (fronts lengths view) home ≡ take (slice_index lengths home) (log_at view home)
-fronts_at lengths [] home = take_none (slice_index lengths home)
-  where
-    take_none : (n : ℕ) → ◌≡◌ {A = List Part} [] (take n [])
-    take_none zero = refl
-    take_none (suc n) = refl
-fronts_at [] (log ∷ logs) zero = refl
-fronts_at [] (log ∷ logs) (suc home) = fronts_at [] logs home
-fronts_at (n ∷ lengths) (log ∷ logs) zero = refl
-fronts_at (n ∷ lengths) (log ∷ logs) (suc home) = fronts_at lengths logs home
 
 -- fronts of fronts that are no shorter
 pub fronts_within : (short long : List ℕ) (view : View) → ((home : ℕ) → home < length view → slice_index short home ≤ slice_index long home) → fronts short (fronts long view) ≡ fronts short view
@@ -40,14 +30,6 @@ fronts_more [] [] (log ∷ logs) le = (front_refl [], fronts_more [] [] logs (λ
 fronts_more [] (m ∷ long) (log ∷ logs) le = (front_empty (take m log), fronts_more [] long logs (λ home lt. le (suc home) (omega arith)))
 fronts_more (n ∷ short) [] (log ∷ logs) le = (front_takes n 0 log (le zero (omega arith)), fronts_more short [] logs (λ home lt. le (suc home) (omega arith)))
 fronts_more (n ∷ short) (m ∷ long) (log ∷ logs) le = (front_takes n m log (le zero (omega arith)), fronts_more short long logs (λ home lt. le (suc home) (omega arith)))
-
--- a log that goes on past a front leaves the front
-pub fronts_grown : (lengths : List ℕ) (view : View) (home : ℕ) (rest : List Part) → slice_index lengths home ≤ length (log_at view home) → fronts lengths (set view home (log_at view home ++ rest)) ≡ fronts lengths view
-fronts_grown lengths [] home rest le = refl
-fronts_grown [] (log ∷ logs) zero rest le = refl
-fronts_grown [] (log ∷ logs) (suc home) rest le = ap (λ l. [] ∷ l) (fronts_grown [] logs home rest le)
-fronts_grown (n ∷ lengths) (log ∷ logs) zero rest le = ap (λ l. l ∷ fronts lengths logs) (take-append-le n log rest le)
-fronts_grown (n ∷ lengths) (log ∷ logs) (suc home) rest le = ap (λ l. take n log ∷ l) (fronts_grown lengths logs home rest le)
 
 pub grown_longer : (view : View) (home : ℕ) (rest : List Part) → IsLonger view (set view home (log_at view home ++ rest))
 grown_longer [] home rest = tt

@@ -32,6 +32,7 @@ use Rattle.dt_cluster.specs.File.{known_names, IsKnown, AreKnown, IsUnknownFault
 use Rattle.dt_cluster.specs.File.{HasHomes, IsHomesFault, HasRows, IsRowsFault, IsClusterOf, IsFaultOf, IsCluster, IsClusterFault}
 use Rattle.dt_cluster.specs.ReaderParts.{HasShortProcs}
 use Rattle.dt_cluster.specs.declared.cluster.Cluster.{Cluster}
+use Rattle.dt_cluster.specs.declared.numbers.Numbers.{Numbers}
 use Rattle.dt_cluster.specs.declared.error.ClusterCause.{ClusterCause}
 use Rattle.dt_cluster.specs.declared.error.ClusterCause.TheVariants as cause
 use Rattle.dt_cluster.specs.declared.error.ClusterPlace.TheVariants as place
@@ -165,7 +166,7 @@ number_or e (Some (table ms)) = inr (cause.Kind, refl)
 
 -- the numbers of a document, or the fault of the first that has one
 abbrev Numbered : Members → Type 0
-Numbered top = (regions version workers tries drop repeat : ℕ) × HasNumbers top regions version workers tries drop repeat
+Numbered top = (numbers : Numbers) × HasNumbers top numbers
 
 numbers_or : (top : Members) → Numbered top ⊎ ((fault : ClusterFault) × IsNumberFault top fault)
 numbers_or top =
@@ -173,7 +174,7 @@ numbers_or top =
   where
     by : Judged (λ e. e.name) (λ e. (n : ℕ) × HasNumber top e n) (HasBadNumber top) number_entries → Numbered top ⊎ ((fault : ClusterFault) × IsNumberFault top fault)
     by (inl (regions, (version, (workers, (tries, (drop, (repeat, none))))))) =
-        inl (regions.0, version.0, workers.0, tries.0, drop.0, repeat.0, (regions.1, version.1, workers.1, tries.1, drop.1, repeat.1))
+        inl (record { regions = regions.0; version = version.0; workers = workers.0; tries = tries.0; drop = drop.0; repeat = repeat.0 }, (regions.1, version.1, workers.1, tries.1, drop.1, repeat.1))
     by (inr (name, why, first)) = inr (record { place = place.Entry name; cause = why }, (name, why, refl, first))
 
 -- ---- procedures
@@ -295,26 +296,26 @@ abbrev ClusterOr : Members → Type 0
 ClusterOr top = ((cluster : Cluster) × IsClusterOf top cluster) ⊎ ((fault : ClusterFault) × IsFaultOf top fault)
 
 last_steps : (top : Members) → AreKnown top → (numbers : Numbered top) → ProcsOr (get_member (codes "procs") top)
-    → HomesOr top numbers.1 numbers.0 → RowsOr top → ClusterOr top
-last_steps top known numbers (inr (fault, is)) homes rows = inr (fault, inr (known, inr (numbers.0, numbers.1, numbers.2, numbers.3, numbers.4, numbers.5, numbers.6, inl is)))
+    → HomesOr top numbers.0.version numbers.0.regions → RowsOr top → ClusterOr top
+last_steps top known numbers (inr (fault, is)) homes rows = inr (fault, inr (known, inr (numbers.0, numbers.1, inl is)))
 last_steps top known numbers (inl procs) (inr (fault, is)) rows =
-    inr (fault, inr (known, inr (numbers.0, numbers.1, numbers.2, numbers.3, numbers.4, numbers.5, numbers.6, inr (procs, inl is))))
+    inr (fault, inr (known, inr (numbers.0, numbers.1, inr (procs, inl is))))
 last_steps top known numbers (inl procs) (inl homes) (inr (fault, is)) =
-    inr (fault, inr (known, inr (numbers.0, numbers.1, numbers.2, numbers.3, numbers.4, numbers.5, numbers.6, inr (procs, inr (homes, is)))))
+    inr (fault, inr (known, inr (numbers.0, numbers.1, inr (procs, inr (homes, is)))))
 last_steps top known numbers (inl procs) (inl homes) (inl rows) =
     inl (
       record {
-        version = numbers.1;
-        regions = numbers.0;
-        workers = numbers.2;
-        tries = numbers.3;
-        drop = numbers.4;
-        repeat = numbers.5;
+        version = numbers.0.version;
+        regions = numbers.0.regions;
+        workers = numbers.0.workers;
+        tries = numbers.0.tries;
+        drop = numbers.0.drop;
+        repeat = numbers.0.repeat;
         procs = procs.0;
         homes = homes.0;
         rows = rows.0;
       },
-      record { known = known; numbers = numbers.6; procs = procs.1; homes = homes.1; rows = rows.1 },
+      record { known = known; numbers = numbers.1; procs = procs.1; homes = homes.1; rows = rows.1 },
     )
 
 every_document : (n : ℕ) (top : Members) → AreInOrder n top → ClusterOr top
@@ -324,7 +325,7 @@ every_document n top order = by (names_or n top order) (numbers_or top)
     by (inr (fault, is)) numbers = inr (fault, inl is)
     by (inl known) (inr (fault, is)) = inr (fault, inr (known, inl is))
     by (inl known) (inl numbers) =
-        last_steps top known numbers (procs_or (get_member (codes "procs") top)) (homes_or n numbers.1 numbers.0 top order) (rows_or n top order)
+        last_steps top known numbers (procs_or (get_member (codes "procs") top)) (homes_or n numbers.0.version numbers.0.regions top order) (rows_or n top order)
 
 -- every file is a cluster or has a fault
 pub every_file : (file : Bytes) → ((cluster : Cluster) × IsCluster file cluster) ⊎ ((fault : ClusterFault) × IsClusterFault file fault)

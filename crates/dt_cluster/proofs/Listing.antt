@@ -1,16 +1,14 @@
 -- The entries of a map as those of the table that it stands for, and what the accessors of values find.
 use Rattle.std.proofs.lemmas.Bool.{false≢true}
-use Rattle.std.proofs.Common.{◌≡◌, ◌↔◌, ℕ, Bool, true, false, cond, not, List, [], ◌∷◌, ◌++◌, map}
-use Rattle.std.proofs.Common.{Some, None, String, Global, Less, string_bytes, nat_cmp, refl, ap}
+use Rattle.std.proofs.Common.{◌≡◌, ◌↔◌, Bool, true, false, List, [], ◌∷◌, map}
+use Rattle.std.proofs.Common.{String, Global, Less, string_bytes, nat_cmp, refl, ap}
 use Rattle.std.proofs.Common.{IsTrue, Result, Ok, Err, IfErr}
 use Rattle.std.specs.Result.{IsErrAnd}
 use Rattle.std.specs.Cmp.Lexicographic.{slice_cmp}
-use Rattle.std.specs.List.{AllByRecursion, list_all}
+use Rattle.std.specs.List.{AllByRecursion}
 use Rattle.std.specs.List.Sorted.{IsStrictlySortedBy}
 use Rattle.std.specs.Map.{keys_of}
 use Rattle.std.specs.String.{string_cmp}
-use Rattle.dt_text.specs.Texts.{first_outside}
-use Rattle.dt_text.proofs.Callers.{outside_where}
 use Rattle.toml.specs.View.{view, members_view}
 use Rattle.toml.specs.declared.value.Value.{Value}
 use Rattle.dt_cluster.specs.Document.{Entry, entries_of, AreEntries}
@@ -43,15 +41,6 @@ listed_ascend (e ∷ es) h = (listed_below e.0 es h.0, listed_ascend es h.1)
 pub listed_are : (es : List Kept) → IsStrictlySortedBy string_cmp (keys_of es) → AreEntries (members_view es) (listed es)
 listed_are es ordered = record { ascending = listed_ascend es ordered; same = listed_same es }
 
-refused : (some all : Bool) (n place : ℕ) → some ≡ not all → cond some (Some n) None ≡ Some place → all ≡ true → ⊥
-refused true true n place e found h = absurd cc
-refused true false n place e found h = absurd cc
-refused false all n place e found h = absurd cc
-
--- a byte that is outside refuses a list of bytes
-pub byte_outside : (allowed : ℕ → Bool) (bs : List ℕ) (place : ℕ) → first_outside allowed bs ≡ Some place → list_all allowed bs ≡ true → ⊥
-byte_outside allowed bs place found all = refused _ _ _ place (outside_where allowed bs) found all
-
 -- what is told is told of more
 pub tells_more : (P Q : ClusterFault → Type 0) → ((f : ClusterFault) → P f → Q f) → (e : ClusterError) → TellsFault P e → TellsFault Q e
 tells_more P Q more (Fault f) h = more f h
@@ -65,12 +54,3 @@ refused_by false P same e h = absurd (false≢true (same.1 h))
 pub err_passed : {A : Type 0} (P : ClusterError → Type 0) (r : Result A ClusterError) (e : ClusterError) → IsErrAnd r (λ y. y ≡ e) → P e → IfErr r P
 err_passed P (Ok x) e h p = tt
 err_passed P (Err y) e h p = rw h p
-
--- one more item before the rest
-pub one_more : {A : Type 0} (xs : List A) (x : A) (rest : List A) → (xs ++ x ∷ []) ++ rest ≡ xs ++ x ∷ rest
-one_more [] x rest = refl
-one_more (y ∷ xs) x rest = ap (λ ys. y ∷ ys) (one_more xs x rest)
-
-pub nothing_more : {A : Type 0} (xs : List A) → xs ++ [] ≡ xs
-nothing_more [] = refl
-nothing_more (y ∷ xs) = ap (λ ys. y ∷ ys) (nothing_more xs)

@@ -15,9 +15,10 @@ use Rattle.dt_text.specs.Texts.{Bytes}
 use Rattle.dt_cluster.specs.Document.{Entry, IsDocument, AreEntries, AreEntriesAt, IsNoTable, IsFirstFaulty}
 use Rattle.dt_cluster.specs.Numbers.{NumberEntry, GivesNumber, IsAtFault, HasNumber, HasBadNumber, regions_entry, version_entry, workers_entry, tries_entry, drop_entry, repeat_entry}
 use Rattle.dt_cluster.specs.Rows.{IsHome, IsNoHome, IsBadHome, IsValue, IsNoValue, IsRow, IsBadRow}
-use Rattle.dt_cluster.specs.File.{IsKnown, AreKnown, IsUnknownFault, HasNumbers, number_entries, IsNumberFault, GivesProcs, IsToldAs, IsProcsFaultAt, HasProcs}
+use Rattle.dt_cluster.specs.File.{IsKnown, AreKnown, IsUnknownFault, numbers_of, HasNumbers, number_entries, IsNumberFault, GivesProcs, IsToldAs, IsProcsFaultAt, HasProcs}
 use Rattle.dt_cluster.specs.File.{IsProcsFault, HasHomes, IsHomesFault, HasRows, IsRowsFault, IsClusterOf, IsFaultOf, IsCluster, IsClusterFault}
 use Rattle.dt_cluster.specs.declared.cluster.Cluster.{Cluster}
+use Rattle.dt_cluster.specs.declared.numbers.Numbers.{Numbers}
 use Rattle.dt_cluster.specs.declared.error.ClusterCause.{ClusterCause}
 use Rattle.dt_cluster.specs.declared.error.ClusterCause.TheVariants as cause
 use Rattle.dt_cluster.specs.declared.error.ClusterPlace.TheVariants as place
@@ -269,10 +270,10 @@ FineNumber top e = (n : ℕ) × HasNumber top e n
 number_apart : (top : Members) (e : NumberEntry) (c : ClusterCause) → FineNumber top e → HasBadNumber top e c → ⊥
 number_apart top e c fine bad = number_or_fault e (get_member e.name top) fine.0 c fine.1 bad
 
-numbers_or_fault : (top : Members) (r v w t d p : ℕ) (f : ClusterFault) → HasNumbers top r v w t d p → IsNumberFault top f → ⊥
-numbers_or_fault top r v w t d p f has (name, why, is, bad) =
+numbers_or_fault : (top : Members) (n : Numbers) (f : ClusterFault) → HasNumbers top n → IsNumberFault top f → ⊥
+numbers_or_fault top n f has (name, why, is, bad) =
     fine_or_bad (λ e. e.name) (FineNumber top) (HasBadNumber top) (number_apart top) number_entries name why
-    ((r, has.0), ((v, has.1), ((w, has.2), ((t, has.3), ((d, has.4), ((p, has.5), tt)))))) bad
+    ((n.regions, has.0), ((n.version, has.1), ((n.workers, has.2), ((n.tries, has.3), ((n.drop, has.4), ((n.repeat, has.5), tt)))))) bad
 
 one_numbers_fault : (top : Members) (f g : ClusterFault) → IsNumberFault top f → IsNumberFault top g → f ≡ g
 one_numbers_fault top f g (m, why, is, bad) (n, why', is', bad') =
@@ -341,13 +342,13 @@ one_of_document top c d is is' =
 
 cluster_or_fault : (top : Members) (c : Cluster) (f : ClusterFault) → IsClusterOf top c → IsFaultOf top f → ⊥
 cluster_or_fault top c f is (inl unknown) = known_or_fault top f is.known unknown
-cluster_or_fault top c f is (inr (known, inl number)) = numbers_or_fault top c.regions c.version c.workers c.tries c.drop c.repeat f is.numbers number
-cluster_or_fault top c f is (inr (known, inr (r, v, w, t, d, p, has, inl procs))) = procs_or_fault (get_member (codes "procs") top) c.procs f is.procs procs
-cluster_or_fault top c f is (inr (known, inr (r, v, w, t, d, p, has, inr (ps, inl homes)))) =
+cluster_or_fault top c f is (inr (known, inl number)) = numbers_or_fault top (numbers_of c) f is.numbers number
+cluster_or_fault top c f is (inr (known, inr (n, has, inl procs))) = procs_or_fault (get_member (codes "procs") top) c.procs f is.procs procs
+cluster_or_fault top c f is (inr (known, inr (n, has, inr (ps, inl homes)))) =
     homes_or_fault top c.version c.regions c.homes f is.homes
-    (subst (λ n. IsHomesFault top n c.regions f) (one_number version_entry (get_member version_entry.name top) v c.version has.1 is.numbers.1)
-    (subst (λ n. IsHomesFault top v n f) (one_number regions_entry (get_member regions_entry.name top) r c.regions has.0 is.numbers.0) homes))
-cluster_or_fault top c f is (inr (known, inr (r, v, w, t, d, p, has, inr (ps, inr (hs, rows))))) = rows_or_fault top c.rows f is.rows rows
+    (subst (λ v. IsHomesFault top v c.regions f) (one_number version_entry (get_member version_entry.name top) n.version c.version has.1 is.numbers.1)
+    (subst (λ r. IsHomesFault top n.version r f) (one_number regions_entry (get_member regions_entry.name top) n.regions c.regions has.0 is.numbers.0) homes))
+cluster_or_fault top c f is (inr (known, inr (n, has, inr (ps, inr (hs, rows))))) = rows_or_fault top c.rows f is.rows rows
 
 -- faults that are told in two steps are one, where those of each step are and the steps are apart
 staged : (Bad Later : ClusterFault → Type 0) (Fine : Type 0) → ((f g : ClusterFault) → Bad f → Bad g → f ≡ g) → ((f : ClusterFault) → Fine → Bad f → ⊥)
@@ -367,7 +368,7 @@ AfterNumbers top version regions fault =
 
 abbrev AfterKnown : Members → ClusterFault → Type 0
 AfterKnown top fault =
-    IsNumberFault top fault ⊎ ((regions version workers tries drop repeat : ℕ) × HasNumbers top regions version workers tries drop repeat × AfterNumbers top version regions fault)
+    IsNumberFault top fault ⊎ ((numbers : Numbers) × HasNumbers top numbers × AfterNumbers top numbers.version numbers.regions fault)
 
 one_after_procs : (top : Members) (version regions : ℕ) (f g : ClusterFault) → AfterProcs top version regions f → AfterProcs top version regions g → f ≡ g
 one_after_procs top version regions =
@@ -381,12 +382,12 @@ one_after_numbers top version regions =
 
 one_after_known : (top : Members) (f g : ClusterFault) → AfterKnown top f → AfterKnown top g → f ≡ g
 one_after_known top f g (inl h) (inl k) = one_numbers_fault top f g h k
-one_after_known top f g (inl h) (inr (r, v, w, t, d, p, has, later)) = absurd (numbers_or_fault top r v w t d p f has h)
-one_after_known top f g (inr (r, v, w, t, d, p, has, later)) (inl k) = absurd (numbers_or_fault top r v w t d p g has k)
-one_after_known top f g (inr (r, v, w, t, d, p, has, later)) (inr (r', v', w', t', d', p', has', later')) =
-    one_after_numbers top v r f g later
-    (subst (λ n. AfterNumbers top n r g) (one_number version_entry (get_member version_entry.name top) v' v has'.1 has.1)
-    (subst (λ n. AfterNumbers top v' n g) (one_number regions_entry (get_member regions_entry.name top) r' r has'.0 has.0) later'))
+one_after_known top f g (inl h) (inr (n, has, later)) = absurd (numbers_or_fault top n f has h)
+one_after_known top f g (inr (n, has, later)) (inl k) = absurd (numbers_or_fault top n g has k)
+one_after_known top f g (inr (n, has, later)) (inr (m, has', later')) =
+    one_after_numbers top n.version n.regions f g later
+    (subst (λ v. AfterNumbers top v n.regions g) (one_number version_entry (get_member version_entry.name top) m.version n.version has'.1 has.1)
+    (subst (λ r. AfterNumbers top m.version r g) (one_number regions_entry (get_member regions_entry.name top) m.regions n.regions has'.0 has.0) later'))
 
 one_fault_of : (top : Members) (f g : ClusterFault) → IsFaultOf top f → IsFaultOf top g → f ≡ g
 one_fault_of top = staged (IsUnknownFault top) (AfterKnown top) (AreKnown top) (one_unknown_fault top) (known_or_fault top) (one_after_known top)

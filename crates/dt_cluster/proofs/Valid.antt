@@ -18,7 +18,7 @@ use Rattle.dt_text.specs.Texts.{Bytes}
 use Rattle.dt_cluster.specs.Document.{Entry, AreEntriesAt}
 use Rattle.dt_cluster.specs.Numbers.{NumberEntry, GivesNumber, within, regions_entry, version_entry, workers_entry, tries_entry, drop_entry, repeat_entry}
 use Rattle.dt_cluster.specs.Rows.{IsValue}
-use Rattle.dt_cluster.specs.File.{HasNumbers, HasHomes, HasRows}
+use Rattle.dt_cluster.specs.File.{numbers_of, HasNumbers, HasHomes, HasRows}
 use Rattle.dt_cluster.specs.Valid.{IsRowValue, IsDrop, IsValidCluster}
 use Rattle.dt_cluster.specs.declared.cluster.Cluster.{Cluster}
 
@@ -121,7 +121,7 @@ is_row_value (array ds) v h = absurd h
 is_row_value (table ms) v h = absurd h
 
 -- what a file gives can be
-pub given_valid : (top : Members) (cluster : Cluster) → HasNumbers top cluster.regions cluster.version cluster.workers cluster.tries cluster.drop cluster.repeat
+pub given_valid : (top : Members) (cluster : Cluster) → HasNumbers top (numbers_of cluster)
     → AreProcs cluster.procs → HasHomes top cluster.version cluster.regions cluster.homes → HasRows top cluster.rows → IsValidCluster cluster
 given_valid top cluster numbers procs homes rows =
     let r = regions_within _ cluster.regions numbers.0 in

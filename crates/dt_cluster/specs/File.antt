@@ -16,6 +16,7 @@ use Rattle.dt_cluster.specs.Document.{Entry, IsDocument, AreEntries, AreEntriesA
 use Rattle.dt_cluster.specs.Numbers.{NumberEntry, regions_entry, version_entry, workers_entry, tries_entry, drop_entry, repeat_entry, HasNumber, HasBadNumber}
 use Rattle.dt_cluster.specs.Rows.{IsHome, IsBadHome, IsRow, IsBadRow}
 use Rattle.dt_cluster.specs.declared.cluster.Cluster.{Cluster}
+use Rattle.dt_cluster.specs.declared.numbers.Numbers.{Numbers}
 use Rattle.dt_cluster.specs.declared.error.ClusterCause.{ClusterCause}
 use Rattle.dt_cluster.specs.declared.error.ClusterCause.TheVariants as cause
 use Rattle.dt_cluster.specs.declared.error.ClusterPlace.TheVariants as place
@@ -41,11 +42,22 @@ IsUnknownFault top fault =
     × ((entries : List Entry) × AreEntries top entries
     × IsFirstFaulty (λ e. e.0) IsKnown (λ e c. (c ≡ cause.Unknown) × ¬ (IsKnown e)) entries name cause.Unknown)
 
--- the numbers that a document gives
-abbrev pub HasNumbers : Members → ℕ → ℕ → ℕ → ℕ → ℕ → ℕ → Type 0
-HasNumbers top regions version workers tries drop repeat =
-    HasNumber top regions_entry regions × HasNumber top version_entry version × HasNumber top workers_entry workers × HasNumber top tries_entry tries
-    × HasNumber top drop_entry drop × HasNumber top repeat_entry repeat
+-- the numbers of a cluster
+abbrev pub numbers_of : Cluster → Numbers
+numbers_of cluster = record {
+  regions = cluster.regions;
+  version = cluster.version;
+  workers = cluster.workers;
+  tries = cluster.tries;
+  drop = cluster.drop;
+  repeat = cluster.repeat;
+}
+
+-- the numbers that a document gives, each by the entry of its name
+abbrev pub HasNumbers : Members → Numbers → Type 0
+HasNumbers top numbers =
+    HasNumber top regions_entry numbers.regions × HasNumber top version_entry numbers.version × HasNumber top workers_entry numbers.workers
+    × HasNumber top tries_entry numbers.tries × HasNumber top drop_entry numbers.drop × HasNumber top repeat_entry numbers.repeat
 
 -- the entries that hold numbers, in the order in which their faults are told
 abbrev pub number_entries : List NumberEntry
@@ -115,7 +127,7 @@ IsRowsFault top fault =
 -- a document of TOML is this cluster: its names are known, and each entry gives what the cluster has
 pub record IsClusterOf (top : Members) (cluster : Cluster) : Type 0 where
   pub known : AreKnown top
-  pub numbers : HasNumbers top cluster.regions cluster.version cluster.workers cluster.tries cluster.drop cluster.repeat
+  pub numbers : HasNumbers top (numbers_of cluster)
   pub procs : HasProcs top cluster.procs
   pub homes : HasHomes top cluster.version cluster.regions cluster.homes
   pub rows : HasRows top cluster.rows
@@ -126,9 +138,9 @@ abbrev pub IsFaultOf : Members → ClusterFault → Type 0
 IsFaultOf top fault =
     IsUnknownFault top fault
     ⊎ (AreKnown top × (IsNumberFault top fault
-    ⊎ ((regions version workers tries drop repeat : ℕ) × HasNumbers top regions version workers tries drop repeat × (IsProcsFault top fault
-    ⊎ (((procs : List ProcTree) × HasProcs top procs) × (IsHomesFault top version regions fault
-    ⊎ (((homes : List (Bytes × ℕ)) × HasHomes top version regions homes) × IsRowsFault top fault)))))))
+    ⊎ ((numbers : Numbers) × HasNumbers top numbers × (IsProcsFault top fault
+    ⊎ (((procs : List ProcTree) × HasProcs top procs) × (IsHomesFault top numbers.version numbers.regions fault
+    ⊎ (((homes : List (Bytes × ℕ)) × HasHomes top numbers.version numbers.regions homes) × IsRowsFault top fault)))))))
 
 -- the bytes are a cluster file of this cluster
 abbrev pub IsCluster : Bytes → Cluster → Type 0

@@ -22,7 +22,7 @@ pub(crate) struct Numbers {
 
 /// Reads the numbers of a cluster, in the order in which their faults are told.
 pub(crate) fn read_numbers(alloc: Global, top: &Table) -> Result<Numbers, ClusterError>
-    ensures ok { IfOk result (λ n. HasNumbers (table_view top.now) n.regions n.version n.workers n.tries n.drop n.repeat) }
+    ensures ok { IfOk result (HasNumbers (table_view top.now)) }
     ensures fault { IfErr result (TellsFault (IsNumberFault (table_view top.now))) }
 {
     Ok(Numbers {

@@ -61,9 +61,25 @@ pub fn run(alloc: Global, body: &Proc, args: &[Value], reads: &Reads) -> Result<
     requires reads { map (λ read. read.0) reads.now ≡ map (λ used. used.0) (keys_of body.now args.now) }
     ensures { IfOk result (λ finish. finish ≡ meaning body.now args.now reads.now) }
 {
+    run_owned(alloc, body, args, reads.copy(alloc)?)
+}
+
+/// Runs a call, as `run` does, on rows that are handed over, so that none of their values is copied before the first
+/// statement.
+pub fn run_owned(
+    alloc: Global,
+    body: &Proc,
+    args: &[Value],
+    reads: Reads,
+) -> Result<Finish, NoMemory>
+    requires fits { Fits body.now args.now }
+    requires keys { HasKeys body.now args.now }
+    requires reads { map (λ read. read.0) reads ≡ map (λ used. used.0) (keys_of body.now args.now) }
+    ensures { IfOk result (λ finish. finish ≡ meaning body.now args.now reads) }
+{
     let mut frame = Frame {
         variables: variables(alloc, args)?,
-        rows: rows(alloc, body, args, reads.as_slice())?,
+        rows: rows(alloc, body, args, reads)?,
         given: Values::new(alloc),
     };
     match frame.block(alloc, body.body()) {
@@ -98,35 +114,32 @@ fn datum_of(alloc: Global, value: &Value) -> Result<Datum, NoMemory>
 }
 
 /// The rows of a run before its first statement.
-fn rows(
-    alloc: Global,
-    body: &Proc,
-    args: &[Value],
-    reads: &[(Key, Option<Value>)],
-) -> Result<Rows, NoMemory>
+fn rows(alloc: Global, body: &Proc, args: &[Value], reads: Reads) -> Result<Rows, NoMemory>
     requires fits { Fits body.now args.now }
-    requires reads { map (λ read. read.0) reads.now ≡ map (λ used. used.0) (keys_of body.now args.now) }
-    ensures { IfOk result (λ rows. rows ≡ (names_of body.now args.now, map unchanged reads.now)) }
+    requires reads { map (λ read. read.0) reads ≡ map (λ used. used.0) (keys_of body.now args.now) }
+    ensures { IfOk result (λ rows. rows ≡ (names_of body.now args.now, map unchanged reads)) }
 {
     let declarations = body.keys();
-    let places = places(alloc, declarations, args, reads)?;
+    let places = places(alloc, declarations, args, reads.as_slice())?;
     let items = unchanged_rows(alloc, reads)?;
     Ok(Rows::new(items, places))
 }
 
 /// The rows as they are read.
-fn unchanged_rows(alloc: Global, reads: &[(Key, Option<Value>)]) -> Result<Vec<Row>, NoMemory>
-    ensures { IfOk result (λ rows. rows.items ≡ map unchanged reads.now) }
+fn unchanged_rows(alloc: Global, reads: Reads) -> Result<Vec<Row>, NoMemory>
+    ensures { IfOk result (λ rows. rows.items ≡ map unchanged reads) }
 {
-    let mut rows = Vec::new(alloc);
-    for (key, value) in reads {
-        rows.push(Row {
-            key: key.copy(alloc)?,
-            value: value.copy(alloc)?,
-            changed: false,
-        })?;
-    }
-    Ok(rows)
+    Ok(
+        reads
+            .into_vec()
+            .into_iter()
+            .map(|(key, value)| Row {
+                key,
+                value,
+                changed: false,
+            })
+            .collect(alloc)?,
+    )
 }
 
 /// For each declaration the place of its key among the reads.

@@ -16,7 +16,7 @@ mod rows;
 mod state;
 mod stop;
 
-pub use calls::{fits, run};
+pub use calls::{fits, run, run_owned};
 pub use finish::{Args, Cause, Finish, Reads, Values};
 pub use keys::{KeysError, keys_of};
 pub use laws::{keys_alone_count, meaning_is_by_cases, only_declared_are_written};

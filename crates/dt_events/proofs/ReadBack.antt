@@ -1,8 +1,7 @@
 -- Printed events are read back, and a line is one event.
-use Rattle.std.proofs.Common.{◌≡◌, ◌≢◌, ℕ, ◌+◌, ◌<◌, ◌^◌, Bool, true, false, cond, not, nat_eq, ◌==◌, List, [], ◌∷◌}
+use Rattle.std.proofs.Common.{◌≡◌, ◌≢◌, ℕ, ◌+◌, ◌<◌, ◌^◌, Bool, true, false, cond, not, ◌==◌, List, [], ◌∷◌}
 use Rattle.std.proofs.Common.{◌++◌, length, map, Some, refl, ap, sym, ◌∙◌, subst, arith, append_assoc, length-append}
 use Rattle.std.specs.List.{list_all, slice_range, flat_map, enumerate_from, onto_first}
-use Rattle.std.specs.Cmp.Lexicographic.{pointwise, bytes_decides}
 use Rattle.std.specs.Char.{digit_value}
 use Rattle.std.specs.Fmt.{decimal}
 use Rattle.std.specs.Str.Parse.{AllDigits}
@@ -24,7 +23,7 @@ use Rattle.dt_events.specs.declared.event.Event.{Event}
 use Rattle.dt_events.specs.declared.event.Event.TheVariants.{Submit, Append, Deliver, Insert, Resolve, Execute, Answer}
 use Rattle.dt_events.specs.Events.{region_of, kind_word, argument_words, event_words, IsWritten, IsRegion, bare_bytes, AreBareWords, IsEventLine, IsNumberedEvent, AreEvents, event_text, event_line}
 use Rattle.dt_events.specs.Laws.{LinesAreOneEvent, PrintedEventsReadBack}
-use Rattle.dt_text.proofs.Callers.{spaced, join_spaced, same_number}
+use Rattle.dt_text.proofs.Callers.{bytes_apart, spaced, join_spaced, same_number}
 use Rattle.dt_lists.proofs.Callers.{same_head, same_tail}
 use Rattle.dt_events.proofs.EventWords.{one_line}
 
@@ -143,9 +142,6 @@ text_is_event e written =
 
 -- ---- a line is one event
 
-differ : (a b : List ℕ) → pointwise nat_eq a b ≡ false → a ≢ b
-differ a b apart e = false≢true (sym apart ∙ (bytes_decides a b).1 e)
-
 same_region : (m n : ℕ) → IsRegion m → IsRegion n → decimal m ≡ decimal n → m ≡ n
 same_region m n small_m small_n e = same_number m n (omega arith) (omega arith) e
 
@@ -189,7 +185,7 @@ same_event (Answer r s) (Answer r' s') w w' same =
     let args = same_tail same in
     let region = same_region r r' w.0 w'.0 (same_head args) in
     let session : s ≡ s' = same_head (same_tail args) in λ i. Answer (region i) (session i)
-same_event d e w w' same = absurd (differ (kind_word d) (kind_word e) refl (same_head same))
+same_event d e w w' same = absurd (bytes_apart (kind_word d) (kind_word e) refl (same_head same))
 
 pub one_event : LinesAreOneEvent
 one_event line d e is_d is_e =

@@ -104,16 +104,13 @@ abbrev pub KeysMade : List Kind → Scope → ℕ → List KeyDecl × Scope → 
 KeysMade kinds scope n r =
     AllIn (FitsKey kinds) r.0 × (writes r.1 ≡ writes scope ++ map (λ d. d.write) r.0) × HasParams kinds r.1 × (length r.0 ≡ n)
 
-keys_none : (xs : List Bool) → xs ≡ xs ++ []
-keys_none xs = sym (append-nil xs)
-
 key_more : (scope : Scope) (k : KeySyntax) (d : KeyDecl) (ws after : List Bool) → d.write ≡ k.write → after ≡ writes (with_new_key scope k.name k.write) ++ ws → after ≡ writes scope ++ d.write ∷ ws
 key_more scope k d ws after mode is =
     is ∙ ap (λ v. v ++ ws) (map-append (λ (e : List ℕ × Bool). e.1) scope.keys ((k.name, k.write) ∷ []))
     ∙ append_assoc (writes scope) (k.write ∷ []) ws ∙ ap (λ w. writes scope ++ w ∷ ws) (sym mode)
 
 pub keys_make : (kinds : List Kind) (scope : Scope) (ks : List KeySyntax) → HasParams kinds scope → AllSound (flat_map key_tokens ks) → Holds (KeysMade kinds scope (length ks)) (check_keys scope ks)
-keys_make kinds scope [] own h = holds_ok (KeysMade kinds scope 0) ([], scope) (tt, keys_none (writes scope), own, refl)
+keys_make kinds scope [] own h = holds_ok (KeysMade kinds scope 0) ([], scope) (tt, sym (append-nil (writes scope)), own, refl)
 keys_make kinds scope (k ∷ ks) own h =
     holds_after (KeysMade kinds scope (length (k ∷ ks))) (check_key scope k) (λ d. after_ok (check_keys (with_new_key scope k.name k.write) ks) (λ r. Ok (d ∷ r.0, r.1)))
     (λ d e. holds_after (KeysMade kinds scope (length (k ∷ ks))) (check_keys (with_new_key scope k.name k.write) ks) (λ r. Ok (d ∷ r.0, r.1))

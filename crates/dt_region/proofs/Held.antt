@@ -19,7 +19,7 @@ use Rattle.dt_region.specs.Conditions.{HasHomesIn, Agrees}
 use Rattle.dt_region.specs.Sound.{AreCounted, IsSoundRegion, IsHeldPart}
 use Rattle.dt_access.proofs.Callers.{test_of_id, test_of_other}
 use Rattle.dt_region.proofs.Find.{found, found_or_none, find_left, find_right, find_only, counted_other}
-use Rattle.dt_region.proofs.Logs.{fronts_at}
+use Rattle.dt_txn.proofs.Callers.{fronts_at}
 
 -- a transaction that stands among some is found, or one before it that has its id
 pub find_some : (txns : List Txn) (txn : Txn) → Has txns txn → is_some (find_txn txns txn.id) ≡ true

@@ -1,7 +1,6 @@
 -- Logs and their inserted fronts: what they come to while logs grow and parts are inserted.
 use Rattle.std.proofs.Common.{◌≡◌, ◌<◌, ◌≤◌, ◌+◌, ℕ, zero, suc, List, [], ◌∷◌, ◌++◌, length, length-append, set, take, replicate, slice_get, Some, refl, sym, ap, ◌∙◌, inl, inr, arith}
 use Rattle.std.specs.Prelude.{slice_index}
-use Rattle.std.proofs.lemmas.List.{take-append-le}
 use Rattle.std.proofs.lemmas.List.Sums.{sum_by-append, sum_by-set}
 use Rattle.dt_lists.specs.Lists.{AllIn, Distinct}
 use Rattle.dt_lists.proofs.Callers.{all_get, has_map}
@@ -40,25 +39,6 @@ pub fronts_length : (lengths : List ℕ) (logs : View) → length (fronts length
 fronts_length lengths [] = refl
 fronts_length [] (log ∷ logs) = ap suc (fronts_length [] logs)
 fronts_length (n ∷ lengths) (log ∷ logs) = ap suc (fronts_length lengths logs)
-
-pub fronts_at : (lengths : List ℕ) (logs : View) (home : ℕ) → log_at (fronts lengths logs) home ≡ take (slice_index lengths home) (log_at logs home)
-fronts_at lengths [] home = take_none (slice_index lengths home)
-  where
-    take_none : (n : ℕ) → ◌≡◌ {A = List Part} [] (take n [])
-    take_none zero = refl
-    take_none (suc n) = refl
-fronts_at [] (log ∷ logs) zero = refl
-fronts_at [] (log ∷ logs) (suc home) = fronts_at [] logs home
-fronts_at (n ∷ lengths) (log ∷ logs) zero = refl
-fronts_at (n ∷ lengths) (log ∷ logs) (suc home) = fronts_at lengths logs home
-
--- a log that goes on past its front leaves the front
-pub fronts_grown : (lengths : List ℕ) (logs : View) (home : ℕ) (rest : List Part) → slice_index lengths home ≤ length (log_at logs home) → fronts lengths (set logs home (log_at logs home ++ rest)) ≡ fronts lengths logs
-fronts_grown lengths [] home rest le = refl
-fronts_grown [] (log ∷ logs) zero rest le = refl
-fronts_grown [] (log ∷ logs) (suc home) rest le = ap (λ (l : View). [] ∷ l) (fronts_grown [] logs home rest le)
-fronts_grown (n ∷ lengths) (log ∷ logs) zero rest le = ap (λ l. l ∷ fronts lengths logs) (take-append-le n log rest le)
-fronts_grown (n ∷ lengths) (log ∷ logs) (suc home) rest le = ap (λ l. take n log ∷ l) (fronts_grown lengths logs home rest le)
 
 take_next : (log : List Part) (n : ℕ) (part : Part) → slice_get log n ≡ Some part → take (suc n) log ≡ take n log ++ part ∷ []
 take_next [] n part e = cc

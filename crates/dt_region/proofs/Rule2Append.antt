@@ -25,7 +25,8 @@ use Rattle.dt_region.specs.Sound.{AreCounted, IsSoundRegion, IsHeldPart}
 use Rattle.dt_region.specs.RegionInner.{AreWell}
 use Rattle.dt_region.proofs.Seen.{IsSeenAs}
 use Rattle.dt_region.proofs.Held.{hold_keeps, hold_holds, hold_foreign, hold_homes}
-use Rattle.dt_region.proofs.Logs.{fronts_grown, log_few, parts_with}
+use Rattle.dt_txn.proofs.Callers.{fronts_grown}
+use Rattle.dt_region.proofs.Logs.{log_few, parts_with}
 
 ids_more : (log : List Part) (part : Part) → ids_of (log ++ part ∷ []) ≡ ids_of log ++ part.id ∷ []
 ids_more [] part = refl

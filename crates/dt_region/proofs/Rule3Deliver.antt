@@ -25,7 +25,8 @@ use Rattle.dt_region.specs.Sound.{IsSoundRegion, IsHeldPart, AreCounted}
 use Rattle.dt_region.specs.RegionInner.{AreWell}
 use Rattle.dt_region.proofs.Seen.{IsSeenAs}
 use Rattle.dt_region.proofs.Held.{hold_all_keeps, hold_all_holds, hold_all_foreign, hold_all_homes}
-use Rattle.dt_region.proofs.Logs.{fronts_grown, log_few}
+use Rattle.dt_txn.proofs.Callers.{fronts_grown}
+use Rattle.dt_region.proofs.Logs.{log_few}
 
 pub all_drop : {A : Type 0} (P : A → Type 0) (n : ℕ) (xs : List A) → AllIn P xs → AllIn P (drop n xs)
 all_drop {A} P n xs all = all_append_right P _ (drop n xs) (subst (λ (l : List A). AllIn P l) (sym (take-append-drop n xs)) all)

@@ -24,7 +24,8 @@ use Rattle.dt_region.specs.Sound.{IsSoundRegion, IsHeldPart}
 use Rattle.dt_region.specs.RegionInner.{AreWell}
 use Rattle.dt_region.proofs.Seen.{IsSeenAs}
 use Rattle.dt_region.proofs.Held.{held_homes, view_parts}
-use Rattle.dt_region.proofs.Logs.{fronts_length, fronts_at, fronts_insert, fronts_few, parts_with, next_fresh, all_logs, log_few}
+use Rattle.dt_txn.proofs.Callers.{fronts_at}
+use Rattle.dt_region.proofs.Logs.{fronts_length, fronts_insert, fronts_few, parts_with, next_fresh, all_logs, log_few}
 
 module _ (s : RegionState) (sound : IsSoundRegion s) (home : ℕ) (part : Part) (known : home < s.regions) (next : slice_get (log_at s.logs home) (slice_index s.here.inserted home) ≡ Some part) where
   abbrev sight : View

@@ -118,7 +118,8 @@ impl<S: Scheduler> Region<S> {
     /// How many requests of a region it has placed in its log. Takes no memory.
     pub fn taken(&self, source: u8) -> u32
         requires { source < self.now.state.regions }
-        ensures { result ≡ taken_from self.now.state.here source }
+        ensures taken { result ≡ taken_from self.now.state.here source }
+        ensures sound { IsSoundRegion self.now.state }
     {
         self.taken[source as usize]
     }
@@ -222,8 +223,9 @@ impl<S: Scheduler> Region<S> {
         ensures makes { MakesAppend self.old source number txn.now result self.new }
         ensures sound { IsSoundRegion self.new.state }
     {
-        // Names the region's number, so that the proof has what is kept of the region where memory runs out.
-        let _number = self.number;
+        if self.taken(source) != number {
+            return Ok(false);
+        }
         let txn = txn.copy(alloc)?;
         self.append_owned(alloc, source, number, txn)
     }

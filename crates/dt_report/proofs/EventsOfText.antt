@@ -1,23 +1,22 @@
 -- The text of a report determines its events.
-use Rattle.std.proofs.Common.{◌≡◌, ◌≢◌, ℕ, suc, ◌+◌, ◌<◌, Bool, true, false, true≢false, not, nat_eq, ◌&&◌, ◌==◌, List, []}
+use Rattle.std.proofs.Common.{◌≡◌, ◌≢◌, ℕ, suc, ◌+◌, ◌<◌, Bool, true, false, true≢false, not, ◌&&◌, ◌==◌, List, []}
 use Rattle.std.proofs.Common.{◌∷◌, ◌++◌, length, map, codes, pos, negsuc, Option, Some, None, refl, sym, ap, subst, ◌∙◌, arith, append_assoc, append-nil}
 use Rattle.std.specs.Prelude.{flat_map}
 use Rattle.std.specs.List.{join_with_byte, list_all, enumerate_from}
 use Rattle.std.specs.Char.{digit_value}
 use Rattle.std.specs.Fmt.{decimal}
 use Rattle.std.specs.Str.Parse.{AllDigits}
-use Rattle.std.specs.Cmp.Lexicographic.{pointwise, bytes_decides}
 use Rattle.std.proofs.lemmas.Bool.{and_from, and_parts}
 use Rattle.std.proofs.lemmas.Bool.Decides.{nat_tests}
 use Rattle.std.proofs.lemmas.List.Concat.{flat_map-append}
 use Rattle.std.proofs.lemmas.List.Folds.{list_all-append}
 use Rattle.dt_lists.specs.Lists.{AllIn}
-use Rattle.dt_lists.proofs.Callers.{all_append}
+use Rattle.dt_lists.proofs.Callers.{all_append, same_head, same_tail}
 use Rattle.dt_text.specs.Texts.{IsKey, IsName, IsStr, is_key_byte, is_name_byte, is_text_byte}
 use Rattle.dt_text.specs.Printed.{text_item, text_items, text_word}
 use Rattle.dt_text.specs.declared.Value.{Value}
 use Rattle.dt_text.specs.declared.Value.TheVariants.{Int, Text}
-use Rattle.dt_text.proofs.Callers.{decimal_digits}
+use Rattle.dt_text.proofs.Callers.{bytes_apart, decimal_digits}
 use Rattle.dt_access.specs.declared.TxnId.{TxnId}
 use Rattle.dt_access.specs.Ids.{id_text}
 use Rattle.dt_events.specs.declared.Event.{Event}
@@ -203,9 +202,6 @@ of_tables region (rows ∷ tables) small may =
     both (table_text region rows) (tables_text (region + 1) tables) (of_table region rows (omega arith) may.0)
     (of_tables (region + 1) tables (omega arith) may.1)
 
-differ : (a b : List ℕ) → pointwise nat_eq a b ≡ false → a ≢ b
-differ a b apart e = true≢false (sym ((bytes_decides a b).1 e) ∙ apart)
-
 -- a line of one word
 word_line : (word : List ℕ) → HasTextBytes word → word ≢ heading → IsOfOthers (line_of (word ∷ []))
 word_line word all other = one_line word (all_weaker is_text_byte within_line text_byte_within word all, other)
@@ -218,10 +214,10 @@ of_front : (report : Report) → IsPrintable report → IsOfOthers (front_of rep
 of_front report may =
     both (replies_text report.replies) (order_text report.order ++ tables_text 0 report.tables)
     (both (line_of (codes "replies" ∷ [])) (flat_map reply_line report.replies)
-    (word_line (codes "replies") refl (differ (codes "replies") heading refl)) (each IsPrintableReply reply_line of_reply report.replies may.replies))
+    (word_line (codes "replies") refl (bytes_apart (codes "replies") heading refl)) (each IsPrintableReply reply_line of_reply report.replies may.replies))
     (both (order_text report.order) (tables_text 0 report.tables)
     (both (line_of (codes "order" ∷ [])) (flat_map ran_line report.order)
-    (word_line (codes "order") refl (differ (codes "order") heading refl)) (each IsPrintableRan ran_line of_ran report.order may.order))
+    (word_line (codes "order") refl (bytes_apart (codes "order") heading refl)) (each IsPrintableRan ran_line of_ran report.order may.order))
     (of_tables 0 report.tables (omega (arith, may.regions)) may.tables))
 
 split : (report : Report) → report_text report ≡ front_of report ++ events_text report.events
@@ -233,12 +229,6 @@ split report =
 
 -- ---- the first line that is the heading
 
-head-is : {A : Type 0} {x y : A} {xs ys : List A} → x ∷ xs ≡ y ∷ ys → x ≡ y
-head-is e = cc
-
-tail-is : {A : Type 0} {x y : A} {xs ys : List A} → x ∷ xs ≡ y ∷ ys → xs ≡ ys
-tail-is e = cc
-
 -- a byte that ends no line is not 10
 no_end : (b : ℕ) (bs : List ℕ) → list_all within_line (b ∷ bs) ≡ true → 10 ≡ b → ⊥
 no_end b bs all e = true≢false (sym (and_parts _ _ all).0 ∙ ap within_line (sym e))
@@ -246,12 +236,12 @@ no_end b bs all e = true≢false (sym (and_parts _ _ all).0 ∙ ap within_line (
 -- equal texts have equal first lines, and equal rests
 first_line : (xs ys rest rest' : List ℕ) → list_all within_line xs ≡ true → list_all within_line ys ≡ true → xs ++ 10 ∷ rest ≡ ys ++ 10 ∷ rest'
     → (xs ≡ ys) × (rest ≡ rest')
-first_line [] [] rest rest' left right e = (refl, tail-is e)
-first_line [] (y ∷ ys) rest rest' left right e = absurd (no_end y ys right (head-is e))
-first_line (x ∷ xs) [] rest rest' left right e = absurd (no_end x xs left (sym (head-is e)))
+first_line [] [] rest rest' left right e = (refl, same_tail e)
+first_line [] (y ∷ ys) rest rest' left right e = absurd (no_end y ys right (same_head e))
+first_line (x ∷ xs) [] rest rest' left right e = absurd (no_end x xs left (sym (same_head e)))
 first_line (x ∷ xs) (y ∷ ys) rest rest' left right e =
-    let later : (xs ≡ ys) × (rest ≡ rest') = first_line xs ys rest rest' (and_parts _ _ left).1 (and_parts _ _ right).1 (tail-is e) in
-    ((λ i. head-is e i ∷ later.0 i), later.1)
+    let later : (xs ≡ ys) × (rest ≡ rest') = first_line xs ys rest rest' (and_parts _ _ left).1 (and_parts _ _ right).1 (same_tail e) in
+    ((λ i. same_head e i ∷ later.0 i), later.1)
 
 next_line : (line : List ℕ) (lines : List (List ℕ)) (rest : List ℕ) → ended (line ∷ lines) ++ rest ≡ line ++ 10 ∷ (ended lines ++ rest)
 next_line line lines rest = append_assoc (line ++ 10 ∷ []) (ended lines) rest ∙ append_assoc line (10 ∷ []) (ended lines ++ rest)
@@ -285,8 +275,8 @@ same_items n [] [] e = refl
 same_items n [] (y ∷ ys) e = cc
 same_items n (x ∷ xs) [] e = cc
 same_items n (x ∷ xs) (y ∷ ys) e =
-    let first : x ≡ y = ap (λ (p : ℕ × Event). p.1) (head-is e) in
-    λ i. first i ∷ same_items (n + 1) xs ys (tail-is e) i
+    let first : x ≡ y = ap (λ (p : ℕ × Event). p.1) (same_head e) in
+    λ i. first i ∷ same_items (n + 1) xs ys (same_tail e) i
 
 pub tell_events : TextsTellEvents
 tell_events left right may_left may_right e =

@@ -2,7 +2,7 @@
 -- strict total order is made, which breaks ties.
 use Rattle.std.proofs.Common.{◌≡◌, ◌≢◌, ◌<◌, ◌⊎◌, ℕ, true, List, [], ◌∷◌, map, get_or, refl, sym, subst, ◌∙◌, inl, inr, arith}
 use Rattle.std.specs.List.{filter}
-use Rattle.dt_lists.specs.Lists.{AnyIn, Has, Either, IsFront}
+use Rattle.dt_lists.specs.Lists.{AnyIn, Has, IsFront}
 use Rattle.dt_lists.proofs.Callers.{any_at, any_get, any_append, any_append_left, any_append_right, any_front, all_get, pairwise_any, has_filter, of_filter, either_or, either_and, either_nat}
 use Rattle.dt_access.specs.Ids.{Before, same_id}
 use Rattle.dt_access.specs.declared.TxnId.{TxnId}
@@ -11,6 +11,7 @@ use Rattle.dt_access.proofs.Callers.{before_decided, before_irreflexive, before_
 use Rattle.dt_sched.specs.Views.{View, log_at, IsLonger, IsPresent, IsWellFormed, parts_with, rank_of, IsSooner}
 use Rattle.dt_sched.specs.Ties.{BreaksTies}
 use Rattle.dt_sched.proofs.Longer.{well_formed_front}
+use Rattle.dt_text.proofs.Callers.{either_lt}
 
 -- a part of t in some log is among the parts of t
 part_listed : (view : View) (t : TxnId) (p : Part) → AnyIn (λ log. Has log p) view → p.id ≡ t → Has (parts_with view t) p
@@ -83,16 +84,13 @@ sooner_total r s u t ne = elim (ranks_compare r s) [
   ]
 ]
 
-either_less : (r s : ℕ) → Either (r < s)
-either_less r s = grind arith
-
 -- the store's own order breaks ties
 pub sooner_breaks_ties : BreaksTies IsSooner
 sooner_breaks_ties = record {
   irreflexive = λ view t. sooner_irreflexive (rank_of view t) t;
   transitive = λ view u v t. sooner_transitive (rank_of view u) (rank_of view v) (rank_of view t) u v t;
   total = λ view u t. sooner_total (rank_of view u) (rank_of view t) u t;
-  decided = λ view u t. either_or (rank_of view u < rank_of view t) ((rank_of view u ≡ rank_of view t) × Before u t) (either_less (rank_of view u) (rank_of view t))
+  decided = λ view u t. either_or (rank_of view u < rank_of view t) ((rank_of view u ≡ rank_of view t) × Before u t) (either_lt (rank_of view u) (rank_of view t))
       (either_and (rank_of view u ≡ rank_of view t) (Before u t) (either_nat (rank_of view u) (rank_of view t)) (before_decided u t));
   alike = λ short long l w u t hu ht.
       let a : rank_of short u ≡ rank_of long u = rank_stays short long l w u hu in

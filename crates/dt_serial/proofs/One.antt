@@ -5,7 +5,7 @@ use Rattle.std.specs.Prelude.{Option, option_map}
 use Rattle.std.specs.Cmp.Lexicographic.{bytes_decides}
 use Rattle.std.proofs.lemmas.Bool.{cases_Bool, or_left}
 use Rattle.dt_lists.specs.Lists.{AllIn, Has}
-use Rattle.dt_access.specs.Clash.{Bytes, is_write, same_key, uses_clash}
+use Rattle.dt_access.specs.Clash.{Bytes, may_change, same_key, uses_clash}
 use Rattle.dt_access.specs.Granules.{unit_of}
 use Rattle.dt_access.proofs.Callers.{moves_clash, uses_clash_symmetric, uses_of_row}
 use Rattle.dt_access.specs.declared.TxnId.{TxnId}
@@ -140,8 +140,8 @@ clash_of_change version key a b (inr m) used = moves_clash version (a.key, a.mod
     unit_of_use (inl e) = ap (unit_of version) e
     unit_of_use (inr (inl w)) = ap (unit_of version) w.0
     unit_of_use (inr (inr m)) = m.0
-clash_of_change version key a b (inl w) (inl e) = uses_of_row (a.key, a.mode) (b.key, b.mode) (w.0 ∙ sym e) (or_left _ _ (ap is_write w.1))
-clash_of_change version key a b (inl w) (inr (inl v)) = uses_of_row (a.key, a.mode) (b.key, b.mode) (w.0 ∙ sym v.0) (or_left _ _ (ap is_write w.1))
+clash_of_change version key a b (inl w) (inl e) = uses_of_row (a.key, a.mode) (b.key, b.mode) (w.0 ∙ sym e) (or_left _ _ (ap may_change w.1))
+clash_of_change version key a b (inl w) (inr (inl v)) = uses_of_row (a.key, a.mode) (b.key, b.mode) (w.0 ∙ sym v.0) (or_left _ _ (ap may_change w.1))
 clash_of_change version key a b (inl w) (inr (inr m)) =
     uses_clash_symmetric (a.key, a.mode) (b.key, b.mode) ∙ moves_clash version (b.key, b.mode) (a.key, a.mode) m.1 (m.0 ∙ sym (ap (unit_of version) w.0))
 

@@ -5,7 +5,7 @@ use Rattle.std.specs.Cmp.Lexicographic.{bytes_decides}
 use Rattle.std.specs.FinMap.{get}
 use Rattle.std.proofs.lemmas.Bool.{false_from_ne_true}
 use Rattle.dt_lists.specs.Lists.{AnyIn, Either}
-use Rattle.dt_lists.proofs.Callers.{either_list, either_nat, either_any, either_or}
+use Rattle.dt_lists.proofs.Callers.{either_any, either_or}
 use Rattle.dt_access.specs.Clash.{Bytes, same_key}
 use Rattle.dt_access.specs.Granules.{unit_of}
 use Rattle.dt_access.specs.declared.TxnId.{TxnId}
@@ -14,9 +14,7 @@ use Rattle.dt_table.specs.declared.Effect.{Effect}
 use Rattle.dt_table.specs.Table.{Table, Moved, value_of, moves_of, written, all_written, maybe_moved, apply}
 use Rattle.dt_table.proofs.Callers.{all_written-keeps, get-put, homes-apply, regions-apply, same_table, version-apply}
 use Rattle.dt_serial.specs.Order.{Changes}
-
-pub either_key : (a b : Bytes) → Either (a ≡ b)
-either_key a b = either_list a b either_nat
+use Rattle.dt_text.proofs.Callers.{either_bytes}
 
 key_same : (a b : Bytes) → a ≡ b → same_key a b ≡ true
 key_same a b e = (bytes_decides a b).1 e
@@ -51,7 +49,7 @@ all_written_keeps (w ∷ ws) t q n = all_written_keeps ws (written t w.0 w.1) q 
 
 -- and what they make of a value hangs on that value alone
 written_alike : (t u : Table) (key : Bytes) (v : Option Value) (q : Bytes) → get t.values q ≡ get u.values q → get (written t key v).values q ≡ get (written u key v).values q
-written_alike t u key v q e = at (either_key q key)
+written_alike t u key v q e = at (either_bytes q key)
   where
     at : Either (q ≡ key) → get (written t key v).values q ≡ get (written u key v).values q
     at (inl s) = written_same t key v q s ∙ sym (written_same u key v q s)
@@ -101,7 +99,7 @@ moves_alike f t u w is e = moves_at f t w ∙ by f.moved ∙ sym (moves_at f u w
   where
     by : (m : Option (Bytes × ℕ × TxnId)) → moves_after t m w ≡ moves_after u m w
     by None = e
-    by (Some m) = at (either_key w (unit_of t.version m.0))
+    by (Some m) = at (either_bytes w (unit_of t.version m.0))
       where
         made : List Moved
         made = record { target = m.1; by = m.2 } ∷ []
@@ -121,14 +119,14 @@ moves_alike f t u w is e = moves_at f t w ∙ by f.moved ∙ sym (moves_at f u w
             ∙ sym (ap (λ b. cond b (Some (moves_of u m.0 ++ made)) (get u.moves w)) (key_other w (unit_of u.version m.0) (λ s. n (s ∙ sym (ap (λ v. unit_of v m.0) is)))))
 
 either_writes : (e : Effect) (q : Bytes) → Either (AnyIn (λ w. w.0 ≡ q) e.writes)
-either_writes e q = either_any _ e.writes (λ w. either_key w.0 q)
+either_writes e q = either_any _ e.writes (λ w. either_bytes w.0 q)
 
 either_moves : (version : ℕ) (e : Effect) (w : Bytes) → Either (MovesAt version e w)
 either_moves version e w = by e.moved
   where
     by : (m : Option (Bytes × ℕ × TxnId)) → Either (IsSomeAnd m (λ x. unit_of version x.0 ≡ w))
     by None = inr (λ e. e)
-    by (Some m) = either_key (unit_of version m.0) w
+    by (Some m) = either_bytes (unit_of version m.0) w
 
 pub either_changes : (version : ℕ) (e : Effect) (q : Bytes) → Either (Changes version e q)
 either_changes version e q = either_or _ _ (either_writes e q) (either_moves version e (unit_of version q))
@@ -175,4 +173,4 @@ apply_value f t u q e = ap (λ m. unwrap_or (get m q) None) (values_of_apply f t
 
     by : (ws : List (Bytes × Option Value)) (t u : Table) → value_of t q ≡ value_of u q → value_of (all_written ws t) q ≡ value_of (all_written ws u) q
     by [] t u e = e
-    by (w ∷ ws) t u e = by ws (written t w.0 w.1) (written u w.0 w.1) (step t u w.0 w.1 e (either_key q w.0))
+    by (w ∷ ws) t u e = by ws (written t w.0 w.1) (written u w.0 w.1) (step t u w.0 w.1 e (either_bytes q w.0))

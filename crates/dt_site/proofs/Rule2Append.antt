@@ -25,7 +25,8 @@ use Rattle.dt_cluster.specs.declared.Cluster.{Cluster}
 use Rattle.dt_workload.specs.declared.Workload.{Workload}
 use Rattle.dt_session.specs.World.{World, Node, asked_of, log_of, logs_of, no_node, node_at, received_lengths, received_logs, received_of, taken_of, txn_of}
 use Rattle.dt_session.specs.Step.{IsLegal, next, placed}
-use Rattle.dt_agreement.proofs.Callers.{IsRequest, request_is, logs_placed, placed_well_formed, received_within, fronts_grown, log_is, logs_length}
+use Rattle.dt_txn.proofs.Callers.{fronts_grown}
+use Rattle.dt_agreement.proofs.Callers.{IsRequest, request_is, logs_placed, placed_well_formed, received_within, log_is, logs_length}
 use Rattle.dt_site.specs.Site.{SiteView, in_region, node_of}
 use Rattle.dt_site.specs.StandsIn.{IsReached, StandsIn}
 use Rattle.dt_site.proofs.Lists.{fronts_set, held_more, parts_set}

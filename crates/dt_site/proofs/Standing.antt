@@ -20,7 +20,8 @@ use Rattle.dt_session.specs.Step.{IsLegal, next}
 use Rattle.dt_session.specs.Run.{order_of, world_after}
 use Rattle.dt_agreement.specs.Invariant.{Inv}
 use Rattle.dt_agreement.specs.LegalRun.{IsLegalRun}
-use Rattle.dt_agreement.proofs.Callers.{transaction_valid, next_txns, legal_keeps, world_after_more, more_legal, home_region, txn_there, fronts_at}
+use Rattle.dt_txn.proofs.Callers.{fronts_at}
+use Rattle.dt_agreement.proofs.Callers.{transaction_valid, next_txns, legal_keeps, world_after_more, more_legal, home_region, txn_there}
 use Rattle.dt_site.specs.Site.{SiteView, node_of, attempts}
 use Rattle.dt_site.specs.StandsIn.{IsReached, StandsIn}
 use Rattle.dt_site.proofs.Lists.{attempts_have, attempts_length}

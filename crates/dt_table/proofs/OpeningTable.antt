@@ -6,7 +6,7 @@ use Rattle.dt_lists.specs.Lists.{AllIn}
 use Rattle.dt_access.specs.Clash.{Bytes, same_key}
 use Rattle.dt_access.specs.Orders.{HasDistinctKeys}
 use Rattle.dt_text.specs.declared.Value.{Value}
-use Rattle.dt_table.proofs.TableLaws.{same_key-other}
+use Rattle.dt_access.proofs.Callers.{same_key_other}
 
 at_place : {A : Type 0} (P : Bytes → Type 0) (xs : List (Bytes × A)) (i : ℕ) (d : Bytes × A) → AllIn P (map (λ e. e.0) xs) → i < length xs → P (get_or xs i d).0
 at_place P [] i d all within = absurd (omega arith)
@@ -21,7 +21,7 @@ module _ {A B : Type 0} (entry : Bytes × A → Bytes × B) (same : (e : Bytes �
   insert_entry-next (x ∷ xs) zero d w distinct within = refl
   insert_entry-next (x ∷ xs) (suc i) d w distinct within =
       let key = (get_or xs i d).0 in
-      let apart : same_key key (entry x).0 ≡ false = ap (same_key key) (same x) ∙ same_key-other key x.0 (λ e. at_place (λ y. ¬ (x.0 ≡ y)) xs i d distinct.0 (omega arith) (sym e)) in
+      let apart : same_key key (entry x).0 ≡ false = ap (same_key key) (same x) ∙ same_key_other key x.0 (λ e. at_place (λ y. ¬ (x.0 ≡ y)) xs i d distinct.0 (omega arith) (sym e)) in
       ap (λ b. cond b (((entry x).0, w) ∷ map entry (take i xs)) (entry x ∷ insert_entry same_key (map entry (take i xs)) key w)) apart
       ∙ ap (λ l. entry x ∷ l) (insert_entry-next xs i d w distinct.1 (omega arith))
 

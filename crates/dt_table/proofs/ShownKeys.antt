@@ -23,8 +23,8 @@ use Rattle.dt_table.specs.declared.stored.StoredUnit.{StoredUnit}
 use Rattle.dt_table.specs.declared.table.Table.TheInside.{Inside}
 use Rattle.dt_table.proofs.Entries.{get-from_map}
 use Rattle.dt_table.proofs.SortedEntries.{order, find-lookup, in_order-sorted, IsSortedBy-map}
-use Rattle.dt_table.proofs.TableLaws.{same_key-self}
 use Rattle.dt_table.proofs.StoredUnits.{value_of-view, unit_in, FitsMoves-found, counter_of-found, moves_of-absent}
+use Rattle.dt_access.proofs.Callers.{same_key_self}
 
 -- ---- lists of keys
 
@@ -44,7 +44,7 @@ all_differ q (k ∷ ks) e =
 each_of_them : (ks : List Bytes) → AllIn (λ k. list_any (same_key k) ks ≡ true) ks
 each_of_them [] = tt
 each_of_them (k ∷ ks) = (
-  ap (λ b. b || list_any (same_key k) ks) (same_key-self k),
+  ap (λ b. b || list_any (same_key k) ks) (same_key_self k),
   all_map _ _ ks (λ q h. ap (λ b. same_key q k || b) h ∙ or_true (same_key q k)) (each_of_them ks),
 )
   where

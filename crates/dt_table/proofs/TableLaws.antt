@@ -1,7 +1,7 @@
 -- What the definitions of tables give at each key: after a write, a move, an effect, and before any transaction.
 use Rattle.std.proofs.Common.{◌≡◌, ℕ, zero, suc, ◌+◌, ◌<◌, ◌≤◌, ◌^◌, ◌%◌, Bool, true, false, cond, List, [], ◌∷◌, ◌++◌, map, length, slice_index}
 use Rattle.std.proofs.Common.{refl, sym, ap, ◌∙◌, arith, append-nil, length-append, Some, None, Option, unwrap_or}
-use Rattle.std.specs.Cmp.Lexicographic.{nat_list_cmp_total, nat_list_eq_equiv, texts_ties, bytes_decides}
+use Rattle.std.specs.Cmp.Lexicographic.{nat_list_cmp_total, texts_ties, bytes_decides}
 use Rattle.std.specs.Map.{lookup}
 use Rattle.std.specs.FinMap.{FinMap, get, get-insert, get-empty, same_map, insert, slice_cmp-IsAntisymmetric, nat_cmp-IsAntisymmetric}
 use Rattle.std.specs.Ordering.{nat_cmp}
@@ -13,18 +13,6 @@ use Rattle.dt_access.specs.declared.TxnId.{TxnId}
 use Rattle.dt_text.specs.declared.Value.{Value}
 use Rattle.dt_table.specs.Table.{Moved, Table, value_of, moves_of, counter_of, home_of, opening_home, home_after, written, all_written, moved, maybe_moved, apply, opening, HasPlaceFor}
 use Rattle.dt_table.specs.declared.effect.Effect.{Effect}
-
--- ---- keys
-
-pub same_key-self : (key : Bytes) → same_key key key ≡ true
-same_key-self key = nat_list_eq_equiv.refl key
-
-pub same_key-other : (q key : Bytes) → ¬ (q ≡ key) → same_key q key ≡ false
-same_key-other q key apart = by (same_key q key) refl
-  where
-    by : (b : Bool) → same_key q key ≡ b → b ≡ false
-    by true e = absurd (apart ((bytes_decides q key).0 e))
-    by false e = refl
 
 -- a map with one more entry gives it at its key, and what it gave at all others
 pub get-put : {X : Type 0} (m : FinMap (slice_cmp nat_cmp) X) (key : Bytes) (x : X) (q : Bytes) → get (insert m key x) q ≡ cond (same_key q key) (Some x) (get m q)
@@ -146,7 +134,7 @@ opening_home-below regions homes q some all = by homes all
     by [] all = omega arith
     by (h ∷ hs) all = elim (same_key q h.0) as (λ b. unwrap_or (cond b (Some h.1) (lookup (same_key q) hs)) (slice_index q 0 % regions) < regions) [ true ↦ all.0 | false ↦ by hs all.1 ]
 
-home_after-below : (regions home : ℕ) (moves : List Moved) → home < regions → AllIn (λ m. m.target < regions) moves → home_after home moves < regions
+pub home_after-below : (regions home : ℕ) (moves : List Moved) → home < regions → AllIn (λ m. m.target < regions) moves → home_after home moves < regions
 home_after-below regions home [] first all = first
 home_after-below regions home (m ∷ moves) first all = home_after-below regions m.target moves all.0 all.1
 

@@ -60,7 +60,7 @@ fn reads(alloc: Global, keys: &[(Key, Mode)], values: &[Option<Value>]) -> Resul
 /// Keys as a text: each after its mode, `r` or `w`, and before a space.
 fn put_keys(out: &mut Vec<u8>, keys: &Keys) -> Result<(), NoMemory> {
     for (key, mode) in keys.as_slice() {
-        out.push(if mode.is_write() { b'w' } else { b'r' })?;
+        out.push(if mode.may_change() { b'w' } else { b'r' })?;
         out.extend_from_slice(key.bytes())?;
         out.push(b' ')?;
     }

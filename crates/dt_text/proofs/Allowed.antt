@@ -9,7 +9,7 @@ one_more true r n m h = grind (arith, nat_tests)
 one_more false r n m h = grind (arith, nat_tests)
 
 -- some place is outside exactly where not all are allowed
-pub outside_where : (p : ℕ → Bool) (bs : List ℕ) → nat_lt (prefix_len (λ b. not (not (p b))) bs) (length bs) ≡ not (list_all p bs)
+outside_where : (p : ℕ → Bool) (bs : List ℕ) → nat_lt (prefix_len (λ b. not (not (p b))) bs) (length bs) ≡ not (list_all p bs)
 outside_where p [] = refl
 outside_where p (b ∷ bs) = one_more (p b) (list_all p bs) (prefix_len (λ b. not (not (p b))) bs) (length bs) (outside_where p bs)
 
@@ -17,6 +17,15 @@ by_cases : (a r : Bool) (n : ℕ) → a ≡ not r → cond a (Some n) None ≡ N
 by_cases true r n e h = cc
 by_cases false true n e h = refl
 by_cases false false n e h = cc
+
+by_place : (a r : Bool) (n place : ℕ) → a ≡ not r → cond a (Some n) None ≡ Some place → r ≡ true → ⊥
+by_place true true n place e found h = absurd cc
+by_place true false n place e found h = absurd cc
+by_place false r n place e found h = absurd cc
+
+-- where a place is outside, not each byte is allowed
+pub byte_outside : (p : ℕ → Bool) (bs : List ℕ) (place : ℕ) → first_outside p bs ≡ Some place → list_all p bs ≡ true → ⊥
+byte_outside p bs place found all = by_place _ _ _ place (outside_where p bs) found all
 
 -- where no place is outside, each byte is allowed
 pub none_outside : (p : ℕ → Bool) (bs : List ℕ) → first_outside p bs ≡ None → list_all p bs ≡ true

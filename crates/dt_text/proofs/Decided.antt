@@ -1,6 +1,7 @@
 -- What of bytes and words is decided: whether they are equal, whether they are a key, a name or a text, and whether they spell a
 -- number.
-use Rattle.std.proofs.Common.{◌≡◌, inl, inr, ℕ, ◌<◌, ◌≤◌, ◌^◌, List, length, sym, ap, ◌∙◌, subst, arith}
+use Rattle.std.proofs.Common.{◌≡◌, ◌≢◌, inl, inr, ℕ, ◌<◌, ◌≤◌, ◌^◌, false, true≢false, nat_eq, length, sym, ap, ◌∙◌, subst, arith}
+use Rattle.std.specs.Cmp.Lexicographic.{pointwise, bytes_decides}
 use Rattle.std.specs.List.{list_all}
 use Rattle.std.specs.Fmt.{decimal}
 use Rattle.std.specs.Str.Parse.{digits_value}
@@ -11,6 +12,10 @@ use Rattle.dt_text.proofs.Numerals.{decimal_value}
 
 pub either_bytes : (a b : Bytes) → Either (a ≡ b)
 either_bytes a b = either_list a b either_nat
+
+-- bytes differ where the test by which they are compared tells them apart
+pub bytes_apart : (a b : Bytes) → pointwise nat_eq a b ≡ false → a ≢ b
+bytes_apart a b apart e = true≢false (sym ((bytes_decides a b).1 e) ∙ apart)
 
 pub either_lt : (a b : ℕ) → Either (a < b)
 either_lt a b = grind arith

@@ -1,5 +1,4 @@
 use crate::no_memory::NoMemory;
-use std::alloc::AllocError;
 use std::fmt;
 
 /// Why bytes are no key or no name.
@@ -51,24 +50,24 @@ impl fmt::Display for StrError {
 
 impl std::error::Error for StrError {}
 
-impl From<AllocError> for KeyError {
+impl From<NoMemory> for KeyError {
     ghost use Rattle.std.specs.Prelude.{◌≡◌};
     ghost use Rattle.dt_text.specs.declared.errors.KeyError.TheVariants.{NoMemory};
 
     ghost from_gives = { λ _ e. e ≡ NoMemory };
 
-    fn from(_error: AllocError) -> Self {
+    fn from(_error: NoMemory) -> Self {
         KeyError::NoMemory
     }
 }
 
-impl From<AllocError> for StrError {
+impl From<NoMemory> for StrError {
     ghost use Rattle.std.specs.Prelude.{◌≡◌};
     ghost use Rattle.dt_text.specs.declared.errors.StrError.TheVariants.{NoMemory};
 
     ghost from_gives = { λ _ e. e ≡ NoMemory };
 
-    fn from(_error: AllocError) -> Self {
+    fn from(_error: NoMemory) -> Self {
         StrError::NoMemory
     }
 }

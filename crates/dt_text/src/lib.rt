@@ -14,6 +14,7 @@ mod name;
 mod no_memory;
 mod numbers;
 mod printed;
+mod spelling;
 mod text;
 mod value;
 mod word;

@@ -1,34 +1,30 @@
-ghost use Rattle.std.specs.Prelude.{◌≡◌, ◌↔◌, ◌<◌, ◌≤◌, ◌^◌, ℕ, [], List, length, refl, nat_eq, IfOk, IsTrue, Some};
+ghost use Rattle.std.specs.Prelude.{◌≡◌, ◌↔◌, ◌<◌, ◌≤◌, ◌^◌, ℕ, [], List, length, IfOk, IsTrue, Some};
 ghost use Rattle.std.specs.List.{list_all};
-ghost use Rattle.std.specs.Ordering.{nat_cmp};
-ghost use Rattle.std.specs.Cmp.{partial_equiv_from_equiv};
-ghost use Rattle.std.specs.Cmp.Lexicographic.{pointwise, slice_cmp, nat_list_eq_equiv, nat_list_cmp_total, texts_ties, texts_po, bytes_decides};
-ghost use Rattle.std.specs.Hash as fed;
-ghost use Rattle.std.proofs.Common.{ap};
 ghost use Rattle.dt_text.specs.Texts.{IsName, is_name_byte, first_outside};
 
 use crate::bytes::is_name_byte;
 use crate::errors::KeyError;
 use crate::no_memory::NoMemory;
+use crate::spelling::Spelling;
 use std::alloc::Global;
-use std::cmp::Ordering;
-use std::hash::{Hash, Hasher};
 use std::marker::Model;
 
 /// A name, as sessions and procedures have: 1 to 32 bytes out of `a-z`, `0-9` and `_`.
 ///
 /// Contracts see its bytes. Names are ordered by their bytes, a proper prefix being less.
-#[derive(Debug, Drop)]
+#[derive(Debug, PartialEq, Eq, PartialOrd, Ord, Hash, Drop)]
 pub struct Name {
-    bytes: Vec<u8>,
+    spelling: Spelling,
 }
 
 impl Model for Name {
     ghost Value = { List ℕ };
 
-    ghost view = { λ n. n.bytes.items };
+    ghost view = { λ n. n.spelling };
 
-    ghost invariant = { λ n. IsName n.bytes.items };
+    ghost inverse = { λ bytes. record { spelling = bytes } };
+
+    ghost invariant = { λ n. IsName n.spelling };
 }
 
 impl Name {
@@ -58,7 +54,7 @@ impl Name {
         match first_bad(bytes) {
             Some(place) => Err(KeyError::BadByte(place as u32)),
             None => Ok(Name {
-                bytes: Vec::from_slice(alloc, bytes)?,
+                spelling: Spelling::of(alloc, bytes)?,
             }),
         }
     }
@@ -76,7 +72,7 @@ impl Name {
         ensures { IfOk result (λ name. name ≡ bytes.now) }
     {
         Ok(Name {
-            bytes: Vec::from_slice(alloc, bytes)?,
+            spelling: Spelling::of(alloc, bytes)?,
         })
     }
 
@@ -85,7 +81,7 @@ impl Name {
         ensures same { result.now ≡ self.now }
         ensures name { IsName self.now }
     {
-        self.bytes.as_slice()
+        self.spelling.bytes()
     }
 
     /// A name with the same bytes.
@@ -94,7 +90,7 @@ impl Name {
         ensures name { IsName self.now }
     {
         Ok(Name {
-            bytes: Vec::from_slice(alloc, self.bytes.as_slice())?,
+            spelling: self.spelling.copy(alloc)?,
         })
     }
 }
@@ -111,53 +107,4 @@ fn are_allowed(bytes: &[u8]) -> bool
     ensures { result ≡ list_all is_name_byte bytes.now }
 {
     bytes.iter().all(|byte| is_name_byte(*byte))
-}
-
-impl PartialEq for Name {
-    ghost eq = { pointwise nat_eq };
-
-    ghost laws = { partial_equiv_from_equiv nat_list_eq_equiv };
-
-    fn eq(&self, other: &Self) -> bool {
-        self.bytes.as_slice() == other.bytes.as_slice()
-    }
-}
-
-impl Eq for Name {
-    ghost laws = { nat_list_eq_equiv };
-}
-
-impl PartialOrd for Name {
-    ghost partial_cmp = { λ a b. Some (slice_cmp nat_cmp a b) };
-
-    ghost laws = { texts_po };
-
-    fn partial_cmp(&self, other: &Self) -> Option<Ordering> {
-        Some(self.cmp(other))
-    }
-}
-
-impl Ord for Name {
-    ghost cmp = { slice_cmp nat_cmp };
-
-    ghost total = { nat_list_cmp_total };
-
-    ghost matches_partial_cmp = { λ a b. refl };
-
-    ghost matches_eq = { texts_ties };
-
-    fn cmp(&self, other: &Self) -> Ordering {
-        self.bytes.as_slice().cmp(other.bytes.as_slice())
-    }
-}
-
-impl Hash for Name {
-    ghost hash_input = { fed.str };
-
-    ghost respects_eq = { λ a b e. ap fed.str ((bytes_decides a b).0 e) };
-
-    fn hash<H: Hasher>(&self, state: &mut H) {
-        state.write(self.bytes.as_slice());
-        state.write_u8(0xff);
-    }
 }

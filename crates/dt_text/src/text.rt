@@ -1,33 +1,29 @@
-ghost use Rattle.std.specs.Prelude.{◌≡◌, ◌↔◌, ◌<◌, ◌≤◌, ◌^◌, ℕ, List, length, refl, nat_eq, IfOk, IsTrue, OnOk, OnErr, Some, [], ◌∷◌, ◌++◌};
-ghost use Rattle.std.specs.Ordering.{nat_cmp};
-ghost use Rattle.std.specs.Cmp.{partial_equiv_from_equiv};
-ghost use Rattle.std.specs.Cmp.Lexicographic.{pointwise, slice_cmp, nat_list_eq_equiv, nat_list_cmp_total, texts_ties, texts_po, bytes_decides};
-ghost use Rattle.std.specs.Hash as fed;
-ghost use Rattle.std.proofs.Common.{ap};
+ghost use Rattle.std.specs.Prelude.{◌≡◌, ◌↔◌, ◌<◌, ◌≤◌, ◌^◌, ℕ, List, length, IfOk, IsTrue, OnOk, OnErr, Some, [], ◌∷◌, ◌++◌};
 ghost use Rattle.dt_text.specs.Texts.{IsStr, is_text_byte, first_outside};
 
 use crate::bytes::is_text_byte;
 use crate::errors::StrError;
 use crate::no_memory::NoMemory;
+use crate::spelling::Spelling;
 use std::alloc::Global;
-use std::cmp::Ordering;
-use std::hash::{Hash, Hasher};
 use std::marker::Model;
 
 /// A text: 0 to 256 bytes, each a space or a visible character of ASCII (0x20 to 0x7E).
 ///
 /// Contracts see its bytes. Strs are ordered by their bytes, a proper prefix being less.
-#[derive(Debug, Drop)]
+#[derive(Debug, PartialEq, Eq, PartialOrd, Ord, Hash, Drop)]
 pub struct Str {
-    bytes: Vec<u8>,
+    spelling: Spelling,
 }
 
 impl Model for Str {
     ghost Value = { List ℕ };
 
-    ghost view = { λ t. t.bytes.items };
+    ghost view = { λ t. t.spelling };
 
-    ghost invariant = { λ t. IsStr t.bytes.items };
+    ghost inverse = { λ bytes. record { spelling = bytes } };
+
+    ghost invariant = { λ t. IsStr t.spelling };
 }
 
 impl Str {
@@ -53,7 +49,7 @@ impl Str {
         match first_bad(bytes) {
             Some(place) => Err(StrError::BadByte(place as u32)),
             None => Ok(Str {
-                bytes: Vec::from_slice(alloc, bytes)?,
+                spelling: Spelling::of(alloc, bytes)?,
             }),
         }
     }
@@ -64,7 +60,7 @@ impl Str {
         ensures { IfOk result (λ text. text ≡ bytes.now) }
     {
         Ok(Str {
-            bytes: Vec::from_slice(alloc, bytes)?,
+            spelling: Spelling::of(alloc, bytes)?,
         })
     }
 
@@ -73,7 +69,7 @@ impl Str {
         ensures { result ≡ [] }
     {
         Str {
-            bytes: Vec::new(alloc),
+            spelling: Spelling::empty(alloc),
         }
     }
 
@@ -84,8 +80,7 @@ impl Str {
         ensures added { OnOk result (self.new ≡ self.old ++ byte ∷ []) }
         ensures same { OnErr result (self.new ≡ self.old) }
     {
-        self.bytes.push(byte)?;
-        Ok(())
+        self.spelling.push(byte)
     }
 
     /// The bytes of the text.
@@ -93,7 +88,7 @@ impl Str {
         ensures same { result.now ≡ self.now }
         ensures text { IsStr self.now }
     {
-        self.bytes.as_slice()
+        self.spelling.bytes()
     }
 
     /// A text with the same bytes.
@@ -102,7 +97,7 @@ impl Str {
         ensures text { IsStr self.now }
     {
         Ok(Str {
-            bytes: Vec::from_slice(alloc, self.bytes.as_slice())?,
+            spelling: self.spelling.copy(alloc)?,
         })
     }
 }
@@ -112,53 +107,4 @@ fn first_bad(bytes: &[u8]) -> Option<usize>
     ensures { result ≡ first_outside is_text_byte bytes.now }
 {
     bytes.iter().position(|byte| !is_text_byte(*byte))
-}
-
-impl PartialEq for Str {
-    ghost eq = { pointwise nat_eq };
-
-    ghost laws = { partial_equiv_from_equiv nat_list_eq_equiv };
-
-    fn eq(&self, other: &Self) -> bool {
-        self.bytes.as_slice() == other.bytes.as_slice()
-    }
-}
-
-impl Eq for Str {
-    ghost laws = { nat_list_eq_equiv };
-}
-
-impl PartialOrd for Str {
-    ghost partial_cmp = { λ a b. Some (slice_cmp nat_cmp a b) };
-
-    ghost laws = { texts_po };
-
-    fn partial_cmp(&self, other: &Self) -> Option<Ordering> {
-        Some(self.cmp(other))
-    }
-}
-
-impl Ord for Str {
-    ghost cmp = { slice_cmp nat_cmp };
-
-    ghost total = { nat_list_cmp_total };
-
-    ghost matches_partial_cmp = { λ a b. refl };
-
-    ghost matches_eq = { texts_ties };
-
-    fn cmp(&self, other: &Self) -> Ordering {
-        self.bytes.as_slice().cmp(other.bytes.as_slice())
-    }
-}
-
-impl Hash for Str {
-    ghost hash_input = { fed.str };
-
-    ghost respects_eq = { λ a b e. ap fed.str ((bytes_decides a b).0 e) };
-
-    fn hash<H: Hasher>(&self, state: &mut H) {
-        state.write(self.bytes.as_slice());
-        state.write_u8(0xff);
-    }
 }

@@ -2,6 +2,7 @@ pub mod Callers
 pub mod Asking
 pub mod FewPlaces
 pub mod Formed
+pub mod Fronts
 pub mod HomeSets
 pub mod PartKeys
 pub mod Sight

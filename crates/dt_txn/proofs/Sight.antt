@@ -31,7 +31,7 @@ keys_of_uses procs version (Call proc args) = refl
 keys_of_uses procs version (Move key target) = refl
 
 -- what a transaction reads are the keys that its body uses
-pub reads_are_uses : (procs : List ProcTree) (txn : Txn) (entries : List Access) (seen items : List Seen) (reads : List (Bytes × Option Value)) → reads ≡ reads_of entries items
-    → entries ≡ txn.access → items ≡ seen → length seen ≡ length txn.access → HasItsUses procs txn → map (λ r. r.0) reads ≡ keys_used procs txn.body
-reads_are_uses procs txn entries seen items reads r e s long uses =
-    rw (r, e, s) (reads_keys txn.access seen long ∙ ap (λ (us : List (Bytes × Mode)). map (λ u. u.0) us) uses.1 ∙ keys_of_uses procs uses.0 txn.body)
+pub reads_are_uses : (procs : List ProcTree) (txn : Txn) (entries : List Access) (seen : List Seen) (reads : List (Bytes × Option Value)) → reads ≡ reads_of entries seen
+    → entries ≡ txn.access → length seen ≡ length txn.access → HasItsUses procs txn → map (λ r. r.0) reads ≡ keys_used procs txn.body
+reads_are_uses procs txn entries seen reads r e long uses =
+    rw (r, e) (reads_keys txn.access seen long ∙ ap (λ (us : List (Bytes × Mode)). map (λ u. u.0) us) uses.1 ∙ keys_of_uses procs uses.0 txn.body)

@@ -8,7 +8,7 @@ use crate::called::called;
 use crate::outcome::{Outcome, Seen, Seens};
 use crate::txn::{Body, Txn};
 use dt_access::{Access, TryCopy, Writes, unit_bytes};
-use dt_eval::{Finish, Reads, Values, run};
+use dt_eval::{Finish, Reads, Values, run_owned};
 use dt_proc::Procs;
 use dt_table::{Effect, Table};
 use dt_text::{Key, NoMemory, Value};
@@ -54,11 +54,7 @@ pub fn execute_seen(
     requires seen { length seen.now ≡ length txn.now.access }
     ensures { IfOk result (λ r. r ≡ execution procs.now txn.now seen.now) }
 {
-    if let Some(outcome) = stale(alloc, txn.access.as_slice(), seen.as_slice())? {
-        return Ok((outcome, no_effect(alloc)));
-    }
-    let reads = reads(alloc, txn.access.as_slice(), seen.as_slice())?;
-    result_of(alloc, txn, procs, &reads)
+    execute_owned(alloc, txn, procs, seen.copy(alloc)?)
 }
 
 /// What a transaction comes to on a table, by these procedures: its outcome, and the changes that it makes.
@@ -72,8 +68,27 @@ pub fn execute(
     requires uses { HasItsUses procs.now txn.now }
     ensures { IfOk result (λ r. r ≡ one procs.now txn.now table.now.state) }
 {
-    let seen = see(alloc, txn, table)?;
-    execute_seen(alloc, txn, procs, &seen)
+    execute_owned(alloc, txn, procs, see(alloc, txn, table)?)
+}
+
+/// What a transaction comes to, as `execute_seen` says, from what is handed over: its values are moved to the body, and
+/// only its keys are copied.
+fn execute_owned(
+    alloc: Global,
+    txn: &Txn,
+    procs: &Procs,
+    seen: Seens,
+) -> Result<(Outcome, Effect), NoMemory>
+    requires body { CanRun procs.now txn.now.body }
+    requires uses { HasItsUses procs.now txn.now }
+    requires seen { length seen ≡ length txn.now.access }
+    ensures { IfOk result (λ r. r ≡ execution procs.now txn.now seen) }
+{
+    if let Some(outcome) = stale(alloc, txn.access.as_slice(), seen.as_slice())? {
+        return Ok((outcome, no_effect(alloc)));
+    }
+    let reads = reads(alloc, txn.access.as_slice(), seen)?;
+    result_of(alloc, txn, procs, reads)
 }
 
 /// No changes.
@@ -104,13 +119,13 @@ fn stale(alloc: Global, access: &[Access], seen: &[Seen]) -> Result<Option<Outco
 }
 
 /// The rows that a transaction reads, from what it saw.
-fn reads(alloc: Global, access: &[Access], seen: &[Seen]) -> Result<Reads, NoMemory>
-    requires { length seen.now ≡ length access.now }
-    ensures { IfOk result (λ reads. reads ≡ reads_of access.now seen.now) }
+fn reads(alloc: Global, access: &[Access], seen: Seens) -> Result<Reads, NoMemory>
+    requires { length seen ≡ length access.now }
+    ensures { IfOk result (λ reads. reads ≡ reads_of access.now seen) }
 {
     let mut reads = Reads::new(alloc);
-    for (place, entry) in access.iter().enumerate() {
-        reads.push((entry.key.copy(alloc)?, seen[place].value.copy(alloc)?))?;
+    for (entry, seen) in access.iter().zip(seen.into_vec()) {
+        reads.push((entry.key.copy(alloc)?, seen.value))?;
     }
     Ok(reads)
 }
@@ -120,11 +135,11 @@ fn result_of(
     alloc: Global,
     txn: &Txn,
     procs: &Procs,
-    reads: &Reads,
+    reads: Reads,
 ) -> Result<(Outcome, Effect), NoMemory>
     requires body { CanRun procs.now txn.now.body }
-    requires reads { map (λ read. read.0) reads.now ≡ keys_used procs.now txn.now.body }
-    ensures { IfOk result (λ r. r ≡ result_of procs.now txn.now.id txn.now.body reads.now) }
+    requires reads { map (λ read. read.0) reads ≡ keys_used procs.now txn.now.body }
+    ensures { IfOk result (λ r. r ≡ result_of procs.now txn.now.id txn.now.body reads) }
 {
     match &txn.body {
         Body::Call(number, args) => call(alloc, procs, *number, args.as_slice(), reads),
@@ -144,13 +159,13 @@ fn call(
     procs: &Procs,
     number: u32,
     args: &[Value],
-    reads: &Reads,
+    reads: Reads,
 ) -> Result<(Outcome, Effect), NoMemory>
     requires fits { CallFits procs.now number args.now }
-    requires reads { map (λ read. read.0) reads.now ≡ map (λ used. used.0) (call_keys procs.now number args.now) }
-    ensures { IfOk result (λ r. r ≡ of_finish (call_meaning procs.now number args.now reads.now)) }
+    requires reads { map (λ read. read.0) reads ≡ map (λ used. used.0) (call_keys procs.now number args.now) }
+    ensures { IfOk result (λ r. r ≡ of_finish (call_meaning procs.now number args.now reads)) }
 {
-    let finish = run(alloc, called(procs, number, args), args, reads)?;
+    let finish = run_owned(alloc, called(procs, number, args), args, reads)?;
     Ok(finished(alloc, finish))
 }
 

@@ -47,5 +47,16 @@ pub struct Seen {
     pub mover: Option<TxnId>,
 }
 
+impl TryCopy for Seen {
+    fn copy(&self, alloc: Global) -> Result<Self, NoMemory> {
+        Ok(Seen {
+            unit: self.unit.copy(alloc)?,
+            value: self.value.copy(alloc)?,
+            counter: self.counter,
+            mover: self.mover,
+        })
+    }
+}
+
 /// What a transaction sees, in the order of its access list.
 pub type Seens = Listed<Seen>;

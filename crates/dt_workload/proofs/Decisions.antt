@@ -11,7 +11,7 @@ use Rattle.dt_text.proofs.Callers.{SpellsBelow, either_bytes, either_lt, either_
 use Rattle.dt_text.specs.declared.Value.{Value}
 use Rattle.dt_text.specs.declared.Value.TheVariants.{Int, Text}
 use Rattle.dt_text.specs.Texts.{Bytes}
-use Rattle.dt_workload.proofs.OneForm.{after_front}
+use Rattle.dt_workload.proofs.OneForm.{after_front, same_bare, same_quoted}
 use Rattle.dt_workload.specs.Lines.{Said, bare, quoted, Form, session_line, call_line, move_line, argument_word, IsRanked, other_words, SpellForm, IsArgument, IsForm}
 
 -- ---- numbers
@@ -63,10 +63,7 @@ abbrev SaysNumber : Said → Type 0
 SaysNumber s = (n : ℕ) × (n < 2 ^ 32) × (s ≡ bare (decimal n))
 
 either_says_number : (s : Said) → Either (SaysNumber s)
-either_says_number (bare bs) = either_same (SpellsBelow (2 ^ 32) bs) _ (λ (n, small, is). (n, small, ap bare is)) (λ (n, small, is). (n, small, said_bytes is)) (either_spelled (2 ^ 32) (omega arith) bs)
-  where
-    said_bytes : {a b : Bytes} → bare a ≡ bare b → a ≡ b
-    said_bytes e = cc
+either_says_number (bare bs) = either_same (SpellsBelow (2 ^ 32) bs) _ (λ (n, small, is). (n, small, ap bare is)) (λ (n, small, is). (n, small, same_bare is)) (either_spelled (2 ^ 32) (omega arith) bs)
 either_says_number (quoted bs) = inr (λ (n, small, is). cc)
 
 either_is_bare : (s : Said) (bs : Bytes) → Either (s ≡ bare bs)
@@ -88,12 +85,9 @@ either_says_argument (bare bs) = either_same (SpellsSigned bs) (SaysArgument (ba
     back (Text t, fits, is) = absurd cc
 either_says_argument (quoted t) = either_same (IsStr t) (SaysArgument (quoted t)) (λ is. (Text t, is, refl)) back (either_str t)
   where
-    same_text : {a b : Bytes} → quoted a ≡ quoted b → a ≡ b
-    same_text e = cc
-
     back : SaysArgument (quoted t) → IsStr t
     back (Int z, fits, is) = absurd cc
-    back (Text u, fits, is) = subst IsStr (sym (same_text is)) fits
+    back (Text u, fits, is) = subst IsStr (sym (same_quoted is)) fits
 
 abbrev SayArguments : List Said → Type 0
 SayArguments saids = (args : List Value) × AllIn IsArgument args × (saids ≡ map argument_word args)
@@ -149,24 +143,21 @@ either_says_rank kind (quoted bs) = inr none
     none (rank, low, inr h) = cc
 either_says_rank kind (bare bs) = alone (either_bytes bs kind)
   where
-    bytes_of : {a b : Bytes} → bare a ≡ bare b → a ≡ b
-    bytes_of e = cc
-
     ranked : ¬ (bs ≡ kind) → (rest : Bytes) → bs ≡ kind ++ 47 ∷ rest → Either (SpellsBelow 10 rest) → Either (SaysRank kind (bare bs))
     ranked other rest cut (inl (rank, low, is)) = inl (rank, low, inr (ap bare (cut ∙ ap (λ r. kind ++ 47 ∷ r) is)))
     ranked other rest cut (inr none) = inr refute
       where
         refute : SaysRank kind (bare bs) → ⊥
-        refute (rank, low, inl h) = other (bytes_of h.1)
-        refute (rank, low, inr h) = none (rank, low, same_tail (after_front kind (47 ∷ rest) (47 ∷ decimal rank) (sym cut ∙ bytes_of h)))
+        refute (rank, low, inl h) = other (same_bare h.1)
+        refute (rank, low, inr h) = none (rank, low, same_tail (after_front kind (47 ∷ rest) (47 ∷ decimal rank) (sym cut ∙ same_bare h)))
 
     with_rank : ¬ (bs ≡ kind) → Either ((rest : Bytes) × (bs ≡ kind ++ 47 ∷ rest)) → Either (SaysRank kind (bare bs))
     with_rank other (inl (rest, cut)) = ranked other rest cut (either_spelled 10 (omega arith) rest)
     with_rank other (inr none) = inr refute
       where
         refute : SaysRank kind (bare bs) → ⊥
-        refute (rank, low, inl h) = other (bytes_of h.1)
-        refute (rank, low, inr h) = none (decimal rank, bytes_of h)
+        refute (rank, low, inl h) = other (same_bare h.1)
+        refute (rank, low, inr h) = none (decimal rank, same_bare h)
 
     alone : Either (bs ≡ kind) → Either (SaysRank kind (bare bs))
     alone (inl is) = inl (5, omega arith, inl (refl, ap bare is))

@@ -1,5 +1,5 @@
 -- Words of lines and the forms that they say.
-use Rattle.std.proofs.Common.{◌≡◌, ◌≢◌, ℕ, zero, suc, ◌<◌, ◌≤◌, ◌^◌, Bool, true, false, not, cond, nat_eq, List, [], ◌∷◌, length, map, take, drop, get_or, Option, Some}
+use Rattle.std.proofs.Common.{◌≡◌, ◌≢◌, ℕ, zero, suc, ◌<◌, ◌≤◌, ◌^◌, Bool, true, false, not, nat_eq, List, [], ◌∷◌, length, map, take, drop, get_or, Option, Some}
 use Rattle.std.proofs.Common.{None, MatchOption, inl, inr, ◌++◌, refl, ap, sym, ◌∙◌, subst, arith}
 use Rattle.std.proofs.lemmas.Bool.{false≢true}
 use Rattle.std.specs.Cmp.Lexicographic.{pointwise, bytes_decides}
@@ -9,14 +9,14 @@ use Rattle.dt_lists.proofs.Callers.{same_head, same_tail}
 use Rattle.std.proofs.lemmas.Option.{same_Some}
 use Rattle.dt_lists.specs.Lists.{AllIn}
 use Rattle.dt_text.specs.Texts.{IsName, is_name_byte, first_outside}
-use Rattle.dt_text.proofs.Callers.{outside_where}
+use Rattle.dt_text.proofs.Callers.{byte_outside}
 use Rattle.dt_text.specs.Reading.{words_of}
 use Rattle.dt_text.specs.declared.Word.{Word}
 use Rattle.dt_text.specs.declared.Value.{Value}
 use Rattle.dt_text.proofs.Callers.{exact}
 use Rattle.dt_text.specs.Texts.{Bytes}
 use Rattle.dt_workload.specs.Lines.{Said, bare, said, Form, session_line, call_line, move_line, IsForm, IsRanked, IsFirstWord, SpellForm, HasForm, IsArgument, argument_word}
-use Rattle.dt_workload.proofs.OneForm.{after_front, session_or_call, session_or_move, call_or_move}
+use Rattle.dt_workload.proofs.OneForm.{after_front, session_or_call, session_or_move, call_or_move, same_bare}
 use Rattle.std.specs.Prelude.{codes}
 use Rattle.dt_workload.specs.ReaderParts.{IsNoBeginning, ReadsForm, ReadsRank, ReadsRegion, Refuses, form_of}
 use Rattle.dt_workload.specs.File.{IsSessionFault}
@@ -54,9 +54,6 @@ form_answer line words None is none = λ f has.
     none f has.0 (subst (λ ws. SpellForm f (map (said line) ws)) one has.1.2)
 form_answer line words (Some f) is read = (read.0, (words, (exact line words).0 is, read.1))
 
-bare-is : {a b : Bytes} → bare a ≡ bare b → a ≡ b
-bare-is e = cc
-
 not_same : (b : Bool) (x y : Bytes) → b ≡ not (pointwise nat_eq x y) → b ≡ true → x ≡ y → ⊥
 not_same b x y is h e = absurd (true_false (pointwise nat_eq x y) (bytes_same x y e) (sym is ∙ h))
   where
@@ -76,12 +73,12 @@ same_bytes b x y is h = (bytes_decides x y).0 (true_where (pointwise nat_eq x y)
 
 -- a word that says another than the fixed one is not followed by a number of a region
 pub other_word : (fixed found : Bytes) (s : Said) (ne : Bool) (n t : Said) → ne ≡ not (pointwise nat_eq found fixed) → ne ≡ true → s ∷ t ∷ [] ≡ bare fixed ∷ n ∷ [] → s ≡ bare found → ⊥
-other_word fixed found s ne n t is h same said = not_same ne found fixed is h (bare-is (sym said ∙ same_head same))
+other_word fixed found s ne n t is h same said = not_same ne found fixed is h (same_bare (sym said ∙ same_head same))
 
 -- the fixed word and then a number, where one is read
 pub region_read : (fixed found word : Bytes) (s t : Said) (ne : Bool) (answer : Option ℕ) → ne ≡ not (pointwise nat_eq found fixed) → ne ≡ false → s ≡ bare found → t ≡ bare word
     → MatchOption answer ((n : ℕ) → n < 2 ^ 32 → word ≢ decimal n) (λ n. (n < 2 ^ 32) × (word ≡ decimal n)) → ReadsRegion fixed (s ∷ t ∷ []) answer
-region_read fixed found word s t ne None is h a b none = λ n small same. none n small (bare-is (sym b ∙ same_head (same_tail same)))
+region_read fixed found word s t ne None is h a b none = λ n small same. none n small (same_bare (sym b ∙ same_head (same_tail same)))
 region_read fixed found word s t ne (Some n) is h a b read = (read.0, rw (a, b, same_bytes ne found fixed is h, read.1) refl)
 
 -- nothing was read, so nothing is said
@@ -89,14 +86,9 @@ pub nothing_said : (P : Value → Type 0) (Q : Type 0) (found : Option Value) �
 nothing_said P Q None is h = h
 nothing_said P Q (Some v) is h = absurd cc
 
-refused : (some all : Bool) (n place : ℕ) → some ≡ not all → cond some (Some n) None ≡ Some place → all ≡ true → ⊥
-refused true true n place e found h = absurd cc
-refused true false n place e found h = absurd cc
-refused false all n place e found h = absurd cc
-
 -- a byte that no name has stands in no name
 pub no_name_outside : (word : Bytes) (place : ℕ) → first_outside is_name_byte word ≡ Some place → ¬ IsName word
-no_name_outside word place found name = refused _ _ _ place (outside_where is_name_byte word) found name.2
+no_name_outside word place found name = byte_outside is_name_byte word place found name.2
 
 -- where no session of a name can begin, its line is at fault for that
 pub no_session : (cluster : Cluster) (before : List Session) (name word : Bytes) (region : ℕ) (why : Refusal) → name ≡ word → IsName name
@@ -164,19 +156,19 @@ no_move_form word subject rest rank ranked none (move_line q key region) fits (h
 -- a line that begins with another word has no form
 pub no_kind : (word : Bytes) (rest : List Said) → ¬ (word ≡ codes "session") → ((rank : ℕ) → rank < 10 → ¬ IsRanked (codes "call") rank (bare word))
     → ((rank : ℕ) → rank < 10 → ¬ IsRanked (codes "move") rank (bare word)) → (f : Form) → IsForm f → ¬ SpellForm f (bare word ∷ rest)
-no_kind word rest other calls moves (session_line name region) fits (head, is, e) = other (bare-is (same_head e ∙ is))
+no_kind word rest other calls moves (session_line name region) fits (head, is, e) = other (same_bare (same_head e ∙ is))
 no_kind word rest other calls moves (call_line rank proc args) fits (head, is, e) = calls rank fits.0 (subst (IsRanked (codes "call") rank) (sym (same_head e)) is)
 no_kind word rest other calls moves (move_line rank key region) fits (head, is, e) = moves rank fits.0 (subst (IsRanked (codes "move") rank) (sym (same_head e)) is)
 
 -- a word that is not the kind alone, and after which no digit follows a `/`, says no rank
 pub no_rank : (kind word : Bytes) → ¬ (word ≡ kind) → ((rest : Bytes) → word ≢ kind ++ 47 ∷ rest) → (rank : ℕ) → rank < 10 → ¬ IsRanked kind rank (bare word)
-no_rank kind word other none rank low (inl h) = other (bare-is h.1)
-no_rank kind word other none rank low (inr h) = none (decimal rank) (bare-is h)
+no_rank kind word other none rank low (inl h) = other (same_bare h.1)
+no_rank kind word other none rank low (inr h) = none (decimal rank) (same_bare h)
 
 pub no_digit : (kind word digits : Bytes) → ¬ (word ≡ kind) → word ≡ kind ++ 47 ∷ digits → ((n : ℕ) → n < 10 → digits ≢ decimal n)
     → (rank : ℕ) → rank < 10 → ¬ IsRanked kind rank (bare word)
-no_digit kind word digits other cut none rank low (inl h) = other (bare-is h.1)
-no_digit kind word digits other cut none rank low (inr h) = none rank low (same_tail (after_front kind (47 ∷ digits) (47 ∷ decimal rank) (sym cut ∙ bare-is h)))
+no_digit kind word digits other cut none rank low (inl h) = other (same_bare h.1)
+no_digit kind word digits other cut none rank low (inr h) = none rank low (same_tail (after_front kind (47 ∷ digits) (47 ∷ decimal rank) (sym cut ∙ same_bare h)))
 
 -- ---- the front of a word
 

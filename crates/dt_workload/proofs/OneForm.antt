@@ -14,10 +14,11 @@ use Rattle.dt_text.proofs.Callers.{exact, no_minus, same_number}
 use Rattle.dt_text.specs.Texts.{Bytes}
 use Rattle.dt_workload.specs.Lines.{bare, quoted, said, Form, session_line, call_line, move_line, argument_word, Said, IsRanked, IsFirstWord, other_words, SpellForm, IsArgument, IsForm, HasForm}
 
-same_bare : {a b : Bytes} → bare a ≡ bare b → a ≡ b
+-- the bytes of a word that is bare, and of one in quotes
+pub same_bare : {a b : Bytes} → bare a ≡ bare b → a ≡ b
 same_bare e = cc
 
-same_quoted : {a b : Bytes} → quoted a ≡ quoted b → a ≡ b
+pub same_quoted : {a b : Bytes} → quoted a ≡ quoted b → a ≡ b
 same_quoted e = cc
 
 not_both : {a b : Bytes} → bare a ≡ quoted b → ⊥

@@ -1,6 +1,6 @@
 -- Of a list of events each region keeps its own that take effect, in their order.
 use Rattle.std.proofs.Common.{eq-eqb, eqb-true, ◌≡◌, ◌<◌, ℕ, zero, suc, Bool, true, false, cond, eqb, ◌&&◌, List, [], ◌∷◌, ◌++◌, length, get_or, set, replicate, refl}
-use Rattle.std.proofs.Common.{sym, ap, subst, ◌∙◌, inl, inr, append_assoc}
+use Rattle.std.proofs.Common.{sym, ap, subst, ◌∙◌, inl, inr, append_assoc, append-nil}
 use Rattle.std.proofs.lemmas.Bool.{false_from_ne_true}
 use Rattle.std.proofs.lemmas.List.{get_or-set_same, get_or-set_other, length-set}
 use Rattle.dt_lists.specs.Lists.{Either}
@@ -12,10 +12,6 @@ use Rattle.dt_workload.specs.declared.Workload.{Workload}
 use Rattle.dt_session.specs.World.{World, opening_world}
 use Rattle.dt_session.specs.Step.{next}
 use Rattle.dt_world.specs.WorldView.{kept_next, kept_after, kept_from, own_events, own_from, takes_effect}
-
-append_nothing : {A : Type 0} (xs : List A) → xs ++ [] ≡ xs
-append_nothing [] = refl
-append_nothing (x ∷ xs) = ap (λ l. x ∷ l) (append_nothing xs)
 
 all_empty : (n region : ℕ) → get_or (replicate {A = List Event} n []) region [] ≡ []
 all_empty zero region = refl
@@ -40,8 +36,8 @@ keep_adds kept w event region lt = go (takes_effect w event) (either_nat region 
     go true (inl e) = rw (eq-eqb (region_of event) region (sym e))
         (subst (λ q. get_or (set kept q (get_or kept q [] ++ event ∷ [])) region [] ≡ get_or kept region [] ++ event ∷ []) e (get_or-set_same kept region (get_or kept region [] ++ event ∷ []) [] lt))
     go true (inr n) = rw (false_from_ne_true (eqb (region_of event) region) (λ t. n (sym (eqb-true (region_of event) region t))))
-        (get_or-set_other kept (region_of event) region (get_or kept (region_of event) [] ++ event ∷ []) [] n ∙ sym (append_nothing (get_or kept region [])))
-    go false either = sym (ap (λ b. get_or kept region [] ++ cond b (event ∷ []) []) (none (eqb (region_of event) region)) ∙ append_nothing (get_or kept region []))
+        (get_or-set_other kept (region_of event) region (get_or kept (region_of event) [] ++ event ∷ []) [] n ∙ sym (append-nil (get_or kept region [])))
+    go false either = sym (ap (λ b. get_or kept region [] ++ cond b (event ∷ []) []) (none (eqb (region_of event) region)) ∙ append-nil (get_or kept region []))
       where
         none : (b : Bool) → (b && false) ≡ false
         none true = refl
@@ -66,7 +62,7 @@ module _ (cluster : Cluster) (workload : Workload) (region : ℕ) where
 
   kept_from_is : (w : World) (kept : List (List Event)) (events : List Event) → region < length kept
       → get_or (kept_from cluster workload w kept events) region [] ≡ get_or kept region [] ++ own_from cluster workload region w events
-  kept_from_is w kept [] lt = sym (append_nothing (get_or kept region []))
+  kept_from_is w kept [] lt = sym (append-nil (get_or kept region []))
   kept_from_is w kept (event ∷ events) lt =
       kept_from_is (next cluster workload w event) (kept_next w kept event) events (subst (λ n. region < n) (sym (keep_long kept w event)) lt)
       ∙ ap (λ l. l ++ own_from cluster workload region (next cluster workload w event) events) (keep_adds kept w event region lt)

@@ -352,25 +352,12 @@ impl<S: Scheduler + Drop> World<S> {
         ensures replies { IfOk result (λ report. AllIn (IsReplyOf self.now.cluster.regions self.now.state) report.replies) }
         ensures tables { IfOk result (λ report. report.tables ≡ map (λ node. shown node.here.table) self.now.state.nodes) }
     {
-        // Names the regions, so that the proof has what is kept of them.
-        let _sites = &self.sites;
         Ok(Report {
             replies: self.replies(alloc, events.as_slice())?,
             order: self.order(alloc, events.as_slice())?,
-            tables: self.tables(alloc)?,
+            tables: tables(alloc, self.sites.as_slice())?,
             events: EventList::from_vec(events),
         })
-    }
-
-    /// The table of each region, as it is shown.
-    fn tables(&self, alloc: Global) -> Result<Tables, NoMemory>
-        ensures { IfOk result (λ tables. tables ≡ map (λ node. shown node.here.table) self.now.state.nodes) }
-    {
-        let mut tables = Tables::new(alloc);
-        for site in self.sites.as_slice() {
-            tables.push(site.region.table().shown(alloc)?)?;
-        }
-        Ok(tables)
     }
 
     /// The executed attempts, in the order of their first executions.
@@ -572,6 +559,17 @@ fn sites<S: Scheduler + Drop>(alloc: Global, cluster: &Cluster) -> Result<Vec<Si
         sites.push(Site::new(alloc, number, cluster.regions, table)?)?;
     }
     Ok(sites)
+}
+
+/// The table of each region, as it is shown.
+fn tables<S: Scheduler + Drop>(alloc: Global, sites: &[Site<S>]) -> Result<Tables, NoMemory>
+    ensures { IfOk result (λ tables. tables ≡ map (λ site. shown site.region.state.here.table) sites.now) }
+{
+    let mut tables = Tables::new(alloc);
+    for site in sites {
+        tables.push(site.region.table().shown(alloc)?)?;
+    }
+    Ok(tables)
 }
 
 /// The table that every region has at first.

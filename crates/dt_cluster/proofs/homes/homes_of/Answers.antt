@@ -1,9 +1,9 @@
-use Rattle.std.proofs.Common.{◌∷◌, [], inl, inr, sym, ◌∙◌, subst, string_bytes}
+use Rattle.std.proofs.Common.{◌∷◌, [], inl, inr, sym, ◌∙◌, subst, string_bytes, append_assoc, append-nil}
 use Rattle.toml.specs.View.{view}
 use Rattle.dt_lists.specs.Lists.{Pairwise}
 use Rattle.dt_cluster.specs.Rows.{IsHome}
 use Rattle.dt_cluster.specs.ReaderParts.{IsBadHomeOf}
-use Rattle.dt_cluster.proofs.Listing.{listed, listed_are, tells_more, err_passed, one_more, nothing_more}
+use Rattle.dt_cluster.proofs.Listing.{listed, listed_are, tells_more, err_passed}
 use Rattle.dt_cluster.proofs.homes.homes_of.Goals as goal
 
 pub returns-in_err-home-clause-fault : goal.returns-in_err-home-clause-fault
@@ -27,7 +27,7 @@ loop-name-preserved c =
     let home : IsHome c.args.version c.args.regions (string_bytes c.in-Some.name.now, view c.in-Some.value.now) c.in_ok-home.field-0 = (ok.0 ∙ c.as_str.ensures.value, ok.1, ok.2, ok.3) in (
       tt,
       tt,
-      (λ rest p. rw c.in_ok-push.ensures.items (subst (λ hs. Pairwise (IsHome c.args.version c.args.regions) (listed c.args.table.now.entries) hs) (sym (one_more c.loop-name.homes.items c.in_ok-home.field-0 rest))
+      (λ rest p. rw c.in_ok-push.ensures.items (subst (λ hs. Pairwise (IsHome c.args.version c.args.regions) (listed c.args.table.now.entries) hs) (sym (append_assoc c.loop-name.homes.items (c.in_ok-home.field-0 ∷ []) rest))
           (c.loop-name.invariant.2 (c.in_ok-home.field-0 ∷ rest) (rw c.in-Some.ensures.steps (home, p))))),
       λ name why h. c.loop-name.invariant.3 name why (rw c.in-Some.ensures.steps (inr ((c.in_ok-home.field-0, home), h))),
     )
@@ -36,5 +36,5 @@ pub returns-clause-ok : goal.returns-clause-ok
 returns-clause-ok c = (
   listed c.args.table.now.entries,
   listed_are c.args.table.now.entries c.iter-name-items.ensures.ordered,
-  rw c.from_vec.ensures (subst (λ hs. Pairwise (IsHome c.args.version c.args.regions) (listed c.args.table.now.entries) hs) (nothing_more c.loop-name.homes.items) (c.loop-name.invariant.2 [] (rw c.in-None.ensures.steps.0 tt))),
+  rw c.from_vec.ensures (subst (λ hs. Pairwise (IsHome c.args.version c.args.regions) (listed c.args.table.now.entries) hs) (append-nil c.loop-name.homes.items) (c.loop-name.invariant.2 [] (rw c.in-None.ensures.steps.0 tt))),
 )

@@ -9,7 +9,7 @@ pub returns-in_err-procs-clause-fault : goal.returns-in_err-procs-clause-fault
 returns-in_err-procs-clause-fault c =
     let n = c.in_ok-numbers.numbers in
     err_passed _ c.from_residual-in_err-procs.result c.in_err-procs.field-0.0 c.from_residual-in_err-procs.ensures.1
-    (tells_more _ (IsFaultOf _) (λ f is. inr (c.in_ok-only_known.ensures.ok, inr (n.regions, n.version, n.workers, n.tries, n.drop, n.repeat, c.in_ok-numbers.ensures.ok, inl is)))
+    (tells_more _ (IsFaultOf _) (λ f is. inr (c.in_ok-only_known.ensures.ok, inr (n, c.in_ok-numbers.ensures.ok, inl is)))
     c.in_err-procs.field-0.0 c.in_err-procs.ensures.fault)
 
 pub returns-in_err-homes-clause-fault : goal.returns-in_err-homes-clause-fault
@@ -19,12 +19,7 @@ returns-in_err-homes-clause-fault c =
     (tells_more _ (IsFaultOf _) (λ f is. inr (
       c.in_ok-only_known.ensures.ok,
       inr (
-        n.regions,
-        n.version,
-        n.workers,
-        n.tries,
-        n.drop,
-        n.repeat,
+        n,
         c.in_ok-numbers.ensures.ok,
         inr ((c.in_ok-procs.procs, c.in_ok-procs.ensures.ok), inl is),
       ),
@@ -38,12 +33,7 @@ returns-in_err-rows-clause-fault c =
     (tells_more _ (IsFaultOf _) (λ f is. inr (
       c.in_ok-only_known.ensures.ok,
       inr (
-        n.regions,
-        n.version,
-        n.workers,
-        n.tries,
-        n.drop,
-        n.repeat,
+        n,
         c.in_ok-numbers.ensures.ok,
         inr ((c.in_ok-procs.procs, c.in_ok-procs.ensures.ok), inr ((c.in_ok-homes.homes, c.in_ok-homes.ensures.ok), is)),
       ),

@@ -1,6 +1,6 @@
 use Rattle.std.proofs.Common.{Err, ap}
 use Rattle.dt_text.specs.Texts.{is_text_byte}
-use Rattle.dt_cluster.proofs.Listing.{byte_outside}
+use Rattle.dt_text.proofs.Callers.{byte_outside}
 use Rattle.dt_cluster.proofs.rows.read_text.Goals as goal
 
 pub returns-in-Err-BadByte : goal.returns-in-Err-BadByte

@@ -1,9 +1,9 @@
-use Rattle.std.proofs.Common.{◌∷◌, [], inl, inr, sym, ◌∙◌, subst, string_bytes}
+use Rattle.std.proofs.Common.{◌∷◌, [], inl, inr, sym, ◌∙◌, subst, string_bytes, append_assoc, append-nil}
 use Rattle.toml.specs.View.{view}
 use Rattle.dt_lists.specs.Lists.{Pairwise}
 use Rattle.dt_cluster.specs.Rows.{IsRow}
 use Rattle.dt_cluster.specs.ReaderParts.{IsBadRowOf}
-use Rattle.dt_cluster.proofs.Listing.{listed, listed_are, tells_more, err_passed, one_more, nothing_more}
+use Rattle.dt_cluster.proofs.Listing.{listed, listed_are, tells_more, err_passed}
 use Rattle.dt_cluster.proofs.rows.rows_of.Goals as goal
 
 pub returns-in_err-row-clause-fault : goal.returns-in_err-row-clause-fault
@@ -27,7 +27,7 @@ loop-name-preserved c =
     let row : IsRow (string_bytes c.in-Some.name.now, view c.in-Some.value.now) c.in_ok-row.field-0 = (ok.0 ∙ c.as_str.ensures.value, ok.1, ok.2) in (
       tt,
       tt,
-      (λ rest p. rw c.in_ok-push.ensures.items (subst (λ rs. Pairwise IsRow (listed c.args.table.now.entries) rs) (sym (one_more c.loop-name.rows.items c.in_ok-row.field-0 rest))
+      (λ rest p. rw c.in_ok-push.ensures.items (subst (λ rs. Pairwise IsRow (listed c.args.table.now.entries) rs) (sym (append_assoc c.loop-name.rows.items (c.in_ok-row.field-0 ∷ []) rest))
           (c.loop-name.invariant.2 (c.in_ok-row.field-0 ∷ rest) (rw c.in-Some.ensures.steps (row, p))))),
       λ name why h. c.loop-name.invariant.3 name why (rw c.in-Some.ensures.steps (inr ((c.in_ok-row.field-0, row), h))),
     )
@@ -36,5 +36,5 @@ pub returns-clause-ok : goal.returns-clause-ok
 returns-clause-ok c = (
   listed c.args.table.now.entries,
   listed_are c.args.table.now.entries c.iter-name-items.ensures.ordered,
-  rw c.from_vec.ensures (subst (λ rs. Pairwise IsRow (listed c.args.table.now.entries) rs) (nothing_more c.loop-name.rows.items) (c.loop-name.invariant.2 [] (rw c.in-None.ensures.steps.0 tt))),
+  rw c.from_vec.ensures (subst (λ rs. Pairwise IsRow (listed c.args.table.now.entries) rs) (append-nil c.loop-name.rows.items) (c.loop-name.invariant.2 [] (rw c.in-None.ensures.steps.0 tt))),
 )

@@ -1,4 +1,4 @@
-use Rattle.std.proofs.Common.{◌≡◌, ◌∙◌, sym, subst, length, map}
+use Rattle.std.proofs.Common.{◌≡◌, ◌∙◌, List, sym, subst, length, map}
 use Rattle.std.specs.Prelude.{Option}
 use Rattle.dt_access.specs.Clash.{Bytes}
 use Rattle.dt_text.specs.declared.Value.{Value}
@@ -16,16 +16,22 @@ places-requires-clause-within c =
 
 pub places-requires-clause-read : goal.places-requires-clause-read
 places-requires-clause-read c =
-    subst (λ ds. AllIn (λ name. AnyIn (λ r. r.0 ≡ name) c.args.reads.now) (names_given c.args.args.now ds)) (sym c.keys-declarations.ensures.same) (names_read c.args.body.now c.args.args.now c.args.reads.now c.requires.reads)
+    subst (λ (rs : List (Bytes × Option Value)). AllIn (λ name. AnyIn (λ r. r.0 ≡ name) rs) (names_given c.args.args.now c.keys-declarations.result.now)) (sym c.as_slice.ensures)
+    (subst (λ ds. AllIn (λ name. AnyIn (λ r. r.0 ≡ name) c.args.reads) (names_given c.args.args.now ds)) (sym c.keys-declarations.ensures.same) (names_read c.args.body.now c.args.args.now c.args.reads c.requires.reads))
 
 pub new-requires-clause-places : goal.new-requires-clause-places
-new-requires-clause-places c = rows_below (names_given c.args.args.now c.keys-declarations.result.now) c.args.reads.now c.in_ok-places.places.items c.in_ok-items.items.items c.in_ok-items.ensures c.in_ok-places.ensures
+new-requires-clause-places c =
+    let keys : List (Bytes × Option Value) → List Bytes = map (λ r. r.0) in
+    rows_below (names_given c.args.args.now c.keys-declarations.result.now) c.args.reads c.in_ok-places.places.items c.in_ok-items.items.items c.in_ok-items.ensures
+    (subst (λ rs. ArePlaces (names_given c.args.args.now c.keys-declarations.result.now) (keys rs) c.in_ok-places.places.items) c.as_slice.ensures c.in_ok-places.ensures)
 
 pub new-requires-clause-keys : goal.new-requires-clause-keys
-new-requires-clause-keys c = rows_ascend c.args.body.now c.args.args.now c.args.reads.now c.in_ok-items.items.items c.in_ok-items.ensures c.requires.reads
+new-requires-clause-keys c = rows_ascend c.args.body.now c.args.args.now c.args.reads c.in_ok-items.items.items c.in_ok-items.ensures c.requires.reads
 
 pub returns : goal.returns
 returns c =
+    let keys : List (Bytes × Option Value) → List Bytes = map (λ r. r.0) in
     c.new.ensures
-    ∙ rows_named c.args.body.now c.args.args.now c.args.reads.now c.in_ok-places.places.items c.in_ok-items.items.items c.in_ok-items.ensures
-    (subst (λ ds. ArePlaces (names_given c.args.args.now ds) (map (λ (r : Bytes × Option Value). r.0) c.args.reads.now) c.in_ok-places.places.items) c.keys-declarations.ensures.same c.in_ok-places.ensures)
+    ∙ rows_named c.args.body.now c.args.args.now c.args.reads c.in_ok-places.places.items c.in_ok-items.items.items c.in_ok-items.ensures
+    (subst (λ ds. ArePlaces (names_given c.args.args.now ds) (keys c.args.reads) c.in_ok-places.places.items) c.keys-declarations.ensures.same
+    (subst (λ rs. ArePlaces (names_given c.args.args.now c.keys-declarations.result.now) (keys rs) c.in_ok-places.places.items) c.as_slice.ensures c.in_ok-places.ensures))

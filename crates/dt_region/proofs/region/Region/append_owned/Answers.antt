@@ -7,25 +7,25 @@ use Rattle.dt_region.proofs.region.Region.append_owned.Goals as goal
 
 pub place-requires-clause-room : goal.place-requires-clause-room
 place-requires-clause-room g c =
-    let turn = c.if-number-taken.false ∙ c.taken.ensures in
+    let turn = c.if-number-taken.false ∙ c.taken.ensures.taken in
     rw c.in_ok-part.ensures (append_room _ _ _ _ (seen_as c.self.view_is c.self.invariant) c.args.source c.args.number c.args.txn c.requires.source c.requires.can turn).0
 
 pub overflow_add-number : goal.overflow_add-number
 overflow_add-number g c =
-    let turn = c.if-number-taken.false ∙ c.taken.ensures in
+    let turn = c.if-number-taken.false ∙ c.taken.ensures.taken in
     let fits = (append_room _ _ _ _ (seen_as c.self.view_is c.self.invariant) c.args.source c.args.number c.args.txn c.requires.source c.requires.can turn).1 in
     search (rules, fits)
 
 pub invariant_of-self-2 : goal.invariant_of-self-2
 invariant_of-self-2 g c =
-    let turn = c.if-number-taken.false ∙ c.taken.ensures in
+    let turn = c.if-number-taken.false ∙ c.taken.ensures.taken in
     let seen = seen_as c.self.view_is c.self.invariant in
     let kept = append_kept _ _ _ _ seen c.args.source c.args.number c.args.txn c.requires.source c.requires.can turn c.reserve-2.ensures.same c.keep.ensures.kept in
     append_keeps _ _ _ _ seen c.args.source c.args.number c.args.txn c.requires.source c.requires.can turn _ _ kept (c.in_ok-place.ensures.ok ∙ ap (with_part c.self.inside.logs.items) c.in_ok-part.ensures)
 
 pub returns-clause-makes : goal.returns-clause-makes
 returns-clause-makes g c =
-    let turn = c.if-number-taken.false ∙ c.taken.ensures in
+    let turn = c.if-number-taken.false ∙ c.taken.ensures.taken in
     let seen = seen_as c.self.view_is c.self.invariant in
     let kept = append_kept _ _ _ _ seen c.args.source c.args.number c.args.txn c.requires.source c.requires.can turn c.reserve-2.ensures.same c.keep.ensures.kept in
     append_made _ _ _ _ seen c.args.source c.args.number c.args.txn c.requires.source c.requires.can turn _ _ kept (c.in_ok-place.ensures.ok ∙ ap (with_part c.self.inside.logs.items) c.in_ok-part.ensures)

@@ -2,7 +2,7 @@ use Rattle.std.proofs.Common.{sym, ap, subst}
 use Rattle.dt_eval.specs.declared.frame.Frame.{Frame}
 use Rattle.dt_eval.specs.FrameInner.{IsSoundBlock}
 use Rattle.dt_eval.proofs.RunStart.{opening_sound}
-use Rattle.dt_eval.proofs.calls.run.Goals as goal
+use Rattle.dt_eval.proofs.calls.run_owned.Goals as goal
 
 pub block-requires : goal.block-requires
 block-requires c =
