@@ -1,7 +1,6 @@
 -- Lanes: the entries that use one row in one way, each as a mark with the number of its push. Their numbers ascend, so a lane
 -- is searched by halving, and what lies between two entries of other lanes is found by their numbers.
-use Rattle.std.specs.Prelude.{◌≡◌, ℕ, ◌<◌, ◌≤◌, Bool, true, false, ◌&&◌, nat_lt, List, [], ◌∷◌, ◌++◌, get_or, Option, Some, None}
-use Rattle.std.specs.List.Sorted.{IsPartitionPoint}
+use Rattle.std.specs.Prelude.{◌≡◌, ℕ, ◌<◌, ◌≤◌, ◌⊎◌, ◌↔◌, Bool, ◌&&◌, nat_lt, List, [], ◌++◌, get_or, length, take, drop, Option, Some, None}
 use Rattle.dt_lists.specs.Lists.{AllIn, AnyIn, EachThen, Has}
 use Rattle.dt_queue.specs.declared.mark.Mark.{Mark}
 
@@ -9,13 +8,11 @@ use Rattle.dt_queue.specs.declared.mark.Mark.{Mark}
 abbrev pub AreNumbered : List Mark → Type 0
 AreNumbered marks = EachThen (λ m k. m.number < k.number) marks
 
--- whether the number of a mark is less than another number
-abbrev pub is_below : ℕ → Mark → Bool
-is_below number m = nat_lt m.number number
-
 -- the place is where the search for a number ends: marks before it have lesser numbers, and those from it on have not
-abbrev pub EndsBelow : ℕ → List Mark → ℕ → Type 0
-EndsBelow number marks place = IsPartitionPoint (λ m. is_below number m ≡ true) (λ m. is_below number m ≡ false) marks place
+pub record EndsBelow (number : ℕ) (marks : List Mark) (place : ℕ) : Type 0 where
+  pub within : place ≤ length marks
+  pub lesser : AllIn (λ m. m.number < number) (take place marks)
+  pub others : AllIn (λ m. number ≤ m.number) (drop place marks)
 
 -- whether the number of a mark lies between two numbers
 abbrev pub is_between : ℕ → ℕ → Mark → Bool
@@ -45,3 +42,36 @@ SameLanes old new = (place : ℕ) → get_or new place [] ≡ get_or old place [
 pub record ChangesLane (old : List (List Mark)) (place : ℕ) (lane : List Mark) (new : List (List Mark)) : Type 0 where
   pub changed : get_or new place [] ≡ lane
   pub others : (other : ℕ) → ¬ (other ≡ place) → get_or new other [] ≡ get_or old other []
+
+-- none of the marks lies between the two numbers
+abbrev pub NoneBetween : ℕ → ℕ → List Mark → Type 0
+NoneBetween low high marks = (m : Mark) → Has marks m → ¬ (IsBetween low high m)
+
+-- of the marks of a row that lie between two numbers, it is one of the nearest to an entry after them that writes the row:
+-- it reads the row, and none after it writes it; or it writes it, and none after it uses it
+abbrev pub IsNearInRow : List Mark → List Mark → ℕ → ℕ → Mark → Type 0
+IsNearInRow reads writes low high m = IsBetween low high m
+    × ((Has reads m × NoneBetween m.number high writes) ⊎ (Has writes m × NoneBetween m.number high writes × NoneBetween m.number high reads))
+
+-- of the marks of a row that lie between two numbers, it is one of the nearest to an entry before them that writes the row:
+-- it reads the row, and none before it writes it; or it writes it, and none before it uses it
+abbrev pub IsNextInRow : List Mark → List Mark → ℕ → ℕ → Mark → Type 0
+IsNextInRow reads writes low high m = IsBetween low high m
+    × ((Has reads m × NoneBetween low m.number writes) ⊎ (Has writes m × NoneBetween low m.number writes × NoneBetween low m.number reads))
+
+-- the numbers in each lane ascend, and no number stands twice in the lanes of rows that are read and written
+pub record AreApart (reads writes : List (List Mark)) : Type 0 where
+  pub reads_numbered : (row : ℕ) → AreNumbered (get_or reads row [])
+  pub writes_numbered : (row : ℕ) → AreNumbered (get_or writes row [])
+  pub of_reads : (r s : ℕ) (m k : Mark) → Has (get_or reads r []) m → Has (get_or reads s []) k → m.number ≡ k.number → r ≡ s
+  pub of_writes : (r s : ℕ) (m k : Mark) → Has (get_or writes r []) m → Has (get_or writes s []) k → m.number ≡ k.number → r ≡ s
+  pub of_both : (r s : ℕ) (m k : Mark) → Has (get_or reads r []) m → Has (get_or writes s []) k → ¬ (m.number ≡ k.number)
+
+-- the list has just the marks that have P, in the order of their numbers
+pub record AreMarks (P : Mark → Type 0) (marks : List Mark) : Type 0 where
+  pub numbered : AreNumbered marks
+  pub members : (m : Mark) → Has marks m ↔ P m
+
+-- marks were added at the back: just those that have P, in the order of their numbers
+abbrev pub AddsMarks : (Mark → Type 0) → List Mark → List Mark → Type 0
+AddsMarks P old new = (added : List Mark) × (new ≡ old ++ added) × AreMarks P added

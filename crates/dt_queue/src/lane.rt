@@ -64,10 +64,8 @@ impl Lane {
         ensures { IsLastBetween low high self.now result }
     {
         let place = self.below(high).checked_sub(1)?;
-        self.marks
-            .get(place)
-            .copied()
-            .filter(|mark| low < mark.number)
+        let mark = *self.marks.get(place)?;
+        if low < mark.number { Some(mark) } else { None }
     }
 
     /// The first mark with a number between the two.
@@ -75,20 +73,21 @@ impl Lane {
         ensures { IsFirstBetween low high self.now result }
     {
         let place = self.below(low.checked_add(1)?);
-        self.marks
-            .get(place)
-            .copied()
-            .filter(|mark| mark.number < high)
+        let mark = *self.marks.get(place)?;
+        if mark.number < high { Some(mark) } else { None }
     }
 
     /// Appends the marks with numbers between the two; after `NoMemory` maybe only some of them.
     pub fn add_between(&self, low: u64, high: u64, marks: &mut Vec<Mark>) -> Result<(), NoMemory>
         ensures { OnOk result (marks.new.items ≡ marks.old.items ++ filter (is_between low high) self.now) }
     {
-        let mut place = self.below(low.saturating_add(1));
+        let Some(next) = low.checked_add(1) else {
+            return Ok(());
+        };
+        let mut place = self.below(next);
         while let Some(mark) = self.marks.get(place) {
             if mark.number >= high {
-                break;
+                return Ok(());
             }
             marks.push(*mark)?;
             place += 1;

@@ -1,0 +1,1 @@
+use Rattle.dt_queue.proofs.Marks.{removed}
