@@ -1,6 +1,6 @@
 -- Lanes: the entries that use one row in one way, each as a mark with the number of its push. Their numbers ascend, so a lane
 -- is searched by halving, and what lies between two entries of other lanes is found by their numbers.
-use Rattle.std.specs.Prelude.{◌≡◌, ℕ, ◌<◌, ◌≤◌, ◌⊎◌, ◌↔◌, Bool, ◌&&◌, nat_lt, List, [], ◌++◌, get_or, length, take, drop, Option, Some, None}
+use Rattle.std.specs.Prelude.{◌≡◌, ℕ, ◌<◌, ◌≤◌, ◌⊎◌, ◌↔◌, Bool, ◌&&◌, nat_lt, if◌then◌else◌, List, [], ◌++◌, get_or, length, take, drop, Option, Some, None}
 use Rattle.dt_lists.specs.Lists.{AllIn, AnyIn, EachThen, Has}
 use Rattle.dt_queue.specs.declared.mark.Mark.{Mark}
 
@@ -75,3 +75,19 @@ pub record AreMarks (P : Mark → Type 0) (marks : List Mark) : Type 0 where
 -- marks were added at the back: just those that have P, in the order of their numbers
 abbrev pub AddsMarks : (Mark → Type 0) → List Mark → List Mark → Type 0
 AddsMarks P old new = (added : List Mark) × (new ≡ old ++ added) × AreMarks P added
+
+-- the number of a mark, or another number where there is no mark
+abbrev pub number_or : Option Mark → ℕ → ℕ
+number_or None other = other
+number_or (Some m) other = m.number
+
+-- a mark, where its number is greater than another number
+abbrev pub later_than : ℕ → Option Mark → Option Mark
+later_than after None = None
+later_than after (Some m) = if nat_lt after m.number then Some m else None
+
+-- of two marks, as far as there are any, the one with the lesser number
+abbrev pub earlier : Option Mark → Option Mark → Option Mark
+earlier None right = right
+earlier (Some m) None = Some m
+earlier (Some m) (Some k) = if nat_lt m.number k.number then Some m else Some k

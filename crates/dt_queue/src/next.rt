@@ -1,9 +1,13 @@
+ghost use Rattle.std.specs.Prelude.{◌≡◌, [], get_or, is_some, ◌||◌};
+ghost use Rattle.dt_lists.specs.Lists.{AnyIn};
+ghost use Rattle.dt_queue.specs.Lanes.{AreApart, IsNextInRow, earlier, later_than};
+
 use crate::lane::Lane;
 use crate::lanes::first_between;
 use crate::mark::Mark;
-use std::cmp::max;
+use crate::nearest::number_or;
 
-/// What is known of the followers of an entry: whether there are any, and which is the first after some number.
+/// What is known of some entries: whether there are any, and which is the first after some number.
 #[derive(Clone, Copy)]
 pub struct Next {
     pub any: bool,
@@ -11,50 +15,75 @@ pub struct Next {
 }
 
 impl Next {
-    /// The one follower that there is at most.
-    pub fn one(mark: Option<Mark>, after: u64) -> Self {
-        Next {
-            any: mark.is_some(),
-            first: mark.filter(|mark| after < mark.number),
-        }
-    }
+    ghost use Rattle.dt_queue.specs.Next.{IsNextOf};
 
-    /// The same of followers of both kinds.
-    pub fn or(self, other: Next) -> Self {
-        let first = match (self.first, other.first) {
-            (Some(left), Some(right)) => Some(if left.number < right.number { left } else { right }),
-            (Some(left), None) => Some(left),
-            (None, right) => right,
+    /// What is known where there is one entry at most.
+    pub fn one(mark: Option<Mark>, after: u64) -> Self
+        ensures any { result.any ≡ is_some mark }
+        ensures first { result.first ≡ later_than after mark }
+    {
+        let first = match mark {
+            Some(found) if after < found.number => mark,
+            _ => None,
         };
         Next {
-            any: self.any || other.any,
+            any: mark.is_some(),
             first,
         }
     }
-}
 
-/// Of the entries of a row between two numbers those that are nearest to an earlier one that writes it: those that read the
-/// row and before which none writes it, or, where there are none, the first one that writes it.
-pub fn next_in_row(reads: &[Lane], writes: &[Lane], row: usize, low: u64, high: u64, after: u64) -> Next {
-    let write = first_between(writes, row, low, high);
-    let limit = write.map_or(high, |mark| mark.number);
-    match first_between(reads, row, low, limit) {
-        Some(_) => Next {
+    /// What is known of entries of both kinds.
+    pub fn or(self, other: Next) -> Self
+        ensures any { result.any ≡ (self.any || other.any) }
+        ensures first { result.first ≡ earlier self.first other.first }
+    {
+        Next {
+            any: self.any || other.any,
+            first: earlier(self.first, other.first),
+        }
+    }
+
+    /// Of the marks of a row between two numbers those that are nearest to an entry before them that writes the row: those that
+    /// read it and before which none writes it, or, where there are none, the first one that writes it.
+    pub fn in_row(reads: &[Lane], writes: &[Lane], row: usize, low: u64, high: u64, after: u64) -> Self
+        requires { AreApart reads.now writes.now }
+        ensures { IsNextOf (IsNextInRow (get_or reads.now row []) (get_or writes.now row []) low high) after result }
+    {
+        let write = first_between(writes, row, low, high);
+        let limit = number_or(write, high);
+        if first_between(reads, row, low, limit).is_none() {
+            return Next::one(write, after);
+        }
+        let start = if after < low { low } else { after };
+        Next {
             any: true,
-            first: first_between(reads, row, max(low, after), limit),
-        },
-        None => Next::one(write, after),
+            first: first_between(reads, row, start, limit),
+        }
+    }
+
+    /// The same of several rows.
+    pub fn in_rows(reads: &[Lane], writes: &[Lane], rows: &[usize], low: u64, high: u64, after: u64) -> Self
+        requires { AreApart reads.now writes.now }
+        ensures { IsNextOf (λ m. AnyIn (λ row. IsNextInRow (get_or reads.now row []) (get_or writes.now row []) low high m) rows.now) after result }
+    {
+        let mut next = Next {
+            any: false,
+            first: None,
+        };
+        for row in rows {
+            next = next.or(Next::in_row(reads, writes, *row, low, high, after));
+        }
+        next
     }
 }
 
-/// The same of several rows.
-pub fn next_in_rows(reads: &[Lane], writes: &[Lane], rows: &[usize], low: u64, high: u64, after: u64) -> Next {
-    let mut next = Next {
-        any: false,
-        first: None,
-    };
-    for row in rows {
-        next = next.or(next_in_row(reads, writes, *row, low, high, after));
+/// The mark with the lesser number, of those that there are.
+fn earlier(left: Option<Mark>, right: Option<Mark>) -> Option<Mark>
+    ensures { result ≡ earlier left right }
+{
+    match (left, right) {
+        (Some(one), Some(other)) => if one.number < other.number { left } else { right },
+        (Some(_), None) => left,
+        (None, _) => right,
     }
-    next
 }

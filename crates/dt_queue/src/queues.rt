@@ -6,8 +6,8 @@ use crate::follower::Follower;
 use crate::lane::Lane;
 use crate::lanes::{first_between, last_between, push_mark, remove_mark};
 use crate::mark::Mark;
-use crate::nearest::{add, add_row, add_rows};
-use crate::next::{Next, next_in_row, next_in_rows};
+use crate::nearest::{add, add_row, near_rows, number_or};
+use crate::next::Next;
 use crate::rows::Rows;
 use dt_access::Mode;
 use dt_text::{Key, NoMemory};
@@ -139,19 +139,23 @@ impl Queues {
     /// The marks of the neighbours of an entry, in the order of their pushes.
     fn nearest(&self, alloc: Global, cell: Cell) -> Result<Vec<Mark>, NoMemory> {
         let granule = self.rows.granule_of(cell.row);
-        let reads = self.reads.as_slice();
-        let writes = self.writes.as_slice();
-        let high = cell.number;
-        let whole = last_between(self.wholes.as_slice(), granule, 0, high);
-        let low = whole.map_or(0, |mark| mark.number);
-        let mut marks = Vec::new(alloc);
-        match cell.mode {
-            Mode::Read => add(last_between(writes, cell.row, low, high), &mut marks)?,
-            Mode::Write => add_row(reads, writes, cell.row, low, high, &mut marks)?,
-            Mode::Whole => add_rows(reads, writes, self.rows.rows_of(granule), low, high, &mut marks)?,
-        }
+        let whole = last_between(self.wholes.as_slice(), granule, 0, cell.number);
+        let mut marks = self.near_in_rows(alloc, cell, granule, number_or(whole, 0))?;
         if marks.is_empty() {
             add(whole, &mut marks)?;
+        }
+        Ok(marks)
+    }
+
+    /// Of the marks of reads and writes after a number those of neighbours of an entry.
+    fn near_in_rows(&self, alloc: Global, cell: Cell, granule: usize, low: u64) -> Result<Vec<Mark>, NoMemory> {
+        let reads = self.reads.as_slice();
+        let writes = self.writes.as_slice();
+        let mut marks = Vec::new(alloc);
+        match cell.mode {
+            Mode::Read => add(last_between(writes, cell.row, low, cell.number), &mut marks)?,
+            Mode::Write => add_row(reads, writes, cell.row, low, cell.number, &mut marks)?,
+            Mode::Whole => return near_rows(alloc, reads, writes, self.rows.rows_of(granule), low, cell.number),
         }
         Ok(marks)
     }
@@ -159,20 +163,23 @@ impl Queues {
     /// The mark of the first follower of an entry after a number.
     fn next(&self, cell: Cell, after: u64) -> Option<Mark> {
         let granule = self.rows.granule_of(cell.row);
-        let reads = self.reads.as_slice();
-        let writes = self.writes.as_slice();
-        let low = cell.number;
-        let whole = first_between(self.wholes.as_slice(), granule, low, u64::MAX);
-        let high = whole.map_or(u64::MAX, |mark| mark.number);
-        let next = match cell.mode {
-            Mode::Read => Next::one(first_between(writes, cell.row, low, high), after),
-            Mode::Write => next_in_row(reads, writes, cell.row, low, high, after),
-            Mode::Whole => next_in_rows(reads, writes, self.rows.rows_of(granule), low, high, after),
-        };
+        let whole = first_between(self.wholes.as_slice(), granule, cell.number, u64::MAX);
+        let next = self.next_in_rows(cell, granule, number_or(whole, u64::MAX), after);
         if next.any {
             next.first
         } else {
             Next::one(whole, after).first
+        }
+    }
+
+    /// What is known of the followers of an entry that read or write rows, before a number.
+    fn next_in_rows(&self, cell: Cell, granule: usize, high: u64, after: u64) -> Next {
+        let reads = self.reads.as_slice();
+        let writes = self.writes.as_slice();
+        match cell.mode {
+            Mode::Read => Next::one(first_between(writes, cell.row, cell.number, high), after),
+            Mode::Write => Next::in_row(reads, writes, cell.row, cell.number, high, after),
+            Mode::Whole => Next::in_rows(reads, writes, self.rows.rows_of(granule), cell.number, high, after),
         }
     }
 }
