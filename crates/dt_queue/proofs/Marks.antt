@@ -175,7 +175,7 @@ between_false low high m out = by (nat_lt low m.number) (nat_lt m.number high) r
     by true false e f = refl
     by false b e f = refl
 
-between_true : (low high : ℕ) (m : Mark) → IsBetween low high m → is_between low high m ≡ true
+pub between_true : (low high : ℕ) (m : Mark) → IsBetween low high m → is_between low high m ≡ true
 between_true low high m is = grind (arith, is)
 
 filter_out : {A : Type 0} (test : A → Bool) (xs : List A) → AllIn (λ x. test x ≡ false) xs → filter test xs ≡ []

@@ -1,1 +1,1 @@
-use Rattle.dt_queue.proofs.Marks.{removed}
+use Rattle.dt_queue.proofs.RowsNear.{gathered_more}
