@@ -1,3 +1,4 @@
 pub mod Marks
 pub mod NearMarks
 pub mod RowsNear
+pub mod InOrder

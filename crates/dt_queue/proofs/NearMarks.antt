@@ -1,6 +1,6 @@
 -- What is nearest in a row: of the marks of its reads and writes between two numbers those that one of the two ends waits for.
 use Rattle.std.proofs.Common.{◌≡◌, ◌⊎◌, ◌↔◌, ℕ, zero, suc, ◌+◌, ◌<◌, ◌≤◌, Bool, true, false, cond, nat_lt, List, [], ◌∷◌, ◌++◌, length, get_or, Option, Some, None, option_to_list, is_some}
-use Rattle.std.proofs.Common.{MatchOption, refl, ap, sym, subst, inl, inr, arith, ◌∙◌, length-append}
+use Rattle.std.proofs.Common.{refl, ap, sym, subst, inl, inr, arith, ◌∙◌, length-append}
 use Rattle.std.specs.List.{filter}
 use Rattle.dt_lists.specs.Lists.{AllIn, AnyIn, EachThen, Has}
 use Rattle.dt_lists.proofs.Callers.{all_get, either_le, filter_each, has_filter, has_of_filtered}
@@ -8,7 +8,7 @@ use Rattle.dt_queue.specs.declared.mark.Mark.{Mark}
 use Rattle.dt_queue.specs.declared.next.Next.{Next}
 use Rattle.std.proofs.lemmas.List.{append-nil}
 use Rattle.dt_queue.specs.Lanes.{AddsMarks, AreApart, AreMarks, AreNumbered, IsBetween, IsFirstBetween, IsLastBetween, IsNearInRow, IsNextInRow, NoneBetween, is_between, later_than, number_or}
-use Rattle.dt_queue.specs.Next.{IsNextOf}
+use Rattle.dt_queue.specs.Next.{IsFirstAfter, IsNextOf}
 use Rattle.dt_queue.proofs.Marks.{between_true}
 
 pub trichotomy : (a b : ℕ) → (a < b) ⊎ (a ≡ b) ⊎ (b < a)
@@ -208,7 +208,7 @@ pub next_of_one : (P : Mark → Type 0) (w : Option Mark) (after : ℕ) (n : Nex
 next_of_one P None after n exact any first = record {
   some = λ e. cc;
   none = λ e m p. none m ((exact m).0 p);
-  first = subst (λ f. MatchOption f ((m : Mark) → P m → m.number ≤ after) (λ f. P f × (after < f.number) × ((m : Mark) → P m → after < m.number → f.number ≤ m.number))) (sym first) (λ m p. absurd (none m ((exact m).0 p)));
+  first = subst (λ f. IsFirstAfter P after f) (sym first) (λ m p. absurd (none m ((exact m).0 p)));
 }
   where
     none : (m : Mark) → None ≡ Some m → ⊥
@@ -216,14 +216,14 @@ next_of_one P None after n exact any first = record {
 next_of_one P (Some w) after n exact any first = record {
   some = λ e. (w, (exact w).1 refl);
   none = λ e m p. cc;
-  first = subst (λ f. MatchOption f ((m : Mark) → P m → m.number ≤ after) (λ f. P f × (after < f.number) × ((m : Mark) → P m → after < m.number → f.number ≤ m.number))) (sym first) (by (nat_lt after w.number) refl);
+  first = subst (λ f. IsFirstAfter P after f) (sym first) (by (nat_lt after w.number) refl);
 }
   where
     of_some : (m : Mark) → Some w ≡ Some m → w ≡ m
     of_some m e = cc
 
     by : (t : Bool) → nat_lt after w.number ≡ t
-        → MatchOption (cond t (Some w) None) ((m : Mark) → P m → m.number ≤ after) (λ f. P f × (after < f.number) × ((m : Mark) → P m → after < m.number → f.number ≤ m.number))
+        → IsFirstAfter P after (cond t (Some w) None)
     by true e = ((exact w).1 refl, grind (arith, e), λ m p lt. subst (λ (k : Mark). w.number ≤ k.number) (of_some m ((exact m).0 p)) (omega arith))
     by false e = λ m p. subst (λ (k : Mark). k.number ≤ after) (of_some m ((exact m).0 p)) (grind (arith, e))
 
@@ -235,7 +235,7 @@ next_in_row reads writes low high after start w None f n row first read there ge
 next_in_row reads writes low high after start w (Some r) f n row first read there ge more one found any is = record {
   some = λ e. (r, (exact r).1 (read.0, read.1));
   none = λ e m p. cc;
-  first = subst (λ f. MatchOption f ((m : Mark) → P m → m.number ≤ after) (λ f. P f × (after < f.number) × ((m : Mark) → P m → after < m.number → f.number ≤ m.number))) (sym is) (by f found);
+  first = subst (λ f. IsFirstAfter P after f) (sym is) (by f found);
 }
   where
     P : Mark → Type 0
@@ -248,7 +248,7 @@ next_in_row reads writes low high after start w (Some r) f n row first read ther
     past m a b = elim one [ inl e ↦ omega (arith, e, a) | inr e ↦ omega (arith, e, b) ]
 
     by : (f : Option Mark) → IsFirstBetween start (number_or w high) reads f
-        → MatchOption f ((m : Mark) → P m → m.number ≤ after) (λ f. P f × (after < f.number) × ((m : Mark) → P m → after < m.number → f.number ≤ m.number))
+        → IsFirstAfter P after f
     by None g = λ m p. elim (either_le m.number after) [
       | inl le ↦ le
       | inr gt ↦ let b = (exact m).0 p in absurd (g m b.0 (past m b.1.0 (omega (arith, gt)), b.1.1))

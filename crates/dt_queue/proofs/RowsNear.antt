@@ -1,5 +1,5 @@
 -- What is nearest in several rows: the marks of all of them, put together and sorted by their numbers.
-use Rattle.std.proofs.Common.{◌≡◌, ◌⊎◌, ◌↔◌, ℕ, zero, suc, ◌<◌, ◌≤◌, Bool, true, false, cond, ◌==◌, nat_lt, List, [], ◌∷◌, ◌++◌, length, get_or, take, Option, Some, None, MatchOption, ◌||◌, refl, ap, sym, subst, inl, inr, arith, ◌∙◌}
+use Rattle.std.proofs.Common.{◌≡◌, ◌⊎◌, ◌↔◌, ℕ, zero, suc, ◌<◌, ◌≤◌, Bool, true, false, cond, ◌==◌, nat_lt, List, [], ◌∷◌, ◌++◌, length, get_or, take, Option, Some, None, ◌||◌, refl, ap, sym, subst, inl, inr, arith, ◌∙◌}
 use Rattle.std.specs.List.{Contains, IsDistinct}
 use Rattle.std.specs.List.Sorted.{IsNonDecreasingBy, IsPermutation}
 use Rattle.std.proofs.lemmas.List.Sorted.{Contains-permutation, IsPermutation-sym}
@@ -9,7 +9,7 @@ use Rattle.dt_lists.proofs.Callers.{all_get, all_map, all_put, any_append, any_a
 use Rattle.dt_queue.specs.declared.mark.Mark.{Mark}
 use Rattle.dt_queue.specs.declared.next.Next.{Next}
 use Rattle.dt_queue.specs.Lanes.{AddsMarks, AreApart, AreMarks, AreNumbered, IsNearInRow, IsNextInRow, earlier}
-use Rattle.dt_queue.specs.Next.{IsNextOf}
+use Rattle.dt_queue.specs.Next.{IsFirstAfter, IsNextOf}
 use Rattle.dt_queue.proofs.Marks.{has_index}
 
 -- an item of a list without repeats is none of those before it
@@ -144,7 +144,7 @@ pub no_next : (after : ℕ) (n : Next) → n.any ≡ false → n.first ≡ None 
 no_next after n any first = record {
   some = λ e. cc;
   none = λ e m p. p;
-  first = subst (λ f. MatchOption f ((m : Mark) → ⊥ → m.number ≤ after) (λ f. ⊥ × (after < f.number) × ((m : Mark) → ⊥ → after < m.number → f.number ≤ m.number))) (sym first) (λ m p. absurd p);
+  first = subst (λ f. IsFirstAfter (λ m. ⊥) after f) (sym first) (λ m p. absurd p);
 }
 
 -- what is known of the marks that have P is known of those that have Q, where these are the same
@@ -155,8 +155,8 @@ next_as P Q after n same known = record {
   first = by n.first known.first;
 }
   where
-    by : (f : Option Mark) → MatchOption f ((m : Mark) → P m → m.number ≤ after) (λ f. P f × (after < f.number) × ((m : Mark) → P m → after < m.number → f.number ≤ m.number))
-        → MatchOption f ((m : Mark) → Q m → m.number ≤ after) (λ f. Q f × (after < f.number) × ((m : Mark) → Q m → after < m.number → f.number ≤ m.number))
+    by : (f : Option Mark) → IsFirstAfter P after f
+        → IsFirstAfter Q after f
     by None g = λ m q. g m ((same m).1 q)
     by (Some k) g = ((same k).0 g.0, g.1, λ m q lt. g.2 m ((same m).1 q) lt)
 
@@ -164,7 +164,7 @@ pub next_or : (P Q : Mark → Type 0) (after : ℕ) (a b n : Next) → IsNextOf 
 next_or P Q after a b n p q any first = record {
   some = λ e. some a.any b.any p.some q.some (sym any ∙ e);
   none = λ e m x. none a.any b.any p.none q.none (sym any ∙ e) m x;
-  first = subst (λ f. MatchOption f ((m : Mark) → P m ⊎ Q m → m.number ≤ after) (λ f. (P f ⊎ Q f) × (after < f.number) × ((m : Mark) → P m ⊎ Q m → after < m.number → f.number ≤ m.number))) (sym first) (by a.first b.first p.first q.first);
+  first = subst (λ f. IsFirstAfter (λ m. P m ⊎ Q m) after f) (sym first) (by a.first b.first p.first q.first);
 }
   where
     some : (s t : Bool) → (s ≡ true → (m : Mark) × P m) → (t ≡ true → (m : Mark) × Q m) → (s || t) ≡ true → (m : Mark) × (P m ⊎ Q m)
@@ -177,9 +177,9 @@ next_or P Q after a b n p q any first = record {
     none false true f g e m x = cc
     none false false f g e m x = elim x [ inl y ↦ f refl m y | inr y ↦ g refl m y ]
 
-    by : (f g : Option Mark) → MatchOption f ((m : Mark) → P m → m.number ≤ after) (λ f. P f × (after < f.number) × ((m : Mark) → P m → after < m.number → f.number ≤ m.number))
-        → MatchOption g ((m : Mark) → Q m → m.number ≤ after) (λ f. Q f × (after < f.number) × ((m : Mark) → Q m → after < m.number → f.number ≤ m.number))
-        → MatchOption (earlier f g) ((m : Mark) → P m ⊎ Q m → m.number ≤ after) (λ f. (P f ⊎ Q f) × (after < f.number) × ((m : Mark) → P m ⊎ Q m → after < m.number → f.number ≤ m.number))
+    by : (f g : Option Mark) → IsFirstAfter P after f
+        → IsFirstAfter Q after g
+        → IsFirstAfter (λ m. P m ⊎ Q m) after (earlier f g)
     by None None x y = λ m z. elim z [ inl w ↦ x m w | inr w ↦ y m w ]
     by None (Some k) x y = (inr y.0, y.1, λ m z lt. elim z [ inl w ↦ absurd (low m (x m w) lt) | inr w ↦ y.2 m w lt ])
       where
@@ -192,7 +192,7 @@ next_or P Q after a b n p q any first = record {
     by (Some k) (Some j) x y = pick (nat_lt k.number j.number) refl
       where
         pick : (t : Bool) → nat_lt k.number j.number ≡ t
-            → MatchOption (cond t (Some k) (Some j)) ((m : Mark) → P m ⊎ Q m → m.number ≤ after) (λ f. (P f ⊎ Q f) × (after < f.number) × ((m : Mark) → P m ⊎ Q m → after < m.number → f.number ≤ m.number))
+            → IsFirstAfter (λ m. P m ⊎ Q m) after (cond t (Some k) (Some j))
         pick true e = let lt : k.number < j.number = grind (arith, e) in (inl x.0, x.1, λ m z more. elim z [ inl w ↦ x.2 m w more | inr w ↦ omega (arith, lt, y.2 m w more) ])
         pick false e = let le : j.number ≤ k.number = grind (arith, e) in (inr y.0, y.1, λ m z more. elim z [ inl w ↦ omega (arith, le, x.2 m w more) | inr w ↦ y.2 m w more ])
 

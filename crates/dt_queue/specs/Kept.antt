@@ -1,19 +1,19 @@
--- Scaffolding: how the queues are kept. Each entry has a cell at its slot, with its row and the number of its push, and a mark
--- in the lane of its row and mode; those of mode Whole have theirs in the lane of the granule. `waiting_of` is the list of
--- entries that is kept so, and `IsKept` what all queues keep.
-use Rattle.std.specs.Prelude.{◌≡◌, ℕ, ◌<◌, ◌↔◌, ◌^◌, nat_lt, List, [], ◌∷◌, map, get_or, length, if◌then◌else◌, Some}
-use Rattle.slab.specs.Slab.{Slab, get, entries}
-use Rattle.dt_lists.specs.Lists.{Has}
-use Rattle.dt_access.specs.Clash.{Bytes}
+-- Scaffolding: how the queues are kept. Each entry has a cell at its slot, with its row, its mode and the number of its push;
+-- and it has a mark in the lane of its mode, that of its row, or for the mode Whole that of its granule. `waiting_of` is the
+-- list of entries that is kept so, and `IsKept` what all queues keep.
+use Rattle.std.specs.Prelude.{◌≡◌, ℕ, ◌<◌, ◌↔◌, ◌⊎◌, nat_lt, true, List, [], ◌∷◌, map, get_or, length, if◌then◌else◌, None, Some}
+use Rattle.slab.specs.Slab.{Slab, Updates, get, entries}
+use Rattle.dt_lists.specs.Lists.{AnyIn, Has}
+use Rattle.dt_access.specs.Clash.{Bytes, is_whole, is_write}
 use Rattle.dt_access.specs.declared.access.Mode.{Mode}
 use Rattle.dt_access.specs.declared.access.Mode.TheVariants.{Read, Write, Whole}
 use Rattle.dt_queue.specs.Queues.{Waiting}
-use Rattle.dt_queue.specs.Lanes.{AreNumbered}
-use Rattle.dt_queue.specs.Rows.{AreLinked, granule_at, name_at}
+use Rattle.dt_queue.specs.Lanes.{AreNumbered, IsBetween, IsNearInRow, IsNextInRow, NoneBetween}
+use Rattle.dt_queue.specs.Rows.{AreLinked, granule_at, name_at, rows_at}
 use Rattle.dt_queue.specs.declared.cell.Cell.{Cell}
 use Rattle.dt_queue.specs.declared.mark.Mark.{Mark}
 use Rattle.dt_queue.specs.declared.rows.Rows.{Rows}
-use Rattle.dt_queue.specs.declared.queues.Queues.TheInside.{Inside}
+use Rattle.dt_queue.specs.declared.kept.Kept.{Kept}
 
 -- a cell with its slot, put into a list of such where the numbers ascend
 abbrev pub put : ℕ × Cell → List (ℕ × Cell) → List (ℕ × Cell)
@@ -30,36 +30,96 @@ abbrev pub entry : List (ℕ × Bytes) → ℕ × Cell → Waiting
 entry names p = record { slot = p.0; home = (name_at names p.1.row).0; key = (name_at names p.1.row).1; mode = p.1.mode; vertex = p.1.vertex }
 
 -- the entries that are kept, in the order of their pushes
-abbrev pub waiting_of : Inside → List Waiting
-waiting_of a = map (entry a.rows.names.keys) (in_order (entries a.cells))
+abbrev pub waiting_of : Kept → List Waiting
+waiting_of k = map (entry k.rows.names.keys) (in_order (entries k.cells))
 
 -- the mark of a cell at a slot
 abbrev pub mark_of : ℕ → Cell → Mark
 mark_of slot c = record { number = c.number; slot = slot; vertex = c.vertex }
+
+-- the lane of a mode at a place
+abbrev pub lane : Kept → Mode → ℕ → List Mark
+lane k Read place = get_or k.reads.items place []
+lane k Write place = get_or k.writes.items place []
+lane k Whole place = get_or k.wholes.items place []
+
+-- the place where a row has its lane of a mode
+abbrev pub place_at : Rows → Mode → ℕ → ℕ
+place_at r Read row = row
+place_at r Write row = row
+place_at r Whole row = granule_at r row
+
+-- the cell has its mark in the lane of this mode and place
+abbrev pub IsInLane : Rows → Mode → ℕ → Cell → Type 0
+IsInLane r mode place c = (c.mode ≡ mode) × (place_at r mode c.row ≡ place)
 
 -- a lane has the marks of just those cells that have P, in the order of their numbers
 pub record IsLane (cells : Slab Cell) (P : Cell → Type 0) (marks : List Mark) : Type 0 where
   pub numbered : AreNumbered marks
   pub members : (m : Mark) → Has marks m ↔ ((c : Cell) × (get cells m.slot ≡ Some c) × P c × (m ≡ mark_of m.slot c))
 
--- the cell is of this row and mode
-abbrev pub IsOfRow : Mode → ℕ → Cell → Type 0
-IsOfRow mode row c = (c.mode ≡ mode) × (c.row ≡ row)
+-- what all queues keep: a cell has a number that was given, no other has it, and its row is known; and its mark is in its lane
+pub record IsKept (k : Kept) : Type 0 where
+  pub linked : AreLinked k.rows
+  pub counted : (slot : ℕ) (c : Cell) → get k.cells slot ≡ Some c → (0 < c.number) × (c.number < k.next_number)
+  pub alone : (s t : ℕ) (c d : Cell) → get k.cells s ≡ Some c → get k.cells t ≡ Some d → c.number ≡ d.number → s ≡ t
+  pub known : (slot : ℕ) (c : Cell) → get k.cells slot ≡ Some c → c.row < length k.rows.names.keys
+  pub lanes : (mode : Mode) (place : ℕ) → IsLane k.cells (IsInLane k.rows mode place) (lane k mode place)
 
--- the cell takes this granule as a whole
-abbrev pub TakesWhole : Rows → ℕ → Cell → Type 0
-TakesWhole r g c = (c.mode ≡ Whole) × (granule_at r c.row ≡ g)
+-- one lane has become another, and all other lanes and all else are as before
+pub record ChangesLaneOf (old : Kept) (mode : Mode) (place : ℕ) (marks : List Mark) (new : Kept) : Type 0 where
+  pub changed : lane new mode place ≡ marks
+  pub others : (m : Mode) (p : ℕ) → ¬ ((m ≡ mode) × (p ≡ place)) → lane new m p ≡ lane old m p
+  pub rows : new.rows ≡ old.rows
+  pub cells : new.cells ≡ old.cells
+  pub number : new.next_number ≡ old.next_number
 
--- a cell has a number that was given, and no other has it, and its row is known
-pub record AreCells (r : Rows) (cells : Slab Cell) (next : ℕ) : Type 0 where
-  pub counted : (slot : ℕ) (c : Cell) → get cells slot ≡ Some c → (0 < c.number) × (c.number < next)
-  pub alone : (s t : ℕ) (c d : Cell) → get cells s ≡ Some c → get cells t ≡ Some d → c.number ≡ d.number → s ≡ t
-  pub known : (slot : ℕ) (c : Cell) → get cells slot ≡ Some c → c.row < length r.names.keys
+-- all lanes have the marks that they had, and all else is as before
+pub record KeepsLanes (old new : Kept) : Type 0 where
+  pub lanes : (m : Mode) (p : ℕ) → lane new m p ≡ lane old m p
+  pub rows : new.rows ≡ old.rows
+  pub cells : new.cells ≡ old.cells
+  pub number : new.next_number ≡ old.next_number
 
--- what all queues keep
-pub record IsKept (a : Inside) : Type 0 where
-  pub linked : AreLinked a.rows
-  pub cells : AreCells a.rows a.cells a.number
-  pub reads : (row : ℕ) → IsLane a.cells (IsOfRow Read row) (get_or a.reads.items row [])
-  pub writes : (row : ℕ) → IsLane a.cells (IsOfRow Write row) (get_or a.writes.items row [])
-  pub wholes : (g : ℕ) → IsLane a.cells (TakesWhole a.rows g) (get_or a.wholes.items g [])
+-- a cell was put at a slot where there was none, for this row and mode and with the next number
+pub record AddsCell (old new : Kept) (slot : ℕ) (name : ℕ × Bytes) (mode : Mode) (vertex : ℕ) : Type 0 where
+  pub cell : Cell
+  pub vacant : get old.cells slot ≡ None
+  pub updates : Updates old.cells new.cells slot (Some cell)
+  pub number : cell.number ≡ old.next_number
+  pub name : name_at new.rows.names.keys cell.row ≡ name
+  pub mode_is : cell.mode ≡ mode
+  pub vertex_is : cell.vertex ≡ vertex
+
+-- of the marks of reads and writes that lie between two numbers, it is one of the nearest to a cell after them that clash with it
+abbrev pub IsNearOf : Mode → Kept → ℕ → ℕ → ℕ → Mark → Type 0
+IsNearOf Read k row low high m = Has (lane k Write row) m × IsBetween low high m × NoneBetween m.number high (lane k Write row)
+IsNearOf Write k row low high m = IsNearInRow (lane k Read row) (lane k Write row) low high m
+IsNearOf Whole k row low high m = AnyIn (λ r. IsNearInRow (lane k Read r) (lane k Write r) low high m) (rows_at k.rows (granule_at k.rows row))
+
+abbrev pub IsNearInMode : Kept → Cell → ℕ → Mark → Type 0
+IsNearInMode k x low m = IsNearOf x.mode k x.row low x.number m
+
+-- of the marks of reads and writes that lie between two numbers, it is one of the nearest to a cell before them that clash with it
+abbrev pub IsNextOfMode : Mode → Kept → ℕ → ℕ → ℕ → Mark → Type 0
+IsNextOfMode Read k row low high m = Has (lane k Write row) m × IsBetween low high m × NoneBetween low m.number (lane k Write row)
+IsNextOfMode Write k row low high m = IsNextInRow (lane k Read row) (lane k Write row) low high m
+IsNextOfMode Whole k row low high m = AnyIn (λ r. IsNextInRow (lane k Read r) (lane k Write r) low high m) (rows_at k.rows (granule_at k.rows row))
+
+abbrev pub IsNextInMode : Kept → Cell → ℕ → Mark → Type 0
+IsNextInMode k x high m = IsNextOfMode x.mode k x.row x.number high m
+
+-- two cells clash: they are of one row, which one of them does more than read, or of one granule, which one takes as a whole
+abbrev pub CellsClash : Rows → Cell → Cell → Type 0
+CellsClash r c d = ((c.row ≡ d.row) × ((is_write c.mode ≡ true) ⊎ (is_write d.mode ≡ true)))
+    ⊎ ((granule_at r c.row ≡ granule_at r d.row) × ((is_whole c.mode ≡ true) ⊎ (is_whole d.mode ≡ true)))
+
+-- it is the mark of one of the nearest cells before a cell that clash with it
+abbrev pub IsNearMark : Kept → Cell → Mark → Type 0
+IsNearMark k x m = (c : Cell) × (get k.cells m.slot ≡ Some c) × (m ≡ mark_of m.slot c) × (c.number < x.number) × CellsClash k.rows c x
+    × ((t : ℕ) (d : Cell) → get k.cells t ≡ Some d → c.number < d.number → d.number < x.number → CellsClash k.rows c d → ¬ (CellsClash k.rows d x))
+
+-- it is the mark of one of the nearest cells after a cell that clash with it
+abbrev pub IsNextMark : Kept → Cell → Mark → Type 0
+IsNextMark k x m = (c : Cell) × (get k.cells m.slot ≡ Some c) × (m ≡ mark_of m.slot c) × (x.number < c.number) × CellsClash k.rows x c
+    × ((t : ℕ) (d : Cell) → get k.cells t ≡ Some d → x.number < d.number → d.number < c.number → CellsClash k.rows x d → ¬ (CellsClash k.rows d c))

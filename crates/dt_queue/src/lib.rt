@@ -8,6 +8,7 @@
 
 mod cell;
 mod follower;
+mod kept;
 mod lane;
 mod lanes;
 mod mark;

@@ -1,17 +1,11 @@
 ghost use Rattle.std.specs.Prelude.{◌≡◌, [], ◌∷◌, ◌++◌, map, slice_get, IfOk, OnErr};
 ghost use Rattle.dt_queue.specs.Queues.{IsWaiting, follower_of, followers_after, neighbours, without};
 
-use crate::cell::Cell;
 use crate::follower::Follower;
-use crate::lane::Lane;
-use crate::lanes::{first_between, last_between, push_mark, remove_mark};
+use crate::kept::Kept;
 use crate::mark::Mark;
-use crate::nearest::{add, add_row, near_rows, number_or};
-use crate::next::Next;
-use crate::rows::Rows;
 use dt_access::Mode;
 use dt_text::{Key, NoMemory};
-use slab::Slab;
 use std::alloc::Global;
 use std::marker::Model;
 
@@ -21,12 +15,7 @@ use std::marker::Model;
 /// given again once its entry is taken out.
 #[derive(Drop)]
 pub struct Queues {
-    cells: Slab<Cell>,
-    rows: Rows,
-    reads: Vec<Lane>,
-    writes: Vec<Lane>,
-    wholes: Vec<Lane>,
-    number: u64,
+    kept: Kept,
 }
 
 impl Model for Queues {
@@ -36,9 +25,9 @@ impl Model for Queues {
 
     ghost Value = { List Waiting };
 
-    ghost view = { waiting_of };
+    ghost view = { λ q. waiting_of q.kept };
 
-    ghost invariant = { IsKept };
+    ghost invariant = { λ q. IsKept q.kept };
 }
 
 impl Queues {
@@ -47,12 +36,7 @@ impl Queues {
         ensures { result ≡ [] }
     {
         Queues {
-            cells: Slab::new(alloc),
-            rows: Rows::new(alloc),
-            reads: Vec::new(alloc),
-            writes: Vec::new(alloc),
-            wholes: Vec::new(alloc),
-            number: 1,
+            kept: Kept::new(alloc),
         }
     }
 
@@ -70,29 +54,7 @@ impl Queues {
         ensures fresh { IfOk result (λ slot. ¬ (IsWaiting self.old slot)) }
         ensures same { OnErr result (self.new ≡ self.old) }
     {
-        let number = self.number;
-        if number == u64::MAX {
-            return Err(NoMemory);
-        }
-        let row = self.rows.row(alloc, home, key)?;
-        self.cells.reserve(1)?;
-        let mark = Mark {
-            number,
-            slot: self.cells.vacant_key(),
-            vertex,
-        };
-        match mode {
-            Mode::Read => push_mark(alloc, &mut self.reads, row, mark)?,
-            Mode::Write => push_mark(alloc, &mut self.writes, row, mark)?,
-            Mode::Whole => push_mark(alloc, &mut self.wholes, self.rows.granule_of(row), mark)?,
-        }
-        self.number = number + 1;
-        Ok(self.cells.insert_reserved(Cell {
-            row,
-            mode,
-            vertex,
-            number,
-        }))
+        self.kept.push(alloc, home, key, mode, vertex)
     }
 
     /// The vertices of the neighbours of an entry, in the order of their pushes.
@@ -100,12 +62,8 @@ impl Queues {
         requires { IsWaiting self.now slot }
         ensures { IfOk result (λ found. found.items ≡ map (λ w. w.vertex) (neighbours self.now slot)) }
     {
-        let marks = self.nearest(alloc, self.cells[slot])?;
-        let mut vertices = Vec::with_capacity(alloc, marks.len())?;
-        for mark in marks {
-            vertices.push(mark.vertex)?;
-        }
-        Ok(vertices)
+        let marks = self.kept.near(alloc, self.kept.cells[slot])?;
+        vertices(alloc, marks.as_slice())
     }
 
     /// The first follower of the entry at a slot that was pushed after the one at another slot. So its followers are found one
@@ -115,7 +73,8 @@ impl Queues {
         requires place { IsWaiting self.now place }
         ensures { result ≡ slice_get (map follower_of (followers_after self.now slot place)) 0 }
     {
-        let mark = self.next(self.cells[slot], self.cells[place].number)?;
+        let after = self.kept.cells[place].number;
+        let mark = self.kept.next(self.kept.cells[slot], after)?;
         Some(Follower {
             slot: mark.slot,
             vertex: mark.vertex,
@@ -127,59 +86,17 @@ impl Queues {
         requires { IsWaiting self.old slot }
         ensures { self.new ≡ without self.old slot }
     {
-        let cell = self.cells.remove(slot);
-        let granule = self.rows.granule_of(cell.row);
-        match cell.mode {
-            Mode::Read => remove_mark(&mut self.reads, cell.row, cell.number),
-            Mode::Write => remove_mark(&mut self.writes, cell.row, cell.number),
-            Mode::Whole => remove_mark(&mut self.wholes, granule, cell.number),
-        }
+        self.kept.remove(slot);
     }
+}
 
-    /// The marks of the neighbours of an entry, in the order of their pushes.
-    fn nearest(&self, alloc: Global, cell: Cell) -> Result<Vec<Mark>, NoMemory> {
-        let granule = self.rows.granule_of(cell.row);
-        let whole = last_between(self.wholes.as_slice(), granule, 0, cell.number);
-        let mut marks = self.near_in_rows(alloc, cell, granule, number_or(whole, 0))?;
-        if marks.is_empty() {
-            add(whole, &mut marks)?;
-        }
-        Ok(marks)
+/// The vertices of marks, in order.
+fn vertices(alloc: Global, marks: &[Mark]) -> Result<Vec<u32>, NoMemory>
+    ensures { IfOk result (λ found. found.items ≡ map (λ m. m.vertex) marks.now) }
+{
+    let mut vertices = Vec::with_capacity(alloc, marks.len())?;
+    for mark in marks {
+        vertices.push(mark.vertex)?;
     }
-
-    /// Of the marks of reads and writes after a number those of neighbours of an entry.
-    fn near_in_rows(&self, alloc: Global, cell: Cell, granule: usize, low: u64) -> Result<Vec<Mark>, NoMemory> {
-        let reads = self.reads.as_slice();
-        let writes = self.writes.as_slice();
-        let mut marks = Vec::new(alloc);
-        match cell.mode {
-            Mode::Read => add(last_between(writes, cell.row, low, cell.number), &mut marks)?,
-            Mode::Write => add_row(reads, writes, cell.row, low, cell.number, &mut marks)?,
-            Mode::Whole => return near_rows(alloc, reads, writes, self.rows.rows_of(granule), low, cell.number),
-        }
-        Ok(marks)
-    }
-
-    /// The mark of the first follower of an entry after a number.
-    fn next(&self, cell: Cell, after: u64) -> Option<Mark> {
-        let granule = self.rows.granule_of(cell.row);
-        let whole = first_between(self.wholes.as_slice(), granule, cell.number, u64::MAX);
-        let next = self.next_in_rows(cell, granule, number_or(whole, u64::MAX), after);
-        if next.any {
-            next.first
-        } else {
-            Next::one(whole, after).first
-        }
-    }
-
-    /// What is known of the followers of an entry that read or write rows, before a number.
-    fn next_in_rows(&self, cell: Cell, granule: usize, high: u64, after: u64) -> Next {
-        let reads = self.reads.as_slice();
-        let writes = self.writes.as_slice();
-        match cell.mode {
-            Mode::Read => Next::one(first_between(writes, cell.row, cell.number, high), after),
-            Mode::Write => Next::in_row(reads, writes, cell.row, cell.number, high, after),
-            Mode::Whole => Next::in_rows(reads, writes, self.rows.rows_of(granule), cell.number, high, after),
-        }
-    }
+    Ok(vertices)
 }
