@@ -2,3 +2,8 @@ pub mod Marks
 pub mod NearMarks
 pub mod RowsNear
 pub mod InOrder
+pub mod RowLists
+pub mod KeptLanes
+pub mod CellUses
+pub mod NearCells
+pub mod ShownLists

@@ -61,6 +61,7 @@ pub record IsLane (cells : Slab Cell) (P : Cell → Type 0) (marks : List Mark) 
 -- what all queues keep: a cell has a number that was given, no other has it, and its row is known; and its mark is in its lane
 pub record IsKept (k : Kept) : Type 0 where
   pub linked : AreLinked k.rows
+  pub first : 0 < k.next_number
   pub counted : (slot : ℕ) (c : Cell) → get k.cells slot ≡ Some c → (0 < c.number) × (c.number < k.next_number)
   pub alone : (s t : ℕ) (c d : Cell) → get k.cells s ≡ Some c → get k.cells t ≡ Some d → c.number ≡ d.number → s ≡ t
   pub known : (slot : ℕ) (c : Cell) → get k.cells slot ≡ Some c → c.row < length k.rows.names.keys
