@@ -7,3 +7,5 @@ pub mod KeptLanes
 pub mod CellUses
 pub mod NearCells
 pub mod ShownLists
+pub mod NextCells
+pub mod ShownCells

@@ -64,20 +64,20 @@ row_empty reads writes low high row none m b h = by (last_there low high writes 
         left (Some w) l e = none w (((near_write reads writes low high (Some w) row l e).members w).0 (inl refl))
         left None l e = elim h [ inl r ↦ subst (λ ms. Has ms m) e (in_between low high reads m r b) | inr w ↦ l m w b ]
 
--- ---- what is near is in use, and clashes with nothing in use after it
+-- ---- what is near is in used, and clashes with nothing in used after it
 
--- nothing in use after a mark clashes with it
+-- nothing in used after a mark clashes with it
 abbrev pub IsClear : Mode → Kept → Cell → Mark → Cell → Type 0
 IsClear mode k x m c = (j : Mark) (d : Cell) → IsMarkOf k j d → InUseOf mode k x.row j → m.number < j.number → j.number < x.number → ¬ (CellsClash k.rows c d)
 
 clear_row : (k : Kept) → IsKept k → (x : Cell) (row low : ℕ) (m : Mark) (c : Cell) → IsMarkOf k m c → IsNearInRow (lane k Read row) (lane k Write row) low x.number m
     → (j : Mark) (d : Cell) → IsMarkOf k j d → Has (lane k Read row) j ⊎ Has (lane k Write row) j → m.number < j.number → j.number < x.number → ¬ (CellsClash k.rows c d)
-clear_row k kept x row low m c a near j d b use lt le clash = elim near.1 [
-  | inl read ↦ elim use [
+clear_row k kept x row low m c a near j d b used lt le clash = elim near.1 [
+  | inl read ↦ elim used [
       | inl r ↦ reads_agree k.rows c d (lane_tells k kept Read row m c a read.0).0 (lane_tells k kept Read row j d b r).0 clash
       | inr w ↦ read.1 j w (lt, le)
     ]
-  | inr write ↦ elim use [ inl r ↦ write.2 j r (lt, le) | inr w ↦ write.1 j w (lt, le) ]
+  | inr write ↦ elim used [ inl r ↦ write.2 j r (lt, le) | inr w ↦ write.1 j w (lt, le) ]
 ]
 
 use_of_row : (reads writes : List Mark) (low high : ℕ) (m : Mark) → IsNearInRow reads writes low high m → Has reads m ⊎ Has writes m
@@ -85,14 +85,14 @@ use_of_row reads writes low high m near = elim near.1 [ inl r ↦ inl r.0 | inr 
 
 pub near_is_clear : (mode : Mode) (k : Kept) → IsKept k → (x : Cell) (low : ℕ) (m : Mark) (c : Cell) → IsMarkOf k m c → IsNearOf mode k x.row low x.number m
     → InUseOf mode k x.row m × IsBetween low x.number m × IsClear mode k x m c
-near_is_clear Read k kept x low m c a near = (near.0, near.1, λ j d b use lt le clash. near.2 j use (lt, le))
-near_is_clear Write k kept x low m c a near = (use_of_row _ _ _ _ m near, near.0, λ j d b use lt le clash. clear_row k kept x x.row low m c a near j d b use lt le clash)
+near_is_clear Read k kept x low m c a near = (near.0, near.1, λ j d b used lt le clash. near.2 j used (lt, le))
+near_is_clear Write k kept x low m c a near = (use_of_row _ _ _ _ m near, near.0, λ j d b used lt le clash. clear_row k kept x x.row low m c a near j d b used lt le clash)
 near_is_clear Whole k kept x low m c a near =
     let r = any_get (λ row. IsNearInRow (lane k Read row) (lane k Write row) low x.number m) (rows_at k.rows (granule_at k.rows x.row)) near in
     (
       any_put (λ row. Has (lane k Read row) m ⊎ Has (lane k Write row) m) (rows_at k.rows (granule_at k.rows x.row)) r.0 r.1 (use_of_row _ _ _ _ m r.2),
       r.2.0,
-      λ j d b use lt le clash. clear r.0 r.2 j d b (any_get (λ row. Has (lane k Read row) j ⊎ Has (lane k Write row) j) (rows_at k.rows (granule_at k.rows x.row)) use) lt le clash,
+      λ j d b used lt le clash. clear r.0 r.2 j d b (any_get (λ row. Has (lane k Read row) j ⊎ Has (lane k Write row) j) (rows_at k.rows (granule_at k.rows x.row)) used) lt le clash,
     )
   where
     clear : (row : ℕ) → IsNearInRow (lane k Read row) (lane k Write row) low x.number m → (j : Mark) (d : Cell) → IsMarkOf k j d
@@ -117,10 +117,10 @@ near_in_row k kept x row low m c a (inl r) b clear = (b, inl (r, λ j w e. meets
 near_in_row k kept x row low m c a (inr w) b clear = (b, inr (w, (λ j h e. meets Write j h (inr h) e), (λ j h e. meets Read j h (inl h) e)))
   where
     meets : (mode : Mode) (j : Mark) → Has (lane k mode row) j → Has (lane k Read row) j ⊎ Has (lane k Write row) j → IsBetween m.number x.number j → ⊥
-    meets mode j h use e =
-      let d = part_cell use in
+    meets mode j h used e =
+      let d = part_cell used in
       let q = lane_tells k kept Write row m c a w in
-      clear j d.0 d.1 use e.0 e.1 (write_clashes k.rows c d.0 q.0 (q.1 ∙ sym d.2))
+      clear j d.0 d.1 used e.0 e.1 (write_clashes k.rows c d.0 q.0 (q.1 ∙ sym d.2))
       where
         part_cell : Has (lane k Read row) j ⊎ Has (lane k Write row) j → (d : Cell) × IsMarkOf k j d × (d.row ≡ row)
         part_cell (inl g) = let d = cell_of k kept Read row j g in (d.0, d.1, d.2.1)
@@ -128,26 +128,26 @@ near_in_row k kept x row low m c a (inr w) b clear = (b, inr (w, (λ j h e. meet
 
 pub clear_is_near : (mode : Mode) (k : Kept) → IsKept k → (x : Cell) (low : ℕ) (m : Mark) (c : Cell) → IsMarkOf k m c → InUseOf mode k x.row m → IsBetween low x.number m → IsClear mode k x m c
     → IsNearOf mode k x.row low x.number m
-clear_is_near Read k kept x low m c a use b clear = (use, b, λ j w e. meets j w e)
+clear_is_near Read k kept x low m c a used b clear = (used, b, λ j w e. meets j w e)
   where
     meets : (j : Mark) → Has (lane k Write x.row) j → IsBetween m.number x.number j → ⊥
     meets j w e =
       let d = cell_of k kept Write x.row j w in
-      let q = lane_tells k kept Write x.row m c a use in
+      let q = lane_tells k kept Write x.row m c a used in
       clear j d.0 d.1 w e.0 e.1 (write_clashes k.rows c d.0 q.0 (q.1 ∙ sym d.2.1))
-clear_is_near Write k kept x low m c a use b clear = near_in_row k kept x x.row low m c a use b clear
-clear_is_near Whole k kept x low m c a use b clear =
+clear_is_near Write k kept x low m c a used b clear = near_in_row k kept x x.row low m c a used b clear
+clear_is_near Whole k kept x low m c a used b clear =
     let rows = rows_at k.rows (granule_at k.rows x.row) in
-    let r = any_get (λ row. Has (lane k Read row) m ⊎ Has (lane k Write row) m) rows use in
+    let r = any_get (λ row. Has (lane k Read row) m ⊎ Has (lane k Write row) m) rows used in
     any_put (λ row. IsNearInRow (lane k Read row) (lane k Write row) low x.number m) rows r.0 r.1
     (near_in_row k kept x r.0 low m c a r.2 b (λ j d f u lt le. clear j d f (any_put (λ row. Has (lane k Read row) j ⊎ Has (lane k Write row) j) rows r.0 r.1 u) lt le))
 
--- where none is near, none is in use
+-- where none is near, none is in used
 pub none_in_use : (mode : Mode) (k : Kept) → IsKept k → (x : Cell) (low : ℕ) → ((m : Mark) → ¬ (IsNearOf mode k x.row low x.number m)) → (m : Mark) → InUseOf mode k x.row m → ¬ (IsBetween low x.number m)
-none_in_use Read k kept x low none m use b = by (last_there low x.number (lane k Write x.row) (kept.lanes Write x.row).numbered)
+none_in_use Read k kept x low none m used b = by (last_there low x.number (lane k Write x.row) (kept.lanes Write x.row).numbered)
   where
     by : (o : Option Mark) × IsLastBetween low x.number (lane k Write x.row) o → ⊥
-    by (None, l) = l m use b
+    by (None, l) = l m used b
     by (Some w, l) = none w (l.0, l.1, λ j h e. after j (l.2 j h (up j e.0, e.1)) e.0)
       where
         up : (j : Mark) → w.number < j.number → low < j.number
@@ -155,17 +155,17 @@ none_in_use Read k kept x low none m use b = by (last_there low x.number (lane k
 
         after : (j : Mark) → j.number ≤ w.number → w.number < j.number → ⊥
         after j le lt = omega (arith, le, lt)
-none_in_use Write k kept x low none m use b = row_empty (lane k Read x.row) (lane k Write x.row) low x.number (row_of _ _ (apart_lanes k kept) x.row) none m b use
-none_in_use Whole k kept x low none m use b =
+none_in_use Write k kept x low none m used b = row_empty (lane k Read x.row) (lane k Write x.row) low x.number (row_of _ _ (apart_lanes k kept) x.row) none m b used
+none_in_use Whole k kept x low none m used b =
     let rows = rows_at k.rows (granule_at k.rows x.row) in
-    let r = any_get (λ row. Has (lane k Read row) m ⊎ Has (lane k Write row) m) rows use in
+    let r = any_get (λ row. Has (lane k Read row) m ⊎ Has (lane k Write row) m) rows used in
     row_empty (lane k Read r.0) (lane k Write r.0) low x.number (row_of _ _ (apart_lanes k kept) r.0)
     (λ j near. none j (any_put (λ row. IsNearInRow (lane k Read row) (lane k Write row) low x.number j) rows r.0 r.1 near)) m b r.2
 
 -- ---- the nearest cells before a cell
 
 module _ (k : Kept) (kept : IsKept k) (x : Cell) (o : Option Mark) (last : IsLastBetween 0 x.number (lane k Whole (granule_at k.rows x.row)) o) where
-  taken : List Mark
+  abbrev taken : List Mark
   taken = lane k Whole (granule_at k.rows x.row)
 
   -- what takes the granule stands not after the last that does
@@ -179,7 +179,7 @@ module _ (k : Kept) (kept : IsKept k) (x : Cell) (o : Option Mark) (last : IsLas
       by None l = absurd (l m h (positive, lt))
       by (Some w) l = l.2 m h (positive, lt)
 
-  -- a near mark that is in use stands after the last that takes the granule
+  -- a near mark that is in used stands after the last that takes the granule
   later : (m : Mark) (c : Cell) → IsMarkOf k m c → IsPart c.mode → CellsClash k.rows c x → m.number < x.number
       → ((t : ℕ) (d : Cell) → get k.cells t ≡ Some d → c.number < d.number → d.number < x.number → CellsClash k.rows c d → ¬ (CellsClash k.rows d x)) → number_or o 0 < m.number
   later m c a part clash lt free = by o last
@@ -243,7 +243,7 @@ module _ (k : Kept) (kept : IsKept k) (x : Cell) (o : Option Mark) (last : IsLas
         let b : IsMarkOf k (mark_of t d) d = record { there = e; is = refl } in
         elim (clash_uses x.mode k kept x refl (mark_of t d) d b other d.mode refl) [
           | inl h ↦ past (not_later (mark_of t d) d b h le)
-          | inr use ↦ clear (mark_of t d) d b use (omega (arith, lt, number_of k m c a)) le clash
+          | inr used ↦ clear (mark_of t d) d b used (omega (arith, lt, number_of k m c a)) le clash
         ]
         where
           past : d.number ≤ number_or o 0 → ⊥
@@ -256,7 +256,7 @@ module _ (k : Kept) (kept : IsKept k) (x : Cell) (o : Option Mark) (last : IsLas
       let a : IsMarkOf k m c = record { there = n.1; is = n.2 } in
       elim (clash_uses x.mode k kept x refl m c a n.4 c.mode refl) [
         | inl h ↦ inl h
-        | inr use ↦ inr (clear_is_near x.mode k kept x (number_or o 0) m c a use (later m c a (use_clashes x.mode k kept x refl m c a use).0 n.4 (below c a n.3) n.5, below c a n.3)
+        | inr used ↦ inr (clear_is_near x.mode k kept x (number_or o 0) m c a used (later m c a (use_clashes x.mode k kept x refl m c a used).0 n.4 (below c a n.3) n.5, below c a n.3)
             (λ j d b u lt le clash. n.5 j.slot d b.there (omega (arith, lt, number_of k m c a, number_of k j d b)) (omega (arith, le, number_of k j d b)) clash (use_clashes x.mode k kept x refl j d b u).1))
       ]
     where
@@ -319,7 +319,7 @@ module _ (k : Kept) (kept : IsKept k) (x : Cell) (o : Option Mark) (last : IsLas
                 let b : IsMarkOf k (mark_of t y) y = record { there = e; is = refl } in
                 elim (clash_uses x.mode k kept x refl (mark_of t y) y b other y.mode refl) [
                   | inl h ↦ after (l.2 (mark_of t y) h (omega (arith, lt), le))
-                  | inr use ↦ none (mark_of t y) use (omega (arith, lt, number_of k w d a), le)
+                  | inr used ↦ none (mark_of t y) used (omega (arith, lt, number_of k w d a), le)
                 ]
                 where
                   after : y.number ≤ w.number → ⊥

@@ -138,7 +138,7 @@ near_write reads writes low high (Some w) row last empty = record {
 -- ---- the same the other way round: what is next
 
 -- the marks of a row that are next to an earlier entry that writes it: where some read the row before the first write, those
-next_reads : (reads writes : List Mark) (low high : ℕ) (w : Option Mark) → IsRow reads writes → IsFirstBetween low high writes w
+pub next_reads : (reads writes : List Mark) (low high : ℕ) (w : Option Mark) → IsRow reads writes → IsFirstBetween low high writes w
     → (r : Mark) → Has reads r → IsBetween low (number_or w high) r → (m : Mark) → IsNextInRow reads writes low high m ↔ (Has reads m × IsBetween low (number_or w high) m)
 next_reads reads writes low high None row first r here between m = (
   λ near. elim near.1 [ inl read ↦ (read.0, near.0) | inr write ↦ absurd (first m write.0 near.0) ],
@@ -165,7 +165,7 @@ next_reads reads writes low high (Some w) row first r here between m = (
     ]
 
 -- where none does, the first write
-next_write : (reads writes : List Mark) (low high : ℕ) (w : Option Mark) → IsRow reads writes → IsFirstBetween low high writes w
+pub next_write : (reads writes : List Mark) (low high : ℕ) (w : Option Mark) → IsRow reads writes → IsFirstBetween low high writes w
     → ((r : Mark) → Has reads r → ¬ (IsBetween low (number_or w high) r)) → (m : Mark) → IsNextInRow reads writes low high m ↔ (w ≡ Some m)
 next_write reads writes low high None row first empty m = (
   λ near. elim near.1 [ inl read ↦ absurd (empty m read.0 near.0) | inr write ↦ absurd (first m write.0 near.0) ],

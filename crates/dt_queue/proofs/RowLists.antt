@@ -1,6 +1,7 @@
 -- How rows and granules stay tied when one of them is added.
 use Rattle.std.proofs.Common.{◌≡◌, ◌≢◌, ◌⊎◌, ◌↔◌, ℕ, zero, suc, ◌+◌, ◌<◌, ◌≤◌, Bool, true, false, List, [], ◌∷◌, ◌++◌, map, length, get_or, set, slice_get, Option, Some, None, refl, ap, ap₂, sym, subst, inl, inr, arith, ◌∙◌, length-append}
-use Rattle.std.proofs.lemmas.List.{get_or-append, get_or-append_seam, get_or-set_same, get_or-set_other, length-set}
+use Rattle.std.proofs.lemmas.List.{get_or_append_left, get_or-set_same, get_or-set_other, length-set}
+use Rattle.std.proofs.Math.Seq.{get_or-append_seam}
 use Rattle.dt_lists.specs.Lists.{AllIn, AnyIn, Distinct, Has, IsFront}
 use Rattle.dt_lists.proofs.Callers.{any_append_left, any_append_right, distinct_push, either_nat, has_more, place_in_longer, place_within}
 use Rattle.dt_access.specs.Clash.{Bytes}
@@ -42,9 +43,6 @@ tied_row names granules gof rof name g t fresh there = record {
   rows_once = λ h. once h (either_nat h g);
 }
   where
-    more : List ℕ
-    more = get_or rof g [] ++ length gof ∷ []
-
     in_granules : g < length rof
     in_granules = let lt : g < length granules = place_within granules g (granule_name name) there in omega (arith, lt, t.each_granule)
 
@@ -52,14 +50,14 @@ tied_row names granules gof rof name g t fresh there = record {
     sides row lt = grind (arith, lt, one_more names name)
 
     old_granule : (row : ℕ) → row < length names → get_or (gof ++ g ∷ []) row 0 ≡ get_or gof row 0
-    old_granule row lt = get_or-append gof (g ∷ []) 0 row (omega (arith, lt, t.each_row))
+    old_granule row lt = get_or_append_left gof (g ∷ []) 0 row (omega (arith, lt, t.each_row))
 
     new_granule : get_or (gof ++ g ∷ []) (length names) 0 ≡ g
     new_granule = ap (λ n. get_or (gof ++ g ∷ []) n 0) (sym t.each_row) ∙ get_or-append_seam gof g [] 0
 
     granule : (row : ℕ) → (row < length names) ⊎ (row ≡ length names) → slice_get granules (get_or (gof ++ g ∷ []) row 0) ≡ Some (granule_name (name_at (names ++ name ∷ []) row))
     granule row (inl lt) =
-        ap (slice_get granules) (old_granule row lt) ∙ t.granule row lt ∙ ap (λ n. Some (granule_name n)) (sym (get_or-append names (name ∷ []) (0, []) row lt))
+        ap (slice_get granules) (old_granule row lt) ∙ t.granule row lt ∙ ap (λ n. Some (granule_name n)) (sym (get_or_append_left names (name ∷ []) (0, []) row lt))
     granule row (inr e) =
         ap (λ n. slice_get granules (get_or (gof ++ g ∷ []) n 0)) e ∙ ap (slice_get granules) new_granule ∙ there
         ∙ ap (λ n. Some (granule_name n)) (sym (ap (λ n. get_or (names ++ name ∷ []) n (0, [])) e ∙ get_or-append_seam names name [] (0, [])))
@@ -70,13 +68,13 @@ tied_row names granules gof rof name g t fresh there = record {
     longer : (row : ℕ) → row < length names → row < length (names ++ name ∷ [])
     longer row lt = let e : length (names ++ name ∷ []) ≡ length names + 1 = one_more names name in omega (arith, lt, e)
 
-    same : (h : ℕ) → h ≢ g → get_or (set rof g more) h [] ≡ get_or rof h []
-    same h ne = get_or-set_other rof g h more [] ne
+    same : (h : ℕ) → h ≢ g → get_or (set rof g (get_or rof g [] ++ length gof ∷ [])) h [] ≡ get_or rof h []
+    same h ne = get_or-set_other rof g h (get_or rof g [] ++ length gof ∷ []) [] ne
 
-    here : get_or (set rof g more) g [] ≡ more
-    here = get_or-set_same rof g more [] in_granules
+    here : get_or (set rof g (get_or rof g [] ++ length gof ∷ [])) g [] ≡ get_or rof g [] ++ length gof ∷ []
+    here = get_or-set_same rof g (get_or rof g [] ++ length gof ∷ []) [] in_granules
 
-    rows : (h row : ℕ) → Has (get_or (set rof g more) h []) row ↔ ((row < length (names ++ name ∷ [])) × (get_or (gof ++ g ∷ []) row 0 ≡ h))
+    rows : (h row : ℕ) → Has (get_or (set rof g (get_or rof g [] ++ length gof ∷ [])) h []) row ↔ ((row < length (names ++ name ∷ [])) × (get_or (gof ++ g ∷ []) row 0 ≡ h))
     rows h row = elim (either_nat h g) [
       | inr ne ↦ subst (λ l. Has l row ↔ ((row < length (names ++ name ∷ [])) × (get_or (gof ++ g ∷ []) row 0 ≡ h))) (sym (same h ne)) (
           (λ k. let b = (t.rows h row).0 k in (longer row b.0, old_granule row b.0 ∙ b.1)),
@@ -85,7 +83,7 @@ tied_row names granules gof rof name g t fresh there = record {
             | inr e ↦ absurd (ne (sym b.1 ∙ ap (λ n. get_or (gof ++ g ∷ []) n 0) e ∙ new_granule))
           ]),
         )
-      | inl s ↦ subst (λ i. Has (get_or (set rof g more) i []) row ↔ ((row < length (names ++ name ∷ [])) × (get_or (gof ++ g ∷ []) row 0 ≡ i))) (sym s)
+      | inl s ↦ subst (λ i. Has (get_or (set rof g (get_or rof g [] ++ length gof ∷ [])) i []) row ↔ ((row < length (names ++ name ∷ [])) × (get_or (gof ++ g ∷ []) row 0 ≡ i))) (sym s)
           (subst (λ l. Has l row ↔ ((row < length (names ++ name ∷ [])) × (get_or (gof ++ g ∷ []) row 0 ≡ g))) (sym here) (
             (λ k. elim (has_more (get_or rof g []) (length gof) row k) [
               | inl old ↦ let b = (t.rows g row).0 old in (longer row b.0, old_granule row b.0 ∙ b.1)
@@ -104,6 +102,6 @@ tied_row names granules gof rof name g t fresh there = record {
     not_there : ¬ (Has (get_or rof g []) (length gof))
     not_there h = let b = (t.rows g (length gof)).0 h in omega (arith, b.0, t.each_row)
 
-    once : (h : ℕ) → (h ≡ g) ⊎ (h ≢ g) → Distinct (get_or (set rof g more) h [])
+    once : (h : ℕ) → (h ≡ g) ⊎ (h ≢ g) → Distinct (get_or (set rof g (get_or rof g [] ++ length gof ∷ [])) h [])
     once h (inr ne) = subst Distinct (sym (same h ne)) (t.rows_once h)
-    once h (inl s) = subst (λ i. Distinct (get_or (set rof g more) i [])) (sym s) (subst Distinct (sym here) (distinct_push (get_or rof g []) (length gof) (t.rows_once g) not_there))
+    once h (inl s) = subst (λ i. Distinct (get_or (set rof g (get_or rof g [] ++ length gof ∷ [])) i [])) (sym s) (subst Distinct (sym here) (distinct_push (get_or rof g []) (length gof) (t.rows_once g) not_there))

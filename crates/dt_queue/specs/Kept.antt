@@ -83,12 +83,12 @@ pub record KeepsLanes (old new : Kept) : Type 0 where
   pub number : new.next_number ≡ old.next_number
 
 -- a cell was put at a slot where there was none, for this row and mode and with the next number
-pub record AddsCell (old new : Kept) (slot : ℕ) (name : ℕ × Bytes) (mode : Mode) (vertex : ℕ) : Type 0 where
+pub record AddsCell (old new : Kept) (slot : ℕ) (row_name : ℕ × Bytes) (mode : Mode) (vertex : ℕ) : Type 0 where
   pub cell : Cell
   pub vacant : get old.cells slot ≡ None
   pub updates : Updates old.cells new.cells slot (Some cell)
   pub number : cell.number ≡ old.next_number
-  pub name : name_at new.rows.names.keys cell.row ≡ name
+  pub name : name_at new.rows.names.keys cell.row ≡ row_name
   pub mode_is : cell.mode ≡ mode
   pub vertex_is : cell.vertex ≡ vertex
 
