@@ -115,7 +115,7 @@ on_one_row r c d a b (inr e) = absurd (elim e.1 [ inl f ↦ no_part (sym a ∙ f
     no_part : false ≡ true → ⊥
     no_part e = cc
 
--- a write clashes with each used of its row
+-- a write clashes with each use of its row
 pub write_clashes : (r : Rows) (c d : Cell) → c.mode ≡ Write → c.row ≡ d.row → CellsClash r c d
 write_clashes r c d a b = inl (b, inl (ap is_write a))
 
@@ -130,7 +130,7 @@ part_of k kept row m c a (inr h) = let b = lane_tells k kept Write row m c a h i
 pub row_in_granule : (k : Kept) → IsKept k → (g row : ℕ) → Has (rows_at k.rows g) row → granule_at k.rows row ≡ g
 row_in_granule k kept g row h = ((kept.linked.rows g row).0 h).1
 
--- a cell that is in used clashes with the used
+-- a cell that is in use clashes with the use
 pub use_clashes : (mode : Mode) (k : Kept) → IsKept k → (x : Cell) → x.mode ≡ mode → (m : Mark) (c : Cell) → IsMarkOf k m c → InUseOf mode k x.row m → IsPart c.mode × CellsClash k.rows c x
 use_clashes Read k kept x e m c a h = let b = lane_tells k kept Write x.row m c a h in (ap is_whole b.0, write_clashes k.rows c x b.0 b.1)
 use_clashes Write k kept x e m c a h = let b = part_of k kept x.row m c a h in (b.0, clash_turned k.rows x c (write_clashes k.rows x c e (sym b.1)))
@@ -140,7 +140,7 @@ use_clashes Whole k kept x e m c a h =
     let g : granule_at k.rows c.row ≡ granule_at k.rows x.row = ap (granule_at k.rows) b.1 ∙ row_in_granule k kept (granule_at k.rows x.row) r.0 r.1 in
     (b.0, clash_turned k.rows x c (whole_clashes k.rows x c e (sym g)))
 
--- a read or a write that clashes with the used is in used
+-- a read or a write that clashes with the use is in use
 pub clash_uses : (mode : Mode) (k : Kept) → IsKept k → (x : Cell) → x.mode ≡ mode → (m : Mark) (c : Cell) → IsMarkOf k m c → CellsClash k.rows c x → (own : Mode) → c.mode ≡ own
     → Has (lane k Whole (granule_at k.rows x.row)) m ⊎ InUseOf mode k x.row m
 clash_uses mode k kept x e m c a clash Whole f = inl (in_lane k kept m c a Whole (granule_at k.rows x.row) (f, one_granule k.rows c x clash))
@@ -157,6 +157,6 @@ clash_uses Whole k kept x e m c a clash Write f = inr (any_put (λ r. Has (lane 
     own_row : (k : Kept) → IsKept k → (x : Cell) (m : Mark) (c : Cell) → IsMarkOf k m c → CellsClash k.rows c x → Has (rows_at k.rows (granule_at k.rows x.row)) c.row
     own_row k kept x m c a clash = (kept.linked.rows (granule_at k.rows x.row) c.row).1 (kept.known m.slot c a.there, one_granule k.rows c x clash)
 
--- the cell of a mark that takes the granule of a used as a whole
+-- the cell of a mark that takes the granule of a use as a whole
 pub taker_of : (k : Kept) → IsKept k → (x : Cell) (m : Mark) (c : Cell) → IsMarkOf k m c → Has (lane k Whole (granule_at k.rows x.row)) m → (c.mode ≡ Whole) × (granule_at k.rows c.row ≡ granule_at k.rows x.row)
 taker_of k kept x m c a h = lane_tells k kept Whole (granule_at k.rows x.row) m c a h

@@ -35,15 +35,13 @@ last_there low high (x ∷ xs) num = by (last_there low high xs num.1)
     by : (o : Option Mark) × IsLastBetween low high xs o → (o : Option Mark) × IsLastBetween low high (x ∷ xs) o
     by (Some k, l) = (
       Some k,
-      inr l.0,
-      l.1,
-      λ j h b. elim h [ inl e ↦ subst (λ (y : Mark). y.number ≤ k.number) e (below l.0) | inr g ↦ l.2 j g b ],
+      (inr l.0, l.1, λ j h b. elim h [ inl e ↦ subst (λ (y : Mark). y.number ≤ k.number) e (below l.0) | inr g ↦ l.2 j g b ]),
     )
       where
         below : Has xs k → x.number ≤ k.number
         below h = omega (arith, all_get (λ (y : Mark). x.number < y.number) xs num.0 k h)
     by (None, l) = elim (either_between low high x) [
-      | inl b ↦ (Some x, inl refl, b, λ j h c. elim h [ inl e ↦ subst (λ (y : Mark). y.number ≤ x.number) e (omega arith) | inr g ↦ absurd (l j g c) ])
+      | inl b ↦ (Some x, (inl refl, b, λ j h c. elim h [ inl e ↦ subst (λ (y : Mark). y.number ≤ x.number) e (omega arith) | inr g ↦ absurd (l j g c) ]))
       | inr ne ↦ (None, λ j h c. elim h [ inl e ↦ ne (subst (IsBetween low high) (sym e) c) | inr g ↦ l j g c ])
     ]
 
@@ -64,9 +62,9 @@ row_empty reads writes low high row none m b h = by (last_there low high writes 
         left (Some w) l e = none w (((near_write reads writes low high (Some w) row l e).members w).0 (inl refl))
         left None l e = elim h [ inl r ↦ subst (λ ms. Has ms m) e (in_between low high reads m r b) | inr w ↦ l m w b ]
 
--- ---- what is near is in used, and clashes with nothing in used after it
+-- ---- what is near is in use, and clashes with nothing in use after it
 
--- nothing in used after a mark clashes with it
+-- nothing in use after a mark clashes with it
 abbrev pub IsClear : Mode → Kept → Cell → Mark → Cell → Type 0
 IsClear mode k x m c = (j : Mark) (d : Cell) → IsMarkOf k j d → InUseOf mode k x.row j → m.number < j.number → j.number < x.number → ¬ (CellsClash k.rows c d)
 
@@ -142,7 +140,7 @@ clear_is_near Whole k kept x low m c a used b clear =
     any_put (λ row. IsNearInRow (lane k Read row) (lane k Write row) low x.number m) rows r.0 r.1
     (near_in_row k kept x r.0 low m c a r.2 b (λ j d f u lt le. clear j d f (any_put (λ row. Has (lane k Read row) j ⊎ Has (lane k Write row) j) rows r.0 r.1 u) lt le))
 
--- where none is near, none is in used
+-- where none is near, none is in use
 pub none_in_use : (mode : Mode) (k : Kept) → IsKept k → (x : Cell) (low : ℕ) → ((m : Mark) → ¬ (IsNearOf mode k x.row low x.number m)) → (m : Mark) → InUseOf mode k x.row m → ¬ (IsBetween low x.number m)
 none_in_use Read k kept x low none m used b = by (last_there low x.number (lane k Write x.row) (kept.lanes Write x.row).numbered)
   where
@@ -179,7 +177,7 @@ module _ (k : Kept) (kept : IsKept k) (x : Cell) (o : Option Mark) (last : IsLas
       by None l = absurd (l m h (positive, lt))
       by (Some w) l = l.2 m h (positive, lt)
 
-  -- a near mark that is in used stands after the last that takes the granule
+  -- a near mark that is in use stands after the last that takes the granule
   later : (m : Mark) (c : Cell) → IsMarkOf k m c → IsPart c.mode → CellsClash k.rows c x → m.number < x.number
       → ((t : ℕ) (d : Cell) → get k.cells t ≡ Some d → c.number < d.number → d.number < x.number → CellsClash k.rows c d → ¬ (CellsClash k.rows d x)) → number_or o 0 < m.number
   later m c a part clash lt free = by o last

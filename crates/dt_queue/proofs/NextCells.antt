@@ -33,12 +33,12 @@ either_between low high m = elim (trichotomy low m.number) [
 first_there : (low high : ℕ) (ms : List Mark) → AreNumbered ms → (o : Option Mark) × IsFirstBetween low high ms o
 first_there low high [] num = (None, λ m h. absurd h)
 first_there low high (x ∷ xs) num = elim (either_between low high x) [
-  | inl b ↦ (Some x, inl refl, b, λ j h c. elim h [ inl e ↦ subst (λ (y : Mark). x.number ≤ y.number) e (omega arith) | inr g ↦ omega (arith, all_get (λ (y : Mark). x.number < y.number) xs num.0 j g) ])
+  | inl b ↦ (Some x, (inl refl, b, λ j h c. elim h [ inl e ↦ subst (λ (y : Mark). x.number ≤ y.number) e (omega arith) | inr g ↦ omega (arith, all_get (λ (y : Mark). x.number < y.number) xs num.0 j g) ]))
   | inr ne ↦ by ne (first_there low high xs num.1)
 ]
   where
     by : ¬ (IsBetween low high x) → (o : Option Mark) × IsFirstBetween low high xs o → (o : Option Mark) × IsFirstBetween low high (x ∷ xs) o
-    by ne (Some k, l) = (Some k, inr l.0, l.1, λ j h b. elim h [ inl e ↦ absurd (ne (subst (IsBetween low high) (sym e) b)) | inr g ↦ l.2 j g b ])
+    by ne (Some k, l) = (Some k, (inr l.0, l.1, λ j h b. elim h [ inl e ↦ absurd (ne (subst (IsBetween low high) (sym e) b)) | inr g ↦ l.2 j g b ]))
     by ne (None, l) = (None, λ j h c. elim h [ inl e ↦ ne (subst (IsBetween low high) (sym e) c) | inr g ↦ l j g c ])
 
 row_empty : (reads writes : List Mark) (low high : ℕ) → IsRow reads writes → ((m : Mark) → ¬ (IsNextInRow reads writes low high m)) → (m : Mark) → IsBetween low high m → Has reads m ⊎ Has writes m → ⊥
@@ -55,9 +55,9 @@ row_empty reads writes low high row none m b h = by (first_there low high writes
             left (Some w) l f = none w ((next_write reads writes low high (Some w) row l f w).1 refl)
             left None l f = elim h [ inl r ↦ f m r b | inr w ↦ l m w b ]
 
--- ---- what is next is in used, and clashes with nothing in used before it
+-- ---- what is next is in use, and clashes with nothing in use before it
 
--- nothing in used before a mark clashes with it
+-- nothing in use before a mark clashes with it
 abbrev pub IsClear : Mode → Kept → Cell → Mark → Cell → Type 0
 IsClear mode k x m c = (j : Mark) (d : Cell) → IsMarkOf k j d → InUseOf mode k x.row j → x.number < j.number → j.number < m.number → ¬ (CellsClash k.rows d c)
 
@@ -133,7 +133,7 @@ clear_is_next Whole k kept x high m c a used b clear =
     any_put (λ row. IsNextInRow (lane k Read row) (lane k Write row) x.number high m) rows r.0 r.1
     (next_in_row k kept x r.0 high m c a r.2 b (λ j d f u lt le. clear j d f (any_put (λ row. Has (lane k Read row) j ⊎ Has (lane k Write row) j) rows r.0 r.1 u) lt le))
 
--- where none is next, none is in used
+-- where none is next, none is in use
 none_in_use : (mode : Mode) (k : Kept) → IsKept k → (x : Cell) (high : ℕ) → ((m : Mark) → ¬ (IsNextOfMode mode k x.row x.number high m)) → (m : Mark) → InUseOf mode k x.row m → ¬ (IsBetween x.number high m)
 none_in_use Read k kept x high none m used b = by (first_there x.number high (lane k Write x.row) (kept.lanes Write x.row).numbered)
   where
@@ -170,7 +170,7 @@ module _ (k : Kept) (kept : IsKept k) (x : Cell) (top : ℕ) (within : k.next_nu
       by None l = absurd (l m h (lt, below_top m c a))
       by (Some w) l = l.2 m h (lt, below_top m c a)
 
-  -- a near mark that is in used stands before the first that takes the granule
+  -- a near mark that is in use stands before the first that takes the granule
   earlier : (m : Mark) (c : Cell) → IsMarkOf k m c → IsPart c.mode → CellsClash k.rows x c → x.number < m.number
       → ((t : ℕ) (d : Cell) → get k.cells t ≡ Some d → x.number < d.number → d.number < c.number → CellsClash k.rows x d → ¬ (CellsClash k.rows d c)) → m.number < number_or o top
   earlier m c a part clash lt free = by o first
