@@ -1,10 +1,15 @@
 -- How rows and granules stay tied when one of them is added.
-use Rattle.std.proofs.Common.{◌≡◌, ◌≢◌, ◌⊎◌, ◌↔◌, ℕ, zero, suc, ◌+◌, ◌<◌, ◌≤◌, Bool, true, false, List, [], ◌∷◌, ◌++◌, map, length, get_or, set, slice_get, Option, Some, None, refl, ap, ap₂, sym, subst, inl, inr, arith, ◌∙◌, length-append}
-use Rattle.std.proofs.lemmas.List.{get_or_append_left, get_or-set_same, get_or-set_other, length-set}
+use Rattle.std.proofs.Common.{◌≡◌, ◌≢◌, ◌⊎◌, ◌↔◌, ℕ, zero, suc, ◌+◌, ◌<◌, ◌≤◌, Bool, true, false, cond, ◌&&◌, ◌==◌, List, [], ◌∷◌, ◌++◌, map, length, get_or, set, slice_get, slice_index_or, Option, Some, None, refl, ap, ap₂, sym, subst, inl, inr, arith, ◌∙◌, length-append}
+use Rattle.std.specs.List.{list_any, position_from}
+use Rattle.std.specs.Cmp.Lexicographic.{bytes_decides}
+use Rattle.std.specs.declared.vec.Vec.{Vec}
+use Rattle.std.proofs.lemmas.Bool.{and_parts}
+use Rattle.std.proofs.lemmas.List.{get_or_append_left, get_or_read, get_or-set_same, get_or-set_other, length-set, length-map, map-set}
 use Rattle.std.proofs.Math.Seq.{get_or-append_seam}
 use Rattle.dt_lists.specs.Lists.{AllIn, AnyIn, Distinct, Has, IsFront}
-use Rattle.dt_lists.proofs.Callers.{any_append_left, any_append_right, distinct_push, either_nat, has_more, place_in_longer, place_within}
-use Rattle.dt_access.specs.Clash.{Bytes}
+use Rattle.dt_lists.proofs.Callers.{any_append_left, any_append_right, any_get, any_of_test, distinct_push, either_nat, get_of_map, has_more, place_in_longer, place_within, set_set}
+use Rattle.dt_access.specs.Clash.{Bytes, same_key}
+use Rattle.dt_access.proofs.Callers.{same_key_self}
 use Rattle.dt_queue.specs.Rows.{AreTied, granule_name, name_at}
 
 -- an empty list behind lists does not show
@@ -105,3 +110,76 @@ tied_row names granules gof rof name g t fresh there = record {
     once : (h : ℕ) → (h ≡ g) ⊎ (h ≢ g) → Distinct (get_or (set rof g (get_or rof g [] ++ length gof ∷ [])) h [])
     once h (inr ne) = subst Distinct (sym (same h ne)) (t.rows_once h)
     once h (inl s) = subst (λ i. Distinct (get_or (set rof g (get_or rof g [] ++ length gof ∷ [])) i [])) (sym s) (subst Distinct (sym here) (distinct_push (get_or rof g []) (length gof) (t.rows_once g) not_there))
+
+-- ---- names in a set, and lists of rows in a vector
+
+-- whether two names are the same
+abbrev pub same_name : ℕ × Bytes → ℕ × Bytes → Bool
+same_name a b = (a.0 == b.0) && same_key a.1 b.1
+
+same_of_test : (a b : ℕ × Bytes) → same_name a b ≡ true → a ≡ b
+same_of_test a b e =
+    let p = and_parts (a.0 == b.0) (same_key a.1 b.1) e in
+    let home : a.0 ≡ b.0 = grind (arith, p.0) in
+    let key : a.1 ≡ b.1 = (bytes_decides a.1 b.1).0 p.1 in
+    (λ i. (home i, key i))
+
+test_of_self : (a : ℕ × Bytes) → same_name a a ≡ true
+test_of_self a = both (a.0 == a.0) (same_key a.1 a.1) (grind arith) (same_key_self a.1)
+  where
+    both : (s t : Bool) → s ≡ true → t ≡ true → (s && t) ≡ true
+    both true true e f = refl
+    both true false e f = cc
+    both false t e f = cc
+
+-- the place that a search for a name tells
+named_from : (name : ℕ × Bytes) (xs : List (ℕ × Bytes)) (start i : ℕ) → Some i ≡ position_from (same_name name) start xs → (j : ℕ) × (i ≡ start + j) × (slice_get xs j ≡ Some name)
+named_from name [] start i e = cc
+named_from name (x ∷ xs) start i e = by (same_name name x) refl e (λ f. named_from name xs (start + 1) i f)
+  where
+    by : (t : Bool) → same_name name x ≡ t → Some i ≡ cond t (Some start) (position_from (same_name name) (start + 1) xs)
+        → (Some i ≡ position_from (same_name name) (start + 1) xs → (j : ℕ) × (i ≡ start + 1 + j) × (slice_get xs j ≡ Some name)) → (j : ℕ) × (i ≡ start + j) × (slice_get (x ∷ xs) j ≡ Some name)
+    by true t f rest = let s : i ≡ start = value f in (0, omega (arith, s), ap Some (sym (same_of_test name x t)))
+      where
+        value : Some i ≡ Some start → i ≡ start
+        value f = cc
+    by false t f rest = let r = rest f in (suc r.0, omega (arith, r.1), r.2)
+
+pub named_at : (name : ℕ × Bytes) (xs : List (ℕ × Bytes)) (i : ℕ) → Some i ≡ position_from (same_name name) 0 xs → slice_get xs i ≡ Some name
+named_at name xs i e = let r = named_from name xs 0 i e in let s : i ≡ r.0 = omega (arith, r.1) in ap (slice_get xs) s ∙ r.2
+
+-- where a search for a name tells no place, the name is not there
+unnamed_from : (name : ℕ × Bytes) (xs : List (ℕ × Bytes)) (start : ℕ) → None ≡ position_from (same_name name) start xs → ¬ (Has xs name)
+unnamed_from name [] start e h = h
+unnamed_from name (x ∷ xs) start e h = by (same_name name x) refl e (λ f. unnamed_from name xs (start + 1) f)
+  where
+    by : (t : Bool) → same_name name x ≡ t → None ≡ cond t (Some start) (position_from (same_name name) (start + 1) xs) → (None ≡ position_from (same_name name) (start + 1) xs → ¬ (Has xs name)) → ⊥
+    by true t f rest = cc
+    by false t f rest = elim h [ inl s ↦ clash (sym (subst (λ y. same_name name y ≡ true) (sym s) (test_of_self name)) ∙ t) | inr g ↦ rest f g ]
+      where
+        clash : true ≡ false → ⊥
+        clash e = cc
+
+pub unnamed : (name : ℕ × Bytes) (xs : List (ℕ × Bytes)) → None ≡ position_from (same_name name) 0 xs → ¬ (Has xs name)
+unnamed name xs e = unnamed_from name xs 0 e
+
+-- a name that is not there is added at the back
+pub added_name : (name : ℕ × Bytes) (xs : List (ℕ × Bytes)) → ¬ (Has xs name) → cond (list_any (same_name name) xs) xs (xs ++ name ∷ []) ≡ xs ++ name ∷ []
+added_name name xs fresh = by (list_any (same_name name) xs) refl
+  where
+    by : (t : Bool) → list_any (same_name name) xs ≡ t → cond t xs (xs ++ name ∷ []) ≡ xs ++ name ∷ []
+    by true e = let r = any_get (λ y. same_name name y ≡ true) xs (any_of_test (same_name name) xs e) in absurd (fresh (subst (Has xs) (sym (same_of_test name r.0 r.2)) r.1))
+    by false e = refl
+
+-- one list of rows got one more
+pub rows_after : {Z : Type 0} (xs : List (Vec ℕ Z)) (g n : ℕ) (d0 v1 d2 v2 : Vec ℕ Z) → g < length xs → d0 ≡ slice_index_or xs g d0 → v1.items ≡ d0.items → d2 ≡ slice_index_or (set xs g v1) g d2 → v2.items ≡ d2.items ++ n ∷ []
+    → map (λ (v : Vec ℕ Z). v.items) (set (set xs g v1) g v2) ≡ set (map (λ (v : Vec ℕ Z). v.items) xs) g (get_or (map (λ (v : Vec ℕ Z). v.items) xs) g [] ++ n ∷ [])
+rows_after {Z} xs g n d0 v1 d2 v2 lt e0 e1 e2 e3 =
+    let one : d2 ≡ v1 = e2 ∙ get_or-set_same xs g v1 d2 lt in
+    let there : g < length (map (λ (v : Vec ℕ Z). v.items) xs) = rw (length-map (λ (v : Vec ℕ Z). v.items) xs) lt in
+    let had : d0.items ≡ get_or (map (λ (v : Vec ℕ Z). v.items) xs) g [] =
+        get_or_read (map (λ (v : Vec ℕ Z). v.items) xs) g d0.items there (ap (λ (v : Vec ℕ Z). v.items) e0 ∙ sym (get_of_map (λ (v : Vec ℕ Z). v.items) xs g d0)) [] in
+    map-set (λ (v : Vec ℕ Z). v.items) (set xs g v1) g v2
+    ∙ ap (λ l. set l g v2.items) (map-set (λ (v : Vec ℕ Z). v.items) xs g v1)
+    ∙ set_set (map (λ (v : Vec ℕ Z). v.items) xs) g v1.items v2.items
+    ∙ ap (λ l. set (map (λ (v : Vec ℕ Z). v.items) xs) g l) (e3 ∙ ap (λ (v : Vec ℕ Z). v.items ++ n ∷ []) one ∙ ap (λ l. l ++ n ∷ []) (e1 ∙ had))

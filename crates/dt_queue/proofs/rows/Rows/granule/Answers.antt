@@ -1,16 +1,26 @@
-use Rattle.std.proofs.Common.{rules, ◌≡◌, ◌<◌, [], slice_get, vec_len, Some, IfOk, ℕ, ◌+◌, ◌-◌, ◌*◌, ◌≤◌, length, ◌/◌, ◌%◌, Bool, true, false, nat_eq, nat_lt, List, ◌∷◌, ◌++◌, slice_index_or, slice_set, bit_and, bit_or, Fits, w8, w32, w64, Bor, MutBor}
-use Rattle.dt_lists.specs.Lists.{Has}
-use Rattle.dt_queue.specs.Rows.{AreLinked, KeepsRows, granule_at, rows_at}
+use Rattle.std.proofs.Common.{◌≡◌, ◌++◌, ◌∷◌, [], map, length, ap, ap₂, sym, subst, ◌∙◌, arith}
+use Rattle.std.proofs.lemmas.List.{length-map, map-append}
+use Rattle.dt_lists.proofs.Callers.{get_seam}
+use Rattle.dt_queue.specs.Rows.{AreTied}
+use Rattle.dt_queue.proofs.RowLists.{added_name, named_at, tied_granule, unnamed}
 use Rattle.dt_queue.proofs.rows.Rows.granule.Goals as goal
 
--- src/rows.rt:76:13
 pub returns-in-Some-clause-found : goal.returns-in-Some-clause-found
-returns-in-Some-clause-found c = ?
+returns-in-Some-clause-found c = named_at c.args.name c.args.self.now.granules.keys c.in-Some.granule c.in-Some.ensures.index
 
--- src/rows.rt:68:5
 pub returns-clause-linked : goal.returns-clause-linked
-returns-clause-linked c = ?
+returns-clause-linked c =
+    let r = c.args.self.now in
+    let fresh = unnamed c.args.name r.granules.keys c.in_default.ensures.index in
+    let keys = c.in_ok-insert.ensures.keys ∙ added_name c.args.name r.granules.keys fresh in
+    let rows = ap (map (λ v. v.items)) (c.push_reserved.ensures.items ∙ ap (λ l. l ++ c.new.result ∷ []) c.in_ok-reserve.ensures.items) ∙ map-append (λ v. v.items) r.rows_of.items (c.new.result ∷ [])
+        ∙ ap (λ l. map (λ v. v.items) r.rows_of.items ++ l ∷ []) c.new.ensures.items in
+    rw (keys, rows) (tied_granule r.names.keys r.granules.keys r.granule_of.items (map (λ v. v.items) r.rows_of.items) c.args.name c.requires fresh)
 
--- src/rows.rt:68:5
 pub returns-clause-found : goal.returns-clause-found
-returns-clause-found c = ?
+returns-clause-found c =
+    let r = c.args.self.now in
+    let fresh = unnamed c.args.name r.granules.keys c.in_default.ensures.index in
+    let keys = c.in_ok-insert.ensures.keys ∙ added_name c.args.name r.granules.keys fresh in
+    let place : c.len-granule.result ≡ length r.granules.keys = omega (arith, c.len-granule.ensures, r.rows_of.ok.0, length-map (λ v. v.items) r.rows_of.items, c.requires.each_granule) in
+    rw (keys, place) (get_seam r.granules.keys c.args.name [])

@@ -1,12 +1,10 @@
-use Rattle.std.proofs.Common.{rules, ◌≡◌, ◌<◌, [], slice_get, vec_len, Some, IfOk, ℕ, ◌+◌, ◌-◌, ◌*◌, ◌≤◌, length, ◌/◌, ◌%◌, Bool, true, false, nat_eq, nat_lt, List, ◌∷◌, ◌++◌, slice_index_or, slice_set, bit_and, bit_or, Fits, w8, w32, w64, Bor, MutBor}
-use Rattle.dt_lists.specs.Lists.{Has}
-use Rattle.dt_queue.specs.Rows.{AreLinked, KeepsRows, granule_at, rows_at}
+use Rattle.std.proofs.Common.{Some, ap, ◌∙◌}
+use Rattle.dt_queue.proofs.RowLists.{named_at, unnamed}
 use Rattle.dt_queue.proofs.rows.Rows.row.Goals as goal
 
--- src/rows.rt:45:21
 pub add_row-requires-clause-absent : goal.add_row-requires-clause-absent
-add_row-requires-clause-absent c = ?
+add_row-requires-clause-absent c = unnamed (c.args.home, c.in_ok-copy.field-0) c.args.self.now.names.keys c.in-None.ensures.index
 
--- src/rows.rt:36:5
 pub returns-in-Some-clause-found : goal.returns-in-Some-clause-found
-returns-in-Some-clause-found c = ?
+returns-in-Some-clause-found c =
+    named_at (c.args.home, c.in_ok-copy.field-0) c.args.self.now.names.keys c.in-Some.row c.in-Some.ensures.index ∙ ap (λ k. Some (c.args.home, k)) c.in_ok-copy.ensures.same
