@@ -1,5 +1,5 @@
 -- How lanes follow the cells: a mark is added where a cell is, and taken out where it is taken out.
-use Rattle.std.proofs.Common.{◌≡◌, ◌≢◌, ◌⊎◌, ◌↔◌, ℕ, zero, suc, ◌+◌, ◌<◌, ◌≤◌, Bool, true, false, not, ◌==◌, List, [], ◌∷◌, ◌++◌, length, get_or, Option, Some, None, refl, ap, sym, subst, inl, inr, arith, ◌∙◌, length-append}
+use Rattle.std.proofs.Common.{◌≡◌, ◌≢◌, ◌⊎◌, ◌↔◌, ℕ, zero, suc, ◌+◌, ◌<◌, ◌≤◌, Bool, true, false, not, ◌==◌, List, [], ◌∷◌, ◌++◌, length, get_or, slice_index_or, Option, Some, None, Result, Ok, Err, OnOk, OnErr, refl, ap, sym, subst, inl, inr, arith, ◌∙◌, length-append}
 use Rattle.std.specs.List.{filter}
 use Rattle.slab.specs.Slab.{Slab, Updates, get}
 use Rattle.dt_lists.specs.Lists.{AllIn, AnyIn, EachThen, Has, IsFront}
@@ -10,7 +10,8 @@ use Rattle.dt_queue.specs.declared.cell.Cell.{Cell}
 use Rattle.dt_queue.specs.declared.mark.Mark.{Mark}
 use Rattle.dt_queue.specs.declared.kept.Kept.{Kept}
 use Rattle.dt_queue.specs.declared.rows.Rows.{Rows}
-use Rattle.dt_queue.specs.Kept.{IsInLane, IsKept, IsLane, lane, mark_of, place_at}
+use Rattle.dt_queue.specs.Kept.{ChangesLaneOf, IsInLane, IsKept, IsLane, KeepsLanes, lane, mark_of, place_at}
+use Rattle.dt_queue.specs.Lanes.{ChangesLane, SameLanes}
 use Rattle.dt_queue.specs.Rows.{AreLinked, KeepsRows, granule_at}
 use Rattle.dt_queue.proofs.Marks.{numbered_more}
 use Rattle.dt_queue.proofs.InOrder.{AreAlone}
@@ -248,3 +249,111 @@ kept_removed k n slot c kept rows there up next changed others = record {
       (subst (IsLane n.cells (IsInLane k.rows c.mode (place_at k.rows c.mode c.row))) (sym changed)
       (lane_less k.cells n.cells (IsInLane k.rows c.mode (place_at k.rows c.mode c.row)) (lane k c.mode (place_at k.rows c.mode c.row)) slot c
       (kept.lanes c.mode (place_at k.rows c.mode c.row)) kept.alone there up)))
+
+-- ---- steps of the code
+
+pub none_kept : (k : Kept) → AreLinked k.rows → k.cells.slots ≡ [] → k.reads.items ≡ [] → k.writes.items ≡ [] → k.wholes.items ≡ [] → 0 < k.next_number → IsKept k
+none_kept k linked slots reads writes wholes first = record {
+  linked = linked;
+  first = first;
+  counted = λ s c e. absurd (none s c e);
+  alone = λ s t c d e f g. absurd (none s c e);
+  known = λ s c e. absurd (none s c e);
+  lanes = λ m p. subst (IsLane k.cells (IsInLane k.rows m p)) (sym (empty m p)) (record { numbered = tt; members = λ x. (λ h. absurd h, λ r. absurd (none x.slot r.0 r.1)) });
+}
+  where
+    none : (s : ℕ) (c : Cell) → get k.cells s ≡ Some c → ⊥
+    none s c e = none_some c (subst (λ l. slice_index_or l s None ≡ Some c) slots e)
+
+    empty : (m : Mode) (p : ℕ) → lane k m p ≡ []
+    empty Read p = ap (λ l. get_or l p []) reads
+    empty Write p = ap (λ l. get_or l p []) writes
+    empty Whole p = ap (λ l. get_or l p []) wholes
+
+-- all marks have numbers that were given
+pub all_before : (k : Kept) → IsKept k → (m : Mode) (p : ℕ) → AllIn (λ (x : Mark). x.number < k.next_number) (lane k m p)
+all_before k kept m p = all_put _ (lane k m p) (λ x h. let r = ((kept.lanes m p).members x).0 h in
+    let v : x.number ≡ r.0.number = ap (λ (y : Mark). y.number) r.3 in
+    omega (arith, v, (kept.counted x.slot r.0 r.1).1))
+
+-- one lane was changed
+pub changed_read : (old new : Kept) (f : List Mark → List Mark) (mode : Mode) (row : ℕ) → mode ≡ Read → ChangesLane old.reads.items row (f (get_or old.reads.items row [])) new.reads.items
+    → new.rows ≡ old.rows → new.cells ≡ old.cells → new.next_number ≡ old.next_number → new.writes ≡ old.writes → new.wholes ≡ old.wholes
+    → ChangesLaneOf old mode (place_at old.rows mode row) (f (lane old mode (place_at old.rows mode row))) new
+changed_read old new f mode row is change rows cells number writes wholes =
+    subst (λ m. ChangesLaneOf old m (place_at old.rows m row) (f (lane old m (place_at old.rows m row))) new) (sym is)
+    (record { changed = change.changed; others = λ m p ne. other m p ne; rows = rows; cells = cells; number = number })
+  where
+    other : (m : Mode) (p : ℕ) → ¬ ((m ≡ Read) × (p ≡ row)) → lane new m p ≡ lane old m p
+    other Read p ne = change.others p (λ e. ne (refl, e))
+    other Write p ne = ap (λ l. get_or l.items p []) writes
+    other Whole p ne = ap (λ l. get_or l.items p []) wholes
+
+pub changed_write : (old new : Kept) (f : List Mark → List Mark) (mode : Mode) (row : ℕ) → mode ≡ Write → ChangesLane old.writes.items row (f (get_or old.writes.items row [])) new.writes.items
+    → new.rows ≡ old.rows → new.cells ≡ old.cells → new.next_number ≡ old.next_number → new.reads ≡ old.reads → new.wholes ≡ old.wholes
+    → ChangesLaneOf old mode (place_at old.rows mode row) (f (lane old mode (place_at old.rows mode row))) new
+changed_write old new f mode row is change rows cells number reads wholes =
+    subst (λ m. ChangesLaneOf old m (place_at old.rows m row) (f (lane old m (place_at old.rows m row))) new) (sym is)
+    (record { changed = change.changed; others = λ m p ne. other m p ne; rows = rows; cells = cells; number = number })
+  where
+    other : (m : Mode) (p : ℕ) → ¬ ((m ≡ Write) × (p ≡ row)) → lane new m p ≡ lane old m p
+    other Read p ne = ap (λ l. get_or l.items p []) reads
+    other Write p ne = change.others p (λ e. ne (refl, e))
+    other Whole p ne = ap (λ l. get_or l.items p []) wholes
+
+pub changed_whole : (old new : Kept) (f : List Mark → List Mark) (mode : Mode) (row g : ℕ) → mode ≡ Whole → g ≡ granule_at old.rows row → ChangesLane old.wholes.items g (f (get_or old.wholes.items g [])) new.wholes.items
+    → new.rows ≡ old.rows → new.cells ≡ old.cells → new.next_number ≡ old.next_number → new.reads ≡ old.reads → new.writes ≡ old.writes
+    → ChangesLaneOf old mode (place_at old.rows mode row) (f (lane old mode (place_at old.rows mode row))) new
+changed_whole old new f mode row g is same change rows cells number reads writes =
+    subst (λ m. ChangesLaneOf old m (place_at old.rows m row) (f (lane old m (place_at old.rows m row))) new) (sym is)
+    (record { changed = moved.changed; others = λ m p ne. other m p ne; rows = rows; cells = cells; number = number })
+  where
+    moved : ChangesLane old.wholes.items (granule_at old.rows row) (f (get_or old.wholes.items (granule_at old.rows row) [])) new.wholes.items
+    moved = subst (λ i. ChangesLane old.wholes.items i (f (get_or old.wholes.items i [])) new.wholes.items) same change
+
+    other : (m : Mode) (p : ℕ) → ¬ ((m ≡ Whole) × (p ≡ granule_at old.rows row)) → lane new m p ≡ lane old m p
+    other Read p ne = ap (λ l. get_or l.items p []) reads
+    other Write p ne = ap (λ l. get_or l.items p []) writes
+    other Whole p ne = moved.others p (λ e. ne (refl, e))
+
+-- no lane was changed
+pub keeps_lanes : (old new : Kept) → SameLanes old.reads.items new.reads.items → SameLanes old.writes.items new.writes.items → SameLanes old.wholes.items new.wholes.items
+    → new.rows ≡ old.rows → new.cells ≡ old.cells → new.next_number ≡ old.next_number → KeepsLanes old new
+keeps_lanes old new reads writes wholes rows cells number = record { lanes = λ m p. same m p; rows = rows; cells = cells; number = number }
+  where
+    same : (m : Mode) (p : ℕ) → lane new m p ≡ lane old m p
+    same Read p = reads p
+    same Write p = writes p
+    same Whole p = wholes p
+
+pub same_self : (lanes : List (List Mark)) → SameLanes lanes lanes
+same_self lanes place = refl
+
+pub on_ok : {A E P Q : Type 0} (r : Result A E) → (P → Q) → OnOk r P → OnOk r Q
+on_ok (Ok x) f o = f o
+on_ok (Err x) f o = o
+
+pub on_err : {A E P Q : Type 0} (r : Result A E) → (P → Q) → OnErr r P → OnErr r Q
+on_err (Ok x) f o = o
+on_err (Err x) f o = f o
+
+-- a push, step by step: rows were added, room was made, a mark was added, and the cell was put
+pub push_steps : (k mid marked n : Kept) (slot : ℕ) (c : Cell) → IsKept k → AreLinked mid.rows → KeepsRows k.rows mid.rows → ((s : ℕ) → get mid.cells s ≡ get k.cells s)
+    → ((m : Mode) (p : ℕ) → lane mid m p ≡ lane k m p)
+    → ChangesLaneOf mid c.mode (place_at mid.rows c.mode c.row) (lane mid c.mode (place_at mid.rows c.mode c.row) ++ mark_of slot c ∷ []) marked
+    → n.rows ≡ marked.rows → ((m : Mode) (p : ℕ) → lane n m p ≡ lane marked m p) → Updates marked.cells n.cells slot (Some c) → get marked.cells slot ≡ None
+    → c.number ≡ k.next_number → n.next_number ≡ c.number + 1 → c.row < length mid.rows.names.keys
+    → IsKept n × Updates k.cells n.cells slot (Some c) × (get k.cells slot ≡ None)
+push_steps k mid marked n slot c kept linked keeps cells lanes change rows same up vacant number next row =
+    let moved : n.rows ≡ mid.rows = rows ∙ change.rows in
+    let old : (s : ℕ) → get marked.cells s ≡ get k.cells s = λ s. ap (λ x. get x s) change.cells ∙ cells s in
+    let updates : Updates k.cells n.cells slot (Some c) = record { changed = up.changed; others = λ s ne. up.others s ne ∙ old s } in
+    let empty : get k.cells slot ≡ None = sym (old slot) ∙ vacant in
+    (
+      kept_pushed k n slot c kept (subst AreLinked (sym moved) linked) (subst (KeepsRows k.rows) (sym moved) keeps) updates empty number next (subst (λ (r : Rows). c.row < length r.names.keys) (sym moved) row)
+        (subst (λ (r : Rows). lane n c.mode (place_at r c.mode c.row) ≡ lane k c.mode (place_at r c.mode c.row) ++ mark_of slot c ∷ []) (sym moved)
+          (same c.mode (place_at mid.rows c.mode c.row) ∙ change.changed ∙ ap (λ l. l ++ mark_of slot c ∷ []) (lanes c.mode (place_at mid.rows c.mode c.row))))
+        (λ m p ne. same m p ∙ change.others m p (λ b. ne (b.0, b.1 ∙ ap (λ (r : Rows). place_at r c.mode c.row) (sym moved))) ∙ lanes m p),
+      updates,
+      empty,
+    )

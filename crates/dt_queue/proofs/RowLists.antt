@@ -1,6 +1,7 @@
 -- How rows and granules stay tied when one of them is added.
 use Rattle.std.proofs.Common.{◌≡◌, ◌≢◌, ◌⊎◌, ◌↔◌, ℕ, zero, suc, ◌+◌, ◌<◌, ◌≤◌, Bool, true, false, cond, ◌&&◌, ◌==◌, List, [], ◌∷◌, ◌++◌, map, length, get_or, set, slice_get, slice_index_or, Option, Some, None, refl, ap, ap₂, sym, subst, inl, inr, arith, ◌∙◌, length-append}
-use Rattle.std.specs.List.{list_any, position_from}
+use Rattle.std.specs.List.{list_any, position, position_from}
+use Rattle.std.proofs.lemmas.Iterator.Adapters.{position_from-zero}
 use Rattle.std.specs.Cmp.Lexicographic.{bytes_decides}
 use Rattle.std.specs.declared.vec.Vec.{Vec}
 use Rattle.std.proofs.lemmas.Bool.{and_parts}
@@ -145,8 +146,8 @@ named_from name (x ∷ xs) start i e = by (same_name name x) refl e (λ f. named
         value f = cc
     by false t f rest = let r = rest f in (suc r.0, omega (arith, r.1), r.2)
 
-pub named_at : (name : ℕ × Bytes) (xs : List (ℕ × Bytes)) (i : ℕ) → Some i ≡ position_from (same_name name) 0 xs → slice_get xs i ≡ Some name
-named_at name xs i e = let r = named_from name xs 0 i e in let s : i ≡ r.0 = omega (arith, r.1) in ap (slice_get xs) s ∙ r.2
+pub named_at : (name : ℕ × Bytes) (xs : List (ℕ × Bytes)) (i : ℕ) → Some i ≡ position (same_name name) xs → slice_get xs i ≡ Some name
+named_at name xs i e = let r = named_from name xs 0 i (e ∙ position_from-zero (same_name name) xs) in let s : i ≡ r.0 = omega (arith, r.1) in ap (slice_get xs) s ∙ r.2
 
 -- where a search for a name tells no place, the name is not there
 unnamed_from : (name : ℕ × Bytes) (xs : List (ℕ × Bytes)) (start : ℕ) → None ≡ position_from (same_name name) start xs → ¬ (Has xs name)
@@ -160,8 +161,8 @@ unnamed_from name (x ∷ xs) start e h = by (same_name name x) refl e (λ f. unn
         clash : true ≡ false → ⊥
         clash e = cc
 
-pub unnamed : (name : ℕ × Bytes) (xs : List (ℕ × Bytes)) → None ≡ position_from (same_name name) 0 xs → ¬ (Has xs name)
-unnamed name xs e = unnamed_from name xs 0 e
+pub unnamed : (name : ℕ × Bytes) (xs : List (ℕ × Bytes)) → None ≡ position (same_name name) xs → ¬ (Has xs name)
+unnamed name xs e = unnamed_from name xs 0 (e ∙ position_from-zero (same_name name) xs)
 
 -- a name that is not there is added at the back
 pub added_name : (name : ℕ × Bytes) (xs : List (ℕ × Bytes)) → ¬ (Has xs name) → cond (list_any (same_name name) xs) xs (xs ++ name ∷ []) ≡ xs ++ name ∷ []
@@ -176,7 +177,7 @@ pub rows_after : {Z : Type 0} (xs : List (Vec ℕ Z)) (g n : ℕ) (d0 v1 d2 v2 :
     → map (λ (v : Vec ℕ Z). v.items) (set (set xs g v1) g v2) ≡ set (map (λ (v : Vec ℕ Z). v.items) xs) g (get_or (map (λ (v : Vec ℕ Z). v.items) xs) g [] ++ n ∷ [])
 rows_after {Z} xs g n d0 v1 d2 v2 lt e0 e1 e2 e3 =
     let one : d2 ≡ v1 = e2 ∙ get_or-set_same xs g v1 d2 lt in
-    let there : g < length (map (λ (v : Vec ℕ Z). v.items) xs) = rw (length-map (λ (v : Vec ℕ Z). v.items) xs) lt in
+    let there : g < length (map (λ (v : Vec ℕ Z). v.items) xs) = rw (length-map xs (λ (v : Vec ℕ Z). v.items)) lt in
     let had : d0.items ≡ get_or (map (λ (v : Vec ℕ Z). v.items) xs) g [] =
         get_or_read (map (λ (v : Vec ℕ Z). v.items) xs) g d0.items there (ap (λ (v : Vec ℕ Z). v.items) e0 ∙ sym (get_of_map (λ (v : Vec ℕ Z). v.items) xs g d0)) [] in
     map-set (λ (v : Vec ℕ Z). v.items) (set xs g v1) g v2

@@ -22,5 +22,5 @@ returns-clause-found c =
     let r = c.args.self.now in
     let fresh = unnamed c.args.name r.granules.keys c.in_default.ensures.index in
     let keys = c.in_ok-insert.ensures.keys ∙ added_name c.args.name r.granules.keys fresh in
-    let place : c.len-granule.result ≡ length r.granules.keys = omega (arith, c.len-granule.ensures, r.rows_of.ok.0, length-map (λ v. v.items) r.rows_of.items, c.requires.each_granule) in
+    let place : c.len-granule.result ≡ length r.granules.keys = omega (arith, c.len-granule.ensures, r.rows_of.ok.0, length-map r.rows_of.items (λ v. v.items), c.requires.each_granule) in
     rw (keys, place) (get_seam r.granules.keys c.args.name [])
