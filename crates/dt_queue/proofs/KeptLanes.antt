@@ -1,9 +1,10 @@
 -- How lanes follow the cells: a mark is added where a cell is, and taken out where it is taken out.
-use Rattle.std.proofs.Common.{◌≡◌, ◌≢◌, ◌⊎◌, ◌↔◌, ℕ, zero, suc, ◌+◌, ◌<◌, ◌≤◌, Bool, true, false, not, ◌==◌, List, [], ◌∷◌, ◌++◌, length, get_or, slice_index_or, Option, Some, None, Result, Ok, Err, OnOk, OnErr, refl, ap, sym, subst, inl, inr, arith, ◌∙◌, length-append}
+use Rattle.std.proofs.Common.{◌≡◌, ◌≢◌, ◌⊎◌, ◌↔◌, ℕ, zero, suc, ◌+◌, ◌<◌, ◌≤◌, ◌^◌, Bool, true, false, not, ◌==◌, List, [], ◌∷◌, ◌++◌, length, get_or, slice_index_or, Option, Some, None, Result, Ok, Err, OnOk, OnErr, refl, ap, sym, subst, inl, inr, arith, ◌∙◌, length-append}
 use Rattle.std.specs.List.{filter}
 use Rattle.slab.specs.Slab.{Slab, Updates, get}
 use Rattle.dt_lists.specs.Lists.{AllIn, AnyIn, EachThen, Has, IsFront}
-use Rattle.dt_lists.proofs.Callers.{all_put, any_append, any_append_left, any_append_right, either_nat, filter_each, front_refl, has_filter, has_of_filtered}
+use Rattle.dt_lists.proofs.Callers.{all_put, any_append, any_append_left, any_append_right, either_nat, filter_each, front_refl, has_filter, has_of_filtered, place_within}
+use Rattle.std.proofs.lemmas.List.{length-map}
 use Rattle.dt_access.specs.declared.access.Mode.{Mode}
 use Rattle.dt_access.specs.declared.access.Mode.TheVariants.{Read, Write, Whole}
 use Rattle.dt_queue.specs.declared.cell.Cell.{Cell}
@@ -155,6 +156,7 @@ pub kept_same : (k n : Kept) → IsKept k → AreLinked n.rows → KeepsRows k.r
 kept_same k n kept linked keeps cells next lanes = record {
   linked = linked;
   first = subst (λ i. 0 < i) (sym next) kept.first;
+  last = subst (λ i. i < 2 ^ 64) (sym next) kept.last;
   counted = λ s c e. let b = kept.counted s c (sym (cells s) ∙ e) in (b.0, subst (λ i. c.number < i) (sym next) b.1);
   alone = λ s t c d e f g. kept.alone s t c d (sym (cells s) ∙ e) (sym (cells t) ∙ f) g;
   known = λ s c e. let lt = kept.known s c (sym (cells s) ∙ e) in omega (arith, lt, front_length _ _ keeps.names);
@@ -168,12 +170,13 @@ kept_same k n kept linked keeps cells next lanes = record {
 
 -- a cell was put behind all others, and its mark in its lane
 pub kept_pushed : (k n : Kept) (slot : ℕ) (c : Cell) → IsKept k → AreLinked n.rows → KeepsRows k.rows n.rows → Updates k.cells n.cells slot (Some c) → get k.cells slot ≡ None
-    → c.number ≡ k.next_number → n.next_number ≡ c.number + 1 → c.row < length n.rows.names.keys
+    → c.number ≡ k.next_number → n.next_number ≡ c.number + 1 → n.next_number < 2 ^ 64 → c.row < length n.rows.names.keys
     → lane n c.mode (place_at n.rows c.mode c.row) ≡ lane k c.mode (place_at n.rows c.mode c.row) ++ mark_of slot c ∷ []
     → ((m : Mode) (p : ℕ) → ¬ ((m ≡ c.mode) × (p ≡ place_at n.rows c.mode c.row)) → lane n m p ≡ lane k m p) → IsKept n
-kept_pushed k n slot c kept linked keeps up vacant number next row changed others = record {
+kept_pushed k n slot c kept linked keeps up vacant number next within row changed others = record {
   linked = linked;
   first = omega (arith, next);
+  last = within;
   counted = λ s d e. counted s d e (either_nat s slot);
   alone = λ s t d x e f g. alone s t d x e f g (either_nat s slot) (either_nat t slot);
   known = λ s d e. known s d e (either_nat s slot);
@@ -231,6 +234,7 @@ pub kept_removed : (k n : Kept) (slot : ℕ) (c : Cell) → IsKept k → n.rows 
 kept_removed k n slot c kept rows there up next changed others = record {
   linked = subst AreLinked (sym rows) kept.linked;
   first = subst (λ i. 0 < i) (sym next) kept.first;
+  last = subst (λ i. i < 2 ^ 64) (sym next) kept.last;
   counted = λ s d e. let b = kept.counted s d (old s d e) in (b.0, subst (λ i. d.number < i) (sym next) b.1);
   alone = λ s t d x e f g. kept.alone s t d x (old s d e) (old t x f) g;
   known = λ s d e. subst (λ (r : Rows). d.row < length r.names.keys) (sym rows) (kept.known s d (old s d e));
@@ -252,10 +256,11 @@ kept_removed k n slot c kept rows there up next changed others = record {
 
 -- ---- steps of the code
 
-pub none_kept : (k : Kept) → AreLinked k.rows → k.cells.slots ≡ [] → k.reads.items ≡ [] → k.writes.items ≡ [] → k.wholes.items ≡ [] → 0 < k.next_number → IsKept k
-none_kept k linked slots reads writes wholes first = record {
+pub none_kept : (k : Kept) → AreLinked k.rows → k.cells.slots ≡ [] → k.reads.items ≡ [] → k.writes.items ≡ [] → k.wholes.items ≡ [] → 0 < k.next_number → k.next_number < 2 ^ 64 → IsKept k
+none_kept k linked slots reads writes wholes first last = record {
   linked = linked;
   first = first;
+  last = last;
   counted = λ s c e. absurd (none s c e);
   alone = λ s t c d e f g. absurd (none s c e);
   known = λ s c e. absurd (none s c e);
@@ -342,18 +347,32 @@ pub push_steps : (k mid marked n : Kept) (slot : ℕ) (c : Cell) → IsKept k �
     → ((m : Mode) (p : ℕ) → lane mid m p ≡ lane k m p)
     → ChangesLaneOf mid c.mode (place_at mid.rows c.mode c.row) (lane mid c.mode (place_at mid.rows c.mode c.row) ++ mark_of slot c ∷ []) marked
     → n.rows ≡ marked.rows → ((m : Mode) (p : ℕ) → lane n m p ≡ lane marked m p) → Updates marked.cells n.cells slot (Some c) → get marked.cells slot ≡ None
-    → c.number ≡ k.next_number → n.next_number ≡ c.number + 1 → c.row < length mid.rows.names.keys
+    → c.number ≡ k.next_number → n.next_number ≡ c.number + 1 → n.next_number < 2 ^ 64 → c.row < length mid.rows.names.keys
     → IsKept n × Updates k.cells n.cells slot (Some c) × (get k.cells slot ≡ None)
-push_steps k mid marked n slot c kept linked keeps cells lanes change rows same up vacant number next row =
+push_steps k mid marked n slot c kept linked keeps cells lanes change rows same up vacant number next within row =
     let moved : n.rows ≡ mid.rows = rows ∙ change.rows in
     let old : (s : ℕ) → get marked.cells s ≡ get k.cells s = λ s. ap (λ x. get x s) change.cells ∙ cells s in
     let updates : Updates k.cells n.cells slot (Some c) = record { changed = up.changed; others = λ s ne. up.others s ne ∙ old s } in
     let empty : get k.cells slot ≡ None = sym (old slot) ∙ vacant in
     (
-      kept_pushed k n slot c kept (subst AreLinked (sym moved) linked) (subst (KeepsRows k.rows) (sym moved) keeps) updates empty number next (subst (λ (r : Rows). c.row < length r.names.keys) (sym moved) row)
+      kept_pushed k n slot c kept (subst AreLinked (sym moved) linked) (subst (KeepsRows k.rows) (sym moved) keeps) updates empty number next within (subst (λ (r : Rows). c.row < length r.names.keys) (sym moved) row)
         (subst (λ (r : Rows). lane n c.mode (place_at r c.mode c.row) ≡ lane k c.mode (place_at r c.mode c.row) ++ mark_of slot c ∷ []) (sym moved)
           (same c.mode (place_at mid.rows c.mode c.row) ∙ change.changed ∙ ap (λ l. l ++ mark_of slot c ∷ []) (lanes c.mode (place_at mid.rows c.mode c.row))))
         (λ m p ne. same m p ∙ change.others m p (λ b. ne (b.0, b.1 ∙ ap (λ (r : Rows). place_at r c.mode c.row) (sym moved))) ∙ lanes m p),
       updates,
       empty,
     )
+
+-- the granule of a row is known
+pub granule_in : (r : Rows) → AreLinked r → (row : ℕ) → row < length r.names.keys → granule_at r row < length r.rows_of.items
+granule_in r linked row lt =
+    let within = place_within r.granules.keys (granule_at r row) _ (linked.granule row lt) in
+    omega (arith, within, linked.each_granule, length-map r.rows_of.items (λ v. v.items))
+
+pub empty_of : {A : Type 0} (xs : List A) (n : ℕ) (t : Bool) → n ≡ length xs → t ≡ (n == 0) → t ≡ true → xs ≡ []
+empty_of [] n t a b c = refl
+empty_of (x ∷ xs) n t a b c = absurd (grind (arith, a, b, c))
+
+pub some_of : {A : Type 0} (xs : List A) (n : ℕ) (t : Bool) → n ≡ length xs → t ≡ (n == 0) → t ≡ false → (x : A) × Has xs x
+some_of [] n t a b c = absurd (grind (arith, a, b, c))
+some_of (x ∷ xs) n t a b c = (x, inl refl)

@@ -7,7 +7,7 @@ use Rattle.dt_lists.proofs.Callers.{all_get, either_le, filter_each, has_filter,
 use Rattle.dt_queue.specs.declared.mark.Mark.{Mark}
 use Rattle.dt_queue.specs.declared.next.Next.{Next}
 use Rattle.std.proofs.lemmas.List.{append-nil}
-use Rattle.dt_queue.specs.Lanes.{AddsMarks, AreApart, AreMarks, AreNumbered, IsBetween, IsFirstBetween, IsLastBetween, IsNearInRow, IsNextInRow, NoneBetween, is_between, later_than, number_or}
+use Rattle.dt_queue.specs.Lanes.{AddsMarks, AreApart, AreMarks, AreNumbered, IsBetween, IsFirstBetween, IsFirstIn, IsLastBetween, IsLastIn, IsNearInRow, IsNextInRow, NoneBetween, is_between, later_than, number_or}
 use Rattle.dt_queue.specs.Next.{IsFirstAfter, IsNextOf}
 use Rattle.dt_queue.proofs.Marks.{between_true}
 
@@ -293,3 +293,42 @@ added_reads old new reads writes low high n w row last is items more =
     let items' : new ≡ old ++ filter (is_between (number_or w low) high) reads = subst (λ k. new ≡ old ++ filter (is_between k high) reads) is items in
     let r = some_more old (filter (is_between (number_or w low) high) reads) (λ e. more (ap length items' ∙ e)) in
     (filter (is_between (number_or w low) high) reads, items', near_reads reads writes low high w row last r.0 r.1)
+
+-- the last of a lane, and the first
+pub near_last : (ms : List Mark) (low high : ℕ) (w : Option Mark) → AreNumbered ms → IsLastBetween low high ms w → AreMarks (IsLastIn ms low high) (option_to_list w)
+near_last ms low high None num l = record { numbered = tt; members = λ m. (λ h. absurd h, λ p. absurd (l m p.0 p.1)) }
+near_last ms low high (Some w) num l = record {
+  numbered = (tt, tt);
+  members = λ m. (
+    λ h. elim h [ inl e ↦ subst (IsLastIn ms low high) e (l.0, l.1, λ k g b. after k (l.2 k g (up k b.0, b.1)) b.0) | inr g ↦ absurd g ],
+    λ p. inl (same_mark ms num w m l.0 p.0 (elim (trichotomy w.number m.number) [
+      | inl less ↦ absurd (after m (l.2 m p.0 p.1) less)
+      | inr more ↦ elim more [ inl e ↦ e | inr gt ↦ absurd (p.2 w l.0 (gt, l.1.1)) ]
+    ])),
+  );
+}
+  where
+    after : (k : Mark) → k.number ≤ w.number → w.number < k.number → ⊥
+    after k le lt = omega (arith, le, lt)
+
+    up : (k : Mark) → w.number < k.number → low < k.number
+    up k lt = omega (arith, lt, l.1.0)
+
+pub next_first : (ms : List Mark) (low high : ℕ) (w : Option Mark) → AreNumbered ms → IsFirstBetween low high ms w → (m : Mark) → IsFirstIn ms low high m ↔ (w ≡ Some m)
+next_first ms low high None num l m = (λ p. absurd (l m p.0 p.1), λ e. cc)
+next_first ms low high (Some w) num l m = (
+  λ p. ap Some (same_mark ms num w m l.0 p.0 (elim (trichotomy w.number m.number) [
+    | inl less ↦ absurd (p.2 w l.0 (l.1.0, less))
+    | inr more ↦ elim more [ inl e ↦ e | inr gt ↦ absurd (before m (l.2 m p.0 p.1) gt) ]
+  ])),
+  λ e. subst (IsFirstIn ms low high) (of_some e) (l.0, l.1, λ k g b. before k (l.2 k g (b.0, down k b.1)) b.1),
+)
+  where
+    of_some : Some w ≡ Some m → w ≡ m
+    of_some e = cc
+
+    before : (k : Mark) → w.number ≤ k.number → k.number < w.number → ⊥
+    before k le lt = omega (arith, le, lt)
+
+    down : (k : Mark) → k.number < w.number → k.number < high
+    down k lt = omega (arith, lt, l.1.1)

@@ -1,14 +1,14 @@
 -- Scaffolding: how the queues are kept. Each entry has a cell at its slot, with its row, its mode and the number of its push;
 -- and it has a mark in the lane of its mode, that of its row, or for the mode Whole that of its granule. `waiting_of` is the
 -- list of entries that is kept so, and `IsKept` what all queues keep.
-use Rattle.std.specs.Prelude.{◌≡◌, ℕ, ◌<◌, ◌↔◌, ◌⊎◌, nat_lt, true, List, [], ◌∷◌, map, get_or, length, if◌then◌else◌, None, Some}
+use Rattle.std.specs.Prelude.{◌≡◌, ℕ, ◌<◌, ◌↔◌, ◌⊎◌, ◌^◌, nat_lt, true, List, [], ◌∷◌, map, get_or, length, if◌then◌else◌, None, Some}
 use Rattle.slab.specs.Slab.{Slab, Updates, get, entries}
 use Rattle.dt_lists.specs.Lists.{AnyIn, Has}
 use Rattle.dt_access.specs.Clash.{Bytes, is_whole, is_write}
 use Rattle.dt_access.specs.declared.access.Mode.{Mode}
 use Rattle.dt_access.specs.declared.access.Mode.TheVariants.{Read, Write, Whole}
 use Rattle.dt_queue.specs.Queues.{Waiting}
-use Rattle.dt_queue.specs.Lanes.{AreNumbered, IsBetween, IsNearInRow, IsNextInRow, NoneBetween}
+use Rattle.dt_queue.specs.Lanes.{AreNumbered, IsFirstIn, IsLastIn, IsNearInRow, IsNextInRow}
 use Rattle.dt_queue.specs.Rows.{AreLinked, granule_at, name_at, rows_at}
 use Rattle.dt_queue.specs.declared.cell.Cell.{Cell}
 use Rattle.dt_queue.specs.declared.mark.Mark.{Mark}
@@ -62,6 +62,7 @@ pub record IsLane (cells : Slab Cell) (P : Cell → Type 0) (marks : List Mark) 
 pub record IsKept (k : Kept) : Type 0 where
   pub linked : AreLinked k.rows
   pub first : 0 < k.next_number
+  pub last : k.next_number < 2 ^ 64
   pub counted : (slot : ℕ) (c : Cell) → get k.cells slot ≡ Some c → (0 < c.number) × (c.number < k.next_number)
   pub alone : (s t : ℕ) (c d : Cell) → get k.cells s ≡ Some c → get k.cells t ≡ Some d → c.number ≡ d.number → s ≡ t
   pub known : (slot : ℕ) (c : Cell) → get k.cells slot ≡ Some c → c.row < length k.rows.names.keys
@@ -94,7 +95,7 @@ pub record AddsCell (old new : Kept) (slot : ℕ) (row_name : ℕ × Bytes) (mod
 
 -- of the marks of reads and writes that lie between two numbers, it is one of the nearest to a cell after them that clash with it
 abbrev pub IsNearOf : Mode → Kept → ℕ → ℕ → ℕ → Mark → Type 0
-IsNearOf Read k row low high m = Has (lane k Write row) m × IsBetween low high m × NoneBetween m.number high (lane k Write row)
+IsNearOf Read k row low high m = IsLastIn (lane k Write row) low high m
 IsNearOf Write k row low high m = IsNearInRow (lane k Read row) (lane k Write row) low high m
 IsNearOf Whole k row low high m = AnyIn (λ r. IsNearInRow (lane k Read r) (lane k Write r) low high m) (rows_at k.rows (granule_at k.rows row))
 
@@ -103,7 +104,7 @@ IsNearInMode k x low m = IsNearOf x.mode k x.row low x.number m
 
 -- of the marks of reads and writes that lie between two numbers, it is one of the nearest to a cell before them that clash with it
 abbrev pub IsNextOfMode : Mode → Kept → ℕ → ℕ → ℕ → Mark → Type 0
-IsNextOfMode Read k row low high m = Has (lane k Write row) m × IsBetween low high m × NoneBetween low m.number (lane k Write row)
+IsNextOfMode Read k row low high m = IsFirstIn (lane k Write row) low high m
 IsNextOfMode Write k row low high m = IsNextInRow (lane k Read row) (lane k Write row) low high m
 IsNextOfMode Whole k row low high m = AnyIn (λ r. IsNextInRow (lane k Read r) (lane k Write r) low high m) (rows_at k.rows (granule_at k.rows row))
 

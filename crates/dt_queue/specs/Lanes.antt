@@ -47,6 +47,14 @@ pub record ChangesLane (old : List (List Mark)) (place : ℕ) (lane : List Mark)
 abbrev pub NoneBetween : ℕ → ℕ → List Mark → Type 0
 NoneBetween low high marks = (m : Mark) → Has marks m → ¬ (IsBetween low high m)
 
+-- of the marks of a lane that lie between two numbers, it is the last
+abbrev pub IsLastIn : List Mark → ℕ → ℕ → Mark → Type 0
+IsLastIn marks low high m = Has marks m × IsBetween low high m × NoneBetween m.number high marks
+
+-- of the marks of a lane that lie between two numbers, it is the first
+abbrev pub IsFirstIn : List Mark → ℕ → ℕ → Mark → Type 0
+IsFirstIn marks low high m = Has marks m × IsBetween low high m × NoneBetween low m.number marks
+
 -- of the marks of a row that lie between two numbers, it is one of the nearest to an entry after them that writes the row:
 -- it reads the row, and none after it writes it; or it writes it, and none after it uses it
 abbrev pub IsNearInRow : List Mark → List Mark → ℕ → ℕ → Mark → Type 0

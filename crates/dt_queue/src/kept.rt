@@ -9,7 +9,7 @@ use crate::cell::Cell;
 use crate::lane::Lane;
 use crate::lanes::{first_between, last_between, push_mark, remove_mark};
 use crate::mark::Mark;
-use crate::nearest::{add, add_row, near_rows, number_or};
+use crate::nearest::{near_row, near_rows, near_write, number_or, only};
 use crate::next::Next;
 use crate::rows::Rows;
 use dt_access::Mode;
@@ -94,9 +94,9 @@ impl Kept {
     {
         let granule = self.rows.granule_of(cell.row);
         let whole = last_between(self.wholes.as_slice(), granule, 0, cell.number);
-        let mut marks = self.near_in_rows(alloc, cell, number_or(whole, 0))?;
+        let marks = self.near_in_rows(alloc, cell, number_or(whole, 0))?;
         if marks.is_empty() {
-            add(whole, &mut marks)?;
+            return only(alloc, whole);
         }
         Ok(marks)
     }
@@ -110,11 +110,11 @@ impl Kept {
         let granule = self.rows.granule_of(cell.row);
         let whole = first_between(self.wholes.as_slice(), granule, cell.number, u64::MAX);
         let next = self.next_in_rows(cell, number_or(whole, u64::MAX), after);
-        if next.any {
-            next.first
-        } else {
-            Next::one(whole, after).first
+        let any = next.any;
+        if any {
+            return next.first;
         }
+        Next::one(whole, after).first
     }
 
     /// Adds a mark at the back of the lane of its mode and row; after `NoMemory` all lanes are as before.
@@ -151,16 +151,12 @@ impl Kept {
     {
         let reads = self.reads.as_slice();
         let writes = self.writes.as_slice();
-        let mut marks = Vec::new(alloc);
+        let rows = self.rows.rows_of(self.rows.granule_of(cell.row));
         match cell.mode {
-            Mode::Read => add(last_between(writes, cell.row, low, cell.number), &mut marks)?,
-            Mode::Write => add_row(reads, writes, cell.row, low, cell.number, &mut marks)?,
-            Mode::Whole => {
-                let rows = self.rows.rows_of(self.rows.granule_of(cell.row));
-                return near_rows(alloc, reads, writes, rows, low, cell.number);
-            }
+            Mode::Read => near_write(alloc, writes, cell.row, low, cell.number),
+            Mode::Write => near_row(alloc, reads, writes, cell.row, low, cell.number),
+            Mode::Whole => near_rows(alloc, reads, writes, rows, low, cell.number),
         }
-        Ok(marks)
     }
 
     /// What is known of the followers of an entry that read or write rows, below a number.
@@ -171,13 +167,11 @@ impl Kept {
     {
         let reads = self.reads.as_slice();
         let writes = self.writes.as_slice();
+        let rows = self.rows.rows_of(self.rows.granule_of(cell.row));
         match cell.mode {
-            Mode::Read => Next::one(first_between(writes, cell.row, cell.number, high), after),
+            Mode::Read => Next::in_lane(writes, cell.row, cell.number, high, after),
             Mode::Write => Next::in_row(reads, writes, cell.row, cell.number, high, after),
-            Mode::Whole => {
-                let rows = self.rows.rows_of(self.rows.granule_of(cell.row));
-                Next::in_rows(reads, writes, rows, cell.number, high, after)
-            }
+            Mode::Whole => Next::in_rows(reads, writes, rows, cell.number, high, after),
         }
     }
 }

@@ -1,6 +1,6 @@
 ghost use Rattle.std.specs.Prelude.{◌≡◌, ◌++◌, [], get_or, option_to_list, IfOk, OnOk};
 ghost use Rattle.dt_lists.specs.Lists.{AnyIn, Distinct};
-ghost use Rattle.dt_queue.specs.Lanes.{AddsMarks, AreApart, AreMarks, IsNearInRow, number_or};
+ghost use Rattle.dt_queue.specs.Lanes.{AddsMarks, AreApart, AreMarks, AreNumbered, IsLastIn, IsNearInRow, number_or};
 
 use crate::lane::Lane;
 use crate::lanes::{add_between, last_between};
@@ -28,6 +28,29 @@ pub fn add(mark: Option<Mark>, marks: &mut Vec<Mark>) -> Result<(), NoMemory>
     Ok(())
 }
 
+/// The mark, if there is one.
+pub fn only(alloc: Global, mark: Option<Mark>) -> Result<Vec<Mark>, NoMemory>
+    ensures { IfOk result (λ marks. marks.items ≡ option_to_list mark) }
+{
+    let mut marks = Vec::new(alloc);
+    add(mark, &mut marks)?;
+    Ok(marks)
+}
+
+/// Of the marks of a lane between two numbers the last one, if there is one.
+pub fn near_write(
+    alloc: Global,
+    writes: &[Lane],
+    row: usize,
+    low: u64,
+    high: u64,
+) -> Result<Vec<Mark>, NoMemory>
+    requires { AreNumbered (get_or writes.now row []) }
+    ensures { IfOk result (λ marks. AreMarks (IsLastIn (get_or writes.now row []) low high) marks.items) }
+{
+    only(alloc, last_between(writes, row, low, high))
+}
+
 /// Appends, of the marks of a row between two numbers, those that are nearest to an entry after them that writes the row: those
 /// that read it and after which none writes it, or, where there are none, the last one that writes it.
 pub fn add_row(
@@ -48,6 +71,23 @@ pub fn add_row(
         add(write, marks)?;
     }
     Ok(())
+}
+
+/// The same marks of one row alone.
+pub fn near_row(
+    alloc: Global,
+    reads: &[Lane],
+    writes: &[Lane],
+    row: usize,
+    low: u64,
+    high: u64,
+) -> Result<Vec<Mark>, NoMemory>
+    requires { AreApart reads.now writes.now }
+    ensures { IfOk result (λ marks. AreMarks (IsNearInRow (get_or reads.now row []) (get_or writes.now row []) low high) marks.items) }
+{
+    let mut marks = Vec::new(alloc);
+    add_row(reads, writes, row, low, high, &mut marks)?;
+    Ok(marks)
 }
 
 /// The same marks of several rows, in the order of their pushes.

@@ -1,6 +1,6 @@
 ghost use Rattle.std.specs.Prelude.{◌≡◌, [], get_or, is_some, ◌||◌};
 ghost use Rattle.dt_lists.specs.Lists.{AnyIn};
-ghost use Rattle.dt_queue.specs.Lanes.{AreApart, IsNextInRow, earlier, later_than};
+ghost use Rattle.dt_queue.specs.Lanes.{AreApart, AreNumbered, IsFirstIn, IsNextInRow, earlier, later_than};
 
 use crate::lane::Lane;
 use crate::lanes::first_between;
@@ -41,6 +41,14 @@ impl Next {
             any: self.any || other.any,
             first: earlier(self.first, other.first),
         }
+    }
+
+    /// Of the marks of a lane between two numbers the first one, if there is one.
+    pub fn in_lane(lanes: &[Lane], place: usize, low: u64, high: u64, after: u64) -> Self
+        requires { AreNumbered (get_or lanes.now place []) }
+        ensures { IsNextOf (IsFirstIn (get_or lanes.now place []) low high) after result }
+    {
+        Next::one(first_between(lanes, place, low, high), after)
     }
 
     /// Of the marks of a row between two numbers those that are nearest to an entry before them that writes the row: those that
