@@ -1,10 +1,10 @@
 -- What is shown of the cells: which entries wait, what their neighbours are, and what follows them.
-use Rattle.std.proofs.Common.{◌≡◌, ◌≢◌, ◌⊎◌, ◌↔◌, ℕ, zero, suc, ◌<◌, ◌≤◌, Bool, true, false, cond, ◌&&◌, ◌||◌, ◌==◌, nat_lt, List, [], ◌∷◌, map, length, slice_get, Option, Some, None, option_map, refl, ap, ap₂, sym, subst, inl, inr, arith, ◌∙◌}
+use Rattle.std.proofs.Common.{◌≡◌, ◌≢◌, ◌⊎◌, ◌↔◌, ℕ, zero, suc, ◌<◌, ◌≤◌, Bool, true, false, cond, not, ◌&&◌, ◌||◌, ◌==◌, nat_lt, List, [], ◌∷◌, ◌++◌, map, length, slice_get, Option, Some, None, option_map, refl, ap, ap₂, sym, subst, inl, inr, arith, ◌∙◌}
 use Rattle.std.specs.List.{filter, list_any}
 use Rattle.std.proofs.lemmas.Simd.{map-map}
 use Rattle.std.proofs.lemmas.Option.{slice_get-get_or}
-use Rattle.slab.specs.Slab.{Slab, get, entries}
-use Rattle.dt_lists.specs.Lists.{AllIn, AnyIn, Distinct, EachThen, Has}
+use Rattle.slab.specs.Slab.{Slab, Updates, get, entries, entries_from}
+use Rattle.dt_lists.specs.Lists.{AllIn, AnyIn, Distinct, EachThen, Has, IsFront}
 use Rattle.dt_lists.proofs.Callers.{all_get, any_get, any_image, any_of_image, any_of_test, any_put, ascending_same, each_at, each_image, filter_each, has_filter, has_map, has_of_filtered, test_of_any}
 use Rattle.dt_access.specs.Granules.{granule_of}
 use Rattle.dt_access.specs.Clash.{Bytes, is_whole, is_write, uses_clash}
@@ -13,14 +13,17 @@ use Rattle.dt_queue.specs.declared.cell.Cell.{Cell}
 use Rattle.dt_queue.specs.declared.follower.Follower.{Follower}
 use Rattle.dt_queue.specs.declared.mark.Mark.{Mark}
 use Rattle.dt_queue.specs.declared.kept.Kept.{Kept}
-use Rattle.dt_queue.specs.Kept.{CellsClash, IsKept, IsNearMark, IsNextMark, entry, in_order, mark_of, waiting_of}
+use Rattle.dt_queue.specs.declared.rows.Rows.{Rows}
+use Rattle.dt_access.specs.declared.access.Mode.{Mode}
+use Rattle.std.proofs.lemmas.List.{get_or_append_left, map-append}
+use Rattle.dt_queue.specs.Kept.{AddsCell, CellsClash, IsKept, IsNearMark, IsNextMark, entry, in_order, mark_of, waiting_of}
 use Rattle.dt_queue.specs.Lanes.{AreMarks}
 use Rattle.dt_queue.specs.Next.{IsFirstAfter}
-use Rattle.dt_queue.specs.Queues.{IsWaiting, Waiting, after, before, entry_at, follower_of, followers_after, is_at, is_neighbour, nearest, neighbours}
+use Rattle.dt_queue.specs.Queues.{IsWaiting, Waiting, after, before, entry_at, follower_of, followers_after, is_at, is_neighbour, nearest, neighbours, without}
 use Rattle.dt_queue.specs.Rows.{granule_at, granule_name, name_at}
-use Rattle.dt_queue.proofs.InOrder.{IsListed, Rise, listed}
+use Rattle.dt_queue.proofs.InOrder.{IsListed, Rise, listed, listed_less, listed_more, same_list}
 use Rattle.dt_queue.proofs.NearMarks.{trichotomy}
-use Rattle.dt_queue.proofs.ShownLists.{IsFree, Slots, after_is, before_is, entry_is, greater, lesser, meets, near_in, near_rises, nearest_is, of_near, slots_of, to_near}
+use Rattle.dt_queue.proofs.ShownLists.{IsFree, Slots, after_is, before_is, entry_is, greater, lesser, meets, near_in, near_rises, nearest_is, of_near, slots_of, to_near, without_is}
 
 -- in a list without repeats an item stands at one place
 unique_at : {A : Type 0} (xs : List A) (i j : ℕ) (a : A) → Distinct xs → slice_get xs i ≡ Some a → slice_get xs j ≡ Some a → i ≡ j
@@ -294,3 +297,52 @@ module _ (k : Kept) (kept : IsKept k) where
             where
               late : m.number ≤ q.1.number → q.1.number < found.0.0.number → ⊥
               late le lt = omega (arith, le, lt, number)
+
+-- ---- what is shown after a step
+
+-- names that were known stay when rows are added
+same_entries : (old new : List (ℕ × Bytes)) → IsFront old new → (K : List (ℕ × Cell)) → ((p : ℕ × Cell) → Has K p → p.1.row < length old) → map (entry new) K ≡ map (entry old) K
+same_entries old new front [] known = refl
+same_entries old new front (p ∷ K) known =
+    let name : name_at new p.1.row ≡ name_at old p.1.row = ap (λ l. name_at l p.1.row) (sym front.1) ∙ get_or_append_left old front.0 (0, []) p.1.row (known p (inl refl)) in
+    let first : entry new p ≡ entry old p = ap (λ (n : ℕ × Bytes). record { slot = p.0; home = n.0; key = n.1; mode = p.1.mode; vertex = p.1.vertex }) name in
+    ap₂ (λ w ws. w ∷ ws) first (same_entries old new front K (λ q h. known q (inr h)))
+
+row_of_cell : (k : Kept) → IsKept k → (p : ℕ × Cell) → Has (in_order (entries k.cells)) p → p.1.row < length k.rows.names.keys
+row_of_cell k kept p h = kept.known p.0 p.1 (((listed k.cells kept.alone).members p).0 h)
+
+-- the same cells show the same
+pub shown_same : (k n : Kept) → IsKept k → IsFront k.rows.names.keys n.rows.names.keys → n.cells.slots ≡ k.cells.slots → waiting_of n ≡ waiting_of k
+shown_same k n kept front slots =
+    ap (λ l. map (entry n.rows.names.keys) (in_order (entries_from 0 l))) slots ∙ same_entries k.rows.names.keys n.rows.names.keys front (in_order (entries k.cells)) (row_of_cell k kept)
+
+-- a cell that was put behind all others shows its entry
+pub shown_push : (k n : Kept) (slot : ℕ) (name : ℕ × Bytes) (mode : Mode) (vertex : ℕ) → IsKept k → IsKept n → IsFront k.rows.names.keys n.rows.names.keys → AddsCell k n slot name mode vertex
+    → waiting_of n ≡ waiting_of k ++ record { slot = slot; home = name.0; key = name.1; mode = mode; vertex = vertex } ∷ []
+shown_push k n slot name mode vertex kept later front adds =
+    let K = in_order (entries k.cells) in
+    let list : in_order (entries n.cells) ≡ K ++ (slot, adds.cell) ∷ [] = same_list n.cells n.cells (in_order (entries n.cells)) (K ++ (slot, adds.cell) ∷ []) (listed n.cells later.alone)
+        (listed_more k.cells n.cells K slot adds.cell (listed k.cells kept.alone) adds.updates adds.vacant (λ p h. last p (((listed k.cells kept.alone).members p).0 h))) (λ s. refl) in
+    ap (map (entry n.rows.names.keys)) list ∙ map-append (entry n.rows.names.keys) K ((slot, adds.cell) ∷ [])
+    ∙ ap₂ (λ a b. a ++ b ∷ []) (same_entries k.rows.names.keys n.rows.names.keys front K (row_of_cell k kept)) own
+  where
+    last : (p : ℕ × Cell) → get k.cells p.0 ≡ Some p.1 → p.1.number < adds.cell.number
+    last p e = let b = kept.counted p.0 p.1 e in omega (arith, b.1, adds.number)
+
+    own : entry n.rows.names.keys (slot, adds.cell) ≡ record { slot = slot; home = name.0; key = name.1; mode = mode; vertex = vertex }
+    own = λ i. record { slot = slot; home = (adds.name i).0; key = (adds.name i).1; mode = adds.mode_is i; vertex = adds.vertex_is i }
+
+-- no entry waited at the slot
+pub shown_fresh : (k n : Kept) (slot : ℕ) (name : ℕ × Bytes) (mode : Mode) (vertex : ℕ) → IsKept k → AddsCell k n slot name mode vertex → ¬ (IsWaiting (waiting_of k) slot)
+shown_fresh k n slot name mode vertex kept adds w = let c = waits k kept slot w in none (sym adds.vacant ∙ c.1)
+  where
+    none : {c : Cell} → None ≡ Some c → ⊥
+    none e = cc
+
+-- a cell that was taken out shows no more
+pub shown_remove : (k n : Kept) (slot : ℕ) → IsKept k → IsKept n → Updates k.cells n.cells slot None → n.rows ≡ k.rows → waiting_of n ≡ without (waiting_of k) slot
+shown_remove k n slot kept later up rows =
+    let K = in_order (entries k.cells) in
+    let list : in_order (entries n.cells) ≡ filter (λ (p : ℕ × Cell). not (p.0 == slot)) K = same_list n.cells n.cells (in_order (entries n.cells)) (filter (λ (p : ℕ × Cell). not (p.0 == slot)) K) (listed n.cells later.alone)
+        (listed_less k.cells n.cells K slot (listed k.cells kept.alone) up) (λ s. refl) in
+    ap (λ (r : Rows). map (entry r.names.keys) (in_order (entries n.cells))) rows ∙ ap (map (entry k.rows.names.keys)) list ∙ sym (without_is k.rows.names.keys K slot)

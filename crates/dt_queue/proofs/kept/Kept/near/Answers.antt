@@ -8,8 +8,8 @@ use Rattle.dt_queue.proofs.KeptLanes.{empty_of, some_of}
 use Rattle.dt_queue.proofs.NearCells.{near_marks, near_taker}
 use Rattle.dt_queue.proofs.kept.Kept.near.Goals as goal
 
-pub granule_of-requires : goal.granule_of-requires
-granule_of-requires c = let k = c.args.self.now in omega (arith, c.requires.row_in, c.requires.kept.linked.each_row, k.rows.granule_of.ok.0)
+pub granule_of-granule-requires : goal.granule_of-granule-requires
+granule_of-granule-requires c = let k = c.args.self.now in omega (arith, c.requires.row_in, c.requires.kept.linked.each_row, k.rows.granule_of.ok.0)
 
 pub returns-then-is_empty : goal.returns-then-is_empty
 returns-then-is_empty c =

@@ -8,8 +8,8 @@ use Rattle.dt_queue.proofs.kept.Kept.near_in_rows.Goals as goal
 pub granule_of-requires : goal.granule_of-requires
 granule_of-requires c = let k = c.args.self.now in omega (arith, c.requires.row_in, c.requires.kept.linked.each_row, k.rows.granule_of.ok.0)
 
-pub rows_of-requires : goal.rows_of-requires
-rows_of-requires c = let k = c.args.self.now in omega (arith, granule_in k.rows c.requires.kept.linked c.args.cell.row c.requires.row_in, c.granule_of.ensures, k.rows.rows_of.ok.0)
+pub rows_of-rows-requires : goal.rows_of-rows-requires
+rows_of-rows-requires c = let k = c.args.self.now in omega (arith, granule_in k.rows c.requires.kept.linked c.args.cell.row c.requires.row_in, c.granule_of.ensures, k.rows.rows_of.ok.0)
 
 pub near_write-requires : goal.near_write-requires
 near_write-requires c = rw c.as_slice-writes.ensures.value (c.requires.kept.lanes Write c.args.cell.row).numbered
