@@ -334,10 +334,10 @@ shown_push k n slot name mode vertex kept later front adds =
 
 -- no entry waited at the slot
 pub shown_fresh : (k n : Kept) (slot : ℕ) (name : ℕ × Bytes) (mode : Mode) (vertex : ℕ) → IsKept k → AddsCell k n slot name mode vertex → ¬ (IsWaiting (waiting_of k) slot)
-shown_fresh k n slot name mode vertex kept adds w = let c = waits k kept slot w in none (sym adds.vacant ∙ c.1)
+shown_fresh k n slot name mode vertex kept adds w = let c = waits k kept slot w in none c.0 (sym adds.vacant ∙ c.1)
   where
-    none : {c : Cell} → None ≡ Some c → ⊥
-    none e = cc
+    none : (d : Cell) → None ≡ Some d → ⊥
+    none d e = cc
 
 -- a cell that was taken out shows no more
 pub shown_remove : (k n : Kept) (slot : ℕ) → IsKept k → IsKept n → Updates k.cells n.cells slot None → n.rows ≡ k.rows → waiting_of n ≡ without (waiting_of k) slot
