@@ -9,3 +9,4 @@ pub mod NearCells
 pub mod ShownLists
 pub mod NextCells
 pub mod ShownCells
+pub mod Callers
