@@ -376,3 +376,7 @@ empty_of (x ∷ xs) n t a b c = absurd (grind (arith, a, b, c))
 pub some_of : {A : Type 0} (xs : List A) (n : ℕ) (t : Bool) → n ≡ length xs → t ≡ (n == 0) → t ≡ false → (x : A) × Has xs x
 some_of [] n t a b c = absurd (grind (arith, a, b, c))
 some_of (x ∷ xs) n t a b c = (x, inl refl)
+
+pub to_err : {A E P : Type 0} (r : Result A E) → P → OnErr r P
+to_err (Ok x) p = tt
+to_err (Err x) p = p
