@@ -10,7 +10,7 @@ use Rattle.dt_queue.specs.declared.cell.Cell.{Cell}
 use Rattle.dt_queue.specs.declared.mark.Mark.{Mark}
 use Rattle.dt_queue.specs.declared.kept.Kept.{Kept}
 use Rattle.dt_queue.specs.declared.rows.Rows.{Rows}
-use Rattle.dt_queue.specs.Kept.{CellsClash, IsInLane, IsKept, IsLane, lane, mark_of, place_at}
+use Rattle.dt_queue.specs.Kept.{CellsClash, IsInLane, AreQueuesKept, IsLane, lane, mark_of, place_at}
 use Rattle.dt_queue.specs.Lanes.{AreApart}
 use Rattle.dt_queue.specs.Rows.{granule_at, rows_at}
 
@@ -26,22 +26,22 @@ pub number_of : (k : Kept) (m : Mark) (c : Cell) → IsMarkOf k m c → m.number
 number_of k m c a = ap (λ (x : Mark). x.number) a.is
 
 -- a mark of a lane has a cell of its mode and place
-pub cell_of : (k : Kept) → IsKept k → (mode : Mode) (p : ℕ) (m : Mark) → Has (lane k mode p) m → (c : Cell) × IsMarkOf k m c × IsInLane k.rows mode p c
+pub cell_of : (k : Kept) → AreQueuesKept k → (mode : Mode) (p : ℕ) (m : Mark) → Has (lane k mode p) m → (c : Cell) × IsMarkOf k m c × IsInLane k.rows mode p c
 cell_of k kept mode p m h = let r = ((kept.lanes mode p).members m).0 h in (r.0, record { there = r.1; is = r.3 }, r.2)
 
 -- and the other way round
-pub in_lane : (k : Kept) → IsKept k → (m : Mark) (c : Cell) → IsMarkOf k m c → (mode : Mode) (p : ℕ) → IsInLane k.rows mode p c → Has (lane k mode p) m
+pub in_lane : (k : Kept) → AreQueuesKept k → (m : Mark) (c : Cell) → IsMarkOf k m c → (mode : Mode) (p : ℕ) → IsInLane k.rows mode p c → Has (lane k mode p) m
 in_lane k kept m c a mode p b = ((kept.lanes mode p).members m).1 (c, a.there, b, a.is)
 
 pub same_cell : (k : Kept) (m : Mark) (c d : Cell) → IsMarkOf k m c → IsMarkOf k m d → c ≡ d
 same_cell k m c d a b = some_same c d (sym a.there ∙ b.there)
 
 -- the cell of a mark of a lane is of its mode and place
-pub lane_tells : (k : Kept) → IsKept k → (mode : Mode) (p : ℕ) (m : Mark) (c : Cell) → IsMarkOf k m c → Has (lane k mode p) m → IsInLane k.rows mode p c
+pub lane_tells : (k : Kept) → AreQueuesKept k → (mode : Mode) (p : ℕ) (m : Mark) (c : Cell) → IsMarkOf k m c → Has (lane k mode p) m → IsInLane k.rows mode p c
 lane_tells k kept mode p m c a h = let r = cell_of k kept mode p m h in subst (IsInLane k.rows mode p) (same_cell k m r.0 c r.1 a) r.2
 
 -- marks with one number have one cell
-pub one_cell : (k : Kept) → IsKept k → (m n : Mark) (c d : Cell) → IsMarkOf k m c → IsMarkOf k n d → m.number ≡ n.number → c ≡ d
+pub one_cell : (k : Kept) → AreQueuesKept k → (m n : Mark) (c d : Cell) → IsMarkOf k m c → IsMarkOf k n d → m.number ≡ n.number → c ≡ d
 one_cell k kept m n c d a b e =
     let slots : m.slot ≡ n.slot = kept.alone m.slot n.slot c d a.there b.there (sym (number_of k m c a) ∙ e ∙ number_of k n d b) in
     some_same c d (sym a.there ∙ ap (get k.cells) slots ∙ b.there)
@@ -50,7 +50,7 @@ read_write : Read ≡ Write → ⊥
 read_write e = cc
 
 -- the lanes of reads and writes are numbered, and have no number twice
-pub apart_lanes : (k : Kept) → IsKept k → AreApart k.reads.items k.writes.items
+pub apart_lanes : (k : Kept) → AreQueuesKept k → AreApart k.reads.items k.writes.items
 apart_lanes k kept = record {
   reads_numbered = λ row. (kept.lanes Read row).numbered;
   writes_numbered = λ row. (kept.lanes Write row).numbered;
@@ -123,15 +123,15 @@ pub whole_clashes : (r : Rows) (c d : Cell) → c.mode ≡ Whole → granule_at 
 whole_clashes r c d a b = inr (b, inl (ap is_whole a))
 
 -- the cell of a read or a write
-pub part_of : (k : Kept) → IsKept k → (row : ℕ) (m : Mark) (c : Cell) → IsMarkOf k m c → Has (lane k Read row) m ⊎ Has (lane k Write row) m → IsPart c.mode × (c.row ≡ row)
+pub part_of : (k : Kept) → AreQueuesKept k → (row : ℕ) (m : Mark) (c : Cell) → IsMarkOf k m c → Has (lane k Read row) m ⊎ Has (lane k Write row) m → IsPart c.mode × (c.row ≡ row)
 part_of k kept row m c a (inl h) = let b = lane_tells k kept Read row m c a h in (ap is_whole b.0, b.1)
 part_of k kept row m c a (inr h) = let b = lane_tells k kept Write row m c a h in (ap is_whole b.0, b.1)
 
-pub row_in_granule : (k : Kept) → IsKept k → (g row : ℕ) → Has (rows_at k.rows g) row → granule_at k.rows row ≡ g
+pub row_in_granule : (k : Kept) → AreQueuesKept k → (g row : ℕ) → Has (rows_at k.rows g) row → granule_at k.rows row ≡ g
 row_in_granule k kept g row h = ((kept.linked.rows g row).0 h).1
 
 -- a cell that is in use clashes with the use
-pub use_clashes : (mode : Mode) (k : Kept) → IsKept k → (x : Cell) → x.mode ≡ mode → (m : Mark) (c : Cell) → IsMarkOf k m c → InUseOf mode k x.row m → IsPart c.mode × CellsClash k.rows c x
+pub use_clashes : (mode : Mode) (k : Kept) → AreQueuesKept k → (x : Cell) → x.mode ≡ mode → (m : Mark) (c : Cell) → IsMarkOf k m c → InUseOf mode k x.row m → IsPart c.mode × CellsClash k.rows c x
 use_clashes Read k kept x e m c a h = let b = lane_tells k kept Write x.row m c a h in (ap is_whole b.0, write_clashes k.rows c x b.0 b.1)
 use_clashes Write k kept x e m c a h = let b = part_of k kept x.row m c a h in (b.0, clash_turned k.rows x c (write_clashes k.rows x c e (sym b.1)))
 use_clashes Whole k kept x e m c a h =
@@ -141,7 +141,7 @@ use_clashes Whole k kept x e m c a h =
     (b.0, clash_turned k.rows x c (whole_clashes k.rows x c e (sym g)))
 
 -- a read or a write that clashes with the use is in use
-pub clash_uses : (mode : Mode) (k : Kept) → IsKept k → (x : Cell) → x.mode ≡ mode → (m : Mark) (c : Cell) → IsMarkOf k m c → CellsClash k.rows c x → (own : Mode) → c.mode ≡ own
+pub clash_uses : (mode : Mode) (k : Kept) → AreQueuesKept k → (x : Cell) → x.mode ≡ mode → (m : Mark) (c : Cell) → IsMarkOf k m c → CellsClash k.rows c x → (own : Mode) → c.mode ≡ own
     → Has (lane k Whole (granule_at k.rows x.row)) m ⊎ InUseOf mode k x.row m
 clash_uses mode k kept x e m c a clash Whole f = inl (in_lane k kept m c a Whole (granule_at k.rows x.row) (f, one_granule k.rows c x clash))
 clash_uses Read k kept x e m c a clash Read f = absurd (reads_agree k.rows c x f e clash)
@@ -150,13 +150,13 @@ clash_uses Write k kept x e m c a clash Read f = inr (inl (in_lane k kept m c a 
 clash_uses Write k kept x e m c a clash Write f = inr (inr (in_lane k kept m c a Write x.row (f, on_one_row k.rows c x (ap is_whole f) (ap is_whole e) clash)))
 clash_uses Whole k kept x e m c a clash Read f = inr (any_put (λ r. Has (lane k Read r) m ⊎ Has (lane k Write r) m) (rows_at k.rows (granule_at k.rows x.row)) c.row (own_row k kept x m c a clash) (inl (in_lane k kept m c a Read c.row (f, refl))))
   where
-    own_row : (k : Kept) → IsKept k → (x : Cell) (m : Mark) (c : Cell) → IsMarkOf k m c → CellsClash k.rows c x → Has (rows_at k.rows (granule_at k.rows x.row)) c.row
+    own_row : (k : Kept) → AreQueuesKept k → (x : Cell) (m : Mark) (c : Cell) → IsMarkOf k m c → CellsClash k.rows c x → Has (rows_at k.rows (granule_at k.rows x.row)) c.row
     own_row k kept x m c a clash = (kept.linked.rows (granule_at k.rows x.row) c.row).1 (kept.known m.slot c a.there, one_granule k.rows c x clash)
 clash_uses Whole k kept x e m c a clash Write f = inr (any_put (λ r. Has (lane k Read r) m ⊎ Has (lane k Write r) m) (rows_at k.rows (granule_at k.rows x.row)) c.row (own_row k kept x m c a clash) (inr (in_lane k kept m c a Write c.row (f, refl))))
   where
-    own_row : (k : Kept) → IsKept k → (x : Cell) (m : Mark) (c : Cell) → IsMarkOf k m c → CellsClash k.rows c x → Has (rows_at k.rows (granule_at k.rows x.row)) c.row
+    own_row : (k : Kept) → AreQueuesKept k → (x : Cell) (m : Mark) (c : Cell) → IsMarkOf k m c → CellsClash k.rows c x → Has (rows_at k.rows (granule_at k.rows x.row)) c.row
     own_row k kept x m c a clash = (kept.linked.rows (granule_at k.rows x.row) c.row).1 (kept.known m.slot c a.there, one_granule k.rows c x clash)
 
 -- the cell of a mark that takes the granule of a use as a whole
-pub taker_of : (k : Kept) → IsKept k → (x : Cell) (m : Mark) (c : Cell) → IsMarkOf k m c → Has (lane k Whole (granule_at k.rows x.row)) m → (c.mode ≡ Whole) × (granule_at k.rows c.row ≡ granule_at k.rows x.row)
+pub taker_of : (k : Kept) → AreQueuesKept k → (x : Cell) (m : Mark) (c : Cell) → IsMarkOf k m c → Has (lane k Whole (granule_at k.rows x.row)) m → (c.mode ≡ Whole) × (granule_at k.rows c.row ≡ granule_at k.rows x.row)
 taker_of k kept x m c a h = lane_tells k kept Whole (granule_at k.rows x.row) m c a h

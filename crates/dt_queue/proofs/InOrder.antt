@@ -6,7 +6,7 @@ use Rattle.slab.specs.Slab.{Slab, Updates, get, entries, entries_from}
 use Rattle.dt_lists.specs.Lists.{AllIn, AnyIn, EachThen, Has}
 use Rattle.dt_lists.proofs.Callers.{all_get, all_map, all_put, any_append, any_append_left, any_append_right, ascending_same, each_append, either_nat, filter_each, has_filter, has_of_filtered}
 use Rattle.dt_queue.specs.declared.cell.Cell.{Cell}
-use Rattle.dt_queue.specs.Kept.{in_order, put}
+use Rattle.dt_queue.specs.Kept.{in_order, put_cell}
 
 -- the numbers of cells ascend
 abbrev pub Rise : ℕ × Cell → ℕ × Cell → Type 0
@@ -78,38 +78,38 @@ apart_of cells (x ∷ xs) alone rise there = (
 
 -- ---- in the order of numbers
 
-put_of : (p : ℕ × Cell) (qs : List (ℕ × Cell)) (x : ℕ × Cell) → Has (put p qs) x → (p ≡ x) ⊎ Has qs x
+put_of : (p : ℕ × Cell) (qs : List (ℕ × Cell)) (x : ℕ × Cell) → Has (put_cell p qs) x → (p ≡ x) ⊎ Has qs x
 put_of p [] x (inl e) = inl e
 put_of p [] x (inr h) = absurd h
 put_of p (q ∷ qs) x h = by (nat_lt p.1.number q.1.number) h (λ g. put_of p qs x g)
   where
-    by : (t : Bool) → Has (cond t (p ∷ q ∷ qs) (q ∷ put p qs)) x → (Has (put p qs) x → (p ≡ x) ⊎ Has qs x) → (p ≡ x) ⊎ Has (q ∷ qs) x
+    by : (t : Bool) → Has (cond t (p ∷ q ∷ qs) (q ∷ put_cell p qs)) x → (Has (put_cell p qs) x → (p ≡ x) ⊎ Has qs x) → (p ≡ x) ⊎ Has (q ∷ qs) x
     by true (inl e) f = inl e
     by true (inr g) f = inr g
     by false (inl e) f = inr (inl e)
     by false (inr g) f = elim (f g) [ inl e ↦ inl e | inr k ↦ inr (inr k) ]
 
-put_to : (p : ℕ × Cell) (qs : List (ℕ × Cell)) (x : ℕ × Cell) → (p ≡ x) ⊎ Has qs x → Has (put p qs) x
+put_to : (p : ℕ × Cell) (qs : List (ℕ × Cell)) (x : ℕ × Cell) → (p ≡ x) ⊎ Has qs x → Has (put_cell p qs) x
 put_to p [] x h = h
 put_to p (q ∷ qs) x h = by (nat_lt p.1.number q.1.number) h (λ g. put_to p qs x g)
   where
-    by : (t : Bool) → (p ≡ x) ⊎ Has (q ∷ qs) x → ((p ≡ x) ⊎ Has qs x → Has (put p qs) x) → Has (cond t (p ∷ q ∷ qs) (q ∷ put p qs)) x
+    by : (t : Bool) → (p ≡ x) ⊎ Has (q ∷ qs) x → ((p ≡ x) ⊎ Has qs x → Has (put_cell p qs) x) → Has (cond t (p ∷ q ∷ qs) (q ∷ put_cell p qs)) x
     by true h f = h
     by false (inl e) f = inr (f (inl e))
     by false (inr (inl e)) f = inl e
     by false (inr (inr k)) f = inr (f (inr k))
 
-put_rises : (p : ℕ × Cell) (qs : List (ℕ × Cell)) → EachThen Rise qs → AllIn (λ (q : ℕ × Cell). ¬ (p.1.number ≡ q.1.number)) qs → EachThen Rise (put p qs)
+put_rises : (p : ℕ × Cell) (qs : List (ℕ × Cell)) → EachThen Rise qs → AllIn (λ (q : ℕ × Cell). ¬ (p.1.number ≡ q.1.number)) qs → EachThen Rise (put_cell p qs)
 put_rises p [] rise apart = (tt, tt)
 put_rises p (q ∷ qs) rise apart = by (nat_lt p.1.number q.1.number) refl (put_rises p qs rise.1 apart.1)
   where
     below : p.1.number < q.1.number → AllIn (Rise p) qs
     below lt = all_map (Rise q) (Rise p) qs (λ z b. omega (arith, lt, b)) rise.0
 
-    after : q.1.number < p.1.number → AllIn (Rise q) (put p qs)
-    after lt = all_put (Rise q) (put p qs) (λ z h. elim (put_of p qs z h) [ inl e ↦ subst (Rise q) e lt | inr k ↦ all_get (Rise q) qs rise.0 z k ])
+    after : q.1.number < p.1.number → AllIn (Rise q) (put_cell p qs)
+    after lt = all_put (Rise q) (put_cell p qs) (λ z h. elim (put_of p qs z h) [ inl e ↦ subst (Rise q) e lt | inr k ↦ all_get (Rise q) qs rise.0 z k ])
 
-    by : (t : Bool) → nat_lt p.1.number q.1.number ≡ t → EachThen Rise (put p qs) → EachThen Rise (cond t (p ∷ q ∷ qs) (q ∷ put p qs))
+    by : (t : Bool) → nat_lt p.1.number q.1.number ≡ t → EachThen Rise (put_cell p qs) → EachThen Rise (cond t (p ∷ q ∷ qs) (q ∷ put_cell p qs))
     by true e rest = let lt : p.1.number < q.1.number = grind (arith, e) in ((lt, below lt), rise)
     by false e rest = let lt : q.1.number < p.1.number = grind (arith, e, apart.0) in (after lt, rest)
 

@@ -11,9 +11,9 @@ use Rattle.dt_queue.specs.declared.cell.Cell.{Cell}
 use Rattle.dt_queue.specs.declared.mark.Mark.{Mark}
 use Rattle.dt_queue.specs.declared.kept.Kept.{Kept}
 use Rattle.dt_queue.specs.declared.rows.Rows.{Rows}
-use Rattle.dt_queue.specs.Kept.{ChangesLaneOf, IsInLane, IsKept, IsLane, KeepsLanes, lane, mark_of, place_at}
+use Rattle.dt_queue.specs.Kept.{ChangesLaneOf, IsInLane, AreQueuesKept, IsLane, KeepsLanes, lane, mark_of, place_at}
 use Rattle.dt_queue.specs.Lanes.{ChangesLane, SameLanes}
-use Rattle.dt_queue.specs.Rows.{AreLinked, KeepsRows, granule_at}
+use Rattle.dt_queue.specs.Rows.{AreRowsLinked, KeepsRows, granule_at}
 use Rattle.dt_queue.proofs.Marks.{numbered_more}
 use Rattle.dt_queue.proofs.InOrder.{AreAlone}
 
@@ -151,8 +151,8 @@ pub rows_refl : (r : Rows) → KeepsRows r r
 rows_refl r = record { names = front_refl r.names.keys; granules = λ row lt. refl }
 
 -- rows may have been added, and nothing else
-pub kept_same : (k n : Kept) → IsKept k → AreLinked n.rows → KeepsRows k.rows n.rows → ((s : ℕ) → get n.cells s ≡ get k.cells s) → n.next_number ≡ k.next_number
-    → ((m : Mode) (p : ℕ) → lane n m p ≡ lane k m p) → IsKept n
+pub kept_same : (k n : Kept) → AreQueuesKept k → AreRowsLinked n.rows → KeepsRows k.rows n.rows → ((s : ℕ) → get n.cells s ≡ get k.cells s) → n.next_number ≡ k.next_number
+    → ((m : Mode) (p : ℕ) → lane n m p ≡ lane k m p) → AreQueuesKept n
 kept_same k n kept linked keeps cells next lanes = record {
   linked = linked;
   first = subst (λ i. 0 < i) (sym next) kept.first;
@@ -169,10 +169,10 @@ kept_same k n kept linked keeps cells next lanes = record {
     moved m p s c e = let same = place_same k.rows n.rows keeps m c.row (kept.known s c e) in (λ b. (b.0, same ∙ b.1), λ b. (b.0, sym same ∙ b.1))
 
 -- a cell was put behind all others, and its mark in its lane
-pub kept_pushed : (k n : Kept) (slot : ℕ) (c : Cell) → IsKept k → AreLinked n.rows → KeepsRows k.rows n.rows → Updates k.cells n.cells slot (Some c) → get k.cells slot ≡ None
+pub kept_pushed : (k n : Kept) (slot : ℕ) (c : Cell) → AreQueuesKept k → AreRowsLinked n.rows → KeepsRows k.rows n.rows → Updates k.cells n.cells slot (Some c) → get k.cells slot ≡ None
     → c.number ≡ k.next_number → n.next_number ≡ c.number + 1 → n.next_number < 2 ^ 64 → c.row < length n.rows.names.keys
     → lane n c.mode (place_at n.rows c.mode c.row) ≡ lane k c.mode (place_at n.rows c.mode c.row) ++ mark_of slot c ∷ []
-    → ((m : Mode) (p : ℕ) → ¬ ((m ≡ c.mode) × (p ≡ place_at n.rows c.mode c.row)) → lane n m p ≡ lane k m p) → IsKept n
+    → ((m : Mode) (p : ℕ) → ¬ ((m ≡ c.mode) × (p ≡ place_at n.rows c.mode c.row)) → lane n m p ≡ lane k m p) → AreQueuesKept n
 kept_pushed k n slot c kept linked keeps up vacant number next within row changed others = record {
   linked = linked;
   first = omega (arith, next);
@@ -228,11 +228,11 @@ kept_pushed k n slot c kept linked keeps up vacant number next within row change
       (had c.mode (place_at n.rows c.mode c.row)) up vacant (refl, refl) (all_below c.mode (place_at n.rows c.mode c.row)))))
 
 -- a cell was taken out, and its mark out of its lane
-pub kept_removed : (k n : Kept) (slot : ℕ) (c : Cell) → IsKept k → n.rows ≡ k.rows → get k.cells slot ≡ Some c → Updates k.cells n.cells slot None → n.next_number ≡ k.next_number
+pub kept_removed : (k n : Kept) (slot : ℕ) (c : Cell) → AreQueuesKept k → n.rows ≡ k.rows → get k.cells slot ≡ Some c → Updates k.cells n.cells slot None → n.next_number ≡ k.next_number
     → lane n c.mode (place_at k.rows c.mode c.row) ≡ filter (λ m. not (m.number == c.number)) (lane k c.mode (place_at k.rows c.mode c.row))
-    → ((m : Mode) (p : ℕ) → ¬ ((m ≡ c.mode) × (p ≡ place_at k.rows c.mode c.row)) → lane n m p ≡ lane k m p) → IsKept n
+    → ((m : Mode) (p : ℕ) → ¬ ((m ≡ c.mode) × (p ≡ place_at k.rows c.mode c.row)) → lane n m p ≡ lane k m p) → AreQueuesKept n
 kept_removed k n slot c kept rows there up next changed others = record {
-  linked = subst AreLinked (sym rows) kept.linked;
+  linked = subst AreRowsLinked (sym rows) kept.linked;
   first = subst (λ i. 0 < i) (sym next) kept.first;
   last = subst (λ i. i < 2 ^ 64) (sym next) kept.last;
   counted = λ s d e. let b = kept.counted s d (old s d e) in (b.0, subst (λ i. d.number < i) (sym next) b.1);
@@ -256,7 +256,7 @@ kept_removed k n slot c kept rows there up next changed others = record {
 
 -- ---- steps of the code
 
-pub none_kept : (k : Kept) → AreLinked k.rows → k.cells.slots ≡ [] → k.reads.items ≡ [] → k.writes.items ≡ [] → k.wholes.items ≡ [] → 0 < k.next_number → k.next_number < 2 ^ 64 → IsKept k
+pub none_kept : (k : Kept) → AreRowsLinked k.rows → k.cells.slots ≡ [] → k.reads.items ≡ [] → k.writes.items ≡ [] → k.wholes.items ≡ [] → 0 < k.next_number → k.next_number < 2 ^ 64 → AreQueuesKept k
 none_kept k linked slots reads writes wholes first last = record {
   linked = linked;
   first = first;
@@ -276,7 +276,7 @@ none_kept k linked slots reads writes wholes first last = record {
     empty Whole p = ap (λ l. get_or l p []) wholes
 
 -- all marks have numbers that were given
-pub all_before : (k : Kept) → IsKept k → (m : Mode) (p : ℕ) → AllIn (λ (x : Mark). x.number < k.next_number) (lane k m p)
+pub all_before : (k : Kept) → AreQueuesKept k → (m : Mode) (p : ℕ) → AllIn (λ (x : Mark). x.number < k.next_number) (lane k m p)
 all_before k kept m p = all_put _ (lane k m p) (λ x h. let r = ((kept.lanes m p).members x).0 h in
     let v : x.number ≡ r.0.number = ap (λ (y : Mark). y.number) r.3 in
     omega (arith, v, (kept.counted x.slot r.0 r.1).1))
@@ -343,19 +343,19 @@ on_err (Ok x) f o = o
 on_err (Err x) f o = f o
 
 -- a push, step by step: rows were added, room was made, a mark was added, and the cell was put
-pub push_steps : (k mid marked n : Kept) (slot : ℕ) (c : Cell) → IsKept k → AreLinked mid.rows → KeepsRows k.rows mid.rows → ((s : ℕ) → get mid.cells s ≡ get k.cells s)
+pub push_steps : (k mid marked n : Kept) (slot : ℕ) (c : Cell) → AreQueuesKept k → AreRowsLinked mid.rows → KeepsRows k.rows mid.rows → ((s : ℕ) → get mid.cells s ≡ get k.cells s)
     → ((m : Mode) (p : ℕ) → lane mid m p ≡ lane k m p)
     → ChangesLaneOf mid c.mode (place_at mid.rows c.mode c.row) (lane mid c.mode (place_at mid.rows c.mode c.row) ++ mark_of slot c ∷ []) marked
     → n.rows ≡ marked.rows → ((m : Mode) (p : ℕ) → lane n m p ≡ lane marked m p) → Updates marked.cells n.cells slot (Some c) → get marked.cells slot ≡ None
     → c.number ≡ k.next_number → n.next_number ≡ c.number + 1 → n.next_number < 2 ^ 64 → c.row < length mid.rows.names.keys
-    → IsKept n × Updates k.cells n.cells slot (Some c) × (get k.cells slot ≡ None)
+    → AreQueuesKept n × Updates k.cells n.cells slot (Some c) × (get k.cells slot ≡ None)
 push_steps k mid marked n slot c kept linked keeps cells lanes change rows same up vacant number next within row =
     let moved : n.rows ≡ mid.rows = rows ∙ change.rows in
     let old : (s : ℕ) → get marked.cells s ≡ get k.cells s = λ s. ap (λ x. get x s) change.cells ∙ cells s in
     let updates : Updates k.cells n.cells slot (Some c) = record { changed = up.changed; others = λ s ne. up.others s ne ∙ old s } in
     let empty : get k.cells slot ≡ None = sym (old slot) ∙ vacant in
     (
-      kept_pushed k n slot c kept (subst AreLinked (sym moved) linked) (subst (KeepsRows k.rows) (sym moved) keeps) updates empty number next within (subst (λ (r : Rows). c.row < length r.names.keys) (sym moved) row)
+      kept_pushed k n slot c kept (subst AreRowsLinked (sym moved) linked) (subst (KeepsRows k.rows) (sym moved) keeps) updates empty number next within (subst (λ (r : Rows). c.row < length r.names.keys) (sym moved) row)
         (subst (λ (r : Rows). lane n c.mode (place_at r c.mode c.row) ≡ lane k c.mode (place_at r c.mode c.row) ++ mark_of slot c ∷ []) (sym moved)
           (same c.mode (place_at mid.rows c.mode c.row) ∙ change.changed ∙ ap (λ l. l ++ mark_of slot c ∷ []) (lanes c.mode (place_at mid.rows c.mode c.row))))
         (λ m p ne. same m p ∙ change.others m p (λ b. ne (b.0, b.1 ∙ ap (λ (r : Rows). place_at r c.mode c.row) (sym moved))) ∙ lanes m p),
@@ -364,7 +364,7 @@ push_steps k mid marked n slot c kept linked keeps cells lanes change rows same 
     )
 
 -- the granule of a row is known
-pub granule_in : (r : Rows) → AreLinked r → (row : ℕ) → row < length r.names.keys → granule_at r row < length r.rows_of.items
+pub granule_in : (r : Rows) → AreRowsLinked r → (row : ℕ) → row < length r.names.keys → granule_at r row < length r.rows_of.items
 granule_in r linked row lt =
     let within = place_within r.granules.keys (granule_at r row) _ (linked.granule row lt) in
     omega (arith, within, linked.each_granule, length-map r.rows_of.items (λ v. v.items))

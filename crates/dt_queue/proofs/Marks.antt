@@ -6,7 +6,7 @@ use Rattle.std.specs.List.Sorted.{IsPartitionedBy, IsPartitionPoint}
 use Rattle.dt_lists.specs.Lists.{AllIn, AnyIn, EachThen, Has}
 use Rattle.dt_lists.proofs.Callers.{all_get, either_le, filter_each}
 use Rattle.dt_queue.specs.declared.mark.Mark.{Mark}
-use Rattle.dt_queue.specs.Lanes.{AreNumbered, EndsBelow, IsBetween, IsFirstBetween, IsLastBetween, is_between}
+use Rattle.dt_queue.specs.Lanes.{HasRisingNumbers, EndsBelow, IsBetween, IsFirstBetween, IsLastBetween, is_between}
 
 -- at a place of a list where each item has P
 at : {A : Type 0} (P : A → Type 0) (xs : List A) (i : ℕ) (d : A) → AllIn P xs → i < length xs → P (slice_index_or xs i d)
@@ -15,7 +15,7 @@ at P (x ∷ xs) zero d all lt = all.0
 at P (x ∷ xs) (suc i) d all lt = at P xs i d all.1 (omega arith)
 
 -- marks with lesser numbers stand before the others
-pub parted : (n : ℕ) (ms : List Mark) → AreNumbered ms → IsPartitionedBy (λ m. nat_lt m.number n) ms
+pub parted : (n : ℕ) (ms : List Mark) → HasRisingNumbers ms → IsPartitionedBy (λ m. nat_lt m.number n) ms
 parted n [] asc i j d le lt e = absurd (omega arith)
 parted n (x ∷ xs) asc zero zero d le lt e = e
 parted n (x ∷ xs) asc zero (suc j) d le lt e =
@@ -91,7 +91,7 @@ above n m [] le all = tt
 above n m (k ∷ ms) le all = (omega (arith, le, all.0), above n m ms le all.1)
 
 -- the mark of a number was taken out at its place
-pub removed : (n : ℕ) (ms : List Mark) (p : ℕ) (d : Mark) → AreNumbered ms → EndsBelow n ms p → p < length ms → (slice_index_or ms p d).number ≡ n → remove ms p ≡ filter (is_not n) ms
+pub removed : (n : ℕ) (ms : List Mark) (p : ℕ) (d : Mark) → HasRisingNumbers ms → EndsBelow n ms p → p < length ms → (slice_index_or ms p d).number ≡ n → remove ms p ≡ filter (is_not n) ms
 removed n [] p d num ends lt same = absurd (omega arith)
 removed n (x ∷ xs) zero d num ends lt same = sym (leaves n x xs xs same (others_kept n xs (above n x xs (omega (arith, same)) num.0)))
 removed n (x ∷ xs) (suc p) d num ends lt same =
@@ -99,7 +99,7 @@ removed n (x ∷ xs) (suc p) d num ends lt same =
     sym (keeps n x xs (remove xs p) (apart n x (omega (arith, ends.lesser.0))) (sym (removed n xs p d num.1 rest (omega arith) same)))
 
 -- no mark has the number
-pub untouched : (n : ℕ) (ms : List Mark) (p : ℕ) (d : Mark) → AreNumbered ms → EndsBelow n ms p → (p < length ms → (slice_index_or ms p d).number ≢ n) → ms ≡ filter (is_not n) ms
+pub untouched : (n : ℕ) (ms : List Mark) (p : ℕ) (d : Mark) → HasRisingNumbers ms → EndsBelow n ms p → (p < length ms → (slice_index_or ms p d).number ≢ n) → ms ≡ filter (is_not n) ms
 untouched n [] p d num ends none = refl
 untouched n (x ∷ xs) zero d num ends none =
     let ne : x.number ≢ n = none (omega arith) in
@@ -121,7 +121,7 @@ has_index (x ∷ xs) zero d lt = inl refl
 has_index (x ∷ xs) (suc p) d lt = inr (has_index xs p d (omega arith))
 
 -- the mark at the place where the search ended is the first that has not a lesser number
-pub first_from : (n : ℕ) (ms : List Mark) (p : ℕ) (d : Mark) → AreNumbered ms → EndsBelow n ms p → p < length ms
+pub first_from : (n : ℕ) (ms : List Mark) (p : ℕ) (d : Mark) → HasRisingNumbers ms → EndsBelow n ms p → p < length ms
     → (n ≤ (slice_index_or ms p d).number) × ((k : Mark) → Has ms k → n ≤ k.number → (slice_index_or ms p d).number ≤ k.number)
 first_from n [] p d num ends lt = absurd (omega arith)
 first_from n (x ∷ xs) zero d num ends lt = (ends.others.0, λ k h le. elim h [ inl e ↦ subst (λ (y : Mark). x.number ≤ y.number) e (omega arith) | inr g ↦ omega (arith, all_get (λ y. x.number < y.number) xs num.0 k g) ])
@@ -141,7 +141,7 @@ none_from n (x ∷ xs) (suc p) ends le k (inl e) = subst (λ (y : Mark). y.numbe
 none_from n (x ∷ xs) (suc p) ends le k (inr h) = none_from n xs p (record { within = omega (arith, ends.within); lesser = ends.lesser.1; others = ends.others }) (omega arith) k h
 
 -- the mark before the place where the search ended is the last that has a lesser number
-pub last_below : (n : ℕ) (ms : List Mark) (p : ℕ) (d : Mark) → AreNumbered ms → EndsBelow n ms (suc p)
+pub last_below : (n : ℕ) (ms : List Mark) (p : ℕ) (d : Mark) → HasRisingNumbers ms → EndsBelow n ms (suc p)
     → ((slice_index_or ms p d).number < n) × ((k : Mark) → Has ms k → k.number < n → k.number ≤ (slice_index_or ms p d).number)
 last_below n [] p d num ends = absurd (omega (arith, ends.within))
 last_below n (x ∷ xs) zero d num ends = (ends.lesser.0, λ k h lt. elim h [ inl e ↦ subst (λ (y : Mark). y.number ≤ x.number) e (omega arith) | inr g ↦ absurd (omega (arith, lt, all_get (λ y. n ≤ y.number) xs ends.others k g)) ])
@@ -157,7 +157,7 @@ pub none_below : (n : ℕ) (ms : List Mark) → EndsBelow n ms zero → (k : Mar
 none_below n ms ends k h = all_get (λ y. n ≤ y.number) ms ends.others k h
 
 -- a mark with a greater number goes to the back
-pub numbered_more : (ms : List Mark) (m : Mark) → AreNumbered ms → AllIn (λ k. k.number < m.number) ms → AreNumbered (ms ++ m ∷ [])
+pub numbered_more : (ms : List Mark) (m : Mark) → HasRisingNumbers ms → AllIn (λ k. k.number < m.number) ms → HasRisingNumbers (ms ++ m ∷ [])
 numbered_more [] m num all = (tt, tt)
 numbered_more (x ∷ xs) m num all = (more xs num.0, numbered_more xs m num.1 all.1)
   where
@@ -222,7 +222,7 @@ pub between_step : (low high : ℕ) (ms : List Mark) (p : ℕ) (d : Mark) → p 
 between_step low high ms p d lt all less = rw (add-one p) (between_more low high ms p d lt all less)
 
 -- from a mark on that has not a lesser number than the higher one none lies between the two
-pub between_stop : (low high : ℕ) (ms : List Mark) (p : ℕ) (d : Mark) → AreNumbered ms → p < length ms → high ≤ (slice_index_or ms p d).number
+pub between_stop : (low high : ℕ) (ms : List Mark) (p : ℕ) (d : Mark) → HasRisingNumbers ms → p < length ms → high ≤ (slice_index_or ms p d).number
     → filter (is_between low high) (take p ms) ≡ filter (is_between low high) ms
 between_stop low high [] p d num lt le = absurd (omega arith)
 between_stop low high (x ∷ xs) zero d num lt le = sym (filter_out (is_between low high) (x ∷ xs) (all_map_false low high (x ∷ xs) (λ b. omega (arith, b.1, le), higher xs num.0)))
@@ -253,7 +253,7 @@ past_end p n h = elim (either_le n p) [ inl le ↦ le | inr more ↦ absurd (cla
     clash : false ≡ true → ⊥
     clash e = cc
 
-pub first_is : (low high : ℕ) (ms : List Mark) (p : ℕ) (m : Mark) → AreNumbered ms → EndsBelow (low + 1) ms p → p < length ms → m ≡ slice_index_or ms p m → m.number < high
+pub first_is : (low high : ℕ) (ms : List Mark) (p : ℕ) (m : Mark) → HasRisingNumbers ms → EndsBelow (low + 1) ms p → p < length ms → m ≡ slice_index_or ms p m → m.number < high
     → IsFirstBetween low high ms (Some m)
 first_is low high ms p m num ends lt is less =
     let found = first_from (low + 1) ms p m num ends lt in
@@ -264,7 +264,7 @@ first_is low high ms p m num ends lt is less =
       λ k h b. subst (λ (x : Mark). x.number ≤ k.number) (sym is) (found.1 k h (omega (arith, b.0))),
     )
 
-pub first_is_past : (low high : ℕ) (ms : List Mark) (p : ℕ) (m : Mark) → AreNumbered ms → EndsBelow (low + 1) ms p → p < length ms → m ≡ slice_index_or ms p m → high ≤ m.number
+pub first_is_past : (low high : ℕ) (ms : List Mark) (p : ℕ) (m : Mark) → HasRisingNumbers ms → EndsBelow (low + 1) ms p → p < length ms → m ≡ slice_index_or ms p m → high ≤ m.number
     → IsFirstBetween low high ms None
 first_is_past low high ms p m num ends lt is more k h b =
     let found = first_from (low + 1) ms p m num ends lt in
@@ -274,7 +274,7 @@ first_is_past low high ms p m num ends lt is more k h b =
 pub first_is_none : (low high : ℕ) (ms : List Mark) (p : ℕ) → EndsBelow (low + 1) ms p → length ms ≤ p → IsFirstBetween low high ms None
 first_is_none low high ms p ends le k h b = omega (arith, none_from (low + 1) ms p ends le k h, b.0)
 
-pub last_is : (low high : ℕ) (ms : List Mark) (q p : ℕ) (m : Mark) → AreNumbered ms → EndsBelow high ms q → q ≡ suc p → m ≡ slice_index_or ms p m → low < m.number
+pub last_is : (low high : ℕ) (ms : List Mark) (q p : ℕ) (m : Mark) → HasRisingNumbers ms → EndsBelow high ms q → q ≡ suc p → m ≡ slice_index_or ms p m → low < m.number
     → IsLastBetween low high ms (Some m)
 last_is low high ms q p m num ends same is more =
     let ends' : EndsBelow high ms (suc p) = subst (EndsBelow high ms) same ends in
@@ -285,7 +285,7 @@ last_is low high ms q p m num ends same is more =
       λ k h b. subst (λ (x : Mark). k.number ≤ x.number) (sym is) (found.1 k h b.1),
     )
 
-pub last_is_before : (low high : ℕ) (ms : List Mark) (q p : ℕ) (m : Mark) → AreNumbered ms → EndsBelow high ms q → q ≡ suc p → m ≡ slice_index_or ms p m → m.number ≤ low
+pub last_is_before : (low high : ℕ) (ms : List Mark) (q p : ℕ) (m : Mark) → HasRisingNumbers ms → EndsBelow high ms q → q ≡ suc p → m ≡ slice_index_or ms p m → m.number ≤ low
     → IsLastBetween low high ms None
 last_is_before low high ms q p m num ends same is less k h b =
     let found = last_below high ms p m num (subst (EndsBelow high ms) same ends) in

@@ -10,8 +10,8 @@ use Rattle.dt_access.specs.declared.access.Mode.TheVariants.{Read, Write, Whole}
 use Rattle.dt_queue.specs.declared.cell.Cell.{Cell}
 use Rattle.dt_queue.specs.declared.mark.Mark.{Mark}
 use Rattle.dt_queue.specs.declared.kept.Kept.{Kept}
-use Rattle.dt_queue.specs.Kept.{CellsClash, IsKept, IsNearInMode, IsNearMark, IsNearOf, lane, mark_of}
-use Rattle.dt_queue.specs.Lanes.{AreMarks, AreNumbered, IsBetween, IsLastBetween, IsNearInRow, NoneBetween, is_between, number_or}
+use Rattle.dt_queue.specs.Kept.{CellsClash, AreQueuesKept, IsNearInMode, IsNearMark, IsNearOf, lane, mark_of}
+use Rattle.dt_queue.specs.Lanes.{AreMarks, HasRisingNumbers, IsBetween, IsLastBetween, IsNearInRow, NoneBetween, is_between, number_or}
 use Rattle.dt_queue.specs.Rows.{granule_at, rows_at}
 use Rattle.dt_queue.proofs.NearMarks.{IsRow, in_between, near_reads, near_write, row_of, same_mark, trichotomy}
 use Rattle.dt_queue.proofs.CellUses.{InUseOf, IsMarkOf, IsPart, apart_lanes, cell_of, clash_turned, clash_uses, in_lane, lane_tells, number_of, on_one_row, one_cell, one_granule, part_of, reads_agree, taker_of, use_clashes, whole_clashes, write_clashes}
@@ -28,7 +28,7 @@ either_between low high m = elim (trichotomy low m.number) [
 ]
 
 -- a lane has a last mark between two numbers, or none
-pub last_there : (low high : ℕ) (ms : List Mark) → AreNumbered ms → (o : Option Mark) × IsLastBetween low high ms o
+pub last_there : (low high : ℕ) (ms : List Mark) → HasRisingNumbers ms → (o : Option Mark) × IsLastBetween low high ms o
 last_there low high [] num = (None, λ m h. absurd h)
 last_there low high (x ∷ xs) num = by (last_there low high xs num.1)
   where
@@ -68,7 +68,7 @@ row_empty reads writes low high row none m b h = by (last_there low high writes 
 abbrev pub IsClear : Mode → Kept → Cell → Mark → Cell → Type 0
 IsClear mode k x m c = (j : Mark) (d : Cell) → IsMarkOf k j d → InUseOf mode k x.row j → m.number < j.number → j.number < x.number → ¬ (CellsClash k.rows c d)
 
-clear_row : (k : Kept) → IsKept k → (x : Cell) (row low : ℕ) (m : Mark) (c : Cell) → IsMarkOf k m c → IsNearInRow (lane k Read row) (lane k Write row) low x.number m
+clear_row : (k : Kept) → AreQueuesKept k → (x : Cell) (row low : ℕ) (m : Mark) (c : Cell) → IsMarkOf k m c → IsNearInRow (lane k Read row) (lane k Write row) low x.number m
     → (j : Mark) (d : Cell) → IsMarkOf k j d → Has (lane k Read row) j ⊎ Has (lane k Write row) j → m.number < j.number → j.number < x.number → ¬ (CellsClash k.rows c d)
 clear_row k kept x row low m c a near j d b used lt le clash = elim near.1 [
   | inl read ↦ elim used [
@@ -81,7 +81,7 @@ clear_row k kept x row low m c a near j d b used lt le clash = elim near.1 [
 use_of_row : (reads writes : List Mark) (low high : ℕ) (m : Mark) → IsNearInRow reads writes low high m → Has reads m ⊎ Has writes m
 use_of_row reads writes low high m near = elim near.1 [ inl r ↦ inl r.0 | inr w ↦ inr w.0 ]
 
-pub near_is_clear : (mode : Mode) (k : Kept) → IsKept k → (x : Cell) (low : ℕ) (m : Mark) (c : Cell) → IsMarkOf k m c → IsNearOf mode k x.row low x.number m
+pub near_is_clear : (mode : Mode) (k : Kept) → AreQueuesKept k → (x : Cell) (low : ℕ) (m : Mark) (c : Cell) → IsMarkOf k m c → IsNearOf mode k x.row low x.number m
     → InUseOf mode k x.row m × IsBetween low x.number m × IsClear mode k x m c
 near_is_clear Read k kept x low m c a near = (near.0, near.1, λ j d b used lt le clash. near.2 j used (lt, le))
 near_is_clear Write k kept x low m c a near = (use_of_row _ _ _ _ m near, near.0, λ j d b used lt le clash. clear_row k kept x x.row low m c a near j d b used lt le clash)
@@ -102,7 +102,7 @@ near_is_clear Whole k kept x low m c a near =
       clear_row k kept x row low m c a near j d b (subst (λ r. Has (lane k Read r) j ⊎ Has (lane k Write r) j) one s.2) lt le clash
 
 -- and the other way round
-near_in_row : (k : Kept) → IsKept k → (x : Cell) (row low : ℕ) (m : Mark) (c : Cell) → IsMarkOf k m c → Has (lane k Read row) m ⊎ Has (lane k Write row) m → IsBetween low x.number m
+near_in_row : (k : Kept) → AreQueuesKept k → (x : Cell) (row low : ℕ) (m : Mark) (c : Cell) → IsMarkOf k m c → Has (lane k Read row) m ⊎ Has (lane k Write row) m → IsBetween low x.number m
     → ((j : Mark) (d : Cell) → IsMarkOf k j d → Has (lane k Read row) j ⊎ Has (lane k Write row) j → m.number < j.number → j.number < x.number → ¬ (CellsClash k.rows c d))
     → IsNearInRow (lane k Read row) (lane k Write row) low x.number m
 near_in_row k kept x row low m c a (inl r) b clear = (b, inl (r, λ j w e. meets j w e))
@@ -124,7 +124,7 @@ near_in_row k kept x row low m c a (inr w) b clear = (b, inr (w, (λ j h e. meet
         part_cell (inl g) = let d = cell_of k kept Read row j g in (d.0, d.1, d.2.1)
         part_cell (inr g) = let d = cell_of k kept Write row j g in (d.0, d.1, d.2.1)
 
-pub clear_is_near : (mode : Mode) (k : Kept) → IsKept k → (x : Cell) (low : ℕ) (m : Mark) (c : Cell) → IsMarkOf k m c → InUseOf mode k x.row m → IsBetween low x.number m → IsClear mode k x m c
+pub clear_is_near : (mode : Mode) (k : Kept) → AreQueuesKept k → (x : Cell) (low : ℕ) (m : Mark) (c : Cell) → IsMarkOf k m c → InUseOf mode k x.row m → IsBetween low x.number m → IsClear mode k x m c
     → IsNearOf mode k x.row low x.number m
 clear_is_near Read k kept x low m c a used b clear = (used, b, λ j w e. meets j w e)
   where
@@ -141,7 +141,7 @@ clear_is_near Whole k kept x low m c a used b clear =
     (near_in_row k kept x r.0 low m c a r.2 b (λ j d f u lt le. clear j d f (any_put (λ row. Has (lane k Read row) j ⊎ Has (lane k Write row) j) rows r.0 r.1 u) lt le))
 
 -- where none is near, none is in use
-pub none_in_use : (mode : Mode) (k : Kept) → IsKept k → (x : Cell) (low : ℕ) → ((m : Mark) → ¬ (IsNearOf mode k x.row low x.number m)) → (m : Mark) → InUseOf mode k x.row m → ¬ (IsBetween low x.number m)
+pub none_in_use : (mode : Mode) (k : Kept) → AreQueuesKept k → (x : Cell) (low : ℕ) → ((m : Mark) → ¬ (IsNearOf mode k x.row low x.number m)) → (m : Mark) → InUseOf mode k x.row m → ¬ (IsBetween low x.number m)
 none_in_use Read k kept x low none m used b = by (last_there low x.number (lane k Write x.row) (kept.lanes Write x.row).numbered)
   where
     by : (o : Option Mark) × IsLastBetween low x.number (lane k Write x.row) o → ⊥
@@ -162,7 +162,7 @@ none_in_use Whole k kept x low none m used b =
 
 -- ---- the nearest cells before a cell
 
-module _ (k : Kept) (kept : IsKept k) (x : Cell) (o : Option Mark) (last : IsLastBetween 0 x.number (lane k Whole (granule_at k.rows x.row)) o) where
+module _ (k : Kept) (kept : AreQueuesKept k) (x : Cell) (o : Option Mark) (last : IsLastBetween 0 x.number (lane k Whole (granule_at k.rows x.row)) o) where
   abbrev taken : List Mark
   taken = lane k Whole (granule_at k.rows x.row)
 

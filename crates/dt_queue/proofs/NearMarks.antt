@@ -7,15 +7,15 @@ use Rattle.dt_lists.proofs.Callers.{all_get, either_le, filter_each, has_filter,
 use Rattle.dt_queue.specs.declared.mark.Mark.{Mark}
 use Rattle.dt_queue.specs.declared.next.Next.{Next}
 use Rattle.std.proofs.lemmas.List.{append-nil}
-use Rattle.dt_queue.specs.Lanes.{AddsMarks, AreApart, AreMarks, AreNumbered, IsBetween, IsFirstBetween, IsFirstIn, IsLastBetween, IsLastIn, IsNearInRow, IsNextInRow, NoneBetween, is_between, later_than, number_or}
-use Rattle.dt_queue.specs.Next.{IsFirstAfter, IsNextOf}
+use Rattle.dt_queue.specs.Lanes.{AddsMarks, AreApart, AreMarks, HasRisingNumbers, IsBetween, IsFirstBetween, IsFirstIn, IsLastBetween, IsLastIn, IsNearInRow, IsNextInRow, NoneBetween, is_between, later_than, number_or}
+use Rattle.dt_queue.specs.Next.{IsFirstAfter, IsKnownNext}
 use Rattle.dt_queue.proofs.Marks.{between_true}
 
 pub trichotomy : (a b : ℕ) → (a < b) ⊎ (a ≡ b) ⊎ (b < a)
 trichotomy a b = grind arith
 
 -- in a lane a number stands once
-pub same_mark : (ms : List Mark) → AreNumbered ms → (m k : Mark) → Has ms m → Has ms k → m.number ≡ k.number → m ≡ k
+pub same_mark : (ms : List Mark) → HasRisingNumbers ms → (m k : Mark) → Has ms m → Has ms k → m.number ≡ k.number → m ≡ k
 same_mark [] num m k h g e = absurd h
 same_mark (x ∷ xs) num m k (inl p) (inl q) e = sym p ∙ q
 same_mark (x ∷ xs) num m k (inl p) (inr g) e =
@@ -39,8 +39,8 @@ in_between low high ms m h b = has_filter (is_between low high) ms m h (between_
 
 -- the lanes of one row: numbered, and no number in both
 pub record IsRow (reads writes : List Mark) : Type 0 where
-  pub reads_numbered : AreNumbered reads
-  pub writes_numbered : AreNumbered writes
+  pub reads_numbered : HasRisingNumbers reads
+  pub writes_numbered : HasRisingNumbers writes
   pub apart : (m k : Mark) → Has reads m → Has writes k → ¬ (m.number ≡ k.number)
 
 pub none_more : {A : Type 0} (xs ys : List A) → length (xs ++ ys) ≡ length xs → ys ≡ []
@@ -204,7 +204,7 @@ next_write reads writes low high (Some w) row first empty m = (
         down k a = omega (arith, a, first.1.1)
 
 -- what is known of the one mark that there is at most
-pub next_of_one : (P : Mark → Type 0) (w : Option Mark) (after : ℕ) (n : Next) → ((m : Mark) → P m ↔ (w ≡ Some m)) → n.any ≡ is_some w → n.first ≡ later_than after w → IsNextOf P after n
+pub next_of_one : (P : Mark → Type 0) (w : Option Mark) (after : ℕ) (n : Next) → ((m : Mark) → P m ↔ (w ≡ Some m)) → n.any ≡ is_some w → n.first ≡ later_than after w → IsKnownNext P after n
 next_of_one P None after n exact any first = record {
   some = λ e. cc;
   none = λ e m p. none m ((exact m).0 p);
@@ -230,7 +230,7 @@ next_of_one P (Some w) after n exact any first = record {
 -- what is known of the marks of a row that are next, as it is searched
 pub next_in_row : (reads writes : List Mark) (low high : ℕ) (after start : ℕ) (w r f : Option Mark) (n : Next) → IsRow reads writes → IsFirstBetween low high writes w
     → IsFirstBetween low (number_or w high) reads r → is_some r ≡ true → low ≤ start → after ≤ start → ((start ≡ low) ⊎ (start ≡ after)) → IsFirstBetween start (number_or w high) reads f → n.any ≡ true → n.first ≡ f
-    → IsNextOf (IsNextInRow reads writes low high) after n
+    → IsKnownNext (IsNextInRow reads writes low high) after n
 next_in_row reads writes low high after start w None f n row first read there ge more one found any is = cc
 next_in_row reads writes low high after start w (Some r) f n row first read there ge more one found any is = record {
   some = λ e. (r, (exact r).1 (read.0, read.1));
@@ -260,7 +260,7 @@ next_in_row reads writes low high after start w (Some r) f n row first read ther
     )
 
 pub next_of_row : (reads writes : List Mark) (low high : ℕ) (after : ℕ) (w r : Option Mark) (n : Next) → IsRow reads writes → IsFirstBetween low high writes w
-    → IsFirstBetween low (number_or w high) reads r → is_some r ≡ false → n.any ≡ is_some w → n.first ≡ later_than after w → IsNextOf (IsNextInRow reads writes low high) after n
+    → IsFirstBetween low (number_or w high) reads r → is_some r ≡ false → n.any ≡ is_some w → n.first ≡ later_than after w → IsKnownNext (IsNextInRow reads writes low high) after n
 next_of_row reads writes low high after w (Some r) n row first read there any is = cc
 next_of_row reads writes low high after w None n row first read there any is =
     next_of_one (IsNextInRow reads writes low high) w after n (next_write reads writes low high w row first read) any is
@@ -295,7 +295,7 @@ added_reads old new reads writes low high n w row last is items more =
     (filter (is_between (number_or w low) high) reads, items', near_reads reads writes low high w row last r.0 r.1)
 
 -- the last of a lane, and the first
-pub near_last : (ms : List Mark) (low high : ℕ) (w : Option Mark) → AreNumbered ms → IsLastBetween low high ms w → AreMarks (IsLastIn ms low high) (option_to_list w)
+pub near_last : (ms : List Mark) (low high : ℕ) (w : Option Mark) → HasRisingNumbers ms → IsLastBetween low high ms w → AreMarks (IsLastIn ms low high) (option_to_list w)
 near_last ms low high None num l = record { numbered = tt; members = λ m. (λ h. absurd h, λ p. absurd (l m p.0 p.1)) }
 near_last ms low high (Some w) num l = record {
   numbered = (tt, tt);
@@ -314,7 +314,7 @@ near_last ms low high (Some w) num l = record {
     up : (k : Mark) → w.number < k.number → low < k.number
     up k lt = omega (arith, lt, l.1.0)
 
-pub next_first : (ms : List Mark) (low high : ℕ) (w : Option Mark) → AreNumbered ms → IsFirstBetween low high ms w → (m : Mark) → IsFirstIn ms low high m ↔ (w ≡ Some m)
+pub next_first : (ms : List Mark) (low high : ℕ) (w : Option Mark) → HasRisingNumbers ms → IsFirstBetween low high ms w → (m : Mark) → IsFirstIn ms low high m ↔ (w ≡ Some m)
 next_first ms low high None num l m = (λ p. absurd (l m p.0 p.1), λ e. cc)
 next_first ms low high (Some w) num l m = (
   λ p. ap Some (same_mark ms num w m l.0 p.0 (elim (trichotomy w.number m.number) [

@@ -10,9 +10,9 @@ use Rattle.dt_queue.specs.declared.cell.Cell.{Cell}
 use Rattle.dt_queue.specs.declared.mark.Mark.{Mark}
 use Rattle.dt_queue.specs.declared.kept.Kept.{Kept}
 use Rattle.dt_queue.specs.declared.next.Next.{Next}
-use Rattle.dt_queue.specs.Kept.{CellsClash, IsKept, IsNextInMode, IsNextMark, IsNextOfMode, lane, mark_of}
-use Rattle.dt_queue.specs.Lanes.{AreNumbered, IsBetween, IsFirstBetween, IsNextInRow, NoneBetween, later_than, number_or}
-use Rattle.dt_queue.specs.Next.{IsFirstAfter, IsNextOf}
+use Rattle.dt_queue.specs.Kept.{CellsClash, AreQueuesKept, IsNextInMode, IsNextMark, IsNextOfMode, lane, mark_of}
+use Rattle.dt_queue.specs.Lanes.{HasRisingNumbers, IsBetween, IsFirstBetween, IsNextInRow, NoneBetween, later_than, number_or}
+use Rattle.dt_queue.specs.Next.{IsFirstAfter, IsKnownNext}
 use Rattle.dt_queue.specs.Rows.{granule_at, rows_at}
 use Rattle.dt_queue.proofs.NearMarks.{IsRow, next_of_one, next_reads, next_write, row_of, same_mark, trichotomy}
 use Rattle.dt_queue.proofs.RowsNear.{next_as}
@@ -30,7 +30,7 @@ either_between low high m = elim (trichotomy low m.number) [
 ]
 
 -- a lane has a first mark between two numbers, or none
-first_there : (low high : ℕ) (ms : List Mark) → AreNumbered ms → (o : Option Mark) × IsFirstBetween low high ms o
+first_there : (low high : ℕ) (ms : List Mark) → HasRisingNumbers ms → (o : Option Mark) × IsFirstBetween low high ms o
 first_there low high [] num = (None, λ m h. absurd h)
 first_there low high (x ∷ xs) num = elim (either_between low high x) [
   | inl b ↦ (Some x, (inl refl, b, λ j h c. elim h [ inl e ↦ subst (λ (y : Mark). x.number ≤ y.number) e (omega arith) | inr g ↦ omega (arith, all_get (λ (y : Mark). x.number < y.number) xs num.0 j g) ]))
@@ -61,7 +61,7 @@ row_empty reads writes low high row none m b h = by (first_there low high writes
 abbrev pub IsClear : Mode → Kept → Cell → Mark → Cell → Type 0
 IsClear mode k x m c = (j : Mark) (d : Cell) → IsMarkOf k j d → InUseOf mode k x.row j → x.number < j.number → j.number < m.number → ¬ (CellsClash k.rows d c)
 
-clear_row : (k : Kept) → IsKept k → (x : Cell) (row high : ℕ) (m : Mark) (c : Cell) → IsMarkOf k m c → IsNextInRow (lane k Read row) (lane k Write row) x.number high m
+clear_row : (k : Kept) → AreQueuesKept k → (x : Cell) (row high : ℕ) (m : Mark) (c : Cell) → IsMarkOf k m c → IsNextInRow (lane k Read row) (lane k Write row) x.number high m
     → (j : Mark) (d : Cell) → IsMarkOf k j d → Has (lane k Read row) j ⊎ Has (lane k Write row) j → x.number < j.number → j.number < m.number → ¬ (CellsClash k.rows d c)
 clear_row k kept x row high m c a near j d b used lt le clash = elim near.1 [
   | inl read ↦ elim used [
@@ -74,7 +74,7 @@ clear_row k kept x row high m c a near j d b used lt le clash = elim near.1 [
 use_of_row : (reads writes : List Mark) (low high : ℕ) (m : Mark) → IsNextInRow reads writes low high m → Has reads m ⊎ Has writes m
 use_of_row reads writes low high m near = elim near.1 [ inl r ↦ inl r.0 | inr w ↦ inr w.0 ]
 
-next_is_clear : (mode : Mode) (k : Kept) → IsKept k → (x : Cell) (high : ℕ) (m : Mark) (c : Cell) → IsMarkOf k m c → IsNextOfMode mode k x.row x.number high m
+next_is_clear : (mode : Mode) (k : Kept) → AreQueuesKept k → (x : Cell) (high : ℕ) (m : Mark) (c : Cell) → IsMarkOf k m c → IsNextOfMode mode k x.row x.number high m
     → InUseOf mode k x.row m × IsBetween x.number high m × IsClear mode k x m c
 next_is_clear Read k kept x high m c a near = (near.0, near.1, λ j d b used lt le clash. near.2 j used (lt, le))
 next_is_clear Write k kept x high m c a near = (use_of_row _ _ _ _ m near, near.0, λ j d b used lt le clash. clear_row k kept x x.row high m c a near j d b used lt le clash)
@@ -95,7 +95,7 @@ next_is_clear Whole k kept x high m c a near =
       clear_row k kept x row high m c a near j d b (subst (λ r. Has (lane k Read r) j ⊎ Has (lane k Write r) j) one s.2) lt le clash
 
 -- and the other way round
-next_in_row : (k : Kept) → IsKept k → (x : Cell) (row high : ℕ) (m : Mark) (c : Cell) → IsMarkOf k m c → Has (lane k Read row) m ⊎ Has (lane k Write row) m → IsBetween x.number high m
+next_in_row : (k : Kept) → AreQueuesKept k → (x : Cell) (row high : ℕ) (m : Mark) (c : Cell) → IsMarkOf k m c → Has (lane k Read row) m ⊎ Has (lane k Write row) m → IsBetween x.number high m
     → ((j : Mark) (d : Cell) → IsMarkOf k j d → Has (lane k Read row) j ⊎ Has (lane k Write row) j → x.number < j.number → j.number < m.number → ¬ (CellsClash k.rows d c))
     → IsNextInRow (lane k Read row) (lane k Write row) x.number high m
 next_in_row k kept x row high m c a (inl r) b clear = (b, inl (r, λ j w e. meets j w e))
@@ -117,7 +117,7 @@ next_in_row k kept x row high m c a (inr w) b clear = (b, inr (w, (λ j h e. mee
         part_cell (inl g) = let d = cell_of k kept Read row j g in (d.0, d.1, d.2.1)
         part_cell (inr g) = let d = cell_of k kept Write row j g in (d.0, d.1, d.2.1)
 
-clear_is_next : (mode : Mode) (k : Kept) → IsKept k → (x : Cell) (high : ℕ) (m : Mark) (c : Cell) → IsMarkOf k m c → InUseOf mode k x.row m → IsBetween x.number high m → IsClear mode k x m c
+clear_is_next : (mode : Mode) (k : Kept) → AreQueuesKept k → (x : Cell) (high : ℕ) (m : Mark) (c : Cell) → IsMarkOf k m c → InUseOf mode k x.row m → IsBetween x.number high m → IsClear mode k x m c
     → IsNextOfMode mode k x.row x.number high m
 clear_is_next Read k kept x high m c a used b clear = (used, b, λ j w e. meets j w e)
   where
@@ -134,7 +134,7 @@ clear_is_next Whole k kept x high m c a used b clear =
     (next_in_row k kept x r.0 high m c a r.2 b (λ j d f u lt le. clear j d f (any_put (λ row. Has (lane k Read row) j ⊎ Has (lane k Write row) j) rows r.0 r.1 u) lt le))
 
 -- where none is next, none is in use
-none_in_use : (mode : Mode) (k : Kept) → IsKept k → (x : Cell) (high : ℕ) → ((m : Mark) → ¬ (IsNextOfMode mode k x.row x.number high m)) → (m : Mark) → InUseOf mode k x.row m → ¬ (IsBetween x.number high m)
+none_in_use : (mode : Mode) (k : Kept) → AreQueuesKept k → (x : Cell) (high : ℕ) → ((m : Mark) → ¬ (IsNextOfMode mode k x.row x.number high m)) → (m : Mark) → InUseOf mode k x.row m → ¬ (IsBetween x.number high m)
 none_in_use Read k kept x high none m used b = by (first_there x.number high (lane k Write x.row) (kept.lanes Write x.row).numbered)
   where
     by : (o : Option Mark) × IsFirstBetween x.number high (lane k Write x.row) o → ⊥
@@ -155,7 +155,7 @@ none_in_use Whole k kept x high none m used b =
 
 -- ---- the nearest cells after a cell; no number reaches the top
 
-module _ (k : Kept) (kept : IsKept k) (x : Cell) (top : ℕ) (within : k.next_number ≤ top) (o : Option Mark) (first : IsFirstBetween x.number top (lane k Whole (granule_at k.rows x.row)) o) where
+module _ (k : Kept) (kept : AreQueuesKept k) (x : Cell) (top : ℕ) (within : k.next_number ≤ top) (o : Option Mark) (first : IsFirstBetween x.number top (lane k Whole (granule_at k.rows x.row)) o) where
   abbrev taken : List Mark
   taken = lane k Whole (granule_at k.rows x.row)
 
@@ -329,8 +329,8 @@ module _ (k : Kept) (kept : IsKept k) (x : Cell) (top : ℕ) (within : k.next_nu
               above d b = omega (arith, l.1.0, number_of k w d b)
 
   -- what is known of those that are next by their mode answers which is the first
-  pub first_of_some : (after : ℕ) (n : Next) → IsNextOf (IsNextInMode k x (number_or o top)) after n → n.any ≡ true → IsFirstAfter (IsNextMark k x) after n.first
+  pub first_of_some : (after : ℕ) (n : Next) → IsKnownNext (IsNextInMode k x (number_or o top)) after n → n.any ≡ true → IsFirstAfter (IsNextMark k x) after n.first
   first_of_some after n known any = let r = known.some any in (next_as (IsNextInMode k x (number_or o top)) (IsNextMark k x) after n (next_marks r.0 r.1) known).first
 
-  pub first_of_none : (after : ℕ) (n one : Next) → IsNextOf (IsNextInMode k x (number_or o top)) after n → n.any ≡ false → one.any ≡ is_some o → one.first ≡ later_than after o → IsFirstAfter (IsNextMark k x) after one.first
+  pub first_of_none : (after : ℕ) (n one : Next) → IsKnownNext (IsNextInMode k x (number_or o top)) after n → n.any ≡ false → one.any ≡ is_some o → one.first ≡ later_than after o → IsFirstAfter (IsNextMark k x) after one.first
   first_of_none after n one known any some is = (next_of_one (IsNextMark k x) o after one (next_taker (known.none any)) some is).first

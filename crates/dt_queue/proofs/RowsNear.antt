@@ -8,8 +8,8 @@ use Rattle.dt_lists.specs.Lists.{AllIn, AnyIn, Distinct, EachThen, Has}
 use Rattle.dt_lists.proofs.Callers.{all_get, all_map, all_put, any_append, any_append_left, any_append_right, any_get, any_map, each_across, each_append, each_map}
 use Rattle.dt_queue.specs.declared.mark.Mark.{Mark}
 use Rattle.dt_queue.specs.declared.next.Next.{Next}
-use Rattle.dt_queue.specs.Lanes.{AddsMarks, AreApart, AreMarks, AreNumbered, IsNearInRow, IsNextInRow, earlier}
-use Rattle.dt_queue.specs.Next.{IsFirstAfter, IsNextOf}
+use Rattle.dt_queue.specs.Lanes.{AddsMarks, AreApart, AreMarks, HasRisingNumbers, IsNearInRow, IsNextInRow, earlier}
+use Rattle.dt_queue.specs.Next.{IsFirstAfter, IsKnownNext}
 use Rattle.dt_queue.proofs.Marks.{has_index}
 
 -- an item of a list without repeats is none of those before it
@@ -108,11 +108,11 @@ has_of : (xs : List Mark) (m : Mark) → Contains xs m → Has xs m
 has_of xs m c = subst (Has xs) c.2 (has_index xs c.0 m c.1)
 
 -- numbers that do not fall and differ rise
-rising : (xs : List Mark) → IsNonDecreasingBy (λ m. m.number) xs → EachThen (λ m k. ¬ (m.number ≡ k.number)) xs → AreNumbered xs
+rising : (xs : List Mark) → IsNonDecreasingBy (λ m. m.number) xs → EachThen (λ m k. ¬ (m.number ≡ k.number)) xs → HasRisingNumbers xs
 rising [] s d = tt
 rising (x ∷ []) s d = (tt, tt)
 rising (x ∷ y ∷ ys) s d =
-    let rest : AreNumbered (y ∷ ys) = rising (y ∷ ys) (λ i j e le lt. s (suc i) (suc j) e (omega (arith, le)) (omega (arith, lt))) d.1 in
+    let rest : HasRisingNumbers (y ∷ ys) = rising (y ∷ ys) (λ i j e le lt. s (suc i) (suc j) e (omega (arith, le)) (omega (arith, lt))) d.1 in
     let le : x.number ≤ y.number = s 0 1 x (omega arith) (omega arith) in
     let first : x.number < y.number = between le d.0.0 in
     ((first, all_map (λ z. y.number < z.number) (λ z. x.number < z.number) ys (λ z b. omega (arith, first, b)) rest.0), rest)
@@ -140,7 +140,7 @@ near_parted reads writes low high a r s m k p q e = elim p.1 [
 
 -- ---- what is known of several rows
 
-pub no_next : (after : ℕ) (n : Next) → n.any ≡ false → n.first ≡ None → IsNextOf (λ m. ⊥) after n
+pub no_next : (after : ℕ) (n : Next) → n.any ≡ false → n.first ≡ None → IsKnownNext (λ m. ⊥) after n
 no_next after n any first = record {
   some = λ e. cc;
   none = λ e m p. p;
@@ -148,7 +148,7 @@ no_next after n any first = record {
 }
 
 -- what is known of the marks that have P is known of those that have Q, where these are the same
-pub next_as : (P Q : Mark → Type 0) (after : ℕ) (n : Next) → ((m : Mark) → P m ↔ Q m) → IsNextOf P after n → IsNextOf Q after n
+pub next_as : (P Q : Mark → Type 0) (after : ℕ) (n : Next) → ((m : Mark) → P m ↔ Q m) → IsKnownNext P after n → IsKnownNext Q after n
 next_as P Q after n same known = record {
   some = λ e. let found = known.some e in (found.0, (same found.0).0 found.1);
   none = λ e m q. known.none e m ((same m).1 q);
@@ -160,7 +160,7 @@ next_as P Q after n same known = record {
     by None g = λ m q. g m ((same m).1 q)
     by (Some k) g = ((same k).0 g.0, g.1, λ m q lt. g.2 m ((same m).1 q) lt)
 
-pub next_or : (P Q : Mark → Type 0) (after : ℕ) (a b n : Next) → IsNextOf P after a → IsNextOf Q after b → n.any ≡ (a.any || b.any) → n.first ≡ earlier a.first b.first → IsNextOf (λ m. P m ⊎ Q m) after n
+pub next_or : (P Q : Mark → Type 0) (after : ℕ) (a b n : Next) → IsKnownNext P after a → IsKnownNext Q after b → n.any ≡ (a.any || b.any) → n.first ≡ earlier a.first b.first → IsKnownNext (λ m. P m ⊎ Q m) after n
 next_or P Q after a b n p q any first = record {
   some = λ e. some a.any b.any p.some q.some (sym any ∙ e);
   none = λ e m x. none a.any b.any p.none q.none (sym any ∙ e) m x;
@@ -197,8 +197,8 @@ next_or P Q after a b n p q any first = record {
         pick false e = let le : j.number ≤ k.number = grind (arith, e) in (inr y.0, y.1, λ m z more. elim z [ inl w ↦ omega (arith, le, x.2 m w more) | inr w ↦ y.2 m w more ])
 
 -- one more row
-pub next_more : (P : ℕ → Mark → Type 0) (rows : List ℕ) (row after : ℕ) (a b n : Next) → IsNextOf (λ m. AnyIn (λ r. P r m) rows) after a → IsNextOf (P row) after b → n.any ≡ (a.any || b.any) → n.first ≡ earlier a.first b.first
-    → IsNextOf (λ m. AnyIn (λ r. P r m) (rows ++ row ∷ [])) after n
+pub next_more : (P : ℕ → Mark → Type 0) (rows : List ℕ) (row after : ℕ) (a b n : Next) → IsKnownNext (λ m. AnyIn (λ r. P r m) rows) after a → IsKnownNext (P row) after b → n.any ≡ (a.any || b.any) → n.first ≡ earlier a.first b.first
+    → IsKnownNext (λ m. AnyIn (λ r. P r m) (rows ++ row ∷ [])) after n
 next_more P rows row after a b n p q any first =
     next_as (λ m. AnyIn (λ r. P r m) rows ⊎ P row m) (λ m. AnyIn (λ r. P r m) (rows ++ row ∷ [])) after n
     (λ m. (

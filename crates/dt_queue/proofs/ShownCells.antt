@@ -16,10 +16,10 @@ use Rattle.dt_queue.specs.declared.kept.Kept.{Kept}
 use Rattle.dt_queue.specs.declared.rows.Rows.{Rows}
 use Rattle.dt_access.specs.declared.access.Mode.{Mode}
 use Rattle.std.proofs.lemmas.List.{get_or_append_left, map-append}
-use Rattle.dt_queue.specs.Kept.{AddsCell, CellsClash, IsKept, IsNearMark, IsNextMark, entry, in_order, mark_of, waiting_of}
+use Rattle.dt_queue.specs.Kept.{AddsCell, CellsClash, AreQueuesKept, IsNearMark, IsNextMark, entry, in_order, mark_of, waiting_of}
 use Rattle.dt_queue.specs.Lanes.{AreMarks}
 use Rattle.dt_queue.specs.Next.{IsFirstAfter}
-use Rattle.dt_queue.specs.Queues.{IsWaiting, Waiting, after, before, entry_at, follower_of, followers_after, is_at, is_neighbour, nearest, neighbours, without}
+use Rattle.dt_queue.specs.Queues.{IsQueued, Waiting, pushed_after, pushed_before, entry_at, follower_of, followers_after, is_at, is_neighbour, nearest, neighbours, taken_out}
 use Rattle.dt_queue.specs.Rows.{granule_at, granule_name, name_at}
 use Rattle.dt_queue.proofs.InOrder.{IsListed, Rise, listed, listed_less, listed_more, same_list}
 use Rattle.dt_queue.proofs.NearMarks.{trichotomy}
@@ -70,7 +70,7 @@ lt_of a b e = grind (arith, e)
 to_lt : (a b : ℕ) → a < b → nat_lt a b ≡ true
 to_lt a b lt = grind (arith, lt)
 
-module _ (k : Kept) (kept : IsKept k) where
+module _ (k : Kept) (kept : AreQueuesKept k) where
   -- ---- cells clash where their entries do
 
   known_name : (row : ℕ) → row < length k.rows.names.keys → slice_get k.rows.names.keys row ≡ Some (name_at k.rows.names.keys row)
@@ -124,13 +124,13 @@ module _ (k : Kept) (kept : IsKept k) where
   row_known p h = kept.known p.0 p.1 (cell_there p h)
 
   -- what waits has a cell
-  pub waits : (slot : ℕ) → IsWaiting (waiting_of k) slot → (c : Cell) × (get k.cells slot ≡ Some c)
+  pub waits : (slot : ℕ) → IsQueued (waiting_of k) slot → (c : Cell) × (get k.cells slot ≡ Some c)
   waits slot w =
       let r = any_get (λ (p : ℕ × Cell). p.0 ≡ slot) (in_order (entries k.cells)) (any_of_image (λ (v : Waiting). v.slot ≡ slot) (entry k.rows.names.keys) (in_order (entries k.cells)) w) in
       (r.0.1, sym (ap (get k.cells) r.2) ∙ cell_there r.0 r.1)
 
   -- and what has a cell waits
-  pub waits_at : (slot : ℕ) (c : Cell) → get k.cells slot ≡ Some c → IsWaiting (waiting_of k) slot
+  pub waits_at : (slot : ℕ) (c : Cell) → get k.cells slot ≡ Some c → IsQueued (waiting_of k) slot
   waits_at slot c e = any_image (λ (v : Waiting). v.slot ≡ slot) (entry k.rows.names.keys) (in_order (entries k.cells)) (any_put (λ (p : ℕ × Cell). p.0 ≡ slot) (in_order (entries k.cells)) (slot, c) (in_list slot c e) refl)
 
   -- ---- neighbours
@@ -308,16 +308,16 @@ same_entries old new front (p ∷ K) known =
     let first : entry new p ≡ entry old p = ap (λ (n : ℕ × Bytes). record { slot = p.0; home = n.0; key = n.1; mode = p.1.mode; vertex = p.1.vertex }) name in
     ap₂ (λ w ws. w ∷ ws) first (same_entries old new front K (λ q h. known q (inr h)))
 
-row_of_cell : (k : Kept) → IsKept k → (p : ℕ × Cell) → Has (in_order (entries k.cells)) p → p.1.row < length k.rows.names.keys
+row_of_cell : (k : Kept) → AreQueuesKept k → (p : ℕ × Cell) → Has (in_order (entries k.cells)) p → p.1.row < length k.rows.names.keys
 row_of_cell k kept p h = kept.known p.0 p.1 (((listed k.cells kept.alone).members p).0 h)
 
 -- the same cells show the same
-pub shown_same : (k n : Kept) → IsKept k → IsFront k.rows.names.keys n.rows.names.keys → n.cells.slots ≡ k.cells.slots → waiting_of n ≡ waiting_of k
+pub shown_same : (k n : Kept) → AreQueuesKept k → IsFront k.rows.names.keys n.rows.names.keys → n.cells.slots ≡ k.cells.slots → waiting_of n ≡ waiting_of k
 shown_same k n kept front slots =
     ap (λ l. map (entry n.rows.names.keys) (in_order (entries_from 0 l))) slots ∙ same_entries k.rows.names.keys n.rows.names.keys front (in_order (entries k.cells)) (row_of_cell k kept)
 
 -- a cell that was put behind all others shows its entry
-pub shown_push : (k n : Kept) (slot : ℕ) (name : ℕ × Bytes) (mode : Mode) (vertex : ℕ) → IsKept k → IsKept n → IsFront k.rows.names.keys n.rows.names.keys → AddsCell k n slot name mode vertex
+pub shown_push : (k n : Kept) (slot : ℕ) (name : ℕ × Bytes) (mode : Mode) (vertex : ℕ) → AreQueuesKept k → AreQueuesKept n → IsFront k.rows.names.keys n.rows.names.keys → AddsCell k n slot name mode vertex
     → waiting_of n ≡ waiting_of k ++ record { slot = slot; home = name.0; key = name.1; mode = mode; vertex = vertex } ∷ []
 shown_push k n slot name mode vertex kept later front adds =
     let K = in_order (entries k.cells) in
@@ -333,14 +333,14 @@ shown_push k n slot name mode vertex kept later front adds =
     own = λ i. record { slot = slot; home = (adds.name i).0; key = (adds.name i).1; mode = adds.mode_is i; vertex = adds.vertex_is i }
 
 -- no entry waited at the slot
-pub shown_fresh : (k n : Kept) (slot : ℕ) (name : ℕ × Bytes) (mode : Mode) (vertex : ℕ) → IsKept k → AddsCell k n slot name mode vertex → ¬ (IsWaiting (waiting_of k) slot)
+pub shown_fresh : (k n : Kept) (slot : ℕ) (name : ℕ × Bytes) (mode : Mode) (vertex : ℕ) → AreQueuesKept k → AddsCell k n slot name mode vertex → ¬ (IsQueued (waiting_of k) slot)
 shown_fresh k n slot name mode vertex kept adds w = let c = waits k kept slot w in none c.0 (sym adds.vacant ∙ c.1)
   where
     none : (d : Cell) → None ≡ Some d → ⊥
     none d e = cc
 
 -- a cell that was taken out shows no more
-pub shown_remove : (k n : Kept) (slot : ℕ) → IsKept k → IsKept n → Updates k.cells n.cells slot None → n.rows ≡ k.rows → waiting_of n ≡ without (waiting_of k) slot
+pub shown_remove : (k n : Kept) (slot : ℕ) → AreQueuesKept k → AreQueuesKept n → Updates k.cells n.cells slot None → n.rows ≡ k.rows → waiting_of n ≡ taken_out (waiting_of k) slot
 shown_remove k n slot kept later up rows =
     let K = in_order (entries k.cells) in
     let list : in_order (entries n.cells) ≡ filter (λ (p : ℕ × Cell). not (p.0 == slot)) K = same_list n.cells n.cells (in_order (entries n.cells)) (filter (λ (p : ℕ × Cell). not (p.0 == slot)) K) (listed n.cells later.alone)

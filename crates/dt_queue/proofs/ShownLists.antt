@@ -7,7 +7,7 @@ use Rattle.dt_lists.proofs.Callers.{all_get, all_map, all_put, any_of_test, any_
 use Rattle.dt_access.specs.Clash.{Bytes}
 use Rattle.dt_queue.specs.declared.cell.Cell.{Cell}
 use Rattle.dt_queue.specs.Kept.{entry}
-use Rattle.dt_queue.specs.Queues.{Waiting, after, before, entries_clash, entry_at, nearest, without}
+use Rattle.dt_queue.specs.Queues.{Waiting, pushed_after, pushed_before, entries_clash, entry_at, nearest, taken_out}
 use Rattle.dt_queue.proofs.InOrder.{IsListed, Rise}
 
 -- no two have one slot
@@ -89,12 +89,12 @@ module _ (names : List (ℕ × Bytes)) where
       by false e rest = rest (tail_has x p xs h (unequal x.0 p.0 e))
 
   -- what stands before an entry are those with lesser numbers
-  pub before_is : (K : List (ℕ × Cell)) (p : ℕ × Cell) → EachThen Rise K → Slots K → Has K p → before (map (entry names) K) p.0 ≡ map (entry names) (lesser p.1.number K)
+  pub before_is : (K : List (ℕ × Cell)) (p : ℕ × Cell) → EachThen Rise K → Slots K → Has K p → pushed_before (map (entry names) K) p.0 ≡ map (entry names) (lesser p.1.number K)
   before_is [] p num s h = absurd h
   before_is (x ∷ xs) p num s h = by (x.0 == p.0) refl (λ g. before_is xs p num.1 s.1 g)
     where
-      by : (t : Bool) → (x.0 == p.0) ≡ t → (Has xs p → before (map (entry names) xs) p.0 ≡ map (entry names) (lesser p.1.number xs))
-          → cond t [] (entry names x ∷ before (map (entry names) xs) p.0) ≡ map (entry names) (lesser p.1.number (x ∷ xs))
+      by : (t : Bool) → (x.0 == p.0) ≡ t → (Has xs p → pushed_before (map (entry names) xs) p.0 ≡ map (entry names) (lesser p.1.number xs))
+          → cond t [] (entry names x ∷ pushed_before (map (entry names) xs) p.0) ≡ map (entry names) (lesser p.1.number (x ∷ xs))
       by true e rest =
         let same = head_is x p xs s h (equal x.0 p.0 e) in
         sym (ap (map (entry names)) (filter_out (λ (q : ℕ × Cell). nat_lt q.1.number p.1.number) (x ∷ xs) (own same, all_map (Rise x) (λ (q : ℕ × Cell). nat_lt q.1.number p.1.number ≡ false) xs (λ q lt. higher same q lt) num.0)))
@@ -106,18 +106,18 @@ module _ (names : List (ℕ × Bytes)) where
           higher f q lt = let n : x.1.number ≡ p.1.number = ap (λ (y : ℕ × Cell). y.1.number) f in below_false _ _ (omega (arith, n, lt))
       by false e rest = pass (nat_lt x.1.number p.1.number) (below_true _ _ (all_get (Rise x) xs num.0 p (tail_has x p xs h (unequal x.0 p.0 e)))) (rest (tail_has x p xs h (unequal x.0 p.0 e)))
         where
-          pass : (t : Bool) → t ≡ true → before (map (entry names) xs) p.0 ≡ map (entry names) (lesser p.1.number xs)
-              → entry names x ∷ before (map (entry names) xs) p.0 ≡ map (entry names) (cond t (x ∷ lesser p.1.number xs) (lesser p.1.number xs))
+          pass : (t : Bool) → t ≡ true → pushed_before (map (entry names) xs) p.0 ≡ map (entry names) (lesser p.1.number xs)
+              → entry names x ∷ pushed_before (map (entry names) xs) p.0 ≡ map (entry names) (cond t (x ∷ lesser p.1.number xs) (lesser p.1.number xs))
           pass true f g = ap (λ l. entry names x ∷ l) g
           pass false f g = cc
 
   -- what stands after an entry are those with greater numbers
-  pub after_is : (K : List (ℕ × Cell)) (p : ℕ × Cell) → EachThen Rise K → Slots K → Has K p → after (map (entry names) K) p.0 ≡ map (entry names) (greater p.1.number K)
+  pub after_is : (K : List (ℕ × Cell)) (p : ℕ × Cell) → EachThen Rise K → Slots K → Has K p → pushed_after (map (entry names) K) p.0 ≡ map (entry names) (greater p.1.number K)
   after_is [] p num s h = absurd h
   after_is (x ∷ xs) p num s h = by (x.0 == p.0) refl (λ g. after_is xs p num.1 s.1 g)
     where
-      by : (t : Bool) → (x.0 == p.0) ≡ t → (Has xs p → after (map (entry names) xs) p.0 ≡ map (entry names) (greater p.1.number xs))
-          → cond t (map (entry names) xs) (after (map (entry names) xs) p.0) ≡ map (entry names) (greater p.1.number (x ∷ xs))
+      by : (t : Bool) → (x.0 == p.0) ≡ t → (Has xs p → pushed_after (map (entry names) xs) p.0 ≡ map (entry names) (greater p.1.number xs))
+          → cond t (map (entry names) xs) (pushed_after (map (entry names) xs) p.0) ≡ map (entry names) (greater p.1.number (x ∷ xs))
       by true e rest =
         let same = head_is x p xs s h (equal x.0 p.0 e) in
         ap (map (entry names)) (sym (pass (nat_lt p.1.number x.1.number) (own same) (filter_in (λ (q : ℕ × Cell). nat_lt p.1.number q.1.number) xs (all_map (Rise x) (λ (q : ℕ × Cell). nat_lt p.1.number q.1.number ≡ true) xs (λ q lt. higher same q lt) num.0))))
@@ -141,12 +141,12 @@ module _ (names : List (ℕ × Bytes)) where
           skip false f = refl
 
   -- what is shown without an entry
-  pub without_is : (K : List (ℕ × Cell)) (slot : ℕ) → without (map (entry names) K) slot ≡ map (entry names) (filter (λ (p : ℕ × Cell). not (p.0 == slot)) K)
+  pub without_is : (K : List (ℕ × Cell)) (slot : ℕ) → taken_out (map (entry names) K) slot ≡ map (entry names) (filter (λ (p : ℕ × Cell). not (p.0 == slot)) K)
   without_is [] slot = refl
   without_is (x ∷ xs) slot = by (not (x.0 == slot)) (without_is xs slot)
     where
-      by : (t : Bool) → without (map (entry names) xs) slot ≡ map (entry names) (filter (λ (p : ℕ × Cell). not (p.0 == slot)) xs)
-          → cond t (entry names x ∷ without (map (entry names) xs) slot) (without (map (entry names) xs) slot)
+      by : (t : Bool) → taken_out (map (entry names) xs) slot ≡ map (entry names) (filter (λ (p : ℕ × Cell). not (p.0 == slot)) xs)
+          → cond t (entry names x ∷ taken_out (map (entry names) xs) slot) (taken_out (map (entry names) xs) slot)
               ≡ map (entry names) (cond t (x ∷ filter (λ (p : ℕ × Cell). not (p.0 == slot)) xs) (filter (λ (p : ℕ × Cell). not (p.0 == slot)) xs))
       by true e = ap (λ l. entry names x ∷ l) e
       by false e = e

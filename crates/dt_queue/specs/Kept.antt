@@ -1,6 +1,6 @@
 -- Scaffolding: how the queues are kept. Each entry has a cell at its slot, with its row, its mode and the number of its push;
 -- and it has a mark in the lane of its mode, that of its row, or for the mode Whole that of its granule. `waiting_of` is the
--- list of entries that is kept so, and `IsKept` what all queues keep.
+-- list of entries that is kept so, and `AreQueuesKept` what all queues keep.
 use Rattle.std.specs.Prelude.{◌≡◌, ℕ, ◌<◌, ◌↔◌, ◌⊎◌, ◌^◌, nat_lt, true, List, [], ◌∷◌, map, get_or, length, if◌then◌else◌, None, Some}
 use Rattle.slab.specs.Slab.{Slab, Updates, get, entries}
 use Rattle.dt_lists.specs.Lists.{AnyIn, Has}
@@ -8,22 +8,22 @@ use Rattle.dt_access.specs.Clash.{Bytes, is_whole, is_write}
 use Rattle.dt_access.specs.declared.access.Mode.{Mode}
 use Rattle.dt_access.specs.declared.access.Mode.TheVariants.{Read, Write, Whole}
 use Rattle.dt_queue.specs.Queues.{Waiting}
-use Rattle.dt_queue.specs.Lanes.{AreNumbered, IsFirstIn, IsLastIn, IsNearInRow, IsNextInRow}
-use Rattle.dt_queue.specs.Rows.{AreLinked, granule_at, name_at, rows_at}
+use Rattle.dt_queue.specs.Lanes.{HasRisingNumbers, IsFirstIn, IsLastIn, IsNearInRow, IsNextInRow}
+use Rattle.dt_queue.specs.Rows.{AreRowsLinked, granule_at, name_at, rows_at}
 use Rattle.dt_queue.specs.declared.cell.Cell.{Cell}
 use Rattle.dt_queue.specs.declared.mark.Mark.{Mark}
 use Rattle.dt_queue.specs.declared.rows.Rows.{Rows}
 use Rattle.dt_queue.specs.declared.kept.Kept.{Kept}
 
 -- a cell with its slot, put into a list of such where the numbers ascend
-abbrev pub put : ℕ × Cell → List (ℕ × Cell) → List (ℕ × Cell)
-put p [] = p ∷ []
-put p (q ∷ qs) = if nat_lt p.1.number q.1.number then p ∷ q ∷ qs else q ∷ put p qs
+abbrev pub put_cell : ℕ × Cell → List (ℕ × Cell) → List (ℕ × Cell)
+put_cell p [] = p ∷ []
+put_cell p (q ∷ qs) = if nat_lt p.1.number q.1.number then p ∷ q ∷ qs else q ∷ put_cell p qs
 
 -- cells with their slots in the order of their numbers
 abbrev pub in_order : List (ℕ × Cell) → List (ℕ × Cell)
 in_order [] = []
-in_order (p ∷ ps) = put p (in_order ps)
+in_order (p ∷ ps) = put_cell p (in_order ps)
 
 -- the entry that a cell at a slot keeps
 abbrev pub entry : List (ℕ × Bytes) → ℕ × Cell → Waiting
@@ -55,12 +55,12 @@ IsInLane r mode place c = (c.mode ≡ mode) × (place_at r mode c.row ≡ place)
 
 -- a lane has the marks of just those cells that have P, in the order of their numbers
 pub record IsLane (cells : Slab Cell) (P : Cell → Type 0) (marks : List Mark) : Type 0 where
-  pub numbered : AreNumbered marks
+  pub numbered : HasRisingNumbers marks
   pub members : (m : Mark) → Has marks m ↔ ((c : Cell) × (get cells m.slot ≡ Some c) × P c × (m ≡ mark_of m.slot c))
 
 -- what all queues keep: a cell has a number that was given, no other has it, and its row is known; and its mark is in its lane
-pub record IsKept (k : Kept) : Type 0 where
-  pub linked : AreLinked k.rows
+pub record AreQueuesKept (k : Kept) : Type 0 where
+  pub linked : AreRowsLinked k.rows
   pub first : 0 < k.next_number
   pub last : k.next_number < 2 ^ 64
   pub counted : (slot : ℕ) (c : Cell) → get k.cells slot ≡ Some c → (0 < c.number) × (c.number < k.next_number)

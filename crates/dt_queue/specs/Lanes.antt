@@ -5,8 +5,8 @@ use Rattle.dt_lists.specs.Lists.{AllIn, AnyIn, EachThen, Has}
 use Rattle.dt_queue.specs.declared.mark.Mark.{Mark}
 
 -- the numbers of the marks ascend
-abbrev pub AreNumbered : List Mark → Type 0
-AreNumbered marks = EachThen (λ m k. m.number < k.number) marks
+abbrev pub HasRisingNumbers : List Mark → Type 0
+HasRisingNumbers marks = EachThen (λ m k. m.number < k.number) marks
 
 -- the place is where the search for a number ends: marks before it have lesser numbers, and those from it on have not
 pub record EndsBelow (number : ℕ) (marks : List Mark) (place : ℕ) : Type 0 where
@@ -69,15 +69,15 @@ IsNextInRow reads writes low high m = IsBetween low high m
 
 -- the numbers in each lane ascend, and no number stands twice in the lanes of rows that are read and written
 pub record AreApart (reads writes : List (List Mark)) : Type 0 where
-  pub reads_numbered : (row : ℕ) → AreNumbered (get_or reads row [])
-  pub writes_numbered : (row : ℕ) → AreNumbered (get_or writes row [])
+  pub reads_numbered : (row : ℕ) → HasRisingNumbers (get_or reads row [])
+  pub writes_numbered : (row : ℕ) → HasRisingNumbers (get_or writes row [])
   pub of_reads : (r s : ℕ) (m k : Mark) → Has (get_or reads r []) m → Has (get_or reads s []) k → m.number ≡ k.number → r ≡ s
   pub of_writes : (r s : ℕ) (m k : Mark) → Has (get_or writes r []) m → Has (get_or writes s []) k → m.number ≡ k.number → r ≡ s
   pub of_both : (r s : ℕ) (m k : Mark) → Has (get_or reads r []) m → Has (get_or writes s []) k → ¬ (m.number ≡ k.number)
 
 -- the list has just the marks that have P, in the order of their numbers
 pub record AreMarks (P : Mark → Type 0) (marks : List Mark) : Type 0 where
-  pub numbered : AreNumbered marks
+  pub numbered : HasRisingNumbers marks
   pub members : (m : Mark) → Has marks m ↔ P m
 
 -- marks were added at the back: just those that have P, in the order of their numbers

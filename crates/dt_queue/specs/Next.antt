@@ -10,7 +10,7 @@ IsFirstAfter P after None = (m : Mark) → P m → m.number ≤ after
 IsFirstAfter P after (Some f) = P f × (after < f.number) × ((m : Mark) → P m → after < m.number → f.number ≤ m.number)
 
 -- it is known of the marks that have P whether there are any, and which is the first after a number
-pub record IsNextOf (P : Mark → Type 0) (after : ℕ) (next : Next) : Type 0 where
+pub record IsKnownNext (P : Mark → Type 0) (after : ℕ) (next : Next) : Type 0 where
   pub some : next.any ≡ true → (m : Mark) × P m
   pub none : next.any ≡ false → (m : Mark) → ¬ (P m)
   pub first : IsFirstAfter P after next.first

@@ -26,8 +26,8 @@ abbrev pub is_at : ℕ → Waiting → Bool
 is_at slot w = w.slot == slot
 
 -- an entry waits at this slot
-abbrev pub IsWaiting : List Waiting → ℕ → Type 0
-IsWaiting waiting slot = AnyIn (λ w. w.slot ≡ slot) waiting
+abbrev pub IsQueued : List Waiting → ℕ → Type 0
+IsQueued waiting slot = AnyIn (λ w. w.slot ≡ slot) waiting
 
 -- no two entries are at one slot
 abbrev pub HasDistinctSlots : List Waiting → Type 0
@@ -47,14 +47,14 @@ entry_at [] slot = record { slot = slot; home = 0; key = []; mode = Read; vertex
 entry_at (w ∷ waiting) slot = if w.slot == slot then w else entry_at waiting slot
 
 -- the entries that were pushed before the one at a slot
-abbrev pub before : List Waiting → ℕ → List Waiting
-before [] slot = []
-before (w ∷ waiting) slot = if w.slot == slot then [] else w ∷ before waiting slot
+abbrev pub pushed_before : List Waiting → ℕ → List Waiting
+pushed_before [] slot = []
+pushed_before (w ∷ waiting) slot = if w.slot == slot then [] else w ∷ pushed_before waiting slot
 
 -- the entries that were pushed after the one at a slot
-abbrev pub after : List Waiting → ℕ → List Waiting
-after [] slot = []
-after (w ∷ waiting) slot = if w.slot == slot then waiting else after waiting slot
+abbrev pub pushed_after : List Waiting → ℕ → List Waiting
+pushed_after [] slot = []
+pushed_after (w ∷ waiting) slot = if w.slot == slot then waiting else pushed_after waiting slot
 
 -- of entries in the order of their pushes those nearest to a later one that they clash with: after them none of these
 -- entries clashes with both
@@ -65,7 +65,7 @@ nearest x (w ∷ later) =
 
 -- the neighbours of the entry at a slot: of the entries before it the nearest that clash with it
 abbrev pub neighbours : List Waiting → ℕ → List Waiting
-neighbours waiting slot = nearest (entry_at waiting slot) (before waiting slot)
+neighbours waiting slot = nearest (entry_at waiting slot) (pushed_before waiting slot)
 
 -- whether the entry at one slot is a neighbour of the entry at another
 abbrev pub is_neighbour : List Waiting → ℕ → ℕ → Bool
@@ -77,12 +77,12 @@ followers waiting slot = filter (λ w. is_neighbour waiting slot w.slot) waiting
 
 -- those of its followers that were pushed after the entry at another slot
 abbrev pub followers_after : List Waiting → ℕ → ℕ → List Waiting
-followers_after waiting slot place = filter (λ w. is_neighbour waiting slot w.slot) (after waiting place)
+followers_after waiting slot place = filter (λ w. is_neighbour waiting slot w.slot) (pushed_after waiting place)
 
 -- what is told of a follower
 abbrev pub follower_of : Waiting → Follower
 follower_of w = record { slot = w.slot; vertex = w.vertex }
 
 -- what waits after the entry at a slot was taken out
-abbrev pub without : List Waiting → ℕ → List Waiting
-without waiting slot = filter (λ w. not (w.slot == slot)) waiting
+abbrev pub taken_out : List Waiting → ℕ → List Waiting
+taken_out waiting slot = filter (λ w. not (w.slot == slot)) waiting

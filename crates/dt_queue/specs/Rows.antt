@@ -33,8 +33,8 @@ pub record AreTied (names granules : List (ℕ × Bytes)) (granule_of : List ℕ
   pub rows_once : (g : ℕ) → Distinct (get_or rows_of g [])
 
 -- each row knows its granule, and each granule its rows
-abbrev pub AreLinked : Rows → Type 0
-AreLinked r = AreTied r.names.keys r.granules.keys r.granule_of.items (map (λ v. v.items) r.rows_of.items)
+abbrev pub AreRowsLinked : Rows → Type 0
+AreRowsLinked r = AreTied r.names.keys r.granules.keys r.granule_of.items (map (λ v. v.items) r.rows_of.items)
 
 -- rows may have been added, and all others have their numbers and granules as before
 pub record KeepsRows (old new : Rows) : Type 0 where

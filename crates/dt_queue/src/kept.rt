@@ -3,7 +3,7 @@ ghost use Rattle.std.specs.List.{filter};
 ghost use Rattle.slab.specs.Slab.{ContainsKey, Updates};
 ghost use Rattle.dt_lists.specs.Lists.{AllIn, IsFront};
 ghost use Rattle.dt_queue.specs.Lanes.{AreMarks};
-ghost use Rattle.dt_queue.specs.Next.{IsFirstAfter, IsNextOf};
+ghost use Rattle.dt_queue.specs.Next.{IsFirstAfter, IsKnownNext};
 
 use crate::cell::Cell;
 use crate::lane::Lane;
@@ -30,11 +30,11 @@ pub struct Kept {
 }
 
 impl Kept {
-    ghost use Rattle.dt_queue.specs.Kept.{AddsCell, ChangesLaneOf, IsKept, IsNearInMode, IsNearMark, IsNextInMode, IsNextMark, KeepsLanes, lane, place_at};
+    ghost use Rattle.dt_queue.specs.Kept.{AddsCell, ChangesLaneOf, AreQueuesKept, IsNearInMode, IsNearMark, IsNextInMode, IsNextMark, KeepsLanes, lane, place_at};
 
     /// No entry waits. Takes no memory.
     pub fn new(alloc: Global) -> Self
-        ensures kept { IsKept result }
+        ensures kept { AreQueuesKept result }
         ensures empty { result.cells.slots ≡ [] }
     {
         Kept {
@@ -56,8 +56,8 @@ impl Kept {
         mode: Mode,
         vertex: u32,
     ) -> Result<usize, NoMemory>
-        requires { IsKept self.old }
-        ensures kept { IsKept self.new }
+        requires { AreQueuesKept self.old }
+        ensures kept { AreQueuesKept self.new }
         ensures rows { IsFront self.old.rows.names.keys self.new.rows.names.keys }
         ensures added { IfOk result (λ slot. AddsCell self.old self.new slot (home, key.now) mode vertex) }
         ensures same { OnErr result (self.new.cells.slots ≡ self.old.cells.slots) }
@@ -76,9 +76,9 @@ impl Kept {
 
     /// Takes out the entry at a slot. Takes no memory.
     pub fn remove(&mut self, slot: usize)
-        requires kept { IsKept self.old }
+        requires kept { AreQueuesKept self.old }
         requires there { ContainsKey self.old.cells slot }
-        ensures kept { IsKept self.new }
+        ensures kept { AreQueuesKept self.new }
         ensures updates { Updates self.old.cells self.new.cells slot None }
         ensures rows { self.new.rows ≡ self.old.rows }
     {
@@ -88,7 +88,7 @@ impl Kept {
 
     /// The marks of the neighbours of an entry, in the order of their pushes.
     pub fn near(&self, alloc: Global, cell: Cell) -> Result<Vec<Mark>, NoMemory>
-        requires kept { IsKept self.now }
+        requires kept { AreQueuesKept self.now }
         requires row_in { cell.row < length self.now.rows.names.keys }
         ensures { IfOk result (λ marks. AreMarks (IsNearMark self.now cell) marks.items) }
     {
@@ -103,7 +103,7 @@ impl Kept {
 
     /// The mark of the first follower of an entry after a number.
     pub fn next(&self, cell: Cell, after: u64) -> Option<Mark>
-        requires kept { IsKept self.now }
+        requires kept { AreQueuesKept self.now }
         requires row_in { cell.row < length self.now.rows.names.keys }
         ensures { IsFirstAfter (IsNextMark self.now cell) after result }
     {
@@ -145,7 +145,7 @@ impl Kept {
 
     /// Of the marks of reads and writes above a number those of neighbours of an entry.
     fn near_in_rows(&self, alloc: Global, cell: Cell, low: u64) -> Result<Vec<Mark>, NoMemory>
-        requires kept { IsKept self.now }
+        requires kept { AreQueuesKept self.now }
         requires row_in { cell.row < length self.now.rows.names.keys }
         ensures { IfOk result (λ marks. AreMarks (IsNearInMode self.now cell low) marks.items) }
     {
@@ -161,9 +161,9 @@ impl Kept {
 
     /// What is known of the followers of an entry that read or write rows, below a number.
     fn next_in_rows(&self, cell: Cell, high: u64, after: u64) -> Next
-        requires kept { IsKept self.now }
+        requires kept { AreQueuesKept self.now }
         requires row_in { cell.row < length self.now.rows.names.keys }
-        ensures { IsNextOf (IsNextInMode self.now cell high) after result }
+        ensures { IsKnownNext (IsNextInMode self.now cell high) after result }
     {
         let reads = self.reads.as_slice();
         let writes = self.writes.as_slice();

@@ -18,13 +18,13 @@ pub struct Lane {
 impl Model for Lane {
     ghost use Rattle.std.specs.Prelude.{List};
     ghost use Rattle.dt_queue.specs.declared.mark.Mark.{Mark};
-    ghost use Rattle.dt_queue.specs.Lanes.{AreNumbered};
+    ghost use Rattle.dt_queue.specs.Lanes.{HasRisingNumbers};
 
     ghost Value = { List Mark };
 
     ghost view = { λ l. l.marks.items };
 
-    ghost invariant = { λ l. AreNumbered l.marks.items };
+    ghost invariant = { λ l. HasRisingNumbers l.marks.items };
 }
 
 impl Lane {

@@ -1,6 +1,6 @@
 ghost use Rattle.std.specs.Prelude.{◌≡◌, ◌++◌, [], get_or, option_to_list, IfOk, OnOk};
 ghost use Rattle.dt_lists.specs.Lists.{AnyIn, Distinct};
-ghost use Rattle.dt_queue.specs.Lanes.{AddsMarks, AreApart, AreMarks, AreNumbered, IsLastIn, IsNearInRow, number_or};
+ghost use Rattle.dt_queue.specs.Lanes.{AddsMarks, AreApart, AreMarks, HasRisingNumbers, IsLastIn, IsNearInRow, number_or};
 
 use crate::lane::Lane;
 use crate::lanes::{add_between, last_between};
@@ -45,7 +45,7 @@ pub fn near_write(
     low: u64,
     high: u64,
 ) -> Result<Vec<Mark>, NoMemory>
-    requires { AreNumbered (get_or writes.now row []) }
+    requires { HasRisingNumbers (get_or writes.now row []) }
     ensures { IfOk result (λ marks. AreMarks (IsLastIn (get_or writes.now row []) low high) marks.items) }
 {
     only(alloc, last_between(writes, row, low, high))

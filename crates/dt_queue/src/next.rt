@@ -1,6 +1,6 @@
 ghost use Rattle.std.specs.Prelude.{◌≡◌, [], get_or, is_some, ◌||◌};
 ghost use Rattle.dt_lists.specs.Lists.{AnyIn};
-ghost use Rattle.dt_queue.specs.Lanes.{AreApart, AreNumbered, IsFirstIn, IsNextInRow, earlier, later_than};
+ghost use Rattle.dt_queue.specs.Lanes.{AreApart, HasRisingNumbers, IsFirstIn, IsNextInRow, earlier, later_than};
 
 use crate::lane::Lane;
 use crate::lanes::first_between;
@@ -15,7 +15,7 @@ pub struct Next {
 }
 
 impl Next {
-    ghost use Rattle.dt_queue.specs.Next.{IsNextOf};
+    ghost use Rattle.dt_queue.specs.Next.{IsKnownNext};
 
     /// What is known where there is one entry at most.
     pub fn one(mark: Option<Mark>, after: u64) -> Self
@@ -45,8 +45,8 @@ impl Next {
 
     /// Of the marks of a lane between two numbers the first one, if there is one.
     pub fn in_lane(lanes: &[Lane], place: usize, low: u64, high: u64, after: u64) -> Self
-        requires { AreNumbered (get_or lanes.now place []) }
-        ensures { IsNextOf (IsFirstIn (get_or lanes.now place []) low high) after result }
+        requires { HasRisingNumbers (get_or lanes.now place []) }
+        ensures { IsKnownNext (IsFirstIn (get_or lanes.now place []) low high) after result }
     {
         Next::one(first_between(lanes, place, low, high), after)
     }
@@ -55,7 +55,7 @@ impl Next {
     /// read it and before which none writes it, or, where there are none, the first one that writes it.
     pub fn in_row(reads: &[Lane], writes: &[Lane], row: usize, low: u64, high: u64, after: u64) -> Self
         requires { AreApart reads.now writes.now }
-        ensures { IsNextOf (IsNextInRow (get_or reads.now row []) (get_or writes.now row []) low high) after result }
+        ensures { IsKnownNext (IsNextInRow (get_or reads.now row []) (get_or writes.now row []) low high) after result }
     {
         let write = first_between(writes, row, low, high);
         let limit = number_or(write, high);
@@ -72,7 +72,7 @@ impl Next {
     /// The same of several rows.
     pub fn in_rows(reads: &[Lane], writes: &[Lane], rows: &[usize], low: u64, high: u64, after: u64) -> Self
         requires { AreApart reads.now writes.now }
-        ensures { IsNextOf (λ m. AnyIn (λ row. IsNextInRow (get_or reads.now row []) (get_or writes.now row []) low high m) rows.now) after result }
+        ensures { IsKnownNext (λ m. AnyIn (λ row. IsNextInRow (get_or reads.now row []) (get_or writes.now row []) low high m) rows.now) after result }
     {
         let mut next = Next {
             any: false,

@@ -1,5 +1,5 @@
 ghost use Rattle.std.specs.Prelude.{◌≡◌, [], ◌∷◌, ◌++◌, map, slice_get, IfOk, OnErr};
-ghost use Rattle.dt_queue.specs.Queues.{IsWaiting, follower_of, followers_after, neighbours, without};
+ghost use Rattle.dt_queue.specs.Queues.{IsQueued, follower_of, followers_after, neighbours, taken_out};
 
 use crate::follower::Follower;
 use crate::kept::Kept;
@@ -21,13 +21,13 @@ pub struct Queues {
 impl Model for Queues {
     ghost use Rattle.std.specs.Prelude.{List};
     ghost use Rattle.dt_queue.specs.Queues.{Waiting};
-    ghost use Rattle.dt_queue.specs.Kept.{IsKept, waiting_of};
+    ghost use Rattle.dt_queue.specs.Kept.{AreQueuesKept, waiting_of};
 
     ghost Value = { List Waiting };
 
     ghost view = { λ q. waiting_of q.kept };
 
-    ghost invariant = { λ q. IsKept q.kept };
+    ghost invariant = { λ q. AreQueuesKept q.kept };
 }
 
 impl Queues {
@@ -51,7 +51,7 @@ impl Queues {
         vertex: u32,
     ) -> Result<usize, NoMemory>
         ensures added { IfOk result (λ slot. self.new ≡ self.old ++ record { slot = slot; home = home; key = key.now; mode = mode; vertex = vertex } ∷ []) }
-        ensures fresh { IfOk result (λ slot. ¬ (IsWaiting self.old slot)) }
+        ensures fresh { IfOk result (λ slot. ¬ (IsQueued self.old slot)) }
         ensures same { OnErr result (self.new ≡ self.old) }
     {
         self.kept.push(alloc, home, key, mode, vertex)
@@ -59,7 +59,7 @@ impl Queues {
 
     /// The vertices of the neighbours of an entry, in the order of their pushes.
     pub fn neighbours(&self, alloc: Global, slot: usize) -> Result<Vec<u32>, NoMemory>
-        requires { IsWaiting self.now slot }
+        requires { IsQueued self.now slot }
         ensures { IfOk result (λ found. found.items ≡ map (λ w. w.vertex) (neighbours self.now slot)) }
     {
         let marks = self.kept.near(alloc, self.kept.cells[slot])?;
@@ -69,8 +69,8 @@ impl Queues {
     /// The first follower of the entry at a slot that was pushed after the one at another slot. So its followers are found one
     /// after the other, from those after itself on. Takes no memory.
     pub fn follower_after(&self, slot: usize, place: usize) -> Option<Follower>
-        requires slot { IsWaiting self.now slot }
-        requires place { IsWaiting self.now place }
+        requires slot { IsQueued self.now slot }
+        requires place { IsQueued self.now place }
         ensures { result ≡ slice_get (map follower_of (followers_after self.now slot place)) 0 }
     {
         let after = self.kept.cells[place].number;
@@ -83,8 +83,8 @@ impl Queues {
 
     /// Takes the entry at a slot out of its queue. Takes no memory.
     pub fn remove(&mut self, slot: usize)
-        requires { IsWaiting self.old slot }
-        ensures { self.new ≡ without self.old slot }
+        requires { IsQueued self.old slot }
+        ensures { self.new ≡ taken_out self.old slot }
     {
         self.kept.remove(slot);
     }

@@ -17,11 +17,11 @@ pub struct Rows {
 }
 
 impl Rows {
-    ghost use Rattle.dt_queue.specs.Rows.{AreLinked, KeepsRows, granule_at, rows_at};
+    ghost use Rattle.dt_queue.specs.Rows.{AreRowsLinked, KeepsRows, granule_at, rows_at};
 
     /// No row was waited for. Takes no memory.
     pub fn new(alloc: Global) -> Self
-        ensures linked { AreLinked result }
+        ensures linked { AreRowsLinked result }
         ensures empty { result.names.keys ≡ [] }
     {
         Rows {
@@ -34,8 +34,8 @@ impl Rows {
 
     /// The row of a key at a home, which is added where it is new. All other rows stay, also after `NoMemory`.
     pub fn row(&mut self, alloc: Global, home: u8, key: &Key) -> Result<usize, NoMemory>
-        requires { AreLinked self.old }
-        ensures linked { AreLinked self.new }
+        requires { AreRowsLinked self.old }
+        ensures linked { AreRowsLinked self.new }
         ensures kept { KeepsRows self.old self.new }
         ensures found { IfOk result (λ row. slice_get self.new.names.keys row ≡ Some (home, key.now)) }
     {
@@ -48,9 +48,9 @@ impl Rows {
 
     /// Adds a row.
     fn add_row(&mut self, alloc: Global, name: (u8, Key)) -> Result<usize, NoMemory>
-        requires linked { AreLinked self.old }
+        requires linked { AreRowsLinked self.old }
         requires absent { ¬ (Has self.old.names.keys name) }
-        ensures linked { AreLinked self.new }
+        ensures linked { AreRowsLinked self.new }
         ensures kept { KeepsRows self.old self.new }
         ensures found { IfOk result (λ row. slice_get self.new.names.keys row ≡ Some name) }
     {
@@ -66,8 +66,8 @@ impl Rows {
 
     /// The granule of this name, which is added where it is new.
     fn granule(&mut self, alloc: Global, name: (u8, Key)) -> Result<usize, NoMemory>
-        requires { AreLinked self.old }
-        ensures linked { AreLinked self.new }
+        requires { AreRowsLinked self.old }
+        ensures linked { AreRowsLinked self.new }
         ensures names { self.new.names.keys ≡ self.old.names.keys }
         ensures kept { KeepsRows self.old self.new }
         ensures found { IfOk result (λ granule. slice_get self.new.granules.keys granule ≡ Some name) }

@@ -1,7 +1,7 @@
 //! Queues: who waits for whom, and who follows whom.
 ghost use Rattle.std.specs.Prelude.{IfOk};
 ghost use Rattle.dt_lists.specs.Lists.{AllIn};
-ghost use Rattle.dt_queue.specs.Queues.{IsWaiting};
+ghost use Rattle.dt_queue.specs.Queues.{IsQueued};
 
 use dt_access::Mode;
 use dt_queue::Queues;
@@ -14,7 +14,7 @@ type Use = (u8, &'static [u8], Mode, u32);
 
 /// Queues with these entries, pushed one after the other, and their slots.
 fn queued(alloc: Global, uses: &[Use]) -> Result<(Queues, Vec<usize>), Fail>
-    ensures { IfOk result (λ all. AllIn (IsWaiting all.0) all.1.items) }
+    ensures { IfOk result (λ all. AllIn (IsQueued all.0) all.1.items) }
 {
     let mut queues = Queues::new(alloc);
     let mut slots = Vec::new(alloc);

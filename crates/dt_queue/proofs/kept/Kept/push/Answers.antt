@@ -7,7 +7,7 @@ use Rattle.dt_queue.specs.declared.cell.Cell.{Cell}
 use Rattle.dt_queue.specs.declared.kept.Kept.{Kept}
 use Rattle.dt_lists.specs.Lists.{IsFront}
 use Rattle.dt_queue.specs.declared.rows.Rows.{Rows}
-use Rattle.dt_queue.specs.Rows.{AreLinked, KeepsRows, name_at}
+use Rattle.dt_queue.specs.Rows.{AreRowsLinked, KeepsRows, name_at}
 use Rattle.dt_queue.specs.Kept.{lane, place_at}
 use Rattle.dt_queue.proofs.KeptLanes.{all_before, kept_same, push_steps, same_lanes, to_err}
 use Rattle.dt_queue.proofs.kept.Kept.push.Goals as goal
@@ -36,7 +36,7 @@ returns-in_err-add_mark-clause-kept c =
     let k = c.args.self.now in
     let mid : Kept = record k { cells = c.reserve.new.self; rows = c.row.new.self } in
     let same = c.in_err-add_mark.ensures.same in
-    kept_same k c.add_mark.new.self c.requires (subst AreLinked (sym same.rows) c.in_ok-row.ensures.linked) (subst (KeepsRows k.rows) (sym same.rows) c.in_ok-row.ensures.kept)
+    kept_same k c.add_mark.new.self c.requires (subst AreRowsLinked (sym same.rows) c.in_ok-row.ensures.linked) (subst (KeepsRows k.rows) (sym same.rows) c.in_ok-row.ensures.kept)
     (λ s. ap (λ (x : Slab Cell). get x s) same.cells ∙ ap (λ (x : Slab Cell). get x s) c.in_ok-reserve.ensures.rest_kept) same.number (λ m p. same.lanes m p ∙ same_lanes mid k refl refl refl m p)
 
 pub returns-in_err-add_mark-clause-rows : goal.returns-in_err-add_mark-clause-rows

@@ -2,7 +2,7 @@ use Rattle.std.proofs.Common.{◌≡◌, [], get_or, length, take, sym, subst, r
 use Rattle.std.proofs.lemmas.List.{take_more, take_all}
 use Rattle.dt_lists.specs.Lists.{AnyIn}
 use Rattle.dt_queue.specs.Lanes.{IsNextInRow}
-use Rattle.dt_queue.specs.Next.{IsNextOf}
+use Rattle.dt_queue.specs.Next.{IsKnownNext}
 use Rattle.dt_queue.proofs.RowsNear.{next_more, no_next}
 use Rattle.dt_queue.proofs.next.Next.in_rows.Goals as goal
 
@@ -21,4 +21,4 @@ pub returns : goal.returns
 returns c =
     let rows = c.args.rows.now in
     let all : take c.loop-row.row-index rows ≡ rows = take_all c.loop-row.row-index rows (omega (arith, c.loop-row-test.false)) in
-    subst (λ l. IsNextOf (λ m. AnyIn (λ row. IsNextInRow (get_or c.args.reads.now row []) (get_or c.args.writes.now row []) c.args.low c.args.high m) l) c.args.after c.loop-row.next) all c.loop-row.invariant
+    subst (λ l. IsKnownNext (λ m. AnyIn (λ row. IsNextInRow (get_or c.args.reads.now row []) (get_or c.args.writes.now row []) c.args.low c.args.high m) l) c.args.after c.loop-row.next) all c.loop-row.invariant
