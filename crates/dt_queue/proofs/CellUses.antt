@@ -1,5 +1,6 @@
 -- Which cells clash, told by the lanes that they have their marks in.
-use Rattle.std.proofs.Common.{◌≡◌, ◌≢◌, ◌⊎◌, ◌↔◌, ℕ, zero, suc, ◌<◌, ◌≤◌, Bool, true, false, List, [], ◌∷◌, length, get_or, Option, Some, None, refl, ap, sym, subst, inl, inr, arith, ◌∙◌}
+use Rattle.std.proofs.Common.{◌≡◌, ◌≢◌, ◌⊎◌, ◌↔◌, ℕ, zero, suc, ◌<◌, ◌≤◌, Bool, true, false, List, []}
+use Rattle.std.proofs.Common.{◌∷◌, length, get_or, Option, Some, None, refl, ap, sym, subst, inl, inr, arith, ◌∙◌}
 use Rattle.slab.specs.Slab.{get}
 use Rattle.dt_lists.specs.Lists.{AnyIn, Has}
 use Rattle.dt_lists.proofs.Callers.{any_get, any_put}
@@ -64,17 +65,17 @@ apart_lanes k kept = record {
 
     same : (mode : Mode) (r s : ℕ) (m n : Mark) → Has (lane k mode r) m → Has (lane k mode s) n → m.number ≡ n.number → r ≡ s
     same mode r s m n h g e =
-      let a = cell_of k kept mode r m h in
-      let b = cell_of k kept mode s n g in
-      let one : a.0 ≡ b.0 = one_cell k kept m n a.0 b.0 a.1 b.1 e in
-      rows mode r s a.0 a.2.1 (subst (λ c. place_at k.rows mode c.row ≡ s) (sym one) b.2.1)
+        let a = cell_of k kept mode r m h in
+        let b = cell_of k kept mode s n g in
+        let one : a.0 ≡ b.0 = one_cell k kept m n a.0 b.0 a.1 b.1 e in
+        rows mode r s a.0 a.2.1 (subst (λ c. place_at k.rows mode c.row ≡ s) (sym one) b.2.1)
 
     both : (r s : ℕ) (m n : Mark) → Has (lane k Read r) m → Has (lane k Write s) n → m.number ≡ n.number → Read ≡ Write
     both r s m n h g e =
-      let a = cell_of k kept Read r m h in
-      let b = cell_of k kept Write s n g in
-      let one : a.0 ≡ b.0 = one_cell k kept m n a.0 b.0 a.1 b.1 e in
-      sym a.2.0 ∙ ap (λ (c : Cell). c.mode) one ∙ b.2.0
+        let a = cell_of k kept Read r m h in
+        let b = cell_of k kept Write s n g in
+        let one : a.0 ≡ b.0 = one_cell k kept m n a.0 b.0 a.1 b.1 e in
+        sym a.2.0 ∙ ap (λ (c : Cell). c.mode) one ∙ b.2.0
 
 -- ---- what clashes
 
@@ -148,11 +149,13 @@ clash_uses Read k kept x e m c a clash Read f = absurd (reads_agree k.rows c x f
 clash_uses Read k kept x e m c a clash Write f = inr (in_lane k kept m c a Write x.row (f, on_one_row k.rows c x (ap is_whole f) (ap is_whole e) clash))
 clash_uses Write k kept x e m c a clash Read f = inr (inl (in_lane k kept m c a Read x.row (f, on_one_row k.rows c x (ap is_whole f) (ap is_whole e) clash)))
 clash_uses Write k kept x e m c a clash Write f = inr (inr (in_lane k kept m c a Write x.row (f, on_one_row k.rows c x (ap is_whole f) (ap is_whole e) clash)))
-clash_uses Whole k kept x e m c a clash Read f = inr (any_put (λ r. Has (lane k Read r) m ⊎ Has (lane k Write r) m) (rows_at k.rows (granule_at k.rows x.row)) c.row (own_row k kept x m c a clash) (inl (in_lane k kept m c a Read c.row (f, refl))))
+clash_uses Whole k kept x e m c a clash Read f = inr
+    (any_put (λ r. Has (lane k Read r) m ⊎ Has (lane k Write r) m) (rows_at k.rows (granule_at k.rows x.row)) c.row (own_row k kept x m c a clash) (inl (in_lane k kept m c a Read c.row (f, refl))))
   where
     own_row : (k : Kept) → AreQueuesKept k → (x : Cell) (m : Mark) (c : Cell) → IsMarkOf k m c → CellsClash k.rows c x → Has (rows_at k.rows (granule_at k.rows x.row)) c.row
     own_row k kept x m c a clash = (kept.linked.rows (granule_at k.rows x.row) c.row).1 (kept.known m.slot c a.there, one_granule k.rows c x clash)
-clash_uses Whole k kept x e m c a clash Write f = inr (any_put (λ r. Has (lane k Read r) m ⊎ Has (lane k Write r) m) (rows_at k.rows (granule_at k.rows x.row)) c.row (own_row k kept x m c a clash) (inr (in_lane k kept m c a Write c.row (f, refl))))
+clash_uses Whole k kept x e m c a clash Write f = inr
+    (any_put (λ r. Has (lane k Read r) m ⊎ Has (lane k Write r) m) (rows_at k.rows (granule_at k.rows x.row)) c.row (own_row k kept x m c a clash) (inr (in_lane k kept m c a Write c.row (f, refl))))
   where
     own_row : (k : Kept) → AreQueuesKept k → (x : Cell) (m : Mark) (c : Cell) → IsMarkOf k m c → CellsClash k.rows c x → Has (rows_at k.rows (granule_at k.rows x.row)) c.row
     own_row k kept x m c a clash = (kept.linked.rows (granule_at k.rows x.row) c.row).1 (kept.known m.slot c a.there, one_granule k.rows c x clash)

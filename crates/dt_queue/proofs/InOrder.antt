@@ -51,10 +51,10 @@ of_entries key (Some v ∷ rest) p (inr h) = let r = of_entries (key + 1) rest p
 has_cell : (cells : Slab Cell) (p : ℕ × Cell) → Has (entries cells) p ↔ (get cells p.0 ≡ Some p.1)
 has_cell cells p = (
   λ h. let r = of_entries 0 cells.slots p h in
-    let same : r.0 ≡ p.0 = omega (arith, r.1) in
-    subst (λ n. slice_index_or cells.slots n None ≡ Some p.1) same r.2,
+      let same : r.0 ≡ p.0 = omega (arith, r.1) in
+      subst (λ n. slice_index_or cells.slots n None ≡ Some p.1) same r.2,
   λ e. let same : 0 + p.0 ≡ p.0 = omega arith in
-    subst (λ n. Has (entries cells) (n, p.1)) same (entries_has 0 cells.slots p.0 p.1 e),
+      subst (λ n. Has (entries cells) (n, p.1)) same (entries_has 0 cells.slots p.0 p.1 e),
 )
 
 slots_rise : (key : ℕ) (slots : List (Option Cell)) → EachThen (λ (p q : ℕ × Cell). p.0 < q.0) (entries_from key slots)

@@ -1,5 +1,6 @@
 -- How lanes follow the cells: a mark is added where a cell is, and taken out where it is taken out.
-use Rattle.std.proofs.Common.{◌≡◌, ◌≢◌, ◌⊎◌, ◌↔◌, ℕ, zero, suc, ◌+◌, ◌<◌, ◌≤◌, ◌^◌, Bool, true, false, not, ◌==◌, List, [], ◌∷◌, ◌++◌, length, get_or, slice_index_or, Option, Some, None, Result, Ok, Err, OnOk, OnErr, refl, ap, sym, subst, inl, inr, arith, ◌∙◌, length-append}
+use Rattle.std.proofs.Common.{◌≡◌, ◌≢◌, ◌⊎◌, ◌↔◌, ℕ, zero, suc, ◌+◌, ◌<◌, ◌≤◌, ◌^◌, Bool, true, false, not, ◌==◌, List, [], ◌∷◌, ◌++◌}
+use Rattle.std.proofs.Common.{length, get_or, slice_index_or, Option, Some, None, Result, Ok, Err, OnOk, OnErr, refl, ap, sym, subst, inl, inr, arith, ◌∙◌, length-append}
 use Rattle.std.specs.List.{filter}
 use Rattle.slab.specs.Slab.{Slab, Updates, get}
 use Rattle.dt_lists.specs.Lists.{AllIn, AnyIn, EachThen, Has, IsFront}
@@ -83,9 +84,10 @@ lane_less a b P ms slot c l alone there up = record {
   numbered = filter_each (λ m k. m.number < k.number) (λ m. not (m.number == c.number)) ms l.numbered;
   members = λ m. (
     λ h. let both = has_of_filtered (λ (k : Mark). not (k.number == c.number)) ms m h in
-      let r = (l.members m).0 both.0 in
-      (r.0, up.others m.slot (λ s. differs m both.1 (number m r.0 s r.1 r.3)) ∙ r.1, r.2, r.3),
-    λ r. has_filter (λ (k : Mark). not (k.number == c.number)) ms m ((l.members m).1 (r.0, old m r.0 r.1, r.2, r.3)) (passes m (λ e. apart m r.0 r.1 (alone m.slot slot r.0 c (old m r.0 r.1) there (sym (ap (λ (k : Mark). k.number) r.3) ∙ e)))),
+        let r = (l.members m).0 both.0 in
+        (r.0, up.others m.slot (λ s. differs m both.1 (number m r.0 s r.1 r.3)) ∙ r.1, r.2, r.3),
+    λ r. has_filter (λ (k : Mark). not (k.number == c.number)) ms m ((l.members m).1 (r.0, old m r.0 r.1, r.2, r.3))
+        (passes m (λ e. apart m r.0 r.1 (alone m.slot slot r.0 c (old m r.0 r.1) there (sym (ap (λ (k : Mark). k.number) r.3) ∙ e)))),
   );
 }
   where
@@ -161,8 +163,8 @@ kept_same k n kept linked keeps cells next lanes = record {
   alone = λ s t c d e f g. kept.alone s t c d (sym (cells s) ∙ e) (sym (cells t) ∙ f) g;
   known = λ s c e. let lt = kept.known s c (sym (cells s) ∙ e) in omega (arith, lt, front_length _ _ keeps.names);
   lanes = λ m p. subst (IsLane n.cells (IsInLane n.rows m p)) (sym (lanes m p))
-    (lane_as k.cells n.cells (IsInLane n.rows m p) (lane k m p) cells
-    (lane_map k.cells (IsInLane k.rows m p) (IsInLane n.rows m p) (lane k m p) (moved m p) (kept.lanes m p)));
+      (lane_as k.cells n.cells (IsInLane n.rows m p) (lane k m p) cells
+      (lane_map k.cells (IsInLane k.rows m p) (IsInLane n.rows m p) (lane k m p) (moved m p) (kept.lanes m p)));
 }
   where
     moved : (m : Mode) (p s : ℕ) (c : Cell) → get k.cells s ≡ Some c → IsInLane k.rows m p c ↔ IsInLane n.rows m p c
@@ -214,18 +216,18 @@ kept_pushed k n slot c kept linked keeps up vacant number next within row change
 
     all_below : (m : Mode) (p : ℕ) → AllIn (λ (x : Mark). x.number < c.number) (lane k m p)
     all_below m p = all_put _ (lane k m p) (λ x h. let r = ((kept.lanes m p).members x).0 h in
-      let v : x.number ≡ r.0.number = ap (λ (y : Mark). y.number) r.3 in
-      omega (arith, v, (kept.counted x.slot r.0 r.1).1, number))
+        let v : x.number ≡ r.0.number = ap (λ (y : Mark). y.number) r.3 in
+        omega (arith, v, (kept.counted x.slot r.0 r.1).1, number))
 
     lanes : (m : Mode) (p : ℕ) → ((m ≡ c.mode) × (p ≡ place_at n.rows c.mode c.row)) ⊎ ¬ ((m ≡ c.mode) × (p ≡ place_at n.rows c.mode c.row)) → IsLane n.cells (IsInLane n.rows m p) (lane n m p)
     lanes m p (inr ne) = subst (IsLane n.cells (IsInLane n.rows m p)) (sym (others m p ne))
-      (lane_same k.cells n.cells (IsInLane n.rows m p) (lane k m p) slot c (had m p) up vacant (λ b. ne (sym b.0, sym b.1 ∙ ap (λ x. place_at n.rows x c.row) (sym b.0))))
+        (lane_same k.cells n.cells (IsInLane n.rows m p) (lane k m p) slot c (had m p) up vacant (λ b. ne (sym b.0, sym b.1 ∙ ap (λ x. place_at n.rows x c.row) (sym b.0))))
     lanes m p (inl b) =
-      subst (λ x. IsLane n.cells (IsInLane n.rows x p) (lane n x p)) (sym b.0)
-      (subst (λ q. IsLane n.cells (IsInLane n.rows c.mode q) (lane n c.mode q)) (sym b.1)
-      (subst (IsLane n.cells (IsInLane n.rows c.mode (place_at n.rows c.mode c.row))) (sym changed)
-      (lane_more k.cells n.cells (IsInLane n.rows c.mode (place_at n.rows c.mode c.row)) (lane k c.mode (place_at n.rows c.mode c.row)) slot c
-      (had c.mode (place_at n.rows c.mode c.row)) up vacant (refl, refl) (all_below c.mode (place_at n.rows c.mode c.row)))))
+        subst (λ x. IsLane n.cells (IsInLane n.rows x p) (lane n x p)) (sym b.0)
+        (subst (λ q. IsLane n.cells (IsInLane n.rows c.mode q) (lane n c.mode q)) (sym b.1)
+        (subst (IsLane n.cells (IsInLane n.rows c.mode (place_at n.rows c.mode c.row))) (sym changed)
+        (lane_more k.cells n.cells (IsInLane n.rows c.mode (place_at n.rows c.mode c.row)) (lane k c.mode (place_at n.rows c.mode c.row)) slot c
+        (had c.mode (place_at n.rows c.mode c.row)) up vacant (refl, refl) (all_below c.mode (place_at n.rows c.mode c.row)))))
 
 -- a cell was taken out, and its mark out of its lane
 pub kept_removed : (k n : Kept) (slot : ℕ) (c : Cell) → AreQueuesKept k → n.rows ≡ k.rows → get k.cells slot ≡ Some c → Updates k.cells n.cells slot None → n.next_number ≡ k.next_number
@@ -246,13 +248,13 @@ kept_removed k n slot c kept rows there up next changed others = record {
 
     lanes : (m : Mode) (p : ℕ) → ((m ≡ c.mode) × (p ≡ place_at k.rows c.mode c.row)) ⊎ ¬ ((m ≡ c.mode) × (p ≡ place_at k.rows c.mode c.row)) → IsLane n.cells (IsInLane k.rows m p) (lane n m p)
     lanes m p (inr ne) = subst (IsLane n.cells (IsInLane k.rows m p)) (sym (others m p ne))
-      (lane_kept k.cells n.cells (IsInLane k.rows m p) (lane k m p) slot c (kept.lanes m p) there (λ b. ne (sym b.0, sym b.1 ∙ ap (λ x. place_at k.rows x c.row) (sym b.0))) up)
+        (lane_kept k.cells n.cells (IsInLane k.rows m p) (lane k m p) slot c (kept.lanes m p) there (λ b. ne (sym b.0, sym b.1 ∙ ap (λ x. place_at k.rows x c.row) (sym b.0))) up)
     lanes m p (inl b) =
-      subst (λ x. IsLane n.cells (IsInLane k.rows x p) (lane n x p)) (sym b.0)
-      (subst (λ q. IsLane n.cells (IsInLane k.rows c.mode q) (lane n c.mode q)) (sym b.1)
-      (subst (IsLane n.cells (IsInLane k.rows c.mode (place_at k.rows c.mode c.row))) (sym changed)
-      (lane_less k.cells n.cells (IsInLane k.rows c.mode (place_at k.rows c.mode c.row)) (lane k c.mode (place_at k.rows c.mode c.row)) slot c
-      (kept.lanes c.mode (place_at k.rows c.mode c.row)) kept.alone there up)))
+        subst (λ x. IsLane n.cells (IsInLane k.rows x p) (lane n x p)) (sym b.0)
+        (subst (λ q. IsLane n.cells (IsInLane k.rows c.mode q) (lane n c.mode q)) (sym b.1)
+        (subst (IsLane n.cells (IsInLane k.rows c.mode (place_at k.rows c.mode c.row))) (sym changed)
+        (lane_less k.cells n.cells (IsInLane k.rows c.mode (place_at k.rows c.mode c.row)) (lane k c.mode (place_at k.rows c.mode c.row)) slot c
+        (kept.lanes c.mode (place_at k.rows c.mode c.row)) kept.alone there up)))
 
 -- ---- steps of the code
 
@@ -353,12 +355,11 @@ push_steps k mid marked n slot c kept linked keeps cells lanes change rows same 
     let moved : n.rows ≡ mid.rows = rows ∙ change.rows in
     let old : (s : ℕ) → get marked.cells s ≡ get k.cells s = λ s. ap (λ x. get x s) change.cells ∙ cells s in
     let updates : Updates k.cells n.cells slot (Some c) = record { changed = up.changed; others = λ s ne. up.others s ne ∙ old s } in
-    let empty : get k.cells slot ≡ None = sym (old slot) ∙ vacant in
-    (
+    let empty : get k.cells slot ≡ None = sym (old slot) ∙ vacant in (
       kept_pushed k n slot c kept (subst AreRowsLinked (sym moved) linked) (subst (KeepsRows k.rows) (sym moved) keeps) updates empty number next within (subst (λ (r : Rows). c.row < length r.names.keys) (sym moved) row)
-        (subst (λ (r : Rows). lane n c.mode (place_at r c.mode c.row) ≡ lane k c.mode (place_at r c.mode c.row) ++ mark_of slot c ∷ []) (sym moved)
+          (subst (λ (r : Rows). lane n c.mode (place_at r c.mode c.row) ≡ lane k c.mode (place_at r c.mode c.row) ++ mark_of slot c ∷ []) (sym moved)
           (same c.mode (place_at mid.rows c.mode c.row) ∙ change.changed ∙ ap (λ l. l ++ mark_of slot c ∷ []) (lanes c.mode (place_at mid.rows c.mode c.row))))
-        (λ m p ne. same m p ∙ change.others m p (λ b. ne (b.0, b.1 ∙ ap (λ (r : Rows). place_at r c.mode c.row) (sym moved))) ∙ lanes m p),
+          (λ m p ne. same m p ∙ change.others m p (λ b. ne (b.0, b.1 ∙ ap (λ (r : Rows). place_at r c.mode c.row) (sym moved))) ∙ lanes m p),
       updates,
       empty,
     )

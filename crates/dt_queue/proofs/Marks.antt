@@ -144,7 +144,8 @@ none_from n (x ∷ xs) (suc p) ends le k (inr h) = none_from n xs p (record { wi
 pub last_below : (n : ℕ) (ms : List Mark) (p : ℕ) (d : Mark) → HasRisingNumbers ms → EndsBelow n ms (suc p)
     → ((slice_index_or ms p d).number < n) × ((k : Mark) → Has ms k → k.number < n → k.number ≤ (slice_index_or ms p d).number)
 last_below n [] p d num ends = absurd (omega (arith, ends.within))
-last_below n (x ∷ xs) zero d num ends = (ends.lesser.0, λ k h lt. elim h [ inl e ↦ subst (λ (y : Mark). y.number ≤ x.number) e (omega arith) | inr g ↦ absurd (omega (arith, lt, all_get (λ y. n ≤ y.number) xs ends.others k g)) ])
+last_below n (x ∷ xs) zero d num ends =
+    (ends.lesser.0, λ k h lt. elim h [ inl e ↦ subst (λ (y : Mark). y.number ≤ x.number) e (omega arith) | inr g ↦ absurd (omega (arith, lt, all_get (λ y. n ≤ y.number) xs ends.others k g)) ])
 last_below n (x ∷ xs) (suc p) d num ends =
     let rest : EndsBelow n xs (suc p) = record { within = omega (arith, ends.within); lesser = ends.lesser.1; others = ends.others } in
     let later = last_below n xs p d num.1 rest in
@@ -201,7 +202,7 @@ between_before low high ms p ends = filter_out (is_between low high) (take p ms)
 -- one more mark between the two
 between_more : (low high : ℕ) (ms : List Mark) (p : ℕ) (d : Mark) → p < length ms → AllIn (λ m. low + 1 ≤ m.number) (drop p ms) → (slice_index_or ms p d).number < high
     → (filter (is_between low high) (take (suc p) ms) ≡ filter (is_between low high) (take p ms) ++ slice_index_or ms p d ∷ [])
-        × AllIn (λ m. low + 1 ≤ m.number) (drop (suc p) ms)
+    × AllIn (λ m. low + 1 ≤ m.number) (drop (suc p) ms)
 between_more low high [] p d lt all less = absurd (omega arith)
 between_more low high (x ∷ xs) zero d lt all less = (by (is_between low high x) (between_true low high x (omega (arith, all.0), less)), all.1)
   where
@@ -212,13 +213,13 @@ between_more low high (x ∷ xs) (suc p) d lt all less = let rest = between_more
   where
     by : (t : Bool) → filter (is_between low high) (take (suc p) xs) ≡ filter (is_between low high) (take p xs) ++ slice_index_or xs p d ∷ []
         → cond t (x ∷ filter (is_between low high) (take (suc p) xs)) (filter (is_between low high) (take (suc p) xs))
-            ≡ cond t (x ∷ filter (is_between low high) (take p xs)) (filter (is_between low high) (take p xs)) ++ slice_index_or xs p d ∷ []
+        ≡ cond t (x ∷ filter (is_between low high) (take p xs)) (filter (is_between low high) (take p xs)) ++ slice_index_or xs p d ∷ []
     by true e = ap (λ l. x ∷ l) e
     by false e = e
 
 pub between_step : (low high : ℕ) (ms : List Mark) (p : ℕ) (d : Mark) → p < length ms → AllIn (λ m. low + 1 ≤ m.number) (drop p ms) → (slice_index_or ms p d).number < high
     → (filter (is_between low high) (take (p + 1) ms) ≡ filter (is_between low high) (take p ms) ++ slice_index_or ms p d ∷ [])
-        × AllIn (λ m. low + 1 ≤ m.number) (drop (p + 1) ms)
+    × AllIn (λ m. low + 1 ≤ m.number) (drop (p + 1) ms)
 between_step low high ms p d lt all less = rw (add-one p) (between_more low high ms p d lt all less)
 
 -- from a mark on that has not a lesser number than the higher one none lies between the two
@@ -257,8 +258,7 @@ pub first_is : (low high : ℕ) (ms : List Mark) (p : ℕ) (m : Mark) → HasRis
     → IsFirstBetween low high ms (Some m)
 first_is low high ms p m num ends lt is less =
     let found = first_from (low + 1) ms p m num ends lt in
-    let here : low + 1 ≤ m.number = subst (λ (k : Mark). low + 1 ≤ k.number) (sym is) found.0 in
-    (
+    let here : low + 1 ≤ m.number = subst (λ (k : Mark). low + 1 ≤ k.number) (sym is) found.0 in (
       subst (Has ms) (sym is) (has_index ms p m lt),
       (omega (arith, here), less),
       λ k h b. subst (λ (x : Mark). x.number ≤ k.number) (sym is) (found.1 k h (omega (arith, b.0))),
@@ -278,8 +278,7 @@ pub last_is : (low high : ℕ) (ms : List Mark) (q p : ℕ) (m : Mark) → HasRi
     → IsLastBetween low high ms (Some m)
 last_is low high ms q p m num ends same is more =
     let ends' : EndsBelow high ms (suc p) = subst (EndsBelow high ms) same ends in
-    let found = last_below high ms p m num ends' in
-    (
+    let found = last_below high ms p m num ends' in (
       subst (Has ms) (sym is) (has_index ms p m (omega (arith, ends'.within))),
       (more, subst (λ (k : Mark). k.number < high) (sym is) found.0),
       λ k h b. subst (λ (x : Mark). k.number ≤ x.number) (sym is) (found.1 k h b.1),

@@ -1,5 +1,6 @@
 -- The marks of the nearest cells before a cell that clash with it, as they are found in the lanes.
-use Rattle.std.proofs.Common.{◌≡◌, ◌≢◌, ◌⊎◌, ◌↔◌, ℕ, zero, suc, ◌<◌, ◌≤◌, Bool, true, false, List, [], ◌∷◌, length, get_or, Option, Some, None, option_to_list, refl, ap, sym, subst, inl, inr, arith, ◌∙◌}
+use Rattle.std.proofs.Common.{◌≡◌, ◌≢◌, ◌⊎◌, ◌↔◌, ℕ, zero, suc, ◌<◌, ◌≤◌, Bool, true, false, List, []}
+use Rattle.std.proofs.Common.{◌∷◌, length, get_or, Option, Some, None, option_to_list, refl, ap, sym, subst, inl, inr, arith, ◌∙◌}
 use Rattle.std.specs.List.{filter}
 use Rattle.slab.specs.Slab.{get}
 use Rattle.dt_lists.specs.Lists.{AllIn, AnyIn, Has}
@@ -14,16 +15,17 @@ use Rattle.dt_queue.specs.Kept.{CellsClash, AreQueuesKept, IsNearInMode, IsNearM
 use Rattle.dt_queue.specs.Lanes.{AreMarks, HasRisingNumbers, IsBetween, IsLastBetween, IsNearInRow, NoneBetween, is_between, number_or}
 use Rattle.dt_queue.specs.Rows.{granule_at, rows_at}
 use Rattle.dt_queue.proofs.NearMarks.{IsRow, in_between, near_reads, near_write, row_of, same_mark, trichotomy}
-use Rattle.dt_queue.proofs.CellUses.{InUseOf, IsMarkOf, IsPart, apart_lanes, cell_of, clash_turned, clash_uses, in_lane, lane_tells, number_of, on_one_row, one_cell, one_granule, part_of, reads_agree, taker_of, use_clashes, whole_clashes, write_clashes}
+use Rattle.dt_queue.proofs.CellUses.{InUseOf, IsMarkOf, IsPart, apart_lanes, cell_of, clash_turned, clash_uses, in_lane, lane_tells}
+use Rattle.dt_queue.proofs.CellUses.{number_of, on_one_row, one_cell, one_granule, part_of, reads_agree, taker_of, use_clashes, whole_clashes, write_clashes}
 
 -- ---- a row where no mark is nearest has none
 
 either_between : (low high : ℕ) (m : Mark) → IsBetween low high m ⊎ ¬ (IsBetween low high m)
 either_between low high m = elim (trichotomy low m.number) [
   | inl a ↦ elim (trichotomy m.number high) [
-      | inl b ↦ inl (a, b)
-      | inr b ↦ inr (λ c. elim b [ inl e ↦ omega (arith, e, c.1) | inr lt ↦ omega (arith, lt, c.1) ])
-    ]
+    | inl b ↦ inl (a, b)
+    | inr b ↦ inr (λ c. elim b [ inl e ↦ omega (arith, e, c.1) | inr lt ↦ omega (arith, lt, c.1) ])
+  ]
   | inr a ↦ inr (λ c. elim a [ inl e ↦ omega (arith, e, c.0) | inr lt ↦ omega (arith, lt, c.0) ])
 ]
 
@@ -72,9 +74,9 @@ clear_row : (k : Kept) → AreQueuesKept k → (x : Cell) (row low : ℕ) (m : M
     → (j : Mark) (d : Cell) → IsMarkOf k j d → Has (lane k Read row) j ⊎ Has (lane k Write row) j → m.number < j.number → j.number < x.number → ¬ (CellsClash k.rows c d)
 clear_row k kept x row low m c a near j d b used lt le clash = elim near.1 [
   | inl read ↦ elim used [
-      | inl r ↦ reads_agree k.rows c d (lane_tells k kept Read row m c a read.0).0 (lane_tells k kept Read row j d b r).0 clash
-      | inr w ↦ read.1 j w (lt, le)
-    ]
+    | inl r ↦ reads_agree k.rows c d (lane_tells k kept Read row m c a read.0).0 (lane_tells k kept Read row j d b r).0 clash
+    | inr w ↦ read.1 j w (lt, le)
+  ]
   | inr write ↦ elim used [ inl r ↦ write.2 j r (lt, le) | inr w ↦ write.1 j w (lt, le) ]
 ]
 
@@ -86,8 +88,7 @@ pub near_is_clear : (mode : Mode) (k : Kept) → AreQueuesKept k → (x : Cell) 
 near_is_clear Read k kept x low m c a near = (near.0, near.1, λ j d b used lt le clash. near.2 j used (lt, le))
 near_is_clear Write k kept x low m c a near = (use_of_row _ _ _ _ m near, near.0, λ j d b used lt le clash. clear_row k kept x x.row low m c a near j d b used lt le clash)
 near_is_clear Whole k kept x low m c a near =
-    let r = any_get (λ row. IsNearInRow (lane k Read row) (lane k Write row) low x.number m) (rows_at k.rows (granule_at k.rows x.row)) near in
-    (
+    let r = any_get (λ row. IsNearInRow (lane k Read row) (lane k Write row) low x.number m) (rows_at k.rows (granule_at k.rows x.row)) near in (
       any_put (λ row. Has (lane k Read row) m ⊎ Has (lane k Write row) m) (rows_at k.rows (granule_at k.rows x.row)) r.0 r.1 (use_of_row _ _ _ _ m r.2),
       r.2.0,
       λ j d b used lt le clash. clear r.0 r.2 j d b (any_get (λ row. Has (lane k Read row) j ⊎ Has (lane k Write row) j) (rows_at k.rows (granule_at k.rows x.row)) used) lt le clash,
@@ -96,10 +97,10 @@ near_is_clear Whole k kept x low m c a near =
     clear : (row : ℕ) → IsNearInRow (lane k Read row) (lane k Write row) low x.number m → (j : Mark) (d : Cell) → IsMarkOf k j d
         → (s : ℕ) × Has (rows_at k.rows (granule_at k.rows x.row)) s × (Has (lane k Read s) j ⊎ Has (lane k Write s) j) → m.number < j.number → j.number < x.number → ¬ (CellsClash k.rows c d)
     clear row near j d b s lt le clash =
-      let p = part_of k kept row m c a (use_of_row _ _ _ _ m near) in
-      let q = part_of k kept s.0 j d b s.2 in
-      let one : s.0 ≡ row = sym q.1 ∙ sym (on_one_row k.rows c d p.0 q.0 clash) ∙ p.1 in
-      clear_row k kept x row low m c a near j d b (subst (λ r. Has (lane k Read r) j ⊎ Has (lane k Write r) j) one s.2) lt le clash
+        let p = part_of k kept row m c a (use_of_row _ _ _ _ m near) in
+        let q = part_of k kept s.0 j d b s.2 in
+        let one : s.0 ≡ row = sym q.1 ∙ sym (on_one_row k.rows c d p.0 q.0 clash) ∙ p.1 in
+        clear_row k kept x row low m c a near j d b (subst (λ r. Has (lane k Read r) j ⊎ Has (lane k Write r) j) one s.2) lt le clash
 
 -- and the other way round
 near_in_row : (k : Kept) → AreQueuesKept k → (x : Cell) (row low : ℕ) (m : Mark) (c : Cell) → IsMarkOf k m c → Has (lane k Read row) m ⊎ Has (lane k Write row) m → IsBetween low x.number m
@@ -109,16 +110,16 @@ near_in_row k kept x row low m c a (inl r) b clear = (b, inl (r, λ j w e. meets
   where
     meets : (j : Mark) → Has (lane k Write row) j → IsBetween m.number x.number j → ⊥
     meets j w e =
-      let d = cell_of k kept Write row j w in
-      let q = lane_tells k kept Read row m c a r in
-      clear j d.0 d.1 (inr w) e.0 e.1 (clash_turned k.rows d.0 c (write_clashes k.rows d.0 c d.2.0 (d.2.1 ∙ sym q.1)))
+        let d = cell_of k kept Write row j w in
+        let q = lane_tells k kept Read row m c a r in
+        clear j d.0 d.1 (inr w) e.0 e.1 (clash_turned k.rows d.0 c (write_clashes k.rows d.0 c d.2.0 (d.2.1 ∙ sym q.1)))
 near_in_row k kept x row low m c a (inr w) b clear = (b, inr (w, (λ j h e. meets Write j h (inr h) e), (λ j h e. meets Read j h (inl h) e)))
   where
     meets : (mode : Mode) (j : Mark) → Has (lane k mode row) j → Has (lane k Read row) j ⊎ Has (lane k Write row) j → IsBetween m.number x.number j → ⊥
     meets mode j h used e =
-      let d = part_cell used in
-      let q = lane_tells k kept Write row m c a w in
-      clear j d.0 d.1 used e.0 e.1 (write_clashes k.rows c d.0 q.0 (q.1 ∙ sym d.2))
+        let d = part_cell used in
+        let q = lane_tells k kept Write row m c a w in
+        clear j d.0 d.1 used e.0 e.1 (write_clashes k.rows c d.0 q.0 (q.1 ∙ sym d.2))
       where
         part_cell : Has (lane k Read row) j ⊎ Has (lane k Write row) j → (d : Cell) × IsMarkOf k j d × (d.row ≡ row)
         part_cell (inl g) = let d = cell_of k kept Read row j g in (d.0, d.1, d.2.1)
@@ -130,9 +131,9 @@ clear_is_near Read k kept x low m c a used b clear = (used, b, λ j w e. meets j
   where
     meets : (j : Mark) → Has (lane k Write x.row) j → IsBetween m.number x.number j → ⊥
     meets j w e =
-      let d = cell_of k kept Write x.row j w in
-      let q = lane_tells k kept Write x.row m c a used in
-      clear j d.0 d.1 w e.0 e.1 (write_clashes k.rows c d.0 q.0 (q.1 ∙ sym d.2.1))
+        let d = cell_of k kept Write x.row j w in
+        let q = lane_tells k kept Write x.row m c a used in
+        clear j d.0 d.1 w e.0 e.1 (write_clashes k.rows c d.0 q.0 (q.1 ∙ sym d.2.1))
 clear_is_near Write k kept x low m c a used b clear = near_in_row k kept x x.row low m c a used b clear
 clear_is_near Whole k kept x low m c a used b clear =
     let rows = rows_at k.rows (granule_at k.rows x.row) in
@@ -188,16 +189,16 @@ module _ (k : Kept) (kept : AreQueuesKept k) (x : Cell) (o : Option Mark) (last 
       by : (o : Option Mark) → IsLastBetween 0 x.number taken o → number_or o 0 < m.number
       by None l = positive
       by (Some w) l =
-        let d = cell_of k kept Whole (granule_at k.rows x.row) w l.0 in
-        elim (trichotomy w.number m.number) [
-          | inl less ↦ less
-          | inr more ↦ absurd (elim more [
+          let d = cell_of k kept Whole (granule_at k.rows x.row) w l.0 in
+          elim (trichotomy w.number m.number) [
+            | inl less ↦ less
+            | inr more ↦ absurd (elim more [
               | inl e ↦ differ d.0 d.2.0 (one_cell k kept w m d.0 c d.1 a e)
               | inr gt ↦ free w.slot d.0 d.1.there (up d.0 d.1 gt) (below d.0 d.1 l.1.1)
                   (clash_turned k.rows d.0 c (whole_clashes k.rows d.0 c d.2.0 (d.2.1 ∙ sym (one_granule k.rows c x clash))))
                   (whole_clashes k.rows d.0 x d.2.0 d.2.1)
             ])
-        ]
+          ]
         where
           differ : (d : Cell) → d.mode ≡ Whole → d ≡ c → ⊥
           differ d e f = no_part (sym part ∙ ap (λ (y : Cell). is_whole y.mode) (sym f) ∙ ap is_whole e)
@@ -238,11 +239,11 @@ module _ (k : Kept) (kept : AreQueuesKept k) (x : Cell) (o : Option Mark) (last 
       free : (c : Cell) → IsMarkOf k m c → number_or o 0 < m.number → IsClear x.mode k x m c
           → (t : ℕ) (d : Cell) → get k.cells t ≡ Some d → c.number < d.number → d.number < x.number → CellsClash k.rows c d → ¬ (CellsClash k.rows d x)
       free c a low clear t d e lt le clash other =
-        let b : IsMarkOf k (mark_of t d) d = record { there = e; is = refl } in
-        elim (clash_uses x.mode k kept x refl (mark_of t d) d b other d.mode refl) [
-          | inl h ↦ past (not_later (mark_of t d) d b h le)
-          | inr used ↦ clear (mark_of t d) d b used (omega (arith, lt, number_of k m c a)) le clash
-        ]
+          let b : IsMarkOf k (mark_of t d) d = record { there = e; is = refl } in
+          elim (clash_uses x.mode k kept x refl (mark_of t d) d b other d.mode refl) [
+            | inl h ↦ past (not_later (mark_of t d) d b h le)
+            | inr used ↦ clear (mark_of t d) d b used (omega (arith, lt, number_of k m c a)) le clash
+          ]
         where
           past : d.number ≤ number_or o 0 → ⊥
           past h = omega (arith, h, low, lt, number_of k m c a)
@@ -273,15 +274,15 @@ module _ (k : Kept) (kept : AreQueuesKept k) (x : Cell) (o : Option Mark) (last 
     where
       taker : (m : Mark) → IsNearMark k x m → Has taken m → ⊥
       taker m n h =
-        let c = n.0 in
-        let a : IsMarkOf k m c = record { there = n.1; is = n.2 } in
-        let near = near_of_mode r ((marks.members r).0 here) in
-        let d = near.0 in
-        let b : IsMarkOf k r d = record { there = near.1; is = near.2 } in
-        let clear = near_is_clear x.mode k kept x (number_or o 0) r d b ((marks.members r).0 here) in
-        let t = taker_of k kept x m c a h in
-        n.5 r.slot d near.1 (up c a d b (not_later m c a h (omega (arith, n.3, number_of k m c a))) clear.1.0) near.3
-        (whole_clashes k.rows c d t.0 (t.1 ∙ sym (one_granule k.rows d x near.4))) near.4
+          let c = n.0 in
+          let a : IsMarkOf k m c = record { there = n.1; is = n.2 } in
+          let near = near_of_mode r ((marks.members r).0 here) in
+          let d = near.0 in
+          let b : IsMarkOf k r d = record { there = near.1; is = near.2 } in
+          let clear = near_is_clear x.mode k kept x (number_or o 0) r d b ((marks.members r).0 here) in
+          let t = taker_of k kept x m c a h in
+          n.5 r.slot d near.1 (up c a d b (not_later m c a h (omega (arith, n.3, number_of k m c a))) clear.1.0) near.3
+          (whole_clashes k.rows c d t.0 (t.1 ∙ sym (one_granule k.rows d x near.4))) near.4
         where
           up : (c : Cell) → IsMarkOf k m c → (d : Cell) → IsMarkOf k r d → m.number ≤ number_or o 0 → number_or o 0 < r.number → c.number < d.number
           up c a d b le lt = omega (arith, le, lt, number_of k m c a, number_of k r d b)
@@ -306,39 +307,39 @@ module _ (k : Kept) (kept : AreQueuesKept k) (x : Cell) (o : Option Mark) (last 
         where
           near_w : IsNearMark k x w
           near_w =
-            let d = cell_of k kept Whole (granule_at k.rows x.row) w l.0 in
-            (d.0, d.1.there, d.1.is, below d.0 d.1, whole_clashes k.rows d.0 x d.2.0 d.2.1, λ t y e lt le clash other. free d.0 d.1 t y e lt le other)
+              let d = cell_of k kept Whole (granule_at k.rows x.row) w l.0 in
+              (d.0, d.1.there, d.1.is, below d.0 d.1, whole_clashes k.rows d.0 x d.2.0 d.2.1, λ t y e lt le clash other. free d.0 d.1 t y e lt le other)
             where
               below : (d : Cell) → IsMarkOf k w d → d.number < x.number
               below d a = omega (arith, l.1.1, number_of k w d a)
 
               free : (d : Cell) → IsMarkOf k w d → (t : ℕ) (y : Cell) → get k.cells t ≡ Some y → d.number < y.number → y.number < x.number → CellsClash k.rows y x → ⊥
               free d a t y e lt le other =
-                let b : IsMarkOf k (mark_of t y) y = record { there = e; is = refl } in
-                elim (clash_uses x.mode k kept x refl (mark_of t y) y b other y.mode refl) [
-                  | inl h ↦ after (l.2 (mark_of t y) h (omega (arith, lt), le))
-                  | inr used ↦ none (mark_of t y) used (omega (arith, lt, number_of k w d a), le)
-                ]
+                  let b : IsMarkOf k (mark_of t y) y = record { there = e; is = refl } in
+                  elim (clash_uses x.mode k kept x refl (mark_of t y) y b other y.mode refl) [
+                    | inl h ↦ after (l.2 (mark_of t y) h (omega (arith, lt), le))
+                    | inr used ↦ none (mark_of t y) used (omega (arith, lt, number_of k w d a), le)
+                  ]
                 where
                   after : y.number ≤ w.number → ⊥
                   after h = omega (arith, h, lt, number_of k w d a)
 
           is_w : (m : Mark) → IsNearMark k x m → w ≡ m
           is_w m n =
-            let c = n.0 in
-            let a : IsMarkOf k m c = record { there = n.1; is = n.2 } in
-            let h = all m n in
-            let t = taker_of k kept x m c a h in
-            let d = cell_of k kept Whole (granule_at k.rows x.row) w l.0 in
-            let le : m.number ≤ w.number = l.2 m h (positive c a, omega (arith, n.3, number_of k m c a)) in
-            same_mark taken (kept.lanes Whole (granule_at k.rows x.row)).numbered w m l.0 h
-            (elim (trichotomy w.number m.number) [
-              | inl less ↦ absurd (omega (arith, less, le))
-              | inr more ↦ elim more [
+              let c = n.0 in
+              let a : IsMarkOf k m c = record { there = n.1; is = n.2 } in
+              let h = all m n in
+              let t = taker_of k kept x m c a h in
+              let d = cell_of k kept Whole (granule_at k.rows x.row) w l.0 in
+              let le : m.number ≤ w.number = l.2 m h (positive c a, omega (arith, n.3, number_of k m c a)) in
+              same_mark taken (kept.lanes Whole (granule_at k.rows x.row)).numbered w m l.0 h
+              (elim (trichotomy w.number m.number) [
+                | inl less ↦ absurd (omega (arith, less, le))
+                | inr more ↦ elim more [
                   | inl e ↦ e
                   | inr gt ↦ absurd (n.5 w.slot d.0 d.1.there (up c a d.0 d.1 gt) (below d.0 d.1) (whole_clashes k.rows c d.0 t.0 (t.1 ∙ sym d.2.1)) (whole_clashes k.rows d.0 x d.2.0 d.2.1))
                 ]
-            ])
+              ])
             where
               positive : (c : Cell) → IsMarkOf k m c → 0 < m.number
               positive c a = let b = kept.counted m.slot c a.there in omega (arith, b.0, number_of k m c a)

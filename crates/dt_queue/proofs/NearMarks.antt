@@ -1,5 +1,6 @@
 -- What is nearest in a row: of the marks of its reads and writes between two numbers those that one of the two ends waits for.
-use Rattle.std.proofs.Common.{◌≡◌, ◌⊎◌, ◌↔◌, ℕ, zero, suc, ◌+◌, ◌<◌, ◌≤◌, Bool, true, false, cond, nat_lt, List, [], ◌∷◌, ◌++◌, length, get_or, Option, Some, None, option_to_list, is_some}
+use Rattle.std.proofs.Common.{◌≡◌, ◌⊎◌, ◌↔◌, ℕ, zero, suc, ◌+◌, ◌<◌, ◌≤◌, Bool, true, false}
+use Rattle.std.proofs.Common.{cond, nat_lt, List, [], ◌∷◌, ◌++◌, length, get_or, Option, Some, None, option_to_list, is_some}
 use Rattle.std.proofs.Common.{refl, ap, sym, subst, inl, inr, arith, ◌∙◌, length-append}
 use Rattle.std.specs.List.{filter}
 use Rattle.dt_lists.specs.Lists.{AllIn, AnyIn, EachThen, Has}
@@ -106,19 +107,19 @@ near_write reads writes low high (Some w) row last empty = record {
     λ h. elim h [ inl e ↦ subst (IsNearInRow reads writes low high) e near_w | inr g ↦ absurd g ],
     λ near. inl (elim near.1 [
       | inl read ↦ absurd (elim (trichotomy m.number w.number) [
-          | inl less ↦ read.1 w last.0 (less, last.1.1)
-          | inr more ↦ elim more [
-              | inl same ↦ row.apart m w read.0 last.0 same
-              | inr after ↦ none_left m read.0 (after, near.0.1)
-            ]
-        ])
+        | inl less ↦ read.1 w last.0 (less, last.1.1)
+        | inr more ↦ elim more [
+          | inl same ↦ row.apart m w read.0 last.0 same
+          | inr after ↦ none_left m read.0 (after, near.0.1)
+        ]
+      ])
       | inr write ↦ same_mark writes row.writes_numbered w m last.0 write.0 (elim (trichotomy m.number w.number) [
-          | inl less ↦ absurd (write.1 w last.0 (less, last.1.1))
-          | inr more ↦ elim more [
-              | inl same ↦ sym same
-              | inr after ↦ absurd (not_after m after (last.2 m write.0 near.0))
-            ]
-        ])
+        | inl less ↦ absurd (write.1 w last.0 (less, last.1.1))
+        | inr more ↦ elim more [
+          | inl same ↦ sym same
+          | inr after ↦ absurd (not_after m after (last.2 m write.0 near.0))
+        ]
+      ])
     ]),
   );
 }
@@ -174,19 +175,19 @@ next_write reads writes low high None row first empty m = (
 next_write reads writes low high (Some w) row first empty m = (
   λ near. ap Some (elim near.1 [
     | inl read ↦ absurd (elim (trichotomy m.number w.number) [
-        | inl less ↦ empty m read.0 (near.0.0, less)
-        | inr more ↦ elim more [
-            | inl same ↦ row.apart m w read.0 first.0 same
-            | inr after ↦ read.1 w first.0 (first.1.0, after)
-          ]
-      ])
+      | inl less ↦ empty m read.0 (near.0.0, less)
+      | inr more ↦ elim more [
+        | inl same ↦ row.apart m w read.0 first.0 same
+        | inr after ↦ read.1 w first.0 (first.1.0, after)
+      ]
+    ])
     | inr write ↦ same_mark writes row.writes_numbered w m first.0 write.0 (elim (trichotomy m.number w.number) [
-        | inl less ↦ absurd (not_before m less (first.2 m write.0 near.0))
-        | inr more ↦ elim more [
-            | inl same ↦ sym same
-            | inr after ↦ absurd (write.1 w first.0 (first.1.0, after))
-          ]
-      ])
+      | inl less ↦ absurd (not_before m less (first.2 m write.0 near.0))
+      | inr more ↦ elim more [
+        | inl same ↦ sym same
+        | inr after ↦ absurd (write.1 w first.0 (first.1.0, after))
+      ]
+    ])
   ]),
   λ e. subst (IsNextInRow reads writes low high) (of_some e) next_w,
 )
@@ -229,7 +230,8 @@ next_of_one P (Some w) after n exact any first = record {
 
 -- what is known of the marks of a row that are next, as it is searched
 pub next_in_row : (reads writes : List Mark) (low high : ℕ) (after start : ℕ) (w r f : Option Mark) (n : Next) → IsRow reads writes → IsFirstBetween low high writes w
-    → IsFirstBetween low (number_or w high) reads r → is_some r ≡ true → low ≤ start → after ≤ start → ((start ≡ low) ⊎ (start ≡ after)) → IsFirstBetween start (number_or w high) reads f → n.any ≡ true → n.first ≡ f
+    → IsFirstBetween low (number_or w high) reads r → is_some r ≡ true → low ≤ start → after ≤ start
+    → ((start ≡ low) ⊎ (start ≡ after)) → IsFirstBetween start (number_or w high) reads f → n.any ≡ true → n.first ≡ f
     → IsKnownNext (IsNextInRow reads writes low high) after n
 next_in_row reads writes low high after start w None f n row first read there ge more one found any is = cc
 next_in_row reads writes low high after start w (Some r) f n row first read there ge more one found any is = record {
@@ -279,8 +281,7 @@ pub added_write : (old some new reads writes : List Mark) (low high n : ℕ) (w 
     → some ≡ old ++ filter (is_between n high) reads → length some ≡ length old → new ≡ some ++ option_to_list w → AddsMarks (IsNearInRow reads writes low high) old new
 added_write old some new reads writes low high n w row last is items same more =
     let items' : some ≡ old ++ filter (is_between (number_or w low) high) reads = subst (λ k. some ≡ old ++ filter (is_between k high) reads) is items in
-    let empty = none_more old (filter (is_between (number_or w low) high) reads) (ap length (sym items') ∙ same) in
-    (
+    let empty = none_more old (filter (is_between (number_or w low) high) reads) (ap length (sym items') ∙ same) in (
       option_to_list w,
       more ∙ ap (λ l. l ++ option_to_list w) (items' ∙ ap (λ l. old ++ l) empty ∙ append-nil old),
       near_write reads writes low high w row last empty,

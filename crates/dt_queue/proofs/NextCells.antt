@@ -1,5 +1,6 @@
 -- The marks of the nearest cells after a cell that clash with it, as they are found in the lanes.
-use Rattle.std.proofs.Common.{◌≡◌, ◌≢◌, ◌⊎◌, ◌↔◌, ℕ, zero, suc, ◌<◌, ◌≤◌, Bool, true, false, List, [], ◌∷◌, length, get_or, Option, Some, None, is_some, refl, ap, sym, subst, inl, inr, arith, ◌∙◌}
+use Rattle.std.proofs.Common.{◌≡◌, ◌≢◌, ◌⊎◌, ◌↔◌, ℕ, zero, suc, ◌<◌, ◌≤◌, Bool, true, false, List, []}
+use Rattle.std.proofs.Common.{◌∷◌, length, get_or, Option, Some, None, is_some, refl, ap, sym, subst, inl, inr, arith, ◌∙◌}
 use Rattle.slab.specs.Slab.{get}
 use Rattle.dt_lists.specs.Lists.{AllIn, AnyIn, Has}
 use Rattle.dt_lists.proofs.Callers.{all_get, any_get, any_put}
@@ -16,16 +17,17 @@ use Rattle.dt_queue.specs.Next.{IsFirstAfter, IsKnownNext}
 use Rattle.dt_queue.specs.Rows.{granule_at, rows_at}
 use Rattle.dt_queue.proofs.NearMarks.{IsRow, next_of_one, next_reads, next_write, row_of, same_mark, trichotomy}
 use Rattle.dt_queue.proofs.RowsNear.{next_as}
-use Rattle.dt_queue.proofs.CellUses.{InUseOf, IsMarkOf, IsPart, apart_lanes, cell_of, clash_turned, clash_uses, in_lane, lane_tells, number_of, on_one_row, one_cell, one_granule, part_of, reads_agree, taker_of, use_clashes, whole_clashes, write_clashes}
+use Rattle.dt_queue.proofs.CellUses.{InUseOf, IsMarkOf, IsPart, apart_lanes, cell_of, clash_turned, clash_uses, in_lane, lane_tells}
+use Rattle.dt_queue.proofs.CellUses.{number_of, on_one_row, one_cell, one_granule, part_of, reads_agree, taker_of, use_clashes, whole_clashes, write_clashes}
 
 -- ---- a row where no mark is next has none
 
 either_between : (low high : ℕ) (m : Mark) → IsBetween low high m ⊎ ¬ (IsBetween low high m)
 either_between low high m = elim (trichotomy low m.number) [
   | inl a ↦ elim (trichotomy m.number high) [
-      | inl b ↦ inl (a, b)
-      | inr b ↦ inr (λ c. elim b [ inl e ↦ omega (arith, e, c.1) | inr lt ↦ omega (arith, lt, c.1) ])
-    ]
+    | inl b ↦ inl (a, b)
+    | inr b ↦ inr (λ c. elim b [ inl e ↦ omega (arith, e, c.1) | inr lt ↦ omega (arith, lt, c.1) ])
+  ]
   | inr a ↦ inr (λ c. elim a [ inl e ↦ omega (arith, e, c.0) | inr lt ↦ omega (arith, lt, c.0) ])
 ]
 
@@ -65,9 +67,9 @@ clear_row : (k : Kept) → AreQueuesKept k → (x : Cell) (row high : ℕ) (m : 
     → (j : Mark) (d : Cell) → IsMarkOf k j d → Has (lane k Read row) j ⊎ Has (lane k Write row) j → x.number < j.number → j.number < m.number → ¬ (CellsClash k.rows d c)
 clear_row k kept x row high m c a near j d b used lt le clash = elim near.1 [
   | inl read ↦ elim used [
-      | inl r ↦ reads_agree k.rows d c (lane_tells k kept Read row j d b r).0 (lane_tells k kept Read row m c a read.0).0 clash
-      | inr w ↦ read.1 j w (lt, le)
-    ]
+    | inl r ↦ reads_agree k.rows d c (lane_tells k kept Read row j d b r).0 (lane_tells k kept Read row m c a read.0).0 clash
+    | inr w ↦ read.1 j w (lt, le)
+  ]
   | inr write ↦ elim used [ inl r ↦ write.2 j r (lt, le) | inr w ↦ write.1 j w (lt, le) ]
 ]
 
@@ -79,8 +81,7 @@ next_is_clear : (mode : Mode) (k : Kept) → AreQueuesKept k → (x : Cell) (hig
 next_is_clear Read k kept x high m c a near = (near.0, near.1, λ j d b used lt le clash. near.2 j used (lt, le))
 next_is_clear Write k kept x high m c a near = (use_of_row _ _ _ _ m near, near.0, λ j d b used lt le clash. clear_row k kept x x.row high m c a near j d b used lt le clash)
 next_is_clear Whole k kept x high m c a near =
-    let r = any_get (λ row. IsNextInRow (lane k Read row) (lane k Write row) x.number high m) (rows_at k.rows (granule_at k.rows x.row)) near in
-    (
+    let r = any_get (λ row. IsNextInRow (lane k Read row) (lane k Write row) x.number high m) (rows_at k.rows (granule_at k.rows x.row)) near in (
       any_put (λ row. Has (lane k Read row) m ⊎ Has (lane k Write row) m) (rows_at k.rows (granule_at k.rows x.row)) r.0 r.1 (use_of_row _ _ _ _ m r.2),
       r.2.0,
       λ j d b used lt le clash. clear r.0 r.2 j d b (any_get (λ row. Has (lane k Read row) j ⊎ Has (lane k Write row) j) (rows_at k.rows (granule_at k.rows x.row)) used) lt le clash,
@@ -89,10 +90,10 @@ next_is_clear Whole k kept x high m c a near =
     clear : (row : ℕ) → IsNextInRow (lane k Read row) (lane k Write row) x.number high m → (j : Mark) (d : Cell) → IsMarkOf k j d
         → (s : ℕ) × Has (rows_at k.rows (granule_at k.rows x.row)) s × (Has (lane k Read s) j ⊎ Has (lane k Write s) j) → x.number < j.number → j.number < m.number → ¬ (CellsClash k.rows d c)
     clear row near j d b s lt le clash =
-      let p = part_of k kept row m c a (use_of_row _ _ _ _ m near) in
-      let q = part_of k kept s.0 j d b s.2 in
-      let one : s.0 ≡ row = sym q.1 ∙ on_one_row k.rows d c q.0 p.0 clash ∙ p.1 in
-      clear_row k kept x row high m c a near j d b (subst (λ r. Has (lane k Read r) j ⊎ Has (lane k Write r) j) one s.2) lt le clash
+        let p = part_of k kept row m c a (use_of_row _ _ _ _ m near) in
+        let q = part_of k kept s.0 j d b s.2 in
+        let one : s.0 ≡ row = sym q.1 ∙ on_one_row k.rows d c q.0 p.0 clash ∙ p.1 in
+        clear_row k kept x row high m c a near j d b (subst (λ r. Has (lane k Read r) j ⊎ Has (lane k Write r) j) one s.2) lt le clash
 
 -- and the other way round
 next_in_row : (k : Kept) → AreQueuesKept k → (x : Cell) (row high : ℕ) (m : Mark) (c : Cell) → IsMarkOf k m c → Has (lane k Read row) m ⊎ Has (lane k Write row) m → IsBetween x.number high m
@@ -102,16 +103,16 @@ next_in_row k kept x row high m c a (inl r) b clear = (b, inl (r, λ j w e. meet
   where
     meets : (j : Mark) → Has (lane k Write row) j → IsBetween x.number m.number j → ⊥
     meets j w e =
-      let d = cell_of k kept Write row j w in
-      let q = lane_tells k kept Read row m c a r in
-      clear j d.0 d.1 (inr w) e.0 e.1 (write_clashes k.rows d.0 c d.2.0 (d.2.1 ∙ sym q.1))
+        let d = cell_of k kept Write row j w in
+        let q = lane_tells k kept Read row m c a r in
+        clear j d.0 d.1 (inr w) e.0 e.1 (write_clashes k.rows d.0 c d.2.0 (d.2.1 ∙ sym q.1))
 next_in_row k kept x row high m c a (inr w) b clear = (b, inr (w, (λ j h e. meets j (inr h) e), (λ j h e. meets j (inl h) e)))
   where
     meets : (j : Mark) → Has (lane k Read row) j ⊎ Has (lane k Write row) j → IsBetween x.number m.number j → ⊥
     meets j used e =
-      let d = part_cell used in
-      let q = lane_tells k kept Write row m c a w in
-      clear j d.0 d.1 used e.0 e.1 (clash_turned k.rows c d.0 (write_clashes k.rows c d.0 q.0 (q.1 ∙ sym d.2)))
+        let d = part_cell used in
+        let q = lane_tells k kept Write row m c a w in
+        clear j d.0 d.1 used e.0 e.1 (clash_turned k.rows c d.0 (write_clashes k.rows c d.0 q.0 (q.1 ∙ sym d.2)))
       where
         part_cell : Has (lane k Read row) j ⊎ Has (lane k Write row) j → (d : Cell) × IsMarkOf k j d × (d.row ≡ row)
         part_cell (inl g) = let d = cell_of k kept Read row j g in (d.0, d.1, d.2.1)
@@ -123,9 +124,9 @@ clear_is_next Read k kept x high m c a used b clear = (used, b, λ j w e. meets 
   where
     meets : (j : Mark) → Has (lane k Write x.row) j → IsBetween x.number m.number j → ⊥
     meets j w e =
-      let d = cell_of k kept Write x.row j w in
-      let q = lane_tells k kept Write x.row m c a used in
-      clear j d.0 d.1 w e.0 e.1 (write_clashes k.rows d.0 c d.2.0 (d.2.1 ∙ sym q.1))
+        let d = cell_of k kept Write x.row j w in
+        let q = lane_tells k kept Write x.row m c a used in
+        clear j d.0 d.1 w e.0 e.1 (write_clashes k.rows d.0 c d.2.0 (d.2.1 ∙ sym q.1))
 clear_is_next Write k kept x high m c a used b clear = next_in_row k kept x x.row high m c a used b clear
 clear_is_next Whole k kept x high m c a used b clear =
     let rows = rows_at k.rows (granule_at k.rows x.row) in
@@ -178,16 +179,16 @@ module _ (k : Kept) (kept : AreQueuesKept k) (x : Cell) (top : ℕ) (within : k.
       by : (o : Option Mark) → IsFirstBetween x.number top taken o → m.number < number_or o top
       by None l = below_top m c a
       by (Some w) l =
-        let d = cell_of k kept Whole (granule_at k.rows x.row) w l.0 in
-        elim (trichotomy m.number w.number) [
-          | inl less ↦ less
-          | inr more ↦ absurd (elim more [
+          let d = cell_of k kept Whole (granule_at k.rows x.row) w l.0 in
+          elim (trichotomy m.number w.number) [
+            | inl less ↦ less
+            | inr more ↦ absurd (elim more [
               | inl e ↦ differ d.0 d.2.0 (one_cell k kept w m d.0 c d.1 a (sym e))
               | inr gt ↦ free w.slot d.0 d.1.there (above d.0 d.1 l.1.0) (down d.0 d.1 gt)
                   (clash_turned k.rows d.0 x (whole_clashes k.rows d.0 x d.2.0 d.2.1))
                   (whole_clashes k.rows d.0 c d.2.0 (d.2.1 ∙ one_granule k.rows x c clash))
             ])
-        ]
+          ]
         where
           differ : (d : Cell) → d.mode ≡ Whole → d ≡ c → ⊥
           differ d e f = no_part (sym part ∙ ap (λ (y : Cell). is_whole y.mode) (sym f) ∙ ap is_whole e)
@@ -224,11 +225,11 @@ module _ (k : Kept) (kept : AreQueuesKept k) (x : Cell) (top : ℕ) (within : k.
       free : (c : Cell) → IsMarkOf k m c → m.number < number_or o top → IsClear x.mode k x m c
           → (t : ℕ) (d : Cell) → get k.cells t ≡ Some d → x.number < d.number → d.number < c.number → CellsClash k.rows x d → ¬ (CellsClash k.rows d c)
       free c a high clear t d e lt le clash other =
-        let b : IsMarkOf k (mark_of t d) d = record { there = e; is = refl } in
-        elim (clash_uses x.mode k kept x refl (mark_of t d) d b (clash_turned k.rows x d clash) d.mode refl) [
-          | inl h ↦ past (not_earlier (mark_of t d) d b h lt)
-          | inr used ↦ clear (mark_of t d) d b used lt (omega (arith, le, number_of k m c a)) other
-        ]
+          let b : IsMarkOf k (mark_of t d) d = record { there = e; is = refl } in
+          elim (clash_uses x.mode k kept x refl (mark_of t d) d b (clash_turned k.rows x d clash) d.mode refl) [
+            | inl h ↦ past (not_earlier (mark_of t d) d b h lt)
+            | inr used ↦ clear (mark_of t d) d b used lt (omega (arith, le, number_of k m c a)) other
+          ]
         where
           past : number_or o top ≤ d.number → ⊥
           past h = omega (arith, h, high, le, number_of k m c a)
@@ -242,7 +243,7 @@ module _ (k : Kept) (kept : AreQueuesKept k) (x : Cell) (top : ℕ) (within : k.
         | inl h ↦ inl h
         | inr used ↦ inr (clear_is_next x.mode k kept x (number_or o top) m c a used (above c a n.3, earlier m c a (use_clashes x.mode k kept x refl m c a used).0 n.4 (above c a n.3) n.5)
             (λ j d b u lt le clash. n.5 j.slot d b.there (omega (arith, lt, number_of k j d b)) (omega (arith, le, number_of k m c a, number_of k j d b))
-              (clash_turned k.rows d x (use_clashes x.mode k kept x refl j d b u).1) clash))
+            (clash_turned k.rows d x (use_clashes x.mode k kept x refl j d b u).1) clash))
       ]
     where
       above : (c : Cell) → IsMarkOf k m c → x.number < c.number → x.number < m.number
@@ -254,15 +255,15 @@ module _ (k : Kept) (kept : AreQueuesKept k) (x : Cell) (top : ℕ) (within : k.
     where
       taker : IsNextMark k x m → Has taken m → ⊥
       taker n h =
-        let c = n.0 in
-        let a : IsMarkOf k m c = record { there = n.1; is = n.2 } in
-        let near = next_of_mode r here in
-        let d = near.0 in
-        let b : IsMarkOf k r d = record { there = near.1; is = near.2 } in
-        let clear = next_is_clear x.mode k kept x (number_or o top) r d b here in
-        let t = taker_of k kept x m c a h in
-        n.5 r.slot d near.1 near.3 (down c a d b (not_earlier m c a h (omega (arith, n.3, number_of k m c a))) clear.1.1) near.4
-        (clash_turned k.rows c d (whole_clashes k.rows c d t.0 (t.1 ∙ one_granule k.rows x d near.4)))
+          let c = n.0 in
+          let a : IsMarkOf k m c = record { there = n.1; is = n.2 } in
+          let near = next_of_mode r here in
+          let d = near.0 in
+          let b : IsMarkOf k r d = record { there = near.1; is = near.2 } in
+          let clear = next_is_clear x.mode k kept x (number_or o top) r d b here in
+          let t = taker_of k kept x m c a h in
+          n.5 r.slot d near.1 near.3 (down c a d b (not_earlier m c a h (omega (arith, n.3, number_of k m c a))) clear.1.1) near.4
+          (clash_turned k.rows c d (whole_clashes k.rows c d t.0 (t.1 ∙ one_granule k.rows x d near.4)))
         where
           down : (c : Cell) → IsMarkOf k m c → (d : Cell) → IsMarkOf k r d → number_or o top ≤ m.number → r.number < number_or o top → d.number < c.number
           down c a d b le lt = omega (arith, le, lt, number_of k m c a, number_of k r d b)
@@ -287,40 +288,40 @@ module _ (k : Kept) (kept : AreQueuesKept k) (x : Cell) (top : ℕ) (within : k.
 
           next_w : IsNextMark k x w
           next_w =
-            let d = cell_of k kept Whole (granule_at k.rows x.row) w l.0 in
-            (d.0, d.1.there, d.1.is, above d.0 d.1, clash_turned k.rows d.0 x (whole_clashes k.rows d.0 x d.2.0 d.2.1), λ t y e lt le clash other. free d.0 d.1 t y e lt le clash)
+              let d = cell_of k kept Whole (granule_at k.rows x.row) w l.0 in
+              (d.0, d.1.there, d.1.is, above d.0 d.1, clash_turned k.rows d.0 x (whole_clashes k.rows d.0 x d.2.0 d.2.1), λ t y e lt le clash other. free d.0 d.1 t y e lt le clash)
             where
               above : (d : Cell) → IsMarkOf k w d → x.number < d.number
               above d a = omega (arith, l.1.0, number_of k w d a)
 
               free : (d : Cell) → IsMarkOf k w d → (t : ℕ) (y : Cell) → get k.cells t ≡ Some y → x.number < y.number → y.number < d.number → CellsClash k.rows x y → ⊥
               free d a t y e lt le clash =
-                let b : IsMarkOf k (mark_of t y) y = record { there = e; is = refl } in
-                elim (clash_uses x.mode k kept x refl (mark_of t y) y b (clash_turned k.rows x y clash) y.mode refl) [
-                  | inl h ↦ before (l.2 (mark_of t y) h (lt, below_top (mark_of t y) y b))
-                  | inr used ↦ none (mark_of t y) used (lt, omega (arith, le, number_of k w d a))
-                ]
+                  let b : IsMarkOf k (mark_of t y) y = record { there = e; is = refl } in
+                  elim (clash_uses x.mode k kept x refl (mark_of t y) y b (clash_turned k.rows x y clash) y.mode refl) [
+                    | inl h ↦ before (l.2 (mark_of t y) h (lt, below_top (mark_of t y) y b))
+                    | inr used ↦ none (mark_of t y) used (lt, omega (arith, le, number_of k w d a))
+                  ]
                 where
                   before : w.number ≤ y.number → ⊥
                   before h = omega (arith, h, le, number_of k w d a)
 
           is_w : IsNextMark k x m → w ≡ m
           is_w n =
-            let c = n.0 in
-            let a : IsMarkOf k m c = record { there = n.1; is = n.2 } in
-            let h = all m n in
-            let t = taker_of k kept x m c a h in
-            let d = cell_of k kept Whole (granule_at k.rows x.row) w l.0 in
-            let le : w.number ≤ m.number = l.2 m h (omega (arith, n.3, number_of k m c a), below_top m c a) in
-            same_mark taken (kept.lanes Whole (granule_at k.rows x.row)).numbered w m l.0 h
-            (elim (trichotomy m.number w.number) [
-              | inl less ↦ absurd (omega (arith, less, le))
-              | inr more ↦ elim more [
+              let c = n.0 in
+              let a : IsMarkOf k m c = record { there = n.1; is = n.2 } in
+              let h = all m n in
+              let t = taker_of k kept x m c a h in
+              let d = cell_of k kept Whole (granule_at k.rows x.row) w l.0 in
+              let le : w.number ≤ m.number = l.2 m h (omega (arith, n.3, number_of k m c a), below_top m c a) in
+              same_mark taken (kept.lanes Whole (granule_at k.rows x.row)).numbered w m l.0 h
+              (elim (trichotomy m.number w.number) [
+                | inl less ↦ absurd (omega (arith, less, le))
+                | inr more ↦ elim more [
                   | inl e ↦ sym e
                   | inr gt ↦ absurd (n.5 w.slot d.0 d.1.there (above d.0 d.1) (down c a d.0 d.1 gt) (clash_turned k.rows d.0 x (whole_clashes k.rows d.0 x d.2.0 d.2.1))
                       (whole_clashes k.rows d.0 c d.2.0 (d.2.1 ∙ sym t.1)))
                 ]
-            ])
+              ])
             where
               down : (c : Cell) → IsMarkOf k m c → (d : Cell) → IsMarkOf k w d → w.number < m.number → d.number < c.number
               down c a d b gt = omega (arith, gt, number_of k m c a, number_of k w d b)
@@ -332,5 +333,6 @@ module _ (k : Kept) (kept : AreQueuesKept k) (x : Cell) (top : ℕ) (within : k.
   pub first_of_some : (after : ℕ) (n : Next) → IsKnownNext (IsNextInMode k x (number_or o top)) after n → n.any ≡ true → IsFirstAfter (IsNextMark k x) after n.first
   first_of_some after n known any = let r = known.some any in (next_as (IsNextInMode k x (number_or o top)) (IsNextMark k x) after n (next_marks r.0 r.1) known).first
 
-  pub first_of_none : (after : ℕ) (n one : Next) → IsKnownNext (IsNextInMode k x (number_or o top)) after n → n.any ≡ false → one.any ≡ is_some o → one.first ≡ later_than after o → IsFirstAfter (IsNextMark k x) after one.first
+  pub first_of_none : (after : ℕ) (n one : Next) → IsKnownNext (IsNextInMode k x (number_or o top)) after n
+      → n.any ≡ false → one.any ≡ is_some o → one.first ≡ later_than after o → IsFirstAfter (IsNextMark k x) after one.first
   first_of_none after n one known any some is = (next_of_one (IsNextMark k x) o after one (next_taker (known.none any)) some is).first

@@ -1,5 +1,6 @@
 -- How rows and granules stay tied when one of them is added.
-use Rattle.std.proofs.Common.{◌≡◌, ◌≢◌, ◌⊎◌, ◌↔◌, ℕ, zero, suc, ◌+◌, ◌<◌, ◌≤◌, Bool, true, false, cond, ◌&&◌, ◌==◌, List, [], ◌∷◌, ◌++◌, map, length, get_or, set, slice_get, slice_index_or, Option, Some, None, refl, ap, ap₂, sym, subst, inl, inr, arith, ◌∙◌, length-append}
+use Rattle.std.proofs.Common.{◌≡◌, ◌≢◌, ◌⊎◌, ◌↔◌, ℕ, zero, suc, ◌+◌, ◌<◌, ◌≤◌, Bool, true, false, cond, ◌&&◌, ◌==◌, List, [], ◌∷◌}
+use Rattle.std.proofs.Common.{◌++◌, map, length, get_or, set, slice_get, slice_index_or, Option, Some, None, refl, ap, ap₂, sym, subst, inl, inr, arith, ◌∙◌, length-append}
 use Rattle.std.specs.List.{list_any, position, position_from}
 use Rattle.std.proofs.lemmas.Iterator.Adapters.{position_from-zero}
 use Rattle.std.specs.Cmp.Lexicographic.{bytes_decides}
@@ -83,12 +84,12 @@ tied_row names granules gof rof name g t fresh there = record {
     rows : (h row : ℕ) → Has (get_or (set rof g (get_or rof g [] ++ length gof ∷ [])) h []) row ↔ ((row < length (names ++ name ∷ [])) × (get_or (gof ++ g ∷ []) row 0 ≡ h))
     rows h row = elim (either_nat h g) [
       | inr ne ↦ subst (λ l. Has l row ↔ ((row < length (names ++ name ∷ [])) × (get_or (gof ++ g ∷ []) row 0 ≡ h))) (sym (same h ne)) (
-          (λ k. let b = (t.rows h row).0 k in (longer row b.0, old_granule row b.0 ∙ b.1)),
-          (λ b. elim (sides row b.0) [
-            | inl lt ↦ (t.rows h row).1 (lt, sym (old_granule row lt) ∙ b.1)
-            | inr e ↦ absurd (ne (sym b.1 ∙ ap (λ n. get_or (gof ++ g ∷ []) n 0) e ∙ new_granule))
-          ]),
-        )
+        (λ k. let b = (t.rows h row).0 k in (longer row b.0, old_granule row b.0 ∙ b.1)),
+        (λ b. elim (sides row b.0) [
+          | inl lt ↦ (t.rows h row).1 (lt, sym (old_granule row lt) ∙ b.1)
+          | inr e ↦ absurd (ne (sym b.1 ∙ ap (λ n. get_or (gof ++ g ∷ []) n 0) e ∙ new_granule))
+        ]),
+      )
       | inl s ↦ subst (λ i. Has (get_or (set rof g (get_or rof g [] ++ length gof ∷ [])) i []) row ↔ ((row < length (names ++ name ∷ [])) × (get_or (gof ++ g ∷ []) row 0 ≡ i))) (sym s)
           (subst (λ l. Has l row ↔ ((row < length (names ++ name ∷ [])) × (get_or (gof ++ g ∷ []) row 0 ≡ g))) (sym here) (
             (λ k. elim (has_more (get_or rof g []) (length gof) row k) [
@@ -173,13 +174,14 @@ added_name name xs fresh = by (list_any (same_name name) xs) refl
     by false e = refl
 
 -- one list of rows got one more
-pub rows_after : {Z : Type 0} (xs : List (Vec ℕ Z)) (g n : ℕ) (d0 v1 d2 v2 : Vec ℕ Z) → g < length xs → d0 ≡ slice_index_or xs g d0 → v1.items ≡ d0.items → d2 ≡ slice_index_or (set xs g v1) g d2 → v2.items ≡ d2.items ++ n ∷ []
+pub rows_after : {Z : Type 0} (xs : List (Vec ℕ Z)) (g n : ℕ) (d0 v1 d2 v2 : Vec ℕ Z) → g < length xs
+    → d0 ≡ slice_index_or xs g d0 → v1.items ≡ d0.items → d2 ≡ slice_index_or (set xs g v1) g d2 → v2.items ≡ d2.items ++ n ∷ []
     → map (λ (v : Vec ℕ Z). v.items) (set (set xs g v1) g v2) ≡ set (map (λ (v : Vec ℕ Z). v.items) xs) g (get_or (map (λ (v : Vec ℕ Z). v.items) xs) g [] ++ n ∷ [])
 rows_after {Z} xs g n d0 v1 d2 v2 lt e0 e1 e2 e3 =
     let one : d2 ≡ v1 = e2 ∙ get_or-set_same xs g v1 d2 lt in
     let there : g < length (map (λ (v : Vec ℕ Z). v.items) xs) = rw (length-map xs (λ (v : Vec ℕ Z). v.items)) lt in
     let had : d0.items ≡ get_or (map (λ (v : Vec ℕ Z). v.items) xs) g [] =
-        get_or_read (map (λ (v : Vec ℕ Z). v.items) xs) g d0.items there (ap (λ (v : Vec ℕ Z). v.items) e0 ∙ sym (get_of_map (λ (v : Vec ℕ Z). v.items) xs g d0)) [] in
+    get_or_read (map (λ (v : Vec ℕ Z). v.items) xs) g d0.items there (ap (λ (v : Vec ℕ Z). v.items) e0 ∙ sym (get_of_map (λ (v : Vec ℕ Z). v.items) xs g d0)) [] in
     map-set (λ (v : Vec ℕ Z). v.items) (set xs g v1) g v2
     ∙ ap (λ l. set l g v2.items) (map-set (λ (v : Vec ℕ Z). v.items) xs g v1)
     ∙ set_set (map (λ (v : Vec ℕ Z). v.items) xs) g v1.items v2.items

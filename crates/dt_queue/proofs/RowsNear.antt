@@ -1,5 +1,6 @@
 -- What is nearest in several rows: the marks of all of them, put together and sorted by their numbers.
-use Rattle.std.proofs.Common.{◌≡◌, ◌⊎◌, ◌↔◌, ℕ, zero, suc, ◌<◌, ◌≤◌, Bool, true, false, cond, ◌==◌, nat_lt, List, [], ◌∷◌, ◌++◌, length, get_or, take, Option, Some, None, ◌||◌, refl, ap, sym, subst, inl, inr, arith, ◌∙◌}
+use Rattle.std.proofs.Common.{◌≡◌, ◌⊎◌, ◌↔◌, ℕ, zero, suc, ◌<◌, ◌≤◌, Bool, true, false, cond, ◌==◌, nat_lt, List, []}
+use Rattle.std.proofs.Common.{◌∷◌, ◌++◌, length, get_or, take, Option, Some, None, ◌||◌, refl, ap, sym, subst, inl, inr, arith, ◌∙◌}
 use Rattle.std.specs.List.{Contains, IsDistinct}
 use Rattle.std.specs.List.Sorted.{IsNonDecreasingBy, IsPermutation}
 use Rattle.std.proofs.lemmas.List.Sorted.{Contains-permutation, IsPermutation-sym}
@@ -36,13 +37,14 @@ AreParted P = (r s : ℕ) (m k : Mark) → P r m → P s k → m.number ≡ k.nu
 pub none_gathered : (P : ℕ → Mark → Type 0) → AreGathered P [] []
 none_gathered P = record { apart = tt; members = λ m. (λ h. h, λ h. h) }
 
-pub gathered_more : (P : ℕ → Mark → Type 0) → AreParted P → (rows : List ℕ) (row : ℕ) (old new : List Mark) → ¬ (Has rows row) → AreGathered P rows old → AddsMarks (P row) old new → AreGathered P (rows ++ row ∷ []) new
+pub gathered_more : (P : ℕ → Mark → Type 0) → AreParted P → (rows : List ℕ) (row : ℕ) (old new : List Mark)
+    → ¬ (Has rows row) → AreGathered P rows old → AddsMarks (P row) old new → AreGathered P (rows ++ row ∷ []) new
 gathered_more P parted rows row old new fresh had adds =
     subst (AreGathered P (rows ++ row ∷ [])) (sym adds.1)
     (record {
       apart = each_append (λ m k. ¬ (m.number ≡ k.number)) old adds.0 had.apart
-        (all_put _ old (λ m h. all_put _ adds.0 (λ k g e. other m k ((had.members m).0 h) ((adds.2.members k).0 g) e)))
-        (each_map _ _ adds.0 (λ m k lt e. less m k lt e) adds.2.numbered);
+          (all_put _ old (λ m h. all_put _ adds.0 (λ k g e. other m k ((had.members m).0 h) ((adds.2.members k).0 g) e)))
+          (each_map _ _ adds.0 (λ m k lt e. less m k lt e) adds.2.numbered);
       members = λ m. (
         λ h. elim (any_append _ old adds.0 h) [
           | inl k ↦ any_append_left _ rows (row ∷ []) ((had.members m).0 k)
@@ -197,7 +199,8 @@ next_or P Q after a b n p q any first = record {
         pick false e = let le : j.number ≤ k.number = grind (arith, e) in (inr y.0, y.1, λ m z more. elim z [ inl w ↦ omega (arith, le, x.2 m w more) | inr w ↦ y.2 m w more ])
 
 -- one more row
-pub next_more : (P : ℕ → Mark → Type 0) (rows : List ℕ) (row after : ℕ) (a b n : Next) → IsKnownNext (λ m. AnyIn (λ r. P r m) rows) after a → IsKnownNext (P row) after b → n.any ≡ (a.any || b.any) → n.first ≡ earlier a.first b.first
+pub next_more : (P : ℕ → Mark → Type 0) (rows : List ℕ) (row after : ℕ) (a b n : Next) → IsKnownNext (λ m. AnyIn (λ r. P r m) rows) after a
+    → IsKnownNext (P row) after b → n.any ≡ (a.any || b.any) → n.first ≡ earlier a.first b.first
     → IsKnownNext (λ m. AnyIn (λ r. P r m) (rows ++ row ∷ [])) after n
 next_more P rows row after a b n p q any first =
     next_as (λ m. AnyIn (λ r. P r m) rows ⊎ P row m) (λ m. AnyIn (λ r. P r m) (rows ++ row ∷ [])) after n

@@ -1,5 +1,6 @@
 -- What is shown of the cells: which entries wait, what their neighbours are, and what follows them.
-use Rattle.std.proofs.Common.{◌≡◌, ◌≢◌, ◌⊎◌, ◌↔◌, ℕ, zero, suc, ◌<◌, ◌≤◌, Bool, true, false, cond, not, ◌&&◌, ◌||◌, ◌==◌, nat_lt, List, [], ◌∷◌, ◌++◌, map, length, slice_get, Option, Some, None, option_map, refl, ap, ap₂, sym, subst, inl, inr, arith, ◌∙◌}
+use Rattle.std.proofs.Common.{◌≡◌, ◌≢◌, ◌⊎◌, ◌↔◌, ℕ, zero, suc, ◌<◌, ◌≤◌, Bool, true, false, cond, not, ◌&&◌, ◌||◌, ◌==◌, nat_lt, List}
+use Rattle.std.proofs.Common.{[], ◌∷◌, ◌++◌, map, length, slice_get, Option, Some, None, option_map, refl, ap, ap₂, sym, subst, inl, inr, arith, ◌∙◌}
 use Rattle.std.specs.List.{filter, list_any}
 use Rattle.std.proofs.lemmas.Simd.{map-map}
 use Rattle.std.proofs.lemmas.Option.{slice_get-get_or}
@@ -188,22 +189,22 @@ module _ (k : Kept) (kept : AreQueuesKept k) where
       let p : ℕ × Cell = (slot, x) in
       let own = in_list slot x e in
       let same : ms ≡ map (λ (q : ℕ × Cell). mark_of q.0 q.1) (near_cells p) =
-          ascending_same (λ (m n : Mark). m.number < n.number) (λ m lt. omega (arith, lt)) (λ m n o lt le. omega (arith, lt, le)) ms (map (λ (q : ℕ × Cell). mark_of q.0 q.1) (near_cells p)) found.numbered
-          (each_image (λ (m n : Mark). m.number < n.number) (λ (q : ℕ × Cell). mark_of q.0 q.1) (near_cells p) (near_cells_rise p)) (λ m h. down own m ((found.members m).0 h)) (λ m h. (found.members m).1 (up own m h)) in
+      ascending_same (λ (m n : Mark). m.number < n.number) (λ m lt. omega (arith, lt)) (λ m n o lt le. omega (arith, lt, le)) ms (map (λ (q : ℕ × Cell). mark_of q.0 q.1) (near_cells p)) found.numbered
+      (each_image (λ (m n : Mark). m.number < n.number) (λ (q : ℕ × Cell). mark_of q.0 q.1) (near_cells p) (near_cells_rise p)) (λ m h. down own m ((found.members m).0 h)) (λ m h. (found.members m).1 (up own m h)) in
       ap (map (λ m. m.vertex)) same ∙ map-map (λ m. m.vertex) (λ (q : ℕ × Cell). mark_of q.0 q.1) (near_cells p)
       ∙ sym (map-map (λ w. w.vertex) (entry k.rows.names.keys) (near_cells p)) ∙ ap (map (λ w. w.vertex)) (sym (neighbours_shown p own))
     where
       down : Has (in_order (entries k.cells)) (slot, x) → (m : Mark) → IsNearMark k x m → Has (map (λ (q : ℕ × Cell). mark_of q.0 q.1) (near_cells (slot, x))) m
       down own m n =
-        let q : ℕ × Cell = (m.slot, n.0) in
-        subst (Has (map (λ (q : ℕ × Cell). mark_of q.0 q.1) (near_cells (slot, x)))) (sym n.2)
-        (has_map (λ (q : ℕ × Cell). mark_of q.0 q.1) (near_cells (slot, x)) q (to_near_cells (slot, x) q own (record { there = in_list m.slot n.0 n.1; before = n.3; clash = n.4; free = n.5 })))
+          let q : ℕ × Cell = (m.slot, n.0) in
+          subst (Has (map (λ (q : ℕ × Cell). mark_of q.0 q.1) (near_cells (slot, x)))) (sym n.2)
+          (has_map (λ (q : ℕ × Cell). mark_of q.0 q.1) (near_cells (slot, x)) q (to_near_cells (slot, x) q own (record { there = in_list m.slot n.0 n.1; before = n.3; clash = n.4; free = n.5 })))
 
       up : Has (in_order (entries k.cells)) (slot, x) → (m : Mark) → Has (map (λ (q : ℕ × Cell). mark_of q.0 q.1) (near_cells (slot, x))) m → IsNearMark k x m
       up own m h =
-        let r = any_get (λ (q : ℕ × Cell). mark_of q.0 q.1 ≡ m) (near_cells (slot, x)) (any_of_image (λ (n : Mark). n ≡ m) (λ (q : ℕ × Cell). mark_of q.0 q.1) (near_cells (slot, x)) h) in
-        let n = of_near_cells (slot, x) r.0 own r.1 in
-        subst (IsNearMark k x) r.2 (r.0.1, cell_there r.0 n.there, refl, n.before, n.clash, n.free)
+          let r = any_get (λ (q : ℕ × Cell). mark_of q.0 q.1 ≡ m) (near_cells (slot, x)) (any_of_image (λ (n : Mark). n ≡ m) (λ (q : ℕ × Cell). mark_of q.0 q.1) (near_cells (slot, x)) h) in
+          let n = of_near_cells (slot, x) r.0 own r.1 in
+          subst (IsNearMark k x) r.2 (r.0.1, cell_there r.0 n.there, refl, n.before, n.clash, n.free)
 
   -- ---- followers
 
@@ -213,9 +214,10 @@ module _ (k : Kept) (kept : AreQueuesKept k) where
       let found : AnyIn (λ w. is_at slot w ≡ true) (map (entry k.rows.names.keys) (near_cells q)) = subst (AnyIn (λ w. is_at slot w ≡ true)) (neighbours_shown q own) (any_of_test (is_at slot) (neighbours (waiting_of k) q.0) t) in
       let r = any_get (λ (p : ℕ × Cell). (p.0 == slot) ≡ true) (near_cells q) (any_of_image (λ w. is_at slot w ≡ true) (entry k.rows.names.keys) (near_cells q) found) in
       let n = of_near_cells q r.0 own r.1 in
-      let one : r.0.1 ≡ x = some_same r.0.1 x (sym (cell_there r.0 n.there) ∙ ap (get k.cells) (number_same r.0.0 slot r.2) ∙ e) in
-      (
-        q.1, cell_there q own, refl,
+      let one : r.0.1 ≡ x = some_same r.0.1 x (sym (cell_there r.0 n.there) ∙ ap (get k.cells) (number_same r.0.0 slot r.2) ∙ e) in (
+        q.1,
+        cell_there q own,
+        refl,
         subst (λ (c : Cell). c.number < q.1.number) one n.before,
         subst (λ (c : Cell). CellsClash k.rows c q.1) one n.clash,
         subst (λ (c : Cell). (t : ℕ) (d : Cell) → get k.cells t ≡ Some d → c.number < d.number → d.number < q.1.number → CellsClash k.rows c d → ¬ (CellsClash k.rows d q.1)) one n.free,
@@ -236,7 +238,7 @@ module _ (k : Kept) (kept : AreQueuesKept k) where
     where
       by : (t : Bool) → filter (λ w. is_neighbour (waiting_of k) slot w.slot) (map (entry k.rows.names.keys) G) ≡ map (entry k.rows.names.keys) (filter (λ (q : ℕ × Cell). is_neighbour (waiting_of k) slot q.0) G)
           → cond t (entry k.rows.names.keys q ∷ filter (λ w. is_neighbour (waiting_of k) slot w.slot) (map (entry k.rows.names.keys) G)) (filter (λ w. is_neighbour (waiting_of k) slot w.slot) (map (entry k.rows.names.keys) G))
-              ≡ map (entry k.rows.names.keys) (cond t (q ∷ filter (λ (q : ℕ × Cell). is_neighbour (waiting_of k) slot q.0) G) (filter (λ (q : ℕ × Cell). is_neighbour (waiting_of k) slot q.0) G))
+          ≡ map (entry k.rows.names.keys) (cond t (q ∷ filter (λ (q : ℕ × Cell). is_neighbour (waiting_of k) slot q.0) G) (filter (λ (q : ℕ × Cell). is_neighbour (waiting_of k) slot q.0) G))
       by true e = ap (λ l. entry k.rows.names.keys q ∷ l) e
       by false e = e
 
@@ -248,25 +250,27 @@ module _ (k : Kept) (kept : AreQueuesKept k) where
     where
       list : followers_after (waiting_of k) slot place ≡ map (entry k.rows.names.keys) (filter (λ (q : ℕ × Cell). is_neighbour (waiting_of k) slot q.0) (greater y.number (in_order (entries k.cells))))
       list = ap (filter (λ w. is_neighbour (waiting_of k) slot w.slot)) (after_is k.rows.names.keys (in_order (entries k.cells)) (place, y) the_list.numbered the_slots (in_list place y f))
-        ∙ filter_shown slot (greater y.number (in_order (entries k.cells)))
+          ∙ filter_shown slot (greater y.number (in_order (entries k.cells)))
 
       rises : EachThen Rise (filter (λ (q : ℕ × Cell). is_neighbour (waiting_of k) slot q.0) (greater y.number (in_order (entries k.cells))))
-      rises = filter_each Rise (λ (q : ℕ × Cell). is_neighbour (waiting_of k) slot q.0) (greater y.number (in_order (entries k.cells))) (filter_each Rise (λ (q : ℕ × Cell). nat_lt y.number q.1.number) (in_order (entries k.cells)) the_list.numbered)
+      rises = filter_each Rise (λ (q : ℕ × Cell). is_neighbour (waiting_of k) slot q.0) (greater y.number (in_order (entries k.cells)))
+          (filter_each Rise (λ (q : ℕ × Cell). nat_lt y.number q.1.number) (in_order (entries k.cells)) the_list.numbered)
 
       of_F : (q : ℕ × Cell) → Has (filter (λ (q : ℕ × Cell). is_neighbour (waiting_of k) slot q.0) (greater y.number (in_order (entries k.cells)))) q → IsNextMark k x (mark_of q.0 q.1) × (y.number < q.1.number)
       of_F q h =
-        let a = has_of_filtered (λ (q : ℕ × Cell). is_neighbour (waiting_of k) slot q.0) (greater y.number (in_order (entries k.cells))) q h in
-        let b = has_of_filtered (λ (q : ℕ × Cell). nat_lt y.number q.1.number) (in_order (entries k.cells)) q a.0 in
-        (next_of slot x e q b.0 a.1, lt_of _ _ b.1)
+          let a = has_of_filtered (λ (q : ℕ × Cell). is_neighbour (waiting_of k) slot q.0) (greater y.number (in_order (entries k.cells))) q h in
+          let b = has_of_filtered (λ (q : ℕ × Cell). nat_lt y.number q.1.number) (in_order (entries k.cells)) q a.0 in
+          (next_of slot x e q b.0 a.1, lt_of _ _ b.1)
 
-      to_F : (q : ℕ × Cell) → Has (in_order (entries k.cells)) q → IsNextMark k x (mark_of q.0 q.1) → y.number < q.1.number → Has (filter (λ (q : ℕ × Cell). is_neighbour (waiting_of k) slot q.0) (greater y.number (in_order (entries k.cells)))) q
+      to_F : (q : ℕ × Cell) → Has (in_order (entries k.cells)) q → IsNextMark k x (mark_of q.0 q.1) → y.number < q.1.number
+          → Has (filter (λ (q : ℕ × Cell). is_neighbour (waiting_of k) slot q.0) (greater y.number (in_order (entries k.cells)))) q
       to_F q own n lt =
-        has_filter (λ (q : ℕ × Cell). is_neighbour (waiting_of k) slot q.0) (greater y.number (in_order (entries k.cells))) q
-        (has_filter (λ (q : ℕ × Cell). nat_lt y.number q.1.number) (in_order (entries k.cells)) q own (to_lt _ _ lt)) (to_next slot x e q own n)
+          has_filter (λ (q : ℕ × Cell). is_neighbour (waiting_of k) slot q.0) (greater y.number (in_order (entries k.cells))) q
+          (has_filter (λ (q : ℕ × Cell). nat_lt y.number q.1.number) (in_order (entries k.cells)) q own (to_lt _ _ lt)) (to_next slot x e q own n)
 
       shown : (o : Option Mark) → IsFirstAfter (IsNextMark k x) y.number o
           → option_map (λ (m : Mark). record { slot = m.slot; vertex = m.vertex }) o
-              ≡ slice_get (map follower_of (map (entry k.rows.names.keys) (filter (λ (q : ℕ × Cell). is_neighbour (waiting_of k) slot q.0) (greater y.number (in_order (entries k.cells)))))) 0
+          ≡ slice_get (map follower_of (map (entry k.rows.names.keys) (filter (λ (q : ℕ × Cell). is_neighbour (waiting_of k) slot q.0) (greater y.number (in_order (entries k.cells)))))) 0
       shown None none = by (filter (λ (q : ℕ × Cell). is_neighbour (waiting_of k) slot q.0) (greater y.number (in_order (entries k.cells)))) (λ q h. of_F q h)
         where
           by : (L : List (ℕ × Cell)) → ((q : ℕ × Cell) → Has L q → IsNextMark k x (mark_of q.0 q.1) × (y.number < q.1.number)) → None ≡ slice_get (map follower_of (map (entry k.rows.names.keys) L)) 0
@@ -291,9 +295,9 @@ module _ (k : Kept) (kept : AreQueuesKept k) where
           by [] num g h = absurd h
           by (q ∷ L) num g (inl s) = ap Some (told q s)
           by (q ∷ L) num g (inr h) =
-            let r = g q (inl refl) in
-            let lt : q.1.number < found.0.0.number = all_get (Rise q) L num.0 (m.slot, found.0.0) h in
-            absurd (late (found.2 (mark_of q.0 q.1) r.0 r.1) lt)
+              let r = g q (inl refl) in
+              let lt : q.1.number < found.0.0.number = all_get (Rise q) L num.0 (m.slot, found.0.0) h in
+              absurd (late (found.2 (mark_of q.0 q.1) r.0 r.1) lt)
             where
               late : m.number ≤ q.1.number → q.1.number < found.0.0.number → ⊥
               late le lt = omega (arith, le, lt, number)
@@ -322,7 +326,7 @@ pub shown_push : (k n : Kept) (slot : ℕ) (name : ℕ × Bytes) (mode : Mode) (
 shown_push k n slot name mode vertex kept later front adds =
     let K = in_order (entries k.cells) in
     let list : in_order (entries n.cells) ≡ K ++ (slot, adds.cell) ∷ [] = same_list n.cells n.cells (in_order (entries n.cells)) (K ++ (slot, adds.cell) ∷ []) (listed n.cells later.alone)
-        (listed_more k.cells n.cells K slot adds.cell (listed k.cells kept.alone) adds.updates adds.vacant (λ p h. last p (((listed k.cells kept.alone).members p).0 h))) (λ s. refl) in
+    (listed_more k.cells n.cells K slot adds.cell (listed k.cells kept.alone) adds.updates adds.vacant (λ p h. last p (((listed k.cells kept.alone).members p).0 h))) (λ s. refl) in
     ap (map (entry n.rows.names.keys)) list ∙ map-append (entry n.rows.names.keys) K ((slot, adds.cell) ∷ [])
     ∙ ap₂ (λ a b. a ++ b ∷ []) (same_entries k.rows.names.keys n.rows.names.keys front K (row_of_cell k kept)) own
   where
@@ -344,5 +348,5 @@ pub shown_remove : (k n : Kept) (slot : ℕ) → AreQueuesKept k → AreQueuesKe
 shown_remove k n slot kept later up rows =
     let K = in_order (entries k.cells) in
     let list : in_order (entries n.cells) ≡ filter (λ (p : ℕ × Cell). not (p.0 == slot)) K = same_list n.cells n.cells (in_order (entries n.cells)) (filter (λ (p : ℕ × Cell). not (p.0 == slot)) K) (listed n.cells later.alone)
-        (listed_less k.cells n.cells K slot (listed k.cells kept.alone) up) (λ s. refl) in
+    (listed_less k.cells n.cells K slot (listed k.cells kept.alone) up) (λ s. refl) in
     ap (λ (r : Rows). map (entry r.names.keys) (in_order (entries n.cells))) rows ∙ ap (map (entry k.rows.names.keys)) list ∙ sym (without_is k.rows.names.keys K slot)

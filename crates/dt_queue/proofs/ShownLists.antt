@@ -1,5 +1,6 @@
 -- The list of entries that is shown of the cells in their order: what stands before and after an entry, and what is nearest.
-use Rattle.std.proofs.Common.{◌≡◌, ◌≢◌, ◌⊎◌, ◌↔◌, ℕ, zero, suc, ◌<◌, ◌≤◌, Bool, true, false, cond, not, ◌==◌, ◌&&◌, ◌||◌, nat_lt, List, [], ◌∷◌, map, length, Option, Some, None, refl, ap, ap₂, sym, subst, inl, inr, arith, ◌∙◌}
+use Rattle.std.proofs.Common.{◌≡◌, ◌≢◌, ◌⊎◌, ◌↔◌, ℕ, zero, suc, ◌<◌, ◌≤◌, Bool, true, false, cond, not, ◌==◌, ◌&&◌, ◌||◌}
+use Rattle.std.proofs.Common.{nat_lt, List, [], ◌∷◌, map, length, Option, Some, None, refl, ap, ap₂, sym, subst, inl, inr, arith, ◌∙◌}
 use Rattle.std.specs.List.{filter, list_any}
 use Rattle.slab.specs.Slab.{Slab, get}
 use Rattle.dt_lists.specs.Lists.{AllIn, AnyIn, EachThen, Has}
@@ -96,8 +97,9 @@ module _ (names : List (ℕ × Bytes)) where
       by : (t : Bool) → (x.0 == p.0) ≡ t → (Has xs p → pushed_before (map (entry names) xs) p.0 ≡ map (entry names) (lesser p.1.number xs))
           → cond t [] (entry names x ∷ pushed_before (map (entry names) xs) p.0) ≡ map (entry names) (lesser p.1.number (x ∷ xs))
       by true e rest =
-        let same = head_is x p xs s h (equal x.0 p.0 e) in
-        sym (ap (map (entry names)) (filter_out (λ (q : ℕ × Cell). nat_lt q.1.number p.1.number) (x ∷ xs) (own same, all_map (Rise x) (λ (q : ℕ × Cell). nat_lt q.1.number p.1.number ≡ false) xs (λ q lt. higher same q lt) num.0)))
+          let same = head_is x p xs s h (equal x.0 p.0 e) in
+          sym (ap (map (entry names)) (filter_out (λ (q : ℕ × Cell). nat_lt q.1.number p.1.number) (x ∷ xs)
+          (own same, all_map (Rise x) (λ (q : ℕ × Cell). nat_lt q.1.number p.1.number ≡ false) xs (λ q lt. higher same q lt) num.0)))
         where
           own : x ≡ p → nat_lt x.1.number p.1.number ≡ false
           own f = let n : x.1.number ≡ p.1.number = ap (λ (y : ℕ × Cell). y.1.number) f in below_false _ _ (omega (arith, n))
@@ -119,8 +121,9 @@ module _ (names : List (ℕ × Bytes)) where
       by : (t : Bool) → (x.0 == p.0) ≡ t → (Has xs p → pushed_after (map (entry names) xs) p.0 ≡ map (entry names) (greater p.1.number xs))
           → cond t (map (entry names) xs) (pushed_after (map (entry names) xs) p.0) ≡ map (entry names) (greater p.1.number (x ∷ xs))
       by true e rest =
-        let same = head_is x p xs s h (equal x.0 p.0 e) in
-        ap (map (entry names)) (sym (pass (nat_lt p.1.number x.1.number) (own same) (filter_in (λ (q : ℕ × Cell). nat_lt p.1.number q.1.number) xs (all_map (Rise x) (λ (q : ℕ × Cell). nat_lt p.1.number q.1.number ≡ true) xs (λ q lt. higher same q lt) num.0))))
+          let same = head_is x p xs s h (equal x.0 p.0 e) in
+          ap (map (entry names)) (sym (pass (nat_lt p.1.number x.1.number) (own same)
+          (filter_in (λ (q : ℕ × Cell). nat_lt p.1.number q.1.number) xs (all_map (Rise x) (λ (q : ℕ × Cell). nat_lt p.1.number q.1.number ≡ true) xs (λ q lt. higher same q lt) num.0))))
         where
           own : x ≡ p → nat_lt p.1.number x.1.number ≡ false
           own f = let n : x.1.number ≡ p.1.number = ap (λ (y : ℕ × Cell). y.1.number) f in below_false _ _ (omega (arith, n))
@@ -147,7 +150,7 @@ module _ (names : List (ℕ × Bytes)) where
     where
       by : (t : Bool) → taken_out (map (entry names) xs) slot ≡ map (entry names) (filter (λ (p : ℕ × Cell). not (p.0 == slot)) xs)
           → cond t (entry names x ∷ taken_out (map (entry names) xs) slot) (taken_out (map (entry names) xs) slot)
-              ≡ map (entry names) (cond t (x ∷ filter (λ (p : ℕ × Cell). not (p.0 == slot)) xs) (filter (λ (p : ℕ × Cell). not (p.0 == slot)) xs))
+          ≡ map (entry names) (cond t (x ∷ filter (λ (p : ℕ × Cell). not (p.0 == slot)) xs) (filter (λ (p : ℕ × Cell). not (p.0 == slot)) xs))
       by true e = ap (λ l. entry names x ∷ l) e
       by false e = e
 
@@ -173,7 +176,7 @@ module _ (names : List (ℕ × Bytes)) where
   nearest_is x [] = refl
   nearest_is x (b ∷ later) =
       ap (λ t. cond (meets b x && not t) (entry names b ∷ nearest (entry names x) (map (entry names) later)) (nearest (entry names x) (map (entry names) later)))
-        (any_shown (λ m. entries_clash (entry names b) m && entries_clash m (entry names x)) later)
+      (any_shown (λ m. entries_clash (entry names b) m && entries_clash m (entry names x)) later)
       ∙ by (meets b x && is_free x b later) (nearest_is x later)
     where
       by : (t : Bool) → nearest (entry names x) (map (entry names) later) ≡ map (entry names) (near_in x later)
@@ -252,7 +255,7 @@ module _ (names : List (ℕ × Bytes)) where
     where
       passes : y ≡ b → (meets y x && is_free x y later) ≡ true
       passes f = and_both (meets y x) (is_free x y later) (subst (λ z. meets z x ≡ true) (sym f) e)
-        (free_to x y later (λ m k s. subst (λ z. z.1.number < m.1.number → meets z m ≡ true → ¬ (meets m x ≡ true)) (sym f) (free m (inr k)) (all_get (Rise y) later num.0 m k) s))
+          (free_to x y later (λ m k s. subst (λ z. z.1.number < m.1.number → meets z m ≡ true → ¬ (meets m x ≡ true)) (sym f) (free m (inr k)) (all_get (Rise y) later num.0 m k) s))
 
       by : (t : Bool) → (meets y x && is_free x y later) ≡ t → Has (y ∷ later) b → (Has later b → Has (near_in x later) b) → Has (cond t (y ∷ near_in x later) (near_in x later)) b
       by true s (inl f) rest = inl f

@@ -69,9 +69,25 @@ impl Kept {
         let row = self.rows.row(alloc, home, key)?;
         self.cells.reserve(1)?;
         let slot = self.cells.vacant_key();
-        self.add_mark(alloc, row, mode, Mark { number, slot, vertex })?;
+        self.add_mark(
+            alloc,
+            row,
+            mode,
+            Mark {
+                number,
+                slot,
+                vertex,
+            },
+        )?;
         self.next_number = number + 1;
-        Ok(self.cells.insert_reserved(Cell { row, mode, vertex, number }))
+        Ok(
+            self.cells.insert_reserved(Cell {
+                row,
+                mode,
+                vertex,
+                number,
+            }),
+        )
     }
 
     /// Takes out the entry at a slot. Takes no memory.
@@ -118,7 +134,13 @@ impl Kept {
     }
 
     /// Adds a mark at the back of the lane of its mode and row; after `NoMemory` all lanes are as before.
-    fn add_mark(&mut self, alloc: Global, row: usize, mode: Mode, mark: Mark) -> Result<(), NoMemory>
+    fn add_mark(
+        &mut self,
+        alloc: Global,
+        row: usize,
+        mode: Mode,
+        mark: Mark,
+    ) -> Result<(), NoMemory>
         requires row_in { row < length self.old.rows.granule_of.items }
         requires last { AllIn (λ m. m.number < mark.number) (lane self.old mode (place_at self.old.rows mode row)) }
         ensures added { OnOk result (ChangesLaneOf self.old mode (place_at self.old.rows mode row) (lane self.old mode (place_at self.old.rows mode row) ++ mark ∷ []) self.new) }

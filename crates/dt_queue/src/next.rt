@@ -53,7 +53,14 @@ impl Next {
 
     /// Of the marks of a row between two numbers those that are nearest to an entry before them that writes the row: those that
     /// read it and before which none writes it, or, where there are none, the first one that writes it.
-    pub fn in_row(reads: &[Lane], writes: &[Lane], row: usize, low: u64, high: u64, after: u64) -> Self
+    pub fn in_row(
+        reads: &[Lane],
+        writes: &[Lane],
+        row: usize,
+        low: u64,
+        high: u64,
+        after: u64,
+    ) -> Self
         requires { AreApart reads.now writes.now }
         ensures { IsKnownNext (IsNextInRow (get_or reads.now row []) (get_or writes.now row []) low high) after result }
     {
@@ -70,7 +77,14 @@ impl Next {
     }
 
     /// The same of several rows.
-    pub fn in_rows(reads: &[Lane], writes: &[Lane], rows: &[usize], low: u64, high: u64, after: u64) -> Self
+    pub fn in_rows(
+        reads: &[Lane],
+        writes: &[Lane],
+        rows: &[usize],
+        low: u64,
+        high: u64,
+        after: u64,
+    ) -> Self
         requires { AreApart reads.now writes.now }
         ensures { IsKnownNext (λ m. AnyIn (λ row. IsNextInRow (get_or reads.now row []) (get_or writes.now row []) low high m) rows.now) after result }
     {
@@ -90,7 +104,11 @@ fn earlier(left: Option<Mark>, right: Option<Mark>) -> Option<Mark>
     ensures { result ≡ earlier left right }
 {
     match (left, right) {
-        (Some(one), Some(other)) => if one.number < other.number { left } else { right },
+        (Some(one), Some(other)) => if one.number < other.number {
+            left
+        } else {
+            right
+        },
         (Some(_), None) => left,
         (None, _) => right,
     }

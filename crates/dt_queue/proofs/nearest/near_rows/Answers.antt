@@ -26,6 +26,6 @@ returns c =
     let rows = c.args.rows.now in
     let all : take c.loop-row.row-index rows ≡ rows = take_all c.loop-row.row-index rows (omega (arith, c.loop-row-test.false)) in
     let gathered : AreGathered (λ row m. IsNearInRow (get_or reads row []) (get_or writes row []) c.args.low c.args.high m) rows c.loop-row.marks.items =
-        subst (λ l. AreGathered (λ row m. IsNearInRow (get_or reads row []) (get_or writes row []) c.args.low c.args.high m) l c.loop-row.marks.items) all c.loop-row.invariant in
+    subst (λ l. AreGathered (λ row m. IsNearInRow (get_or reads row []) (get_or writes row []) c.args.low c.args.high m) l c.loop-row.marks.items) all c.loop-row.invariant in
     sorted_marks (λ row m. IsNearInRow (get_or reads row []) (get_or writes row []) c.args.low c.args.high m) rows c.loop-row.marks.items c.sort_by_key.new.self.items gathered c.in_ok-sort_by_key.ensures.permutation
     (IsNonDecreasingBy-from_sort_by_key (λ m. m.number) c.sort_by_key.new.self.items c.in_ok-sort_by_key.ensures.sorted (λ a r f k. search rules))

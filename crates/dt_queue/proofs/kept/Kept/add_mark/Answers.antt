@@ -28,6 +28,7 @@ returns-in-Write c = record {
 
 pub returns-in-Whole : goal.returns-in-Whole
 returns-in-Whole c = record {
-  added = on_ok c.push_mark-in-Whole.result (λ change. changed_whole c.args.self.now _ (λ l. l ++ c.args.mark ∷ []) c.args.mode c.args.row c.granule_of.result c.in-Whole.is c.granule_of.ensures change refl refl refl refl refl) c.push_mark-in-Whole.ensures.added;
+  added = on_ok c.push_mark-in-Whole.result (λ change. changed_whole c.args.self.now _
+      (λ l. l ++ c.args.mark ∷ []) c.args.mode c.args.row c.granule_of.result c.in-Whole.is c.granule_of.ensures change refl refl refl refl refl) c.push_mark-in-Whole.ensures.added;
   same = on_err c.push_mark-in-Whole.result (λ same. keeps_lanes c.args.self.now _ (same_self _) (same_self _) same refl refl refl) c.push_mark-in-Whole.ensures.same;
 }

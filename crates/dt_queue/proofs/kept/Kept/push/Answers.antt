@@ -20,7 +20,8 @@ returns-in_err-row-clause-kept c =
 pub returns-in_err-reserve-clause-kept : goal.returns-in_err-reserve-clause-kept
 returns-in_err-reserve-clause-kept c =
     let k = c.args.self.now in
-    kept_same k _ c.requires c.in_ok-row.ensures.linked c.in_ok-row.ensures.kept (λ s. ap (λ (x : Slab Cell). get x s) c.in_err-reserve.ensures.rest_kept) refl (λ m p. same_lanes (record k { cells = c.reserve.new.self; rows = c.row.new.self }) k refl refl refl m p)
+    kept_same k _ c.requires c.in_ok-row.ensures.linked c.in_ok-row.ensures.kept (λ s. ap (λ (x : Slab Cell). get x s) c.in_err-reserve.ensures.rest_kept) refl
+    (λ m p. same_lanes (record k { cells = c.reserve.new.self; rows = c.row.new.self }) k refl refl refl m p)
 
 pub add_mark-requires : goal.add_mark-requires
 add_mark-requires c =

@@ -12,8 +12,9 @@ index-requires c =
 pub near-requires : goal.near-requires
 near-requires c = record { kept = c.self.invariant; row_in = c.self.invariant.known c.args.slot c.index.result.now c.index.ensures }
 
-pub returns-in_ok-marks : goal.returns-in_ok-marks
-returns-in_ok-marks c =
+pub returns : goal.returns
+returns c =
     let k = c.self.inside.kept in
     rw (← c.self.view_is)
-    (IfOk-weaker c.vertices.result _ _ (λ found e. e ∙ ap (map (λ (m : Mark). m.vertex)) c.as_slice.ensures.value ∙ neighbours_are k c.self.invariant c.args.slot c.index.result.now c.index.ensures c.in_ok-marks.marks.items c.in_ok-marks.ensures) c.vertices.ensures)
+    (IfOk-weaker c.vertices.result _ _ (λ found e. e ∙ ap
+    (map (λ (m : Mark). m.vertex)) c.as_slice.ensures.value ∙ neighbours_are k c.self.invariant c.args.slot c.index.result.now c.index.ensures c.in_ok-marks.marks.items c.in_ok-marks.ensures) c.vertices.ensures)

@@ -26,7 +26,8 @@ index_mut-requires-2 c =
 pub push_reserved-requires-2 : goal.push_reserved-requires-2
 push_reserved-requires-2 c =
     let r = c.granule-2.new.self in
-    let lt : c.in_ok-granule-2.granule < length r.rows_of.items = omega (arith, place_within r.granules.keys c.in_ok-granule-2.granule _ c.in_ok-granule-2.ensures.found, c.in_ok-granule-2.ensures.linked.each_granule, length-map r.rows_of.items (λ v. v.items)) in
+    let lt : c.in_ok-granule-2.granule < length r.rows_of.items = omega
+    (arith, place_within r.granules.keys c.in_ok-granule-2.granule _ c.in_ok-granule-2.ensures.found, c.in_ok-granule-2.ensures.linked.each_granule, length-map r.rows_of.items (λ v. v.items)) in
     let one = c.index_mut-2.ensures.value ∙ get_or-set_same r.rows_of.items c.in_ok-granule-2.granule c.reserve-2.new.self c.index_mut-2.result.now lt in
     rw one (omega (arith, c.in_ok-reserve-2.ensures.ok))
 
@@ -40,7 +41,7 @@ returns-clause-linked c =
     let granules = c.push_reserved.ensures.items ∙ ap (λ l. l ++ g ∷ []) c.in_ok-reserve.ensures.items in
     let row : c.len-row.result ≡ length r.granule_of.items = c.len-row.ensures ∙ r.granule_of.ok.0 in
     let rows = rows_after r.rows_of.items g c.len-row.result c.index_mut.result.now c.reserve-2.new.self c.index_mut-2.result.now c.push_reserved-2.new.self lt c.index_mut.ensures.value c.in_ok-reserve-2.ensures.items
-        c.index_mut-2.ensures.value c.push_reserved-2.ensures.items in
+    c.index_mut-2.ensures.value c.push_reserved-2.ensures.items in
     let name = c.in_ok-granule-2.ensures.found ∙ ap (λ k. Some (c.args.name.0, k)) c.in_ok-granule.ensures in
     rw (keys, granules, rows, row)
     (tied_row r.names.keys r.granules.keys r.granule_of.items (map (λ v. v.items) r.rows_of.items) c.args.name g c.in_ok-granule-2.ensures.linked fresh name)
@@ -55,9 +56,9 @@ returns-clause-kept c =
     record {
       names = (c.args.name ∷ [], sym (keys ∙ ap (λ l. l ++ c.args.name ∷ []) c.in_ok-granule-2.ensures.names));
       granules = λ row lt.
-        ap (λ l. get_or l row 0) granules
-        ∙ get_or_append_left r.granule_of.items (g ∷ []) 0 row (omega (arith, lt, ap length c.in_ok-granule-2.ensures.names, c.in_ok-granule-2.ensures.linked.each_row))
-        ∙ c.in_ok-granule-2.ensures.kept.granules row lt;
+          ap (λ l. get_or l row 0) granules
+          ∙ get_or_append_left r.granule_of.items (g ∷ []) 0 row (omega (arith, lt, ap length c.in_ok-granule-2.ensures.names, c.in_ok-granule-2.ensures.linked.each_row))
+          ∙ c.in_ok-granule-2.ensures.kept.granules row lt;
     }
 
 pub returns-clause-found : goal.returns-clause-found

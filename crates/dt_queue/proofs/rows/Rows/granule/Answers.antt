@@ -14,7 +14,7 @@ returns-clause-linked c =
     let fresh = unnamed c.args.name r.granules.keys c.in_default.ensures.index in
     let keys = c.in_ok-insert.ensures.keys ∙ added_name c.args.name r.granules.keys fresh in
     let rows = ap (map (λ v. v.items)) (c.push_reserved.ensures.items ∙ ap (λ l. l ++ c.new.result ∷ []) c.in_ok-reserve.ensures.items) ∙ map-append (λ v. v.items) r.rows_of.items (c.new.result ∷ [])
-        ∙ ap (λ l. map (λ v. v.items) r.rows_of.items ++ l ∷ []) c.new.ensures.items in
+    ∙ ap (λ l. map (λ v. v.items) r.rows_of.items ++ l ∷ []) c.new.ensures.items in
     rw (keys, rows) (tied_granule r.names.keys r.granules.keys r.granule_of.items (map (λ v. v.items) r.rows_of.items) c.args.name c.requires fresh)
 
 pub returns-clause-found : goal.returns-clause-found
