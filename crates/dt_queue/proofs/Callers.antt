@@ -1,9 +1,8 @@
 -- What a caller's proof needs of queues: which entries wait after a push and after one is taken out, and that followers wait.
 -- All other lemmas of this crate are its own.
-use Rattle.std.proofs.Common.{◌≡◌, ◌≢◌, ◌⊎◌, ℕ, Bool, true, false, cond, not, ◌==◌, List, [], ◌∷◌, ◌++◌, map, slice_get, Option, Some, None, refl, ap, sym, subst, inl, inr, arith, ◌∙◌}
-use Rattle.std.specs.List.{filter}
-use Rattle.dt_lists.specs.Lists.{AllIn, AnyIn, EachThen, Has}
-use Rattle.dt_lists.proofs.Callers.{any_append_left, any_append_right, any_get, any_map, any_put, filter_each, has_filter, has_of_filtered}
+use Rattle.std.proofs.Common.{◌≡◌, ◌≢◌, ℕ, Bool, true, false, cond, not, ◌==◌, List, [], ◌∷◌, ◌++◌, map, slice_get, Some, refl, ap, inl, inr, arith}
+use Rattle.dt_lists.specs.Lists.{AllIn, Has}
+use Rattle.dt_lists.proofs.Callers.{any_append_left, any_append_right, any_get, any_put, filter_each, has_filter, has_of_filtered}
 use Rattle.dt_queue.specs.declared.follower.Follower.{Follower}
 use Rattle.dt_queue.specs.Queues.{HasDistinctSlots, IsQueued, Waiting, pushed_after, follower_of, followers_after, is_neighbour, taken_out}
 

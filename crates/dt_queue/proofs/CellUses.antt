@@ -1,6 +1,6 @@
 -- Which cells clash, told by the lanes that they have their marks in.
-use Rattle.std.proofs.Common.{◌≡◌, ◌≢◌, ◌⊎◌, ◌↔◌, ℕ, zero, suc, ◌<◌, ◌≤◌, Bool, true, false, List, []}
-use Rattle.std.proofs.Common.{◌∷◌, length, get_or, Option, Some, None, refl, ap, sym, subst, inl, inr, arith, ◌∙◌}
+use Rattle.std.proofs.Common.{◌≡◌, ◌⊎◌, ℕ, true, false}
+use Rattle.std.proofs.Common.{Some, refl, ap, sym, subst, inl, inr, ◌∙◌}
 use Rattle.slab.specs.Slab.{get}
 use Rattle.dt_lists.specs.Lists.{AnyIn, Has}
 use Rattle.dt_lists.proofs.Callers.{any_get, any_put}
@@ -11,7 +11,7 @@ use Rattle.dt_queue.specs.declared.cell.Cell.{Cell}
 use Rattle.dt_queue.specs.declared.mark.Mark.{Mark}
 use Rattle.dt_queue.specs.declared.kept.Kept.{Kept}
 use Rattle.dt_queue.specs.declared.rows.Rows.{Rows}
-use Rattle.dt_queue.specs.Kept.{CellsClash, IsInLane, AreQueuesKept, IsLane, lane, mark_of, place_at}
+use Rattle.dt_queue.specs.Kept.{CellsClash, IsInLane, AreQueuesKept, lane, mark_of, place_at}
 use Rattle.dt_queue.specs.Lanes.{AreApart}
 use Rattle.dt_queue.specs.Rows.{granule_at, rows_at}
 

@@ -1,9 +1,9 @@
 -- The entries that cells keep, in the order of their numbers: what the list has, and how it changes with the cells.
-use Rattle.std.proofs.Common.{◌≡◌, ◌≢◌, ◌⊎◌, ◌↔◌, ℕ, zero, suc, ◌+◌, ◌<◌, ◌≤◌, Bool, true, false, cond, not, ◌==◌, nat_lt, List, [], ◌∷◌, ◌++◌, map, length, slice_index_or}
+use Rattle.std.proofs.Common.{◌≡◌, ◌≢◌, ◌⊎◌, ◌↔◌, ℕ, zero, suc, ◌+◌, ◌<◌, Bool, true, false, cond, not, ◌==◌, nat_lt, List, [], ◌∷◌, ◌++◌, slice_index_or}
 use Rattle.std.proofs.Common.{Option, Some, None, refl, ap, sym, subst, inl, inr, arith, ◌∙◌}
 use Rattle.std.specs.List.{filter}
 use Rattle.slab.specs.Slab.{Slab, Updates, get, entries, entries_from}
-use Rattle.dt_lists.specs.Lists.{AllIn, AnyIn, EachThen, Has}
+use Rattle.dt_lists.specs.Lists.{AllIn, EachThen, Has}
 use Rattle.dt_lists.proofs.Callers.{all_get, all_map, all_put, any_append, any_append_left, any_append_right, ascending_same, each_append, either_nat, filter_each, has_filter, has_of_filtered}
 use Rattle.dt_queue.specs.declared.cell.Cell.{Cell}
 use Rattle.dt_queue.specs.Kept.{in_order, put_cell}

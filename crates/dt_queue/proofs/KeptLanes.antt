@@ -1,9 +1,9 @@
 -- How lanes follow the cells: a mark is added where a cell is, and taken out where it is taken out.
-use Rattle.std.proofs.Common.{◌≡◌, ◌≢◌, ◌⊎◌, ◌↔◌, ℕ, zero, suc, ◌+◌, ◌<◌, ◌≤◌, ◌^◌, Bool, true, false, not, ◌==◌, List, [], ◌∷◌, ◌++◌}
-use Rattle.std.proofs.Common.{length, get_or, slice_index_or, Option, Some, None, Result, Ok, Err, OnOk, OnErr, refl, ap, sym, subst, inl, inr, arith, ◌∙◌, length-append}
+use Rattle.std.proofs.Common.{◌≡◌, ◌≢◌, ◌⊎◌, ◌↔◌, ℕ, ◌+◌, ◌<◌, ◌≤◌, ◌^◌, Bool, true, false, not, ◌==◌, List, [], ◌∷◌, ◌++◌}
+use Rattle.std.proofs.Common.{length, get_or, slice_index_or, Some, None, Result, Ok, Err, OnOk, OnErr, refl, ap, sym, subst, inl, inr, arith, ◌∙◌, length-append}
 use Rattle.std.specs.List.{filter}
 use Rattle.slab.specs.Slab.{Slab, Updates, get}
-use Rattle.dt_lists.specs.Lists.{AllIn, AnyIn, EachThen, Has, IsFront}
+use Rattle.dt_lists.specs.Lists.{AllIn, Has, IsFront}
 use Rattle.dt_lists.proofs.Callers.{all_put, any_append, any_append_left, any_append_right, either_nat, filter_each, front_refl, has_filter, has_of_filtered, place_within}
 use Rattle.std.proofs.lemmas.List.{length-map}
 use Rattle.dt_access.specs.declared.access.Mode.{Mode}

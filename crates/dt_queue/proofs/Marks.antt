@@ -1,10 +1,10 @@
 -- How a lane is searched: what stands before and after the place where the search for a number ends.
-use Rattle.std.proofs.Common.{◌≡◌, ◌≢◌, ◌⊎◌, ℕ, zero, suc, ◌+◌, ◌<◌, ◌≤◌, Bool, true, false, not, ◌&&◌, ◌==◌, nat_lt, cond, List, [], ◌∷◌, ◌++◌, length, take, drop, slice_get}
-use Rattle.std.proofs.Common.{slice_index_or, Option, Some, None, IsSome, OnSome, refl, ap, sym, subst, inl, inr, arith, add-one, ◌∙◌}
+use Rattle.std.proofs.Common.{◌≡◌, ◌≢◌, ◌⊎◌, ℕ, zero, suc, ◌+◌, ◌<◌, ◌≤◌, Bool, true, false, not, ◌&&◌, ◌==◌, nat_lt, cond, List, [], ◌∷◌, ◌++◌, length, take, drop}
+use Rattle.std.proofs.Common.{slice_index_or, Option, Some, None, IsSome, OnSome, refl, ap, sym, subst, inl, inr, arith, add-one}
 use Rattle.std.specs.List.{filter, remove}
 use Rattle.std.specs.List.Sorted.{IsPartitionedBy, IsPartitionPoint}
-use Rattle.dt_lists.specs.Lists.{AllIn, AnyIn, EachThen, Has}
-use Rattle.dt_lists.proofs.Callers.{all_get, either_le, filter_each}
+use Rattle.dt_lists.specs.Lists.{AllIn, Has}
+use Rattle.dt_lists.proofs.Callers.{all_get, either_le}
 use Rattle.dt_queue.specs.declared.mark.Mark.{Mark}
 use Rattle.dt_queue.specs.Lanes.{HasRisingNumbers, EndsBelow, IsBetween, IsFirstBetween, IsLastBetween, is_between}
 

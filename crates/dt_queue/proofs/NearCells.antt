@@ -1,9 +1,9 @@
 -- The marks of the nearest cells before a cell that clash with it, as they are found in the lanes.
-use Rattle.std.proofs.Common.{◌≡◌, ◌≢◌, ◌⊎◌, ◌↔◌, ℕ, zero, suc, ◌<◌, ◌≤◌, Bool, true, false, List, []}
-use Rattle.std.proofs.Common.{◌∷◌, length, get_or, Option, Some, None, option_to_list, refl, ap, sym, subst, inl, inr, arith, ◌∙◌}
+use Rattle.std.proofs.Common.{◌≡◌, ◌⊎◌, ℕ, ◌<◌, ◌≤◌, true, false, List, []}
+use Rattle.std.proofs.Common.{◌∷◌, Option, Some, None, option_to_list, refl, ap, sym, subst, inl, inr, arith, ◌∙◌}
 use Rattle.std.specs.List.{filter}
 use Rattle.slab.specs.Slab.{get}
-use Rattle.dt_lists.specs.Lists.{AllIn, AnyIn, Has}
+use Rattle.dt_lists.specs.Lists.{Has}
 use Rattle.dt_lists.proofs.Callers.{all_get, any_get, any_put}
 use Rattle.dt_access.specs.Clash.{is_whole}
 use Rattle.dt_access.specs.declared.access.Mode.{Mode}
@@ -12,10 +12,10 @@ use Rattle.dt_queue.specs.declared.cell.Cell.{Cell}
 use Rattle.dt_queue.specs.declared.mark.Mark.{Mark}
 use Rattle.dt_queue.specs.declared.kept.Kept.{Kept}
 use Rattle.dt_queue.specs.Kept.{CellsClash, AreQueuesKept, IsNearInMode, IsNearMark, IsNearOf, lane, mark_of}
-use Rattle.dt_queue.specs.Lanes.{AreMarks, HasRisingNumbers, IsBetween, IsLastBetween, IsNearInRow, NoneBetween, is_between, number_or}
+use Rattle.dt_queue.specs.Lanes.{AreMarks, HasRisingNumbers, IsBetween, IsLastBetween, IsNearInRow, is_between, number_or}
 use Rattle.dt_queue.specs.Rows.{granule_at, rows_at}
 use Rattle.dt_queue.proofs.NearMarks.{IsRow, in_between, near_reads, near_write, row_of, same_mark, trichotomy}
-use Rattle.dt_queue.proofs.CellUses.{InUseOf, IsMarkOf, IsPart, apart_lanes, cell_of, clash_turned, clash_uses, in_lane, lane_tells}
+use Rattle.dt_queue.proofs.CellUses.{InUseOf, IsMarkOf, IsPart, apart_lanes, cell_of, clash_turned, clash_uses, lane_tells}
 use Rattle.dt_queue.proofs.CellUses.{number_of, on_one_row, one_cell, one_granule, part_of, reads_agree, taker_of, use_clashes, whole_clashes, write_clashes}
 
 -- ---- a row where no mark is nearest has none

@@ -1,15 +1,15 @@
 -- What is nearest in several rows: the marks of all of them, put together and sorted by their numbers.
 use Rattle.std.proofs.Common.{◌≡◌, ◌⊎◌, ◌↔◌, ℕ, zero, suc, ◌<◌, ◌≤◌, Bool, true, false, cond, ◌==◌, nat_lt, List, []}
-use Rattle.std.proofs.Common.{◌∷◌, ◌++◌, length, get_or, take, Option, Some, None, ◌||◌, refl, ap, sym, subst, inl, inr, arith, ◌∙◌}
+use Rattle.std.proofs.Common.{◌∷◌, ◌++◌, length, get_or, take, Option, Some, None, ◌||◌, refl, sym, subst, inl, inr, arith, ◌∙◌}
 use Rattle.std.specs.List.{Contains, IsDistinct}
 use Rattle.std.specs.List.Sorted.{IsNonDecreasingBy, IsPermutation}
 use Rattle.std.proofs.lemmas.List.Sorted.{Contains-permutation, IsPermutation-sym}
 use Rattle.std.proofs.lemmas.Map.Keys.{IsDistinct-IsPermutation}
 use Rattle.dt_lists.specs.Lists.{AllIn, AnyIn, Distinct, EachThen, Has}
-use Rattle.dt_lists.proofs.Callers.{all_get, all_map, all_put, any_append, any_append_left, any_append_right, any_get, any_map, each_across, each_append, each_map}
+use Rattle.dt_lists.proofs.Callers.{all_get, all_map, all_put, any_append, any_append_left, any_append_right, any_get, each_append, each_map}
 use Rattle.dt_queue.specs.declared.mark.Mark.{Mark}
 use Rattle.dt_queue.specs.declared.next.Next.{Next}
-use Rattle.dt_queue.specs.Lanes.{AddsMarks, AreApart, AreMarks, HasRisingNumbers, IsNearInRow, IsNextInRow, earlier}
+use Rattle.dt_queue.specs.Lanes.{AddsMarks, AreApart, AreMarks, HasRisingNumbers, IsNearInRow, earlier}
 use Rattle.dt_queue.specs.Next.{IsFirstAfter, IsKnownNext}
 use Rattle.dt_queue.proofs.Marks.{has_index}
 

@@ -1,17 +1,15 @@
 -- What is shown of the cells: which entries wait, what their neighbours are, and what follows them.
-use Rattle.std.proofs.Common.{◌≡◌, ◌≢◌, ◌⊎◌, ◌↔◌, ℕ, zero, suc, ◌<◌, ◌≤◌, Bool, true, false, cond, not, ◌&&◌, ◌||◌, ◌==◌, nat_lt, List}
+use Rattle.std.proofs.Common.{◌≡◌, ◌⊎◌, ℕ, ◌<◌, ◌≤◌, Bool, true, false, cond, not, ◌&&◌, ◌||◌, ◌==◌, nat_lt, List}
 use Rattle.std.proofs.Common.{[], ◌∷◌, ◌++◌, map, length, slice_get, Option, Some, None, option_map, refl, ap, ap₂, sym, subst, inl, inr, arith, ◌∙◌}
-use Rattle.std.specs.List.{filter, list_any}
+use Rattle.std.specs.List.{filter}
 use Rattle.std.proofs.lemmas.Simd.{map-map}
 use Rattle.std.proofs.lemmas.Option.{slice_get-get_or}
-use Rattle.slab.specs.Slab.{Slab, Updates, get, entries, entries_from}
-use Rattle.dt_lists.specs.Lists.{AllIn, AnyIn, Distinct, EachThen, Has, IsFront}
+use Rattle.slab.specs.Slab.{Updates, get, entries, entries_from}
+use Rattle.dt_lists.specs.Lists.{AnyIn, Distinct, EachThen, Has, IsFront}
 use Rattle.dt_lists.proofs.Callers.{all_get, any_get, any_image, any_of_image, any_of_test, any_put, ascending_same, each_at, each_image, filter_each, has_filter, has_map, has_of_filtered, test_of_any}
-use Rattle.dt_access.specs.Granules.{granule_of}
-use Rattle.dt_access.specs.Clash.{Bytes, is_whole, is_write, uses_clash}
+use Rattle.dt_access.specs.Clash.{Bytes, is_whole, is_write}
 use Rattle.dt_access.proofs.Callers.{clash_cases, uses_of_granule, uses_of_row}
 use Rattle.dt_queue.specs.declared.cell.Cell.{Cell}
-use Rattle.dt_queue.specs.declared.follower.Follower.{Follower}
 use Rattle.dt_queue.specs.declared.mark.Mark.{Mark}
 use Rattle.dt_queue.specs.declared.kept.Kept.{Kept}
 use Rattle.dt_queue.specs.declared.rows.Rows.{Rows}
@@ -20,11 +18,11 @@ use Rattle.std.proofs.lemmas.List.{get_or_append_left, map-append}
 use Rattle.dt_queue.specs.Kept.{AddsCell, CellsClash, AreQueuesKept, IsNearMark, IsNextMark, entry, in_order, mark_of, waiting_of}
 use Rattle.dt_queue.specs.Lanes.{AreMarks}
 use Rattle.dt_queue.specs.Next.{IsFirstAfter}
-use Rattle.dt_queue.specs.Queues.{IsQueued, Waiting, pushed_after, pushed_before, entry_at, follower_of, followers_after, is_at, is_neighbour, nearest, neighbours, taken_out}
+use Rattle.dt_queue.specs.Queues.{IsQueued, Waiting, follower_of, followers_after, is_at, is_neighbour, nearest, neighbours, taken_out}
 use Rattle.dt_queue.specs.Rows.{granule_at, granule_name, name_at}
 use Rattle.dt_queue.proofs.InOrder.{IsListed, Rise, listed, listed_less, listed_more, same_list}
 use Rattle.dt_queue.proofs.NearMarks.{trichotomy}
-use Rattle.dt_queue.proofs.ShownLists.{IsFree, Slots, after_is, before_is, entry_is, greater, lesser, meets, near_in, near_rises, nearest_is, of_near, slots_of, to_near, without_is}
+use Rattle.dt_queue.proofs.ShownLists.{Slots, after_is, before_is, entry_is, greater, lesser, meets, near_in, near_rises, nearest_is, of_near, slots_of, to_near, without_is}
 
 -- in a list without repeats an item stands at one place
 unique_at : {A : Type 0} (xs : List A) (i j : ℕ) (a : A) → Distinct xs → slice_get xs i ≡ Some a → slice_get xs j ≡ Some a → i ≡ j

@@ -1,10 +1,10 @@
 -- The list of entries that is shown of the cells in their order: what stands before and after an entry, and what is nearest.
-use Rattle.std.proofs.Common.{◌≡◌, ◌≢◌, ◌⊎◌, ◌↔◌, ℕ, zero, suc, ◌<◌, ◌≤◌, Bool, true, false, cond, not, ◌==◌, ◌&&◌, ◌||◌}
-use Rattle.std.proofs.Common.{nat_lt, List, [], ◌∷◌, map, length, Option, Some, None, refl, ap, ap₂, sym, subst, inl, inr, arith, ◌∙◌}
+use Rattle.std.proofs.Common.{◌≡◌, ◌≢◌, ℕ, ◌<◌, ◌≤◌, Bool, true, false, cond, not, ◌==◌, ◌&&◌, ◌||◌}
+use Rattle.std.proofs.Common.{nat_lt, List, [], ◌∷◌, map, Some, refl, ap, sym, subst, inl, inr, arith, ◌∙◌}
 use Rattle.std.specs.List.{filter, list_any}
 use Rattle.slab.specs.Slab.{Slab, get}
-use Rattle.dt_lists.specs.Lists.{AllIn, AnyIn, EachThen, Has}
-use Rattle.dt_lists.proofs.Callers.{all_get, all_map, all_put, any_of_test, any_put, any_get, each_map, test_of_any}
+use Rattle.dt_lists.specs.Lists.{AllIn, EachThen, Has}
+use Rattle.dt_lists.proofs.Callers.{all_get, all_map, all_put, any_of_test, any_put, any_get, test_of_any}
 use Rattle.dt_access.specs.Clash.{Bytes}
 use Rattle.dt_queue.specs.declared.cell.Cell.{Cell}
 use Rattle.dt_queue.specs.Kept.{entry}

@@ -3,7 +3,7 @@
 -- the order in which they were pushed, and a queue is what of this list is of its home and granule (`queue`): entries that
 -- clash are of one queue, so nothing depends on how two queues lie among each other. An entry has to wait for those before
 -- it that clash with it; it is enough that it waits for the nearest of them (`neighbours`), since these wait for the others.
-use Rattle.std.specs.Prelude.{◌≡◌, ◌≢◌, ℕ, Bool, ◌&&◌, ◌==◌, not, if◌then◌else◌, List, [], ◌∷◌, ◌++◌, map}
+use Rattle.std.specs.Prelude.{◌≡◌, ◌≢◌, ℕ, Bool, ◌&&◌, ◌==◌, not, if◌then◌else◌, List, [], ◌∷◌}
 use Rattle.std.specs.List.{filter, list_any}
 use Rattle.dt_lists.specs.Lists.{AnyIn, EachThen}
 use Rattle.dt_access.specs.Granules.{granule_of}

@@ -1,4 +1,4 @@
-use Rattle.std.proofs.Common.{◌≡◌, [], arith, ap, subst, sym, ◌∙◌}
+use Rattle.std.proofs.Common.{arith, subst, sym}
 use Rattle.std.proofs.lemmas.Result.{IfOk-weaker}
 use Rattle.dt_access.specs.declared.access.Mode.TheVariants.{Whole}
 use Rattle.dt_queue.specs.Kept.{IsNearInMode, IsNearMark, lane}

@@ -1,6 +1,6 @@
-use Rattle.std.proofs.Common.{◌≡◌, ◌≤◌, arith, ap, subst, sym, ◌∙◌}
+use Rattle.std.proofs.Common.{◌≤◌, arith}
 use Rattle.dt_access.specs.declared.access.Mode.TheVariants.{Whole}
-use Rattle.dt_queue.specs.Kept.{IsNextInMode, IsNextMark, lane}
+use Rattle.dt_queue.specs.Kept.{IsNextInMode, lane}
 use Rattle.dt_queue.specs.Lanes.{IsFirstBetween, number_or}
 use Rattle.dt_queue.specs.Next.{IsKnownNext}
 use Rattle.dt_queue.specs.Rows.{granule_at}

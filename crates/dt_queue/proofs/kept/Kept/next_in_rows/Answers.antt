@@ -1,8 +1,7 @@
-use Rattle.std.proofs.Common.{arith, length, ◌<◌, ap, subst, sym}
-use Rattle.dt_queue.specs.Rows.{granule_at}
+use Rattle.std.proofs.Common.{arith}
 use Rattle.dt_queue.proofs.CellUses.{apart_lanes}
 use Rattle.dt_queue.proofs.KeptLanes.{granule_in}
-use Rattle.dt_access.specs.declared.access.Mode.TheVariants.{Read, Write, Whole}
+use Rattle.dt_access.specs.declared.access.Mode.TheVariants.{Write}
 use Rattle.dt_queue.proofs.kept.Kept.next_in_rows.Goals as goal
 
 pub granule_of-requires : goal.granule_of-requires

@@ -1,14 +1,13 @@
-use Rattle.std.proofs.Common.{◌≡◌, ◌<◌, ◌+◌, ◌^◌, ◌++◌, ◌∷◌, [], length, get_or, ℕ, None, Some, refl, ap, sym, subst, ◌∙◌, arith}
+use Rattle.std.proofs.Common.{◌≡◌, ◌<◌, ◌+◌, ◌^◌, ℕ, None, Some, refl, ap, sym, subst, ◌∙◌, arith}
 use Rattle.std.proofs.lemmas.Option.{get_or_from_slice_get}
-use Rattle.slab.specs.Slab.{Slab, Updates, get, slab_len}
+use Rattle.slab.specs.Slab.{Slab, Updates, get}
 use Rattle.dt_lists.proofs.Callers.{place_within}
-use Rattle.dt_access.specs.declared.access.Mode.{Mode}
 use Rattle.dt_queue.specs.declared.cell.Cell.{Cell}
 use Rattle.dt_queue.specs.declared.kept.Kept.{Kept}
 use Rattle.dt_lists.specs.Lists.{IsFront}
 use Rattle.dt_queue.specs.declared.rows.Rows.{Rows}
 use Rattle.dt_queue.specs.Rows.{AreRowsLinked, KeepsRows, name_at}
-use Rattle.dt_queue.specs.Kept.{lane, place_at}
+use Rattle.dt_queue.specs.Kept.{place_at}
 use Rattle.dt_queue.proofs.KeptLanes.{all_before, kept_same, push_steps, same_lanes, to_err}
 use Rattle.dt_queue.proofs.kept.Kept.push.Goals as goal
 

@@ -1,7 +1,6 @@
-use Rattle.std.proofs.Common.{◌≡◌, refl, None, ap, sym, subst, ◌∙◌, arith}
-use Rattle.slab.specs.Slab.{Slab, Updates, get}
+use Rattle.std.proofs.Common.{None, sym, subst, arith}
+use Rattle.slab.specs.Slab.{Slab, Updates}
 use Rattle.dt_queue.specs.declared.cell.Cell.{Cell}
-use Rattle.dt_queue.specs.declared.kept.Kept.{Kept}
 use Rattle.dt_queue.proofs.KeptLanes.{kept_removed}
 use Rattle.dt_queue.proofs.kept.Kept.remove.Goals as goal
 

@@ -1,6 +1,5 @@
-use Rattle.std.proofs.Common.{nat_lt, rules, arith, ◌∙◌}
+use Rattle.std.proofs.Common.{nat_lt, rules, arith}
 use Rattle.std.proofs.lemmas.List.Sorted.{IsPartitionPoint-from_clause}
-use Rattle.dt_queue.specs.Lanes.{EndsBelow}
 use Rattle.dt_queue.proofs.Marks.{ends_below, parted}
 use Rattle.dt_queue.proofs.lane.Lane.below.Goals as goal
 

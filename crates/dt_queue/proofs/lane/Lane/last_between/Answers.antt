@@ -1,5 +1,4 @@
-use Rattle.std.proofs.Common.{suc, arith}
-use Rattle.dt_queue.specs.Lanes.{EndsBelow}
+use Rattle.std.proofs.Common.{arith}
 use Rattle.dt_queue.proofs.Marks.{last_is, last_is_before, last_is_none}
 use Rattle.dt_queue.proofs.lane.Lane.last_between.Goals as goal
 

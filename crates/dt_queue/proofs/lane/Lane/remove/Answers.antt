@@ -1,8 +1,8 @@
-use Rattle.std.proofs.Common.{◌≡◌, ◌<◌, ◌≤◌, length, refl, arith, subst, sym, ◌∙◌, ap}
+use Rattle.std.proofs.Common.{◌≡◌, ◌<◌, ◌≤◌, length, refl, arith, sym, ◌∙◌, ap}
 use Rattle.std.specs.List.{remove}
 use Rattle.dt_lists.proofs.Callers.{filter_each}
 use Rattle.dt_queue.specs.declared.mark.Mark.{Mark}
-use Rattle.dt_queue.specs.Lanes.{HasRisingNumbers, EndsBelow}
+use Rattle.dt_queue.specs.Lanes.{EndsBelow}
 use Rattle.dt_queue.proofs.Marks.{is_not, on_some, past_end, removed, untouched}
 use Rattle.dt_queue.proofs.lane.Lane.remove.Goals as goal
 

@@ -1,4 +1,4 @@
-use Rattle.std.proofs.Common.{◌≡◌, [], get_or, length, take, sym, subst, refl, arith}
+use Rattle.std.proofs.Common.{◌≡◌, [], get_or, take, subst, refl, arith}
 use Rattle.std.proofs.lemmas.List.{take_more, take_all}
 use Rattle.dt_lists.specs.Lists.{AnyIn}
 use Rattle.dt_queue.specs.Lanes.{IsNextInRow}

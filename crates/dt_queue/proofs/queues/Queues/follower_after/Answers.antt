@@ -1,4 +1,4 @@
-use Rattle.std.proofs.Common.{IsSome, refl, ap, map, sym, subst, ◌∙◌}
+use Rattle.std.proofs.Common.{IsSome, refl, sym, subst}
 use Rattle.dt_queue.proofs.ShownCells.{follower_is, waits}
 use Rattle.dt_queue.proofs.queues.Queues.follower_after.Goals as goal
 

@@ -1,4 +1,3 @@
-use Rattle.std.proofs.Common.{◌≡◌, ap, sym, subst, ◌∙◌}
 use Rattle.std.proofs.lemmas.Result.{IfOk-weaker}
 use Rattle.dt_queue.proofs.KeptLanes.{on_err}
 use Rattle.dt_queue.proofs.ShownCells.{shown_fresh, shown_push, shown_same}

@@ -1,7 +1,6 @@
-use Rattle.std.proofs.Common.{◌≡◌, ◌++◌, ◌∷◌, [], map, length, ap, ap₂, sym, subst, ◌∙◌, arith}
+use Rattle.std.proofs.Common.{◌≡◌, ◌++◌, ◌∷◌, [], map, length, ap, ◌∙◌, arith}
 use Rattle.std.proofs.lemmas.List.{length-map, map-append}
 use Rattle.dt_lists.proofs.Callers.{get_seam}
-use Rattle.dt_queue.specs.Rows.{AreTied}
 use Rattle.dt_queue.proofs.RowLists.{added_name, named_at, tied_granule, unnamed}
 use Rattle.dt_queue.proofs.rows.Rows.granule.Goals as goal
 
