@@ -1,0 +1,383 @@
+-- How lanes follow the cells: a mark is added where a cell is, and taken out where it is taken out.
+use Rattle.std.proofs.Common.{◌≡◌, ◌≢◌, ◌⊎◌, ◌↔◌, ℕ, ◌+◌, ◌<◌, ◌≤◌, ◌^◌, Bool, true, false, not, ◌==◌, List, [], ◌∷◌, ◌++◌}
+use Rattle.std.proofs.Common.{length, get_or, slice_index_or, Some, None, Result, Ok, Err, OnOk, OnErr, refl, ap, sym, subst, inl, inr, arith, ◌∙◌, length-append}
+use Rattle.std.specs.List.{filter}
+use Rattle.slab.specs.Slab.{Slab, Updates, get}
+use Rattle.dt_lists.specs.Lists.{AllIn, Has, IsFront}
+use Rattle.dt_lists.proofs.Callers.{all_put, any_append, any_append_left, any_append_right, either_nat, filter_each, front_refl, has_filter, has_of_filtered, place_within}
+use Rattle.std.proofs.lemmas.List.{length-map}
+use Rattle.dt_access.specs.declared.access.Mode.{Mode}
+use Rattle.dt_access.specs.declared.access.Mode.TheVariants.{Read, Write, Whole}
+use Rattle.dt_queue.specs.declared.cell.Cell.{Cell}
+use Rattle.dt_queue.specs.declared.mark.Mark.{Mark}
+use Rattle.dt_queue.specs.declared.kept.Kept.{Kept}
+use Rattle.dt_queue.specs.declared.rows.Rows.{Rows}
+use Rattle.dt_queue.specs.Kept.{ChangesLaneOf, IsInLane, AreQueuesKept, IsLane, KeepsLanes, lane, mark_of, place_at}
+use Rattle.dt_queue.specs.Lanes.{ChangesLane, SameLanes}
+use Rattle.dt_queue.specs.Rows.{AreRowsLinked, KeepsRows, granule_at}
+use Rattle.dt_queue.proofs.Marks.{numbered_more}
+use Rattle.dt_queue.proofs.InOrder.{AreAlone}
+
+none_some : (c : Cell) → None ≡ Some c → ⊥
+none_some c e = cc
+
+some_same : (c d : Cell) → Some c ≡ Some d → c ≡ d
+some_same c d e = cc
+
+-- what a lane has depends on P at the cells that there are
+pub lane_map : (cells : Slab Cell) (P Q : Cell → Type 0) (ms : List Mark) → ((s : ℕ) (c : Cell) → get cells s ≡ Some c → P c ↔ Q c) → IsLane cells P ms → IsLane cells Q ms
+lane_map cells P Q ms f l = record {
+  numbered = l.numbered;
+  members = λ m. (
+    λ h. let r = (l.members m).0 h in (r.0, r.1, (f m.slot r.0 r.1).0 r.2, r.3),
+    λ r. (l.members m).1 (r.0, r.1, (f m.slot r.0 r.1).1 r.2, r.3),
+  );
+}
+
+-- the same cells have the same lanes
+pub lane_as : (a b : Slab Cell) (P : Cell → Type 0) (ms : List Mark) → ((s : ℕ) → get b s ≡ get a s) → IsLane a P ms → IsLane b P ms
+lane_as a b P ms same l = record {
+  numbered = l.numbered;
+  members = λ m. (
+    λ h. let r = (l.members m).0 h in (r.0, same m.slot ∙ r.1, r.2, r.3),
+    λ r. (l.members m).1 (r.0, sym (same m.slot) ∙ r.1, r.2, r.3),
+  );
+}
+
+-- a cell of the lane was put behind all others
+pub lane_more : (a b : Slab Cell) (P : Cell → Type 0) (ms : List Mark) (slot : ℕ) (c : Cell) → IsLane a P ms → Updates a b slot (Some c) → get a slot ≡ None → P c → AllIn (λ m. m.number < c.number) ms
+    → IsLane b P (ms ++ mark_of slot c ∷ [])
+lane_more a b P ms slot c l up vacant p all = record {
+  numbered = numbered_more ms (mark_of slot c) l.numbered all;
+  members = λ m. (
+    λ h. elim (any_append _ ms (mark_of slot c ∷ []) h) [
+      | inl g ↦ let r = (l.members m).0 g in (r.0, up.others m.slot (λ s. none_some r.0 (sym vacant ∙ ap (get a) (sym s) ∙ r.1)) ∙ r.1, r.2, r.3)
+      | inr g ↦ elim g [ inl e ↦ subst (λ (k : Mark). (d : Cell) × (get b k.slot ≡ Some d) × P d × (k ≡ mark_of k.slot d)) e (c, up.changed, p, refl) | inr f ↦ absurd f ]
+    ],
+    λ r. elim (either_nat m.slot slot) [
+      | inl s ↦ any_append_right _ ms (mark_of slot c ∷ []) (inl (here m r.0 s r.1 r.3))
+      | inr ne ↦ any_append_left _ ms (mark_of slot c ∷ []) ((l.members m).1 (r.0, sym (up.others m.slot ne) ∙ r.1, r.2, r.3))
+    ],
+  );
+}
+  where
+    here : (m : Mark) (d : Cell) → m.slot ≡ slot → get b m.slot ≡ Some d → m ≡ mark_of m.slot d → mark_of slot c ≡ m
+    here m d s e is = let v : c ≡ d = some_same c d (sym up.changed ∙ ap (get b) (sym s) ∙ e) in (λ i. mark_of (sym s i) (v i)) ∙ sym is
+
+-- a cell of another lane was put
+pub lane_same : (a b : Slab Cell) (P : Cell → Type 0) (ms : List Mark) (slot : ℕ) (c : Cell) → IsLane a P ms → Updates a b slot (Some c) → get a slot ≡ None → ¬ (P c) → IsLane b P ms
+lane_same a b P ms slot c l up vacant other = record {
+  numbered = l.numbered;
+  members = λ m. (
+    λ h. let r = (l.members m).0 h in (r.0, up.others m.slot (λ s. none_some r.0 (sym vacant ∙ ap (get a) (sym s) ∙ r.1)) ∙ r.1, r.2, r.3),
+    λ r. elim (either_nat m.slot slot) [
+      | inl s ↦ absurd (other (subst P (sym (some_same c r.0 (sym up.changed ∙ ap (get b) (sym s) ∙ r.1))) r.2))
+      | inr ne ↦ (l.members m).1 (r.0, sym (up.others m.slot ne) ∙ r.1, r.2, r.3)
+    ],
+  );
+}
+
+-- a cell was taken out: its lane loses its mark
+pub lane_less : (a b : Slab Cell) (P : Cell → Type 0) (ms : List Mark) (slot : ℕ) (c : Cell) → IsLane a P ms → AreAlone a → get a slot ≡ Some c → Updates a b slot None
+    → IsLane b P (filter (λ m. not (m.number == c.number)) ms)
+lane_less a b P ms slot c l alone there up = record {
+  numbered = filter_each (λ m k. m.number < k.number) (λ m. not (m.number == c.number)) ms l.numbered;
+  members = λ m. (
+    λ h. let both = has_of_filtered (λ (k : Mark). not (k.number == c.number)) ms m h in
+        let r = (l.members m).0 both.0 in
+        (r.0, up.others m.slot (λ s. differs m both.1 (number m r.0 s r.1 r.3)) ∙ r.1, r.2, r.3),
+    λ r. has_filter (λ (k : Mark). not (k.number == c.number)) ms m ((l.members m).1 (r.0, old m r.0 r.1, r.2, r.3))
+        (passes m (λ e. apart m r.0 r.1 (alone m.slot slot r.0 c (old m r.0 r.1) there (sym (ap (λ (k : Mark). k.number) r.3) ∙ e)))),
+  );
+}
+  where
+    differs : (m : Mark) → not (m.number == c.number) ≡ true → m.number ≢ c.number
+    differs m t e = absurd (grind (arith, t, e))
+
+    passes : (m : Mark) → m.number ≢ c.number → not (m.number == c.number) ≡ true
+    passes m ne = grind (arith, ne)
+
+    number : (m : Mark) (d : Cell) → m.slot ≡ slot → get a m.slot ≡ Some d → m ≡ mark_of m.slot d → m.number ≡ c.number
+    number m d s e is = ap (λ (k : Mark). k.number) is ∙ ap (λ (x : Cell). x.number) (some_same d c (sym e ∙ ap (get a) s ∙ there))
+
+    apart : (m : Mark) (d : Cell) → get b m.slot ≡ Some d → m.slot ≢ slot
+    apart m d e s = none_some d (sym up.changed ∙ ap (get b) (sym s) ∙ e)
+
+    old : (m : Mark) (d : Cell) → get b m.slot ≡ Some d → get a m.slot ≡ Some d
+    old m d e = sym (up.others m.slot (apart m d e)) ∙ e
+
+-- a cell of another lane was taken out
+pub lane_kept : (a b : Slab Cell) (P : Cell → Type 0) (ms : List Mark) (slot : ℕ) (c : Cell) → IsLane a P ms → get a slot ≡ Some c → ¬ (P c) → Updates a b slot None → IsLane b P ms
+lane_kept a b P ms slot c l there other up = record {
+  numbered = l.numbered;
+  members = λ m. (
+    λ h. let r = (l.members m).0 h in (r.0, up.others m.slot (λ s. other (subst P (some_same r.0 c (sym r.1 ∙ ap (get a) s ∙ there)) r.2)) ∙ r.1, r.2, r.3),
+    λ r. (l.members m).1 (r.0, sym (up.others m.slot (λ s. none_some r.0 (sym up.changed ∙ ap (get b) (sym s) ∙ r.1))) ∙ r.1, r.2, r.3),
+  );
+}
+
+-- ---- what all queues keep
+
+pub either_mode : (m n : Mode) → (m ≡ n) ⊎ (m ≢ n)
+either_mode Read Read = inl refl
+either_mode Read Write = inr (λ e. cc)
+either_mode Read Whole = inr (λ e. cc)
+either_mode Write Read = inr (λ e. cc)
+either_mode Write Write = inl refl
+either_mode Write Whole = inr (λ e. cc)
+either_mode Whole Read = inr (λ e. cc)
+either_mode Whole Write = inr (λ e. cc)
+either_mode Whole Whole = inl refl
+
+either_place : (m n : Mode) (p q : ℕ) → ((m ≡ n) × (p ≡ q)) ⊎ ¬ ((m ≡ n) × (p ≡ q))
+either_place m n p q = elim (either_mode m n) [
+  | inl e ↦ elim (either_nat p q) [ inl f ↦ inl (e, f) | inr ne ↦ inr (λ b. ne b.1) ]
+  | inr ne ↦ inr (λ b. ne b.0)
+]
+
+-- lanes are the same where all three lists are
+pub same_lanes : (a b : Kept) → a.reads ≡ b.reads → a.writes ≡ b.writes → a.wholes ≡ b.wholes → (m : Mode) (p : ℕ) → lane a m p ≡ lane b m p
+same_lanes a b r w t Read p = ap (λ l. get_or l.items p []) r
+same_lanes a b r w t Write p = ap (λ l. get_or l.items p []) w
+same_lanes a b r w t Whole p = ap (λ l. get_or l.items p []) t
+
+pub place_same : (old new : Rows) → KeepsRows old new → (m : Mode) (row : ℕ) → row < length old.names.keys → place_at new m row ≡ place_at old m row
+place_same old new k Read row lt = refl
+place_same old new k Write row lt = refl
+place_same old new k Whole row lt = k.granules row lt
+
+front_length : {A : Type 0} (xs ys : List A) → IsFront xs ys → length xs ≤ length ys
+front_length xs ys f = let e : length (xs ++ f.0) ≡ length xs + length f.0 = length-append xs f.0 in omega (arith, e, ap length f.1)
+
+pub rows_refl : (r : Rows) → KeepsRows r r
+rows_refl r = record { names = front_refl r.names.keys; granules = λ row lt. refl }
+
+-- rows may have been added, and nothing else
+pub kept_same : (k n : Kept) → AreQueuesKept k → AreRowsLinked n.rows → KeepsRows k.rows n.rows → ((s : ℕ) → get n.cells s ≡ get k.cells s) → n.next_number ≡ k.next_number
+    → ((m : Mode) (p : ℕ) → lane n m p ≡ lane k m p) → AreQueuesKept n
+kept_same k n kept linked keeps cells next lanes = record {
+  linked = linked;
+  first = subst (λ i. 0 < i) (sym next) kept.first;
+  last = subst (λ i. i < 2 ^ 64) (sym next) kept.last;
+  counted = λ s c e. let b = kept.counted s c (sym (cells s) ∙ e) in (b.0, subst (λ i. c.number < i) (sym next) b.1);
+  alone = λ s t c d e f g. kept.alone s t c d (sym (cells s) ∙ e) (sym (cells t) ∙ f) g;
+  known = λ s c e. let lt = kept.known s c (sym (cells s) ∙ e) in omega (arith, lt, front_length _ _ keeps.names);
+  lanes = λ m p. subst (IsLane n.cells (IsInLane n.rows m p)) (sym (lanes m p))
+      (lane_as k.cells n.cells (IsInLane n.rows m p) (lane k m p) cells
+      (lane_map k.cells (IsInLane k.rows m p) (IsInLane n.rows m p) (lane k m p) (moved m p) (kept.lanes m p)));
+}
+  where
+    moved : (m : Mode) (p s : ℕ) (c : Cell) → get k.cells s ≡ Some c → IsInLane k.rows m p c ↔ IsInLane n.rows m p c
+    moved m p s c e = let same = place_same k.rows n.rows keeps m c.row (kept.known s c e) in (λ b. (b.0, same ∙ b.1), λ b. (b.0, sym same ∙ b.1))
+
+-- a cell was put behind all others, and its mark in its lane
+pub kept_pushed : (k n : Kept) (slot : ℕ) (c : Cell) → AreQueuesKept k → AreRowsLinked n.rows → KeepsRows k.rows n.rows → Updates k.cells n.cells slot (Some c) → get k.cells slot ≡ None
+    → c.number ≡ k.next_number → n.next_number ≡ c.number + 1 → n.next_number < 2 ^ 64 → c.row < length n.rows.names.keys
+    → lane n c.mode (place_at n.rows c.mode c.row) ≡ lane k c.mode (place_at n.rows c.mode c.row) ++ mark_of slot c ∷ []
+    → ((m : Mode) (p : ℕ) → ¬ ((m ≡ c.mode) × (p ≡ place_at n.rows c.mode c.row)) → lane n m p ≡ lane k m p) → AreQueuesKept n
+kept_pushed k n slot c kept linked keeps up vacant number next within row changed others = record {
+  linked = linked;
+  first = omega (arith, next);
+  last = within;
+  counted = λ s d e. counted s d e (either_nat s slot);
+  alone = λ s t d x e f g. alone s t d x e f g (either_nat s slot) (either_nat t slot);
+  known = λ s d e. known s d e (either_nat s slot);
+  lanes = λ m p. lanes m p (either_place m c.mode p (place_at n.rows c.mode c.row));
+}
+  where
+    is_new : (s : ℕ) (d : Cell) → s ≡ slot → get n.cells s ≡ Some d → d ≡ c
+    is_new s d e f = some_same d c (sym f ∙ ap (get n.cells) e ∙ up.changed)
+
+    is_old : (s : ℕ) (d : Cell) → s ≢ slot → get n.cells s ≡ Some d → get k.cells s ≡ Some d
+    is_old s d ne f = sym (up.others s ne) ∙ f
+
+    below : (s : ℕ) (d : Cell) → s ≢ slot → get n.cells s ≡ Some d → d.number < c.number
+    below s d ne f = let b = kept.counted s d (is_old s d ne f) in omega (arith, b.1, number)
+
+    counted : (s : ℕ) (d : Cell) → get n.cells s ≡ Some d → (s ≡ slot) ⊎ (s ≢ slot) → (0 < d.number) × (d.number < n.next_number)
+    counted s d e (inl s') = let v : d.number ≡ c.number = ap (λ (x : Cell). x.number) (is_new s d s' e) in (omega (arith, v, number, kept.first), omega (arith, v, next))
+    counted s d e (inr ne) = let b = kept.counted s d (is_old s d ne e) in (b.0, omega (arith, below s d ne e, next))
+
+    alone : (s t : ℕ) (d x : Cell) → get n.cells s ≡ Some d → get n.cells t ≡ Some x → d.number ≡ x.number → (s ≡ slot) ⊎ (s ≢ slot) → (t ≡ slot) ⊎ (t ≢ slot) → s ≡ t
+    alone s t d x e f g (inl a) (inl b) = a ∙ sym b
+    alone s t d x e f g (inl a) (inr b) = let v : d.number ≡ c.number = ap (λ (x : Cell). x.number) (is_new s d a e) in absurd (omega (arith, v, g, below t x b f))
+    alone s t d x e f g (inr a) (inl b) = let v : x.number ≡ c.number = ap (λ (x : Cell). x.number) (is_new t x b f) in absurd (omega (arith, v, g, below s d a e))
+    alone s t d x e f g (inr a) (inr b) = kept.alone s t d x (is_old s d a e) (is_old t x b f) g
+
+    known : (s : ℕ) (d : Cell) → get n.cells s ≡ Some d → (s ≡ slot) ⊎ (s ≢ slot) → d.row < length n.rows.names.keys
+    known s d e (inl s') = subst (λ (x : Cell). x.row < length n.rows.names.keys) (sym (is_new s d s' e)) row
+    known s d e (inr ne) = let lt = kept.known s d (is_old s d ne e) in omega (arith, lt, front_length _ _ keeps.names)
+
+    moved : (m : Mode) (p s : ℕ) (d : Cell) → get k.cells s ≡ Some d → IsInLane k.rows m p d ↔ IsInLane n.rows m p d
+    moved m p s d e = let same = place_same k.rows n.rows keeps m d.row (kept.known s d e) in (λ b. (b.0, same ∙ b.1), λ b. (b.0, sym same ∙ b.1))
+
+    had : (m : Mode) (p : ℕ) → IsLane k.cells (IsInLane n.rows m p) (lane k m p)
+    had m p = lane_map k.cells (IsInLane k.rows m p) (IsInLane n.rows m p) (lane k m p) (moved m p) (kept.lanes m p)
+
+    all_below : (m : Mode) (p : ℕ) → AllIn (λ (x : Mark). x.number < c.number) (lane k m p)
+    all_below m p = all_put _ (lane k m p) (λ x h. let r = ((kept.lanes m p).members x).0 h in
+        let v : x.number ≡ r.0.number = ap (λ (y : Mark). y.number) r.3 in
+        omega (arith, v, (kept.counted x.slot r.0 r.1).1, number))
+
+    lanes : (m : Mode) (p : ℕ) → ((m ≡ c.mode) × (p ≡ place_at n.rows c.mode c.row)) ⊎ ¬ ((m ≡ c.mode) × (p ≡ place_at n.rows c.mode c.row)) → IsLane n.cells (IsInLane n.rows m p) (lane n m p)
+    lanes m p (inr ne) = subst (IsLane n.cells (IsInLane n.rows m p)) (sym (others m p ne))
+        (lane_same k.cells n.cells (IsInLane n.rows m p) (lane k m p) slot c (had m p) up vacant (λ b. ne (sym b.0, sym b.1 ∙ ap (λ x. place_at n.rows x c.row) (sym b.0))))
+    lanes m p (inl b) =
+        subst (λ x. IsLane n.cells (IsInLane n.rows x p) (lane n x p)) (sym b.0)
+        (subst (λ q. IsLane n.cells (IsInLane n.rows c.mode q) (lane n c.mode q)) (sym b.1)
+        (subst (IsLane n.cells (IsInLane n.rows c.mode (place_at n.rows c.mode c.row))) (sym changed)
+        (lane_more k.cells n.cells (IsInLane n.rows c.mode (place_at n.rows c.mode c.row)) (lane k c.mode (place_at n.rows c.mode c.row)) slot c
+        (had c.mode (place_at n.rows c.mode c.row)) up vacant (refl, refl) (all_below c.mode (place_at n.rows c.mode c.row)))))
+
+-- a cell was taken out, and its mark out of its lane
+pub kept_removed : (k n : Kept) (slot : ℕ) (c : Cell) → AreQueuesKept k → n.rows ≡ k.rows → get k.cells slot ≡ Some c → Updates k.cells n.cells slot None → n.next_number ≡ k.next_number
+    → lane n c.mode (place_at k.rows c.mode c.row) ≡ filter (λ m. not (m.number == c.number)) (lane k c.mode (place_at k.rows c.mode c.row))
+    → ((m : Mode) (p : ℕ) → ¬ ((m ≡ c.mode) × (p ≡ place_at k.rows c.mode c.row)) → lane n m p ≡ lane k m p) → AreQueuesKept n
+kept_removed k n slot c kept rows there up next changed others = record {
+  linked = subst AreRowsLinked (sym rows) kept.linked;
+  first = subst (λ i. 0 < i) (sym next) kept.first;
+  last = subst (λ i. i < 2 ^ 64) (sym next) kept.last;
+  counted = λ s d e. let b = kept.counted s d (old s d e) in (b.0, subst (λ i. d.number < i) (sym next) b.1);
+  alone = λ s t d x e f g. kept.alone s t d x (old s d e) (old t x f) g;
+  known = λ s d e. subst (λ (r : Rows). d.row < length r.names.keys) (sym rows) (kept.known s d (old s d e));
+  lanes = λ m p. subst (λ (r : Rows). IsLane n.cells (IsInLane r m p) (lane n m p)) (sym rows) (lanes m p (either_place m c.mode p (place_at k.rows c.mode c.row)));
+}
+  where
+    old : (s : ℕ) (d : Cell) → get n.cells s ≡ Some d → get k.cells s ≡ Some d
+    old s d e = sym (up.others s (λ f. none_some d (sym up.changed ∙ ap (get n.cells) (sym f) ∙ e))) ∙ e
+
+    lanes : (m : Mode) (p : ℕ) → ((m ≡ c.mode) × (p ≡ place_at k.rows c.mode c.row)) ⊎ ¬ ((m ≡ c.mode) × (p ≡ place_at k.rows c.mode c.row)) → IsLane n.cells (IsInLane k.rows m p) (lane n m p)
+    lanes m p (inr ne) = subst (IsLane n.cells (IsInLane k.rows m p)) (sym (others m p ne))
+        (lane_kept k.cells n.cells (IsInLane k.rows m p) (lane k m p) slot c (kept.lanes m p) there (λ b. ne (sym b.0, sym b.1 ∙ ap (λ x. place_at k.rows x c.row) (sym b.0))) up)
+    lanes m p (inl b) =
+        subst (λ x. IsLane n.cells (IsInLane k.rows x p) (lane n x p)) (sym b.0)
+        (subst (λ q. IsLane n.cells (IsInLane k.rows c.mode q) (lane n c.mode q)) (sym b.1)
+        (subst (IsLane n.cells (IsInLane k.rows c.mode (place_at k.rows c.mode c.row))) (sym changed)
+        (lane_less k.cells n.cells (IsInLane k.rows c.mode (place_at k.rows c.mode c.row)) (lane k c.mode (place_at k.rows c.mode c.row)) slot c
+        (kept.lanes c.mode (place_at k.rows c.mode c.row)) kept.alone there up)))
+
+-- ---- steps of the code
+
+pub none_kept : (k : Kept) → AreRowsLinked k.rows → k.cells.slots ≡ [] → k.reads.items ≡ [] → k.writes.items ≡ [] → k.wholes.items ≡ [] → 0 < k.next_number → k.next_number < 2 ^ 64 → AreQueuesKept k
+none_kept k linked slots reads writes wholes first last = record {
+  linked = linked;
+  first = first;
+  last = last;
+  counted = λ s c e. absurd (none s c e);
+  alone = λ s t c d e f g. absurd (none s c e);
+  known = λ s c e. absurd (none s c e);
+  lanes = λ m p. subst (IsLane k.cells (IsInLane k.rows m p)) (sym (empty m p)) (record { numbered = tt; members = λ x. (λ h. absurd h, λ r. absurd (none x.slot r.0 r.1)) });
+}
+  where
+    none : (s : ℕ) (c : Cell) → get k.cells s ≡ Some c → ⊥
+    none s c e = none_some c (subst (λ l. slice_index_or l s None ≡ Some c) slots e)
+
+    empty : (m : Mode) (p : ℕ) → lane k m p ≡ []
+    empty Read p = ap (λ l. get_or l p []) reads
+    empty Write p = ap (λ l. get_or l p []) writes
+    empty Whole p = ap (λ l. get_or l p []) wholes
+
+-- all marks have numbers that were given
+pub all_before : (k : Kept) → AreQueuesKept k → (m : Mode) (p : ℕ) → AllIn (λ (x : Mark). x.number < k.next_number) (lane k m p)
+all_before k kept m p = all_put _ (lane k m p) (λ x h. let r = ((kept.lanes m p).members x).0 h in
+    let v : x.number ≡ r.0.number = ap (λ (y : Mark). y.number) r.3 in
+    omega (arith, v, (kept.counted x.slot r.0 r.1).1))
+
+-- one lane was changed
+pub changed_read : (old new : Kept) (f : List Mark → List Mark) (mode : Mode) (row : ℕ) → mode ≡ Read → ChangesLane old.reads.items row (f (get_or old.reads.items row [])) new.reads.items
+    → new.rows ≡ old.rows → new.cells ≡ old.cells → new.next_number ≡ old.next_number → new.writes ≡ old.writes → new.wholes ≡ old.wholes
+    → ChangesLaneOf old mode (place_at old.rows mode row) (f (lane old mode (place_at old.rows mode row))) new
+changed_read old new f mode row is change rows cells number writes wholes =
+    subst (λ m. ChangesLaneOf old m (place_at old.rows m row) (f (lane old m (place_at old.rows m row))) new) (sym is)
+    (record { changed = change.changed; others = λ m p ne. other m p ne; rows = rows; cells = cells; number = number })
+  where
+    other : (m : Mode) (p : ℕ) → ¬ ((m ≡ Read) × (p ≡ row)) → lane new m p ≡ lane old m p
+    other Read p ne = change.others p (λ e. ne (refl, e))
+    other Write p ne = ap (λ l. get_or l.items p []) writes
+    other Whole p ne = ap (λ l. get_or l.items p []) wholes
+
+pub changed_write : (old new : Kept) (f : List Mark → List Mark) (mode : Mode) (row : ℕ) → mode ≡ Write → ChangesLane old.writes.items row (f (get_or old.writes.items row [])) new.writes.items
+    → new.rows ≡ old.rows → new.cells ≡ old.cells → new.next_number ≡ old.next_number → new.reads ≡ old.reads → new.wholes ≡ old.wholes
+    → ChangesLaneOf old mode (place_at old.rows mode row) (f (lane old mode (place_at old.rows mode row))) new
+changed_write old new f mode row is change rows cells number reads wholes =
+    subst (λ m. ChangesLaneOf old m (place_at old.rows m row) (f (lane old m (place_at old.rows m row))) new) (sym is)
+    (record { changed = change.changed; others = λ m p ne. other m p ne; rows = rows; cells = cells; number = number })
+  where
+    other : (m : Mode) (p : ℕ) → ¬ ((m ≡ Write) × (p ≡ row)) → lane new m p ≡ lane old m p
+    other Read p ne = ap (λ l. get_or l.items p []) reads
+    other Write p ne = change.others p (λ e. ne (refl, e))
+    other Whole p ne = ap (λ l. get_or l.items p []) wholes
+
+pub changed_whole : (old new : Kept) (f : List Mark → List Mark) (mode : Mode) (row g : ℕ) → mode ≡ Whole → g ≡ granule_at old.rows row → ChangesLane old.wholes.items g (f (get_or old.wholes.items g [])) new.wholes.items
+    → new.rows ≡ old.rows → new.cells ≡ old.cells → new.next_number ≡ old.next_number → new.reads ≡ old.reads → new.writes ≡ old.writes
+    → ChangesLaneOf old mode (place_at old.rows mode row) (f (lane old mode (place_at old.rows mode row))) new
+changed_whole old new f mode row g is same change rows cells number reads writes =
+    subst (λ m. ChangesLaneOf old m (place_at old.rows m row) (f (lane old m (place_at old.rows m row))) new) (sym is)
+    (record { changed = moved.changed; others = λ m p ne. other m p ne; rows = rows; cells = cells; number = number })
+  where
+    moved : ChangesLane old.wholes.items (granule_at old.rows row) (f (get_or old.wholes.items (granule_at old.rows row) [])) new.wholes.items
+    moved = subst (λ i. ChangesLane old.wholes.items i (f (get_or old.wholes.items i [])) new.wholes.items) same change
+
+    other : (m : Mode) (p : ℕ) → ¬ ((m ≡ Whole) × (p ≡ granule_at old.rows row)) → lane new m p ≡ lane old m p
+    other Read p ne = ap (λ l. get_or l.items p []) reads
+    other Write p ne = ap (λ l. get_or l.items p []) writes
+    other Whole p ne = moved.others p (λ e. ne (refl, e))
+
+-- no lane was changed
+pub keeps_lanes : (old new : Kept) → SameLanes old.reads.items new.reads.items → SameLanes old.writes.items new.writes.items → SameLanes old.wholes.items new.wholes.items
+    → new.rows ≡ old.rows → new.cells ≡ old.cells → new.next_number ≡ old.next_number → KeepsLanes old new
+keeps_lanes old new reads writes wholes rows cells number = record { lanes = λ m p. same m p; rows = rows; cells = cells; number = number }
+  where
+    same : (m : Mode) (p : ℕ) → lane new m p ≡ lane old m p
+    same Read p = reads p
+    same Write p = writes p
+    same Whole p = wholes p
+
+pub same_self : (lanes : List (List Mark)) → SameLanes lanes lanes
+same_self lanes place = refl
+
+pub on_ok : {A E P Q : Type 0} (r : Result A E) → (P → Q) → OnOk r P → OnOk r Q
+on_ok (Ok x) f o = f o
+on_ok (Err x) f o = o
+
+pub on_err : {A E P Q : Type 0} (r : Result A E) → (P → Q) → OnErr r P → OnErr r Q
+on_err (Ok x) f o = o
+on_err (Err x) f o = f o
+
+-- a push, step by step: rows were added, room was made, a mark was added, and the cell was put
+pub push_steps : (k mid marked n : Kept) (slot : ℕ) (c : Cell) → AreQueuesKept k → AreRowsLinked mid.rows → KeepsRows k.rows mid.rows → ((s : ℕ) → get mid.cells s ≡ get k.cells s)
+    → ((m : Mode) (p : ℕ) → lane mid m p ≡ lane k m p)
+    → ChangesLaneOf mid c.mode (place_at mid.rows c.mode c.row) (lane mid c.mode (place_at mid.rows c.mode c.row) ++ mark_of slot c ∷ []) marked
+    → n.rows ≡ marked.rows → ((m : Mode) (p : ℕ) → lane n m p ≡ lane marked m p) → Updates marked.cells n.cells slot (Some c) → get marked.cells slot ≡ None
+    → c.number ≡ k.next_number → n.next_number ≡ c.number + 1 → n.next_number < 2 ^ 64 → c.row < length mid.rows.names.keys
+    → AreQueuesKept n × Updates k.cells n.cells slot (Some c) × (get k.cells slot ≡ None)
+push_steps k mid marked n slot c kept linked keeps cells lanes change rows same up vacant number next within row =
+    let moved : n.rows ≡ mid.rows = rows ∙ change.rows in
+    let old : (s : ℕ) → get marked.cells s ≡ get k.cells s = λ s. ap (λ x. get x s) change.cells ∙ cells s in
+    let updates : Updates k.cells n.cells slot (Some c) = record { changed = up.changed; others = λ s ne. up.others s ne ∙ old s } in
+    let empty : get k.cells slot ≡ None = sym (old slot) ∙ vacant in (
+      kept_pushed k n slot c kept (subst AreRowsLinked (sym moved) linked) (subst (KeepsRows k.rows) (sym moved) keeps) updates empty number next within (subst (λ (r : Rows). c.row < length r.names.keys) (sym moved) row)
+          (subst (λ (r : Rows). lane n c.mode (place_at r c.mode c.row) ≡ lane k c.mode (place_at r c.mode c.row) ++ mark_of slot c ∷ []) (sym moved)
+          (same c.mode (place_at mid.rows c.mode c.row) ∙ change.changed ∙ ap (λ l. l ++ mark_of slot c ∷ []) (lanes c.mode (place_at mid.rows c.mode c.row))))
+          (λ m p ne. same m p ∙ change.others m p (λ b. ne (b.0, b.1 ∙ ap (λ (r : Rows). place_at r c.mode c.row) (sym moved))) ∙ lanes m p),
+      updates,
+      empty,
+    )
+
+-- the granule of a row is known
+pub granule_in : (r : Rows) → AreRowsLinked r → (row : ℕ) → row < length r.names.keys → granule_at r row < length r.rows_of.items
+granule_in r linked row lt =
+    let within = place_within r.granules.keys (granule_at r row) _ (linked.granule row lt) in
+    omega (arith, within, linked.each_granule, length-map r.rows_of.items (λ v. v.items))
+
+pub empty_of : {A : Type 0} (xs : List A) (n : ℕ) (t : Bool) → n ≡ length xs → t ≡ (n == 0) → t ≡ true → xs ≡ []
+empty_of [] n t a b c = refl
+empty_of (x ∷ xs) n t a b c = absurd (grind (arith, a, b, c))
+
+pub some_of : {A : Type 0} (xs : List A) (n : ℕ) (t : Bool) → n ≡ length xs → t ≡ (n == 0) → t ≡ false → (x : A) × Has xs x
+some_of [] n t a b c = absurd (grind (arith, a, b, c))
+some_of (x ∷ xs) n t a b c = (x, inl refl)
+
+pub to_err : {A E P : Type 0} (r : Result A E) → P → OnErr r P
+to_err (Ok x) p = tt
+to_err (Err x) p = p

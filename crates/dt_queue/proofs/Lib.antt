@@ -1,0 +1,12 @@
+pub mod Marks
+pub mod NearMarks
+pub mod RowsNear
+pub mod InOrder
+pub mod RowLists
+pub mod KeptLanes
+pub mod CellUses
+pub mod NearCells
+pub mod ShownLists
+pub mod NextCells
+pub mod ShownCells
+pub mod Callers

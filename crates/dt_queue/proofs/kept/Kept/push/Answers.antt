@@ -1,0 +1,84 @@
+use Rattle.std.proofs.Common.{◌≡◌, ◌<◌, ◌+◌, ◌^◌, ℕ, None, Some, refl, ap, sym, subst, ◌∙◌, arith}
+use Rattle.std.proofs.lemmas.Option.{get_or_from_slice_get}
+use Rattle.slab.specs.Slab.{Slab, Updates, get}
+use Rattle.dt_lists.proofs.Callers.{place_within}
+use Rattle.dt_queue.specs.declared.cell.Cell.{Cell}
+use Rattle.dt_queue.specs.declared.kept.Kept.{Kept}
+use Rattle.dt_lists.specs.Lists.{IsFront}
+use Rattle.dt_queue.specs.declared.rows.Rows.{Rows}
+use Rattle.dt_queue.specs.Rows.{AreRowsLinked, KeepsRows, name_at}
+use Rattle.dt_queue.specs.Kept.{place_at}
+use Rattle.dt_queue.proofs.KeptLanes.{all_before, kept_same, push_steps, same_lanes, to_err}
+use Rattle.dt_queue.proofs.kept.Kept.push.Goals as goal
+
+pub returns-in_err-row-clause-kept : goal.returns-in_err-row-clause-kept
+returns-in_err-row-clause-kept c =
+    let k = c.args.self.now in
+    kept_same k _ c.requires c.in_err-row.ensures.linked c.in_err-row.ensures.kept (λ s. refl) refl (λ m p. same_lanes (record k { rows = c.row.new.self }) k refl refl refl m p)
+
+pub returns-in_err-reserve-clause-kept : goal.returns-in_err-reserve-clause-kept
+returns-in_err-reserve-clause-kept c =
+    let k = c.args.self.now in
+    kept_same k _ c.requires c.in_ok-row.ensures.linked c.in_ok-row.ensures.kept (λ s. ap (λ (x : Slab Cell). get x s) c.in_err-reserve.ensures.rest_kept) refl
+    (λ m p. same_lanes (record k { cells = c.reserve.new.self; rows = c.row.new.self }) k refl refl refl m p)
+
+pub add_mark-requires : goal.add_mark-requires
+add_mark-requires c =
+    let k = c.args.self.now in
+    let mid : Kept = record k { cells = c.reserve.new.self; rows = c.row.new.self } in
+    record {
+      row_in = omega (arith, place_within c.row.new.self.names.keys c.in_ok-row.row _ c.in_ok-row.ensures.found, c.in_ok-row.ensures.linked.each_row);
+      last = rw (same_lanes mid k refl refl refl c.args.mode (place_at c.row.new.self c.args.mode c.in_ok-row.row)) (all_before k c.requires c.args.mode (place_at c.row.new.self c.args.mode c.in_ok-row.row));
+    }
+
+pub returns-in_err-add_mark-clause-kept : goal.returns-in_err-add_mark-clause-kept
+returns-in_err-add_mark-clause-kept c =
+    let k = c.args.self.now in
+    let mid : Kept = record k { cells = c.reserve.new.self; rows = c.row.new.self } in
+    let same = c.in_err-add_mark.ensures.same in
+    kept_same k c.add_mark.new.self c.requires (subst AreRowsLinked (sym same.rows) c.in_ok-row.ensures.linked) (subst (KeepsRows k.rows) (sym same.rows) c.in_ok-row.ensures.kept)
+    (λ s. ap (λ (x : Slab Cell). get x s) same.cells ∙ ap (λ (x : Slab Cell). get x s) c.in_ok-reserve.ensures.rest_kept) same.number (λ m p. same.lanes m p ∙ same_lanes mid k refl refl refl m p)
+
+pub returns-in_err-add_mark-clause-rows : goal.returns-in_err-add_mark-clause-rows
+returns-in_err-add_mark-clause-rows c = subst (λ (r : Rows). IsFront c.args.self.now.rows.names.keys r.names.keys) (sym c.in_err-add_mark.ensures.same.rows) c.in_ok-row.ensures.kept.names
+
+pub returns-in_err-add_mark-clause-same : goal.returns-in_err-add_mark-clause-same
+returns-in_err-add_mark-clause-same c = to_err _ (ap (λ (x : Slab Cell). x.slots) c.in_err-add_mark.ensures.same.cells ∙ ap (λ (x : Slab Cell). x.slots) c.in_ok-reserve.ensures.rest_kept)
+
+pub insert_reserved-requires : goal.insert_reserved-requires
+insert_reserved-requires c = rw c.in_ok-add_mark.ensures.added.cells c.in_ok-reserve.ensures.room
+
+pub returns-clause-kept : goal.returns-clause-kept
+returns-clause-kept c =
+    let k : Kept = c.args.self.now in
+    let mid : Kept = record k { cells = c.reserve.new.self; rows = c.row.new.self } in
+    let marked : Kept = c.add_mark.new.self in
+    let n : Kept = record marked { cells = c.insert_reserved.new.self; next_number = k.next_number + 1 } in
+    let cell : Cell = record { row = c.in_ok-row.row; mode = c.args.mode; vertex = c.args.vertex; number = k.next_number } in
+    let added = c.in_ok-add_mark.ensures.added in
+    let e = c.insert_reserved.ensures.key ∙ ap (λ (x : Slab Cell). x.vacant_key) added.cells ∙ sym c.vacant_key-slot.ensures.value in
+    let within : k.next_number + 1 < 2 ^ 64 = omega (arith, c.if-number.false, c.requires.last) in
+    (push_steps k mid marked n c.vacant_key-slot.result cell c.requires c.in_ok-row.ensures.linked c.in_ok-row.ensures.kept (λ s. ap (λ (x : Slab Cell). get x s) c.in_ok-reserve.ensures.rest_kept)
+    (λ m p. same_lanes mid k refl refl refl m p) added refl (λ m p. same_lanes n marked refl refl refl m p) (subst (λ s. Updates marked.cells n.cells s (Some cell)) e c.insert_reserved.ensures.updates)
+    (subst (λ s. get marked.cells s ≡ None) e c.insert_reserved.ensures.was_vacant) refl refl within (place_within c.row.new.self.names.keys c.in_ok-row.row _ c.in_ok-row.ensures.found)).0
+
+pub returns-clause-rows : goal.returns-clause-rows
+returns-clause-rows c = subst (λ (r : Rows). IsFront c.args.self.now.rows.names.keys r.names.keys) (sym c.in_ok-add_mark.ensures.added.rows) c.in_ok-row.ensures.kept.names
+
+pub returns-clause-added : goal.returns-clause-added
+returns-clause-added c =
+    let k : Kept = c.args.self.now in
+    let marked : Kept = c.add_mark.new.self in
+    let cell : Cell = record { row = c.in_ok-row.row; mode = c.args.mode; vertex = c.args.vertex; number = k.next_number } in
+    let added = c.in_ok-add_mark.ensures.added in
+    let old : (s : ℕ) → get marked.cells s ≡ get k.cells s = λ s. ap (λ (x : Slab Cell). get x s) added.cells ∙ ap (λ (x : Slab Cell). get x s) c.in_ok-reserve.ensures.rest_kept in
+    let up = c.insert_reserved.ensures.updates in
+    record {
+      cell = cell;
+      vacant = sym (old c.insert_reserved.result) ∙ c.insert_reserved.ensures.was_vacant;
+      updates = record { changed = up.changed; others = λ s ne. up.others s ne ∙ old s };
+      number = refl;
+      name = ap (λ (r : Rows). name_at r.names.keys c.in_ok-row.row) added.rows ∙ get_or_from_slice_get c.row.new.self.names.keys c.in_ok-row.row _ _ c.in_ok-row.ensures.found;
+      mode_is = refl;
+      vertex_is = refl;
+    }

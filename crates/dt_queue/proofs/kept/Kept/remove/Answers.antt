@@ -1,0 +1,20 @@
+use Rattle.std.proofs.Common.{None, sym, subst, arith}
+use Rattle.slab.specs.Slab.{Slab, Updates}
+use Rattle.dt_queue.specs.declared.cell.Cell.{Cell}
+use Rattle.dt_queue.proofs.KeptLanes.{kept_removed}
+use Rattle.dt_queue.proofs.kept.Kept.remove.Goals as goal
+
+pub remove_mark-requires : goal.remove_mark-requires
+remove_mark-requires c = let k = c.args.self.now in omega (arith, c.requires.kept.known c.args.slot c.remove-cell.result c.remove-cell.ensures.value, c.requires.kept.linked.each_row)
+
+pub returns : goal.returns
+returns c =
+    let k = c.args.self.now in
+    let n = c.remove_mark.new.self in
+    let change = c.remove_mark.ensures in
+    let updates = subst (λ (s : Slab Cell). Updates k.cells s c.args.slot None) (sym change.cells) c.remove-cell.ensures.updates in
+    record {
+      kept = kept_removed k n c.args.slot c.remove-cell.result c.requires.kept change.rows c.remove-cell.ensures.value updates change.number change.changed change.others;
+      updates = updates;
+      rows = change.rows;
+    }

@@ -1,0 +1,30 @@
+use Rattle.std.proofs.Common.{◌≡◌, [], get_or, take, subst, arith, rules}
+use Rattle.std.proofs.lemmas.List.{take_more, take_all}
+use Rattle.std.proofs.lemmas.List.Sorted.{IsNonDecreasingBy-from_sort_by_key}
+use Rattle.dt_queue.specs.Lanes.{IsNearInRow}
+use Rattle.dt_queue.proofs.RowsNear.{AreGathered, fresh_at, gathered_more, near_parted, none_gathered, sorted_marks}
+use Rattle.dt_queue.proofs.nearest.near_rows.Goals as goal
+
+pub loop-row-init : goal.loop-row-init
+loop-row-init c = rw c.new-marks.ensures.items (none_gathered _)
+
+pub loop-row-preserved : goal.loop-row-preserved
+loop-row-preserved c =
+    let reads = c.args.reads.now in
+    let writes = c.args.writes.now in
+    let rows = c.args.rows.now in
+    let i = c.loop-row.row-index in
+    rw (take_more rows i 0 c.loop-row-test.true)
+    (gathered_more (λ row m. IsNearInRow (get_or reads row []) (get_or writes row []) c.args.low c.args.high m) (near_parted reads writes c.args.low c.args.high c.requires.apart)
+    (take i rows) (get_or rows i 0) c.loop-row.marks.items c.add_row.new.marks.items (fresh_at rows i c.requires.once c.loop-row-test.true) c.loop-row.invariant c.in_ok-add_row.ensures)
+
+pub returns : goal.returns
+returns c =
+    let reads = c.args.reads.now in
+    let writes = c.args.writes.now in
+    let rows = c.args.rows.now in
+    let all : take c.loop-row.row-index rows ≡ rows = take_all c.loop-row.row-index rows (omega (arith, c.loop-row-test.false)) in
+    let gathered : AreGathered (λ row m. IsNearInRow (get_or reads row []) (get_or writes row []) c.args.low c.args.high m) rows c.loop-row.marks.items =
+    subst (λ l. AreGathered (λ row m. IsNearInRow (get_or reads row []) (get_or writes row []) c.args.low c.args.high m) l c.loop-row.marks.items) all c.loop-row.invariant in
+    sorted_marks (λ row m. IsNearInRow (get_or reads row []) (get_or writes row []) c.args.low c.args.high m) rows c.loop-row.marks.items c.sort_by_key.new.self.items gathered c.in_ok-sort_by_key.ensures.permutation
+    (IsNonDecreasingBy-from_sort_by_key (λ m. m.number) c.sort_by_key.new.self.items c.in_ok-sort_by_key.ensures.sorted (λ a r f k. search rules))

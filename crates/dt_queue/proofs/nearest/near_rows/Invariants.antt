@@ -1,0 +1,7 @@
+use Rattle.std.proofs.Common.{[], get_or, take}
+use Rattle.dt_queue.specs.Lanes.{IsNearInRow}
+use Rattle.dt_queue.proofs.RowsNear.{AreGathered}
+use Rattle.dt_queue.proofs.nearest.near_rows.Given as goal
+
+abbrev pub invariant-loop-row : goal.invariant-loop-row
+invariant-loop-row l = AreGathered (λ row m. IsNearInRow (get_or l.reads row []) (get_or l.writes row []) l.low l.high m) (take l.row-index l.rows) l.marks.items

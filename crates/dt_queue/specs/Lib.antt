@@ -1,0 +1,5 @@
+pub mod Queues
+pub mod Lanes
+pub mod Next
+pub mod Rows
+pub mod Kept

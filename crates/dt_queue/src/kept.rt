@@ -1,0 +1,199 @@
+ghost use Rattle.std.specs.Prelude.{◌≡◌, ◌<◌, ◌==◌, [], ◌∷◌, ◌++◌, length, not, None, IfOk, OnOk, OnErr};
+ghost use Rattle.std.specs.List.{filter};
+ghost use Rattle.slab.specs.Slab.{ContainsKey, Updates};
+ghost use Rattle.dt_lists.specs.Lists.{AllIn, IsFront};
+ghost use Rattle.dt_queue.specs.Lanes.{AreMarks};
+ghost use Rattle.dt_queue.specs.Next.{IsFirstAfter, IsKnownNext};
+
+use crate::cell::Cell;
+use crate::lane::Lane;
+use crate::lanes::{first_between, last_between, push_mark, remove_mark};
+use crate::mark::Mark;
+use crate::nearest::{near_row, near_rows, near_write, number_or, only};
+use crate::next::Next;
+use crate::rows::Rows;
+use dt_access::Mode;
+use dt_text::{Key, NoMemory};
+use slab::Slab;
+use std::alloc::Global;
+
+/// All entries that wait, as they are kept: a cell for each at its slot, its row, and a mark in the lane of its mode at the
+/// place of its row, or, for the mode `Whole`, of its granule.
+#[derive(Drop)]
+pub struct Kept {
+    pub cells: Slab<Cell>,
+    pub rows: Rows,
+    pub reads: Vec<Lane>,
+    pub writes: Vec<Lane>,
+    pub wholes: Vec<Lane>,
+    pub next_number: u64,
+}
+
+impl Kept {
+    ghost use Rattle.dt_queue.specs.Kept.{AddsCell, ChangesLaneOf, AreQueuesKept, IsNearInMode, IsNearMark, IsNextInMode, IsNextMark, KeepsLanes, lane, place_at};
+
+    /// No entry waits. Takes no memory.
+    pub fn new(alloc: Global) -> Self
+        ensures kept { AreQueuesKept result }
+        ensures empty { result.cells.slots ≡ [] }
+    {
+        Kept {
+            cells: Slab::new(alloc),
+            rows: Rows::new(alloc),
+            reads: Vec::new(alloc),
+            writes: Vec::new(alloc),
+            wholes: Vec::new(alloc),
+            next_number: 1,
+        }
+    }
+
+    /// Adds an entry behind all others, and gives its slot; after `NoMemory` none was added.
+    pub fn push(
+        &mut self,
+        alloc: Global,
+        home: u8,
+        key: &Key,
+        mode: Mode,
+        vertex: u32,
+    ) -> Result<usize, NoMemory>
+        requires { AreQueuesKept self.old }
+        ensures kept { AreQueuesKept self.new }
+        ensures rows { IsFront self.old.rows.names.keys self.new.rows.names.keys }
+        ensures added { IfOk result (λ slot. AddsCell self.old self.new slot (home, key.now) mode vertex) }
+        ensures same { OnErr result (self.new.cells.slots ≡ self.old.cells.slots) }
+    {
+        let number = self.next_number;
+        if number == u64::MAX {
+            return Err(NoMemory);
+        }
+        let row = self.rows.row(alloc, home, key)?;
+        self.cells.reserve(1)?;
+        let slot = self.cells.vacant_key();
+        self.add_mark(
+            alloc,
+            row,
+            mode,
+            Mark {
+                number,
+                slot,
+                vertex,
+            },
+        )?;
+        self.next_number = number + 1;
+        Ok(
+            self.cells.insert_reserved(Cell {
+                row,
+                mode,
+                vertex,
+                number,
+            }),
+        )
+    }
+
+    /// Takes out the entry at a slot. Takes no memory.
+    pub fn remove(&mut self, slot: usize)
+        requires kept { AreQueuesKept self.old }
+        requires there { ContainsKey self.old.cells slot }
+        ensures kept { AreQueuesKept self.new }
+        ensures updates { Updates self.old.cells self.new.cells slot None }
+        ensures rows { self.new.rows ≡ self.old.rows }
+    {
+        let cell = self.cells.remove(slot);
+        self.remove_mark(cell.row, cell.mode, cell.number);
+    }
+
+    /// The marks of the neighbours of an entry, in the order of their pushes.
+    pub fn near(&self, alloc: Global, cell: Cell) -> Result<Vec<Mark>, NoMemory>
+        requires kept { AreQueuesKept self.now }
+        requires row_in { cell.row < length self.now.rows.names.keys }
+        ensures { IfOk result (λ marks. AreMarks (IsNearMark self.now cell) marks.items) }
+    {
+        let granule = self.rows.granule_of(cell.row);
+        let whole = last_between(self.wholes.as_slice(), granule, 0, cell.number);
+        let marks = self.near_in_rows(alloc, cell, number_or(whole, 0))?;
+        if marks.is_empty() {
+            return only(alloc, whole);
+        }
+        Ok(marks)
+    }
+
+    /// The mark of the first follower of an entry after a number.
+    pub fn next(&self, cell: Cell, after: u64) -> Option<Mark>
+        requires kept { AreQueuesKept self.now }
+        requires row_in { cell.row < length self.now.rows.names.keys }
+        ensures { IsFirstAfter (IsNextMark self.now cell) after result }
+    {
+        let granule = self.rows.granule_of(cell.row);
+        let whole = first_between(self.wholes.as_slice(), granule, cell.number, u64::MAX);
+        let next = self.next_in_rows(cell, number_or(whole, u64::MAX), after);
+        let any = next.any;
+        if any {
+            return next.first;
+        }
+        Next::one(whole, after).first
+    }
+
+    /// Adds a mark at the back of the lane of its mode and row; after `NoMemory` all lanes are as before.
+    fn add_mark(
+        &mut self,
+        alloc: Global,
+        row: usize,
+        mode: Mode,
+        mark: Mark,
+    ) -> Result<(), NoMemory>
+        requires row_in { row < length self.old.rows.granule_of.items }
+        requires last { AllIn (λ m. m.number < mark.number) (lane self.old mode (place_at self.old.rows mode row)) }
+        ensures added { OnOk result (ChangesLaneOf self.old mode (place_at self.old.rows mode row) (lane self.old mode (place_at self.old.rows mode row) ++ mark ∷ []) self.new) }
+        ensures same { OnErr result (KeepsLanes self.old self.new) }
+    {
+        match mode {
+            Mode::Read => push_mark(alloc, &mut self.reads, row, mark),
+            Mode::Write => push_mark(alloc, &mut self.writes, row, mark),
+            Mode::Whole => push_mark(alloc, &mut self.wholes, self.rows.granule_of(row), mark),
+        }
+    }
+
+    /// Takes a mark out of the lane of its mode and row. Takes no memory.
+    fn remove_mark(&mut self, row: usize, mode: Mode, number: u64)
+        requires { row < length self.old.rows.granule_of.items }
+        ensures { ChangesLaneOf self.old mode (place_at self.old.rows mode row) (filter (λ m. not (m.number == number)) (lane self.old mode (place_at self.old.rows mode row))) self.new }
+    {
+        match mode {
+            Mode::Read => remove_mark(&mut self.reads, row, number),
+            Mode::Write => remove_mark(&mut self.writes, row, number),
+            Mode::Whole => remove_mark(&mut self.wholes, self.rows.granule_of(row), number),
+        }
+    }
+
+    /// Of the marks of reads and writes above a number those of neighbours of an entry.
+    fn near_in_rows(&self, alloc: Global, cell: Cell, low: u64) -> Result<Vec<Mark>, NoMemory>
+        requires kept { AreQueuesKept self.now }
+        requires row_in { cell.row < length self.now.rows.names.keys }
+        ensures { IfOk result (λ marks. AreMarks (IsNearInMode self.now cell low) marks.items) }
+    {
+        let reads = self.reads.as_slice();
+        let writes = self.writes.as_slice();
+        let rows = self.rows.rows_of(self.rows.granule_of(cell.row));
+        match cell.mode {
+            Mode::Read => near_write(alloc, writes, cell.row, low, cell.number),
+            Mode::Write => near_row(alloc, reads, writes, cell.row, low, cell.number),
+            Mode::Whole => near_rows(alloc, reads, writes, rows, low, cell.number),
+        }
+    }
+
+    /// What is known of the followers of an entry that read or write rows, below a number.
+    fn next_in_rows(&self, cell: Cell, high: u64, after: u64) -> Next
+        requires kept { AreQueuesKept self.now }
+        requires row_in { cell.row < length self.now.rows.names.keys }
+        ensures { IsKnownNext (IsNextInMode self.now cell high) after result }
+    {
+        let reads = self.reads.as_slice();
+        let writes = self.writes.as_slice();
+        let rows = self.rows.rows_of(self.rows.granule_of(cell.row));
+        match cell.mode {
+            Mode::Read => Next::in_lane(writes, cell.row, cell.number, high, after),
+            Mode::Write => Next::in_row(reads, writes, cell.row, cell.number, high, after),
+            Mode::Whole => Next::in_rows(reads, writes, rows, cell.number, high, after),
+        }
+    }
+}

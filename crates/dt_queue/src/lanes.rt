@@ -1,0 +1,65 @@
+ghost use Rattle.std.specs.Prelude.{◌≡◌, ◌<◌, ◌==◌, [], ◌∷◌, ◌++◌, get_or, not, OnOk, OnErr};
+ghost use Rattle.std.specs.List.{filter};
+ghost use Rattle.dt_lists.specs.Lists.{AllIn};
+ghost use Rattle.dt_queue.specs.Lanes.{ChangesLane, IsFirstBetween, IsLastBetween, SameLanes, is_between};
+
+use crate::lane::Lane;
+use crate::mark::Mark;
+use dt_text::NoMemory;
+use std::alloc::Global;
+
+/// Adds a mark at the back of the lane at a place; after `NoMemory` each lane has the marks that it had.
+pub fn push_mark(
+    alloc: Global,
+    lanes: &mut Vec<Lane>,
+    place: usize,
+    mark: Mark,
+) -> Result<(), NoMemory>
+    requires { AllIn (λ m. m.number < mark.number) (get_or lanes.old.items place []) }
+    ensures added { OnOk result (ChangesLane lanes.old.items place (get_or lanes.old.items place [] ++ mark ∷ []) lanes.new.items) }
+    ensures same { OnErr result (SameLanes lanes.old.items lanes.new.items) }
+{
+    while lanes.len() <= place {
+        lanes.push(Lane::new(alloc))?;
+    }
+    lanes[place].push(mark)
+}
+
+/// Takes the mark of a number out of the lane at a place. Takes no memory.
+pub fn remove_mark(lanes: &mut Vec<Lane>, place: usize, number: u64)
+    ensures { ChangesLane lanes.old.items place (filter (λ m. not (m.number == number)) (get_or lanes.old.items place [])) lanes.new.items }
+{
+    if place < lanes.len() {
+        lanes[place].remove(number);
+    }
+}
+
+/// The last mark of the lane at a place with a number between the two.
+pub fn last_between(lanes: &[Lane], place: usize, low: u64, high: u64) -> Option<Mark>
+    ensures { IsLastBetween low high (get_or lanes.now place []) result }
+{
+    lanes.get(place)?.last_between(low, high)
+}
+
+/// The first mark of the lane at a place with a number between the two.
+pub fn first_between(lanes: &[Lane], place: usize, low: u64, high: u64) -> Option<Mark>
+    ensures { IsFirstBetween low high (get_or lanes.now place []) result }
+{
+    lanes.get(place)?.first_between(low, high)
+}
+
+/// Appends the marks of the lane at a place with numbers between the two; after `NoMemory` maybe only some of them.
+pub fn add_between(
+    lanes: &[Lane],
+    place: usize,
+    low: u64,
+    high: u64,
+    marks: &mut Vec<Mark>,
+) -> Result<(), NoMemory>
+    ensures { OnOk result (marks.new.items ≡ marks.old.items ++ filter (is_between low high) (get_or lanes.now place [])) }
+{
+    match lanes.get(place) {
+        Some(lane) => lane.add_between(low, high, marks),
+        None => Ok(()),
+    }
+}

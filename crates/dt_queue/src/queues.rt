@@ -1,0 +1,102 @@
+ghost use Rattle.std.specs.Prelude.{◌≡◌, [], ◌∷◌, ◌++◌, map, slice_get, IfOk, OnErr};
+ghost use Rattle.dt_queue.specs.Queues.{IsQueued, follower_of, followers_after, neighbours, taken_out};
+
+use crate::follower::Follower;
+use crate::kept::Kept;
+use crate::mark::Mark;
+use dt_access::Mode;
+use dt_text::{Key, NoMemory};
+use std::alloc::Global;
+use std::marker::Model;
+
+/// The queues of all homes and granules.
+///
+/// Contracts see all entries that wait, in the order of their pushes. Each has a slot of its own while it waits; a slot is
+/// given again once its entry is taken out.
+#[derive(Drop)]
+pub struct Queues {
+    kept: Kept,
+}
+
+impl Model for Queues {
+    ghost use Rattle.std.specs.Prelude.{List};
+    ghost use Rattle.dt_queue.specs.Queues.{Waiting};
+    ghost use Rattle.dt_queue.specs.Kept.{AreQueuesKept, waiting_of};
+
+    ghost Value = { List Waiting };
+
+    ghost view = { λ q. waiting_of q.kept };
+
+    ghost invariant = { λ q. AreQueuesKept q.kept };
+}
+
+impl Queues {
+    /// No entry waits. Takes no memory.
+    pub fn new(alloc: Global) -> Self
+        ensures { result ≡ [] }
+    {
+        Queues {
+            kept: Kept::new(alloc),
+        }
+    }
+
+    /// Adds an entry at the back of its queue, and gives its slot, at which none waited; after `NoMemory` all is as before.
+    /// Pushes are numbered in 64 bits; where no number is left, the answer is `NoMemory` too.
+    pub fn push(
+        &mut self,
+        alloc: Global,
+        home: u8,
+        key: &Key,
+        mode: Mode,
+        vertex: u32,
+    ) -> Result<usize, NoMemory>
+        ensures added { IfOk result (λ slot. self.new ≡ self.old ++ record { slot = slot; home = home; key = key.now; mode = mode; vertex = vertex } ∷ []) }
+        ensures fresh { IfOk result (λ slot. ¬ (IsQueued self.old slot)) }
+        ensures same { OnErr result (self.new ≡ self.old) }
+    {
+        self.kept.push(alloc, home, key, mode, vertex)
+    }
+
+    /// The vertices of the neighbours of an entry, in the order of their pushes.
+    pub fn neighbours(&self, alloc: Global, slot: usize) -> Result<Vec<u32>, NoMemory>
+        requires { IsQueued self.now slot }
+        ensures { IfOk result (λ found. found.items ≡ map (λ w. w.vertex) (neighbours self.now slot)) }
+    {
+        let marks = self.kept.near(alloc, self.kept.cells[slot])?;
+        vertices(alloc, marks.as_slice())
+    }
+
+    /// The first follower of the entry at a slot that was pushed after the one at another slot. So its followers are found one
+    /// after the other, from those after itself on. Takes no memory.
+    pub fn follower_after(&self, slot: usize, place: usize) -> Option<Follower>
+        requires slot { IsQueued self.now slot }
+        requires place { IsQueued self.now place }
+        ensures { result ≡ slice_get (map follower_of (followers_after self.now slot place)) 0 }
+    {
+        let after = self.kept.cells[place].number;
+        let mark = self.kept.next(self.kept.cells[slot], after)?;
+        Some(Follower {
+            slot: mark.slot,
+            vertex: mark.vertex,
+        })
+    }
+
+    /// Takes the entry at a slot out of its queue. Takes no memory.
+    pub fn remove(&mut self, slot: usize)
+        requires { IsQueued self.old slot }
+        ensures { self.new ≡ taken_out self.old slot }
+    {
+        self.kept.remove(slot);
+    }
+}
+
+/// The vertices of marks, in order.
+fn vertices(alloc: Global, marks: &[Mark]) -> Result<Vec<u32>, NoMemory>
+    ensures { IfOk result (λ found. found.items ≡ map (λ m. m.vertex) marks.now) }
+{
+    let mut vertices = Vec::with_capacity(alloc, marks.len())?;
+    for mark in marks {
+        vertices.push(mark.vertex)?;
+    }
+    Ok(vertices)
+}

@@ -1,0 +1,100 @@
+ghost use Rattle.std.specs.Prelude.{◌≡◌, ◌<◌, [], slice_get, vec_len, Some, IfOk};
+ghost use Rattle.dt_lists.specs.Lists.{Has};
+
+use dt_access::granule;
+use dt_text::{Key, NoMemory};
+use indexmap::IndexSet;
+use std::alloc::Global;
+
+/// The rows that were ever waited for, each a key at a home, and their granules. A row and a granule have the number of their
+/// first use, from 0; so what is kept of them lies in lists, and their names are looked up once at each push.
+#[derive(Drop)]
+pub struct Rows {
+    pub names: IndexSet<(u8, Key)>,
+    pub granules: IndexSet<(u8, Key)>,
+    pub granule_of: Vec<usize>,
+    pub rows_of: Vec<Vec<usize>>,
+}
+
+impl Rows {
+    ghost use Rattle.dt_queue.specs.Rows.{AreRowsLinked, KeepsRows, granule_at, rows_at};
+
+    /// No row was waited for. Takes no memory.
+    pub fn new(alloc: Global) -> Self
+        ensures linked { AreRowsLinked result }
+        ensures empty { result.names.keys ≡ [] }
+    {
+        Rows {
+            names: IndexSet::new(alloc),
+            granules: IndexSet::new(alloc),
+            granule_of: Vec::new(alloc),
+            rows_of: Vec::new(alloc),
+        }
+    }
+
+    /// The row of a key at a home, which is added where it is new. All other rows stay, also after `NoMemory`.
+    pub fn row(&mut self, alloc: Global, home: u8, key: &Key) -> Result<usize, NoMemory>
+        requires { AreRowsLinked self.old }
+        ensures linked { AreRowsLinked self.new }
+        ensures kept { KeepsRows self.old self.new }
+        ensures found { IfOk result (λ row. slice_get self.new.names.keys row ≡ Some (home, key.now)) }
+    {
+        let name = (home, key.copy(alloc)?);
+        match self.names.get_index_of(&name) {
+            Some(row) => Ok(row),
+            None => self.add_row(alloc, name),
+        }
+    }
+
+    /// Adds a row.
+    fn add_row(&mut self, alloc: Global, name: (u8, Key)) -> Result<usize, NoMemory>
+        requires linked { AreRowsLinked self.old }
+        requires absent { ¬ (Has self.old.names.keys name) }
+        ensures linked { AreRowsLinked self.new }
+        ensures kept { KeepsRows self.old self.new }
+        ensures found { IfOk result (λ row. slice_get self.new.names.keys row ≡ Some name) }
+    {
+        let granule = self.granule(alloc, (name.0, granule(alloc, &name.1)?))?;
+        let row = self.granule_of.len();
+        self.granule_of.reserve(1)?;
+        self.rows_of[granule].reserve(1)?;
+        self.names.insert(name)?;
+        self.granule_of.push_reserved(granule);
+        self.rows_of[granule].push_reserved(row);
+        Ok(row)
+    }
+
+    /// The granule of this name, which is added where it is new.
+    fn granule(&mut self, alloc: Global, name: (u8, Key)) -> Result<usize, NoMemory>
+        requires { AreRowsLinked self.old }
+        ensures linked { AreRowsLinked self.new }
+        ensures names { self.new.names.keys ≡ self.old.names.keys }
+        ensures kept { KeepsRows self.old self.new }
+        ensures found { IfOk result (λ granule. slice_get self.new.granules.keys granule ≡ Some name) }
+    {
+        if let Some(granule) = self.granules.get_index_of(&name) {
+            return Ok(granule);
+        }
+        let granule = self.rows_of.len();
+        self.rows_of.reserve(1)?;
+        self.granules.insert(name)?;
+        self.rows_of.push_reserved(Vec::new(alloc));
+        Ok(granule)
+    }
+
+    /// The granule of a row. Takes no memory.
+    pub fn granule_of(&self, row: usize) -> usize
+        requires { row < vec_len self.now.granule_of }
+        ensures { result ≡ granule_at self.now row }
+    {
+        self.granule_of[row]
+    }
+
+    /// The rows of a granule. Takes no memory.
+    pub fn rows_of(&self, granule: usize) -> &[usize]
+        requires { granule < vec_len self.now.rows_of }
+        ensures { result.now ≡ rows_at self.now granule }
+    {
+        self.rows_of[granule].as_slice()
+    }
+}
