@@ -1,0 +1,4 @@
+pub mod Left
+pub mod Test
+pub mod Leaving
+pub mod Orderly

@@ -1,0 +1,2 @@
+//! The scheduler with queues.
+#![tactic(auto)]
