@@ -1,0 +1,105 @@
+ghost use Rattle.std.specs.Prelude.{◌≡◌, ◌<◌, ◌==◌, [], ◌∷◌, ◌++◌, not, OnOk, OnErr};
+ghost use Rattle.std.specs.List.{filter};
+ghost use Rattle.dt_lists.specs.Lists.{AllIn};
+ghost use Rattle.dt_queue.specs.Lanes.{EndsBelow, IsFirstBetween, IsLastBetween, is_between};
+
+use crate::mark::Mark;
+use dt_text::NoMemory;
+use std::alloc::Global;
+use std::collections::VecDeque;
+use std::marker::Model;
+
+/// The marks of entries that use one row in one way, in the order of their pushes. It is searched by halving.
+#[derive(Drop)]
+pub struct Lane {
+    marks: VecDeque<Mark>,
+}
+
+impl Model for Lane {
+    ghost use Rattle.std.specs.Prelude.{List};
+    ghost use Rattle.dt_queue.specs.declared.mark.Mark.{Mark};
+    ghost use Rattle.dt_queue.specs.Lanes.{AreNumbered};
+
+    ghost Value = { List Mark };
+
+    ghost view = { λ l. l.marks.items };
+
+    ghost invariant = { λ l. AreNumbered l.marks.items };
+}
+
+impl Lane {
+    /// A lane with no mark. Takes no memory.
+    pub fn new(alloc: Global) -> Self
+        ensures { result ≡ [] }
+    {
+        Lane {
+            marks: VecDeque::new(alloc),
+        }
+    }
+
+    /// Adds a mark at the back; after `NoMemory` the lane is as before.
+    pub fn push(&mut self, mark: Mark) -> Result<(), NoMemory>
+        requires { AllIn (λ m. m.number < mark.number) self.old }
+        ensures added { OnOk result (self.new ≡ self.old ++ mark ∷ []) }
+        ensures same { OnErr result (self.new ≡ self.old) }
+    {
+        self.marks.push_back(mark)?;
+        Ok(())
+    }
+
+    /// Takes out the mark of this number, if there is one. Takes no memory.
+    pub fn remove(&mut self, number: u64)
+        ensures { self.new ≡ filter (λ m. not (m.number == number)) self.old }
+    {
+        let place = self.below(number);
+        if let Some(mark) = self.marks.get(place) {
+            if mark.number == number {
+                self.marks.remove(place);
+            }
+        }
+    }
+
+    /// The last mark with a number between the two.
+    pub fn last_between(&self, low: u64, high: u64) -> Option<Mark>
+        ensures { IsLastBetween low high self.now result }
+    {
+        let place = self.below(high).checked_sub(1)?;
+        self.marks
+            .get(place)
+            .copied()
+            .filter(|mark| low < mark.number)
+    }
+
+    /// The first mark with a number between the two.
+    pub fn first_between(&self, low: u64, high: u64) -> Option<Mark>
+        ensures { IsFirstBetween low high self.now result }
+    {
+        let place = self.below(low.checked_add(1)?);
+        self.marks
+            .get(place)
+            .copied()
+            .filter(|mark| mark.number < high)
+    }
+
+    /// Appends the marks with numbers between the two; after `NoMemory` maybe only some of them.
+    pub fn add_between(&self, low: u64, high: u64, marks: &mut Vec<Mark>) -> Result<(), NoMemory>
+        ensures { OnOk result (marks.new.items ≡ marks.old.items ++ filter (is_between low high) self.now) }
+    {
+        let mut place = self.below(low.saturating_add(1));
+        while let Some(mark) = self.marks.get(place) {
+            if mark.number >= high {
+                break;
+            }
+            marks.push(*mark)?;
+            place += 1;
+        }
+        Ok(())
+    }
+
+    /// The place of the first mark that has not a lesser number, or the number of marks.
+    fn below(&self, number: u64) -> usize
+        ensures { EndsBelow number self.now result }
+    {
+        self.marks.partition_point(|mark| mark.number < number)
+    }
+}
