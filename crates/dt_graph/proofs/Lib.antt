@@ -4,3 +4,6 @@ pub mod Leaving
 pub mod Orderly
 pub mod Nearest
 pub mod Waits
+pub mod Fewer
+pub mod Sums
+pub mod Degrees

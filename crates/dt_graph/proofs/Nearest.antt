@@ -38,7 +38,7 @@ abbrev pub is_parted : Waiting → Waiting → List Waiting → Bool
 is_parted a x between = list_any (λ m. entries_clash a m && entries_clash m x) between
 
 -- a is one of the nearest, if these come after it
-abbrev is_near : Waiting → Waiting → List Waiting → Bool
+abbrev pub is_near : Waiting → Waiting → List Waiting → Bool
 is_near x a later = entries_clash a x && not (is_parted a x later)
 
 pub nearest_clash : (x : Waiting) (front : List Waiting) (w : Waiting) → Has (nearest x front) w → Has front w × (entries_clash w x ≡ true)
