@@ -137,7 +137,7 @@ is_leaving leaving vertex = list_any (λ u. u == vertex) leaving
 -- the neighbours that leave are counted by their followers
 module _ (waiting : List Waiting) (distinct : HasDistinctSlots waiting) (v : ℕ) where
   -- one entry that follows another, as a number
-  follows : Waiting → Waiting → ℕ
+  abbrev follows : Waiting → Waiting → ℕ
   follows s w = if w.vertex == v then (if is_neighbour waiting s.slot w.slot then 1 else 0) else 0
 
   -- counted by neighbours, counted by followers
