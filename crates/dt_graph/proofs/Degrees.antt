@@ -10,15 +10,11 @@ use Rattle.std.proofs.lemmas.List.Elements.{filter-append}
 use Rattle.dt_lists.specs.Lists.{AnyIn, AllIn, Has, EachThen}
 use Rattle.dt_lists.specs.Lists.{Distinct}
 use Rattle.dt_lists.proofs.Callers.{all_get, all_put, any_get, any_of_test, each_across, each_append_left, filter_none, has_of_filtered, Spot, spot}
-use Rattle.dt_graph.specs.Queues.{Waiting, HasDistinctSlots, is_at, nearest, neighbours, is_neighbour, followers}
-use Rattle.dt_graph.specs.Waits.{others, degree}
+use Rattle.dt_queue.specs.Queues.{Waiting, HasDistinctSlots, is_at, nearest, neighbours, is_neighbour, followers}
+use Rattle.dt_graph.specs.Waits.{others, degree, is_of, lowered, lowered_by, slots_of}
 use Rattle.dt_graph.proofs.Nearest.{is_near, nearest_clash, neighbours_split, slot_same, slot_other}
 use Rattle.dt_graph.proofs.Fewer.{KeepsLater, neighbours_kept, neighbours_pushed}
 use Rattle.dt_graph.proofs.Sums.{chosen_turned, filter_both, filter_same, length_split, sum_chosen, sum_grouped, sum_kept, sum_mapped, sum_of_ones, sum_of_sums, sum_same, sum_swapped}
-
--- whether the entry is of the vertex
-abbrev pub is_of : ℕ → Waiting → Bool
-is_of vertex w = w.vertex == vertex
 
 -- the entries that pass the test, among the neighbours of the entries of a vertex: how many there are
 abbrev pub count_neighbours : (Waiting → Bool) → List Waiting → ℕ → ℕ
@@ -117,18 +113,6 @@ neighbours_filtered waiting w distinct h = is_nearest ∙ in_all ∙ ap (λ l. f
     in_all : nearest w s.front ≡ filter test waiting
     in_all = nearest_filtered w s.front (each_append_left _ s.front (w ∷ s.rest) split) ∙ sym (append-nil (filter test s.front))
         ∙ ap (λ l. filter test s.front ++ l) (sym (filter_none test (w ∷ s.rest) later)) ∙ sym (filter-append test s.front (w ∷ s.rest)) ∙ ap (filter test) (sym s.is)
-
--- what the leaving of the entry at a slot of the vertex u takes from the degree of v: the followers that are of v
-abbrev pub lowered : List Waiting → ℕ → ℕ → ℕ → ℕ
-lowered waiting slot u v = if u == v then 0 else length (filter (is_of v) (followers waiting slot))
-
--- the slots of a vertex
-abbrev pub slots_of : List Waiting → ℕ → List ℕ
-slots_of waiting u = map (λ w. w.slot) (filter (is_of u) waiting)
-
--- what the leaving of vertices takes from the degree of v, all told
-abbrev pub lowered_by : List Waiting → List ℕ → ℕ → ℕ
-lowered_by waiting leaving v = sum_by (λ u. sum_by (λ slot. lowered waiting slot u v) (slots_of waiting u)) leaving
 
 -- whether the vertex is one of these
 abbrev pub is_leaving : List ℕ → ℕ → Bool

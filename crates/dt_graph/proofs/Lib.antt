@@ -7,3 +7,4 @@ pub mod Waits
 pub mod Fewer
 pub mod Sums
 pub mod Degrees
+pub mod Uses

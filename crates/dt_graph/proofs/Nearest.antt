@@ -7,7 +7,7 @@ use Rattle.std.proofs.lemmas.List.{append_assoc, length-append}
 use Rattle.dt_lists.specs.Lists.{AnyIn, AllIn, Has, EachThen, SomeThen}
 use Rattle.dt_lists.specs.Chain.{Chain}
 use Rattle.dt_lists.proofs.Callers.{all_get, any_get, any_of_test, has_middle, has_longer, chain_join, chain_step, Spot, spot}
-use Rattle.dt_graph.specs.Queues.{Waiting, HasDistinctSlots, entries_clash, entry_at, before, nearest, neighbours}
+use Rattle.dt_queue.specs.Queues.{Waiting, HasDistinctSlots, entries_clash, entry_at, before, nearest, neighbours}
 
 pub slot_same : (a : ℕ) → (a == a) ≡ true
 slot_same a = eq-eqb a a refl

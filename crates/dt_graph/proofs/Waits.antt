@@ -15,7 +15,7 @@ use Rattle.dt_access.proofs.Callers.{either_id, uses_clash_symmetric}
 use Rattle.dt_sched.specs.Views.{View, log_at, ids_of, AreClashing, Edge, Reaches, IsWellFormed}
 use Rattle.dt_sched.proofs.Callers.{clash_of_uses, uses_of_clash, edge_at_home, home_of_edge}
 use Rattle.dt_graph.specs.Left.{IsLeft, LeftEdge, IsFree}
-use Rattle.dt_graph.specs.Queues.{Waiting, HasDistinctSlots, entries_clash, neighbours}
+use Rattle.dt_queue.specs.Queues.{Waiting, HasDistinctSlots, entries_clash, neighbours}
 use Rattle.dt_graph.specs.Waits.{id_at, IsUseOf, WaitsWith, FollowsLog, AreUses, WaitsFor}
 use Rattle.dt_graph.proofs.Left.{left_chain, left_after, left_edge}
 use Rattle.dt_graph.proofs.Nearest.{neighbours_split, nearest_clash, IsNeighbour, chain_of_clash}

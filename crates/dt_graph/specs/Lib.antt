@@ -1,3 +1,4 @@
 pub mod Left
-pub mod Queues
 pub mod Waits
+pub mod QueueSchedView
+pub mod Graph

@@ -2,7 +2,7 @@
 -- home of the part, and the entries of a home stand in the order of its log. The vertex of an entry is a number; a list of
 -- ids tells of which transaction. What waits for what by the queues alone is `WaitsFor`; that chains of it are the reach of
 -- the view is in proofs/Waits.antt.
-use Rattle.std.specs.Prelude.{◌≡◌, ◌≢◌, ◌<◌, ℕ, Bool, ◌==◌, not, if◌then◌else◌, List, [], length, get_or, sum_by}
+use Rattle.std.specs.Prelude.{◌≡◌, ◌≢◌, ◌<◌, ℕ, Bool, ◌==◌, not, if◌then◌else◌, List, [], length, map, get_or, sum_by}
 use Rattle.std.specs.List.{filter}
 use Rattle.dt_lists.specs.Lists.{AnyIn, AllIn, EachThen, Has}
 use Rattle.dt_access.specs.Ids.{StandsBefore}
@@ -12,7 +12,7 @@ use Rattle.dt_access.specs.declared.TxnId.{TxnId}
 use Rattle.dt_access.specs.declared.Part.{Part}
 use Rattle.dt_sched.specs.Views.{View, log_at, ids_of}
 use Rattle.dt_graph.specs.Left.{IsLeft}
-use Rattle.dt_graph.specs.Queues.{Waiting, HasDistinctSlots, neighbours}
+use Rattle.dt_queue.specs.Queues.{Waiting, HasDistinctSlots, followers, neighbours}
 
 -- the id of a vertex; past the last one some id, of which nothing is said
 abbrev pub id_at : List TxnId → ℕ → TxnId
@@ -51,3 +51,19 @@ others vertex entries = filter (λ w. not (w.vertex == vertex)) entries
 -- the degree of a vertex: how many entries of other vertices its entries have as neighbours, all told
 abbrev pub degree : List Waiting → ℕ → ℕ
 degree waiting vertex = sum_by (λ w. if w.vertex == vertex then length (others vertex (neighbours waiting w.slot)) else 0) waiting
+
+-- whether the entry is of the vertex
+abbrev pub is_of : ℕ → Waiting → Bool
+is_of vertex w = w.vertex == vertex
+
+-- the slots of the entries of a vertex, in their order
+abbrev pub slots_of : List Waiting → ℕ → List ℕ
+slots_of waiting vertex = map (λ w. w.slot) (filter (is_of vertex) waiting)
+
+-- what the leaving of the entry at a slot, which is of the vertex u, takes from the degree of v: its followers that are of v
+abbrev pub lowered : List Waiting → ℕ → ℕ → ℕ → ℕ
+lowered waiting slot u v = if u == v then 0 else length (filter (is_of v) (followers waiting slot))
+
+-- what the leaving of vertices takes from the degree of v, all told
+abbrev pub lowered_by : List Waiting → List ℕ → ℕ → ℕ
+lowered_by waiting leaving v = sum_by (λ u. sum_by (λ slot. lowered waiting slot u v) (slots_of waiting u)) leaving

@@ -4,3 +4,5 @@
 
 #[cfg(test)]
 mod classes;
+#[cfg(test)]
+mod schedulers;

@@ -1,0 +1,179 @@
+use crate::class::gather;
+use crate::names::Names;
+use crate::open::Open;
+use crate::waits::Waits;
+use dt_access::{Ids, Part, TxnId};
+use dt_text::{Listed, NoMemory};
+use std::alloc::Global;
+
+/// What is left in the graph.
+#[derive(Drop)]
+pub struct Graph {
+    names: Names,
+    waits: Waits,
+    open: Vec<Open>,
+}
+
+/// A member of a class, which is compared as it runs: by rank, then by id.
+#[derive(Clone, Copy, PartialEq, Eq, PartialOrd, Ord)]
+struct Member {
+    rank: u8,
+    id: TxnId,
+    vertex: u32,
+}
+
+impl Graph {
+    /// Nothing is left. Takes no memory.
+    pub fn new(alloc: Global) -> Self {
+        Graph {
+            names: Names::new(alloc),
+            waits: Waits::new(alloc),
+            open: Vec::new(alloc),
+        }
+    }
+
+    /// Adds a part; after `NoMemory` all is as before.
+    pub fn insert(&mut self, alloc: Global, part: &Part) -> Result<(), NoMemory> {
+        match self.names.number_of(part.id) {
+            Some(vertex) => self.waits.extend(alloc, vertex, part),
+            None => {
+                self.names.reserve()?;
+                self.waits.reserve()?;
+                self.waits.add(alloc, part)?;
+                self.names.add(part.id);
+                Ok(())
+            }
+        }
+    }
+
+    /// Whether a transaction is ready.
+    pub fn is_ready(&self, id: TxnId) -> bool {
+        match self.names.number_of(id) {
+            Some(vertex) => self.waits.ready.has(vertex),
+            None => false,
+        }
+    }
+
+    /// Some transaction that is ready and none of the busy ones.
+    pub fn ready_beside(&self, busy: &[TxnId]) -> Option<TxnId> {
+        for vertex in self.waits.ready.as_slice() {
+            let id = self.names.id_of(*vertex);
+            if !busy.contains(&id) {
+                return Some(id);
+            }
+        }
+        None
+    }
+
+    /// The vertices of transactions, if all of them are stuck.
+    fn stuck_of(&self, alloc: Global, ids: &[TxnId]) -> Result<Option<Vec<u32>>, NoMemory> {
+        let mut vertices = Vec::new(alloc);
+        for id in ids {
+            match self.names.number_of(*id) {
+                Some(vertex) if self.waits.stuck.has(vertex) => vertices.push(vertex)?,
+                _ => return Ok(None),
+            }
+        }
+        Ok(Some(vertices))
+    }
+
+    /// Whether the transactions are a class of several stuck ones that wait for each other and for nothing else.
+    pub fn is_class(&self, alloc: Global, ids: &[TxnId]) -> Result<bool, NoMemory> {
+        if ids.len() < 2 {
+            return Ok(false);
+        }
+        let Some(vertices) = self.stuck_of(alloc, ids)? else {
+            return Ok(false);
+        };
+        let among = gather(
+            alloc,
+            &self.waits.queues,
+            self.waits.vertices.as_slice(),
+            vertices.as_slice(),
+        )?;
+        if !among.blocked.is_empty() {
+            return Ok(false);
+        }
+        let class = among.graph.class_of(alloc, 0)?;
+        Ok(class.len() == ids.len())
+    }
+
+    /// The transactions of some class of stuck ones that wait for each other and for nothing else, in ascending order.
+    pub fn some_class(&self, alloc: Global) -> Result<Option<Ids>, NoMemory> {
+        let stuck = self.waits.stuck.as_slice();
+        if stuck.is_empty() {
+            return Ok(None);
+        }
+        let among = gather(
+            alloc,
+            &self.waits.queues,
+            self.waits.vertices.as_slice(),
+            stuck,
+        )?;
+        match among.graph.source_class(alloc, among.blocked.as_slice())? {
+            Some(places) => Ok(Some(self.ids_at(alloc, stuck, places.as_slice())?)),
+            None => Ok(None),
+        }
+    }
+
+    /// The ids of the vertices at places of a list, in ascending order.
+    fn ids_at(&self, alloc: Global, list: &[u32], places: &[u32]) -> Result<Ids, NoMemory> {
+        let mut ids = Vec::with_capacity(alloc, places.len())?;
+        for place in places {
+            ids.push(self.names.id_of(list[*place as usize]))?;
+        }
+        ids.sort()?;
+        Ok(Ids::from_vec(ids))
+    }
+
+    /// The vertices of transactions, the soonest first.
+    fn in_order(&self, alloc: Global, ids: &[TxnId]) -> Result<Listed<u32>, NoMemory> {
+        let mut members = Vec::with_capacity(alloc, ids.len())?;
+        for id in ids {
+            if let Some(vertex) = self.names.number_of(*id) {
+                let rank = self.waits.vertices[vertex as usize].rank;
+                members.push(Member {
+                    rank,
+                    id: *id,
+                    vertex,
+                })?;
+            }
+        }
+        members.sort()?;
+        let mut vertices = Listed::new(alloc);
+        for member in members {
+            vertices.push(member.vertex)?;
+        }
+        Ok(vertices)
+    }
+
+    /// Opens a class that was resolved; after `NoMemory` all is as before.
+    pub fn resolve(&mut self, alloc: Global, ids: &[TxnId]) -> Result<(), NoMemory> {
+        let class = self.open.len();
+        let members = self.in_order(alloc, ids)?;
+        self.open.push(Open { members, next: 0 })?;
+        self.waits.resolve(self.open[class].members.as_slice(), class);
+        Ok(())
+    }
+
+    /// Lets a transaction be done, which is ready.
+    pub fn finish(&mut self, id: TxnId) {
+        if let Some(vertex) = self.names.number_of(id) {
+            self.waits.ready.remove(vertex);
+            match self.waits.vertices[vertex as usize].class {
+                None => self.waits.leave(&[vertex]),
+                Some(class) => self.finish_in(class),
+            }
+        }
+    }
+
+    /// Lets the next member of an open class be done: the one after it is ready, or the class leaves.
+    fn finish_in(&mut self, class: usize) {
+        let open = &mut self.open[class];
+        open.next += 1;
+        match open.members.as_slice().get(open.next) {
+            Some(vertex) => self.waits.ready.add(*vertex),
+            None => self.waits.leave(open.members.as_slice()),
+        }
+    }
+}
