@@ -8,3 +8,5 @@ pub mod Fewer
 pub mod Sums
 pub mod Degrees
 pub mod Uses
+pub mod Free
+pub mod Complete
