@@ -26,7 +26,7 @@ test_of_none log t n = false_from_ne_true (has_part log t) (λ e. n (part_of_tes
 
 -- where a list is kept whole or not at all
 
-filter_whole : {A : Type 0} (p : A → Bool) (xs : List A) → AllIn (λ x. p x ≡ true) xs → filter p xs ≡ xs
+pub filter_whole : {A : Type 0} (p : A → Bool) (xs : List A) → AllIn (λ x. p x ≡ true) xs → filter p xs ≡ xs
 filter_whole p [] all = refl
 filter_whole p (x ∷ xs) all = rw all.0 (ap (λ l. x ∷ l) (filter_whole p xs all.1))
 

@@ -11,7 +11,7 @@ use Rattle.dt_lists.specs.Lists.{AnyIn, AllIn, Has, EachThen}
 use Rattle.dt_lists.specs.Lists.{Distinct}
 use Rattle.dt_lists.proofs.Callers.{all_get, all_put, any_get, any_of_test, each_across, each_append_left, filter_none, has_of_filtered, Spot, spot}
 use Rattle.dt_queue.specs.Queues.{Waiting, HasDistinctSlots, is_at, nearest, neighbours, is_neighbour, followers}
-use Rattle.dt_graph.specs.Waits.{others, degree, is_of, lowered, lowered_by, slots_of}
+use Rattle.dt_graph.specs.Waits.{others, degree, is_leaving, is_of, lowered, lowered_by, slots_of}
 use Rattle.dt_graph.proofs.Nearest.{is_near, nearest_clash, neighbours_split, slot_same, slot_other}
 use Rattle.dt_graph.proofs.Fewer.{KeepsLater, neighbours_kept, neighbours_pushed}
 use Rattle.dt_graph.proofs.Sums.{chosen_turned, filter_both, filter_same, length_split, sum_chosen, sum_grouped, sum_kept, sum_mapped, sum_of_ones, sum_of_sums, sum_same, sum_swapped}
@@ -113,10 +113,6 @@ neighbours_filtered waiting w distinct h = is_nearest ∙ in_all ∙ ap (λ l. f
     in_all : nearest w s.front ≡ filter test waiting
     in_all = nearest_filtered w s.front (each_append_left _ s.front (w ∷ s.rest) split) ∙ sym (append-nil (filter test s.front))
         ∙ ap (λ l. filter test s.front ++ l) (sym (filter_none test (w ∷ s.rest) later)) ∙ sym (filter-append test s.front (w ∷ s.rest)) ∙ ap (filter test) (sym s.is)
-
--- whether the vertex is one of these
-abbrev pub is_leaving : List ℕ → ℕ → Bool
-is_leaving leaving vertex = list_any (λ u. u == vertex) leaving
 
 -- the neighbours that leave are counted by their followers
 module _ (waiting : List Waiting) (distinct : HasDistinctSlots waiting) (v : ℕ) where

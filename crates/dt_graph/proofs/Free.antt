@@ -52,7 +52,7 @@ sum_zero f (x ∷ xs) e = (left (f x) (sum_by f xs) (sym (sum_first f x xs) ∙ 
     right : (a b : ℕ) → a + b ≡ 0 → b ≡ 0
     right a b e = omega (arith, e)
 
-zero_sum : {A : Type 0} (f : A → ℕ) (xs : List A) → AllIn (λ x. f x ≡ 0) xs → sum_by f xs ≡ 0
+pub zero_sum : {A : Type 0} (f : A → ℕ) (xs : List A) → AllIn (λ x. f x ≡ 0) xs → sum_by f xs ≡ 0
 zero_sum f [] a = refl
 zero_sum f (x ∷ xs) a = sum_first f x xs ∙ both (f x) (sum_by f xs) a.0 (zero_sum f xs a.1)
   where
@@ -64,7 +64,7 @@ has_length [] x h e = h
 has_length (y ∷ ys) x h e = omega (arith, e)
 
 -- a list of no length, or its first item
-either_first : {A : Type 0} (xs : List A) → (length xs ≡ 0) ⊎ ((x : A) × Has xs x)
+pub either_first : {A : Type 0} (xs : List A) → (length xs ≡ 0) ⊎ ((x : A) × Has xs x)
 either_first [] = inl refl
 either_first (x ∷ xs) = inr (x, inl refl)
 

@@ -10,3 +10,6 @@ pub mod Degrees
 pub mod Uses
 pub mod Free
 pub mod Complete
+pub mod Inserted
+pub mod Together
+pub mod Rows

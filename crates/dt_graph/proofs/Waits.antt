@@ -61,7 +61,7 @@ clash_at_home v w e c = and_from _ _ (eq-eqb v.home w.home e) c
 
 module _ (view : View) (done : List TxnId) (ids : List TxnId) (waiting : List Waiting) (well : IsWellFormed view) (uses : AreUses view done ids waiting) where
   -- where an entry stands before another one, and they clash, there is an edge, if they are of different transactions
-  edge_of_clash : (front between rest : List Waiting) (v w : Waiting) → waiting ≡ front ++ v ∷ (between ++ w ∷ rest) → entries_clash v w ≡ true
+  pub edge_of_clash : (front between rest : List Waiting) (v w : Waiting) → waiting ≡ front ++ v ∷ (between ++ w ∷ rest) → entries_clash v w ≡ true
       → id_at ids v.vertex ≢ id_at ids w.vertex → Edge view (id_at ids v.vertex) (id_at ids w.vertex)
   edge_of_clash front between rest v w is c ne = edge_at_home view v.home (id_at ids v.vertex) (id_at ids w.vertex) ne clashing
     where

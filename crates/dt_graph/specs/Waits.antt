@@ -3,7 +3,7 @@
 -- ids tells of which transaction. What waits for what by the queues alone is `WaitsFor`; that chains of it are the reach of
 -- the view is in proofs/Waits.antt.
 use Rattle.std.specs.Prelude.{◌≡◌, ◌≢◌, ◌<◌, ℕ, Bool, ◌==◌, not, if◌then◌else◌, List, [], length, map, get_or, sum_by}
-use Rattle.std.specs.List.{filter}
+use Rattle.std.specs.List.{filter, list_any}
 use Rattle.dt_lists.specs.Lists.{AnyIn, AllIn, EachThen, Has}
 use Rattle.dt_access.specs.Ids.{StandsBefore}
 use Rattle.dt_access.specs.Clash.{Bytes}
@@ -67,3 +67,11 @@ lowered waiting slot u v = if u == v then 0 else length (filter (is_of v) (follo
 -- what the leaving of vertices takes from the degree of v, all told
 abbrev pub lowered_by : List Waiting → List ℕ → ℕ → ℕ
 lowered_by waiting leaving v = sum_by (λ u. sum_by (λ slot. lowered waiting slot u v) (slots_of waiting u)) leaving
+
+-- whether the vertex is one of these
+abbrev pub is_leaving : List ℕ → ℕ → Bool
+is_leaving leaving vertex = list_any (λ u. u == vertex) leaving
+
+-- some entry of v follows some entry of the vertices
+abbrev pub IsFollowed : List Waiting → List ℕ → ℕ → Type 0
+IsFollowed waiting leaving v = AnyIn (λ u. AnyIn (λ slot. AnyIn (λ w. w.vertex ≡ v) (followers waiting slot)) (slots_of waiting u)) leaving

@@ -1,0 +1,101 @@
+-- What the calls make of what is kept: a part is inserted, a class is resolved, an id is done. Each is said in terms of what
+-- was kept before (Graph.antt), with no word of the view; that it stays the graph of the view is in proofs/Inserted.antt,
+-- proofs/Resolved.antt and proofs/Finished.antt.
+use Rattle.std.specs.Prelude.{◌≡◌, ◌≢◌, ◌≤◌, ◌<◌, ◌⊎◌, ◌↔◌, ◌+◌, ℕ, suc, not, List, [], ◌∷◌, ◌++◌, length, map, get_or, set, Option, None, Some}
+use Rattle.std.specs.List.{filter, list_any}
+use Rattle.dt_lists.specs.Lists.{AnyIn, AllIn, Has, Distinct}
+use Rattle.dt_access.specs.Clash.{Bytes}
+use Rattle.dt_access.specs.declared.access.Mode.{Mode}
+use Rattle.dt_access.specs.declared.TxnId.{TxnId}
+use Rattle.dt_access.specs.declared.Part.{Part}
+use Rattle.dt_queue.specs.Queues.{Waiting, HasDistinctSlots}
+use Rattle.dt_graph.specs.Waits.{id_at, degree, is_leaving, lowered_by, IsFollowed}
+use Rattle.dt_graph.specs.Graph.{GraphView, vertex_at}
+use Rattle.dt_graph.specs.declared.vertex.Vertex.{Vertex}
+use Rattle.dt_graph.specs.declared.open.Open.{Open}
+
+-- the entries are those of a vertex for the uses of a part
+pub record AreEntriesOf (part : Part) (vertex : ℕ) (entries : List Waiting) : Type 0 where
+  pub of_part : AllIn (λ w. (w.home ≡ part.home) × (w.vertex ≡ vertex) × Has part.keys (w.key, w.mode)) entries
+  pub all_uses : (way : Bytes × Mode) → Has part.keys way → AnyIn (λ w. (w.key, w.mode) ≡ way) entries
+
+-- the vertex of a transaction that has no part yet
+abbrev pub fresh_vertex : Part → Vertex
+fresh_vertex part = record { rank = part.rank; missing = length part.homes; class = None; slots = [] }
+
+-- x is the vertex v before the part is inserted: that which is kept, or a fresh one
+abbrev pub IsVertexBefore : Part → GraphView → ℕ → Vertex → Type 0
+IsVertexBefore part g v x = (v < length g.ids) × (x ≡ vertex_at g.vertices v) ⊎ (v ≡ length g.ids) × (¬ (Has g.ids part.id)) × (x ≡ fresh_vertex part)
+
+-- y is the vertex x with one part more, whose entries are these
+pub record Grows (x : Vertex) (more : List Waiting) (y : Vertex) : Type 0 where
+  pub rank : y.rank ≡ x.rank
+  pub missing : suc y.missing ≡ x.missing
+  pub class : y.class ≡ x.class
+  pub slots : y.slots ≡ x.slots ++ map (λ w. w.slot) more
+
+-- the part was inserted: v is the vertex of its transaction, and its entries are more
+pub record Inserts (part : Part) (v : ℕ) (more : List Waiting) (old new : GraphView) : Type 0 where
+  pub within : v < length new.ids
+  pub named : id_at new.ids v ≡ part.id
+  pub once : Distinct new.ids
+  pub ids : (t : TxnId) → Has new.ids t ↔ Has old.ids t ⊎ (t ≡ part.id)
+  pub vertices : length new.vertices ≡ length new.ids
+  pub degrees : length new.degrees ≡ length new.ids
+  -- all other vertices are kept as they were
+  pub kept : (u : ℕ) → u < length old.ids → (u < length new.ids) × (id_at new.ids u ≡ id_at old.ids u)
+  pub others : (u : ℕ) → u < length new.ids → u ≢ v → (u < length old.ids) × (vertex_at new.vertices u ≡ vertex_at old.vertices u) × (get_or new.degrees u 0 ≡ get_or old.degrees u 0)
+  -- the entries are pushed
+  pub waiting : new.waiting ≡ old.waiting ++ more
+  pub distinct : HasDistinctSlots new.waiting
+  pub entries : AreEntriesOf part v more
+  -- the vertex grows
+  pub before : Vertex
+  pub is_before : IsVertexBefore part old v before
+  pub grows : Grows before more (vertex_at new.vertices v)
+  pub counted : ((v < length old.ids) → get_or old.degrees v 0 ≡ degree old.waiting v) → ((v ≡ length old.ids) → degree old.waiting v ≡ 0) → get_or new.degrees v 0 ≡ degree new.waiting v
+  -- it is ready or stuck where it is complete now
+  pub ready : (u : ℕ) → Has new.ready u ↔ Has old.ready u ⊎ (u ≡ v) × ((vertex_at new.vertices v).missing ≡ 0) × (get_or new.degrees v 0 ≡ 0)
+  pub stuck : (u : ℕ) → Has new.stuck u ↔ Has old.stuck u ⊎ (u ≡ v) × ((vertex_at new.vertices v).missing ≡ 0) × (get_or new.degrees v 0 ≢ 0)
+  pub classes : new.classes ≡ old.classes
+
+-- the vertices left together: of what stays the degrees are lowered, and what came to degree 0 is no more stuck but ready; the
+-- entries of those that left are taken out, and what is kept beside is as it was
+pub record Leaves (leaving : List ℕ) (old new : GraphView) : Type 0 where
+  pub ids : new.ids ≡ old.ids
+  pub vertices : new.vertices ≡ old.vertices
+  pub size : length new.degrees ≡ length old.degrees
+  pub degrees : (v : ℕ) → v < length old.degrees → get_or old.degrees v 0 ≡ get_or new.degrees v 0 + lowered_by old.waiting leaving v
+  pub waiting : new.waiting ≡ filter (λ w. not (is_leaving leaving w.vertex)) old.waiting
+  pub ready : (v : ℕ) → Has new.ready v ↔ Has old.ready v ⊎ Has old.stuck v × (get_or new.degrees v 0 ≡ 0) × IsFollowed old.waiting leaving v
+  pub stuck : (v : ℕ) → Has new.stuck v ↔ Has old.stuck v × ¬ ((get_or new.degrees v 0 ≡ 0) × IsFollowed old.waiting leaving v)
+  pub classes : new.classes ≡ old.classes
+
+-- the graph without a ready vertex
+abbrev pub IsReadyWithout : List ℕ → ℕ → List ℕ → Type 0
+IsReadyWithout old v new = (u : ℕ) → Has new u ↔ Has old u × (u ≢ v)
+
+-- an id is done that is in no resolved class: its vertex v leaves
+pub record FinishesAlone (v : ℕ) (old new : GraphView) : Type 0 where
+  pub ready : List ℕ
+  pub without : IsReadyWithout old.ready v ready
+  pub leaves : Leaves (v ∷ []) (record old { ready = ready }) new
+
+-- the resolved class with one member more that is done
+abbrev pub one_done : Open → Open
+one_done kept = record kept { next = suc kept.next }
+
+-- the classes after a member of the one at a place was done
+abbrev pub with_one_done : List Open → ℕ → Open → List Open
+with_one_done classes place kept = set classes place (one_done kept)
+
+-- an id is done that is in the resolved class at a place, and another member runs after it: that is ready
+pub record FinishesBefore (v place : ℕ) (kept : Open) (next : ℕ) (old new : GraphView) : Type 0 where
+  pub ready : (u : ℕ) → Has new.ready u ↔ Has old.ready u × (u ≢ v) ⊎ (u ≡ next)
+  pub rest : new ≡ record old { ready = new.ready; classes = with_one_done old.classes place kept }
+
+-- an id is done that is the last of the resolved class at a place: the class leaves
+pub record FinishesLast (v place : ℕ) (kept : Open) (old new : GraphView) : Type 0 where
+  pub ready : List ℕ
+  pub without : IsReadyWithout old.ready v ready
+  pub leaves : Leaves kept.members (record old { ready = ready; classes = with_one_done old.classes place kept }) new
