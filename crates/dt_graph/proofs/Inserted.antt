@@ -4,7 +4,7 @@ use Rattle.std.proofs.lemmas.List.{append-nil, append_assoc, map-append}
 use Rattle.std.proofs.lemmas.List.Elements.{filter-append}
 use Rattle.dt_lists.specs.Lists.{AnyIn, AllIn, Has, EachThen, Distinct, Either, Pairwise}
 use Rattle.dt_lists.specs.Chain.{here}
-use Rattle.dt_lists.proofs.Callers.{all_at, all_get, all_map, all_put, any_at, any_from_at, any_get, any_put, all_front, each_append_left, either_any, filter_none, front_take, has_last}
+use Rattle.dt_lists.proofs.Callers.{all_at, all_get, all_map, all_put, any_at, any_from_at, any_get, any_put, each_append_left, either_any, filter_none, has_last}
 use Rattle.dt_access.specs.Orders.{AreAscendingHomes}
 use Rattle.dt_access.specs.declared.TxnId.{TxnId}
 use Rattle.dt_access.specs.declared.Part.{Part}
@@ -431,18 +431,13 @@ module _ (view : View) (resolved : List (List TxnId)) (done : List TxnId) (part 
       ordered = subst (EachThen (IsSooner Longer)) (sym (ids_same o.members x.within)) (each_longer (map (id_at old.ids) o.members) (λ t m. (x.members t).0 m) x.ordered);
       members = λ t. subst (λ l. Has l t ↔ Has ids t) (sym (ids_same o.members x.within)) (x.members t);
       next_in = x.next_in;
-      front_done = subst (AllIn (Has done)) (sym (ids_same (take o.next o.members) (all_front _ (take o.next o.members) o.members (front_take o.next o.members) x.within))) x.front_done;
-      rest_waits = subst (AllIn (λ t. ¬ (Has done t))) (sym (ids_same (drop o.next o.members) (all_dropped o.next o.members x.within))) x.rest_waits;
+      front_done = subst (λ l. AllIn (Has done) (take o.next l)) (sym (ids_same o.members x.within)) x.front_done;
+      rest_waits = subst (λ l. AllIn (λ t. ¬ (Has done t)) (drop o.next l)) (sym (ids_same o.members x.within)) x.rest_waits;
     }
       where
         each_longer : (ts : List TxnId) → ((t : TxnId) → Has ts t → Has ids t) → EachThen (IsSooner view) ts → EachThen (IsSooner Longer) ts
         each_longer [] among each = tt
         each_longer (t ∷ ts) among each = (all_put _ ts (λ u m. (sooner_same ids t u h (among t (inl refl)) (among u (inr m))).0 (all_get _ ts each.0 u m)), each_longer ts (λ u m. among u (inr m)) each.1)
-
-        all_dropped : (n : ℕ) (vs : List ℕ) → AllIn (λ u. u < length old.ids) vs → AllIn (λ u. u < length old.ids) (drop n vs)
-        all_dropped zero vs all = all
-        all_dropped (suc n) [] all = tt
-        all_dropped (suc n) (u ∷ vs) all = all_dropped n vs all.1
 
     pub inserted : IsGraphOf Longer resolved done new
     inserted = record {

@@ -13,3 +13,4 @@ pub mod Complete
 pub mod Inserted
 pub mod Together
 pub mod Rows
+pub mod Finished

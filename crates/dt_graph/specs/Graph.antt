@@ -57,8 +57,8 @@ pub record IsOpened (view : View) (done ids class : List TxnId) (kept : Open) : 
   pub ordered : EachThen (IsSooner view) (map (id_at ids) kept.members)
   pub members : (t : TxnId) → Has (map (id_at ids) kept.members) t ↔ Has class t
   pub next_in : kept.next ≤ length kept.members
-  pub front_done : AllIn (Has done) (map (id_at ids) (take kept.next kept.members))
-  pub rest_waits : AllIn (λ t. ¬ (Has done t)) (map (id_at ids) (drop kept.next kept.members))
+  pub front_done : AllIn (Has done) (take kept.next (map (id_at ids) kept.members))
+  pub rest_waits : AllIn (λ t. ¬ (Has done t)) (drop kept.next (map (id_at ids) kept.members))
 
 -- t is stuck: it is left and complete, in no resolved class, and something else that is left reaches it
 pub record IsStuck (view : View) (resolved : List (List TxnId)) (done : List TxnId) (t : TxnId) : Type 0 where
