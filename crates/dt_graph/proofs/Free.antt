@@ -68,12 +68,13 @@ pub either_first : {A : Type 0} (xs : List A) → (length xs ≡ 0) ⊎ ((x : A)
 either_first [] = inl refl
 either_first (x ∷ xs) = inr (x, inl refl)
 
-module _ (view : View) (done ids : List TxnId) (waiting : List Waiting) (well : IsWellFormed view) (uses : AreUses view done ids waiting) (once : Distinct ids) (v : ℕ) (within : v < length ids) where
-  neighbour_waits : (w n : Waiting) → Has waiting w → Has (neighbours waiting w.slot) n → Has waiting n
-  neighbour_waits w n h k =
-      let s : Spot waiting w = spot waiting w h in
-      subst (λ l. Has l n) (sym s.is) (has_longer s.front (w ∷ s.rest) n (nearest_clash w s.front n (subst (λ l. Has l n) (neighbours_split waiting s.front w s.rest uses.distinct s.is) k)).0)
+-- a neighbour of an entry that waits does wait
+pub neighbour_waits : (waiting : List Waiting) → HasDistinctSlots waiting → (w n : Waiting) → Has waiting w → Has (neighbours waiting w.slot) n → Has waiting n
+neighbour_waits waiting distinct w n h k =
+    let s : Spot waiting w = spot waiting w h in
+    subst (λ l. Has l n) (sym s.is) (has_longer s.front (w ∷ s.rest) n (nearest_clash w s.front n (subst (λ l. Has l n) (neighbours_split waiting s.front w s.rest distinct s.is) k)).0)
 
+module _ (view : View) (done ids : List TxnId) (waiting : List Waiting) (well : IsWellFormed view) (uses : AreUses view done ids waiting) (once : Distinct ids) (v : ℕ) (within : v < length ids) where
   vertex_in : (w : Waiting) → Has waiting w → w.vertex < length ids
   vertex_in w h = all_get _ waiting uses.vertices w h
 
@@ -100,7 +101,7 @@ module _ (view : View) (done ids : List TxnId) (waiting : List Waiting) (well : 
         | inr r ↦
             let k : Has (neighbours waiting w.slot) r.0 × (not (r.0.vertex == v) ≡ true) = has_of_filtered (λ x. not (x.vertex == v)) (neighbours waiting w.slot) r.0 r.1 in
             absurd (none (id_at ids r.0.vertex) (
-              λ s. apart r.0.vertex k.1 (same_place ids r.0.vertex v once (vertex_in r.0 (neighbour_waits w r.0 h k.0)) within s),
+              λ s. apart r.0.vertex k.1 (same_place ids r.0.vertex v once (vertex_in r.0 (neighbour_waits waiting uses.distinct w r.0 h k.0)) within s),
               any_put _ waiting w h (ap (id_at ids) (eqb-true w.vertex v e), any_put _ (neighbours waiting w.slot) r.0 k.0 refl),
             ))
       ])

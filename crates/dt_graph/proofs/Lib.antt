@@ -14,3 +14,6 @@ pub mod Inserted
 pub mod Together
 pub mod Rows
 pub mod Finished
+pub mod Resolved
+pub mod Classes
+pub mod Subsets

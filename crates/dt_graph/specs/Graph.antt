@@ -4,14 +4,14 @@
 -- That all of it is so at each moment is `IsGraphOf`; that the answers read off it are right is in proofs/Answer.antt.
 use Rattle.std.specs.Prelude.{◌≡◌, ◌≤◌, ◌<◌, ◌↔◌, ℕ, Bool, not, List, [], length, map, get_or, slice_get, take, drop, Option, None, Some}
 use Rattle.std.specs.List.{filter, list_any}
-use Rattle.dt_lists.specs.Lists.{AllIn, Has, EachThen, Distinct, Pairwise}
+use Rattle.dt_lists.specs.Lists.{AnyIn, AllIn, Has, EachThen, Distinct, Pairwise}
 use Rattle.dt_access.specs.Ids.{same_id}
 use Rattle.dt_access.specs.declared.TxnId.{TxnId}
 use Rattle.dt_access.specs.declared.Part.{Part}
 use Rattle.dt_sched.specs.Views.{View, log_at, IsPresent, IsComplete, IsSooner}
 use Rattle.dt_sched.specs.Decide.{IsExecutable}
 use Rattle.dt_queue.specs.Queues.{Waiting}
-use Rattle.dt_graph.specs.Left.{IsLeft, IsFree, IsInResolved}
+use Rattle.dt_graph.specs.Left.{IsLeft, IsFree, IsInResolved, IsOrderly}
 use Rattle.dt_graph.specs.Waits.{id_at, AreUses, degree, slots_of}
 use Rattle.dt_graph.specs.declared.vertex.Vertex.{Vertex}
 use Rattle.dt_graph.specs.declared.open.Open.{Open}
@@ -85,3 +85,24 @@ pub record IsGraphOf (view : View) (resolved : List (List TxnId)) (done : List T
   pub stuck : (v : ℕ) → Has g.stuck v ↔ (v < length g.ids) × IsStuck view resolved done (id_at g.ids v)
   -- each resolved class is kept
   pub classes : Pairwise (IsOpened view done g.ids) resolved g.classes
+
+-- nothing is kept
+abbrev pub nothing_kept : GraphView
+nothing_kept = record { ids = []; vertices = []; degrees = []; waiting = []; ready = []; stuck = []; classes = [] }
+
+-- what is kept is the graph of some view
+pub record IsKnown (g : GraphView) : Type 0 where
+  pub view : View
+  pub resolved : List (List TxnId)
+  pub done : List TxnId
+  pub orderly : IsOrderly view resolved done
+  pub graph : IsGraphOf view resolved done g
+
+-- each of the ids is that of a stuck vertex
+abbrev pub AllAreStuck : GraphView → List TxnId → Type 0
+AllAreStuck g ids = AllIn (λ t. AnyIn (λ v. id_at g.ids v ≡ t) g.stuck) ids
+
+-- the vertices are those of the ids, in their order, and all of them are stuck
+pub record AreVerticesOf (g : GraphView) (ids : List TxnId) (vertices : List ℕ) : Type 0 where
+  pub named : map (id_at g.ids) vertices ≡ ids
+  pub stuck : AllIn (Has g.stuck) vertices

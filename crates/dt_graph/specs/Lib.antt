@@ -3,3 +3,7 @@ pub mod Waits
 pub mod QueueSchedView
 pub mod Graph
 pub mod Steps
+pub mod Among
+pub mod Subset
+pub mod Names
+pub mod Held

@@ -1,16 +1,18 @@
 -- What the calls make of what is kept: a part is inserted, a class is resolved, an id is done. Each is said in terms of what
 -- was kept before (Graph.antt), with no word of the view; that it stays the graph of the view is in proofs/Inserted.antt,
 -- proofs/Resolved.antt and proofs/Finished.antt.
-use Rattle.std.specs.Prelude.{◌≡◌, ◌≢◌, ◌≤◌, ◌<◌, ◌⊎◌, ◌↔◌, ◌+◌, ℕ, suc, not, List, [], ◌∷◌, ◌++◌, length, map, get_or, set, Option, None, Some}
+use Rattle.std.specs.Prelude.{◌≡◌, ◌≢◌, ◌≤◌, ◌<◌, ◌⊎◌, ◌↔◌, ◌+◌, ◌==◌, ℕ, suc, not, List, [], ◌∷◌, ◌++◌, length, map, get_or, set, slice_get, Option, None, Some}
 use Rattle.std.specs.List.{filter, list_any}
-use Rattle.dt_lists.specs.Lists.{AnyIn, AllIn, Has, Distinct}
+use Rattle.dt_lists.specs.Lists.{AnyIn, AllIn, Has, EachThen, Distinct}
+use Rattle.dt_access.specs.Ids.{AreAscending, Before}
 use Rattle.dt_access.specs.Clash.{Bytes}
 use Rattle.dt_access.specs.declared.access.Mode.{Mode}
 use Rattle.dt_access.specs.declared.TxnId.{TxnId}
 use Rattle.dt_access.specs.declared.Part.{Part}
-use Rattle.dt_queue.specs.Queues.{Waiting, HasDistinctSlots}
-use Rattle.dt_graph.specs.Waits.{id_at, degree, is_leaving, lowered_by, IsFollowed}
+use Rattle.dt_queue.specs.Queues.{Waiting, HasDistinctSlots, followers}
+use Rattle.dt_graph.specs.Waits.{id_at, degree, is_leaving, lowered_by, slots_of, IsFollowed}
 use Rattle.dt_graph.specs.Graph.{GraphView, vertex_at}
+use Rattle.dt_graph.specs.Subset.{SubsetView}
 use Rattle.dt_graph.specs.declared.vertex.Vertex.{Vertex}
 use Rattle.dt_graph.specs.declared.open.Open.{Open}
 
@@ -99,3 +101,103 @@ pub record FinishesLast (v place : ℕ) (kept : Open) (old new : GraphView) : Ty
   pub ready : List ℕ
   pub without : IsReadyWithout old.ready v ready
   pub leaves : Leaves kept.members (record old { ready = ready; classes = with_one_done old.classes place kept }) new
+
+-- y is the vertex x, in the resolved class at a place
+pub record IsPut (place : ℕ) (x y : Vertex) : Type 0 where
+  pub rank : y.rank ≡ x.rank
+  pub missing : y.missing ≡ x.missing
+  pub class : y.class ≡ Some place
+  pub slots : y.slots ≡ x.slots
+
+-- a class was resolved, as the one at a place: its members, the soonest first, are in it now and stuck no more, and the first
+-- of them is ready
+pub record Resolves (members : List ℕ) (place : ℕ) (old new : GraphView) : Type 0 where
+  pub ids : new.ids ≡ old.ids
+  pub size : length new.vertices ≡ length old.vertices
+  pub inside : (v : ℕ) → Has members v → IsPut place (vertex_at old.vertices v) (vertex_at new.vertices v)
+  pub outside : (v : ℕ) → ¬ (Has members v) → vertex_at new.vertices v ≡ vertex_at old.vertices v
+  pub degrees : new.degrees ≡ old.degrees
+  pub waiting : new.waiting ≡ old.waiting
+  pub ready : (v : ℕ) → Has new.ready v ↔ Has old.ready v ⊎ (slice_get members 0 ≡ Some v)
+  pub stuck : (v : ℕ) → Has new.stuck v ↔ Has old.stuck v × ¬ (Has members v)
+  pub classes : new.classes ≡ old.classes ++ record { members = members; next = 0 } ∷ []
+
+-- entries were pushed for a vertex, with their slots at the back of its list
+pub record Pushes (vertex : ℕ) (old new : List Waiting) (slots now : List ℕ) : Type 0 where
+  pub more : List Waiting
+  pub waiting : new ≡ old ++ more
+  pub distinct : HasDistinctSlots new
+  pub at_slots : now ≡ slots ++ map (λ w. w.slot) more
+  pub of_vertex : AllIn (λ w. w.vertex ≡ vertex) more
+
+-- the uses were pushed for a vertex at a home, one after the other, and from its degree its new degree was told
+pub record Enters (home vertex : ℕ) (uses : List (Bytes × Mode)) (old new : List Waiting) (slots now : List ℕ) (count risen : ℕ) : Type 0 where
+  pub pushed : Pushes vertex old new slots now
+  pub used : map (λ w. (w.key, w.mode)) pushed.more ≡ uses
+  pub at_home : AllIn (λ w. w.home ≡ home) pushed.more
+  pub counted : count ≡ degree old vertex → risen ≡ degree new vertex
+
+-- the degree was raised by the neighbours that are other vertices
+abbrev pub Raises : ℕ → List ℕ → ℕ → ℕ → Type 0
+Raises count neighbours vertex risen = risen ≡ count + length (filter (λ n. not (n == vertex)) neighbours)
+
+-- the vertices are there, and their slots are those of their entries
+abbrev pub HaveSlots : List Waiting → List Vertex → List ℕ → Type 0
+HaveSlots waiting vertices leaving = AllIn (λ u. (u < length vertices) × ((vertex_at vertices u).slots ≡ slots_of waiting u)) leaving
+
+-- each entry is of a vertex below the bound
+abbrev pub AreBelow : ℕ → List Waiting → Type 0
+AreBelow bound waiting = AllIn (λ w. w.vertex < bound) waiting
+
+-- of the vertices to which so many were to be lowered, each was lowered by its count
+abbrev pub AreLowered : (ℕ → ℕ) → List ℕ → List ℕ → Type 0
+AreLowered count old new = (length new ≡ length old) × ((v : ℕ) → v < length old → get_or old v 0 ≡ get_or new v 0 + count v)
+
+-- of the vertices that P holds of, those that were stuck and are of degree 0 are ready now, and stuck no more
+pub record Wakes (P : ℕ → Type 0) (degrees : List ℕ) (stuck ready stuck_now ready_now : SubsetView) : Type 0 where
+  pub stuck_bound : stuck_now.bound ≡ stuck.bound
+  pub ready_bound : ready_now.bound ≡ ready.bound
+  pub woken : (v : ℕ) → Has ready_now.items v ↔ Has ready.items v ⊎ Has stuck.items v × (get_or degrees v 0 ≡ 0) × P v
+  pub still_stuck : (v : ℕ) → Has stuck_now.items v ↔ Has stuck.items v × ¬ ((get_or degrees v 0 ≡ 0) × P v)
+
+-- some follower of the entry at the slot is of the vertex
+abbrev pub Follows : List Waiting → ℕ → ℕ → Type 0
+Follows waiting slot v = AnyIn (λ w. w.vertex ≡ v) (followers waiting slot)
+
+-- a vertex is put to the ready ones, or to the stuck ones, if it is complete
+pub record Sorts (v : ℕ) (vertices : List Vertex) (degrees : List ℕ) (ready stuck ready_now stuck_now : SubsetView) : Type 0 where
+  pub ready_bound : ready_now.bound ≡ ready.bound
+  pub stuck_bound : stuck_now.bound ≡ stuck.bound
+  pub readied : (u : ℕ) → Has ready_now.items u ↔ Has ready.items u ⊎ (u ≡ v) × ((vertex_at vertices v).missing ≡ 0) × (get_or degrees v 0 ≡ 0)
+  pub stuck_more : (u : ℕ) → Has stuck_now.items u ↔ Has stuck.items u ⊎ (u ≡ v) × ((vertex_at vertices v).missing ≡ 0) × (get_or degrees v 0 ≢ 0)
+
+-- the part was inserted, for some vertex and with some entries
+abbrev pub InsertsPart : Part → GraphView → GraphView → Type 0
+InsertsPart part old new = (v : ℕ) × (more : List Waiting) × Inserts part v more old new
+
+-- u runs before v in a class: it has the lesser rank, or the same rank and the lesser id
+abbrev pub RunsBefore : GraphView → ℕ → ℕ → Type 0
+RunsBefore g u v = ((vertex_at g.vertices u).rank < (vertex_at g.vertices v).rank) ⊎ ((vertex_at g.vertices u).rank ≡ (vertex_at g.vertices v).rank) × Before (id_at g.ids u) (id_at g.ids v)
+
+-- the members are the vertices of the ids, the soonest first: by their ranks, and then by their ids
+pub record AreInOrder (g : GraphView) (ids : List TxnId) (members : List ℕ) : Type 0 where
+  pub within : AllIn (λ v. v < length g.ids) members
+  pub names : (t : TxnId) → Has (map (id_at g.ids) members) t ↔ Has ids t
+  pub ordered : EachThen (RunsBefore g) members
+
+-- a class of these ids was resolved
+abbrev pub ResolvesClass : List TxnId → GraphView → GraphView → Type 0
+ResolvesClass ids old new = (members : List ℕ) × AreInOrder old ids members × Resolves members (length old.classes) old new
+
+-- the ids are those of the vertices at the places of a list, in ascending order
+pub record AreIdsAt (ids : List TxnId) (list places : List ℕ) (answer : List TxnId) : Type 0 where
+  pub ascending : Distinct (map (λ p. id_at ids (get_or list p 0)) places) → AreAscending answer
+  pub members : (t : TxnId) → Has answer t ↔ AnyIn (λ p. id_at ids (get_or list p 0) ≡ t) places
+
+-- an id is done: its vertex leaves, or another member of its class is ready now, or its class leaves
+pub data FinishesId (id : TxnId) (old new : GraphView) : Type 0 where
+  alone : (v : ℕ) → slice_get old.ids v ≡ Some id → (vertex_at old.vertices v).class ≡ None → FinishesAlone v old new → FinishesId id old new
+  before : (v place next : ℕ) (kept : Open) → slice_get old.ids v ≡ Some id → (vertex_at old.vertices v).class ≡ Some place → slice_get old.classes place ≡ Some kept
+      → slice_get kept.members (suc kept.next) ≡ Some next → FinishesBefore v place kept next old new → FinishesId id old new
+  last : (v place : ℕ) (kept : Open) → slice_get old.ids v ≡ Some id → (vertex_at old.vertices v).class ≡ Some place → slice_get old.classes place ≡ Some kept
+      → suc kept.next ≡ length kept.members → FinishesLast v place kept old new → FinishesId id old new

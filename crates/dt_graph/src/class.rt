@@ -1,3 +1,9 @@
+ghost use Rattle.std.specs.Prelude.{◌≡◌, ◌<◌, ◌^◌, IfOk, OnOk, length};
+ghost use Rattle.dt_lists.specs.Lists.{AllIn, Distinct};
+ghost use Rattle.dt_queue.specs.Queues.{HasDistinctSlots, IsWaiting};
+ghost use Rattle.dt_graph.specs.Among.{IsAmong, IsSourceAt, IsSourceOf, Links};
+ghost use Rattle.dt_graph.specs.Steps.{HaveSlots};
+
 use crate::group::Group;
 use crate::vertex::Vertex;
 use dt_class::Adj;
@@ -21,7 +27,12 @@ fn link_slot(
     group: &Group,
     place: u32,
     graph: &mut Adj,
-) -> Result<bool, NoMemory> {
+) -> Result<bool, NoMemory>
+    requires waits { IsWaiting queues.now slot }
+    requires place { place < graph.old.vertices }
+    requires size { graph.old.vertices ≡ length group.now }
+    ensures { IfOk result (Links (IsSourceOf queues.now slot) group.now place graph.old graph.new) }
+{
     let mut blocked = false;
     for neighbour in queues.neighbours(alloc, slot)? {
         match group.place_of(neighbour) {
@@ -40,7 +51,12 @@ fn link(
     group: &Group,
     place: u32,
     graph: &mut Adj,
-) -> Result<bool, NoMemory> {
+) -> Result<bool, NoMemory>
+    requires waits { AllIn (IsWaiting queues.now) slots.now }
+    requires place { place < graph.old.vertices }
+    requires size { graph.old.vertices ≡ length group.now }
+    ensures { IfOk result (Links (IsSourceAt queues.now slots.now) group.now place graph.old graph.new) }
+{
     let mut blocked = false;
     for slot in slots {
         if link_slot(alloc, queues, *slot, group, place, graph)? {
@@ -51,7 +67,13 @@ fn link(
 }
 
 /// What the vertices of a list wait for.
-pub fn gather(alloc: Global, queues: &Queues, vertices: &[Vertex], list: &[u32]) -> Result<Among, NoMemory> {
+pub fn gather(alloc: Global, queues: &Queues, vertices: &[Vertex], list: &[u32]) -> Result<Among, NoMemory>
+    requires distinct { HasDistinctSlots queues.now }
+    requires once { Distinct list.now }
+    requires few { length list.now < 2 ^ 32 }
+    requires slots { HaveSlots queues.now vertices.now list.now }
+    ensures { IfOk result (λ among. IsAmong queues.now list.now among.graph among.blocked.items) }
+{
     let group = Group::of(alloc, list)?;
     let mut graph = Adj::new(alloc, list.len() as u32)?;
     let mut blocked = Vec::new(alloc);

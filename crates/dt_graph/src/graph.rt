@@ -1,3 +1,15 @@
+ghost use Rattle.std.specs.Prelude.{◌≡◌, ◌≤◌, ◌<◌, ◌⊎◌, ◌↔◌, ℕ, List, [], IfOk, IsTrue, MatchOption, OnErr, OnOk, Some, length, slice_get};
+ghost use Rattle.dt_lists.specs.Lists.{AllIn, Has};
+ghost use Rattle.dt_access.specs.Ids.{AreAscending};
+ghost use Rattle.dt_access.specs.declared.TxnId.{TxnId};
+ghost use Rattle.dt_sched.specs.Decide.{IsExecutable, IsResolvable};
+ghost use Rattle.dt_sched.specs.Sched.{CanInsert};
+ghost use Rattle.dt_sched.specs.Views.{View};
+ghost use Rattle.dt_graph.specs.Graph.{AllAreStuck, AreVerticesOf, IsGraphOf, IsKnown, nothing_kept};
+ghost use Rattle.dt_graph.specs.Left.{IsOrderly};
+ghost use Rattle.dt_graph.specs.Steps.{AreIdsAt, AreInOrder, FinishesId, InsertsPart, ResolvesClass};
+ghost use Rattle.dt_graph.specs.Waits.{id_at};
+
 use crate::class::gather;
 use crate::names::Names;
 use crate::open::Open;
@@ -5,6 +17,7 @@ use crate::waits::Waits;
 use dt_access::{Ids, Part, TxnId};
 use dt_text::{Listed, NoMemory};
 use std::alloc::Global;
+use std::marker::Model;
 
 /// What is left in the graph.
 #[derive(Drop)]
@@ -12,6 +25,17 @@ pub struct Graph {
     names: Names,
     waits: Waits,
     open: Vec<Open>,
+}
+
+impl Model for Graph {
+    ghost use Rattle.dt_graph.specs.Graph.{GraphView};
+    ghost use Rattle.dt_graph.specs.Held.{IsFitted, view_of};
+
+    ghost Value = { GraphView };
+
+    ghost view = { λ g. view_of g.names.ids g.waits g.open.items };
+
+    ghost invariant = { λ g. IsFitted g.names.ids g.waits };
 }
 
 /// A member of a class, which is compared as it runs: by rank, then by id.
@@ -24,7 +48,9 @@ struct Member {
 
 impl Graph {
     /// Nothing is left. Takes no memory.
-    pub fn new(alloc: Global) -> Self {
+    pub fn new(alloc: Global) -> Self
+        ensures { result ≡ nothing_kept }
+    {
         Graph {
             names: Names::new(alloc),
             waits: Waits::new(alloc),
@@ -33,7 +59,11 @@ impl Graph {
     }
 
     /// Adds a part; after `NoMemory` all is as before.
-    pub fn insert(&mut self, alloc: Global, part: &Part) -> Result<(), NoMemory> {
+    pub fn insert(&mut self, alloc: Global, part: &Part) -> Result<(), NoMemory>
+        requires { (view : View) × (resolved : List (List TxnId)) × (done : List TxnId) × IsOrderly view resolved done × CanInsert view part.now × IsGraphOf view resolved done self.old }
+        ensures inserted { OnOk result (InsertsPart part.now self.old self.new) }
+        ensures same { OnErr result (self.new ≡ self.old) }
+    {
         match self.names.number_of(part.id) {
             Some(vertex) => self.waits.extend(alloc, vertex, part),
             None => {
@@ -47,7 +77,9 @@ impl Graph {
     }
 
     /// Whether a transaction is ready.
-    pub fn is_ready(&self, id: TxnId) -> bool {
+    pub fn is_ready(&self, id: TxnId) -> bool
+        ensures { IsTrue result ↔ (v : ℕ) × (slice_get self.now.ids v ≡ Some id) × Has self.now.ready v }
+    {
         match self.names.number_of(id) {
             Some(vertex) => self.waits.ready.has(vertex),
             None => false,
@@ -55,7 +87,10 @@ impl Graph {
     }
 
     /// Some transaction that is ready and none of the busy ones.
-    pub fn ready_beside(&self, busy: &[TxnId]) -> Option<TxnId> {
+    pub fn ready_beside(&self, busy: &[TxnId]) -> Option<TxnId>
+        ensures { MatchOption result ((v : ℕ) → Has self.now.ready v → Has busy.now (id_at self.now.ids v))
+            (λ id. ((v : ℕ) × Has self.now.ready v × (id_at self.now.ids v ≡ id)) × (Has busy.now id → ⊥)) }
+    {
         for vertex in self.waits.ready.as_slice() {
             let id = self.names.id_of(*vertex);
             if !busy.contains(&id) {
@@ -66,7 +101,9 @@ impl Graph {
     }
 
     /// The vertices of transactions, if all of them are stuck.
-    fn stuck_of(&self, alloc: Global, ids: &[TxnId]) -> Result<Option<Vec<u32>>, NoMemory> {
+    fn stuck_of(&self, alloc: Global, ids: &[TxnId]) -> Result<Option<Vec<u32>>, NoMemory>
+        ensures { IfOk result (λ answer. MatchOption answer (AllAreStuck self.now ids.now → ⊥) (λ vertices. AreVerticesOf self.now ids.now vertices.items)) }
+    {
         let mut vertices = Vec::new(alloc);
         for id in ids {
             match self.names.number_of(*id) {
@@ -78,7 +115,12 @@ impl Graph {
     }
 
     /// Whether the transactions are a class of several stuck ones that wait for each other and for nothing else.
-    pub fn is_class(&self, alloc: Global, ids: &[TxnId]) -> Result<bool, NoMemory> {
+    pub fn is_class(&self, alloc: Global, ids: &[TxnId]) -> Result<bool, NoMemory>
+        requires known { IsKnown self.now }
+        requires { AreAscending ids.now }
+        ensures { (view : View) (resolved : List (List TxnId)) (done : List TxnId) → IsOrderly view resolved done → IsGraphOf view resolved done self.now →
+            IfOk result (λ b. IsTrue b ↔ IsResolvable view resolved done ids.now) }
+    {
         if ids.len() < 2 {
             return Ok(false);
         }
@@ -99,7 +141,11 @@ impl Graph {
     }
 
     /// The transactions of some class of stuck ones that wait for each other and for nothing else, in ascending order.
-    pub fn some_class(&self, alloc: Global) -> Result<Option<Ids>, NoMemory> {
+    pub fn some_class(&self, alloc: Global) -> Result<Option<Ids>, NoMemory>
+        requires { IsKnown self.now }
+        ensures { (view : View) (resolved : List (List TxnId)) (done : List TxnId) → IsOrderly view resolved done → IsGraphOf view resolved done self.now →
+            IfOk result (λ answer. MatchOption answer ((ids : List TxnId) → IsResolvable view resolved done ids → ⊥) (λ ids. IsResolvable view resolved done ids)) }
+    {
         let stuck = self.waits.stuck.as_slice();
         if stuck.is_empty() {
             return Ok(None);
@@ -117,7 +163,11 @@ impl Graph {
     }
 
     /// The ids of the vertices at places of a list, in ascending order.
-    fn ids_at(&self, alloc: Global, list: &[u32], places: &[u32]) -> Result<Ids, NoMemory> {
+    fn ids_at(&self, alloc: Global, list: &[u32], places: &[u32]) -> Result<Ids, NoMemory>
+        requires list { AllIn (λ v. v < length self.now.ids) list.now }
+        requires places { AllIn (λ p. p < length list.now) places.now }
+        ensures { IfOk result (AreIdsAt self.now.ids list.now places.now) }
+    {
         let mut ids = Vec::with_capacity(alloc, places.len())?;
         for place in places {
             ids.push(self.names.id_of(list[*place as usize]))?;
@@ -127,7 +177,10 @@ impl Graph {
     }
 
     /// The vertices of transactions, the soonest first.
-    fn in_order(&self, alloc: Global, ids: &[TxnId]) -> Result<Listed<u32>, NoMemory> {
+    fn in_order(&self, alloc: Global, ids: &[TxnId]) -> Result<Listed<u32>, NoMemory>
+        requires { AllIn (Has self.now.ids) ids.now }
+        ensures { IfOk result (AreInOrder self.now ids.now) }
+    {
         let mut members = Vec::with_capacity(alloc, ids.len())?;
         for id in ids {
             if let Some(vertex) = self.names.number_of(*id) {
@@ -148,7 +201,11 @@ impl Graph {
     }
 
     /// Opens a class that was resolved; after `NoMemory` all is as before.
-    pub fn resolve(&mut self, alloc: Global, ids: &[TxnId]) -> Result<(), NoMemory> {
+    pub fn resolve(&mut self, alloc: Global, ids: &[TxnId]) -> Result<(), NoMemory>
+        requires { (view : View) × (resolved : List (List TxnId)) × (done : List TxnId) × IsOrderly view resolved done × IsResolvable view resolved done ids.now × IsGraphOf view resolved done self.old }
+        ensures resolved { OnOk result (ResolvesClass ids.now self.old self.new) }
+        ensures same { OnErr result (self.new ≡ self.old) }
+    {
         let class = self.open.len();
         let members = self.in_order(alloc, ids)?;
         self.open.push(Open { members, next: 0 })?;
@@ -157,7 +214,10 @@ impl Graph {
     }
 
     /// Lets a transaction be done, which is ready.
-    pub fn finish(&mut self, id: TxnId) {
+    pub fn finish(&mut self, id: TxnId)
+        requires { (view : View) × (resolved : List (List TxnId)) × (done : List TxnId) × IsOrderly view resolved done × IsExecutable view resolved done id × IsGraphOf view resolved done self.old }
+        ensures { FinishesId id self.old self.new }
+    {
         if let Some(vertex) = self.names.number_of(id) {
             self.waits.ready.remove(vertex);
             match self.waits.vertices[vertex as usize].class {

@@ -1,3 +1,7 @@
+ghost use Rattle.std.specs.Prelude.{◌≡◌, ◌<◌, ◌^◌, IfOk, length};
+ghost use Rattle.dt_lists.specs.Lists.{Distinct};
+ghost use Rattle.dt_graph.specs.Names.{IsPlaceIn};
+
 use dt_text::NoMemory;
 use indexmap::IndexSet;
 use std::alloc::Global;
@@ -9,9 +13,23 @@ pub struct Group {
     vertices: IndexSet<u32>,
 }
 
+impl Model for Group {
+    ghost use Rattle.std.specs.Prelude.{◌<◌, ◌^◌, List, ℕ, length};
+
+    ghost Value = { List ℕ };
+
+    ghost view = { λ g. g.vertices.keys };
+
+    ghost invariant = { λ g. length g.vertices.keys < 2 ^ 32 };
+}
+
 impl Group {
     /// The vertices of a list, in which none stands twice.
-    pub fn of(alloc: Global, list: &[u32]) -> Result<Self, NoMemory> {
+    pub fn of(alloc: Global, list: &[u32]) -> Result<Self, NoMemory>
+        requires once { Distinct list.now }
+        requires few { length list.now < 2 ^ 32 }
+        ensures { IfOk result (λ group. group ≡ list.now) }
+    {
         let mut vertices = IndexSet::with_capacity(alloc, list.len())?;
         for vertex in list {
             vertices.insert(*vertex)?;
@@ -20,7 +38,9 @@ impl Group {
     }
 
     /// The place of a vertex, if it is one of them.
-    pub fn place_of(&self, vertex: u32) -> Option<u32> {
+    pub fn place_of(&self, vertex: u32) -> Option<u32>
+        ensures { IsPlaceIn self.now vertex result }
+    {
         let place = self.vertices.get_index_of(&vertex)?;
         Some(place as u32)
     }

@@ -1,3 +1,7 @@
+ghost use Rattle.std.specs.Prelude.{◌≡◌, ◌≤◌, ◌<◌, ◌↔◌, [], IsTrue, OnOk};
+ghost use Rattle.dt_lists.specs.Lists.{AllIn, Has, Distinct};
+ghost use Rattle.dt_graph.specs.Subset.{Adds, Removes};
+
 use dt_text::NoMemory;
 use std::alloc::Global;
 use std::marker::Model;
@@ -10,17 +14,34 @@ pub struct Subset {
     places: Vec<Option<usize>>,
 }
 
+impl Model for Subset {
+    ghost use Rattle.std.specs.Prelude.{length, vec_capacity};
+    ghost use Rattle.dt_graph.specs.Subset.{IsSubset, SubsetView};
+
+    ghost Value = { SubsetView };
+
+    ghost view = { λ s. record { bound = length s.places.items; items = s.items.items } };
+
+    ghost invariant = { λ s. IsSubset s.items.items s.places.items (vec_capacity s.items) };
+}
+
 impl Subset {
     /// No number, below 0. Takes no memory.
-    pub fn new(alloc: Global) -> Self {
+    pub fn new(alloc: Global) -> Self
+        ensures { result ≡ record { bound = 0; items = [] } }
+    {
         Subset {
             items: Vec::new(alloc),
             places: Vec::new(alloc),
         }
     }
 
-    /// Raises the bound, if it is not as high; after `NoMemory` there are the same numbers.
-    pub fn reach(&mut self, bound: usize) -> Result<(), NoMemory> {
+    /// Raises the bound, if it is not as high. There are the same numbers.
+    pub fn reach(&mut self, bound: usize) -> Result<(), NoMemory>
+        ensures bound { OnOk result (bound ≤ self.new.bound) }
+        ensures grown { self.old.bound ≤ self.new.bound }
+        ensures same { self.new.items ≡ self.old.items }
+    {
         while self.places.len() < bound {
             self.items.reserve(self.places.len() + 1 - self.items.len())?;
             self.places.push(None)?;
@@ -29,12 +50,18 @@ impl Subset {
     }
 
     /// Whether the number is one of them.
-    pub fn has(&self, number: u32) -> bool {
+    pub fn has(&self, number: u32) -> bool
+        requires { number < self.now.bound }
+        ensures { IsTrue result ↔ Has self.now.items number }
+    {
         self.places[number as usize].is_some()
     }
 
-    /// Adds a number, if it is not one of them.
-    pub fn add(&mut self, number: u32) {
+    /// Adds a number, if it is not one of them. Takes no memory.
+    pub fn add(&mut self, number: u32)
+        requires { number < self.old.bound }
+        ensures { Adds number self.old self.new }
+    {
         if self.places[number as usize].is_none() {
             self.places[number as usize] = Some(self.items.len());
             if self.items.push(number).is_err() {
@@ -43,19 +70,28 @@ impl Subset {
         }
     }
 
-    /// Takes a number out, if it is one of them.
-    pub fn remove(&mut self, number: u32) {
+    /// Takes a number out, if it is one of them. Takes no memory.
+    pub fn remove(&mut self, number: u32)
+        requires { number < self.old.bound }
+        ensures { Removes number self.old self.new }
+    {
         if let Some(place) = self.places[number as usize] {
-            self.items.swap_remove(place);
-            self.places[number as usize] = None;
-            if let Some(moved) = self.items.get(place) {
-                self.places[*moved as usize] = Some(place);
+            if let Some(last) = self.items.pop() {
+                if last != number {
+                    self.items[place] = last;
+                    self.places[last as usize] = Some(place);
+                }
             }
+            self.places[number as usize] = None;
         }
     }
 
     /// The numbers.
-    pub fn as_slice(&self) -> &[u32] {
+    pub fn as_slice(&self) -> &[u32]
+        ensures items { result.now ≡ self.now.items }
+        ensures once { Distinct self.now.items }
+        ensures within { AllIn (λ number. number < self.now.bound) self.now.items }
+    {
         self.items.as_slice()
     }
 }
