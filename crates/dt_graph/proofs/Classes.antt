@@ -44,7 +44,7 @@ module _ (view : View) (resolved : List (List TxnId)) (done : List TxnId) (k : I
     | inl a ↦
         let w : (w : Waiting) × Has g.waiting w × ((id_at g.ids w.vertex ≡ t) × AnyIn (λ m. ¬ (id_at g.ids m.vertex ≡ t)) (neighbours g.waiting w.slot)) = any_get _ g.waiting a in
         let m : (m : Waiting) × Has (neighbours g.waiting w.0.slot) m × ¬ (id_at g.ids m.vertex ≡ t) = any_get _ (neighbours g.waiting w.0.slot) w.2.1 in
-        (id_at g.ids m.0.vertex, m.2, any_put _ g.waiting w.0 w.1 (w.2.0, any_put _ (neighbours g.waiting w.0.slot) m.0 m.1 refl))
+        (id_at g.ids m.0.vertex, (m.2, any_put _ g.waiting w.0 w.1 (w.2.0, any_put _ (neighbours g.waiting w.0.slot) m.0 m.1 refl)))
     | inr none ↦ absurd (n ((free_by_queues view done g.ids g.waiting k.sound.well_formed is.uses t).1 (λ u f. none (any_map _ _ g.waiting (λ w a. (a.0, any_map _ _ (neighbours g.waiting w.slot) (λ m e s. f.0 (sym e ∙ s)) a.1)) f.1))))
   ]
     where
@@ -105,7 +105,7 @@ module _ (view : View) (resolved : List (List TxnId)) (done : List TxnId) (k : I
             by p w at leads n named nb (inl m) =
                 let i : (i : ℕ) × (slice_get list i ≡ Some n.vertex) = place_of list n.vertex m in
                 (i.0, n.vertex, i.1, named, chain_before ((a.edges i.0 p).1 (n.vertex, w, i.1, at, nb)) leads)
-            by p w at leads n named nb (inr out) = absurd (free (any_put (λ b. Leads graph b q) blocked p ((a.are_blocked p).1 (w, at, n.vertex, nb, out)) leads))
+            by p w at leads n named nb (inr out) = absurd (free (any_put (λ b. Leads graph b q) blocked p ((a.are_blocked p).1 (w, at, (n.vertex, nb, out))) leads))
 
     -- what is found: the ids at the places of a source class
     module _ (p : ℕ) (source : IsSource graph blocked p) (ids : List TxnId) (ascending : AreAscending ids)

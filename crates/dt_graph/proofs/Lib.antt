@@ -17,3 +17,6 @@ pub mod Finished
 pub mod Resolved
 pub mod Classes
 pub mod Subsets
+pub mod Keeping
+pub mod MayLeave
+pub mod Fitted

@@ -114,7 +114,7 @@ module _ (items : List ℕ) (places : List (Option ℕ)) (room : ℕ) (s : IsSub
   }
     where
       longer : (n : ℕ) → n ≢ number → (place : Option ℕ) → IsPlaced items n place → IsPlaced (items ++ number ∷ []) n place
-      longer n ne None p h = elim (has_more items number n h) [ inl o ↦ p o | inr f ↦ ne (sym f) ]
+      longer n ne None p = λ h. elim (has_more items number n h) [ inl o ↦ p o | inr f ↦ ne (sym f) ]
       longer n ne (Some place) p = place_in_longer items (number ∷ []) place n p
 
       at : (n : ℕ) → n < length places → (n ≡ number) ⊎ ¬ (n ≡ number) → IsPlaced (items ++ number ∷ []) n (get_or (set places number (Some (length items))) n None)
@@ -148,7 +148,7 @@ module _ (items : List ℕ) (places : List (Option ℕ)) (room : ℕ) (s : IsSub
     }
       where
         shorter : (n : ℕ) → n ≢ number → (place : Option ℕ) → IsPlaced (front ++ number ∷ []) n place → IsPlaced front n place
-        shorter n ne None p h = p (has_longer front (number ∷ []) n h)
+        shorter n ne None p = λ h. p (has_longer front (number ∷ []) n h)
         shorter n ne (Some place) p = elim (place_in_more front number place n p) [ inl o ↦ o | inr f ↦ absurd (ne (sym f.1)) ]
 
         at : (n : ℕ) → n < length places → (n ≡ number) ⊎ ¬ (n ≡ number) → IsPlaced front n (get_or (set places number None) n None)
@@ -196,7 +196,7 @@ module _ (items : List ℕ) (places : List (Option ℕ)) (room : ℕ) (s : IsSub
         size = length-set (set places last (Some place)) number None ∙ length-set places last (Some place)
 
         beside : (n : ℕ) → n ≢ number → n ≢ last → (p : Option ℕ) → IsPlaced (front ++ last ∷ []) n p → IsPlaced (set front place last) n p
-        beside n ne nl None p h = elim (set_has front place last n h) [
+        beside n ne nl None p = λ h. elim (set_has front place last n h) [
           | inl e ↦ nl (sym e)
           | inr r ↦ p (has_longer front (last ∷ []) n (has_place front r.0 n r.2))
         ]

@@ -2,8 +2,15 @@
 -- has. What it keeps of what is left in the graph stands in Graph.antt.
 use Rattle.std.specs.Prelude.{ℕ}
 use Rattle.dt_sched.specs.Sched.{Sched}
+use Rattle.dt_graph.specs.Left.{IsOrderly}
+use Rattle.dt_graph.specs.Graph.{GraphView, IsGraphOf}
 
 -- a scheduler with queues: what every scheduler is seen as, and the number of ids that it can finish without taking memory
 pub record QueueSchedView : Type 0 where
   pub seen : Sched
   pub spare : ℕ
+
+-- what is kept is the graph of what was inserted, resolved and done, and each call was allowed
+pub record IsKeeping (s : Sched) (g : GraphView) : Type 0 where
+  pub orderly : IsOrderly s.logs s.resolved s.done
+  pub graph : IsGraphOf s.logs s.resolved s.done g

@@ -201,3 +201,26 @@ pub data FinishesId (id : TxnId) (old new : GraphView) : Type 0 where
       → slice_get kept.members (suc kept.next) ≡ Some next → FinishesBefore v place kept next old new → FinishesId id old new
   last : (v place : ℕ) (kept : Open) → slice_get old.ids v ≡ Some id → (vertex_at old.vertices v).class ≡ Some place → slice_get old.classes place ≡ Some kept
       → suc kept.next ≡ length kept.members → FinishesLast v place kept old new → FinishesId id old new
+
+-- the vertices may leave together: their slots are kept, and no degree is less than what is taken from it
+pub record MayLeave (g : GraphView) (leaving : List ℕ) : Type 0 where
+  pub once : Distinct leaving
+  pub within : AllIn (λ v. v < length g.ids) leaving
+  pub distinct : HasDistinctSlots g.waiting
+  pub below : AreBelow (length g.ids) g.waiting
+  pub slots : HaveSlots g.waiting g.vertices leaving
+  pub enough : (v : ℕ) → v < length g.degrees → lowered_by g.waiting leaving v ≤ get_or g.degrees v 0
+
+-- the next member of the resolved class at a place may be done
+pub record MayFinishIn (place : ℕ) (g : GraphView) : Type 0 where
+  pub kept : Open
+  pub at_place : slice_get g.classes place ≡ Some kept
+  pub waits : kept.next < length kept.members
+  pub leaves : MayLeave g kept.members
+
+-- it is done: another member is ready now, or the class leaves
+pub data FinishesIn (place : ℕ) (old new : GraphView) : Type 0 where
+  one : (next : ℕ) (kept : Open) → slice_get old.classes place ≡ Some kept → slice_get kept.members (suc kept.next) ≡ Some next
+      → ((u : ℕ) → Has new.ready u ↔ Has old.ready u ⊎ (u ≡ next)) → new ≡ record old { ready = new.ready; classes = with_one_done old.classes place kept } → FinishesIn place old new
+  all : (kept : Open) → slice_get old.classes place ≡ Some kept → suc kept.next ≡ length kept.members → Leaves kept.members (record old { classes = with_one_done old.classes place kept }) new
+      → FinishesIn place old new

@@ -1,13 +1,14 @@
 ghost use Rattle.std.specs.Prelude.{◌≡◌, ◌≤◌, ◌<◌, ◌⊎◌, ◌↔◌, ℕ, List, [], IfOk, IsTrue, MatchOption, OnErr, OnOk, Some, length, slice_get};
 ghost use Rattle.dt_lists.specs.Lists.{AllIn, Has};
 ghost use Rattle.dt_access.specs.Ids.{AreAscending};
+ghost use Rattle.dt_access.specs.Orders.{AreAscendingHomes};
 ghost use Rattle.dt_access.specs.declared.TxnId.{TxnId};
 ghost use Rattle.dt_sched.specs.Decide.{IsExecutable, IsResolvable};
 ghost use Rattle.dt_sched.specs.Sched.{CanInsert};
 ghost use Rattle.dt_sched.specs.Views.{View};
 ghost use Rattle.dt_graph.specs.Graph.{AllAreStuck, AreVerticesOf, IsGraphOf, IsKnown, nothing_kept};
 ghost use Rattle.dt_graph.specs.Left.{IsOrderly};
-ghost use Rattle.dt_graph.specs.Steps.{AreIdsAt, AreInOrder, FinishesId, InsertsPart, ResolvesClass};
+ghost use Rattle.dt_graph.specs.Steps.{AreIdsAt, AreInOrder, FinishesId, FinishesIn, InsertsPart, MayFinishIn, ResolvesClass};
 ghost use Rattle.dt_graph.specs.Waits.{id_at};
 
 use crate::class::gather;
@@ -63,7 +64,9 @@ impl Graph {
         requires { (view : View) × (resolved : List (List TxnId)) × (done : List TxnId) × IsOrderly view resolved done × CanInsert view part.now × IsGraphOf view resolved done self.old }
         ensures inserted { OnOk result (InsertsPart part.now self.old self.new) }
         ensures same { OnErr result (self.new ≡ self.old) }
+        ensures ascending { AreAscendingHomes part.now.homes }
     {
+        let _homes = part.homes.as_slice();
         match self.names.number_of(part.id) {
             Some(vertex) => self.waits.extend(alloc, vertex, part),
             None => {
@@ -228,7 +231,10 @@ impl Graph {
     }
 
     /// Lets the next member of an open class be done: the one after it is ready, or the class leaves.
-    fn finish_in(&mut self, class: usize) {
+    fn finish_in(&mut self, class: usize)
+        requires { MayFinishIn class self.old }
+        ensures { FinishesIn class self.old self.new }
+    {
         let open = &mut self.open[class];
         open.next += 1;
         match open.members.as_slice().get(open.next) {

@@ -1,3 +1,5 @@
+ghost use Rattle.std.specs.Prelude.{◌≡◌, [], IfOk, replicate};
+
 use crate::graph::Graph;
 use dt_access::{Ids, Part, TxnId};
 use dt_sched::Scheduler;
@@ -17,11 +19,13 @@ pub struct QueueSched {
 
 impl Model for QueueSched {
     ghost use Rattle.std.specs.Prelude.{◌-◌, vec_len, vec_capacity};
-    ghost use Rattle.dt_graph.specs.QueueSchedView.{QueueSchedView};
+    ghost use Rattle.dt_graph.specs.QueueSchedView.{IsKeeping, QueueSchedView};
 
     ghost Value = { QueueSchedView };
 
     ghost view = { λ s. record { seen = record { logs = s.logs.items; resolved = s.resolved.items; done = s.done.items }; spare = vec_capacity s.done - vec_len s.done } };
+
+    ghost invariant = { λ s. IsKeeping (record { logs = s.logs.items; resolved = s.resolved.items; done = s.done.items }) s.graph };
 }
 
 /// So many empty logs.
