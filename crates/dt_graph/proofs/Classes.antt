@@ -17,7 +17,7 @@ use Rattle.dt_graph.specs.Waits.{id_at, AreUses, WaitsFor}
 use Rattle.dt_graph.specs.Graph.{GraphView, IsGraphOf, IsStuck}
 use Rattle.dt_graph.specs.Among.{HasNeighbour, IsAmong, WaitsOutside}
 use Rattle.dt_graph.proofs.Left.{done_left, left_after, left_decided, out_of_not_left, resolvable_apart, resolvable_left, undone_before}
-use Rattle.dt_graph.proofs.Waits.{edge_of_waits, free_by_queues, reach_by_queues}
+use Rattle.dt_graph.proofs.Waiting.{edge_of_waits, free_by_queues, reach_by_queues}
 use Rattle.dt_graph.proofs.Free.{id_has, neighbour_waits, place_has, same_place}
 
 module _ (view : View) (resolved : List (List TxnId)) (done : List TxnId) (k : IsOrderly view resolved done) (g : GraphView) (is : IsGraphOf view resolved done g) where

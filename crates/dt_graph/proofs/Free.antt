@@ -11,7 +11,7 @@ use Rattle.dt_graph.specs.Left.{IsFree}
 use Rattle.dt_graph.specs.Waits.{id_at, AreUses, WaitsFor, others, degree}
 use Rattle.dt_graph.proofs.Nearest.{nearest_clash, neighbours_split, slot_same, slot_other}
 use Rattle.dt_graph.proofs.Sums.{sum_first}
-use Rattle.dt_graph.proofs.Waits.{free_by_queues}
+use Rattle.dt_graph.proofs.Waiting.{free_by_queues}
 
 -- in a list in which nothing stands twice, a place is told by what is there
 pub same_place : (ids : List TxnId) (u v : ℕ) → Distinct ids → u < length ids → v < length ids → id_at ids u ≡ id_at ids v → u ≡ v

@@ -3,7 +3,7 @@ pub mod Test
 pub mod Leaving
 pub mod Orderly
 pub mod Nearest
-pub mod Waits
+pub mod Waiting
 pub mod Fewer
 pub mod Sums
 pub mod Degrees

@@ -1,7 +1,8 @@
 -- Sets of numbers below a bound: there are at most as many as the bound, and each kept right stays so when a number is put in
 -- or taken out.
-use Rattle.std.proofs.Common.{◌≡◌, ◌≢◌, ◌<◌, ◌≤◌, ◌⊎◌, ◌↔◌, ◌∙◌, ℕ, zero, suc, List, [], ◌∷◌, ◌++◌, length, get_or, set, slice_get, Option, None, Some, refl, sym, ap, subst, inl, inr, arith}
-use Rattle.std.proofs.lemmas.List.{get_or-set_same, get_or-set_other, length-set}
+use Rattle.std.proofs.Common.{◌≡◌, ◌≢◌, ◌+◌, ◌<◌, ◌≤◌, ◌⊎◌, ◌↔◌, ◌∙◌, ℕ, zero, suc, List, [], ◌∷◌, ◌++◌, length, get_or, set, slice_get, Option, None, Some, refl, sym, ap, subst, inl, inr, Bool, true, false, not, is_some, IsTrue, arith}
+use Rattle.std.proofs.lemmas.List.{get_or-set_same, get_or-set_other, length-append, length-set}
+use Rattle.std.proofs.Math.ListN.{get_or-append}
 use Rattle.dt_lists.specs.Lists.{AllIn, Has, Distinct}
 use Rattle.dt_lists.proofs.Callers.{all_append, all_append_left, all_get, all_map, all_put, distinct_push, distinct_within, each_append_left, each_across, either_nat, has_last, has_longer, has_more, has_place, place_in_longer, place_in_more, place_of}
 use Rattle.dt_graph.specs.Subset.{Adds, IsPlaced, IsSubset, Removes}
@@ -88,6 +89,48 @@ one_place (x ∷ xs) (suc i) (suc j) v d e f = ap suc (one_place xs i j v d.1 e 
 same_some : {A : Type 0} {x y : A} → Some x ≡ Some y → x ≡ y
 same_some e = cc
 
+-- a test of a place
+pub none_of_test : {A : Type 0} (place : Option A) (b : Bool) → is_some place ≡ not b → b ≡ true → place ≡ None
+none_of_test None b e t = refl
+none_of_test (Some x) b e t = let n : true ≡ not true = e ∙ ap not t in cc
+
+pub some_of_test : {A : Type 0} (place : Option A) (b : Bool) → is_some place ≡ not b → b ≡ false → (x : A) × (place ≡ Some x)
+some_of_test None b e t = let n : false ≡ not false = e ∙ ap not t in cc
+some_of_test (Some x) b e t = (x, refl)
+
+-- more room serves as well
+pub subset_room : (items : List ℕ) (places : List (Option ℕ)) (less more : ℕ) → less ≤ more → IsSubset items places less → IsSubset items places more
+subset_room items places less more le s = record { fits = join _ _ _ s.fits le; once = s.once; within = s.within; placed = s.placed }
+  where
+    join : (a b c : ℕ) → a ≤ b → b ≤ c → a ≤ c
+    join a b c e f = omega (arith, e, f)
+
+-- a higher bound by one
+pub subset_reached : (items : List ℕ) (places : List (Option ℕ)) (less more : ℕ) → IsSubset items places less → length places + 1 ≤ more → IsSubset items (places ++ None ∷ []) more
+subset_reached items places less more s le = record {
+  fits = subst (λ n. n ≤ more) (sym (length-append places (None ∷ []))) le;
+  once = s.once;
+  within = all_map _ _ items (λ v lt. subst (λ n. v < n) (sym (length-append places (None ∷ []))) (grown v lt)) s.within;
+  placed = λ v lt. at v (subst (λ n. v < n) (length-append places (None ∷ [])) lt) (either_nat v (length places));
+}
+  where
+    grown : (v : ℕ) → v < length places → v < length places + 1
+    grown v lt = omega (arith, lt)
+
+    at : (v : ℕ) → v < length places + 1 → (v ≡ length places) ⊎ ¬ (v ≡ length places) → IsPlaced items v (get_or (places ++ None ∷ []) v None)
+    at v lt (inl e) = subst (λ v. IsPlaced items v (get_or (places ++ None ∷ []) v None)) (sym e) (subst (IsPlaced items (length places)) (sym (get_seam_or places)) (λ h. above (all_get _ items s.within (length places) h)))
+      where
+        above : length places < length places → ⊥
+        above lt = omega (arith, lt)
+
+        get_seam_or : (ps : List (Option ℕ)) → get_or (ps ++ None ∷ []) (length ps) None ≡ None
+        get_seam_or [] = refl
+        get_seam_or (p ∷ ps) = get_seam_or ps
+    at v lt (inr ne) = subst (IsPlaced items v) (sym (get_or-append places (None ∷ []) None v (below_it v lt ne))) (s.placed v (below_it v lt ne))
+      where
+        below_it : (v : ℕ) → v < length places + 1 → ¬ (v ≡ length places) → v < length places
+        below_it v lt ne = grind (arith, lt, ne)
+
 module _ (items : List ℕ) (places : List (Option ℕ)) (room : ℕ) (s : IsSubset items places room) (number : ℕ) (lt : number < length places) where
   -- whether a number is one of them is seen by its place
 
@@ -96,6 +139,11 @@ module _ (items : List ℕ) (places : List (Option ℕ)) (room : ℕ) (s : IsSub
 
   pub unplaced_absent : get_or places number None ≡ None → ¬ (Has items number)
   unplaced_absent e = subst (IsPlaced items number) e (s.placed number lt)
+
+  -- so the test of a place tells it
+  pub has_placed : (place : Option ℕ) → get_or places number None ≡ place → IsTrue (is_some place) ↔ Has items number
+  has_placed None e = (λ b. absurd b, λ h. absurd (unplaced_absent e h))
+  has_placed (Some p) e = (λ b. placed_has p e, λ h. tt)
 
   -- a number is put in, for which there is room
 
@@ -130,6 +178,10 @@ module _ (items : List ℕ) (places : List (Option ℕ)) (room : ℕ) (s : IsSub
       λ o. elim o [ inl h ↦ has_longer items (number ∷ []) n h | inr e ↦ subst (Has (items ++ number ∷ [])) (sym e) (has_last items number) ],
     );
   }
+
+  -- a number that is there stays
+  pub added_already : (place : ℕ) → get_or places number None ≡ Some place → (bound : ℕ) → Adds number (record { bound = bound; items = items }) (record { bound = bound; items = items })
+  added_already place e bound = record { bound = refl; members = λ n. (λ h. inl h, λ o. elim o [ inl h ↦ h | inr f ↦ subst (Has items) (sym f) (placed_has place e) ]) }
 
   -- a number is taken out that was the last one
   module _ (front : List ℕ) (is : items ≡ front ++ number ∷ []) where

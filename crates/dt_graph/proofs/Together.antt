@@ -18,7 +18,7 @@ use Rattle.dt_graph.proofs.Nearest.{slot_same, slot_other}
 use Rattle.dt_graph.proofs.Fewer.{KeepsLater}
 use Rattle.dt_graph.proofs.Sums.{filter_both, filter_same}
 use Rattle.dt_graph.proofs.Degrees.{degree_leaving}
-use Rattle.dt_graph.proofs.Waits.{edge_of_clash}
+use Rattle.dt_graph.proofs.Waiting.{edge_of_clash}
 use Rattle.dt_graph.proofs.Uses.{uses_left}
 use Rattle.dt_graph.proofs.Free.{either_first, free_by_degree, same_place, zero_sum}
 

@@ -120,7 +120,7 @@ impl Graph {
     /// Whether the transactions are a class of several stuck ones that wait for each other and for nothing else.
     pub fn is_class(&self, alloc: Global, ids: &[TxnId]) -> Result<bool, NoMemory>
         requires known { IsKnown self.now }
-        requires { AreAscending ids.now }
+        requires ascending { AreAscending ids.now }
         ensures { (view : View) (resolved : List (List TxnId)) (done : List TxnId) → IsOrderly view resolved done → IsGraphOf view resolved done self.now →
             IfOk result (λ b. IsTrue b ↔ IsResolvable view resolved done ids.now) }
     {

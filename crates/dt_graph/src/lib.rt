@@ -22,6 +22,7 @@ mod group;
 mod leave;
 mod names;
 mod open;
+mod room;
 mod sched;
 mod subset;
 mod vertex;

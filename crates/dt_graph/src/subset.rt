@@ -2,6 +2,7 @@ ghost use Rattle.std.specs.Prelude.{◌≡◌, ◌≤◌, ◌<◌, ◌↔◌, []
 ghost use Rattle.dt_lists.specs.Lists.{AllIn, Has, Distinct};
 ghost use Rattle.dt_graph.specs.Subset.{Adds, Removes};
 
+use crate::room::push_reserved;
 use dt_text::NoMemory;
 use std::alloc::Global;
 use std::marker::Model;
@@ -64,9 +65,7 @@ impl Subset {
     {
         if self.places[number as usize].is_none() {
             self.places[number as usize] = Some(self.items.len());
-            if self.items.push(number).is_err() {
-                unreachable!()
-            }
+            push_reserved(&mut self.items, number);
         }
     }
 

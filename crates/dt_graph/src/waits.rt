@@ -1,5 +1,4 @@
 ghost use Rattle.std.specs.Prelude.{◌≡◌, ◌≤◌, ◌<◌, ◌+◌, ◌^◌, ℕ, List, [], ◌∷◌, ◌++◌, OnOk, OnErr, get_or, length};
-ghost use Rattle.std.specs.Prelude.{vec_capacity, vec_len};
 ghost use Rattle.dt_lists.specs.Lists.{AllIn, Distinct, Has};
 ghost use Rattle.dt_access.specs.declared.TxnId.{TxnId};
 ghost use Rattle.dt_queue.specs.Queues.{HasDistinctSlots, Waiting};
@@ -11,6 +10,7 @@ ghost use Rattle.dt_graph.specs.Held.{HasRoom, view_of};
 
 use crate::enter::enter;
 use crate::leave::leave;
+use crate::room::push_reserved;
 use crate::subset::Subset;
 use crate::vertex::{Slots, Vertex};
 use dt_access::Part;
@@ -183,15 +183,5 @@ impl Waits {
             &mut self.stuck,
             &mut self.ready,
         );
-    }
-}
-
-/// Adds an item for which there is room. Takes no memory.
-fn push_reserved<X: Drop>(items: &mut Vec<X>, item: X)
-    requires { vec_len items.old < vec_capacity items.old }
-    ensures { items.new.items ≡ items.old.items ++ item ∷ [] }
-{
-    if items.push(item).is_err() {
-        unreachable!()
     }
 }
