@@ -20,3 +20,5 @@ pub mod Subsets
 pub mod Keeping
 pub mod MayLeave
 pub mod Fitted
+pub mod Entered
+pub mod Followers

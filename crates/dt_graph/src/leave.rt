@@ -16,12 +16,12 @@ fn lower_followers(queues: &Queues, slot: usize, vertex: u32, degrees: &mut [usi
     requires enough { (v : ℕ) → v < length degrees.old → lowered queues.now slot vertex v ≤ get_or degrees.old v 0 }
     ensures { AreLowered (lowered queues.now slot vertex) degrees.old degrees.new }
 {
-    let mut next = queues.follower_after(slot, slot);
-    while let Some(follower) = next {
+    let mut place = slot;
+    while let Some(follower) = queues.follower_after(slot, place) {
         if follower.vertex != vertex {
             degrees[follower.vertex as usize] -= 1;
         }
-        next = queues.follower_after(slot, follower.slot);
+        place = follower.slot;
     }
 }
 
@@ -49,13 +49,13 @@ fn wake_followers(queues: &Queues, slot: usize, degrees: &[usize], stuck: &mut S
     requires ready_bound { length degrees.now ≤ ready.old.bound }
     ensures { Wakes (Follows queues.now slot) degrees.now stuck.old ready.old stuck.new ready.new }
 {
-    let mut next = queues.follower_after(slot, slot);
-    while let Some(follower) = next {
+    let mut place = slot;
+    while let Some(follower) = queues.follower_after(slot, place) {
         if degrees[follower.vertex as usize] == 0 && stuck.has(follower.vertex) {
             stuck.remove(follower.vertex);
             ready.add(follower.vertex);
         }
-        next = queues.follower_after(slot, follower.slot);
+        place = follower.slot;
     }
 }
 
