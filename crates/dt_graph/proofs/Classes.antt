@@ -3,7 +3,8 @@
 use Rattle.std.proofs.Common.{◌≡◌, ◌≢◌, ◌<◌, ◌≤◌, ◌⊎◌, ◌↔◌, ◌∙◌, ℕ, zero, suc, List, [], ◌∷◌, length, map, get_or, slice_get, Option, None, Some, refl, sym, ap, subst, inl, inr, arith}
 use Rattle.dt_lists.specs.Lists.{AnyIn, AllIn, Has, EachThen, Distinct, Either}
 use Rattle.dt_lists.specs.Chain.{Chain, here, onward}
-use Rattle.dt_lists.proofs.Callers.{all_get, all_put, any_get, any_put, any_map, any_of_image, at_place, chain_before, chain_join, chain_map, chain_step, chain_takes_back, either_and, either_any, either_has, either_nat, either_not, has_map, has_place, place_of, place_within, two_of_different}
+use Rattle.dt_lists.proofs.Callers.{all_get, all_put, any_get, any_put, any_map, any_of_image, at_place, chain_before, chain_join, chain_map, chain_step, chain_takes_back, either_and, either_any}
+use Rattle.dt_lists.proofs.Callers.{either_has, either_nat, either_not, has_map, has_place, place_of, place_within, two_of_different}
 use Rattle.dt_access.specs.Ids.{AreAscending}
 use Rattle.dt_access.specs.declared.TxnId.{TxnId}
 use Rattle.dt_access.proofs.Callers.{before_differs, either_id}
@@ -13,16 +14,16 @@ use Rattle.dt_sched.proofs.Callers.{class_of_member, has_id_decided, in_own_clas
 use Rattle.dt_class.specs.Graphs.{AdjView, AreAllBlocked, AreVertices, IsEdge, IsInClass, IsSource, Leads}
 use Rattle.dt_queue.specs.Queues.{Waiting, neighbours}
 use Rattle.dt_graph.specs.Left.{IsLeft, IsFree, IsInResolved, IsOrderly}
-use Rattle.dt_graph.specs.Waits.{id_at, AreUses, WaitsFor}
-use Rattle.dt_graph.specs.Graph.{GraphView, IsGraphOf, IsStuck}
+use Rattle.dt_graph.specs.Waits.{id_at, AreUses, HoldsUp}
+use Rattle.dt_graph.specs.Graph.{GraphView, KeepsGraph, IsStuck}
 use Rattle.dt_graph.specs.Among.{HasNeighbour, IsAmong, WaitsOutside}
 use Rattle.dt_graph.proofs.Left.{done_left, left_after, left_decided, out_of_not_left, resolvable_apart, resolvable_left, undone_before}
 use Rattle.dt_graph.proofs.Waiting.{edge_of_waits, free_by_queues, reach_by_queues}
 use Rattle.dt_graph.proofs.Free.{id_has, neighbour_waits, place_has, same_place}
 
-module _ (view : View) (resolved : List (List TxnId)) (done : List TxnId) (k : IsOrderly view resolved done) (g : GraphView) (is : IsGraphOf view resolved done g) where
+module _ (view : View) (resolved : List (List TxnId)) (done : List TxnId) (k : IsOrderly view resolved done) (g : GraphView) (is : KeepsGraph view resolved done g) where
   -- a neighbour is another vertex with an edge, or the same vertex
-  neighbour_reaches : (u v : ℕ) → u < length g.ids → v < length g.ids → HasNeighbour g.waiting u v → u ≢ v → WaitsFor g.ids g.waiting (id_at g.ids u) (id_at g.ids v)
+  neighbour_reaches : (u v : ℕ) → u < length g.ids → v < length g.ids → HasNeighbour g.waiting u v → u ≢ v → HoldsUp g.ids g.waiting (id_at g.ids u) (id_at g.ids v)
   neighbour_reaches u v lu lv h ne = (
     λ e. ne (same_place g.ids u v is.once lu lv e),
     any_map _ _ g.waiting (λ w a. (ap (id_at g.ids) a.0, any_map _ _ (neighbours g.waiting w.slot) (λ n e. ap (id_at g.ids) e) a.1)) h,
@@ -39,13 +40,14 @@ module _ (view : View) (resolved : List (List TxnId)) (done : List TxnId) (k : I
       )
 
   -- what isn't free waits for something
-  some_waits : (t : TxnId) → ¬ (IsFree view done t) → (u : TxnId) × WaitsFor g.ids g.waiting u t
+  some_waits : (t : TxnId) → ¬ (IsFree view done t) → (u : TxnId) × HoldsUp g.ids g.waiting u t
   some_waits t n = elim (either_any _ g.waiting at) [
     | inl a ↦
         let w : (w : Waiting) × Has g.waiting w × ((id_at g.ids w.vertex ≡ t) × AnyIn (λ m. ¬ (id_at g.ids m.vertex ≡ t)) (neighbours g.waiting w.slot)) = any_get _ g.waiting a in
         let m : (m : Waiting) × Has (neighbours g.waiting w.0.slot) m × ¬ (id_at g.ids m.vertex ≡ t) = any_get _ (neighbours g.waiting w.0.slot) w.2.1 in
         (id_at g.ids m.0.vertex, (m.2, any_put _ g.waiting w.0 w.1 (w.2.0, any_put _ (neighbours g.waiting w.0.slot) m.0 m.1 refl)))
-    | inr none ↦ absurd (n ((free_by_queues view done g.ids g.waiting k.sound.well_formed is.uses t).1 (λ u f. none (any_map _ _ g.waiting (λ w a. (a.0, any_map _ _ (neighbours g.waiting w.slot) (λ m e s. f.0 (sym e ∙ s)) a.1)) f.1))))
+    | inr none ↦ absurd (n ((free_by_queues view done g.ids g.waiting k.sound.well_formed is.uses t).1 (λ u f.
+        none (any_map _ _ g.waiting (λ w a. (a.0, any_map _ _ (neighbours g.waiting w.slot) (λ m e s. f.0 (sym e ∙ s)) a.1)) f.1))))
   ]
     where
       at : (w : Waiting) → Either ((id_at g.ids w.vertex ≡ t) × AnyIn (λ m. ¬ (id_at g.ids m.vertex ≡ t)) (neighbours g.waiting w.slot))
@@ -94,7 +96,7 @@ module _ (view : View) (resolved : List (List TxnId)) (done : List TxnId) (k : I
         → (p : ℕ) × (w : ℕ) × (slice_get list p ≡ Some w) × (id_at g.ids w ≡ u) × Leads graph p q
     reach_back q v e free u l r = chain_takes_back (IsAtPlace q) step ((reach_by_queues view done g.ids g.waiting k.sound.well_formed is.uses u (id_at g.ids v) l).1 r) (q, v, e, refl, here)
       where
-        step : (x y : TxnId) → WaitsFor g.ids g.waiting x y → IsAtPlace q y → IsAtPlace q x
+        step : (x y : TxnId) → HoldsUp g.ids g.waiting x y → IsAtPlace q y → IsAtPlace q x
         step x y f h =
             let w : (w : Waiting) × Has g.waiting w × ((id_at g.ids w.vertex ≡ y) × AnyIn (λ n. id_at g.ids n.vertex ≡ x) (neighbours g.waiting w.slot)) = any_get _ g.waiting f.1 in
             let n : (n : Waiting) × Has (neighbours g.waiting w.0.slot) n × (id_at g.ids n.vertex ≡ x) = any_get _ (neighbours g.waiting w.0.slot) w.2.1 in
@@ -143,7 +145,7 @@ module _ (view : View) (resolved : List (List TxnId)) (done : List TxnId) (k : I
       pub source_resolvable : IsResolvable view resolved done ids
       source_resolvable = record {
         group = (id_at g.ids vertex.0, its_class);
-        several = (let u : (u : TxnId) × WaitsFor g.ids g.waiting u (id_at g.ids vertex.0) = some_waits (id_at g.ids vertex.0) stuck.waits in
+        several = (let u : (u : TxnId) × HoldsUp g.ids g.waiting u (id_at g.ids vertex.0) = some_waits (id_at g.ids vertex.0) stuck.waits in
           let e : Edge view u.0 (id_at g.ids vertex.0) = edge_of_waits view done g.ids g.waiting k.sound.well_formed is.uses u.0 (id_at g.ids vertex.0) u.1 in
           two_of_different ids u.0 (id_at g.ids vertex.0) (found_of_reach u.0 (waits_left u.0 u.1) (chain_step e)) itself u.1.0);
         complete = all_put (IsComplete view) ids (λ t h. let f : (q : ℕ) × (w : ℕ) × (slice_get list q ≡ Some w) × (id_at g.ids w ≡ t) × IsInClass graph p q = (found t).0 h in
@@ -155,7 +157,7 @@ module _ (view : View) (resolved : List (List TxnId)) (done : List TxnId) (k : I
         ];
       }
         where
-          waits_left : (u : TxnId) → WaitsFor g.ids g.waiting u (id_at g.ids vertex.0) → IsLeft view done u
+          waits_left : (u : TxnId) → HoldsUp g.ids g.waiting u (id_at g.ids vertex.0) → IsLeft view done u
           waits_left u f =
               let w : (w : Waiting) × Has g.waiting w × ((id_at g.ids w.vertex ≡ id_at g.ids vertex.0) × AnyIn (λ n. id_at g.ids n.vertex ≡ u) (neighbours g.waiting w.slot)) = any_get _ g.waiting f.1 in
               let n : (n : Waiting) × Has (neighbours g.waiting w.0.slot) n × (id_at g.ids n.vertex ≡ u) = any_get _ (neighbours g.waiting w.0.slot) w.2.1 in
@@ -271,6 +273,7 @@ module _ (view : View) (resolved : List (List TxnId)) (done : List TxnId) (k : I
           let hv : Has ids (id_at g.ids v.0) = of_list v.0 (has_place list q v.0 v.1) in
           let m : Mutual view (id_at g.ids u.0) (id_at g.ids v.0) = ((class_at (id_at g.ids v.0) hv).members (id_at g.ids u.0)).0 hu in
           let b : (i : ℕ) × (w : ℕ) × (slice_get list i ≡ Some w) × (id_at g.ids w ≡ id_at g.ids u.0) × Leads graph i q =
-              reach_back list once all_stuck graph blocked a q v.0 v.1 (λ e. let n : (n : ℕ) × Has blocked n × Leads graph n q = any_get _ blocked e in none_blocked n.0 n.1) (id_at g.ids u.0) (member_stuck (id_at g.ids u.0) hu).left m.0 in
+              reach_back list once all_stuck graph blocked a q v.0 v.1
+              (λ e. let n : (n : ℕ) × Has blocked n × Leads graph n q = any_get _ blocked e in none_blocked n.0 n.1) (id_at g.ids u.0) (member_stuck (id_at g.ids u.0) hu).left m.0 in
           subst (λ i. Leads graph i q) (one_place list once all_stuck graph blocked a list b.0 p u.0 once
           (subst (λ w. slice_get list b.0 ≡ Some w) (same_place g.ids b.1 u.0 is.once (all_get _ list in_ids b.1 (has_place list b.0 b.1 b.2)) (all_get _ list in_ids u.0 (has_place list p u.0 u.1)) b.3) b.2) u.1) b.4

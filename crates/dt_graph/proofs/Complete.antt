@@ -1,5 +1,6 @@
 -- A transaction is complete just where none of its homes lacks a part of it, and an inserted part is lacked once less.
-use Rattle.std.proofs.Common.{◌≡◌, ◌≢◌, ◌+◌, ◌<◌, ◌⊎◌, ◌↔◌, ◌∙◌, ℕ, zero, suc, Bool, true, false, not, ◌||◌, List, [], ◌∷◌, ◌++◌, length, map, filter, refl, sym, ap, subst, inl, inr, arith}
+use Rattle.std.proofs.Common.{◌≡◌, ◌≢◌, ◌+◌, ◌<◌, ◌⊎◌, ◌↔◌, ◌∙◌, ℕ, zero, suc, Bool, true, false, not, ◌||◌, List, [], ◌∷◌, ◌++◌, length, map}
+use Rattle.std.proofs.Common.{filter, refl, sym, ap, subst, inl, inr, arith}
 use Rattle.std.specs.List.{list_any}
 use Rattle.std.proofs.lemmas.Bool.{cases_Bool, false_from_ne_true}
 use Rattle.dt_lists.specs.Lists.{AnyIn, AllIn, Has, Distinct, EachThen}
@@ -69,7 +70,8 @@ module _ (view : View) (part : Part) (can : CanInsert view part) where
     | inr e ↦ ap (λ log. has_part log t) e
   ]
     where
-      by : (has_part (log_at view home) t ≡ true) ⊎ (has_part (log_at view home) t ≡ false) → log_at (with_part view part) home ≡ log_at view home ++ part ∷ [] → has_part (log_at (with_part view part) home) t ≡ has_part (log_at view home) t
+      by : (has_part (log_at view home) t ≡ true) ⊎ (has_part (log_at view home) t ≡ false) → log_at (with_part view part) home ≡ log_at view home ++ part ∷ []
+          → has_part (log_at (with_part view part) home) t ≡ has_part (log_at view home) t
       by (inl y) e = test_of_part (log_at (with_part view part) home) t (subst (λ log. HasPart log t) (sym e) (any_append_left _ (log_at view home) (part ∷ []) (part_of_test (log_at view home) t y))) ∙ sym y
       by (inr n) e = test_of_none (log_at (with_part view part) home) t (λ h. elim (any_append _ (log_at view home) (part ∷ []) (subst (λ log. HasPart log t) e h)) [
         | inl k ↦ let y : has_part (log_at view home) t ≡ true = test_of_part (log_at view home) t k in cc
@@ -83,7 +85,8 @@ module _ (view : View) (part : Part) (can : CanInsert view part) where
       same [] = refl
       same (home ∷ homes) = by (same homes) (cases_Bool (has_part (log_at view home) t))
         where
-          by : lacking (with_part view part) t homes ≡ lacking view t homes → (has_part (log_at view home) t ≡ true) ⊎ (has_part (log_at view home) t ≡ false) → lacking (with_part view part) t (home ∷ homes) ≡ lacking view t (home ∷ homes)
+          by : lacking (with_part view part) t homes ≡ lacking view t homes → (has_part (log_at view home) t ≡ true) ⊎ (has_part (log_at view home) t ≡ false)
+              → lacking (with_part view part) t (home ∷ homes) ≡ lacking view t (home ∷ homes)
           by rest (inl y) = rw (test_beside home t ne, y) rest
           by rest (inr n) = rw (test_beside home t ne, n) (ap suc rest)
 
@@ -92,7 +95,8 @@ module _ (view : View) (part : Part) (can : CanInsert view part) where
   other_home home ne = elim (log_with_part view part home) [ inl e ↦ absurd (ne e.0) | inr e ↦ ap (λ log. has_part log part.id) e ]
 
   here_now : has_part (log_at (with_part view part) part.home) part.id ≡ true
-  here_now = test_of_part _ part.id (subst (λ log. HasPart log part.id) (sym (part_there view part can)) (any_map (λ p. p ≡ part) (λ p. p.id ≡ part.id) (log_at view part.home ++ part ∷ []) (λ p e. ap (λ q. q.id) e) (has_last (log_at view part.home) part)))
+  here_now = test_of_part _ part.id (subst (λ log. HasPart log part.id) (sym (part_there view part can))
+      (any_map (λ p. p ≡ part) (λ p. p.id ≡ part.id) (log_at view part.home ++ part ∷ []) (λ p e. ap (λ q. q.id) e) (has_last (log_at view part.home) part)))
 
   here_before : has_part (log_at view part.home) part.id ≡ false
   here_before = test_of_none (log_at view part.home) part.id can.fresh

@@ -1,6 +1,7 @@
 -- Degrees: how a push and the leaving of vertices change them. When vertices leave, the degree of each vertex that stays
 -- falls by the number of its entries that follow theirs, all told; these are counted before any entry is taken out.
-use Rattle.std.proofs.Common.{◌≡◌, ◌≢◌, ◌+◌, ◌≤◌, ◌⊎◌, ◌↔◌, ◌∙◌, ℕ, zero, suc, Bool, true, false, ◌&&◌, ◌==◌, not, if◌then◌else◌, List, [], ◌∷◌, ◌++◌, length, map, filter, refl, sym, ap, ap₂, subst, inl, inr, eqb-true, eq-eqb, arith}
+use Rattle.std.proofs.Common.{◌≡◌, ◌≢◌, ◌+◌, ◌≤◌, ◌⊎◌, ◌↔◌, ◌∙◌, ℕ, zero, suc, Bool, true, false, ◌&&◌, ◌==◌, not, if◌then◌else◌, List, []}
+use Rattle.std.proofs.Common.{◌∷◌, ◌++◌, length, map, filter, refl, sym, ap, ap₂, subst, inl, inr, eqb-true, eq-eqb, arith}
 use Rattle.std.specs.List.{sum_by, list_any}
 use Rattle.std.proofs.lemmas.Bool.{and_parts, and_from, cases_Bool, false_from_ne_true}
 use Rattle.std.proofs.lemmas.Bool.Decides.{nat_tests}
@@ -156,7 +157,8 @@ module _ (waiting : List Waiting) (distinct : HasDistinctSlots waiting) (v : ℕ
           ∙ sym (sum_mapped (λ slot. lowered waiting slot u v) (λ w. w.slot) (filter (is_of u) waiting))
 
   -- each neighbour of another vertex leaves or stays
-  degree_split : (leaving : List ℕ) → degree waiting v ≡ count_neighbours (λ n. not (n.vertex == v) && not (is_leaving leaving n.vertex)) waiting v + count_neighbours (λ n. not (n.vertex == v) && is_leaving leaving n.vertex) waiting v
+  degree_split : (leaving : List ℕ)
+      → degree waiting v ≡ count_neighbours (λ n. not (n.vertex == v) && not (is_leaving leaving n.vertex)) waiting v + count_neighbours (λ n. not (n.vertex == v) && is_leaving leaving n.vertex) waiting v
   degree_split leaving = sum_of_sums _ _ _ waiting (λ w h. at (w.vertex == v) _ _ _ (length_split (λ n. not (n.vertex == v)) (λ n. is_leaving leaving n.vertex) (neighbours waiting w.slot)))
     where
       at : (b : Bool) (m n k : ℕ) → m ≡ n + k → (if b then m else 0) ≡ (if b then n else 0) + (if b then k else 0)

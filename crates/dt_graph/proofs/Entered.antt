@@ -1,5 +1,6 @@
 -- Pushing the uses of a part, step by step, and taking the pushed entries back; and what a part adds to what is kept.
-use Rattle.std.proofs.Common.{◌≡◌, ◌≢◌, ◌+◌, ◌<◌, ◌≤◌, ◌⊎◌, ◌↔◌, ◌∙◌, ℕ, zero, suc, Bool, true, false, ◌==◌, not, if◌then◌else◌, List, [], ◌∷◌, ◌++◌, length, map, filter, get_or, set, Option, None, Some, refl, sym, ap, ap₂, subst, inl, inr, arith}
+use Rattle.std.proofs.Common.{◌≡◌, ◌≢◌, ◌+◌, ◌<◌, ◌≤◌, ◌⊎◌, ◌↔◌, ◌∙◌, ℕ, zero, suc, Bool, true, false, ◌==◌, not, if◌then◌else◌, List, []}
+use Rattle.std.proofs.Common.{◌∷◌, ◌++◌, length, map, filter, get_or, set, Option, None, Some, refl, sym, ap, ap₂, subst, inl, inr, arith}
 use Rattle.std.proofs.lemmas.Bool.{cases_Bool}
 use Rattle.std.proofs.lemmas.List.{append-nil, append_assoc, get_or-set_other, get_or-set_same, length-append, length-set, map-append}
 use Rattle.std.proofs.lemmas.List.Elements.{filter-append}
@@ -32,7 +33,8 @@ enters_none home vertex waiting slots count d = record {
 }
 
 -- one after the other
-pub enters_more : (home vertex : ℕ) (first second : List (Bytes × Mode)) (a b c : List Waiting) (r s t : List ℕ) (i j k : ℕ) → Enters home vertex first a b r s i j → Enters home vertex second b c s t j k → Enters home vertex (first ++ second) a c r t i k
+pub enters_more : (home vertex : ℕ) (first second : List (Bytes × Mode)) (a b c : List Waiting) (r s t : List ℕ) (i j k : ℕ)
+    → Enters home vertex first a b r s i j → Enters home vertex second b c s t j k → Enters home vertex (first ++ second) a c r t i k
 enters_more home vertex first second a b c r s t i j k e f = record {
   pushed = record {
     more = e.pushed.more ++ f.pushed.more;
@@ -67,7 +69,8 @@ enters_one waiting now w slots slots_now count risen d is fresh at r = record {
   pushed = record { more = w ∷ []; waiting = is; distinct = subst HasDistinctSlots (sym is) all_distinct; at_slots = at; of_vertex = (refl, tt) };
   used = refl;
   at_home = (refl, tt);
-  counted = λ e. r ∙ ap₂ ◌+◌ e (count_mapped (λ n. not (n == w.vertex)) (λ n. n.vertex) (neighbours now w.slot)) ∙ sym (ap (λ l. degree l w.vertex) is ∙ degree_pushed waiting w w.vertex all_distinct ∙ ap (λ n. degree waiting w.vertex + n) own);
+  counted = λ e. r ∙ ap₂ ◌+◌ e (count_mapped (λ n. not (n == w.vertex)) (λ n. n.vertex) (neighbours now w.slot))
+    ∙ sym (ap (λ l. degree l w.vertex) is ∙ degree_pushed waiting w w.vertex all_distinct ∙ ap (λ n. degree waiting w.vertex + n) own);
 }
   where
     all_distinct : HasDistinctSlots (waiting ++ w ∷ [])
@@ -96,7 +99,8 @@ entries_of part vertex old new slots now count risen e = record {
     use_in : (w : Waiting) → Has e.pushed.more w → Has part.keys (w.key, w.mode)
     use_in w h = subst (λ l. Has l (w.key, w.mode)) e.used (has_map (λ w. (w.key, w.mode)) e.pushed.more w h)
 
-    three : (ws : List Waiting) → ((w : Waiting) → Has ws w → Has e.pushed.more w) → AllIn (λ w. w.home ≡ part.home) ws → AllIn (λ w. w.vertex ≡ vertex) ws → AllIn (λ w. (w.home ≡ part.home) × (w.vertex ≡ vertex) × Has part.keys (w.key, w.mode)) ws
+    three : (ws : List Waiting) → ((w : Waiting) → Has ws w → Has e.pushed.more w) → AllIn (λ w. w.home ≡ part.home) ws
+        → AllIn (λ w. w.vertex ≡ vertex) ws → AllIn (λ w. (w.home ≡ part.home) × (w.vertex ≡ vertex) × Has part.keys (w.key, w.mode)) ws
     three [] among a b = tt
     three (w ∷ ws) among a b = ((a.0, b.0, use_in w (among w (inl refl))), three ws (λ v h. among v (inr h)) a.1 b.1)
 
@@ -170,7 +174,8 @@ inserts_first part old waiting slots missing count ready stuck ready_now stuck_n
 
 
     vertex_is : vertex_at (old.vertices ++ record { rank = part.rank; missing = missing; class = None; slots = slots } ∷ []) (length old.ids) ≡ record { rank = part.rank; missing = missing; class = None; slots = slots }
-    vertex_is = ap (vertex_at (old.vertices ++ record { rank = part.rank; missing = missing; class = None; slots = slots } ∷ [])) (sym sv) ∙ last_at old.vertices (record { rank = part.rank; missing = missing; class = None; slots = slots }) (record { rank = 0; missing = 0; class = None; slots = [] })
+    vertex_is = ap (vertex_at (old.vertices ++ record { rank = part.rank; missing = missing; class = None; slots = slots } ∷ [])) (sym sv)
+        ∙ last_at old.vertices (record { rank = part.rank; missing = missing; class = None; slots = slots }) (record { rank = 0; missing = 0; class = None; slots = [] })
 
     degree_is : get_or (old.degrees ++ count ∷ []) (length old.ids) 0 ≡ count
     degree_is = ap (λ n. get_or (old.degrees ++ count ∷ []) n 0) (sym sd) ∙ last_at old.degrees count 0

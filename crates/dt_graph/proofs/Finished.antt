@@ -1,6 +1,7 @@
 -- An id that is done leaves what is kept the graph of the view with that id done: where its vertex leaves, where another
 -- member of its class is ready now, and where its class leaves.
-use Rattle.std.proofs.Common.{◌≡◌, ◌≢◌, ◌+◌, ◌<◌, ◌≤◌, ◌⊎◌, ◌↔◌, ◌∙◌, ℕ, zero, suc, Bool, true, false, not, List, [], ◌∷◌, ◌++◌, length, map, filter, get_or, set, take, drop, slice_get, Some, refl, sym, ap, subst, inl, inr, arith}
+use Rattle.std.proofs.Common.{◌≡◌, ◌≢◌, ◌+◌, ◌<◌, ◌≤◌, ◌⊎◌, ◌↔◌, ◌∙◌, ℕ, zero, suc, Bool, true, false, not, List, [], ◌∷◌, ◌++◌, length, map}
+use Rattle.std.proofs.Common.{filter, get_or, set, take, drop, slice_get, Some, refl, sym, ap, subst, inl, inr, arith}
 use Rattle.std.proofs.lemmas.Bool.{false_from_ne_true}
 use Rattle.std.proofs.lemmas.List.{length-map}
 use Rattle.dt_lists.specs.Lists.{AnyIn, AllIn, Has, EachThen, Distinct, Either, Pairwise}
@@ -15,7 +16,7 @@ use Rattle.dt_graph.specs.declared.vertex.Vertex.{Vertex}
 use Rattle.dt_graph.specs.declared.open.Open.{Open}
 use Rattle.dt_graph.specs.Left.{IsLeft, IsOut, IsFree, IsInResolved, IsOrderly}
 use Rattle.dt_graph.specs.Waits.{id_at, AreUses, IsFollowed, degree, is_leaving, lowered_by, slots_of}
-use Rattle.dt_graph.specs.Graph.{GraphView, IsGraphOf, IsOpened, IsStuck, IsVertexOf, vertex_at}
+use Rattle.dt_graph.specs.Graph.{GraphView, KeepsGraph, IsOpened, IsStuck, IsVertexOf, vertex_at}
 use Rattle.dt_graph.specs.Steps.{FinishesAlone, FinishesBefore, FinishesLast, IsReadyWithout, Leaves, one_done, with_one_done}
 use Rattle.dt_graph.proofs.Left.{executable_left, class_of_resolved}
 use Rattle.dt_graph.proofs.Leaving.{leaves_alone, leaves_with_class, nothing_leaves}
@@ -116,7 +117,7 @@ module _ (view : View) (resolved : List (List TxnId)) (done : List TxnId) (t : T
   }
 
   -- vertices leave together, and what is ready and the classes are right
-  module _ (old new : GraphView) (g : IsGraphOf view resolved done old) (leaving : List ℕ) (distinct : Distinct leaving) (within : AllIn (λ u. u < length old.ids) leaving)
+  module _ (old new : GraphView) (g : KeepsGraph view resolved done old) (leaving : List ℕ) (distinct : Distinct leaving) (within : AllIn (λ u. u < length old.ids) leaving)
       (outs : (u : TxnId) → IsOut view Later u ↔ IsOut view done u ⊎ Has (map (id_at old.ids) leaving) u) (ready : List ℕ) (classes : List Open)
       (lv : Leaves leaving (record old { ready = ready; classes = classes }) new) (stuck_stays : (u : ℕ) → Has old.stuck u → ¬ (Has leaving u))
       (ready_right : (u : ℕ) → Has ready u → (u < length old.ids) × IsExecutable view resolved Later (id_at old.ids u))
@@ -138,7 +139,8 @@ module _ (view : View) (resolved : List (List TxnId)) (done : List TxnId) (t : T
 
     free : (v : ℕ) → v < length old.ids → IsLeft view Later (id_at old.ids v) → (get_or new.degrees v 0 ≡ 0) ↔ IsFree view Later (id_at old.ids v)
     free v lt l =
-        let f : (degree (filter (λ w. not (is_leaving leaving w.vertex)) old.waiting) v ≡ 0) ↔ IsFree view Later (id_at old.ids v) = free_together view done Later old.ids old.waiting leaving k.sound.well_formed g.once g.uses within outs v lt in (
+        let f : (degree (filter (λ w. not (is_leaving leaving w.vertex)) old.waiting) v ≡ 0) ↔ IsFree view Later (id_at old.ids v) =
+            free_together view done Later old.ids old.waiting leaving k.sound.well_formed g.once g.uses within outs v lt in (
           λ z. f.0 (sym (counts v lt l) ∙ z),
           λ p. counts v lt l ∙ f.1 p,
         )
@@ -210,8 +212,8 @@ module _ (view : View) (resolved : List (List TxnId)) (done : List TxnId) (t : T
               inr (h, z, followed v r.0 l s.1.waits z)
         ])
 
-    left_together : IsGraphOf view resolved Later new
-    left_together = subst (IsGraphOf view resolved Later) (sym is_kept) (record {
+    left_together : KeepsGraph view resolved Later new
+    left_together = subst (KeepsGraph view resolved Later) (sym is_kept) (record {
       once = g.once;
       present = g.present;
       vertices = g.vertices;
@@ -230,7 +232,7 @@ module _ (view : View) (resolved : List (List TxnId)) (done : List TxnId) (t : T
         is_kept = λ i. record { ids = lv.ids i; vertices = lv.vertices i; degrees = new.degrees; waiting = lv.waiting i; ready = new.ready; stuck = new.stuck; classes = lv.classes i }
 
   -- t has the vertex v, and what is kept is the graph
-  module _ (old new : GraphView) (g : IsGraphOf view resolved done old) (v : ℕ) (in_ids : v < length old.ids) (named : id_at old.ids v ≡ t) where
+  module _ (old new : GraphView) (g : KeepsGraph view resolved done old) (v : ℕ) (in_ids : v < length old.ids) (named : id_at old.ids v ≡ t) where
     other_vertex : (u : ℕ) → u < length old.ids → id_at old.ids u ≢ t → u ≢ v
     other_vertex u lt ne e = ne (ap (id_at old.ids) e ∙ named)
 
@@ -267,7 +269,7 @@ module _ (view : View) (resolved : List (List TxnId)) (done : List TxnId) (t : T
     one_out u = (λ e. inl (named ∙ sym e), λ h. elim h [ inl e ↦ sym e ∙ named | inr f ↦ absurd f ])
 
     -- t is in no resolved class: its vertex leaves
-    pub finished_alone : ¬ (IsInResolved resolved t) → FinishesAlone v old new → IsGraphOf view resolved Later new
+    pub finished_alone : ¬ (IsInResolved resolved t) → FinishesAlone v old new → KeepsGraph view resolved Later new
     finished_alone apart f = left_together old new g (v ∷ []) (tt, tt) (in_ids, tt)
         (λ u. let o : IsOut view Later u ↔ IsOut view done u ⊎ (u ≡ t) = leaves_alone view resolved done k t x apart u in (
           λ p. elim (o.0 p) [ inl q ↦ inl q | inr e ↦ inr ((one_out u).0 e) ],
@@ -353,7 +355,7 @@ module _ (view : View) (resolved : List (List TxnId)) (done : List TxnId) (t : T
               was_ready_beside u r.0 lt y r.1 r.2 (λ m. out (subst (λ c. Has c (id_at old.ids u)) (only_class r.0 r.1 m) r.2))
 
       -- t is the last of its class, which leaves
-      pub finished_last : suc kept.next ≡ length kept.members → FinishesLast v place kept old new → IsGraphOf view resolved Later new
+      pub finished_last : suc kept.next ≡ length kept.members → FinishesLast v place kept old new → KeepsGraph view resolved Later new
       finished_last last f = left_together old new g kept.members distinct_members opened.within
           (λ u. let o : IsOut view Later u ↔ IsOut view done u ⊎ Has ids u = leaves_with_class view resolved done k t x ids there member all_done u in (
             λ p. elim (o.0 p) [ inl q ↦ inl q | inr h ↦ inr ((opened.members u).1 h) ],
@@ -378,7 +380,7 @@ module _ (view : View) (resolved : List (List TxnId)) (done : List TxnId) (t : T
           none_left u y m = y.waiting (all_get (Has Later) Row row_done (id_at old.ids u) ((opened.members (id_at old.ids u)).1 m))
 
       -- another member runs after t: that is ready
-      pub finished_before : (next : ℕ) → slice_get kept.members (suc kept.next) ≡ Some next → FinishesBefore v place kept next old new → IsGraphOf view resolved Later new
+      pub finished_before : (next : ℕ) → slice_get kept.members (suc kept.next) ≡ Some next → FinishesBefore v place kept next old new → KeepsGraph view resolved Later new
       finished_before next at f = left_together old new g [] tt tt
           (λ u. let o : IsOut view Later u ↔ IsOut view done u = nothing_leaves view resolved done k t x ids there member (id_at old.ids next) next_member next_waits next_isnt u in (
             λ p. inl (o.0 p),

@@ -1,6 +1,7 @@
 -- A walk over the followers of an entry: it begins with those after itself, which are all, and goes on with those after each
 -- that was found.
-use Rattle.std.proofs.Common.{◌≡◌, ◌≢◌, ◌+◌, ◌<◌, ◌⊎◌, ◌∙◌, ℕ, zero, suc, Bool, true, false, ◌==◌, not, if◌then◌else◌, List, [], ◌∷◌, ◌++◌, length, map, filter, get_or, slice_get, Option, None, Some, refl, sym, ap, subst, inl, inr, eqb-true, eq-eqb, arith}
+use Rattle.std.proofs.Common.{◌≡◌, ◌≢◌, ◌+◌, ◌<◌, ◌⊎◌, ◌∙◌, ℕ, zero, suc, Bool, true, false, ◌==◌, not, if◌then◌else◌, List, [], ◌∷◌, ◌++◌}
+use Rattle.std.proofs.Common.{length, map, filter, get_or, slice_get, Option, None, Some, refl, sym, ap, subst, inl, inr, eqb-true, eq-eqb, arith}
 use Rattle.std.specs.List.{list_any}
 use Rattle.std.proofs.lemmas.Bool.{cases_Bool, false_from_ne_true}
 use Rattle.std.proofs.lemmas.List.{append_assoc}
@@ -64,7 +65,8 @@ module _ (waiting : List Waiting) (distinct : HasDistinctSlots waiting) where
       -- no entry of the front is after j
       none : (front : List Waiting) (w : Waiting) (rest : List Waiting) → s.front ≡ front ++ w ∷ rest → test w ≡ true → ⊥
       none front w rest is t =
-          let n : (n : Waiting) × Has front n × (n.slot ≡ j.slot) = any_get _ front (neighbour_before front w (rest ++ j ∷ s.rest) j.slot (s.is ∙ ap (λ l. l ++ j ∷ s.rest) is ∙ append_assoc front (w ∷ rest) (j ∷ s.rest)) t) in
+          let n : (n : Waiting) × Has front n × (n.slot ≡ j.slot) = any_get _ front
+              (neighbour_before front w (rest ++ j ∷ s.rest) j.slot (s.is ∙ ap (λ l. l ++ j ∷ s.rest) is ∙ append_assoc front (w ∷ rest) (j ∷ s.rest)) t) in
           each_across _ s.front (j ∷ s.rest) n.0 j split (subst (λ l. Has l n.0) (sym is) (any_append_left (λ y. y ≡ n.0) front (w ∷ rest) n.1)) (inl refl) n.2
 
       before_none : AllIn (λ w. test w ≡ false) s.front

@@ -1,5 +1,6 @@
 -- The degree of a vertex is zero just where its transaction is free.
-use Rattle.std.proofs.Common.{◌≡◌, ◌≢◌, ◌+◌, ◌<◌, ◌⊎◌, ◌↔◌, ◌∙◌, ℕ, zero, suc, Bool, true, false, ◌==◌, not, if◌then◌else◌, List, [], ◌∷◌, length, filter, get_or, refl, sym, ap, subst, inl, inr, eqb-true, arith}
+use Rattle.std.proofs.Common.{◌≡◌, ◌≢◌, ◌+◌, ◌<◌, ◌⊎◌, ◌↔◌, ◌∙◌, ℕ, zero, suc, Bool, true, false, ◌==◌, not, if◌then◌else◌, List, [], ◌∷◌}
+use Rattle.std.proofs.Common.{length, filter, get_or, refl, sym, ap, subst, inl, inr, eqb-true, arith}
 use Rattle.std.specs.List.{sum_by}
 use Rattle.std.proofs.lemmas.Bool.{cases_Bool, false_from_ne_true}
 use Rattle.dt_lists.specs.Lists.{AnyIn, AllIn, Has, Distinct, EachThen}
@@ -8,7 +9,7 @@ use Rattle.dt_access.specs.declared.TxnId.{TxnId}
 use Rattle.dt_sched.specs.Views.{View, IsWellFormed}
 use Rattle.dt_queue.specs.Queues.{Waiting, HasDistinctSlots, neighbours}
 use Rattle.dt_graph.specs.Left.{IsFree}
-use Rattle.dt_graph.specs.Waits.{id_at, AreUses, WaitsFor, others, degree}
+use Rattle.dt_graph.specs.Waits.{id_at, AreUses, HoldsUp, others, degree}
 use Rattle.dt_graph.proofs.Nearest.{nearest_clash, neighbours_split, slot_same, slot_other}
 use Rattle.dt_graph.proofs.Sums.{sum_first}
 use Rattle.dt_graph.proofs.Waiting.{free_by_queues}
@@ -78,7 +79,7 @@ module _ (view : View) (done ids : List TxnId) (waiting : List Waiting) (well : 
   vertex_in : (w : Waiting) → Has waiting w → w.vertex < length ids
   vertex_in w h = all_get _ waiting uses.vertices w h
 
-  waits_counted : (u : TxnId) → WaitsFor ids waiting u (id_at ids v) → degree waiting v ≡ 0 → ⊥
+  waits_counted : (u : TxnId) → HoldsUp ids waiting u (id_at ids v) → degree waiting v ≡ 0 → ⊥
   waits_counted u f e =
       let w : (w : Waiting) × Has waiting w × ((id_at ids w.vertex ≡ id_at ids v) × AnyIn (λ n. id_at ids n.vertex ≡ u) (neighbours waiting w.slot)) = any_get _ waiting f.1 in
       let n : (n : Waiting) × Has (neighbours waiting w.0.slot) n × (id_at ids n.vertex ≡ u) = any_get _ (neighbours waiting w.0.slot) w.2.1 in
@@ -91,7 +92,7 @@ module _ (view : View) (done ids : List TxnId) (waiting : List Waiting) (well : 
           none = let z : (if w.vertex == v then length (others v (neighbours waiting w.slot)) else 0) ≡ 0 = all_get _ waiting (sum_zero _ waiting e) w h in
               rw (ap (λ x. x == v) is, slot_same v) at z
 
-  degree_counts : ((u : TxnId) → ¬ (WaitsFor ids waiting u (id_at ids v))) → degree waiting v ≡ 0
+  degree_counts : ((u : TxnId) → ¬ (HoldsUp ids waiting u (id_at ids v))) → degree waiting v ≡ 0
   degree_counts none = zero_sum _ waiting (all_put _ waiting (λ w h. at w h (cases_Bool (w.vertex == v))))
     where
       at : (w : Waiting) → Has waiting w → ((w.vertex == v) ≡ true) ⊎ ((w.vertex == v) ≡ false) → (if w.vertex == v then length (others v (neighbours waiting w.slot)) else 0) ≡ 0

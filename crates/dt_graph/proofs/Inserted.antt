@@ -1,5 +1,6 @@
 -- A part that is inserted leaves what is kept the graph of the longer view.
-use Rattle.std.proofs.Common.{◌≡◌, ◌≢◌, ◌+◌, ◌<◌, ◌≤◌, ◌⊎◌, ◌↔◌, ◌∙◌, ℕ, zero, suc, Bool, true, false, ◌==◌, not, if◌then◌else◌, List, [], ◌∷◌, ◌++◌, length, map, filter, get_or, take, drop, slice_get, Option, None, Some, refl, sym, ap, ap₂, subst, inl, inr, eq-eqb, arith}
+use Rattle.std.proofs.Common.{◌≡◌, ◌≢◌, ◌+◌, ◌<◌, ◌≤◌, ◌⊎◌, ◌↔◌, ◌∙◌, ℕ, zero, suc, Bool, true, false, ◌==◌, not, if◌then◌else◌, List, []}
+use Rattle.std.proofs.Common.{◌∷◌, ◌++◌, length, map, filter, get_or, take, drop, slice_get, Option, None, Some, refl, sym, ap, ap₂, subst, inl, inr, eq-eqb, arith}
 use Rattle.std.proofs.lemmas.List.{append-nil, append_assoc, map-append}
 use Rattle.std.proofs.lemmas.List.Elements.{filter-append}
 use Rattle.dt_lists.specs.Lists.{AnyIn, AllIn, Has, EachThen, Distinct, Either, Pairwise}
@@ -18,7 +19,7 @@ use Rattle.dt_graph.specs.declared.vertex.Vertex.{Vertex}
 use Rattle.dt_graph.specs.declared.open.Open.{Open}
 use Rattle.dt_graph.specs.Left.{IsLeft, IsOut, IsFree, IsInResolved, IsOrderly}
 use Rattle.dt_graph.specs.Waits.{id_at, AreUses, degree, is_of, others, slots_of}
-use Rattle.dt_graph.specs.Graph.{GraphView, IsGraphOf, IsOpened, IsPlaceOfClass, IsStuck, IsVertexOf, lacking, vertex_at}
+use Rattle.dt_graph.specs.Graph.{GraphView, KeepsGraph, IsOpened, IsPlaceOfClass, IsStuck, IsVertexOf, lacking, vertex_at}
 use Rattle.dt_graph.specs.Steps.{AreEntriesOf, Grows, Inserts, IsVertexBefore, fresh_vertex}
 use Rattle.dt_graph.proofs.Left.{out_back, out_stays}
 use Rattle.dt_graph.proofs.Orderly.{orderly_insert}
@@ -133,12 +134,13 @@ module _ (view : View) (resolved : List (List TxnId)) (done : List TxnId) (part 
       there : (x : TxnId) → Has ids x → IsPresent view x
       there x m = present_of_complete view x (complete_of_closed view x (all_get (IsClosed view) ids (all_get _ resolved k.sound.resolved_closed ids h) x m))
 
-  module _ (v : ℕ) (more : List Waiting) (old new : GraphView) (g : IsGraphOf view resolved done old) (i : Inserts part v more old new) where
+  module _ (v : ℕ) (more : List Waiting) (old new : GraphView) (g : KeepsGraph view resolved done old) (i : Inserts part v more old new) where
     -- the entries
 
     uses : AreUses Longer done new.ids new.waiting
     uses = subst (AreUses Longer done new.ids) (sym i.waiting)
-        (uses_inserted view done old.ids old.waiting part k.sound.well_formed can g.uses new.ids v more i.kept i.within i.named (subst HasDistinctSlots i.waiting i.distinct) i.entries.of_part i.entries.all_uses left_longer left_back left_part)
+        (uses_inserted view done old.ids old.waiting part k.sound.well_formed can g.uses new.ids v more i.kept i.within i.named (subst HasDistinctSlots i.waiting i.distinct)
+          i.entries.of_part i.entries.all_uses left_longer left_back left_part)
 
     -- another vertex is of another transaction, which was there
     other_id : (u : ℕ) → u < length new.ids → u ≢ v → id_at new.ids u ≢ part.id
@@ -439,7 +441,7 @@ module _ (view : View) (resolved : List (List TxnId)) (done : List TxnId) (part 
         each_longer [] among each = tt
         each_longer (t ∷ ts) among each = (all_put _ ts (λ u m. (sooner_same ids t u h (among t (inl refl)) (among u (inr m))).0 (all_get _ ts each.0 u m)), each_longer ts (λ u m. among u (inr m)) each.1)
 
-    pub inserted : IsGraphOf Longer resolved done new
+    pub inserted : KeepsGraph Longer resolved done new
     inserted = record {
       once = i.once;
       present = λ t. (

@@ -15,8 +15,8 @@ use Rattle.dt_graph.specs.declared.vertex.Vertex.{Vertex}
 use Rattle.dt_graph.specs.declared.open.Open.{Open}
 use Rattle.dt_graph.specs.Left.{IsInResolved, IsOrderly}
 use Rattle.dt_graph.specs.Waits.{id_at}
-use Rattle.dt_graph.specs.Graph.{GraphView, IsGraphOf, IsPlaceOfClass, nothing_kept, vertex_at}
-use Rattle.dt_graph.specs.Steps.{AreInOrder, FinishesAlone, FinishesBefore, FinishesId, FinishesLast, InsertsPart, Resolves, ResolvesClass, RunsBefore, alone, before, last}
+use Rattle.dt_graph.specs.Graph.{GraphView, KeepsGraph, IsPlaceOfClass, nothing_kept, vertex_at}
+use Rattle.dt_graph.specs.Steps.{RunInOrder, FinishesAlone, FinishesBefore, FinishesId, FinishesLast, InsertsPart, Resolves, ResolvesClass, RunsBefore, alone, before, last}
 use Rattle.dt_graph.specs.QueueSchedView.{IsKeeping}
 use Rattle.dt_graph.proofs.Orderly.{orderly_at_first, orderly_finish, orderly_insert, orderly_resolve}
 use Rattle.dt_graph.proofs.Free.{id_has, place_has}
@@ -106,7 +106,7 @@ module _ (s : Sched) (old : GraphView) (k : IsKeeping s old) where
       class_of : (v : ℕ) → slice_get old.ids v ≡ Some id → IsPlaceOfClass s.resolved id (vertex_at old.vertices v).class
       class_of v at = subst (λ t. IsPlaceOfClass s.resolved t (vertex_at old.vertices v).class) (at_named old.ids v id at) (k.graph.kept v (place_within old.ids v id at)).class
 
-      by : FinishesId id old new → IsGraphOf s.logs s.resolved (s.done ++ id ∷ []) new
+      by : FinishesId id old new → KeepsGraph s.logs s.resolved (s.done ++ id ∷ []) new
       by (alone v at none f) = finished_alone s.logs s.resolved s.done id k.orderly can old new k.graph v (place_within old.ids v id at) (at_named old.ids v id at)
           (subst (IsPlaceOfClass s.resolved id) none (class_of v at)) f
       by (before v place next kept at some kept_at next_at f) =

@@ -1,5 +1,6 @@
 -- A class that is resolved leaves what is kept the graph: its members are stuck no more, and the soonest of them is ready.
-use Rattle.std.proofs.Common.{◌≡◌, ◌≢◌, ◌<◌, ◌≤◌, ◌⊎◌, ◌↔◌, ◌∙◌, ℕ, zero, suc, List, [], ◌∷◌, ◌++◌, length, map, get_or, slice_get, Option, None, Some, refl, sym, ap, subst, inl, inr, arith}
+use Rattle.std.proofs.Common.{◌≡◌, ◌≢◌, ◌<◌, ◌≤◌, ◌⊎◌, ◌↔◌, ◌∙◌, ℕ, zero, suc, List, [], ◌∷◌, ◌++◌, length, map, get_or, slice_get, Option, None}
+use Rattle.std.proofs.Common.{Some, refl, sym, ap, subst, inl, inr, arith}
 use Rattle.dt_lists.specs.Lists.{AnyIn, AllIn, Has, EachThen, Distinct, Either, Pairwise}
 use Rattle.dt_lists.proofs.Callers.{all_get, all_put, any_get, any_of_image, any_put, either_has, either_nat, has_last, has_longer, has_map, has_more, has_place, place_in_longer}
 use Rattle.dt_lists.specs.Chain.{here}
@@ -11,7 +12,7 @@ use Rattle.dt_graph.specs.declared.vertex.Vertex.{Vertex}
 use Rattle.dt_graph.specs.declared.open.Open.{Open}
 use Rattle.dt_graph.specs.Left.{IsInResolved, IsOrderly}
 use Rattle.dt_graph.specs.Waits.{id_at}
-use Rattle.dt_graph.specs.Graph.{GraphView, IsGraphOf, IsOpened, IsPlaceOfClass, IsStuck, IsVertexOf, vertex_at}
+use Rattle.dt_graph.specs.Graph.{GraphView, KeepsGraph, IsOpened, IsPlaceOfClass, IsStuck, IsVertexOf, vertex_at}
 use Rattle.dt_graph.specs.Steps.{Resolves}
 use Rattle.dt_graph.proofs.Left.{resolvable_waits}
 use Rattle.dt_graph.proofs.Orderly.{orderly_resolve}
@@ -50,7 +51,8 @@ module _ (view : View) (resolved : List (List TxnId)) (done ids : List TxnId) (k
 
   -- what is in another class, or in none, may be executed as before
   executable_apart : (t : TxnId) → ¬ (Has ids t) → IsExecutable view More done t ↔ IsExecutable view resolved done t
-  executable_apart t n = (λ y. back y (in_resolved_decided resolved t), λ y. record { closed = y.closed; waiting = y.waiting; preceders = y.preceders; settled = λ others c two. has_longer resolved (ids ∷ []) others (y.settled others c two) })
+  executable_apart t n = (λ y. back y (in_resolved_decided resolved t),
+      λ y. record { closed = y.closed; waiting = y.waiting; preceders = y.preceders; settled = λ others c two. has_longer resolved (ids ∷ []) others (y.settled others c two) })
     where
       back : IsExecutable view More done t → Either (IsInResolved resolved t) → IsExecutable view resolved done t
       back y d = record {
@@ -64,7 +66,7 @@ module _ (view : View) (resolved : List (List TxnId)) (done ids : List TxnId) (k
   none_executable : (t : TxnId) → Has ids t → ¬ (IsExecutable view resolved done t)
   none_executable t h y = x.unresolved (y.settled ids (class_of_member view x.group.0 t ids x.group.1 h) x.several)
 
-  module _ (old new : GraphView) (members : List ℕ) (g : IsGraphOf view resolved done old) (r : Resolves members (length resolved) old new) (within : AllIn (λ v. v < length old.ids) members)
+  module _ (old new : GraphView) (members : List ℕ) (g : KeepsGraph view resolved done old) (r : Resolves members (length resolved) old new) (within : AllIn (λ v. v < length old.ids) members)
       (ordered : EachThen (IsSooner view) (map (id_at old.ids) members)) (same : (t : TxnId) → Has (map (id_at old.ids) members) t ↔ Has ids t) where
     opened : IsOpened view done old.ids ids (record { members = members; next = 0 })
     opened = record {
@@ -167,8 +169,8 @@ module _ (view : View) (resolved : List (List TxnId)) (done ids : List TxnId) (k
       ),
     )
 
-    pub resolved_more : IsGraphOf view More done new
-    resolved_more = subst (IsGraphOf view More done) (sym is_kept) (record {
+    pub resolved_more : KeepsGraph view More done new
+    resolved_more = subst (KeepsGraph view More done) (sym is_kept) (record {
       once = g.once;
       present = g.present;
       vertices = r.size ∙ g.vertices;

@@ -1,11 +1,13 @@
 -- Sets of numbers below a bound: there are at most as many as the bound, and each kept right stays so when a number is put in
 -- or taken out.
-use Rattle.std.proofs.Common.{◌≡◌, ◌≢◌, ◌+◌, ◌<◌, ◌≤◌, ◌⊎◌, ◌↔◌, ◌∙◌, ℕ, zero, suc, List, [], ◌∷◌, ◌++◌, length, get_or, set, slice_get, Option, None, Some, refl, sym, ap, subst, inl, inr, Bool, true, false, not, is_some, IsTrue, arith}
+use Rattle.std.proofs.Common.{◌≡◌, ◌≢◌, ◌+◌, ◌<◌, ◌≤◌, ◌⊎◌, ◌↔◌, ◌∙◌, ℕ, zero, suc, List, [], ◌∷◌, ◌++◌, length, get_or, set, slice_get, Option}
+use Rattle.std.proofs.Common.{None, Some, refl, sym, ap, subst, inl, inr, Bool, true, false, not, is_some, IsTrue, true≢false, arith}
 use Rattle.std.proofs.lemmas.List.{get_or-set_same, get_or-set_other, length-append, length-set}
 use Rattle.std.proofs.Math.ListN.{get_or-append}
 use Rattle.dt_lists.specs.Lists.{AllIn, Has, Distinct}
-use Rattle.dt_lists.proofs.Callers.{all_append, all_append_left, all_get, all_map, all_put, distinct_push, distinct_within, each_append_left, each_across, either_nat, has_last, has_longer, has_more, has_place, place_in_longer, place_in_more, place_of}
-use Rattle.dt_graph.specs.Subset.{Adds, IsPlaced, IsSubset, Removes}
+use Rattle.dt_lists.proofs.Callers.{all_append, all_append_left, all_get, all_map, all_put, distinct_push, distinct_within, each_append_left, each_across, either_nat, has_last, has_longer, has_more}
+use Rattle.dt_lists.proofs.Callers.{has_place, place_in_longer, place_in_more, place_of}
+use Rattle.dt_graph.specs.Subset.{PutsIn, StandsAtPlace, IsSubset, Removes}
 
 -- the numbers below a bound
 abbrev below : ℕ → List ℕ
@@ -117,8 +119,8 @@ subset_reached items places less more s le = record {
     grown : (v : ℕ) → v < length places → v < length places + 1
     grown v lt = omega (arith, lt)
 
-    at : (v : ℕ) → v < length places + 1 → (v ≡ length places) ⊎ ¬ (v ≡ length places) → IsPlaced items v (get_or (places ++ None ∷ []) v None)
-    at v lt (inl e) = subst (λ v. IsPlaced items v (get_or (places ++ None ∷ []) v None)) (sym e) (subst (IsPlaced items (length places)) (sym (get_seam_or places)) (λ h. above (all_get _ items s.within (length places) h)))
+    at : (v : ℕ) → v < length places + 1 → (v ≡ length places) ⊎ ¬ (v ≡ length places) → StandsAtPlace items v (get_or (places ++ None ∷ []) v None)
+    at v lt (inl e) = subst (λ v. StandsAtPlace items v (get_or (places ++ None ∷ []) v None)) (sym e) (subst (StandsAtPlace items (length places)) (sym (get_seam_or places)) (λ h. above (all_get _ items s.within (length places) h)))
       where
         above : length places < length places → ⊥
         above lt = omega (arith, lt)
@@ -126,7 +128,7 @@ subset_reached items places less more s le = record {
         get_seam_or : (ps : List (Option ℕ)) → get_or (ps ++ None ∷ []) (length ps) None ≡ None
         get_seam_or [] = refl
         get_seam_or (p ∷ ps) = get_seam_or ps
-    at v lt (inr ne) = subst (IsPlaced items v) (sym (get_or-append places (None ∷ []) None v (below_it v lt ne))) (s.placed v (below_it v lt ne))
+    at v lt (inr ne) = subst (StandsAtPlace items v) (sym (get_or-append places (None ∷ []) None v (below_it v lt ne))) (s.placed v (below_it v lt ne))
       where
         below_it : (v : ℕ) → v < length places + 1 → ¬ (v ≡ length places) → v < length places
         below_it v lt ne = grind (arith, lt, ne)
@@ -135,15 +137,15 @@ module _ (items : List ℕ) (places : List (Option ℕ)) (room : ℕ) (s : IsSub
   -- whether a number is one of them is seen by its place
 
   pub placed_has : (place : ℕ) → get_or places number None ≡ Some place → Has items number
-  placed_has place e = has_place items place number (subst (IsPlaced items number) e (s.placed number lt))
+  placed_has place e = has_place items place number (subst (StandsAtPlace items number) e (s.placed number lt))
 
   pub unplaced_absent : get_or places number None ≡ None → ¬ (Has items number)
-  unplaced_absent e = subst (IsPlaced items number) e (s.placed number lt)
+  unplaced_absent e = subst (StandsAtPlace items number) e (s.placed number lt)
 
   -- so the test of a place tells it
   pub has_placed : (place : Option ℕ) → get_or places number None ≡ place → IsTrue (is_some place) ↔ Has items number
-  has_placed None e = (λ b. absurd b, λ h. absurd (unplaced_absent e h))
-  has_placed (Some p) e = (λ b. placed_has p e, λ h. tt)
+  has_placed None e = (λ b. absurd (true≢false (sym b)), λ h. absurd (unplaced_absent e h))
+  has_placed (Some p) e = (λ b. placed_has p e, λ h. refl)
 
   -- a number is put in, for which there is room
 
@@ -161,16 +163,16 @@ module _ (items : List ℕ) (places : List (Option ℕ)) (room : ℕ) (s : IsSub
     placed = λ n ln. at n (subst (λ m. n < m) (length-set places number (Some (length items))) ln) (either_nat n number);
   }
     where
-      longer : (n : ℕ) → n ≢ number → (place : Option ℕ) → IsPlaced items n place → IsPlaced (items ++ number ∷ []) n place
+      longer : (n : ℕ) → n ≢ number → (place : Option ℕ) → StandsAtPlace items n place → StandsAtPlace (items ++ number ∷ []) n place
       longer n ne None p = λ h. elim (has_more items number n h) [ inl o ↦ p o | inr f ↦ ne (sym f) ]
       longer n ne (Some place) p = place_in_longer items (number ∷ []) place n p
 
-      at : (n : ℕ) → n < length places → (n ≡ number) ⊎ ¬ (n ≡ number) → IsPlaced (items ++ number ∷ []) n (get_or (set places number (Some (length items))) n None)
-      at n ln (inl f) = subst (λ n. IsPlaced (items ++ number ∷ []) n (get_or (set places number (Some (length items))) n None)) (sym f)
-          (subst (IsPlaced (items ++ number ∷ []) number) (sym (get_or-set_same places number (Some (length items)) None lt)) (last_place items number))
-      at n ln (inr ne) = subst (IsPlaced (items ++ number ∷ []) n) (sym (get_or-set_other places number n (Some (length items)) None ne)) (longer n ne (get_or places n None) (s.placed n ln))
+      at : (n : ℕ) → n < length places → (n ≡ number) ⊎ ¬ (n ≡ number) → StandsAtPlace (items ++ number ∷ []) n (get_or (set places number (Some (length items))) n None)
+      at n ln (inl f) = subst (λ n. StandsAtPlace (items ++ number ∷ []) n (get_or (set places number (Some (length items))) n None)) (sym f)
+          (subst (StandsAtPlace (items ++ number ∷ []) number) (sym (get_or-set_same places number (Some (length items)) None lt)) (last_place items number))
+      at n ln (inr ne) = subst (StandsAtPlace (items ++ number ∷ []) n) (sym (get_or-set_other places number n (Some (length items)) None ne)) (longer n ne (get_or places n None) (s.placed n ln))
 
-  pub added : (bound : ℕ) → Adds number (record { bound = bound; items = items }) (record { bound = bound; items = items ++ number ∷ [] })
+  pub added : (bound : ℕ) → PutsIn number (record { bound = bound; items = items }) (record { bound = bound; items = items ++ number ∷ [] })
   added bound = record {
     bound = refl;
     members = λ n. (
@@ -180,7 +182,7 @@ module _ (items : List ℕ) (places : List (Option ℕ)) (room : ℕ) (s : IsSub
   }
 
   -- a number that is there stays
-  pub added_already : (place : ℕ) → get_or places number None ≡ Some place → (bound : ℕ) → Adds number (record { bound = bound; items = items }) (record { bound = bound; items = items })
+  pub added_already : (place : ℕ) → get_or places number None ≡ Some place → (bound : ℕ) → PutsIn number (record { bound = bound; items = items }) (record { bound = bound; items = items })
   added_already place e bound = record { bound = refl; members = λ n. (λ h. inl h, λ o. elim o [ inl h ↦ h | inr f ↦ subst (Has items) (sym f) (placed_has place e) ]) }
 
   -- a number is taken out that was the last one
@@ -199,13 +201,13 @@ module _ (items : List ℕ) (places : List (Option ℕ)) (room : ℕ) (s : IsSub
       placed = λ n ln. at n (subst (λ m. n < m) (length-set places number None) ln) (either_nat n number);
     }
       where
-        shorter : (n : ℕ) → n ≢ number → (place : Option ℕ) → IsPlaced (front ++ number ∷ []) n place → IsPlaced front n place
+        shorter : (n : ℕ) → n ≢ number → (place : Option ℕ) → StandsAtPlace (front ++ number ∷ []) n place → StandsAtPlace front n place
         shorter n ne None p = λ h. p (has_longer front (number ∷ []) n h)
         shorter n ne (Some place) p = elim (place_in_more front number place n p) [ inl o ↦ o | inr f ↦ absurd (ne (sym f.1)) ]
 
-        at : (n : ℕ) → n < length places → (n ≡ number) ⊎ ¬ (n ≡ number) → IsPlaced front n (get_or (set places number None) n None)
-        at n ln (inl f) = subst (λ n. IsPlaced front n (get_or (set places number None) n None)) (sym f) (subst (IsPlaced front number) (sym (get_or-set_same places number None None lt)) absent_front)
-        at n ln (inr ne) = subst (IsPlaced front n) (sym (get_or-set_other places number n None None ne)) (shorter n ne (get_or places n None) (subst (λ l. IsPlaced l n (get_or places n None)) is (s.placed n ln)))
+        at : (n : ℕ) → n < length places → (n ≡ number) ⊎ ¬ (n ≡ number) → StandsAtPlace front n (get_or (set places number None) n None)
+        at n ln (inl f) = subst (λ n. StandsAtPlace front n (get_or (set places number None) n None)) (sym f) (subst (StandsAtPlace front number) (sym (get_or-set_same places number None None lt)) absent_front)
+        at n ln (inr ne) = subst (StandsAtPlace front n) (sym (get_or-set_other places number n None None ne)) (shorter n ne (get_or places n None) (subst (λ l. StandsAtPlace l n (get_or places n None)) is (s.placed n ln)))
 
     pub removed_last : (bound : ℕ) → Removes number (record { bound = bound; items = items }) (record { bound = bound; items = front })
     removed_last bound = record {
@@ -222,7 +224,7 @@ module _ (items : List ℕ) (places : List (Option ℕ)) (room : ℕ) (s : IsSub
     once_all = subst Distinct is s.once
 
     pub at_front : slice_get front place ≡ Some number
-    at_front = elim (place_in_more front last place number (subst (λ l. slice_get l place ≡ Some number) is (subst (IsPlaced items number) at_place (s.placed number lt)))) [ inl o ↦ o | inr f ↦ absurd (other f.1) ]
+    at_front = elim (place_in_more front last place number (subst (λ l. slice_get l place ≡ Some number) is (subst (StandsAtPlace items number) at_place (s.placed number lt)))) [ inl o ↦ o | inr f ↦ absurd (other f.1) ]
 
     once_in_front : Distinct front
     once_in_front = each_append_left _ front (last ∷ []) once_all
@@ -247,7 +249,7 @@ module _ (items : List ℕ) (places : List (Option ℕ)) (room : ℕ) (s : IsSub
         size : length (set (set places last (Some place)) number None) ≡ length places
         size = length-set (set places last (Some place)) number None ∙ length-set places last (Some place)
 
-        beside : (n : ℕ) → n ≢ number → n ≢ last → (p : Option ℕ) → IsPlaced (front ++ last ∷ []) n p → IsPlaced (set front place last) n p
+        beside : (n : ℕ) → n ≢ number → n ≢ last → (p : Option ℕ) → StandsAtPlace (front ++ last ∷ []) n p → StandsAtPlace (set front place last) n p
         beside n ne nl None p = λ h. elim (set_has front place last n h) [
           | inl e ↦ nl (sym e)
           | inr r ↦ p (has_longer front (last ∷ []) n (has_place front r.0 n r.2))
@@ -257,14 +259,14 @@ module _ (items : List ℕ) (places : List (Option ℕ)) (room : ℕ) (s : IsSub
             in_front : slice_get front q ≡ Some n
             in_front = elim (place_in_more front last q n p) [ inl o ↦ o | inr f ↦ absurd (nl (sym f.1)) ]
 
-        at : (n : ℕ) → n < length places → (n ≡ number) ⊎ ¬ (n ≡ number) → (n ≡ last) ⊎ ¬ (n ≡ last) → IsPlaced (set front place last) n (get_or (set (set places last (Some place)) number None) n None)
-        at n ln (inl f) l = subst (λ n. IsPlaced (set front place last) n (get_or (set (set places last (Some place)) number None) n None)) (sym f)
-            (subst (IsPlaced (set front place last) number) (sym (get_or-set_same (set places last (Some place)) number None None (subst (λ m. number < m) (sym (length-set places last (Some place))) lt))) number_gone)
-        at n ln (inr ne) (inl l) = subst (IsPlaced (set front place last) n) (sym (get_or-set_other (set places last (Some place)) number n None None ne))
-            (subst (λ n. IsPlaced (set front place last) n (get_or (set places last (Some place)) n None)) (sym l)
-              (subst (IsPlaced (set front place last) last) (sym (get_or-set_same places last (Some place) None last_within)) (set_here front place number last at_front)))
-        at n ln (inr ne) (inr nl) = subst (IsPlaced (set front place last) n) (sym (get_or-set_other (set places last (Some place)) number n None None ne ∙ get_or-set_other places last n (Some place) None nl))
-            (beside n ne nl (get_or places n None) (subst (λ l. IsPlaced l n (get_or places n None)) is (s.placed n ln)))
+        at : (n : ℕ) → n < length places → (n ≡ number) ⊎ ¬ (n ≡ number) → (n ≡ last) ⊎ ¬ (n ≡ last) → StandsAtPlace (set front place last) n (get_or (set (set places last (Some place)) number None) n None)
+        at n ln (inl f) l = subst (λ n. StandsAtPlace (set front place last) n (get_or (set (set places last (Some place)) number None) n None)) (sym f)
+            (subst (StandsAtPlace (set front place last) number) (sym (get_or-set_same (set places last (Some place)) number None None (subst (λ m. number < m) (sym (length-set places last (Some place))) lt))) number_gone)
+        at n ln (inr ne) (inl l) = subst (StandsAtPlace (set front place last) n) (sym (get_or-set_other (set places last (Some place)) number n None None ne))
+            (subst (λ n. StandsAtPlace (set front place last) n (get_or (set places last (Some place)) n None)) (sym l)
+              (subst (StandsAtPlace (set front place last) last) (sym (get_or-set_same places last (Some place) None last_within)) (set_here front place number last at_front)))
+        at n ln (inr ne) (inr nl) = subst (StandsAtPlace (set front place last) n) (sym (get_or-set_other (set places last (Some place)) number n None None ne ∙ get_or-set_other places last n (Some place) None nl))
+            (beside n ne nl (get_or places n None) (subst (λ l. StandsAtPlace l n (get_or places n None)) is (s.placed n ln)))
 
     pub removed : (bound : ℕ) → Removes number (record { bound = bound; items = items }) (record { bound = bound; items = set front place last })
     removed bound = record {

@@ -1,6 +1,7 @@
 -- Vertices that leave together: the entries that stay are the uses of what is left, their slots and degrees are kept, and
 -- what came to degree 0 follows something that left.
-use Rattle.std.proofs.Common.{◌≡◌, ◌≢◌, ◌+◌, ◌<◌, ◌⊎◌, ◌↔◌, ◌∙◌, ℕ, zero, suc, Bool, true, false, ◌==◌, ◌&&◌, not, if◌then◌else◌, List, [], ◌∷◌, ◌++◌, length, map, filter, get_or, refl, sym, ap, subst, inl, inr, eq-eqb, eqb-true, arith}
+use Rattle.std.proofs.Common.{◌≡◌, ◌≢◌, ◌+◌, ◌<◌, ◌⊎◌, ◌↔◌, ◌∙◌, ℕ, zero, suc, Bool, true, false, ◌==◌, ◌&&◌, not, if◌then◌else◌, List, []}
+use Rattle.std.proofs.Common.{◌∷◌, ◌++◌, length, map, filter, get_or, refl, sym, ap, subst, inl, inr, eq-eqb, eqb-true, arith}
 use Rattle.std.specs.List.{list_any, sum_by}
 use Rattle.std.proofs.lemmas.Bool.{cases_Bool, false_from_ne_true}
 use Rattle.std.proofs.lemmas.List.{append_assoc}
@@ -45,7 +46,8 @@ term_of_sum f xs n = elim (either_any (λ x. ¬ (f x ≡ 0)) xs (λ x. either_no
 
 -- where the degree of a vertex is lowered, it is followed
 pub followed_of_lowered : (waiting : List Waiting) (leaving : List ℕ) (v : ℕ) → ¬ (lowered_by waiting leaving v ≡ 0) → IsFollowed waiting leaving v
-followed_of_lowered waiting leaving v n = any_map _ _ leaving (λ u m. any_map _ _ (slots_of waiting u) (λ slot p. of_slot slot u p) (term_of_sum (λ slot. lowered waiting slot u v) (slots_of waiting u) m)) (term_of_sum (λ u. sum_by (λ slot. lowered waiting slot u v) (slots_of waiting u)) leaving n)
+followed_of_lowered waiting leaving v n = any_map _ _ leaving (λ u m. any_map _ _ (slots_of waiting u) (λ slot p. of_slot slot u p) (term_of_sum (λ slot. lowered waiting slot u v) (slots_of waiting u) m))
+    (term_of_sum (λ u. sum_by (λ slot. lowered waiting slot u v) (slots_of waiting u)) leaving n)
   where
     of_slot : (slot u : ℕ) → ¬ (lowered waiting slot u v ≡ 0) → AnyIn (λ w. w.vertex ≡ v) (followers waiting slot)
     of_slot slot u p = elim (either_first (filter (is_of v) (followers waiting slot))) [

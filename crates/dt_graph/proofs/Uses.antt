@@ -4,7 +4,8 @@ use Rattle.std.proofs.Common.{◌≡◌, ◌≢◌, ◌<◌, ◌⊎◌, ◌↔�
 use Rattle.std.proofs.lemmas.Bool.{cases_Bool}
 use Rattle.std.proofs.lemmas.List.{append_assoc, get_or-set_same, map-append}
 use Rattle.dt_lists.specs.Lists.{AnyIn, AllIn, Has, EachThen, SomeThen, Distinct, IsFront}
-use Rattle.dt_lists.proofs.Callers.{all_get, all_put, all_map, all_append, any_get, any_put, any_map, any_from_at, any_append, any_append_left, any_append_right, any_image, any_of_image, any_front, each_append, each_map, filter_each, filter_all, has_filter, has_of_filtered, front_append, has_last, spot, Spot}
+use Rattle.dt_lists.proofs.Callers.{all_get, all_put, all_map, all_append, any_get, any_put, any_map, any_from_at, any_append, any_append_left, any_append_right, any_image, any_of_image, any_front}
+use Rattle.dt_lists.proofs.Callers.{each_append, each_map, filter_each, filter_all, has_filter, has_of_filtered, front_append, has_last, spot, Spot}
 use Rattle.dt_access.specs.Ids.{StandsBefore}
 use Rattle.dt_access.specs.Clash.{Bytes}
 use Rattle.dt_access.specs.declared.access.Mode.{Mode}

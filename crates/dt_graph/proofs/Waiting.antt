@@ -16,7 +16,7 @@ use Rattle.dt_sched.specs.Views.{View, log_at, ids_of, AreClashing, Edge, Reache
 use Rattle.dt_sched.proofs.Callers.{clash_of_uses, uses_of_clash, edge_at_home, home_of_edge}
 use Rattle.dt_graph.specs.Left.{IsLeft, LeftEdge, IsFree}
 use Rattle.dt_queue.specs.Queues.{Waiting, HasDistinctSlots, entries_clash, neighbours}
-use Rattle.dt_graph.specs.Waits.{id_at, IsUseOf, WaitsWith, FollowsLog, AreUses, WaitsFor}
+use Rattle.dt_graph.specs.Waits.{id_at, IsUseOf, WaitsWith, FollowsLog, AreUses, HoldsUp}
 use Rattle.dt_graph.proofs.Left.{left_chain, left_after, left_edge}
 use Rattle.dt_graph.proofs.Nearest.{neighbours_split, nearest_clash, IsNeighbour, chain_of_clash}
 
@@ -100,29 +100,29 @@ module _ (view : View) (done : List TxnId) (ids : List TxnId) (waiting : List Wa
       edge_of_clash i.front i.rest s.rest v w (s.is ∙ ap (λ l. l ++ w ∷ s.rest) i.is ∙ append_assoc i.front (v ∷ i.rest) (w ∷ s.rest)) c.1 ne
 
   -- so there is, where t waits for u
-  pub edge_of_waits : (u t : TxnId) → WaitsFor ids waiting u t → Edge view u t
+  pub edge_of_waits : (u t : TxnId) → HoldsUp ids waiting u t → Edge view u t
   edge_of_waits u t f =
       let w : (w : Waiting) × Has waiting w × ((id_at ids w.vertex ≡ t) × AnyIn (λ v. id_at ids v.vertex ≡ u) (neighbours waiting w.slot)) = any_get _ waiting f.1 in
       let v : (v : Waiting) × Has (neighbours waiting w.0.slot) v × (id_at ids v.vertex ≡ u) = any_get _ (neighbours waiting w.0.slot) w.2.1 in
       subst (λ x. Edge view x t) v.2 (subst (Edge view (id_at ids v.0.vertex)) w.2.0 (neighbour_edge v.0 w.0 (w.1, v.1) (λ e. f.0 (sym v.2 ∙ e ∙ w.2.0))))
 
   -- a step to a neighbour is a step between transactions, or within one
-  waits_of_neighbour : (v w : Waiting) → IsNeighbour waiting v w → Chain (WaitsFor ids waiting) (id_at ids v.vertex) (id_at ids w.vertex)
+  waits_of_neighbour : (v w : Waiting) → IsNeighbour waiting v w → Chain (HoldsUp ids waiting) (id_at ids v.vertex) (id_at ids w.vertex)
   waits_of_neighbour v w n = elim (either_id (id_at ids v.vertex) (id_at ids w.vertex)) [
-    | inl e ↦ subst (Chain (WaitsFor ids waiting) (id_at ids v.vertex)) e here
+    | inl e ↦ subst (Chain (HoldsUp ids waiting) (id_at ids v.vertex)) e here
     | inr ne ↦ chain_step (ne, any_put _ waiting w n.0 (refl, any_put _ (neighbours waiting w.slot) v n.1 refl))
   ]
 
-  waits_of_chain : {v w : Waiting} → Chain (IsNeighbour waiting) v w → Chain (WaitsFor ids waiting) (id_at ids v.vertex) (id_at ids w.vertex)
+  waits_of_chain : {v w : Waiting} → Chain (IsNeighbour waiting) v w → Chain (HoldsUp ids waiting) (id_at ids v.vertex) (id_at ids w.vertex)
   waits_of_chain here = here
   waits_of_chain (onward {y = x} {z = w} c n) = chain_join (waits_of_chain c) (waits_of_neighbour x w n)
 
   -- where there is an edge between left ones, a chain of waiting leads along it
-  pub waits_of_edge : (u t : TxnId) → LeftEdge view done u t → Chain (WaitsFor ids waiting) u t
+  pub waits_of_edge : (u t : TxnId) → LeftEdge view done u t → Chain (HoldsUp ids waiting) u t
   waits_of_edge u t e = at (home_of_edge view u t e.1)
     where
       along : (home : ℕ) → SomeThen (AreClashing u t) (log_at view home) → (v w : Waiting) → Has waiting v → Has waiting w → WaitsWith ids home u (v.key, v.mode) v → WaitsWith ids home t (w.key, w.mode) w
-          → uses_clash (v.key, v.mode) (w.key, w.mode) ≡ true → Chain (WaitsFor ids waiting) u t
+          → uses_clash (v.key, v.mode) (w.key, w.mode) ≡ true → Chain (HoldsUp ids waiting) u t
       along home stand v w hv hw a b c = by (some_of_two (λ x y. Unit {0}) waiting v w hv hw (λ e. e1 (sym a.1 ∙ ap (λ x. id_at ids x.vertex) e ∙ b.1)) tt tt)
         where
           e1 : u ≢ t
@@ -152,13 +152,13 @@ module _ (view : View) (done : List TxnId) (ids : List TxnId) (waiting : List Wa
               ([], s.front, s.rest, ap (λ l. x ∷ l) s.is ∙ ap (λ z. z ∷ (s.front ++ w ∷ s.rest)) r.2.0)
           split (x ∷ xs) (inr s) = let r : (front between rest : List Waiting) × (xs ≡ front ++ v ∷ (between ++ w ∷ rest)) = split xs s in (x ∷ r.0, r.1, r.2, ap (λ l. x ∷ l) r.3)
 
-          by : SomeThen (λ x y. (x ≡ v) × (y ≡ w) × Unit {0}) waiting ⊎ SomeThen (λ x y. (x ≡ w) × (y ≡ v) × Unit {0}) waiting → Chain (WaitsFor ids waiting) u t
+          by : SomeThen (λ x y. (x ≡ v) × (y ≡ w) × Unit {0}) waiting ⊎ SomeThen (λ x y. (x ≡ w) × (y ≡ v) × Unit {0}) waiting → Chain (HoldsUp ids waiting) u t
           by (inl s) =
               let r : (front between rest : List Waiting) × (waiting ≡ front ++ v ∷ (between ++ w ∷ rest)) = split waiting s in
-              subst (λ x. Chain (WaitsFor ids waiting) x t) a.1 (subst (Chain (WaitsFor ids waiting) (id_at ids v.vertex)) b.1 (waits_of_chain (chain_of_clash waiting uses.distinct r.0 r.1 r.2 v w r.3 clashing)))
+              subst (λ x. Chain (HoldsUp ids waiting) x t) a.1 (subst (Chain (HoldsUp ids waiting) (id_at ids v.vertex)) b.1 (waits_of_chain (chain_of_clash waiting uses.distinct r.0 r.1 r.2 v w r.3 clashing)))
           by (inr s) = absurd (wrong s)
 
-      at : (home : ℕ) × SomeThen (AreClashing u t) (log_at view home) → Chain (WaitsFor ids waiting) u t
+      at : (home : ℕ) × SomeThen (AreClashing u t) (log_at view home) → Chain (HoldsUp ids waiting) u t
       at h =
           let log : List Part = log_at view h.0 in
           let r : (p q : Part) × Has log p × Has log q × AreClashing u t p q = some_get _ (log_at view h.0) h.1 in
@@ -169,23 +169,23 @@ module _ (view : View) (done : List TxnId) (ids : List TxnId) (waiting : List Wa
           along h.0 h.1 v.0 w.0 v.1 w.1 (v.2.0, v.2.1 ∙ r.4.0, refl) (w.2.0, w.2.1 ∙ r.4.1, refl)
           (subst (λ x. uses_clash x (w.0.key, w.0.mode) ≡ true) (sym v.2.2) (subst (λ y. uses_clash a.0 y ≡ true) (sym w.2.2) b.2))
 
-  waits_of_left : {u t : TxnId} → Chain (LeftEdge view done) u t → Chain (WaitsFor ids waiting) u t
+  waits_of_left : {u t : TxnId} → Chain (LeftEdge view done) u t → Chain (HoldsUp ids waiting) u t
   waits_of_left here = here
   waits_of_left (onward {y = x} {z = t} c e) = chain_join (waits_of_left c) (waits_of_edge x t e)
 
-  reach_of_waits : {u t : TxnId} → Chain (WaitsFor ids waiting) u t → Reaches view u t
+  reach_of_waits : {u t : TxnId} → Chain (HoldsUp ids waiting) u t → Reaches view u t
   reach_of_waits here = here
   reach_of_waits (onward {y = x} {z = t} c f) = onward (reach_of_waits c) (edge_of_waits x t f)
 
   -- reach by what the queues tell is reach by all edges, from what is left
-  pub reach_by_queues : (u t : TxnId) → IsLeft view done u → (Chain (WaitsFor ids waiting) u t ↔ Reaches view u t)
+  pub reach_by_queues : (u t : TxnId) → IsLeft view done u → (Chain (HoldsUp ids waiting) u t ↔ Reaches view u t)
   reach_by_queues u t l = (λ c. reach_of_waits c, λ r. waits_of_left (left_chain view done l r))
 
   -- t is free where it waits for nothing
-  pub free_by_queues : (t : TxnId) → (IsFree view done t ↔ ((u : TxnId) → ¬ (WaitsFor ids waiting u t)))
+  pub free_by_queues : (t : TxnId) → (IsFree view done t ↔ ((u : TxnId) → ¬ (HoldsUp ids waiting u t)))
   free_by_queues t = (waits_not, λ none u l r. alone none (waits_of_left (left_chain view done l r)))
     where
-      source_left : (u : TxnId) → WaitsFor ids waiting u t → IsLeft view done u
+      source_left : (u : TxnId) → HoldsUp ids waiting u t → IsLeft view done u
       source_left u f =
           let w : (w : Waiting) × Has waiting w × ((id_at ids w.vertex ≡ t) × AnyIn (λ v. id_at ids v.vertex ≡ u) (neighbours waiting w.slot)) = any_get _ waiting f.1 in
           let v : (v : Waiting) × Has (neighbours waiting w.0.slot) v × (id_at ids v.vertex ≡ u) = any_get _ (neighbours waiting w.0.slot) w.2.1 in
@@ -197,9 +197,9 @@ module _ (view : View) (done : List TxnId) (ids : List TxnId) (waiting : List Wa
               let c : Has s.front v × (entries_clash v w ≡ true) = nearest_clash w s.front v (subst (λ l. Has l v) (neighbours_split waiting s.front w s.rest uses.distinct s.is) n) in
               subst (λ l. Has l v) (sym s.is) (has_longer s.front (w ∷ s.rest) v c.0)
 
-      waits_not : IsFree view done t → (u : TxnId) → ¬ (WaitsFor ids waiting u t)
+      waits_not : IsFree view done t → (u : TxnId) → ¬ (HoldsUp ids waiting u t)
       waits_not free u f = f.0 (free u (source_left u f) (chain_step (edge_of_waits u t f)))
 
-      alone : ((u : TxnId) → ¬ (WaitsFor ids waiting u t)) → {u : TxnId} → Chain (WaitsFor ids waiting) u t → u ≡ t
+      alone : ((u : TxnId) → ¬ (HoldsUp ids waiting u t)) → {u : TxnId} → Chain (HoldsUp ids waiting) u t → u ≡ t
       alone none here = refl
       alone none (onward {y = x} c f) = absurd (none x f)

@@ -1,7 +1,7 @@
 -- What the scheduler with queues keeps: of each transaction that has a part a vertex, which is a number; of those that are
 -- left in the graph the entries that wait, and how many neighbours these have; of those that are complete, which are ready,
 -- as they may be executed, and which are stuck; and of each resolved class its vertices, in the order in which they run.
--- That all of it is so at each moment is `IsGraphOf`; that the answers read off it are right is in proofs/Answer.antt.
+-- That all of it is so at each moment is `KeepsGraph`; that the answers read off it are right is in proofs/Answer.antt.
 use Rattle.std.specs.Prelude.{◌≡◌, ◌≤◌, ◌<◌, ◌↔◌, ℕ, Bool, not, List, [], length, map, get_or, slice_get, take, drop, Option, None, Some}
 use Rattle.std.specs.List.{filter, list_any}
 use Rattle.dt_lists.specs.Lists.{AnyIn, AllIn, Has, EachThen, Distinct, Pairwise}
@@ -68,7 +68,7 @@ pub record IsStuck (view : View) (resolved : List (List TxnId)) (done : List Txn
   pub waits : ¬ (IsFree view done t)
 
 -- all that is kept is so, of a view, resolved classes and done ids
-pub record IsGraphOf (view : View) (resolved : List (List TxnId)) (done : List TxnId) (g : GraphView) : Type 0 where
+pub record KeepsGraph (view : View) (resolved : List (List TxnId)) (done : List TxnId) (g : GraphView) : Type 0 where
   -- the ids are those that have a part, each once
   pub once : Distinct g.ids
   pub present : (t : TxnId) → Has g.ids t ↔ IsPresent view t
@@ -91,12 +91,12 @@ abbrev pub nothing_kept : GraphView
 nothing_kept = record { ids = []; vertices = []; degrees = []; waiting = []; ready = []; stuck = []; classes = [] }
 
 -- what is kept is the graph of some view
-pub record IsKnown (g : GraphView) : Type 0 where
+pub record IsSomeGraph (g : GraphView) : Type 0 where
   pub view : View
   pub resolved : List (List TxnId)
   pub done : List TxnId
   pub orderly : IsOrderly view resolved done
-  pub graph : IsGraphOf view resolved done g
+  pub graph : KeepsGraph view resolved done g
 
 -- each of the ids is that of a stuck vertex
 abbrev pub AllAreStuck : GraphView → List TxnId → Type 0

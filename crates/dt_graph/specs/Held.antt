@@ -8,8 +8,8 @@ use Rattle.dt_graph.specs.declared.waits.Waits.{Waits}
 use Rattle.dt_graph.specs.Graph.{GraphView}
 
 -- what is held, as plain lists
-abbrev pub view_of : List TxnId → Waits → List Open → GraphView
-view_of ids w classes = record {
+abbrev pub kept_of : List TxnId → Waits → List Open → GraphView
+kept_of ids w classes = record {
   ids = ids;
   vertices = w.vertices.items;
   degrees = w.degrees.items;
@@ -30,7 +30,7 @@ pub record IsFitted (ids : List TxnId) (w : Waits) : Type 0 where
   pub stuck_within : AllIn (λ v. v < length ids) w.stuck.items
 
 -- one more vertex fits in without taking memory
-pub record HasRoom (w : Waits) : Type 0 where
+pub record FitsOneMore (w : Waits) : Type 0 where
   pub vertices : vec_len w.vertices < vec_capacity w.vertices
   pub degrees : vec_len w.degrees < vec_capacity w.degrees
   pub ready : vec_len w.vertices < w.ready.bound

@@ -3,7 +3,7 @@
 use Rattle.std.specs.Prelude.{ℕ}
 use Rattle.dt_sched.specs.Sched.{Sched}
 use Rattle.dt_graph.specs.Left.{IsOrderly}
-use Rattle.dt_graph.specs.Graph.{GraphView, IsGraphOf}
+use Rattle.dt_graph.specs.Graph.{GraphView, KeepsGraph}
 
 -- a scheduler with queues: what every scheduler is seen as, and the number of ids that it can finish without taking memory
 pub record QueueSchedView : Type 0 where
@@ -13,4 +13,4 @@ pub record QueueSchedView : Type 0 where
 -- what is kept is the graph of what was inserted, resolved and done, and each call was allowed
 pub record IsKeeping (s : Sched) (g : GraphView) : Type 0 where
   pub orderly : IsOrderly s.logs s.resolved s.done
-  pub graph : IsGraphOf s.logs s.resolved s.done g
+  pub graph : KeepsGraph s.logs s.resolved s.done g

@@ -146,8 +146,8 @@ abbrev pub HaveSlots : List Waiting → List Vertex → List ℕ → Type 0
 HaveSlots waiting vertices leaving = AllIn (λ u. (u < length vertices) × ((vertex_at vertices u).slots ≡ slots_of waiting u)) leaving
 
 -- each entry is of a vertex below the bound
-abbrev pub AreBelow : ℕ → List Waiting → Type 0
-AreBelow bound waiting = AllIn (λ w. w.vertex < bound) waiting
+abbrev pub AreEntriesBelow : ℕ → List Waiting → Type 0
+AreEntriesBelow bound waiting = AllIn (λ w. w.vertex < bound) waiting
 
 -- of the vertices to which so many were to be lowered, each was lowered by its count
 abbrev pub AreLowered : (ℕ → ℕ) → List ℕ → List ℕ → Type 0
@@ -161,8 +161,8 @@ pub record Wakes (P : ℕ → Type 0) (degrees : List ℕ) (stuck ready stuck_no
   pub still_stuck : (v : ℕ) → Has stuck_now.items v ↔ Has stuck.items v × ¬ ((get_or degrees v 0 ≡ 0) × P v)
 
 -- some follower of the entry at the slot is of the vertex
-abbrev pub Follows : List Waiting → ℕ → ℕ → Type 0
-Follows waiting slot v = AnyIn (λ w. w.vertex ≡ v) (followers waiting slot)
+abbrev pub IsFollowedAt : List Waiting → ℕ → ℕ → Type 0
+IsFollowedAt waiting slot v = AnyIn (λ w. w.vertex ≡ v) (followers waiting slot)
 
 -- a vertex is put to the ready ones, or to the stuck ones, if it is complete
 pub record Sorts (v : ℕ) (vertices : List Vertex) (degrees : List ℕ) (ready stuck ready_now stuck_now : SubsetView) : Type 0 where
@@ -180,14 +180,14 @@ abbrev pub RunsBefore : GraphView → ℕ → ℕ → Type 0
 RunsBefore g u v = ((vertex_at g.vertices u).rank < (vertex_at g.vertices v).rank) ⊎ ((vertex_at g.vertices u).rank ≡ (vertex_at g.vertices v).rank) × Before (id_at g.ids u) (id_at g.ids v)
 
 -- the members are the vertices of the ids, the soonest first: by their ranks, and then by their ids
-pub record AreInOrder (g : GraphView) (ids : List TxnId) (members : List ℕ) : Type 0 where
+pub record RunInOrder (g : GraphView) (ids : List TxnId) (members : List ℕ) : Type 0 where
   pub within : AllIn (λ v. v < length g.ids) members
   pub names : (t : TxnId) → Has (map (id_at g.ids) members) t ↔ Has ids t
   pub ordered : EachThen (RunsBefore g) members
 
 -- a class of these ids was resolved
 abbrev pub ResolvesClass : List TxnId → GraphView → GraphView → Type 0
-ResolvesClass ids old new = (members : List ℕ) × AreInOrder old ids members × Resolves members (length old.classes) old new
+ResolvesClass ids old new = (members : List ℕ) × RunInOrder old ids members × Resolves members (length old.classes) old new
 
 -- the ids are those of the vertices at the places of a list, in ascending order
 pub record AreIdsAt (ids : List TxnId) (list places : List ℕ) (answer : List TxnId) : Type 0 where
@@ -207,7 +207,7 @@ pub record MayLeave (g : GraphView) (leaving : List ℕ) : Type 0 where
   pub once : Distinct leaving
   pub within : AllIn (λ v. v < length g.ids) leaving
   pub distinct : HasDistinctSlots g.waiting
-  pub below : AreBelow (length g.ids) g.waiting
+  pub below : AreEntriesBelow (length g.ids) g.waiting
   pub slots : HaveSlots g.waiting g.vertices leaving
   pub enough : (v : ℕ) → v < length g.degrees → lowered_by g.waiting leaving v ≤ get_or g.degrees v 0
 

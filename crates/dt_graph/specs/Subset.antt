@@ -10,19 +10,19 @@ pub record SubsetView : Type 0 where
   pub items : List ℕ
 
 -- the number stands at the place in the list, or nowhere
-abbrev pub IsPlaced : List ℕ → ℕ → Option ℕ → Type 0
-IsPlaced items number None = ¬ (Has items number)
-IsPlaced items number (Some place) = slice_get items place ≡ Some number
+abbrev pub StandsAtPlace : List ℕ → ℕ → Option ℕ → Type 0
+StandsAtPlace items number None = ¬ (Has items number)
+StandsAtPlace items number (Some place) = slice_get items place ≡ Some number
 
 -- the list and the places of its items are kept right, with so much room for the list
 pub record IsSubset (items : List ℕ) (places : List (Option ℕ)) (room : ℕ) : Type 0 where
   pub fits : length places ≤ room
   pub once : Distinct items
   pub within : AllIn (λ number. number < length places) items
-  pub placed : (number : ℕ) → number < length places → IsPlaced items number (get_or places number None)
+  pub placed : (number : ℕ) → number < length places → StandsAtPlace items number (get_or places number None)
 
 -- the number was put in, if it wasn't one of them
-pub record Adds (number : ℕ) (old new : SubsetView) : Type 0 where
+pub record PutsIn (number : ℕ) (old new : SubsetView) : Type 0 where
   pub bound : new.bound ≡ old.bound
   pub members : (n : ℕ) → Has new.items n ↔ Has old.items n ⊎ (n ≡ number)
 

@@ -1,6 +1,6 @@
 -- How the waiting entries of the queues stand to a view: each use of a row by a part of a left transaction waits, at the
 -- home of the part, and the entries of a home stand in the order of its log. The vertex of an entry is a number; a list of
--- ids tells of which transaction. What waits for what by the queues alone is `WaitsFor`; that chains of it are the reach of
+-- ids tells of which transaction. What waits for what by the queues alone is `HoldsUp`; that chains of it are the reach of
 -- the view is in proofs/Waits.antt.
 use Rattle.std.specs.Prelude.{◌≡◌, ◌≢◌, ◌<◌, ℕ, Bool, ◌==◌, not, if◌then◌else◌, List, [], length, map, get_or, sum_by}
 use Rattle.std.specs.List.{filter, list_any}
@@ -40,8 +40,8 @@ pub record AreUses (view : View) (done : List TxnId) (ids : List TxnId) (waiting
   pub in_order : EachThen (FollowsLog view ids) waiting
 
 -- by the queues t waits for u: an entry of u is a neighbour of an entry of t, and they differ
-abbrev pub WaitsFor : List TxnId → List Waiting → TxnId → TxnId → Type 0
-WaitsFor ids waiting u t =
+abbrev pub HoldsUp : List TxnId → List Waiting → TxnId → TxnId → Type 0
+HoldsUp ids waiting u t =
     (u ≢ t) × AnyIn (λ w. (id_at ids w.vertex ≡ t) × AnyIn (λ v. id_at ids v.vertex ≡ u) (neighbours waiting w.slot)) waiting
 
 -- those of the entries that are of other vertices

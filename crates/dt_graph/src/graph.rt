@@ -6,9 +6,9 @@ ghost use Rattle.dt_access.specs.declared.TxnId.{TxnId};
 ghost use Rattle.dt_sched.specs.Decide.{IsExecutable, IsResolvable};
 ghost use Rattle.dt_sched.specs.Sched.{CanInsert};
 ghost use Rattle.dt_sched.specs.Views.{View};
-ghost use Rattle.dt_graph.specs.Graph.{AllAreStuck, AreVerticesOf, IsGraphOf, IsKnown, nothing_kept};
+ghost use Rattle.dt_graph.specs.Graph.{AllAreStuck, AreVerticesOf, KeepsGraph, IsSomeGraph, nothing_kept};
 ghost use Rattle.dt_graph.specs.Left.{IsOrderly};
-ghost use Rattle.dt_graph.specs.Steps.{AreIdsAt, AreInOrder, FinishesId, FinishesIn, InsertsPart, MayFinishIn, ResolvesClass};
+ghost use Rattle.dt_graph.specs.Steps.{AreIdsAt, RunInOrder, FinishesId, FinishesIn, InsertsPart, MayFinishIn, ResolvesClass};
 ghost use Rattle.dt_graph.specs.Waits.{id_at};
 
 use crate::class::gather;
@@ -30,11 +30,11 @@ pub struct Graph {
 
 impl Model for Graph {
     ghost use Rattle.dt_graph.specs.Graph.{GraphView};
-    ghost use Rattle.dt_graph.specs.Held.{IsFitted, view_of};
+    ghost use Rattle.dt_graph.specs.Held.{IsFitted, kept_of};
 
     ghost Value = { GraphView };
 
-    ghost view = { λ g. view_of g.names.ids g.waits g.open.items };
+    ghost view = { λ g. kept_of g.names.ids g.waits g.open.items };
 
     ghost invariant = { λ g. IsFitted g.names.ids g.waits };
 }
@@ -59,9 +59,9 @@ impl Graph {
         }
     }
 
-    /// Adds a part; after `NoMemory` all is as before.
+    /// PutsIn a part; after `NoMemory` all is as before.
     pub fn insert(&mut self, alloc: Global, part: &Part) -> Result<(), NoMemory>
-        requires { (view : View) × (resolved : List (List TxnId)) × (done : List TxnId) × IsOrderly view resolved done × CanInsert view part.now × IsGraphOf view resolved done self.old }
+        requires { (view : View) × (resolved : List (List TxnId)) × (done : List TxnId) × IsOrderly view resolved done × CanInsert view part.now × KeepsGraph view resolved done self.old }
         ensures inserted { OnOk result (InsertsPart part.now self.old self.new) }
         ensures same { OnErr result (self.new ≡ self.old) }
         ensures ascending { AreAscendingHomes part.now.homes }
@@ -119,9 +119,9 @@ impl Graph {
 
     /// Whether the transactions are a class of several stuck ones that wait for each other and for nothing else.
     pub fn is_class(&self, alloc: Global, ids: &[TxnId]) -> Result<bool, NoMemory>
-        requires known { IsKnown self.now }
+        requires known { IsSomeGraph self.now }
         requires ascending { AreAscending ids.now }
-        ensures { (view : View) (resolved : List (List TxnId)) (done : List TxnId) → IsOrderly view resolved done → IsGraphOf view resolved done self.now →
+        ensures { (view : View) (resolved : List (List TxnId)) (done : List TxnId) → IsOrderly view resolved done → KeepsGraph view resolved done self.now →
             IfOk result (λ b. IsTrue b ↔ IsResolvable view resolved done ids.now) }
     {
         if ids.len() < 2 {
@@ -145,8 +145,8 @@ impl Graph {
 
     /// The transactions of some class of stuck ones that wait for each other and for nothing else, in ascending order.
     pub fn some_class(&self, alloc: Global) -> Result<Option<Ids>, NoMemory>
-        requires { IsKnown self.now }
-        ensures { (view : View) (resolved : List (List TxnId)) (done : List TxnId) → IsOrderly view resolved done → IsGraphOf view resolved done self.now →
+        requires { IsSomeGraph self.now }
+        ensures { (view : View) (resolved : List (List TxnId)) (done : List TxnId) → IsOrderly view resolved done → KeepsGraph view resolved done self.now →
             IfOk result (λ answer. MatchOption answer ((ids : List TxnId) → IsResolvable view resolved done ids → ⊥) (λ ids. IsResolvable view resolved done ids)) }
     {
         let stuck = self.waits.stuck.as_slice();
@@ -182,7 +182,7 @@ impl Graph {
     /// The vertices of transactions, the soonest first.
     fn in_order(&self, alloc: Global, ids: &[TxnId]) -> Result<Listed<u32>, NoMemory>
         requires { AllIn (Has self.now.ids) ids.now }
-        ensures { IfOk result (AreInOrder self.now ids.now) }
+        ensures { IfOk result (RunInOrder self.now ids.now) }
     {
         let mut members = Vec::with_capacity(alloc, ids.len())?;
         for id in ids {
@@ -205,7 +205,7 @@ impl Graph {
 
     /// Opens a class that was resolved; after `NoMemory` all is as before.
     pub fn resolve(&mut self, alloc: Global, ids: &[TxnId]) -> Result<(), NoMemory>
-        requires { (view : View) × (resolved : List (List TxnId)) × (done : List TxnId) × IsOrderly view resolved done × IsResolvable view resolved done ids.now × IsGraphOf view resolved done self.old }
+        requires { (view : View) × (resolved : List (List TxnId)) × (done : List TxnId) × IsOrderly view resolved done × IsResolvable view resolved done ids.now × KeepsGraph view resolved done self.old }
         ensures resolved { OnOk result (ResolvesClass ids.now self.old self.new) }
         ensures same { OnErr result (self.new ≡ self.old) }
     {
@@ -218,7 +218,7 @@ impl Graph {
 
     /// Lets a transaction be done, which is ready.
     pub fn finish(&mut self, id: TxnId)
-        requires { (view : View) × (resolved : List (List TxnId)) × (done : List TxnId) × IsOrderly view resolved done × IsExecutable view resolved done id × IsGraphOf view resolved done self.old }
+        requires { (view : View) × (resolved : List (List TxnId)) × (done : List TxnId) × IsOrderly view resolved done × IsExecutable view resolved done id × KeepsGraph view resolved done self.old }
         ensures { FinishesId id self.old self.new }
     {
         if let Some(vertex) = self.names.number_of(id) {

@@ -1,7 +1,7 @@
 ghost use Rattle.std.specs.Prelude.{◌≡◌, ◌≤◌, ◌<◌, ℕ, not, filter, get_or, length};
 ghost use Rattle.dt_lists.specs.Lists.{Distinct};
 ghost use Rattle.dt_queue.specs.Queues.{HasDistinctSlots, IsWaiting};
-ghost use Rattle.dt_graph.specs.Steps.{AreBelow, AreLowered, Follows, HaveSlots, Wakes};
+ghost use Rattle.dt_graph.specs.Steps.{AreEntriesBelow, AreLowered, IsFollowedAt, HaveSlots, Wakes};
 ghost use Rattle.dt_graph.specs.Waits.{IsFollowed, is_leaving, lowered, lowered_by};
 
 use crate::subset::Subset;
@@ -12,7 +12,7 @@ use dt_queue::Queues;
 fn lower_followers(queues: &Queues, slot: usize, vertex: u32, degrees: &mut [usize])
     requires waits { IsWaiting queues.now slot }
     requires distinct { HasDistinctSlots queues.now }
-    requires below { AreBelow (length degrees.old) queues.now }
+    requires below { AreEntriesBelow (length degrees.old) queues.now }
     requires enough { (v : ℕ) → v < length degrees.old → lowered queues.now slot vertex v ≤ get_or degrees.old v 0 }
     ensures { AreLowered (lowered queues.now slot vertex) degrees.old degrees.new }
 {
@@ -29,7 +29,7 @@ fn lower_followers(queues: &Queues, slot: usize, vertex: u32, degrees: &mut [usi
 fn lower_all(queues: &Queues, vertices: &[Vertex], leaving: &[u32], degrees: &mut [usize])
     requires distinct { HasDistinctSlots queues.now }
     requires slots { HaveSlots queues.now vertices.now leaving.now }
-    requires below { AreBelow (length degrees.old) queues.now }
+    requires below { AreEntriesBelow (length degrees.old) queues.now }
     requires enough { (v : ℕ) → v < length degrees.old → lowered_by queues.now leaving.now v ≤ get_or degrees.old v 0 }
     ensures { AreLowered (lowered_by queues.now leaving.now) degrees.old degrees.new }
 {
@@ -44,10 +44,10 @@ fn lower_all(queues: &Queues, vertices: &[Vertex], leaving: &[u32], degrees: &mu
 fn wake_followers(queues: &Queues, slot: usize, degrees: &[usize], stuck: &mut Subset, ready: &mut Subset)
     requires waits { IsWaiting queues.now slot }
     requires distinct { HasDistinctSlots queues.now }
-    requires below { AreBelow (length degrees.now) queues.now }
+    requires below { AreEntriesBelow (length degrees.now) queues.now }
     requires stuck_bound { length degrees.now ≤ stuck.old.bound }
     requires ready_bound { length degrees.now ≤ ready.old.bound }
-    ensures { Wakes (Follows queues.now slot) degrees.now stuck.old ready.old stuck.new ready.new }
+    ensures { Wakes (IsFollowedAt queues.now slot) degrees.now stuck.old ready.old stuck.new ready.new }
 {
     let mut place = slot;
     while let Some(follower) = queues.follower_after(slot, place) {
@@ -70,7 +70,7 @@ fn wake_all(
 )
     requires distinct { HasDistinctSlots queues.now }
     requires slots { HaveSlots queues.now vertices.now leaving.now }
-    requires below { AreBelow (length degrees.now) queues.now }
+    requires below { AreEntriesBelow (length degrees.now) queues.now }
     requires stuck_bound { length degrees.now ≤ stuck.old.bound }
     requires ready_bound { length degrees.now ≤ ready.old.bound }
     ensures { Wakes (IsFollowed queues.now leaving.now) degrees.now stuck.old ready.old stuck.new ready.new }
@@ -109,7 +109,7 @@ pub fn leave(
     requires distinct { HasDistinctSlots queues.old }
     requires once { Distinct leaving.now }
     requires slots { HaveSlots queues.old vertices.now leaving.now }
-    requires below { AreBelow (length degrees.old) queues.old }
+    requires below { AreEntriesBelow (length degrees.old) queues.old }
     requires enough { (v : ℕ) → v < length degrees.old → lowered_by queues.old leaving.now v ≤ get_or degrees.old v 0 }
     requires stuck_bound { length degrees.old ≤ stuck.old.bound }
     requires ready_bound { length degrees.old ≤ ready.old.bound }

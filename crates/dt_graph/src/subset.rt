@@ -1,6 +1,6 @@
 ghost use Rattle.std.specs.Prelude.{◌≡◌, ◌≤◌, ◌<◌, ◌↔◌, [], IsTrue, OnOk};
 ghost use Rattle.dt_lists.specs.Lists.{AllIn, Has, Distinct};
-ghost use Rattle.dt_graph.specs.Subset.{Adds, Removes};
+ghost use Rattle.dt_graph.specs.Subset.{PutsIn, Removes};
 
 use crate::room::push_reserved;
 use dt_text::NoMemory;
@@ -58,10 +58,10 @@ impl Subset {
         self.places[number as usize].is_some()
     }
 
-    /// Adds a number, if it is not one of them. Takes no memory.
+    /// PutsIn a number, if it is not one of them. Takes no memory.
     pub fn add(&mut self, number: u32)
         requires { number < self.old.bound }
-        ensures { Adds number self.old self.new }
+        ensures { PutsIn number self.old self.new }
     {
         if self.places[number as usize].is_none() {
             self.places[number as usize] = Some(self.items.len());

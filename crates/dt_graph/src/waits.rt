@@ -4,9 +4,9 @@ ghost use Rattle.dt_access.specs.declared.TxnId.{TxnId};
 ghost use Rattle.dt_queue.specs.Queues.{HasDistinctSlots, Waiting};
 ghost use Rattle.dt_graph.specs.declared.open.Open.{Open};
 ghost use Rattle.dt_graph.specs.Graph.{vertex_at};
-ghost use Rattle.dt_graph.specs.Steps.{AreBelow, HaveSlots, Inserts, Leaves, Resolves, Sorts};
+ghost use Rattle.dt_graph.specs.Steps.{AreEntriesBelow, HaveSlots, Inserts, Leaves, Resolves, Sorts};
 ghost use Rattle.dt_graph.specs.Waits.{id_at, lowered_by};
-ghost use Rattle.dt_graph.specs.Held.{HasRoom, view_of};
+ghost use Rattle.dt_graph.specs.Held.{FitsOneMore, kept_of};
 
 use crate::enter::enter;
 use crate::leave::leave;
@@ -49,8 +49,8 @@ impl Waits {
     /// Makes room for one more vertex. Nothing else changes.
     pub fn reserve(&mut self) -> Result<(), NoMemory>
         requires { length self.old.vertices.items < 2 ^ 32 }
-        ensures room { OnOk result (HasRoom self.new) }
-        ensures same { (ids : List TxnId) (classes : List Open) → view_of ids self.new classes ≡ view_of ids self.old classes }
+        ensures room { OnOk result (FitsOneMore self.new) }
+        ensures same { (ids : List TxnId) (classes : List Open) → kept_of ids self.new classes ≡ kept_of ids self.old classes }
         ensures ready { self.old.ready.bound ≤ self.new.ready.bound }
         ensures stuck { self.old.stuck.bound ≤ self.new.stuck.bound }
     {
@@ -61,17 +61,17 @@ impl Waits {
         self.stuck.reach(vertices)
     }
 
-    /// Adds a vertex with its first part, for which there is room; after `NoMemory` all is as before.
+    /// PutsIn a vertex with its first part, for which there is room; after `NoMemory` all is as before.
     pub fn add(&mut self, alloc: Global, part: &Part) -> Result<(), NoMemory>
-        requires room { HasRoom self.old }
+        requires room { FitsOneMore self.old }
         requires few { length self.old.vertices.items + 1 < 2 ^ 32 }
         requires sizes { length self.old.degrees.items ≡ length self.old.vertices.items }
         requires distinct { HasDistinctSlots self.old.queues }
-        requires below { AreBelow (length self.old.vertices.items) self.old.queues }
+        requires below { AreEntriesBelow (length self.old.vertices.items) self.old.queues }
         requires homed { 1 ≤ length part.now.homes }
         ensures added { OnOk result ((ids : List TxnId) (classes : List Open) → length ids ≡ length self.old.vertices.items → Distinct ids → (Has ids part.now.id → ⊥) →
-            (more : List Waiting) × Inserts part.now (length ids) more (view_of ids self.old classes) (view_of (ids ++ part.now.id ∷ []) self.new classes)) }
-        ensures same { (ids : List TxnId) (classes : List Open) → OnErr result (view_of ids self.new classes ≡ view_of ids self.old classes) }
+            (more : List Waiting) × Inserts part.now (length ids) more (kept_of ids self.old classes) (kept_of (ids ++ part.now.id ∷ []) self.new classes)) }
+        ensures same { (ids : List TxnId) (classes : List Open) → OnErr result (kept_of ids self.new classes ≡ kept_of ids self.old classes) }
         ensures ready { self.new.ready.bound ≡ self.old.ready.bound }
         ensures stuck { self.new.stuck.bound ≡ self.old.stuck.bound }
     {
@@ -93,7 +93,7 @@ impl Waits {
         Ok(())
     }
 
-    /// Adds one more part to a vertex; after `NoMemory` all is as before.
+    /// PutsIn one more part to a vertex; after `NoMemory` all is as before.
     pub fn extend(&mut self, alloc: Global, vertex: u32, part: &Part) -> Result<(), NoMemory>
         requires vertex { vertex < length self.old.vertices.items }
         requires sizes { length self.old.degrees.items ≡ length self.old.vertices.items }
@@ -102,8 +102,8 @@ impl Waits {
         requires ready_bound { vertex < self.old.ready.bound }
         requires stuck_bound { vertex < self.old.stuck.bound }
         ensures extended { OnOk result ((ids : List TxnId) (classes : List Open) → length ids ≡ length self.old.vertices.items → Distinct ids → id_at ids vertex ≡ part.now.id →
-            (more : List Waiting) × Inserts part.now vertex more (view_of ids self.old classes) (view_of ids self.new classes)) }
-        ensures same { (ids : List TxnId) (classes : List Open) → OnErr result (view_of ids self.new classes ≡ view_of ids self.old classes) }
+            (more : List Waiting) × Inserts part.now vertex more (kept_of ids self.old classes) (kept_of ids self.new classes)) }
+        ensures same { (ids : List TxnId) (classes : List Open) → OnErr result (kept_of ids self.new classes ≡ kept_of ids self.old classes) }
         ensures ready { self.new.ready.bound ≡ self.old.ready.bound }
         ensures stuck { self.new.stuck.bound ≡ self.old.stuck.bound }
     {
@@ -148,7 +148,7 @@ impl Waits {
         requires ready_bound { length self.old.vertices.items ≤ self.old.ready.bound }
         requires stuck_bound { length self.old.vertices.items ≤ self.old.stuck.bound }
         ensures resolved { (ids : List TxnId) (classes : List Open) →
-            Resolves members.now class (view_of ids self.old classes) (view_of ids self.new (classes ++ record { members = members.now; next = 0 } ∷ [])) }
+            Resolves members.now class (kept_of ids self.old classes) (kept_of ids self.new (classes ++ record { members = members.now; next = 0 } ∷ [])) }
         ensures ready { self.new.ready.bound ≡ self.old.ready.bound }
         ensures stuck { self.new.stuck.bound ≡ self.old.stuck.bound }
     {
@@ -167,11 +167,11 @@ impl Waits {
         requires once { Distinct leaving.now }
         requires slots { HaveSlots self.old.queues self.old.vertices.items leaving.now }
         requires sizes { length self.old.degrees.items ≡ length self.old.vertices.items }
-        requires below { AreBelow (length self.old.vertices.items) self.old.queues }
+        requires below { AreEntriesBelow (length self.old.vertices.items) self.old.queues }
         requires enough { (v : ℕ) → v < length self.old.degrees.items → lowered_by self.old.queues leaving.now v ≤ get_or self.old.degrees.items v 0 }
         requires ready_bound { length self.old.vertices.items ≤ self.old.ready.bound }
         requires stuck_bound { length self.old.vertices.items ≤ self.old.stuck.bound }
-        ensures left { (ids : List TxnId) (classes : List Open) → Leaves leaving.now (view_of ids self.old classes) (view_of ids self.new classes) }
+        ensures left { (ids : List TxnId) (classes : List Open) → Leaves leaving.now (kept_of ids self.old classes) (kept_of ids self.new classes) }
         ensures ready { self.new.ready.bound ≡ self.old.ready.bound }
         ensures stuck { self.new.stuck.bound ≡ self.old.stuck.bound }
     {
