@@ -22,3 +22,6 @@ pub mod MayLeave
 pub mod Fitted
 pub mod Entered
 pub mod Followers
+pub mod Lowering
+pub mod Linked
+pub mod TakenOut
