@@ -25,3 +25,4 @@ pub mod Followers
 pub mod Lowering
 pub mod Linked
 pub mod TakenOut
+pub mod Waking

@@ -12,6 +12,10 @@ use Rattle.dt_graph.specs.Steps.{AreLowered}
 use Rattle.dt_graph.proofs.Nearest.{slot_same, slot_other}
 use Rattle.dt_graph.proofs.Followers.{first_told, followers_begin, followers_onward, lowered_one, none_told, to_lower}
 
+-- by how much the degree of v falls for one follower of the vertex x, of a slot of the vertex u
+abbrev pub falls : ℕ → ℕ → ℕ → ℕ
+falls u x v = if u == v then 0 else (if x == v then 1 else 0)
+
 -- at this place of the walk over the followers of a slot of the vertex u
 pub record IsLowering (waiting : List Waiting) (slot u place : ℕ) (old now : List ℕ) : Type 0 where
   pub waits : IsWaiting waiting place
@@ -50,15 +54,15 @@ module _ (waiting : List Waiting) (distinct : HasDistinctSlots waiting) (slot u 
     follower_waits = onward.0
 
     -- what is to be lowered here, and what is left
-    step_of : (v : ℕ) → to_lower u v (followers_after waiting slot place) ≡ (if u == v then 0 else (if f.vertex == v then 1 else 0)) + to_lower u v (followers_after waiting slot f.slot)
-    step_of v = ap (to_lower u v) found.2 ∙ lowered_one u v found.0 found.1 ∙ ap (λ x. (if u == v then 0 else (if x == v then 1 else 0)) + to_lower u v found.1) found.4
-        ∙ ap (λ ws. (if u == v then 0 else (if f.vertex == v then 1 else 0)) + to_lower u v ws) (sym onward.1)
+    step_of : (v : ℕ) → to_lower u v (followers_after waiting slot place) ≡ falls u f.vertex v + to_lower u v (followers_after waiting slot f.slot)
+    step_of v = ap (to_lower u v) found.2 ∙ lowered_one u v found.0 found.1 ∙ ap (λ x. falls u x v + to_lower u v found.1) found.4
+        ∙ ap (λ ws. falls u f.vertex v + to_lower u v ws) (sym onward.1)
 
     -- a follower of the vertex itself is passed over
     pub lowering_past : f.vertex ≡ u → IsLowering waiting slot u f.slot old now
     lowering_past same = record { waits = onward.0; size = l.size; still = λ v lt. pass _ _ _ _ _ (l.still v lt) (step_of v ∙ ap (λ n. n + to_lower u v (followers_after waiting slot f.slot)) (nothing v (cases_Bool (u == v)))) }
       where
-        nothing : (v : ℕ) → ((u == v) ≡ true) ⊎ ((u == v) ≡ false) → (if u == v then 0 else (if f.vertex == v then 1 else 0)) ≡ 0
+        nothing : (v : ℕ) → ((u == v) ≡ true) ⊎ ((u == v) ≡ false) → falls u f.vertex v ≡ 0
         nothing v (inl t) = rw t refl
         nothing v (inr t) = rw (t, ap (λ x. x == v) same, t) refl
 
@@ -69,7 +73,7 @@ module _ (waiting : List Waiting) (distinct : HasDistinctSlots waiting) (slot u 
     pub may_lower : f.vertex ≢ u → f.vertex < length old → lowered waiting slot u f.vertex ≤ get_or old f.vertex 0 → 1 ≤ get_or now f.vertex 0
     may_lower ne lt enough = some _ _ _ _ _ (l.still f.vertex lt) (step_of f.vertex ∙ ap (λ n. n + to_lower u f.vertex (followers_after waiting slot f.slot)) one) enough
       where
-        one : (if u == f.vertex then 0 else (if f.vertex == f.vertex then 1 else 0)) ≡ 1
+        one : falls u f.vertex f.vertex ≡ 1
         one = rw (slot_other u f.vertex (λ e. ne (sym e)), slot_same f.vertex) refl
 
         some : (o m n k r : ℕ) → o + m ≡ n + k → m ≡ 1 + r → k ≤ o → 1 ≤ n
@@ -89,7 +93,7 @@ module _ (waiting : List Waiting) (distinct : HasDistinctSlots waiting) (slot u 
             (less _ _ _ _ _ _ (l.still f.vertex lt) (step_of f.vertex ∙ ap (λ n. n + to_lower u f.vertex (followers_after waiting slot f.slot)) one) (may_lower ne lt enough)
             (get_or-set_same now f.vertex (get_or now f.vertex 0 - 1) 0 (subst (λ n. f.vertex < n) (sym l.size) lt)))
           where
-            one : (if u == f.vertex then 0 else (if f.vertex == f.vertex then 1 else 0)) ≡ 1
+            one : falls u f.vertex f.vertex ≡ 1
             one = rw (slot_other u f.vertex (λ e. ne (sym e)), slot_same f.vertex) refl
 
             less : (o m n k r s : ℕ) → o + m ≡ n + k → m ≡ 1 + r → 1 ≤ n → s ≡ n - 1 → o + r ≡ s + k
@@ -97,7 +101,7 @@ module _ (waiting : List Waiting) (distinct : HasDistinctSlots waiting) (slot u 
         at v lv (inr nv) = other _ _ _ _ _ _ (l.still v lv) (step_of v ∙ ap (λ n. n + to_lower u v (followers_after waiting slot f.slot)) (nothing (cases_Bool (u == v))))
             (get_or-set_other now f.vertex v (get_or now f.vertex 0 - 1) 0 nv)
           where
-            nothing : ((u == v) ≡ true) ⊎ ((u == v) ≡ false) → (if u == v then 0 else (if f.vertex == v then 1 else 0)) ≡ 0
+            nothing : ((u == v) ≡ true) ⊎ ((u == v) ≡ false) → falls u f.vertex v ≡ 0
             nothing (inl t) = rw t refl
             nothing (inr t) = rw (t, slot_other f.vertex v (λ e. nv (sym e))) refl
 

@@ -1,6 +1,6 @@
-use Rattle.std.proofs.Common.{◌≡◌, ◌<◌, ◌∙◌, None, Some, get_or, length, vec_capacity, refl, subst, sym, ap, arith}
+use Rattle.std.proofs.Common.{◌≡◌, ◌<◌, ◌++◌, ◌∷◌, [], ◌∙◌, None, Some, get_or, length, vec_capacity, refl, subst, sym, ap, cc, arith}
 use Rattle.std.proofs.lemmas.List.{get_or_read}
-use Rattle.dt_graph.proofs.Subsets.{removed, removed_last, subset_removed, subset_removed_last}
+use Rattle.dt_graph.proofs.Subsets.{placed_has, removed, removed_last, subset_removed, subset_removed_last}
 use Rattle.dt_graph.proofs.subset.Subset.remove.Goals as goal
 use Rattle.dt_graph.proofs.subset.Subset.remove.Goals.{in-Some-pop+then-last-number, in-Some-pop+else-last-number, in_default-pop}
 
@@ -10,8 +10,8 @@ invariant_of-self c =
     let lt : c.args.number < length s.places.items = omega (arith, c.requires, ap (λ x. x.bound) c.self.view_is) in
     let at : get_or s.places.items c.args.number None ≡ Some c.in-Some.place = sym (get_or_read s.places.items c.args.number _ lt c.index.ensures None) ∙ c.in-Some.is in
     elim c.match-pop.branch [
-      | in-Some-pop+then-last-number w ↦ ?
-      | in-Some-pop+else-last-number w ↦ ?
+      | in-Some-pop+then-last-number w ↦ rw w.self-inside-is ?
+      | in-Some-pop+else-last-number w ↦ rw w.self-inside-is ?
       | in_default-pop w ↦ ?
     ]
 
