@@ -146,10 +146,10 @@ module _ (view : View) (resolved : List (List TxnId)) (done : List TxnId) (k : I
       source_resolvable = record {
         group = (id_at g.ids vertex.0, its_class);
         several = (let u : (u : TxnId) × HoldsUp g.ids g.waiting u (id_at g.ids vertex.0) = some_waits (id_at g.ids vertex.0) stuck.waits in
-          let e : Edge view u.0 (id_at g.ids vertex.0) = edge_of_waits view done g.ids g.waiting k.sound.well_formed is.uses u.0 (id_at g.ids vertex.0) u.1 in
-          two_of_different ids u.0 (id_at g.ids vertex.0) (found_of_reach u.0 (waits_left u.0 u.1) (chain_step e)) itself u.1.0);
+            let e : Edge view u.0 (id_at g.ids vertex.0) = edge_of_waits view done g.ids g.waiting k.sound.well_formed is.uses u.0 (id_at g.ids vertex.0) u.1 in
+            two_of_different ids u.0 (id_at g.ids vertex.0) (found_of_reach u.0 (waits_left u.0 u.1) (chain_step e)) itself u.1.0);
         complete = all_put (IsComplete view) ids (λ t h. let f : (q : ℕ) × (w : ℕ) × (slice_get list q ≡ Some w) × (id_at g.ids w ≡ t) × IsInClass graph p q = (found t).0 h in
-          subst (IsComplete view) f.3 (stuck_at f.0 f.1 f.2).1.complete);
+            subst (IsComplete view) f.3 (stuck_at f.0 f.1 f.2).1.complete);
         unresolved = λ h. stuck.apart (any_put (λ c. Has c (id_at g.ids vertex.0)) resolved ids h itself);
         before = λ u t h r. elim (left_decided view done u) [
           | inl l ↦ inl (found_of_reach u l (chain_join r (found_mutual t h).0))
@@ -273,7 +273,7 @@ module _ (view : View) (resolved : List (List TxnId)) (done : List TxnId) (k : I
           let hv : Has ids (id_at g.ids v.0) = of_list v.0 (has_place list q v.0 v.1) in
           let m : Mutual view (id_at g.ids u.0) (id_at g.ids v.0) = ((class_at (id_at g.ids v.0) hv).members (id_at g.ids u.0)).0 hu in
           let b : (i : ℕ) × (w : ℕ) × (slice_get list i ≡ Some w) × (id_at g.ids w ≡ id_at g.ids u.0) × Leads graph i q =
-              reach_back list once all_stuck graph blocked a q v.0 v.1
-              (λ e. let n : (n : ℕ) × Has blocked n × Leads graph n q = any_get _ blocked e in none_blocked n.0 n.1) (id_at g.ids u.0) (member_stuck (id_at g.ids u.0) hu).left m.0 in
+          reach_back list once all_stuck graph blocked a q v.0 v.1
+          (λ e. let n : (n : ℕ) × Has blocked n × Leads graph n q = any_get _ blocked e in none_blocked n.0 n.1) (id_at g.ids u.0) (member_stuck (id_at g.ids u.0) hu).left m.0 in
           subst (λ i. Leads graph i q) (one_place list once all_stuck graph blocked a list b.0 p u.0 once
           (subst (λ w. slice_get list b.0 ≡ Some w) (same_place g.ids b.1 u.0 is.once (all_get _ list in_ids b.1 (has_place list b.0 b.1 b.2)) (all_get _ list in_ids u.0 (has_place list p u.0 u.1)) b.3) b.2) u.1) b.4

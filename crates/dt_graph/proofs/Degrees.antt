@@ -57,7 +57,6 @@ degree_kept keeps waiting vertex distinct later kept =
         apart : w.vertex ≢ vertex
         apart e = let k : keeps w.vertex ≡ true = ap keeps e ∙ kept in cc
 
-
 -- the neighbours of an entry, as those of all entries that are so
 
 nearest_filtered : (x : Waiting) (front : List Waiting) → HasDistinctSlots front → nearest x front ≡ filter (λ s. list_any (is_at s.slot) (nearest x front)) front
@@ -72,8 +71,8 @@ nearest_filtered x (a ∷ front) d = by (nearest_filtered x front d.1) (cases_Bo
 
     absent : among (nearest x front) a ≡ false
     absent = false_from_ne_true _ (λ e.
-      let r : (w : Waiting) × Has (nearest x front) w × (is_at a.slot w ≡ true) = any_get _ (nearest x front) (any_of_test (is_at a.slot) (nearest x front) e) in
-      all_get _ front d.0 r.0 (nearest_clash x front r.0 r.1).0 (sym (eqb-true r.0.slot a.slot r.2)))
+        let r : (w : Waiting) × Has (nearest x front) w × (is_at a.slot w ≡ true) = any_get _ (nearest x front) (any_of_test (is_at a.slot) (nearest x front) e) in
+        all_get _ front d.0 r.0 (nearest_clash x front r.0 r.1).0 (sym (eqb-true r.0.slot a.slot r.2)))
 
     with_first : (s : Waiting) → Has front s → among (a ∷ nearest x front) s ≡ among (nearest x front) s
     with_first s h = rw (apart s h) refl
@@ -108,8 +107,8 @@ neighbours_filtered waiting w distinct h = is_nearest ∙ in_all ∙ ap (λ l. f
 
     later : AllIn (λ v. test v ≡ false) (w ∷ s.rest)
     later = all_put _ (w ∷ s.rest) (λ v k. false_from_ne_true (test v) (λ e.
-      let r : (u : Waiting) × Has (nearest w s.front) u × (is_at v.slot u ≡ true) = any_get _ (nearest w s.front) (any_of_test (is_at v.slot) (nearest w s.front) e) in
-      each_across _ s.front (w ∷ s.rest) r.0 v split (nearest_clash w s.front r.0 r.1).0 k (eqb-true r.0.slot v.slot r.2)))
+        let r : (u : Waiting) × Has (nearest w s.front) u × (is_at v.slot u ≡ true) = any_get _ (nearest w s.front) (any_of_test (is_at v.slot) (nearest w s.front) e) in
+        each_across _ s.front (w ∷ s.rest) r.0 v split (nearest_clash w s.front r.0 r.1).0 k (eqb-true r.0.slot v.slot r.2)))
 
     in_all : nearest w s.front ≡ filter test waiting
     in_all = nearest_filtered w s.front (each_append_left _ s.front (w ∷ s.rest) split) ∙ sym (append-nil (filter test s.front))

@@ -41,7 +41,7 @@ enters_more home vertex first second a b c r s t i j k e f = record {
     waiting = f.pushed.waiting ∙ ap (λ l. l ++ f.pushed.more) e.pushed.waiting ∙ append_assoc a e.pushed.more f.pushed.more;
     distinct = f.pushed.distinct;
     at_slots = f.pushed.at_slots ∙ ap (λ l. l ++ map (λ w. w.slot) f.pushed.more) e.pushed.at_slots ∙ append_assoc r (map (λ w. w.slot) e.pushed.more) (map (λ w. w.slot) f.pushed.more)
-      ∙ ap (λ l. r ++ l) (sym (map-append (λ w. w.slot) e.pushed.more f.pushed.more));
+        ∙ ap (λ l. r ++ l) (sym (map-append (λ w. w.slot) e.pushed.more f.pushed.more));
     of_vertex = all_append _ e.pushed.more f.pushed.more e.pushed.of_vertex f.pushed.of_vertex;
   };
   used = map-append (λ w. (w.key, w.mode)) e.pushed.more f.pushed.more ∙ ap₂ ◌++◌ e.used f.used;
@@ -70,7 +70,7 @@ enters_one waiting now w slots slots_now count risen d is fresh at r = record {
   used = refl;
   at_home = (refl, tt);
   counted = λ e. r ∙ ap₂ ◌+◌ e (count_mapped (λ n. not (n == w.vertex)) (λ n. n.vertex) (neighbours now w.slot))
-    ∙ sym (ap (λ l. degree l w.vertex) is ∙ degree_pushed waiting w w.vertex all_distinct ∙ ap (λ n. degree waiting w.vertex + n) own);
+      ∙ sym (ap (λ l. degree l w.vertex) is ∙ degree_pushed waiting w w.vertex all_distinct ∙ ap (λ n. degree waiting w.vertex + n) own);
 }
   where
     all_distinct : HasDistinctSlots (waiting ++ w ∷ [])
@@ -172,7 +172,6 @@ inserts_first part old waiting slots missing count ready stuck ready_now stuck_n
     older : (u : ℕ) → u < length old.ids + 1 → u ≢ length old.ids → u < length old.ids
     older u lt ne = grind (arith, lt, ne)
 
-
     vertex_is : vertex_at (old.vertices ++ record { rank = part.rank; missing = missing; class = None; slots = slots } ∷ []) (length old.ids) ≡ record { rank = part.rank; missing = missing; class = None; slots = slots }
     vertex_is = ap (vertex_at (old.vertices ++ record { rank = part.rank; missing = missing; class = None; slots = slots } ∷ [])) (sym sv)
         ∙ last_at old.vertices (record { rank = part.rank; missing = missing; class = None; slots = slots }) (record { rank = 0; missing = 0; class = None; slots = [] })
@@ -254,7 +253,7 @@ pushes_back vertex slot old now kept slots p le = by (from_last p.more)
       more = r.0;
       waiting = ap (λ s. without now s) (sym (same_last.1)) ∙ ap (λ l. without l r.1.slot) now_is ∙ without_last (old ++ r.0) r.1 (subst HasDistinctSlots now_is p.distinct);
       distinct = subst HasDistinctSlots (sym (ap (λ s. without now s) (sym (same_last.1)) ∙ ap (λ l. without l r.1.slot) now_is ∙ without_last (old ++ r.0) r.1 (subst HasDistinctSlots now_is p.distinct)))
-        (each_append_left _ (old ++ r.0) (r.1 ∷ []) (subst HasDistinctSlots now_is p.distinct));
+          (each_append_left _ (old ++ r.0) (r.1 ∷ []) (subst HasDistinctSlots now_is p.distinct));
       at_slots = same_last.0;
       of_vertex = all_append_left _ r.0 (r.1 ∷ []) (subst (AllIn (λ w. w.vertex ≡ vertex)) r.2 p.of_vertex);
     }

@@ -140,7 +140,7 @@ module _ (view : View) (resolved : List (List TxnId)) (done : List TxnId) (t : T
     free : (v : ℕ) → v < length old.ids → IsLeft view Later (id_at old.ids v) → (get_or new.degrees v 0 ≡ 0) ↔ IsFree view Later (id_at old.ids v)
     free v lt l =
         let f : (degree (filter (λ w. not (is_leaving leaving w.vertex)) old.waiting) v ≡ 0) ↔ IsFree view Later (id_at old.ids v) =
-            free_together view done Later old.ids old.waiting leaving k.sound.well_formed g.once g.uses within outs v lt in (
+        free_together view done Later old.ids old.waiting leaving k.sound.well_formed g.once g.uses within outs v lt in (
           λ z. f.0 (sym (counts v lt l) ∙ z),
           λ p. counts v lt l ∙ f.1 p,
         )
@@ -175,13 +175,15 @@ module _ (view : View) (resolved : List (List TxnId)) (done : List TxnId) (t : T
         forth h =
             let r : Has old.stuck v × ¬ ((get_or new.degrees v 0 ≡ 0) × IsFollowed old.waiting leaving v) = (lv.stuck v).0 h in
             let s : (v < length old.ids) × IsStuck view resolved done (id_at old.ids v) = (g.stuck v).0 r.0 in
-            let l : IsLeft view Later (id_at old.ids v) = stuck_left v s.0 r.0 s.1 in
-            (s.0, record {
-              left = l;
-              complete = s.1.complete;
-              apart = s.1.apart;
-              waits = λ p. let z : get_or new.degrees v 0 ≡ 0 = (free v s.0 l).1 p in r.1 (z, followed v s.0 l s.1.waits z);
-            })
+            let l : IsLeft view Later (id_at old.ids v) = stuck_left v s.0 r.0 s.1 in (
+              s.0,
+              record {
+                left = l;
+                complete = s.1.complete;
+                apart = s.1.apart;
+                waits = λ p. let z : get_or new.degrees v 0 ≡ 0 = (free v s.0 l).1 p in r.1 (z, followed v s.0 l s.1.waits z);
+              },
+            )
 
         back : (v < length old.ids) × IsStuck view resolved Later (id_at old.ids v) → Has new.stuck v
         back r = (lv.stuck v).1 (
@@ -437,6 +439,6 @@ module _ (view : View) (resolved : List (List TxnId)) (done : List TxnId) (t : T
               it_is m =
                   let r = (executable_in_resolved view resolved Later kl (id_at old.ids u) ids there m).0 y in
                   let here : slice_get Row (suc kept.next) ≡ Some (id_at old.ids u) =
-                    next_of_soonest (IsSooner view) irreflexive transitive Row opened.ordered Later (suc kept.next) more.front_done more.rest_waits (id_at old.ids u) ((opened.members (id_at old.ids u)).1 m) r.0
-                    (λ w h s. r.1 w ((opened.members w).0 h) s) in
+                  next_of_soonest (IsSooner view) irreflexive transitive Row opened.ordered Later (suc kept.next) more.front_done more.rest_waits (id_at old.ids u) ((opened.members (id_at old.ids u)).1 m) r.0
+                  (λ w h s. r.1 w ((opened.members w).0 h) s) in
                   same_place old.ids u next g.once lt next_in (some_same (sym here ∙ next_at))

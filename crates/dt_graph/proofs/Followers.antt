@@ -66,7 +66,7 @@ module _ (waiting : List Waiting) (distinct : HasDistinctSlots waiting) where
       none : (front : List Waiting) (w : Waiting) (rest : List Waiting) → s.front ≡ front ++ w ∷ rest → test w ≡ true → ⊥
       none front w rest is t =
           let n : (n : Waiting) × Has front n × (n.slot ≡ j.slot) = any_get _ front
-              (neighbour_before front w (rest ++ j ∷ s.rest) j.slot (s.is ∙ ap (λ l. l ++ j ∷ s.rest) is ∙ append_assoc front (w ∷ rest) (j ∷ s.rest)) t) in
+          (neighbour_before front w (rest ++ j ∷ s.rest) j.slot (s.is ∙ ap (λ l. l ++ j ∷ s.rest) is ∙ append_assoc front (w ∷ rest) (j ∷ s.rest)) t) in
           each_across _ s.front (j ∷ s.rest) n.0 j split (subst (λ l. Has l n.0) (sym is) (any_append_left (λ y. y ≡ n.0) front (w ∷ rest) n.1)) (inl refl) n.2
 
       before_none : AllIn (λ w. test w ≡ false) s.front
@@ -74,8 +74,8 @@ module _ (waiting : List Waiting) (distinct : HasDistinctSlots waiting) where
 
       own_none : test j ≡ false
       own_none = false_from_ne_true (test j) (λ t.
-        let n : (n : Waiting) × Has s.front n × (n.slot ≡ j.slot) = any_get _ s.front (neighbour_before s.front j s.rest j.slot s.is t) in
-        each_across _ s.front (j ∷ s.rest) n.0 j split n.1 (inl refl) n.2)
+          let n : (n : Waiting) × Has s.front n × (n.slot ≡ j.slot) = any_get _ s.front (neighbour_before s.front j s.rest j.slot s.is t) in
+          each_across _ s.front (j ∷ s.rest) n.0 j split n.1 (inl refl) n.2)
 
       own : [] ++ filter test (j ∷ s.rest) ≡ filter test s.rest
       own = rw own_none refl

@@ -140,7 +140,7 @@ module _ (view : View) (resolved : List (List TxnId)) (done : List TxnId) (part 
     uses : AreUses Longer done new.ids new.waiting
     uses = subst (AreUses Longer done new.ids) (sym i.waiting)
         (uses_inserted view done old.ids old.waiting part k.sound.well_formed can g.uses new.ids v more i.kept i.within i.named (subst HasDistinctSlots i.waiting i.distinct)
-          i.entries.of_part i.entries.all_uses left_longer left_back left_part)
+        i.entries.of_part i.entries.all_uses left_longer left_back left_part)
 
     -- another vertex is of another transaction, which was there
     other_id : (u : ℕ) → u < length new.ids → u ≢ v → id_at new.ids u ≢ part.id
@@ -319,17 +319,17 @@ module _ (view : View) (resolved : List (List TxnId)) (done : List TxnId) (part 
         by (inl a) =
             let r : (ids : List TxnId) × Has resolved ids × Has ids (id_at new.ids u) = any_get _ resolved a in (
               λ x. let f = (executable_in_resolved Longer resolved done kl (id_at new.ids u) r.0 r.1 r.2).0 x in
-                (executable_in_resolved view resolved done k (id_at new.ids u) r.0 r.1 r.2).1 (f.0, λ w h s. f.1 w h ((sooner_same r.0 w (id_at new.ids u) r.1 h r.2).0 s)),
+                  (executable_in_resolved view resolved done k (id_at new.ids u) r.0 r.1 r.2).1 (f.0, λ w h s. f.1 w h ((sooner_same r.0 w (id_at new.ids u) r.1 h r.2).0 s)),
               λ x. let f = (executable_in_resolved view resolved done k (id_at new.ids u) r.0 r.1 r.2).0 x in
-                (executable_in_resolved Longer resolved done kl (id_at new.ids u) r.0 r.1 r.2).1 (f.0, λ w h s. f.1 w h ((sooner_same r.0 w (id_at new.ids u) r.1 h r.2).1 s)),
+                  (executable_in_resolved Longer resolved done kl (id_at new.ids u) r.0 r.1 r.2).1 (f.0, λ w h s. f.1 w h ((sooner_same r.0 w (id_at new.ids u) r.1 h r.2).1 s)),
             )
         by (inr apart) = (
           λ x. let f : IsComplete Longer (id_at new.ids u) × IsFree Longer done (id_at new.ids u) = free_of_executable Longer resolved done kl (id_at new.ids u) apart x in
-            executable_of_free view resolved done k (id_at new.ids u) (left_back (id_at new.ids u) (present_other u lt ne) (executable_left Longer resolved done (id_at new.ids u) x)) apart
-            (complete_back (id_at new.ids u) (other_id u lt ne) f.0) ((free_other u lt ne).0 f.1),
+              executable_of_free view resolved done k (id_at new.ids u) (left_back (id_at new.ids u) (present_other u lt ne) (executable_left Longer resolved done (id_at new.ids u) x)) apart
+              (complete_back (id_at new.ids u) (other_id u lt ne) f.0) ((free_other u lt ne).0 f.1),
           λ x. let f : IsComplete view (id_at new.ids u) × IsFree view done (id_at new.ids u) = free_of_executable view resolved done k (id_at new.ids u) apart x in
-            executable_of_free Longer resolved done kl (id_at new.ids u) (left_longer (id_at new.ids u) (executable_left view resolved done (id_at new.ids u) x)) apart
-            (complete_longer view Longer longer (id_at new.ids u) f.0) ((free_other u lt ne).1 f.1),
+              executable_of_free Longer resolved done kl (id_at new.ids u) (left_longer (id_at new.ids u) (executable_left view resolved done (id_at new.ids u) x)) apart
+              (complete_longer view Longer longer (id_at new.ids u) f.0) ((free_other u lt ne).1 f.1),
         )
 
     part_at_home : Has (log_at Longer part.home) part
@@ -390,13 +390,15 @@ module _ (view : View) (resolved : List (List TxnId)) (done : List TxnId) (part 
             elim (at_or_other u) [
               | inl e ↦ absurd (not_stuck_before (subst (λ u. (u < length old.ids) × IsStuck view resolved done (id_at old.ids u)) e r))
               | inr ne ↦
-                  let s : IsStuck view resolved done (id_at new.ids u) = subst (IsStuck view resolved done) (sym (i.kept u r.0).1) r.1 in
-                  ((i.kept u r.0).0, record {
-                    left = left_longer (id_at new.ids u) s.left;
-                    complete = complete_longer view Longer longer (id_at new.ids u) s.complete;
-                    apart = s.apart;
-                    waits = λ f. s.waits ((free_other u (i.kept u r.0).0 ne).0 f);
-                  })
+                  let s : IsStuck view resolved done (id_at new.ids u) = subst (IsStuck view resolved done) (sym (i.kept u r.0).1) r.1 in (
+                    (i.kept u r.0).0,
+                    record {
+                      left = left_longer (id_at new.ids u) s.left;
+                      complete = complete_longer view Longer longer (id_at new.ids u) s.complete;
+                      apart = s.apart;
+                      waits = λ f. s.waits ((free_other u (i.kept u r.0).0 ne).0 f);
+                    },
+                  )
             ]
 
         now : u ≡ v → (vertex_at new.vertices v).missing ≡ 0 → get_or new.degrees v 0 ≢ 0 → (u < length new.ids) × IsStuck Longer resolved done (id_at new.ids u)

@@ -122,8 +122,8 @@ module _ (s : Sched) (old : GraphView) (k : IsKeeping s old) where
   ready_executable id = (
     λ r. subst (CanExecute s) (at_named old.ids r.0 id r.1) ((k.graph.ready r.0).0 r.2).1,
     λ x.
-      let v : (v : ℕ) × (v < length old.ids) × (id_at old.ids v ≡ id) = place_has old.ids id ((k.graph.present id).1 (present_of_complete s.logs id (complete_of_closed s.logs id x.closed))) in
-      (v.0, slice_get-get_or old.ids v.0 (record { seq = 0; region = 0 }) v.1 ∙ ap Some v.2, (k.graph.ready v.0).1 (v.1, subst (CanExecute s) (sym v.2) x)),
+        let v : (v : ℕ) × (v < length old.ids) × (id_at old.ids v ≡ id) = place_has old.ids id ((k.graph.present id).1 (present_of_complete s.logs id (complete_of_closed s.logs id x.closed))) in
+        (v.0, slice_get-get_or old.ids v.0 (record { seq = 0; region = 0 }) v.1 ∙ ap Some v.2, (k.graph.ready v.0).1 (v.1, subst (CanExecute s) (sym v.2) x)),
   )
 
   pub next_ready_some : (busy : List TxnId) (id : TxnId) → (v : ℕ) × Has old.ready v × (id_at old.ids v ≡ id) → ¬ (Has busy id) → IsNextReady s busy (Some id)

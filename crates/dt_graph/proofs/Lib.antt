@@ -26,3 +26,4 @@ pub mod Lowering
 pub mod Linked
 pub mod TakenOut
 pub mod Waking
+pub mod Full

@@ -89,10 +89,10 @@ links_same S T list place a b x same l = record {
 pub sources_of_vertex : (waiting : List Waiting) (u v : ℕ) → IsSourceAt waiting (slots_of waiting v) u ↔ HasNeighbour waiting u v
 sources_of_vertex waiting u v = (
   λ a.
-    let w : (w : Waiting) × Has (filter (is_of v) waiting) w × IsSourceOf waiting w.slot u = any_get _ (filter (is_of v) waiting) (any_of_image (λ slot. IsSourceOf waiting slot u) (λ w. w.slot) (filter (is_of v) waiting) a) in
-    let h : Has waiting w.0 × (is_of v w.0 ≡ true) = has_of_filtered (is_of v) waiting w.0 w.1 in
-    any_put (λ w. (w.vertex ≡ v) × AnyIn (λ n. n.vertex ≡ u) (neighbours waiting w.slot)) waiting w.0 h.0 (eqb-true w.0.vertex v h.1, w.2),
+      let w : (w : Waiting) × Has (filter (is_of v) waiting) w × IsSourceOf waiting w.slot u = any_get _ (filter (is_of v) waiting) (any_of_image (λ slot. IsSourceOf waiting slot u) (λ w. w.slot) (filter (is_of v) waiting) a) in
+      let h : Has waiting w.0 × (is_of v w.0 ≡ true) = has_of_filtered (is_of v) waiting w.0 w.1 in
+      any_put (λ w. (w.vertex ≡ v) × AnyIn (λ n. n.vertex ≡ u) (neighbours waiting w.slot)) waiting w.0 h.0 (eqb-true w.0.vertex v h.1, w.2),
   λ a.
-    let w : (w : Waiting) × Has waiting w × ((w.vertex ≡ v) × AnyIn (λ n. n.vertex ≡ u) (neighbours waiting w.slot)) = any_get _ waiting a in
-    any_image (λ slot. IsSourceOf waiting slot u) (λ w. w.slot) (filter (is_of v) waiting) (any_put _ (filter (is_of v) waiting) w.0 (has_filter (is_of v) waiting w.0 w.1 (eq-eqb w.0.vertex v w.2.0)) w.2.1),
+      let w : (w : Waiting) × Has waiting w × ((w.vertex ≡ v) × AnyIn (λ n. n.vertex ≡ u) (neighbours waiting w.slot)) = any_get _ waiting a in
+      any_image (λ slot. IsSourceOf waiting slot u) (λ w. w.slot) (filter (is_of v) waiting) (any_put _ (filter (is_of v) waiting) w.0 (has_filter (is_of v) waiting w.0 w.1 (eq-eqb w.0.vertex v w.2.0)) w.2.1),
 )

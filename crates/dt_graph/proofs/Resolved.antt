@@ -42,7 +42,7 @@ module _ (view : View) (resolved : List (List TxnId)) (done ids : List TxnId) (k
   in_more : (t : TxnId) → IsInResolved More t ↔ IsInResolved resolved t ⊎ Has ids t
   in_more t = (
     λ a. let r : (others : List TxnId) × Has More others × Has others t = any_get _ More a in
-      elim (has_more resolved ids r.0 r.1) [ inl o ↦ inl (any_put (λ c. Has c t) resolved r.0 o r.2) | inr e ↦ inr (subst (λ c. Has c t) (sym e) r.2) ],
+        elim (has_more resolved ids r.0 r.1) [ inl o ↦ inl (any_put (λ c. Has c t) resolved r.0 o r.2) | inr e ↦ inr (subst (λ c. Has c t) (sym e) r.2) ],
     λ s. elim s [
       | inl a ↦ let r : (others : List TxnId) × Has resolved others × Has others t = any_get _ resolved a in any_put (λ c. Has c t) More r.0 (has_longer resolved (ids ∷ []) r.0 r.1) r.2
       | inr h ↦ any_put (λ c. Has c t) More ids (has_last resolved ids) h
@@ -51,8 +51,10 @@ module _ (view : View) (resolved : List (List TxnId)) (done ids : List TxnId) (k
 
   -- what is in another class, or in none, may be executed as before
   executable_apart : (t : TxnId) → ¬ (Has ids t) → IsExecutable view More done t ↔ IsExecutable view resolved done t
-  executable_apart t n = (λ y. back y (in_resolved_decided resolved t),
-      λ y. record { closed = y.closed; waiting = y.waiting; preceders = y.preceders; settled = λ others c two. has_longer resolved (ids ∷ []) others (y.settled others c two) })
+  executable_apart t n = (
+    λ y. back y (in_resolved_decided resolved t),
+    λ y. record { closed = y.closed; waiting = y.waiting; preceders = y.preceders; settled = λ others c two. has_longer resolved (ids ∷ []) others (y.settled others c two) },
+  )
     where
       back : IsExecutable view More done t → Either (IsInResolved resolved t) → IsExecutable view resolved done t
       back y d = record {
@@ -127,12 +129,14 @@ module _ (view : View) (resolved : List (List TxnId)) (done ids : List TxnId) (k
               let e : (v < length old.ids) × IsExecutable view resolved done (id_at old.ids v) = (g.ready v).0 o in
               (e.0, (executable_apart (id_at old.ids v) (λ m. none_executable (id_at old.ids v) m e.1)).1 e.1)
           | inr at ↦
-              let m : Has members v = has_place members 0 v at in
-              (all_get _ members within v m, (executable_in_resolved view More done km (id_at old.ids v) ids (has_last resolved ids) (of_member v m)).1 (
-                resolvable_waits view resolved done ids k x (id_at old.ids v) (of_member v m),
-                λ u hu s. sooner_of_next (IsSooner view) (sooner_breaks_ties.irreflexive view) (sooner_breaks_ties.transitive view) (map (id_at old.ids) members) ordered done 0 opened.front_done opened.rest_waits
-                  (id_at old.ids v) (first_at v at) u ((same u).1 hu) s,
-              ))
+              let m : Has members v = has_place members 0 v at in (
+                all_get _ members within v m,
+                (executable_in_resolved view More done km (id_at old.ids v) ids (has_last resolved ids) (of_member v m)).1 (
+                  resolvable_waits view resolved done ids k x (id_at old.ids v) (of_member v m),
+                  λ u hu s. sooner_of_next (IsSooner view) (sooner_breaks_ties.irreflexive view) (sooner_breaks_ties.transitive view) (map (id_at old.ids) members) ordered done 0 opened.front_done opened.rest_waits
+                      (id_at old.ids v) (first_at v at) u ((same u).1 hu) s,
+                ),
+              )
         ]
 
         back : (v < length old.ids) × IsExecutable view More done (id_at old.ids v) → Has new.ready v
@@ -145,8 +149,8 @@ module _ (view : View) (resolved : List (List TxnId)) (done ids : List TxnId) (k
             at_first m =
                 let f = (executable_in_resolved view More done km (id_at old.ids v) ids (has_last resolved ids) m).0 e.1 in
                 let here_first : slice_get (map (id_at old.ids) members) 0 ≡ Some (id_at old.ids v) =
-                  next_of_soonest (IsSooner view) (sooner_breaks_ties.irreflexive view) (sooner_breaks_ties.transitive view) (map (id_at old.ids) members) ordered done 0 opened.front_done opened.rest_waits
-                  (id_at old.ids v) ((same (id_at old.ids v)).1 m) f.0 (λ u h s. f.1 u ((same u).0 h) s) in
+                next_of_soonest (IsSooner view) (sooner_breaks_ties.irreflexive view) (sooner_breaks_ties.transitive view) (map (id_at old.ids) members) ordered done 0 opened.front_done opened.rest_waits
+                (id_at old.ids v) ((same (id_at old.ids v)).1 m) f.0 (λ u h s. f.1 u ((same u).0 h) s) in
                 back_first members (λ u h. h) here_first
               where
                 back_first : (vs : List ℕ) → ((u : ℕ) → Has vs u → Has members u) → slice_get (map (id_at old.ids) vs) 0 ≡ Some (id_at old.ids v) → slice_get vs 0 ≡ Some v
@@ -156,13 +160,15 @@ module _ (view : View) (resolved : List (List TxnId)) (done ids : List TxnId) (k
     kept_stuck : (v : ℕ) → Has new.stuck v ↔ (v < length old.ids) × IsStuck view More done (id_at old.ids v)
     kept_stuck v = (
       λ h. let o : Has old.stuck v × ¬ (Has members v) = (r.stuck v).0 h in
-        let s : (v < length old.ids) × IsStuck view resolved done (id_at old.ids v) = (g.stuck v).0 o.0 in
-        (s.0, record {
-          left = s.1.left;
-          complete = s.1.complete;
-          apart = λ a. elim ((in_more (id_at old.ids v)).0 a) [ inl b ↦ s.1.apart b | inr m ↦ o.1 (member v s.0 m) ];
-          waits = s.1.waits;
-        }),
+          let s : (v < length old.ids) × IsStuck view resolved done (id_at old.ids v) = (g.stuck v).0 o.0 in (
+            s.0,
+            record {
+              left = s.1.left;
+              complete = s.1.complete;
+              apart = λ a. elim ((in_more (id_at old.ids v)).0 a) [ inl b ↦ s.1.apart b | inr m ↦ o.1 (member v s.0 m) ];
+              waits = s.1.waits;
+            },
+          ),
       λ s. (r.stuck v).1 (
         (g.stuck v).1 (s.0, record { left = s.1.left; complete = s.1.complete; apart = λ a. s.1.apart ((in_more (id_at old.ids v)).1 (inl a)); waits = s.1.waits }),
         λ m. s.1.apart ((in_more (id_at old.ids v)).1 (inr (of_member v m))),

@@ -264,7 +264,7 @@ module _ (items : List ℕ) (places : List (Option ℕ)) (room : ℕ) (s : IsSub
             (subst (StandsAtPlace (set front place last) number) (sym (get_or-set_same (set places last (Some place)) number None None (subst (λ m. number < m) (sym (length-set places last (Some place))) lt))) number_gone)
         at n ln (inr ne) (inl l) = subst (StandsAtPlace (set front place last) n) (sym (get_or-set_other (set places last (Some place)) number n None None ne))
             (subst (λ n. StandsAtPlace (set front place last) n (get_or (set places last (Some place)) n None)) (sym l)
-              (subst (StandsAtPlace (set front place last) last) (sym (get_or-set_same places last (Some place) None last_within)) (set_here front place number last at_front)))
+            (subst (StandsAtPlace (set front place last) last) (sym (get_or-set_same places last (Some place) None last_within)) (set_here front place number last at_front)))
         at n ln (inr ne) (inr nl) = subst (StandsAtPlace (set front place last) n) (sym (get_or-set_other (set places last (Some place)) number n None None ne ∙ get_or-set_other places last n (Some place) None nl))
             (beside n ne nl (get_or places n None) (subst (λ l. StandsAtPlace l n (get_or places n None)) is (s.placed n ln)))
 
@@ -272,10 +272,13 @@ module _ (items : List ℕ) (places : List (Option ℕ)) (room : ℕ) (s : IsSub
     removed bound = record {
       bound = refl;
       members = λ n. (
-        λ h. (elim (set_has front place last n h) [
-          | inl e ↦ subst (λ l. Has l n) (sym is) (subst (Has (front ++ last ∷ [])) e (has_last front last))
-          | inr r ↦ subst (λ l. Has l n) (sym is) (has_longer front (last ∷ []) n (has_place front r.0 n r.2))
-        ], λ e. number_gone (subst (Has (set front place last)) e h)),
+        λ h. (
+          elim (set_has front place last n h) [
+            | inl e ↦ subst (λ l. Has l n) (sym is) (subst (Has (front ++ last ∷ [])) e (has_last front last))
+            | inr r ↦ subst (λ l. Has l n) (sym is) (has_longer front (last ∷ []) n (has_place front r.0 n r.2))
+          ],
+          λ e. number_gone (subst (Has (set front place last)) e h),
+        ),
         λ o. elim (has_more front last n (subst (λ l. Has l n) is o.0)) [
           | inl h ↦
               let p : (i : ℕ) × (slice_get front i ≡ Some n) = place_of front n h in

@@ -31,7 +31,6 @@ joined (z ∷ zs) y x = by (joined zs y x) (cases_Bool (z == x))
     by rest (inl e) = rw e refl
     by rest (inr e) = rw e rest
 
-
 -- one slot more
 pub taken_more : (waiting : List Waiting) (left slots : List ℕ) (slot : ℕ) → without (taken_out waiting left slots) slot ≡ taken_out waiting left (slots ++ slot ∷ [])
 taken_more waiting left slots slot = filter_both _ _ waiting ∙ filter_same _ _ waiting (λ w h. same (is_leaving left w.vertex) (is_among_slots slots w.slot) (w.slot == slot) (turned w.slot slot)

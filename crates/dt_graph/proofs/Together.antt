@@ -75,14 +75,14 @@ module _ (view : View) (done later ids : List TxnId) (waiting : List Waiting) (l
   named v lt = (
     λ h. has_map (id_at ids) leaving v h,
     λ h. let r : (u : ℕ) × Has leaving u × (id_at ids u ≡ id_at ids v) = any_get _ leaving (any_of_image (λ y. y ≡ id_at ids v) (id_at ids) leaving h) in
-      subst (Has leaving) (same_place ids r.0 v once (all_get _ leaving within r.0 r.1) lt r.2) r.1,
+        subst (Has leaving) (same_place ids r.0 v once (all_get _ leaving within r.0 r.1) lt r.2) r.1,
   )
 
   -- a vertex that isn't one of them is still left, if it was
   pub left_vertex : (v : ℕ) → v < length ids → IsLeft view later (id_at ids v) ↔ IsLeft view done (id_at ids v) × (is_leaving leaving v ≡ false)
   left_vertex v lt = (
     λ l. let r : IsLeft view done (id_at ids v) × ¬ (Has (map (id_at ids) leaving) (id_at ids v)) = (left_still (id_at ids v)).0 l in
-      (r.0, false_from_ne_true (is_leaving leaving v) (λ e. r.1 ((named v lt).0 (leaving_has leaving v e)))),
+        (r.0, false_from_ne_true (is_leaving leaving v) (λ e. r.1 ((named v lt).0 (leaving_has leaving v e)))),
     λ r. (left_still (id_at ids v)).1 (r.0, λ m. let e : is_leaving leaving v ≡ true = has_leaving leaving v ((named v lt).1 m) in false_true (r.1) e),
   )
     where

@@ -104,7 +104,7 @@ module _ (view : View) (done ids : List TxnId) (waiting : List Waiting) (part : 
     of_parts = all_append _ waiting more
         (all_put _ waiting (λ w h. any_get_longer w h))
         (all_put _ more (λ w h. let f : (w.home ≡ part.home) × (w.vertex ≡ v) × Has part.keys (w.key, w.mode) = all_get _ more of_part w h in
-          any_put (IsUseOf later w) (log_at (with_part view part) w.home) part (subst (λ home. Has (log_at (with_part view part) home) part) (sym f.0) there) (sym (new_id w h), f.2)));
+        any_put (IsUseOf later w) (log_at (with_part view part) w.home) part (subst (λ home. Has (log_at (with_part view part) home) part) (sym f.0) there) (sym (new_id w h), f.2)));
     of_left = all_append _ waiting more
         (all_put _ waiting (λ w h. subst (IsLeft (with_part view part) done) (sym (old_id w h)) (left (id_at ids w.vertex) (all_get _ waiting uses.of_left w h))))
         (all_put _ more (λ w h. subst (IsLeft (with_part view part) done) (sym (new_id w h)) part_left));

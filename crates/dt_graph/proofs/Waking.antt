@@ -58,8 +58,8 @@ wakes_more P Q decided degrees a b c r s t p q = record {
   );
   still_stuck = λ v. (
     λ h. let m : Has b.items v × ¬ ((get_or degrees v 0 ≡ 0) × Q v) = (q.still_stuck v).0 h in
-      let o : Has a.items v × ¬ ((get_or degrees v 0 ≡ 0) × P v) = (p.still_stuck v).0 m.0 in
-      (o.0, λ w. elim w.1 [ inl x ↦ o.1 (w.0, x) | inr y ↦ m.1 (w.0, y) ]),
+        let o : Has a.items v × ¬ ((get_or degrees v 0 ≡ 0) × P v) = (p.still_stuck v).0 m.0 in
+        (o.0, λ w. elim w.1 [ inl x ↦ o.1 (w.0, x) | inr y ↦ m.1 (w.0, y) ]),
     λ h. (q.still_stuck v).1 ((p.still_stuck v).1 (h.0, λ w. h.1 (w.0, inl w.1)), λ w. h.1 (w.0, inr w.1)),
   );
 }
@@ -123,7 +123,7 @@ module _ (waiting : List Waiting) (distinct : HasDistinctSlots waiting) (slot : 
         split = k.split ∙ ap (λ l. k.front ++ l) (t.2 ∙ ap (λ l. t.0 ∷ l) (sym r.1 ∙ ap (followers_after waiting slot) t.3)) ∙ sym (append_assoc k.front (t.0 ∷ []) (followers_after waiting slot f.slot));
         waits = subst (IsWaiting waiting) t.3 r.0;
         wakes = wakes_same _ _ (λ v. same t.0 t.4 v) degrees stuck stuck_next ready ready_next
-          (wakes_more (IsOfSome k.front) (λ v. f.vertex ≡ v) (of_some_decided k.front) degrees stuck stuck_now stuck_next ready ready_now ready_next k.wakes w);
+            (wakes_more (IsOfSome k.front) (λ v. f.vertex ≡ v) (of_some_decided k.front) degrees stuck stuck_now stuck_next ready ready_now ready_next k.wakes w);
       }
     where
       same : (x : Waiting) → x.vertex ≡ f.vertex → (v : ℕ) → (IsOfSome k.front v ⊎ (f.vertex ≡ v)) ↔ IsOfSome (k.front ++ x ∷ []) v

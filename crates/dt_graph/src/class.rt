@@ -67,7 +67,12 @@ fn link(
 }
 
 /// What the vertices of a list wait for.
-pub fn gather(alloc: Global, queues: &Queues, vertices: &[Vertex], list: &[u32]) -> Result<Among, NoMemory>
+pub fn gather(
+    alloc: Global,
+    queues: &Queues,
+    vertices: &[Vertex],
+    list: &[u32],
+) -> Result<Among, NoMemory>
     requires distinct { HasDistinctSlots queues.now }
     requires once { Distinct list.now }
     requires few { length list.now < 2 ^ 32 }

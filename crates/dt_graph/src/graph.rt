@@ -212,7 +212,8 @@ impl Graph {
         let class = self.open.len();
         let members = self.in_order(alloc, ids)?;
         self.open.push(Open { members, next: 0 })?;
-        self.waits.resolve(self.open[class].members.as_slice(), class);
+        self.waits
+            .resolve(self.open[class].members.as_slice(), class);
         Ok(())
     }
 

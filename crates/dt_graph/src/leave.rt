@@ -41,7 +41,13 @@ fn lower_all(queues: &Queues, vertices: &[Vertex], leaving: &[u32], degrees: &mu
 }
 
 /// Of the followers of the entry at a slot, those that are stuck and have come to degree 0 are ready.
-fn wake_followers(queues: &Queues, slot: usize, degrees: &[usize], stuck: &mut Subset, ready: &mut Subset)
+fn wake_followers(
+    queues: &Queues,
+    slot: usize,
+    degrees: &[usize],
+    stuck: &mut Subset,
+    ready: &mut Subset,
+)
     requires waits { IsWaiting queues.now slot }
     requires distinct { HasDistinctSlots queues.now }
     requires below { AreEntriesBelow (length degrees.now) queues.now }

@@ -44,7 +44,8 @@ impl Subset {
         ensures same { self.new.items ≡ self.old.items }
     {
         while self.places.len() < bound {
-            self.items.reserve(self.places.len() + 1 - self.items.len())?;
+            self.items
+                .reserve(self.places.len() + 1 - self.items.len())?;
             self.places.push(None)?;
         }
         Ok(())

@@ -15,7 +15,15 @@ fn drawn(seed: &mut u64, bound: u64) -> u64 {
 
 const KEYS: [&[u8]; 7] = [b"a", b"a/x", b"a/y", b"b", b"b/x", b"c", b"d"];
 
-fn part_of(alloc: Global, seed: &mut u64, id: TxnId, rank: u8, home: u8, homes: &[u8], hot: u64) -> Result<Part, Fail> {
+fn part_of(
+    alloc: Global,
+    seed: &mut u64,
+    id: TxnId,
+    rank: u8,
+    home: u8,
+    homes: &[u8],
+    hot: u64,
+) -> Result<Part, Fail> {
     let mut keys = Keys::new(alloc);
     for key in KEYS {
         if drawn(seed, hot) == 0 {
@@ -44,7 +52,10 @@ fn parts(alloc: Global, seed: &mut u64, txns: u32, hot: u64) -> Result<Vec<Part>
     for seq in 1..txns + 1 {
         let homes = HOMES[drawn(seed, 7) as usize];
         let rank = drawn(seed, 3) as u8;
-        let id = TxnId { seq, region: drawn(seed, 3) as u8 };
+        let id = TxnId {
+            seq,
+            region: drawn(seed, 3) as u8,
+        };
         for home in homes {
             let part = part_of(alloc, seed, id, rank, *home, homes, hot)?;
             let near = if parts.len() > 6 { parts.len() - 6 } else { 0 };
@@ -73,7 +84,10 @@ fn must(holds: bool, what: &'static str) -> Result<(), Fail> {
 /// Whether both answer alike for each id, and choose what the other allows.
 fn agree(alloc: Global, plain: &PlainSched, queue: &QueueSched, ids: &[TxnId]) -> Result<(), Fail> {
     for id in ids {
-        must(plain.executable(alloc, *id)? == queue.executable(alloc, *id)?, "executable")?;
+        must(
+            plain.executable(alloc, *id)? == queue.executable(alloc, *id)?,
+            "executable",
+        )?;
     }
     let mut busy = Vec::new(alloc);
     while let Some(id) = queue.next_ready(alloc, busy.as_slice())? {
@@ -81,12 +95,18 @@ fn agree(alloc: Global, plain: &PlainSched, queue: &QueueSched, ids: &[TxnId]) -
         must(!busy.contains(&id), "busy")?;
         busy.push(id)?;
     }
-    must(plain.next_ready(alloc, busy.as_slice())?.is_none(), "none ready")?;
+    must(
+        plain.next_ready(alloc, busy.as_slice())?.is_none(),
+        "none ready",
+    )?;
     if let Some(class) = plain.next_class(alloc)? {
         must(queue.resolvable(alloc, class.as_slice())?, "resolvable")?;
         must(queue.next_class(alloc)?.is_some(), "some class")?;
         let fewer = &class.as_slice()[1..];
-        must(plain.resolvable(alloc, fewer)? == queue.resolvable(alloc, fewer)?, "fewer")?;
+        must(
+            plain.resolvable(alloc, fewer)? == queue.resolvable(alloc, fewer)?,
+            "fewer",
+        )?;
     }
     if let Some(class) = queue.next_class(alloc)? {
         must(plain.resolvable(alloc, class.as_slice())?, "class")?;
@@ -96,7 +116,12 @@ fn agree(alloc: Global, plain: &PlainSched, queue: &QueueSched, ids: &[TxnId]) -
 }
 
 /// Executes or resolves something, if it can.
-fn step(alloc: Global, seed: &mut u64, plain: &mut PlainSched, queue: &mut QueueSched) -> Result<bool, Fail> {
+fn step(
+    alloc: Global,
+    seed: &mut u64,
+    plain: &mut PlainSched,
+    queue: &mut QueueSched,
+) -> Result<bool, Fail> {
     if drawn(seed, 2) == 0 {
         if let Some(class) = queue.next_class(alloc)? {
             plain.resolve(alloc, class.as_slice())?;
