@@ -181,6 +181,10 @@ module _ (items : List ℕ) (places : List (Option ℕ)) (room : ℕ) (s : IsSub
     );
   }
 
+  -- the bound told otherwise
+  pub added_at : (bound later : ℕ) → later ≡ bound → PutsIn number (record { bound = bound; items = items }) (record { bound = later; items = items ++ number ∷ [] })
+  added_at bound later e = record { bound = e; members = (added bound).members }
+
   -- a number that is there stays
   pub added_already : (place : ℕ) → get_or places number None ≡ Some place → (bound : ℕ) → PutsIn number (record { bound = bound; items = items }) (record { bound = bound; items = items })
   added_already place e bound = record { bound = refl; members = λ n. (λ h. inl h, λ o. elim o [ inl h ↦ h | inr f ↦ subst (Has items) (sym f) (placed_has place e) ]) }

@@ -1,6 +1,6 @@
 use Rattle.std.proofs.Common.{◌≡◌, ◌<◌, ◌∙◌, None, Some, get_or, length, vec_capacity, subst, sym, ap, arith}
-use Rattle.std.proofs.lemmas.List.{get_or_read}
-use Rattle.dt_graph.proofs.Subsets.{added, added_already, none_of_test, room_for, some_of_test, subset_added, subset_room}
+use Rattle.std.proofs.lemmas.List.{get_or_read, length-set}
+use Rattle.dt_graph.proofs.Subsets.{added_already, added_at, none_of_test, room_for, some_of_test, subset_added, subset_room}
 use Rattle.dt_graph.proofs.subset.Subset.add.Goals as goal
 
 pub push_reserved-requires : goal.push_reserved-requires
@@ -20,7 +20,11 @@ invariant_of-self c =
     (subset_room _ _ _ _ c.push_reserved.ensures.room (subset_added s.items.items s.places.items (vec_capacity s.items) c.self.invariant c.args.number lt none))
 
 pub returns-then-is_none : goal.returns-then-is_none
-returns-then-is_none c = ?
+returns-then-is_none c =
+    let s = c.self.inside in
+    let lt : c.args.number < length s.places.items = omega (arith, c.requires, ap (λ x. x.bound) c.self.view_is) in
+    rw (← c.self.view_is, c.push_reserved.ensures.added)
+    (added_at s.items.items s.places.items (vec_capacity s.items) c.self.invariant c.args.number lt (length s.places.items) _ (length-set s.places.items c.args.number (Some c.len.result)))
 
 pub returns-else-is_none : goal.returns-else-is_none
 returns-else-is_none c =

@@ -1,5 +1,6 @@
-use Rattle.std.proofs.Common.{◌≡◌, ◌<◌, ◌++◌, ◌∷◌, [], ◌∙◌, None, Some, get_or, length, vec_capacity, refl, subst, sym, ap, cc, arith}
+use Rattle.std.proofs.Common.{◌≡◌, ◌<◌, ◌++◌, ◌∷◌, [], ◌∙◌, None, Some, get_or, length, vec_capacity, refl, subst, sym, ap, arith}
 use Rattle.std.proofs.lemmas.List.{get_or_read}
+use Rattle.dt_graph.specs.Subset.{IsSubset}
 use Rattle.dt_graph.proofs.Subsets.{placed_has, removed, removed_last, subset_removed, subset_removed_last}
 use Rattle.dt_graph.proofs.subset.Subset.remove.Goals as goal
 use Rattle.dt_graph.proofs.subset.Subset.remove.Goals.{in-Some-pop+then-last-number, in-Some-pop+else-last-number, in_default-pop}
@@ -10,8 +11,15 @@ invariant_of-self c =
     let lt : c.args.number < length s.places.items = omega (arith, c.requires, ap (λ x. x.bound) c.self.view_is) in
     let at : get_or s.places.items c.args.number None ≡ Some c.in-Some.place = sym (get_or_read s.places.items c.args.number _ lt c.index.ensures None) ∙ c.in-Some.is in
     elim c.match-pop.branch [
-      | in-Some-pop+then-last-number w ↦ rw w.self-inside-is ?
-      | in-Some-pop+else-last-number w ↦ rw w.self-inside-is ?
+      | in-Some-pop+then-last-number w ↦
+          rw w.self-inside-is
+          (subst (IsSubset _ _) (sym w.in-Some-pop.ensures.capacity)
+          (subset_removed s.items.items s.places.items (vec_capacity s.items) c.self.invariant c.args.number lt c.pop.new.self.items w.in-Some-pop.last c.in-Some.place w.in-Some-pop.ensures.items w.if-last-number.true at))
+      | in-Some-pop+else-last-number w ↦
+          rw w.self-inside-is
+          (subst (IsSubset _ _) (sym w.in-Some-pop.ensures.capacity)
+          (subset_removed_last s.items.items s.places.items (vec_capacity s.items) c.self.invariant c.args.number lt c.pop.new.self.items
+          (w.in-Some-pop.ensures.items ∙ ap (λ x. c.pop.new.self.items ++ x ∷ []) w.if-last-number.false)))
       | in_default-pop w ↦ ?
     ]
 
