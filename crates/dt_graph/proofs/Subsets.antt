@@ -222,6 +222,9 @@ module _ (items : List ℕ) (places : List (Option ℕ)) (room : ℕ) (s : IsSub
       );
     }
 
+    pub removed_last_at : (bound later : ℕ) → later ≡ bound → Removes number (record { bound = bound; items = items }) (record { bound = later; items = front })
+    removed_last_at bound later e = record { bound = e; members = (removed_last bound).members }
+
   -- a number is taken out, and the last one put in its place
   module _ (front : List ℕ) (last place : ℕ) (is : items ≡ front ++ last ∷ []) (other : last ≢ number) (at_place : get_or places number None ≡ Some place) where
     once_all : Distinct (front ++ last ∷ [])
@@ -291,3 +294,11 @@ module _ (items : List ℕ) (places : List (Option ℕ)) (room : ℕ) (s : IsSub
         ],
       );
     }
+
+    pub removed_at : (bound later : ℕ) → later ≡ bound → Removes number (record { bound = bound; items = items }) (record { bound = later; items = set front place last })
+    removed_at bound later e = record { bound = e; members = (removed bound).members }
+
+-- where something stands the list isn't empty
+pub not_empty : {A : Type 0} (xs : List A) (x : A) → Has xs x → length xs ≡ 0 → ⊥
+not_empty [] x h e = h
+not_empty (y ∷ ys) x h e = omega (arith, e)
