@@ -1,0 +1,282 @@
+-- Pushing the uses of a part, step by step, and taking the pushed entries back; and what a part adds to what is kept.
+use Rattle.std.proofs.Common.{◌≡◌, ◌≢◌, ◌+◌, ◌<◌, ◌≤◌, ◌⊎◌, ◌↔◌, ◌∙◌, ℕ, zero, suc, Bool, true, false, ◌==◌, not, if◌then◌else◌, List, []}
+use Rattle.std.proofs.Common.{◌∷◌, ◌++◌, length, map, filter, get_or, set, Option, None, Some, refl, sym, ap, ap₂, subst, inl, inr, arith}
+use Rattle.std.proofs.lemmas.Bool.{cases_Bool}
+use Rattle.std.proofs.lemmas.List.{append-nil, append_assoc, get_or-set_other, get_or-set_same, length-append, length-set, map-append}
+use Rattle.std.proofs.lemmas.List.Elements.{filter-append}
+use Rattle.std.proofs.Math.ListN.{get_or-append}
+use Rattle.dt_lists.specs.Lists.{AnyIn, AllIn, Has, Distinct, EachThen}
+use Rattle.dt_lists.proofs.Callers.{all_append, all_append_left, all_put, any_put, distinct_push, each_append, each_append_left, each_across, has_last, has_longer, has_map, has_more, same_head, same_tail}
+use Rattle.dt_access.specs.Clash.{Bytes}
+use Rattle.dt_access.specs.declared.access.Mode.{Mode}
+use Rattle.dt_access.specs.declared.TxnId.{TxnId}
+use Rattle.dt_access.specs.declared.Part.{Part}
+use Rattle.dt_queue.specs.Queues.{HasDistinctSlots, IsWaiting, Waiting, neighbours, without}
+use Rattle.dt_graph.specs.declared.vertex.Vertex.{Vertex}
+use Rattle.dt_graph.specs.declared.open.Open.{Open}
+use Rattle.dt_graph.specs.Waits.{degree, id_at, others}
+use Rattle.dt_graph.specs.Graph.{GraphView, vertex_at}
+use Rattle.dt_graph.specs.Subset.{SubsetView}
+use Rattle.dt_graph.specs.Steps.{AreEntriesOf, Enters, Grows, Inserts, IsVertexBefore, Pushes, Raises, Sorts, fresh_vertex}
+use Rattle.dt_graph.proofs.Nearest.{slot_same, slot_other}
+use Rattle.dt_graph.proofs.Degrees.{degree_pushed}
+use Rattle.dt_graph.proofs.Complete.{filter_whole}
+use Rattle.dt_graph.proofs.Free.{id_has}
+
+-- no use was pushed
+pub enters_none : (home vertex : ℕ) (waiting : List Waiting) (slots : List ℕ) (count : ℕ) → HasDistinctSlots waiting → Enters home vertex [] waiting waiting slots slots count count
+enters_none home vertex waiting slots count d = record {
+  pushed = record { more = []; waiting = sym (append-nil waiting); distinct = d; at_slots = sym (append-nil slots); of_vertex = tt };
+  used = refl;
+  at_home = tt;
+  counted = λ e. e;
+}
+
+-- one after the other
+pub enters_more : (home vertex : ℕ) (first second : List (Bytes × Mode)) (a b c : List Waiting) (r s t : List ℕ) (i j k : ℕ)
+    → Enters home vertex first a b r s i j → Enters home vertex second b c s t j k → Enters home vertex (first ++ second) a c r t i k
+enters_more home vertex first second a b c r s t i j k e f = record {
+  pushed = record {
+    more = e.pushed.more ++ f.pushed.more;
+    waiting = f.pushed.waiting ∙ ap (λ l. l ++ f.pushed.more) e.pushed.waiting ∙ append_assoc a e.pushed.more f.pushed.more;
+    distinct = f.pushed.distinct;
+    at_slots = f.pushed.at_slots ∙ ap (λ l. l ++ map (λ w. w.slot) f.pushed.more) e.pushed.at_slots ∙ append_assoc r (map (λ w. w.slot) e.pushed.more) (map (λ w. w.slot) f.pushed.more)
+        ∙ ap (λ l. r ++ l) (sym (map-append (λ w. w.slot) e.pushed.more f.pushed.more));
+    of_vertex = all_append _ e.pushed.more f.pushed.more e.pushed.of_vertex f.pushed.of_vertex;
+  };
+  used = map-append (λ w. (w.key, w.mode)) e.pushed.more f.pushed.more ∙ ap₂ ◌++◌ e.used f.used;
+  at_home = all_append _ e.pushed.more f.pushed.more e.at_home f.at_home;
+  counted = λ h. f.counted (e.counted h);
+}
+
+-- entries stay at distinct slots when one is pushed at a slot that was free
+pub distinct_pushed : (waiting : List Waiting) (w : Waiting) → HasDistinctSlots waiting → ¬ (IsWaiting waiting w.slot) → HasDistinctSlots (waiting ++ w ∷ [])
+distinct_pushed waiting w d n = each_append _ waiting (w ∷ []) d (all_put _ waiting (λ v h. (λ e. n (any_put (λ u. u.slot ≡ w.slot) waiting v h e), tt))) (tt, tt)
+
+-- a count over an image
+count_mapped : {A B : Type 0} (p : B → Bool) (f : A → B) (xs : List A) → length (filter p (map f xs)) ≡ length (filter (λ x. p (f x)) xs)
+count_mapped p f [] = refl
+count_mapped p f (x ∷ xs) = by (count_mapped p f xs) (cases_Bool (p (f x)))
+  where
+    by : length (filter p (map f xs)) ≡ length (filter (λ x. p (f x)) xs) → (p (f x) ≡ true) ⊎ (p (f x) ≡ false) → length (filter p (map f (x ∷ xs))) ≡ length (filter (λ x. p (f x)) (x ∷ xs))
+    by rest (inl e) = rw e (ap suc rest)
+    by rest (inr e) = rw e rest
+
+-- one use is pushed, and its neighbours raise the degree
+pub enters_one : (waiting now : List Waiting) (w : Waiting) (slots slots_now : List ℕ) (count risen : ℕ) → HasDistinctSlots waiting → now ≡ waiting ++ w ∷ [] → ¬ (IsWaiting waiting w.slot)
+    → slots_now ≡ slots ++ w.slot ∷ [] → Raises count (map (λ n. n.vertex) (neighbours now w.slot)) w.vertex risen → Enters w.home w.vertex ((w.key, w.mode) ∷ []) waiting now slots slots_now count risen
+enters_one waiting now w slots slots_now count risen d is fresh at r = record {
+  pushed = record { more = w ∷ []; waiting = is; distinct = subst HasDistinctSlots (sym is) all_distinct; at_slots = at; of_vertex = (refl, tt) };
+  used = refl;
+  at_home = (refl, tt);
+  counted = λ e. r ∙ ap₂ ◌+◌ e (count_mapped (λ n. not (n == w.vertex)) (λ n. n.vertex) (neighbours now w.slot))
+      ∙ sym (ap (λ l. degree l w.vertex) is ∙ degree_pushed waiting w w.vertex all_distinct ∙ ap (λ n. degree waiting w.vertex + n) own);
+}
+  where
+    all_distinct : HasDistinctSlots (waiting ++ w ∷ [])
+    all_distinct = distinct_pushed waiting w d fresh
+
+    own : (if w.vertex == w.vertex then length (others w.vertex (neighbours (waiting ++ w ∷ []) w.slot)) else 0) ≡ length (others w.vertex (neighbours now w.slot))
+    own = rw (slot_same w.vertex) (ap (λ l. length (others w.vertex (neighbours l w.slot))) (sym is))
+
+-- the entry that was pushed last is taken back
+pub without_last : (waiting : List Waiting) (w : Waiting) → HasDistinctSlots (waiting ++ w ∷ []) → without (waiting ++ w ∷ []) w.slot ≡ waiting
+without_last waiting w d =
+    filter-append (λ v. not (v.slot == w.slot)) waiting (w ∷ [])
+    ∙ ap₂ ◌++◌ (filter_whole (λ v. not (v.slot == w.slot)) waiting (all_put _ waiting (λ v h. ap not (slot_other v.slot w.slot (each_across _ waiting (w ∷ []) v w d h (inl refl)))))) own
+    ∙ append-nil waiting
+  where
+    own : filter (λ v. not (v.slot == w.slot)) (w ∷ []) ≡ []
+    own = rw (slot_same w.slot) refl
+
+-- the entries of a part are those of its uses
+pub entries_of : (part : Part) (vertex : ℕ) (old new : List Waiting) (slots now : List ℕ) (count risen : ℕ) → (e : Enters part.home vertex part.keys old new slots now count risen) → AreEntriesOf part vertex e.pushed.more
+entries_of part vertex old new slots now count risen e = record {
+  of_part = three e.pushed.more (λ w h. h) e.at_home e.pushed.of_vertex;
+  all_uses = λ way h. used_by e.pushed.more way (subst (λ l. Has l way) (sym e.used) h);
+}
+  where
+    use_in : (w : Waiting) → Has e.pushed.more w → Has part.keys (w.key, w.mode)
+    use_in w h = subst (λ l. Has l (w.key, w.mode)) e.used (has_map (λ w. (w.key, w.mode)) e.pushed.more w h)
+
+    three : (ws : List Waiting) → ((w : Waiting) → Has ws w → Has e.pushed.more w) → AllIn (λ w. w.home ≡ part.home) ws
+        → AllIn (λ w. w.vertex ≡ vertex) ws → AllIn (λ w. (w.home ≡ part.home) × (w.vertex ≡ vertex) × Has part.keys (w.key, w.mode)) ws
+    three [] among a b = tt
+    three (w ∷ ws) among a b = ((a.0, b.0, use_in w (among w (inl refl))), three ws (λ v h. among v (inr h)) a.1 b.1)
+
+    used_by : (ws : List Waiting) (way : Bytes × Mode) → Has (map (λ w. (w.key, w.mode)) ws) way → AnyIn (λ w. (w.key, w.mode) ≡ way) ws
+    used_by [] way h = absurd h
+    used_by (w ∷ ws) way (inl e) = inl e
+    used_by (w ∷ ws) way (inr h) = inr (used_by ws way h)
+
+-- the last item of a longer list, and those before it
+last_at : {A : Type 0} (xs : List A) (y d : A) → get_or (xs ++ y ∷ []) (length xs) d ≡ y
+last_at [] y d = refl
+last_at (x ∷ xs) y d = last_at xs y d
+
+-- a transaction's first part is added, with a vertex of its own
+pub inserts_first : (part : Part) (old : GraphView) (waiting : List Waiting) (slots : List ℕ) (missing count : ℕ) (ready stuck ready_now stuck_now : SubsetView)
+    → Distinct old.ids → ¬ (Has old.ids part.id) → length old.vertices ≡ length old.ids → length old.degrees ≡ length old.ids → suc missing ≡ length part.homes
+    → (e : Enters part.home (length old.ids) part.keys old.waiting waiting [] slots 0 count) → ready.items ≡ old.ready → stuck.items ≡ old.stuck
+    → Sorts (length old.ids) (old.vertices ++ record { rank = part.rank; missing = missing; class = None; slots = slots } ∷ []) (old.degrees ++ count ∷ []) ready stuck ready_now stuck_now
+    → Inserts part (length old.ids) e.pushed.more old (record {
+      ids = old.ids ++ part.id ∷ [];
+      vertices = old.vertices ++ record { rank = part.rank; missing = missing; class = None; slots = slots } ∷ [];
+      degrees = old.degrees ++ count ∷ [];
+      waiting = waiting;
+      ready = ready_now.items;
+      stuck = stuck_now.items;
+      classes = old.classes;
+    })
+inserts_first part old waiting slots missing count ready stuck ready_now stuck_now once fresh sv sd lacking e er es sorts = record {
+  within = subst (λ n. length old.ids < n) (sym (length-append old.ids (part.id ∷ []))) (below_next (length old.ids));
+  named = last_at old.ids part.id (record { seq = 0; region = 0 });
+  once = distinct_push old.ids part.id once fresh;
+  ids = λ t. (
+    λ h. elim (has_more old.ids part.id t h) [ inl o ↦ inl o | inr f ↦ inr (sym f) ],
+    λ s. elim s [ inl o ↦ has_longer old.ids (part.id ∷ []) t o | inr f ↦ subst (Has (old.ids ++ part.id ∷ [])) (sym f) (has_last old.ids part.id) ],
+  );
+  vertices = length-append old.vertices _ ∙ ap (λ n. n + 1) sv ∙ sym (length-append old.ids (part.id ∷ []));
+  degrees = length-append old.degrees (count ∷ []) ∙ ap (λ n. n + 1) sd ∙ sym (length-append old.ids (part.id ∷ []));
+  kept = λ u lt. (subst (λ n. u < n) (sym (length-append old.ids (part.id ∷ []))) (grown u lt), get_or-append old.ids (part.id ∷ []) (record { seq = 0; region = 0 }) u lt);
+  others = λ u lt ne.
+      let was : u < length old.ids = older u (subst (λ n. u < n) (length-append old.ids (part.id ∷ [])) lt) ne in (
+        was,
+        get_or-append old.vertices (_ ∷ []) (record { rank = 0; missing = 0; class = None; slots = [] }) u (subst (λ n. u < n) (sym sv) was),
+        get_or-append old.degrees (count ∷ []) 0 u (subst (λ n. u < n) (sym sd) was),
+      );
+  waiting = e.pushed.waiting;
+  distinct = e.pushed.distinct;
+  entries = entries_of part (length old.ids) old.waiting waiting [] slots 0 count e;
+  before = fresh_vertex part;
+  is_before = inr (refl, fresh, refl);
+  grows = subst (Grows (fresh_vertex part) e.pushed.more) (sym vertex_is) (record { rank = refl; missing = lacking; class = refl; slots = e.pushed.at_slots });
+  counted = λ known none. degree_is ∙ e.counted (sym (none refl));
+  ready = λ u. (
+    λ h. elim ((sorts.readied u).0 h) [ inl o ↦ inl (subst (λ l. Has l u) er o) | inr n ↦ inr n ],
+    λ s. (sorts.readied u).1 (elim s [ inl o ↦ inl (subst (λ l. Has l u) (sym er) o) | inr n ↦ inr n ]),
+  );
+  stuck = λ u. (
+    λ h. elim ((sorts.stuck_more u).0 h) [ inl o ↦ inl (subst (λ l. Has l u) es o) | inr n ↦ inr n ],
+    λ s. (sorts.stuck_more u).1 (elim s [ inl o ↦ inl (subst (λ l. Has l u) (sym es) o) | inr n ↦ inr n ]),
+  );
+  classes = refl;
+}
+  where
+    below_next : (n : ℕ) → n < n + 1
+    below_next n = omega arith
+
+    grown : (u : ℕ) → u < length old.ids → u < length old.ids + 1
+    grown u lt = omega (arith, lt)
+
+    older : (u : ℕ) → u < length old.ids + 1 → u ≢ length old.ids → u < length old.ids
+    older u lt ne = grind (arith, lt, ne)
+
+    vertex_is : vertex_at (old.vertices ++ record { rank = part.rank; missing = missing; class = None; slots = slots } ∷ []) (length old.ids) ≡ record { rank = part.rank; missing = missing; class = None; slots = slots }
+    vertex_is = ap (vertex_at (old.vertices ++ record { rank = part.rank; missing = missing; class = None; slots = slots } ∷ [])) (sym sv)
+        ∙ last_at old.vertices (record { rank = part.rank; missing = missing; class = None; slots = slots }) (record { rank = 0; missing = 0; class = None; slots = [] })
+
+    degree_is : get_or (old.degrees ++ count ∷ []) (length old.ids) 0 ≡ count
+    degree_is = ap (λ n. get_or (old.degrees ++ count ∷ []) n 0) (sym sd) ∙ last_at old.degrees count 0
+
+-- one more part is added to the vertex of its transaction
+pub inserts_again : (part : Part) (v : ℕ) (old : GraphView) (waiting : List Waiting) (slots : List ℕ) (missing count : ℕ) (ready stuck ready_now stuck_now : SubsetView)
+    → Distinct old.ids → v < length old.ids → id_at old.ids v ≡ part.id → length old.vertices ≡ length old.ids → length old.degrees ≡ length old.ids → suc missing ≡ (vertex_at old.vertices v).missing
+    → (e : Enters part.home v part.keys old.waiting waiting (vertex_at old.vertices v).slots slots (get_or old.degrees v 0) count) → ready.items ≡ old.ready → stuck.items ≡ old.stuck
+    → Sorts v (set old.vertices v (record (vertex_at old.vertices v) { missing = missing; slots = slots })) (set old.degrees v count) ready stuck ready_now stuck_now
+    → Inserts part v e.pushed.more old (record {
+      ids = old.ids;
+      vertices = set old.vertices v (record (vertex_at old.vertices v) { missing = missing; slots = slots });
+      degrees = set old.degrees v count;
+      waiting = waiting;
+      ready = ready_now.items;
+      stuck = stuck_now.items;
+      classes = old.classes;
+    })
+inserts_again part v old waiting slots missing count ready stuck ready_now stuck_now once lt named sv sd lacking e er es sorts = record {
+  within = lt;
+  named = named;
+  once = once;
+  ids = λ t. (λ h. inl h, λ s. elim s [ inl o ↦ o | inr f ↦ subst (Has old.ids) (named ∙ sym f) (id_has old.ids v lt) ]);
+  vertices = length-set old.vertices v _ ∙ sv;
+  degrees = length-set old.degrees v count ∙ sd;
+  kept = λ u l. (l, refl);
+  others = λ u l ne. (
+    l,
+    get_or-set_other old.vertices v u _ (record { rank = 0; missing = 0; class = None; slots = [] }) ne,
+    get_or-set_other old.degrees v u count 0 ne,
+  );
+  waiting = e.pushed.waiting;
+  distinct = e.pushed.distinct;
+  entries = entries_of part v old.waiting waiting (vertex_at old.vertices v).slots slots (get_or old.degrees v 0) count e;
+  before = vertex_at old.vertices v;
+  is_before = inl (lt, refl);
+  grows = subst (Grows (vertex_at old.vertices v) e.pushed.more) (sym vertex_is) (record { rank = refl; missing = lacking; class = refl; slots = e.pushed.at_slots });
+  counted = λ known none. degree_is ∙ e.counted (known lt);
+  ready = λ u. (
+    λ h. elim ((sorts.readied u).0 h) [ inl o ↦ inl (subst (λ l. Has l u) er o) | inr n ↦ inr n ],
+    λ s. (sorts.readied u).1 (elim s [ inl o ↦ inl (subst (λ l. Has l u) (sym er) o) | inr n ↦ inr n ]),
+  );
+  stuck = λ u. (
+    λ h. elim ((sorts.stuck_more u).0 h) [ inl o ↦ inl (subst (λ l. Has l u) es o) | inr n ↦ inr n ],
+    λ s. (sorts.stuck_more u).1 (elim s [ inl o ↦ inl (subst (λ l. Has l u) (sym es) o) | inr n ↦ inr n ]),
+  );
+  classes = refl;
+}
+  where
+    vertex_is : vertex_at (set old.vertices v (record (vertex_at old.vertices v) { missing = missing; slots = slots })) v ≡ record (vertex_at old.vertices v) { missing = missing; slots = slots }
+    vertex_is = get_or-set_same old.vertices v (record (vertex_at old.vertices v) { missing = missing; slots = slots }) (record { rank = 0; missing = 0; class = None; slots = [] }) (subst (λ n. v < n) (sym sv) lt)
+
+    degree_is : get_or (set old.degrees v count) v 0 ≡ count
+    degree_is = get_or-set_same old.degrees v count 0 (subst (λ n. v < n) (sym sd) lt)
+
+-- the entries that were pushed are taken back one by one
+pub pushes_back : (vertex slot : ℕ) (old now : List Waiting) (kept slots : List ℕ) → Pushes vertex old now kept (slots ++ slot ∷ []) → length kept ≤ length slots → Pushes vertex old (without now slot) kept slots
+pushes_back vertex slot old now kept slots p le = by (from_last p.more)
+  where
+    from_last : (more : List Waiting) → (more ≡ []) ⊎ ((front : List Waiting) × (w : Waiting) × (more ≡ front ++ w ∷ []))
+    from_last [] = inl refl
+    from_last (x ∷ xs) = elim (from_last xs) [
+      | inl e ↦ inr ([], x, ap (λ l. x ∷ l) e)
+      | inr r ↦ inr (x ∷ r.0, r.1, ap (λ l. x ∷ l) r.2)
+    ]
+
+    too_long : p.more ≡ [] → ⊥
+    too_long e = longer (length kept) (length slots) le (sym (length-append slots (slot ∷ [])) ∙ ap length p.at_slots ∙ ap (λ m. length (kept ++ map (λ w. w.slot) m)) e ∙ ap length (append-nil kept))
+      where
+        longer : (k s : ℕ) → k ≤ s → s + 1 ≡ k → ⊥
+        longer k s le e = omega (arith, le, e)
+
+    by : (p.more ≡ []) ⊎ ((front : List Waiting) × (w : Waiting) × (p.more ≡ front ++ w ∷ [])) → Pushes vertex old (without now slot) kept slots
+    by (inl e) = absurd (too_long e)
+    by (inr r) = record {
+      more = r.0;
+      waiting = ap (λ s. without now s) (sym (same_last.1)) ∙ ap (λ l. without l r.1.slot) now_is ∙ without_last (old ++ r.0) r.1 (subst HasDistinctSlots now_is p.distinct);
+      distinct = subst HasDistinctSlots (sym (ap (λ s. without now s) (sym (same_last.1)) ∙ ap (λ l. without l r.1.slot) now_is ∙ without_last (old ++ r.0) r.1 (subst HasDistinctSlots now_is p.distinct)))
+          (each_append_left _ (old ++ r.0) (r.1 ∷ []) (subst HasDistinctSlots now_is p.distinct));
+      at_slots = same_last.0;
+      of_vertex = all_append_left _ r.0 (r.1 ∷ []) (subst (AllIn (λ w. w.vertex ≡ vertex)) r.2 p.of_vertex);
+    }
+      where
+        now_is : now ≡ old ++ r.0 ++ r.1 ∷ []
+        now_is = p.waiting ∙ ap (λ m. old ++ m) r.2 ∙ sym (append_assoc old r.0 (r.1 ∷ []))
+
+        slots_is : slots ++ slot ∷ [] ≡ (kept ++ map (λ w. w.slot) r.0) ++ r.1.slot ∷ []
+        slots_is = p.at_slots ∙ ap (λ m. kept ++ map (λ w. w.slot) m) r.2 ∙ ap (λ l. kept ++ l) (map-append (λ w. w.slot) r.0 (r.1 ∷ [])) ∙ sym (append_assoc kept (map (λ w. w.slot) r.0) (r.1.slot ∷ []))
+
+        same_ends : (xs ys : List ℕ) (x y : ℕ) → xs ++ x ∷ [] ≡ ys ++ y ∷ [] → (xs ≡ ys) × (y ≡ x)
+        same_ends [] [] x y e = (refl, sym (same_head e))
+        same_ends [] (b ∷ ys) x y e = absurd (no_end ys y (same_tail e))
+          where
+            no_end : (ys : List ℕ) (y : ℕ) → [] ≡ ys ++ y ∷ [] → ⊥
+            no_end [] y e = cc
+            no_end (z ∷ zs) y e = cc
+        same_ends (a ∷ xs) [] x y e = absurd (no_end xs x (same_tail e))
+          where
+            no_end : (xs : List ℕ) (x : ℕ) → xs ++ x ∷ [] ≡ [] → ⊥
+            no_end [] x e = cc
+            no_end (z ∷ zs) x e = cc
+        same_ends (a ∷ xs) (b ∷ ys) x y e = let r : (xs ≡ ys) × (y ≡ x) = same_ends xs ys x y (same_tail e) in (ap₂ ◌∷◌ (same_head e) r.0, r.1)
+
+        same_last : (slots ≡ kept ++ map (λ w. w.slot) r.0) × (r.1.slot ≡ slot)
+        same_last = same_ends slots (kept ++ map (λ w. w.slot) r.0) slot r.1.slot slots_is

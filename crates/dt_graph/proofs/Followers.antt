@@ -1,0 +1,130 @@
+-- A walk over the followers of an entry: it begins with those after itself, which are all, and goes on with those after each
+-- that was found.
+use Rattle.std.proofs.Common.{◌≡◌, ◌≢◌, ◌+◌, ◌<◌, ◌⊎◌, ◌∙◌, ℕ, zero, suc, Bool, true, false, ◌==◌, not, if◌then◌else◌, List, [], ◌∷◌, ◌++◌}
+use Rattle.std.proofs.Common.{length, map, filter, get_or, slice_get, Option, None, Some, refl, sym, ap, subst, inl, inr, eqb-true, eq-eqb, arith}
+use Rattle.std.specs.List.{list_any}
+use Rattle.std.proofs.lemmas.Bool.{cases_Bool, false_from_ne_true}
+use Rattle.std.proofs.lemmas.List.{append_assoc}
+use Rattle.std.proofs.lemmas.List.Elements.{filter-append}
+use Rattle.dt_lists.specs.Lists.{AnyIn, AllIn, Has, EachThen}
+use Rattle.dt_lists.proofs.Callers.{all_get, all_put, any_get, any_append_left, any_of_test, any_put, each_across, filter_none, has_middle, same_head, same_tail, Spot, spot}
+use Rattle.dt_queue.specs.declared.Follower.{Follower}
+use Rattle.dt_queue.specs.Queues.{HasDistinctSlots, IsWaiting, Waiting, after, follower_of, followers, followers_after, is_at, is_neighbour, neighbours}
+use Rattle.dt_graph.specs.Waits.{is_of}
+use Rattle.dt_graph.proofs.Nearest.{nearest_clash, neighbours_split, slot_same, slot_other}
+
+-- what is after an entry
+pub after_split : (front : List Waiting) (j : Waiting) (rest : List Waiting) → HasDistinctSlots (front ++ j ∷ rest) → after (front ++ j ∷ rest) j.slot ≡ rest
+after_split [] j rest d = rw (slot_same j.slot) refl
+after_split (w ∷ front) j rest d = rw (slot_other w.slot j.slot (all_get _ (front ++ j ∷ rest) d.0 j (has_middle front j rest))) (after_split front j rest d.1)
+
+-- the first item that passes, with what stands before and after it
+split_first : {A : Type 0} (p : A → Bool) (xs : List A) (x : A) (more : List A) → filter p xs ≡ x ∷ more → (front : List A) × (rest : List A) × (xs ≡ front ++ x ∷ rest) × (filter p rest ≡ more)
+split_first p [] x more e = cc
+split_first p (y ∷ ys) x more e = by (λ f. split_first p ys x more f) (cases_Bool (p y))
+  where
+    by : (filter p ys ≡ x ∷ more → (front : List _) × (rest : List _) × (ys ≡ front ++ x ∷ rest) × (filter p rest ≡ more)) → (p y ≡ true) ⊎ (p y ≡ false)
+        → (front : List _) × (rest : List _) × (y ∷ ys ≡ front ++ x ∷ rest) × (filter p rest ≡ more)
+    by later (inl t) = let f : y ∷ filter p ys ≡ x ∷ more = rw t at e in ([], ys, ap (λ z. z ∷ ys) (same_head f), same_tail f)
+    by later (inr t) = let r : (front : List _) × (rest : List _) × (ys ≡ front ++ x ∷ rest) × (filter p rest ≡ more) = later (rw t at e) in (y ∷ r.0, r.1, ap (λ l. y ∷ l) r.2, r.3)
+
+module _ (waiting : List Waiting) (distinct : HasDistinctSlots waiting) where
+  -- an entry by its slot
+  one_entry : (v w : Waiting) → Has waiting v → Has waiting w → v.slot ≡ w.slot → v ≡ w
+  one_entry v w hv hw e = in_list waiting distinct hv hw
+    where
+      in_list : (ws : List Waiting) → HasDistinctSlots ws → Has ws v → Has ws w → v ≡ w
+      in_list [] d a b = absurd a
+      in_list (x ∷ xs) d (inl a) (inl b) = sym a ∙ b
+      in_list (x ∷ xs) d (inl a) (inr b) = absurd (all_get _ xs d.0 w b (ap (λ u. u.slot) a ∙ e))
+      in_list (x ∷ xs) d (inr a) (inl b) = absurd (all_get _ xs d.0 v a (ap (λ u. u.slot) b ∙ sym e))
+      in_list (x ∷ xs) d (inr a) (inr b) = in_list xs d.1 a b
+
+  -- a neighbour stands before what follows it
+  neighbour_before : (front : List Waiting) (w : Waiting) (rest : List Waiting) (slot : ℕ) → waiting ≡ front ++ w ∷ rest → is_neighbour waiting slot w.slot ≡ true → AnyIn (λ n. n.slot ≡ slot) front
+  neighbour_before front w rest slot is t =
+      let n : (n : Waiting) × Has (neighbours waiting w.slot) n × (is_at slot n ≡ true) = any_get _ (neighbours waiting w.slot) (any_of_test (is_at slot) (neighbours waiting w.slot) t) in
+      any_put (λ n. n.slot ≡ slot) front n.0 (nearest_clash w front n.0 (subst (λ l. Has l n.0) (neighbours_split waiting front w rest distinct is) n.1)).0 (eqb-true n.0.slot slot n.2)
+
+  -- all followers of an entry stand after it
+  pub followers_begin : (j : Waiting) → Has waiting j → followers_after waiting j.slot j.slot ≡ followers waiting j.slot
+  followers_begin j h = ap (filter test) after_is ∙ sym (ap (filter test) s.is ∙ filter-append test s.front (j ∷ s.rest) ∙ ap (λ l. l ++ filter test (j ∷ s.rest)) (filter_none test s.front before_none) ∙ own)
+    where
+      s : Spot waiting j
+      s = spot waiting j h
+
+      test : Waiting → Bool
+      test w = is_neighbour waiting j.slot w.slot
+
+      split : HasDistinctSlots (s.front ++ j ∷ s.rest)
+      split = subst HasDistinctSlots s.is distinct
+
+      after_is : after waiting j.slot ≡ s.rest
+      after_is = ap (λ l. after l j.slot) s.is ∙ after_split s.front j s.rest split
+
+      -- no entry of the front is after j
+      none : (front : List Waiting) (w : Waiting) (rest : List Waiting) → s.front ≡ front ++ w ∷ rest → test w ≡ true → ⊥
+      none front w rest is t =
+          let n : (n : Waiting) × Has front n × (n.slot ≡ j.slot) = any_get _ front
+          (neighbour_before front w (rest ++ j ∷ s.rest) j.slot (s.is ∙ ap (λ l. l ++ j ∷ s.rest) is ∙ append_assoc front (w ∷ rest) (j ∷ s.rest)) t) in
+          each_across _ s.front (j ∷ s.rest) n.0 j split (subst (λ l. Has l n.0) (sym is) (any_append_left (λ y. y ≡ n.0) front (w ∷ rest) n.1)) (inl refl) n.2
+
+      before_none : AllIn (λ w. test w ≡ false) s.front
+      before_none = all_put _ s.front (λ w m. let p : Spot s.front w = spot s.front w m in false_from_ne_true (test w) (λ t. none p.front w p.rest p.is t))
+
+      own_none : test j ≡ false
+      own_none = false_from_ne_true (test j) (λ t.
+          let n : (n : Waiting) × Has s.front n × (n.slot ≡ j.slot) = any_get _ s.front (neighbour_before s.front j s.rest j.slot s.is t) in
+          each_across _ s.front (j ∷ s.rest) n.0 j split n.1 (inl refl) n.2)
+
+      own : [] ++ filter test (j ∷ s.rest) ≡ filter test s.rest
+      own = rw own_none refl
+
+  -- after one that is found the next ones are those that stand after it
+  pub followers_onward : (slot place : ℕ) (w : Waiting) (more : List Waiting) → IsWaiting waiting place → followers_after waiting slot place ≡ w ∷ more → IsWaiting waiting w.slot × (followers_after waiting slot w.slot ≡ more)
+  followers_onward slot place w more h e =
+      let p : (p : Waiting) × Has waiting p × (p.slot ≡ place) = any_get _ waiting h in
+      by p.0 (spot waiting p.0 p.1) (subst (λ x. followers_after waiting slot x ≡ w ∷ more) (sym p.2) e)
+    where
+      test : Waiting → Bool
+      test v = is_neighbour waiting slot v.slot
+
+      by : (p : Waiting) → Spot waiting p → followers_after waiting slot p.slot ≡ w ∷ more → IsWaiting waiting w.slot × (followers_after waiting slot w.slot ≡ more)
+      by p s f =
+          let rest_is : after waiting p.slot ≡ s.rest = ap (λ l. after l p.slot) s.is ∙ after_split s.front p s.rest (subst HasDistinctSlots s.is distinct) in
+          let r : (front : List Waiting) × (rest : List Waiting) × (s.rest ≡ front ++ w ∷ rest) × (filter test rest ≡ more) = split_first test s.rest w more (sym (ap (filter test) rest_is) ∙ f) in
+          let is : waiting ≡ s.front ++ p ∷ r.0 ++ w ∷ r.1 = s.is ∙ ap (λ l. s.front ++ p ∷ l) r.2 ∙ sym (append_assoc s.front (p ∷ r.0) (w ∷ r.1)) in (
+            any_put (λ v. v.slot ≡ w.slot) waiting w (subst (λ l. Has l w) (sym is) (has_middle (s.front ++ p ∷ r.0) w r.1)) refl,
+            ap (filter test) (ap (λ l. after l w.slot) is ∙ after_split (s.front ++ p ∷ r.0) w r.1 (subst HasDistinctSlots is distinct)) ∙ r.3,
+          )
+
+-- what is told of the first of a list
+pub first_told : (ws : List Waiting) (f : Follower) → slice_get (map follower_of ws) 0 ≡ Some f → (w : Waiting) × (more : List Waiting) × (ws ≡ w ∷ more) × (w.slot ≡ f.slot) × (w.vertex ≡ f.vertex)
+first_told [] f e = cc
+first_told (w ∷ ws) f e = let s : follower_of w ≡ f = some_same e in (w, ws, refl, ap (λ x. x.slot) s, ap (λ x. x.vertex) s)
+  where
+    some_same : {x y : Follower} → Some x ≡ Some y → x ≡ y
+    some_same e = cc
+
+pub none_told : (ws : List Waiting) → slice_get (map follower_of ws) 0 ≡ None → ws ≡ []
+none_told [] e = refl
+none_told (w ∷ ws) e = cc
+
+-- what is still to be lowered, of followers of a slot of the vertex u
+abbrev pub to_lower : ℕ → ℕ → List Waiting → ℕ
+to_lower u v ws = if u == v then 0 else length (filter (is_of v) ws)
+
+-- one follower that is lowered, or passed over as it is of the vertex itself
+pub lowered_one : (u v : ℕ) (w : Waiting) (more : List Waiting) → to_lower u v (w ∷ more) ≡ (if u == v then 0 else (if w.vertex == v then 1 else 0)) + to_lower u v more
+lowered_one u v w more = by (cases_Bool (u == v)) (cases_Bool (w.vertex == v))
+  where
+    one_more : (n : ℕ) → suc n ≡ 1 + n
+    one_more n = omega arith
+
+    none_more : (n : ℕ) → n ≡ 0 + n
+    none_more n = omega arith
+
+    by : ((u == v) ≡ true) ⊎ ((u == v) ≡ false) → ((w.vertex == v) ≡ true) ⊎ ((w.vertex == v) ≡ false) → to_lower u v (w ∷ more) ≡ (if u == v then 0 else (if w.vertex == v then 1 else 0)) + to_lower u v more
+    by (inl e) f = rw e refl
+    by (inr e) (inl f) = rw (e, f) (one_more _)
+    by (inr e) (inr f) = rw (e, f) (none_more _)

@@ -1,0 +1,304 @@
+-- Sets of numbers below a bound: there are at most as many as the bound, and each kept right stays so when a number is put in
+-- or taken out.
+use Rattle.std.proofs.Common.{◌≡◌, ◌≢◌, ◌+◌, ◌<◌, ◌≤◌, ◌⊎◌, ◌↔◌, ◌∙◌, ℕ, zero, suc, List, [], ◌∷◌, ◌++◌, length, get_or, set, slice_get, Option}
+use Rattle.std.proofs.Common.{None, Some, refl, sym, ap, subst, inl, inr, Bool, true, false, not, is_some, IsTrue, true≢false, arith}
+use Rattle.std.proofs.lemmas.List.{get_or-set_same, get_or-set_other, length-append, length-set}
+use Rattle.std.proofs.Math.ListN.{get_or-append}
+use Rattle.dt_lists.specs.Lists.{AllIn, Has, Distinct}
+use Rattle.dt_lists.proofs.Callers.{all_append, all_append_left, all_get, all_map, all_put, distinct_push, distinct_within, each_append_left, each_across, either_nat, has_last, has_longer, has_more}
+use Rattle.dt_lists.proofs.Callers.{has_place, place_in_longer, place_in_more, place_of}
+use Rattle.dt_graph.specs.Subset.{PutsIn, StandsAtPlace, IsSubset, Removes}
+
+-- the numbers below a bound
+abbrev below : ℕ → List ℕ
+below zero = []
+below (suc n) = n ∷ below n
+
+below_has : (n v : ℕ) → v < n → Has (below n) v
+below_has zero v lt = absurd (omega (arith, lt))
+below_has (suc n) v lt = elim (either_nat n v) [ inl e ↦ inl e | inr ne ↦ inr (below_has n v (less n v lt ne)) ]
+  where
+    less : (n v : ℕ) → v < suc n → n ≢ v → v < n
+    less n v lt ne = grind (arith, lt, ne)
+
+below_length : (n : ℕ) → length (below n) ≡ n
+below_length zero = refl
+below_length (suc n) = ap suc (below_length n)
+
+-- distinct numbers below a bound are at most so many
+pub few_below : (n : ℕ) (xs : List ℕ) → Distinct xs → AllIn (λ v. v < n) xs → length xs ≤ n
+few_below n xs d within = subst (λ m. length xs ≤ m) (below_length n) (distinct_within xs (below n) d (all_map _ _ xs (λ v lt. below_has n v lt) within))
+
+-- and less where one is missing
+pub fewer_below : (n : ℕ) (xs : List ℕ) (v : ℕ) → Distinct xs → AllIn (λ u. u < n) xs → v < n → ¬ (Has xs v) → length xs < n
+fewer_below n xs v d within lt absent = more (length xs) (few_below n (v ∷ xs) (all_put _ xs (λ u h e. absent (subst (Has xs) (sym e) h)), d) (lt, within))
+  where
+    more : (m : ℕ) → suc m ≤ n → m < n
+    more m le = omega (arith, le)
+
+-- lists in which one item is replaced
+
+all_set : {A : Type 0} (P : A → Type 0) (xs : List A) (i : ℕ) (y : A) → AllIn P xs → P y → AllIn P (set xs i y)
+all_set P [] i y all p = tt
+all_set P (x ∷ xs) zero y all p = (p, all.1)
+all_set P (x ∷ xs) (suc i) y all p = (all.0, all_set P xs i y all.1 p)
+
+distinct_set : (xs : List ℕ) (i y : ℕ) → Distinct xs → ¬ (Has xs y) → Distinct (set xs i y)
+distinct_set [] i y d n = tt
+distinct_set (x ∷ xs) zero y d n = (all_put _ xs (λ u h e. n (inr (subst (Has xs) (sym e) h))), d.1)
+distinct_set (x ∷ xs) (suc i) y d n = (all_set _ xs i y d.0 (λ e. n (inl e)), distinct_set xs i y d.1 (λ h. n (inr h)))
+
+-- what stands in it is the new item, or stood elsewhere
+set_has : {A : Type 0} (xs : List A) (i : ℕ) (y z : A) → Has (set xs i y) z → (y ≡ z) ⊎ (j : ℕ) × (j ≢ i) × (slice_get xs j ≡ Some z)
+set_has [] i y z h = absurd h
+set_has (x ∷ xs) zero y z (inl e) = inl e
+set_has (x ∷ xs) zero y z (inr h) = let p : (j : ℕ) × (slice_get xs j ≡ Some z) = place_of xs z h in inr (suc p.0, apart p.0, p.1)
+  where
+    apart : (j : ℕ) → suc j ≢ zero
+    apart j e = omega (arith, e)
+set_has (x ∷ xs) (suc i) y z (inl e) = inr (zero, apart, ap Some e)
+  where
+    apart : zero ≢ suc i
+    apart e = omega (arith, e)
+set_has (x ∷ xs) (suc i) y z (inr h) = elim (set_has xs i y z h) [ inl e ↦ inl e | inr r ↦ inr (suc r.0, (λ e. r.1 (same r.0 e)), r.2) ]
+  where
+    same : (j : ℕ) → suc j ≡ suc i → j ≡ i
+    same j e = omega (arith, e)
+
+set_here : {A : Type 0} (xs : List A) (i : ℕ) (x y : A) → slice_get xs i ≡ Some x → slice_get (set xs i y) i ≡ Some y
+set_here [] i x y e = cc
+set_here (z ∷ xs) zero x y e = refl
+set_here (z ∷ xs) (suc i) x y e = set_here xs i x y e
+
+set_beside : {A : Type 0} (xs : List A) (i j : ℕ) (y : A) → j ≢ i → slice_get (set xs i y) j ≡ slice_get xs j
+set_beside [] i j y ne = refl
+set_beside (z ∷ xs) zero zero y ne = absurd (ne refl)
+set_beside (z ∷ xs) zero (suc j) y ne = refl
+set_beside (z ∷ xs) (suc i) zero y ne = refl
+set_beside (z ∷ xs) (suc i) (suc j) y ne = set_beside xs i j y (λ e. ne (ap suc e))
+
+last_place : {A : Type 0} (xs : List A) (x : A) → slice_get (xs ++ x ∷ []) (length xs) ≡ Some x
+last_place [] x = refl
+last_place (y ∷ ys) x = last_place ys x
+
+one_place : (xs : List ℕ) (i j v : ℕ) → Distinct xs → slice_get xs i ≡ Some v → slice_get xs j ≡ Some v → i ≡ j
+one_place [] i j v d e f = cc
+one_place (x ∷ xs) zero zero v d e f = refl
+one_place (x ∷ xs) zero (suc j) v d e f = let s : x ≡ v = cc in absurd (all_get _ xs d.0 v (has_place xs j v f) s)
+one_place (x ∷ xs) (suc i) zero v d e f = let s : x ≡ v = cc in absurd (all_get _ xs d.0 v (has_place xs i v e) s)
+one_place (x ∷ xs) (suc i) (suc j) v d e f = ap suc (one_place xs i j v d.1 e f)
+
+same_some : {A : Type 0} {x y : A} → Some x ≡ Some y → x ≡ y
+same_some e = cc
+
+-- a test of a place
+pub none_of_test : {A : Type 0} (place : Option A) (b : Bool) → is_some place ≡ not b → b ≡ true → place ≡ None
+none_of_test None b e t = refl
+none_of_test (Some x) b e t = let n : true ≡ not true = e ∙ ap not t in cc
+
+pub some_of_test : {A : Type 0} (place : Option A) (b : Bool) → is_some place ≡ not b → b ≡ false → (x : A) × (place ≡ Some x)
+some_of_test None b e t = let n : false ≡ not false = e ∙ ap not t in cc
+some_of_test (Some x) b e t = (x, refl)
+
+-- more room serves as well
+pub subset_room : (items : List ℕ) (places : List (Option ℕ)) (less more : ℕ) → less ≤ more → IsSubset items places less → IsSubset items places more
+subset_room items places less more le s = record { fits = join _ _ _ s.fits le; once = s.once; within = s.within; placed = s.placed }
+  where
+    join : (a b c : ℕ) → a ≤ b → b ≤ c → a ≤ c
+    join a b c e f = omega (arith, e, f)
+
+-- a higher bound by one
+pub subset_reached : (items : List ℕ) (places : List (Option ℕ)) (less more : ℕ) → IsSubset items places less → length places + 1 ≤ more → IsSubset items (places ++ None ∷ []) more
+subset_reached items places less more s le = record {
+  fits = subst (λ n. n ≤ more) (sym (length-append places (None ∷ []))) le;
+  once = s.once;
+  within = all_map _ _ items (λ v lt. subst (λ n. v < n) (sym (length-append places (None ∷ []))) (grown v lt)) s.within;
+  placed = λ v lt. at v (subst (λ n. v < n) (length-append places (None ∷ [])) lt) (either_nat v (length places));
+}
+  where
+    grown : (v : ℕ) → v < length places → v < length places + 1
+    grown v lt = omega (arith, lt)
+
+    at : (v : ℕ) → v < length places + 1 → (v ≡ length places) ⊎ ¬ (v ≡ length places) → StandsAtPlace items v (get_or (places ++ None ∷ []) v None)
+    at v lt (inl e) = subst (λ v. StandsAtPlace items v (get_or (places ++ None ∷ []) v None)) (sym e) (subst (StandsAtPlace items (length places)) (sym (get_seam_or places)) (λ h. above (all_get _ items s.within (length places) h)))
+      where
+        above : length places < length places → ⊥
+        above lt = omega (arith, lt)
+
+        get_seam_or : (ps : List (Option ℕ)) → get_or (ps ++ None ∷ []) (length ps) None ≡ None
+        get_seam_or [] = refl
+        get_seam_or (p ∷ ps) = get_seam_or ps
+    at v lt (inr ne) = subst (StandsAtPlace items v) (sym (get_or-append places (None ∷ []) None v (below_it v lt ne))) (s.placed v (below_it v lt ne))
+      where
+        below_it : (v : ℕ) → v < length places + 1 → ¬ (v ≡ length places) → v < length places
+        below_it v lt ne = grind (arith, lt, ne)
+
+module _ (items : List ℕ) (places : List (Option ℕ)) (room : ℕ) (s : IsSubset items places room) (number : ℕ) (lt : number < length places) where
+  -- whether a number is one of them is seen by its place
+
+  pub placed_has : (place : ℕ) → get_or places number None ≡ Some place → Has items number
+  placed_has place e = has_place items place number (subst (StandsAtPlace items number) e (s.placed number lt))
+
+  pub unplaced_absent : get_or places number None ≡ None → ¬ (Has items number)
+  unplaced_absent e = subst (StandsAtPlace items number) e (s.placed number lt)
+
+  -- so the test of a place tells it
+  pub has_placed : (place : Option ℕ) → get_or places number None ≡ place → IsTrue (is_some place) ↔ Has items number
+  has_placed None e = (λ b. absurd (true≢false (sym b)), λ h. absurd (unplaced_absent e h))
+  has_placed (Some p) e = (λ b. placed_has p e, λ h. refl)
+
+  -- a number is put in, for which there is room
+
+  pub room_for : get_or places number None ≡ None → length items < room
+  room_for e = less _ _ _ (fewer_below (length places) items number s.once s.within lt (unplaced_absent e)) s.fits
+    where
+      less : (a b c : ℕ) → a < b → b ≤ c → a < c
+      less a b c e f = omega (arith, e, f)
+
+  pub subset_added : get_or places number None ≡ None → IsSubset (items ++ number ∷ []) (set places number (Some (length items))) room
+  subset_added e = record {
+    fits = subst (λ n. n ≤ room) (sym (length-set places number (Some (length items)))) s.fits;
+    once = distinct_push items number s.once (unplaced_absent e);
+    within = subst (λ n. AllIn (λ v. v < n) (items ++ number ∷ [])) (sym (length-set places number (Some (length items)))) (all_append _ items (number ∷ []) s.within (lt, tt));
+    placed = λ n ln. at n (subst (λ m. n < m) (length-set places number (Some (length items))) ln) (either_nat n number);
+  }
+    where
+      longer : (n : ℕ) → n ≢ number → (place : Option ℕ) → StandsAtPlace items n place → StandsAtPlace (items ++ number ∷ []) n place
+      longer n ne None p = λ h. elim (has_more items number n h) [ inl o ↦ p o | inr f ↦ ne (sym f) ]
+      longer n ne (Some place) p = place_in_longer items (number ∷ []) place n p
+
+      at : (n : ℕ) → n < length places → (n ≡ number) ⊎ ¬ (n ≡ number) → StandsAtPlace (items ++ number ∷ []) n (get_or (set places number (Some (length items))) n None)
+      at n ln (inl f) = subst (λ n. StandsAtPlace (items ++ number ∷ []) n (get_or (set places number (Some (length items))) n None)) (sym f)
+          (subst (StandsAtPlace (items ++ number ∷ []) number) (sym (get_or-set_same places number (Some (length items)) None lt)) (last_place items number))
+      at n ln (inr ne) = subst (StandsAtPlace (items ++ number ∷ []) n) (sym (get_or-set_other places number n (Some (length items)) None ne)) (longer n ne (get_or places n None) (s.placed n ln))
+
+  pub added : (bound : ℕ) → PutsIn number (record { bound = bound; items = items }) (record { bound = bound; items = items ++ number ∷ [] })
+  added bound = record {
+    bound = refl;
+    members = λ n. (
+      λ h. elim (has_more items number n h) [ inl o ↦ inl o | inr e ↦ inr (sym e) ],
+      λ o. elim o [ inl h ↦ has_longer items (number ∷ []) n h | inr e ↦ subst (Has (items ++ number ∷ [])) (sym e) (has_last items number) ],
+    );
+  }
+
+  -- the bound told otherwise
+  pub added_at : (bound later : ℕ) → later ≡ bound → PutsIn number (record { bound = bound; items = items }) (record { bound = later; items = items ++ number ∷ [] })
+  added_at bound later e = record { bound = e; members = (added bound).members }
+
+  -- a number that is there stays
+  pub added_already : (place : ℕ) → get_or places number None ≡ Some place → (bound : ℕ) → PutsIn number (record { bound = bound; items = items }) (record { bound = bound; items = items })
+  added_already place e bound = record { bound = refl; members = λ n. (λ h. inl h, λ o. elim o [ inl h ↦ h | inr f ↦ subst (Has items) (sym f) (placed_has place e) ]) }
+
+  -- a number is taken out that was the last one
+  module _ (front : List ℕ) (is : items ≡ front ++ number ∷ []) where
+    once_front : Distinct (front ++ number ∷ [])
+    once_front = subst Distinct is s.once
+
+    absent_front : ¬ (Has front number)
+    absent_front h = each_across _ front (number ∷ []) number number once_front h (inl refl) refl
+
+    pub subset_removed_last : IsSubset front (set places number None) room
+    subset_removed_last = record {
+      fits = subst (λ n. n ≤ room) (sym (length-set places number None)) s.fits;
+      once = each_append_left _ front (number ∷ []) once_front;
+      within = subst (λ n. AllIn (λ v. v < n) front) (sym (length-set places number None)) (all_append_left _ front (number ∷ []) (subst (AllIn (λ v. v < length places)) is s.within));
+      placed = λ n ln. at n (subst (λ m. n < m) (length-set places number None) ln) (either_nat n number);
+    }
+      where
+        shorter : (n : ℕ) → n ≢ number → (place : Option ℕ) → StandsAtPlace (front ++ number ∷ []) n place → StandsAtPlace front n place
+        shorter n ne None p = λ h. p (has_longer front (number ∷ []) n h)
+        shorter n ne (Some place) p = elim (place_in_more front number place n p) [ inl o ↦ o | inr f ↦ absurd (ne (sym f.1)) ]
+
+        at : (n : ℕ) → n < length places → (n ≡ number) ⊎ ¬ (n ≡ number) → StandsAtPlace front n (get_or (set places number None) n None)
+        at n ln (inl f) = subst (λ n. StandsAtPlace front n (get_or (set places number None) n None)) (sym f) (subst (StandsAtPlace front number) (sym (get_or-set_same places number None None lt)) absent_front)
+        at n ln (inr ne) = subst (StandsAtPlace front n) (sym (get_or-set_other places number n None None ne)) (shorter n ne (get_or places n None) (subst (λ l. StandsAtPlace l n (get_or places n None)) is (s.placed n ln)))
+
+    pub removed_last : (bound : ℕ) → Removes number (record { bound = bound; items = items }) (record { bound = bound; items = front })
+    removed_last bound = record {
+      bound = refl;
+      members = λ n. (
+        λ h. (subst (λ l. Has l n) (sym is) (has_longer front (number ∷ []) n h), λ e. absent_front (subst (Has front) e h)),
+        λ o. elim (has_more front number n (subst (λ l. Has l n) is o.0)) [ inl h ↦ h | inr e ↦ absurd (o.1 (sym e)) ],
+      );
+    }
+
+    pub removed_last_at : (bound later : ℕ) → later ≡ bound → Removes number (record { bound = bound; items = items }) (record { bound = later; items = front })
+    removed_last_at bound later e = record { bound = e; members = (removed_last bound).members }
+
+  -- a number is taken out, and the last one put in its place
+  module _ (front : List ℕ) (last place : ℕ) (is : items ≡ front ++ last ∷ []) (other : last ≢ number) (at_place : get_or places number None ≡ Some place) where
+    once_all : Distinct (front ++ last ∷ [])
+    once_all = subst Distinct is s.once
+
+    pub at_front : slice_get front place ≡ Some number
+    at_front = elim (place_in_more front last place number (subst (λ l. slice_get l place ≡ Some number) is (subst (StandsAtPlace items number) at_place (s.placed number lt)))) [ inl o ↦ o | inr f ↦ absurd (other f.1) ]
+
+    once_in_front : Distinct front
+    once_in_front = each_append_left _ front (last ∷ []) once_all
+
+    last_absent : ¬ (Has front last)
+    last_absent h = each_across _ front (last ∷ []) last last once_all h (inl refl) refl
+
+    pub last_within : last < length places
+    last_within = all_get _ items s.within last (subst (λ l. Has l last) (sym is) (has_last front last))
+
+    number_gone : ¬ (Has (set front place last) number)
+    number_gone h = elim (set_has front place last number h) [ inl e ↦ other e | inr r ↦ r.1 (one_place front r.0 place number once_in_front r.2 at_front) ]
+
+    pub subset_removed : IsSubset (set front place last) (set (set places last (Some place)) number None) room
+    subset_removed = record {
+      fits = subst (λ n. n ≤ room) (sym size) s.fits;
+      once = distinct_set front place last once_in_front last_absent;
+      within = subst (λ n. AllIn (λ v. v < n) (set front place last)) (sym size) (all_set _ front place last (all_append_left _ front (last ∷ []) (subst (AllIn (λ v. v < length places)) is s.within)) last_within);
+      placed = λ n ln. at n (subst (λ m. n < m) size ln) (either_nat n number) (either_nat n last);
+    }
+      where
+        size : length (set (set places last (Some place)) number None) ≡ length places
+        size = length-set (set places last (Some place)) number None ∙ length-set places last (Some place)
+
+        beside : (n : ℕ) → n ≢ number → n ≢ last → (p : Option ℕ) → StandsAtPlace (front ++ last ∷ []) n p → StandsAtPlace (set front place last) n p
+        beside n ne nl None p = λ h. elim (set_has front place last n h) [
+          | inl e ↦ nl (sym e)
+          | inr r ↦ p (has_longer front (last ∷ []) n (has_place front r.0 n r.2))
+        ]
+        beside n ne nl (Some q) p = set_beside front place q last (λ e. ne (same_some (sym in_front ∙ ap (slice_get front) e ∙ at_front))) ∙ in_front
+          where
+            in_front : slice_get front q ≡ Some n
+            in_front = elim (place_in_more front last q n p) [ inl o ↦ o | inr f ↦ absurd (nl (sym f.1)) ]
+
+        at : (n : ℕ) → n < length places → (n ≡ number) ⊎ ¬ (n ≡ number) → (n ≡ last) ⊎ ¬ (n ≡ last) → StandsAtPlace (set front place last) n (get_or (set (set places last (Some place)) number None) n None)
+        at n ln (inl f) l = subst (λ n. StandsAtPlace (set front place last) n (get_or (set (set places last (Some place)) number None) n None)) (sym f)
+            (subst (StandsAtPlace (set front place last) number) (sym (get_or-set_same (set places last (Some place)) number None None (subst (λ m. number < m) (sym (length-set places last (Some place))) lt))) number_gone)
+        at n ln (inr ne) (inl l) = subst (StandsAtPlace (set front place last) n) (sym (get_or-set_other (set places last (Some place)) number n None None ne))
+            (subst (λ n. StandsAtPlace (set front place last) n (get_or (set places last (Some place)) n None)) (sym l)
+            (subst (StandsAtPlace (set front place last) last) (sym (get_or-set_same places last (Some place) None last_within)) (set_here front place number last at_front)))
+        at n ln (inr ne) (inr nl) = subst (StandsAtPlace (set front place last) n) (sym (get_or-set_other (set places last (Some place)) number n None None ne ∙ get_or-set_other places last n (Some place) None nl))
+            (beside n ne nl (get_or places n None) (subst (λ l. StandsAtPlace l n (get_or places n None)) is (s.placed n ln)))
+
+    pub removed : (bound : ℕ) → Removes number (record { bound = bound; items = items }) (record { bound = bound; items = set front place last })
+    removed bound = record {
+      bound = refl;
+      members = λ n. (
+        λ h. (
+          elim (set_has front place last n h) [
+            | inl e ↦ subst (λ l. Has l n) (sym is) (subst (Has (front ++ last ∷ [])) e (has_last front last))
+            | inr r ↦ subst (λ l. Has l n) (sym is) (has_longer front (last ∷ []) n (has_place front r.0 n r.2))
+          ],
+          λ e. number_gone (subst (Has (set front place last)) e h),
+        ),
+        λ o. elim (has_more front last n (subst (λ l. Has l n) is o.0)) [
+          | inl h ↦
+              let p : (i : ℕ) × (slice_get front i ≡ Some n) = place_of front n h in
+              has_place (set front place last) p.0 n (set_beside front place p.0 last (λ e. o.1 (same_some (sym p.1 ∙ ap (slice_get front) e ∙ at_front))) ∙ p.1)
+          | inr e ↦ subst (Has (set front place last)) e (has_place (set front place last) place last (set_here front place number last at_front))
+        ],
+      );
+    }
+
+    pub removed_at : (bound later : ℕ) → later ≡ bound → Removes number (record { bound = bound; items = items }) (record { bound = later; items = set front place last })
+    removed_at bound later e = record { bound = e; members = (removed bound).members }
+
+-- where something stands the list isn't empty
+pub not_empty : {A : Type 0} (xs : List A) (x : A) → Has xs x → length xs ≡ 0 → ⊥
+not_empty [] x h e = h
+not_empty (y ∷ ys) x h e = omega (arith, e)

@@ -1,0 +1,35 @@
+use Rattle.std.proofs.Common.{◌≡◌, ◌<◌, ◌∙◌, None, Some, get_or, length, vec_capacity, subst, sym, ap, arith}
+use Rattle.std.proofs.lemmas.List.{get_or_read, length-set}
+use Rattle.dt_graph.proofs.Subsets.{added_already, added_at, none_of_test, room_for, some_of_test, subset_added, subset_room}
+use Rattle.dt_graph.proofs.subset.Subset.add.Goals as goal
+
+pub push_reserved-requires : goal.push_reserved-requires
+push_reserved-requires c =
+    let s = c.self.inside in
+    let lt : c.args.number < length s.places.items = omega (arith, c.requires, ap (λ x. x.bound) c.self.view_is) in
+    let none : get_or s.places.items c.args.number None ≡ None = sym (get_or_read s.places.items c.args.number _ lt c.index.ensures None) ∙ none_of_test _ _ c.is_none.ensures c.if-is_none.true in
+    let room : length s.items.items < vec_capacity s.items = room_for s.items.items s.places.items (vec_capacity s.items) c.self.invariant c.args.number lt none in
+    omega (arith, room, s.items.ok.0)
+
+pub invariant_of-self : goal.invariant_of-self
+invariant_of-self c =
+    let s = c.self.inside in
+    let lt : c.args.number < length s.places.items = omega (arith, c.requires, ap (λ x. x.bound) c.self.view_is) in
+    let none : get_or s.places.items c.args.number None ≡ None = sym (get_or_read s.places.items c.args.number _ lt c.index.ensures None) ∙ none_of_test _ _ c.is_none.ensures c.if-is_none.true in
+    rw (c.push_reserved.ensures.added, c.len.ensures, s.items.ok.0)
+    (subset_room _ _ _ _ c.push_reserved.ensures.room (subset_added s.items.items s.places.items (vec_capacity s.items) c.self.invariant c.args.number lt none))
+
+pub returns-then-is_none : goal.returns-then-is_none
+returns-then-is_none c =
+    let s = c.self.inside in
+    let lt : c.args.number < length s.places.items = omega (arith, c.requires, ap (λ x. x.bound) c.self.view_is) in
+    rw (← c.self.view_is, c.push_reserved.ensures.added)
+    (added_at s.items.items s.places.items (vec_capacity s.items) c.self.invariant c.args.number lt (length s.places.items) _ (length-set s.places.items c.args.number (Some c.len.result)))
+
+pub returns-else-is_none : goal.returns-else-is_none
+returns-else-is_none c =
+    let s = c.self.inside in
+    let lt : c.args.number < length s.places.items = omega (arith, c.requires, ap (λ x. x.bound) c.self.view_is) in
+    let at = some_of_test c.index.result.now _ c.is_none.ensures c.if-is_none.false in
+    rw (← c.self.view_is)
+    (added_already s.items.items s.places.items (vec_capacity s.items) c.self.invariant c.args.number lt at.0 (sym (get_or_read s.places.items c.args.number _ lt c.index.ensures None) ∙ at.1) (length s.places.items))

@@ -1,0 +1,22 @@
+use Rattle.std.proofs.Common.{◌≡◌, ◌≤◌, ◌+◌, ◌∙◌, length, vec_capacity, subst, sym, ap, arith}
+use Rattle.std.proofs.lemmas.List.{length-append}
+use Rattle.dt_graph.proofs.Subsets.{few_below, subset_reached}
+use Rattle.dt_graph.proofs.subset.Subset.reach.Goals as goal
+
+pub overflow_sub-len : goal.overflow_sub-len
+overflow_sub-len c =
+    let i = c.loop-self.self-inside in
+    let few : length i.items.items ≤ length i.places.items = few_below (length i.places.items) i.items.items c.loop-self.invariant.kept.once c.loop-self.invariant.kept.within in
+    omega (arith, few, c.len-in-loop-self.ensures, c.len-in-loop-self-2.ensures, i.items.ok.0, i.places.ok.0)
+
+pub loop-self-preserved : goal.loop-self-preserved
+loop-self-preserved c =
+    let i = c.loop-self.self-inside in
+    let k = c.loop-self.invariant in
+    let few : length i.items.items ≤ length i.places.items = few_below (length i.places.items) i.items.items k.kept.once k.kept.within in
+    let room : length i.places.items + 1 ≤ vec_capacity c.reserve.new.self = omega (arith, few, c.in_ok-reserve.ensures.ok, c.len-in-loop-self.ensures, c.len-in-loop-self-2.ensures, i.items.ok.0, i.places.ok.0) in
+    record {
+      kept = rw (c.in_ok-reserve.ensures.items, c.in_ok-push.ensures.items) (subset_reached i.items.items i.places.items (vec_capacity i.items) (vec_capacity c.reserve.new.self) k.kept room);
+      same = c.in_ok-reserve.ensures.items ∙ k.same;
+      grown = rw (c.in_ok-push.ensures.items, length-append i.places.items _) (omega (arith, k.grown));
+    }

@@ -1,0 +1,9 @@
+pub mod Left
+pub mod Waits
+pub mod QueueSchedView
+pub mod Graph
+pub mod Steps
+pub mod Among
+pub mod Subset
+pub mod Names
+pub mod Held

@@ -1,0 +1,92 @@
+ghost use Rattle.std.specs.Prelude.{◌≡◌, ◌<◌, ◌^◌, IfOk, OnOk, length};
+ghost use Rattle.dt_lists.specs.Lists.{AllIn, Distinct};
+ghost use Rattle.dt_queue.specs.Queues.{HasDistinctSlots, IsWaiting};
+ghost use Rattle.dt_graph.specs.Among.{IsAmong, IsSourceAt, IsSourceOf, Links};
+ghost use Rattle.dt_graph.specs.Steps.{HaveSlots};
+
+use crate::group::Group;
+use crate::vertex::Vertex;
+use dt_class::Adj;
+use dt_queue::Queues;
+use dt_text::NoMemory;
+use std::alloc::Global;
+
+/// What vertices wait for among themselves, by their places in a list, and which of them wait for others too.
+#[derive(Drop)]
+pub struct Among {
+    pub graph: Adj,
+    pub blocked: Vec<u32>,
+}
+
+/// PutsIn the edges from the neighbours of the entry at a slot to the vertex at a place, and tells whether some neighbour is
+/// none of the group.
+fn link_slot(
+    alloc: Global,
+    queues: &Queues,
+    slot: usize,
+    group: &Group,
+    place: u32,
+    graph: &mut Adj,
+) -> Result<bool, NoMemory>
+    requires waits { IsWaiting queues.now slot }
+    requires place { place < graph.old.vertices }
+    requires size { graph.old.vertices ≡ length group.now }
+    ensures { IfOk result (Links (IsSourceOf queues.now slot) group.now place graph.old graph.new) }
+{
+    let mut blocked = false;
+    for neighbour in queues.neighbours(alloc, slot)? {
+        match group.place_of(neighbour) {
+            Some(source) => graph.edge(source, place)?,
+            None => blocked = true,
+        }
+    }
+    Ok(blocked)
+}
+
+/// PutsIn the edges into the vertex at a place, and tells whether it waits for some that is none of the group.
+fn link(
+    alloc: Global,
+    queues: &Queues,
+    slots: &[usize],
+    group: &Group,
+    place: u32,
+    graph: &mut Adj,
+) -> Result<bool, NoMemory>
+    requires waits { AllIn (IsWaiting queues.now) slots.now }
+    requires place { place < graph.old.vertices }
+    requires size { graph.old.vertices ≡ length group.now }
+    ensures { IfOk result (Links (IsSourceAt queues.now slots.now) group.now place graph.old graph.new) }
+{
+    let mut blocked = false;
+    for slot in slots {
+        if link_slot(alloc, queues, *slot, group, place, graph)? {
+            blocked = true;
+        }
+    }
+    Ok(blocked)
+}
+
+/// What the vertices of a list wait for.
+pub fn gather(
+    alloc: Global,
+    queues: &Queues,
+    vertices: &[Vertex],
+    list: &[u32],
+) -> Result<Among, NoMemory>
+    requires distinct { HasDistinctSlots queues.now }
+    requires once { Distinct list.now }
+    requires few { length list.now < 2 ^ 32 }
+    requires slots { HaveSlots queues.now vertices.now list.now }
+    ensures { IfOk result (λ among. IsAmong queues.now list.now among.graph among.blocked.items) }
+{
+    let group = Group::of(alloc, list)?;
+    let mut graph = Adj::new(alloc, list.len() as u32)?;
+    let mut blocked = Vec::new(alloc);
+    for (place, vertex) in list.iter().enumerate() {
+        let slots = vertices[*vertex as usize].slots.as_slice();
+        if link(alloc, queues, slots, &group, place as u32, &mut graph)? {
+            blocked.push(place as u32)?;
+        }
+    }
+    Ok(Among { graph, blocked })
+}

@@ -1,0 +1,129 @@
+ghost use Rattle.std.specs.Prelude.{◌≡◌, ◌≤◌, ◌<◌, ℕ, not, filter, get_or, length};
+ghost use Rattle.dt_lists.specs.Lists.{Distinct};
+ghost use Rattle.dt_queue.specs.Queues.{HasDistinctSlots, IsWaiting};
+ghost use Rattle.dt_graph.specs.Steps.{AreEntriesBelow, AreLowered, IsFollowedAt, HaveSlots, Wakes};
+ghost use Rattle.dt_graph.specs.Waits.{IsFollowed, is_leaving, lowered, lowered_by};
+
+use crate::subset::Subset;
+use crate::vertex::Vertex;
+use dt_queue::Queues;
+
+/// Lowers the degrees of the followers of the entry at a slot of a vertex, but not its own.
+fn lower_followers(queues: &Queues, slot: usize, vertex: u32, degrees: &mut [usize])
+    requires waits { IsWaiting queues.now slot }
+    requires distinct { HasDistinctSlots queues.now }
+    requires below { AreEntriesBelow (length degrees.old) queues.now }
+    requires enough { (v : ℕ) → v < length degrees.old → lowered queues.now slot vertex v ≤ get_or degrees.old v 0 }
+    ensures { AreLowered (lowered queues.now slot vertex) degrees.old degrees.new }
+{
+    let mut place = slot;
+    while let Some(follower) = queues.follower_after(slot, place) {
+        if follower.vertex != vertex {
+            degrees[follower.vertex as usize] -= 1;
+        }
+        place = follower.slot;
+    }
+}
+
+/// Lowers the degrees of the followers of all entries of the vertices.
+fn lower_all(queues: &Queues, vertices: &[Vertex], leaving: &[u32], degrees: &mut [usize])
+    requires distinct { HasDistinctSlots queues.now }
+    requires slots { HaveSlots queues.now vertices.now leaving.now }
+    requires below { AreEntriesBelow (length degrees.old) queues.now }
+    requires enough { (v : ℕ) → v < length degrees.old → lowered_by queues.now leaving.now v ≤ get_or degrees.old v 0 }
+    ensures { AreLowered (lowered_by queues.now leaving.now) degrees.old degrees.new }
+{
+    for vertex in leaving {
+        for slot in vertices[*vertex as usize].slots.as_slice() {
+            lower_followers(queues, *slot, *vertex, degrees);
+        }
+    }
+}
+
+/// Of the followers of the entry at a slot, those that are stuck and have come to degree 0 are ready.
+fn wake_followers(
+    queues: &Queues,
+    slot: usize,
+    degrees: &[usize],
+    stuck: &mut Subset,
+    ready: &mut Subset,
+)
+    requires waits { IsWaiting queues.now slot }
+    requires distinct { HasDistinctSlots queues.now }
+    requires below { AreEntriesBelow (length degrees.now) queues.now }
+    requires stuck_bound { length degrees.now ≤ stuck.old.bound }
+    requires ready_bound { length degrees.now ≤ ready.old.bound }
+    ensures { Wakes (IsFollowedAt queues.now slot) degrees.now stuck.old ready.old stuck.new ready.new }
+{
+    let mut place = slot;
+    while let Some(follower) = queues.follower_after(slot, place) {
+        if degrees[follower.vertex as usize] == 0 && stuck.has(follower.vertex) {
+            stuck.remove(follower.vertex);
+            ready.add(follower.vertex);
+        }
+        place = follower.slot;
+    }
+}
+
+/// Of the followers of all entries of the vertices, those that are stuck and have come to degree 0 are ready.
+fn wake_all(
+    queues: &Queues,
+    vertices: &[Vertex],
+    leaving: &[u32],
+    degrees: &[usize],
+    stuck: &mut Subset,
+    ready: &mut Subset,
+)
+    requires distinct { HasDistinctSlots queues.now }
+    requires slots { HaveSlots queues.now vertices.now leaving.now }
+    requires below { AreEntriesBelow (length degrees.now) queues.now }
+    requires stuck_bound { length degrees.now ≤ stuck.old.bound }
+    requires ready_bound { length degrees.now ≤ ready.old.bound }
+    ensures { Wakes (IsFollowed queues.now leaving.now) degrees.now stuck.old ready.old stuck.new ready.new }
+{
+    for vertex in leaving {
+        for slot in vertices[*vertex as usize].slots.as_slice() {
+            wake_followers(queues, *slot, degrees, stuck, ready);
+        }
+    }
+}
+
+/// Takes all entries of the vertices out of the queues.
+fn remove_all(queues: &mut Queues, vertices: &[Vertex], leaving: &[u32])
+    requires distinct { HasDistinctSlots queues.old }
+    requires once { Distinct leaving.now }
+    requires slots { HaveSlots queues.old vertices.now leaving.now }
+    ensures { queues.new ≡ filter (λ w. not (is_leaving leaving.now w.vertex)) queues.old }
+{
+    for vertex in leaving {
+        for slot in vertices[*vertex as usize].slots.as_slice() {
+            queues.remove(*slot);
+        }
+    }
+}
+
+/// Lets vertices leave together: first all degrees are lowered, and only then the entries taken out, since what an entry
+/// follows is told by all that stand before it.
+pub fn leave(
+    queues: &mut Queues,
+    vertices: &[Vertex],
+    leaving: &[u32],
+    degrees: &mut [usize],
+    stuck: &mut Subset,
+    ready: &mut Subset,
+)
+    requires distinct { HasDistinctSlots queues.old }
+    requires once { Distinct leaving.now }
+    requires slots { HaveSlots queues.old vertices.now leaving.now }
+    requires below { AreEntriesBelow (length degrees.old) queues.old }
+    requires enough { (v : ℕ) → v < length degrees.old → lowered_by queues.old leaving.now v ≤ get_or degrees.old v 0 }
+    requires stuck_bound { length degrees.old ≤ stuck.old.bound }
+    requires ready_bound { length degrees.old ≤ ready.old.bound }
+    ensures lowered { AreLowered (lowered_by queues.old leaving.now) degrees.old degrees.new }
+    ensures woken { Wakes (IsFollowed queues.old leaving.now) degrees.new stuck.old ready.old stuck.new ready.new }
+    ensures removed { queues.new ≡ filter (λ w. not (is_leaving leaving.now w.vertex)) queues.old }
+{
+    lower_all(queues, vertices, leaving, degrees);
+    wake_all(queues, vertices, leaving, degrees, stuck, ready);
+    remove_all(queues, vertices, leaving);
+}
