@@ -1,18 +1,17 @@
 -- Every so many numbers: when a number is the last of so many, and that of two numbers in a row one is not.
-use Rattle.std.proofs.Common.{◌≡◌, ◌≢◌, ℕ, ◌+◌, ◌-◌, ◌%◌, ◌<◌, ◌≤◌, ◌==◌, Bool, true, subst, sym, arith}
-use Rattle.std.specs.Prelude.{IsTrue, ◌↔◌}
+use Rattle.std.proofs.Common.{◌≡◌, ◌∙◌, ◌↔◌, IsTrue, ℕ, ◌+◌, ◌-◌, ◌%◌, ◌<◌, ◌≤◌, nat_eq, ap, subst, sym, arith}
 use Rattle.std.specs.Int.{◌∣◌}
+use Rattle.std.proofs.lemmas.Bool.{eq-eqb, eqb-true}
 use Rattle.std.proofs.Math.Nat.{dvd_of_mod-eq-zero, mod-eq-zero_of_dvd, dvd-sub, eq-one_of_dvd-one}
 use Rattle.dt_lists.specs.Lists.{Either}
 use Rattle.dt_lists.proofs.Callers.{either_and, either_le, either_nat, either_same}
 use Rattle.dt_packet.specs.Loss.{IsEvery}
 
--- a number is the last of so many where nothing is left over
-pub every_of_rest : (step n : ℕ) → 0 < step → n % step ≡ 0 → IsEvery step n
-every_of_rest step n above none = (above, dvd_of_mod-eq-zero step none)
-
-pub rest_of_every : (step n : ℕ) → IsEvery step n → n % step ≡ 0
-rest_of_every step n every = mod-eq-zero_of_dvd step every.1
+-- a number is the last of so many just where nothing is left over
+pub told_by_rest : (step n by : ℕ) → 0 < step → by ≡ step → IsTrue (nat_eq (n % by) 0) ↔ IsEvery step n
+told_by_rest step n by above same =
+    let rest : n % by ≡ n % step = ap (λ m. n % m) same in
+    (λ none. (above, dvd_of_mod-eq-zero step (sym rest ∙ eqb-true (n % by) 0 none)), λ every. eq-eqb (n % by) 0 (rest ∙ mod-eq-zero_of_dvd step every.1))
 
 -- whether a number is the last of so many is decided
 pub either_every : (step n : ℕ) → Either (IsEvery step n)

@@ -1,5 +1,5 @@
 -- Each packet has one verdict, and of two packets in a row at least one is put.
-use Rattle.std.proofs.Common.{◌≡◌, ◌≢◌, ℕ, ◌+◌, ◌⊎◌, inl, inr, refl}
+use Rattle.std.proofs.Common.{◌≡◌, ℕ, inl, inr, refl}
 use Rattle.dt_lists.specs.Lists.{Either}
 use Rattle.dt_packet.specs.declared.loss.LossPlan.{LossPlan}
 use Rattle.dt_packet.specs.declared.loss.Verdict.{Verdict}
