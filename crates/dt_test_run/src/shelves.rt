@@ -78,12 +78,18 @@ fn what_is_put_is_taken_in_order_and_no_more_than_there_are_places(
     Ok(())
 }
 
+/// The same value, which may be moved to a thread.
+fn sent<T: Send>(value: T) -> T {
+    value
+}
+
 /// The stamps that are taken, until none waits, from a shelf of so many places on which so many packets were put.
 fn held(alloc: Global, places: u32, puts: u32) -> Result<Vec<u64>, Fail> {
     let mut shelf = Shelf::new(alloc, places)?;
     for stamp in 0..puts {
         let _refused = shelf.put(stamped(alloc, u64::from(stamp)));
     }
+    let mut shelf = sent(shelf);
     let mut stamps = Vec::new(alloc);
     for _ in 0..puts {
         if let Some(packet) = shelf.take() {
