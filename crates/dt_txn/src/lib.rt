@@ -23,4 +23,4 @@ pub use execution::{execute, execute_seen, see};
 pub use laws::stale_outcomes;
 pub use outcome::{Outcome, Seen, Seens};
 pub use placement::{homes, part_at, parts};
-pub use txn::{Body, Entry, Txn, Txns};
+pub use txn::{Body, Entries, Entry, Txn, Txns};

@@ -52,6 +52,12 @@ impl Txn {
     }
 }
 
+impl TryCopy for Txn {
+    fn copy(&self, alloc: Global) -> Result<Self, NoMemory> {
+        Txn::copy(self, alloc)
+    }
+}
+
 /// Transactions.
 pub type Txns = Listed<Txn>;
 
@@ -61,3 +67,24 @@ pub struct Entry {
     pub part: Part,
     pub txn: Txn,
 }
+
+impl Entry {
+    /// An equal entry.
+    pub fn copy(&self, alloc: Global) -> Result<Self, NoMemory>
+        ensures { IfOk result (λ copied. copied ≡ self.now) }
+    {
+        Ok(Entry {
+            part: self.part.copy(alloc)?,
+            txn: self.txn.copy(alloc)?,
+        })
+    }
+}
+
+impl TryCopy for Entry {
+    fn copy(&self, alloc: Global) -> Result<Self, NoMemory> {
+        Entry::copy(self, alloc)
+    }
+}
+
+/// A stretch of a log, as it is sent.
+pub type Entries = Listed<Entry>;

@@ -1,0 +1,111 @@
+//! Shelves: what is put on them, and what is taken from them.
+use dt_packet::{Inlet, Outlet, Packet, Shelf};
+use dt_text::{NoMemory, put_u64};
+use dt_txn::{Entries, Txns};
+use std::alloc::Global;
+use std::test::Fail;
+
+/// A packet of this stamp, with nothing in it.
+fn stamped(alloc: Global, stamp: u64) -> Packet {
+    Packet {
+        source: 0,
+        target: 1,
+        stamp,
+        asked_at: 0,
+        asked: Txns::new(alloc),
+        log_at: 0,
+        entries: Entries::new(alloc),
+        took: 0,
+        received: 0,
+    }
+}
+
+/// Puts a packet of this stamp. Where one comes back, adds its stamp and a `!`.
+fn put<O: Outlet>(
+    alloc: Global,
+    out: &mut Vec<u8>,
+    outlet: &mut O,
+    stamp: u64,
+) -> Result<(), NoMemory> {
+    if let Err(back) = outlet.put(stamped(alloc, stamp)) {
+        put_u64(alloc, out, back.stamp)?;
+        out.push(b'!')?;
+    }
+    Ok(())
+}
+
+/// Takes a packet and adds its stamp and a `,`, or adds a `-` where none waits.
+fn take<I: Inlet>(alloc: Global, out: &mut Vec<u8>, inlet: &mut I) -> Result<(), NoMemory> {
+    let Some(packet) = inlet.take() else {
+        out.push(b'-')?;
+        return Ok(());
+    };
+    put_u64(alloc, out, packet.stamp)?;
+    out.push(b',')?;
+    Ok(())
+}
+
+/// What comes of some steps on a shelf of so many places: at each `+` a packet is put, whose stamp is the place of the step,
+/// and at each `-` one is taken.
+fn played(alloc: Global, places: u32, steps: &[u8]) -> Result<Vec<u8>, Fail> {
+    let mut shelf = Shelf::new(alloc, places)?;
+    let mut out = Vec::new(alloc);
+    for (place, step) in steps.iter().enumerate() {
+        if *step == b'+' {
+            put(alloc, &mut out, &mut shelf, place as u64)?;
+        } else {
+            take(alloc, &mut out, &mut shelf)?;
+        }
+    }
+    Ok(out)
+}
+
+/// The places of a shelf, steps, and what comes of them.
+const STEPS: [(u32, &[u8], &[u8]); 4] = [
+    (8, b"+++++++++---------", b"8!0,1,2,3,4,5,6,7,-"),
+    (2, b"++-+-+--", b"0,1,3,5,"),
+    (1, b"++-+--", b"1!0,3,-"),
+    (0, b"+-", b"0!-"),
+];
+
+#[test]
+fn what_is_put_is_taken_in_order_and_no_more_than_there_are_places(
+    rt: HostRuntime,
+) -> Result<(), Fail> {
+    for (places, steps, want) in STEPS {
+        assert_eq!(rt; played(rt.alloc(), places, steps)?.as_slice(), want);
+    }
+    Ok(())
+}
+
+/// The same value, which may be moved to a thread.
+fn sent<T: Send>(value: T) -> T {
+    value
+}
+
+/// The stamps that are taken, until none waits, from a shelf of so many places on which so many packets were put.
+fn held(alloc: Global, places: u32, puts: u32) -> Result<Vec<u64>, Fail> {
+    let mut shelf = Shelf::new(alloc, places)?;
+    for stamp in 0..puts {
+        let _refused = shelf.put(stamped(alloc, u64::from(stamp)));
+    }
+    let mut shelf = sent(shelf);
+    let mut stamps = Vec::new(alloc);
+    for _ in 0..puts {
+        if let Some(packet) = shelf.take() {
+            stamps.push(packet.stamp)?;
+        }
+    }
+    Ok(stamps)
+}
+
+/// The places of a shelf, how many packets are put on it, and how many it holds then.
+const HELD: [(u32, u32, usize); 3] = [(500, 400, 400), (500, 500, 500), (300, 500, 300)];
+
+#[test]
+fn a_large_shelf_holds_as_many_as_it_has_places(rt: HostRuntime) -> Result<(), Fail> {
+    for (places, puts, want) in HELD {
+        assert_eq!(rt; held(rt.alloc(), places, puts)?.len(), want);
+    }
+    Ok(())
+}
