@@ -1,0 +1,14 @@
+mod Cuts
+mod Reordering
+mod SideBySide
+mod OwnParts
+mod Frames
+mod OwnSteps
+mod Growing
+mod LocalEvents
+mod Worlds
+mod MergeLists
+mod Chronicles
+mod Weighing
+mod Bound
+mod MergesExist
