@@ -11,3 +11,4 @@ mod MergeLists
 mod Chronicles
 mod Weighing
 mod Bound
+mod MergesExist

@@ -10,7 +10,7 @@ before_irreflexive : (x : Stamped) → ¬ (ComesBefore x x)
 before_irreflexive x (inl lt) = let n : ⊥ = omega arith in n
 before_irreflexive x (inr r) = let lt : region_at x < region_at x = r.1 in let n : ⊥ = omega arith in n
 
-before_transitive : (x y z : Stamped) → ComesBefore x y → ComesBefore y z → ComesBefore x z
+pub before_transitive : (x y z : Stamped) → ComesBefore x y → ComesBefore y z → ComesBefore x z
 before_transitive x y z (inl a) (inl b) = let c : x.stamp < z.stamp = omega arith in inl c
 before_transitive x y z (inl a) (inr b) = let e : y.stamp ≡ z.stamp = b.0 in let c : x.stamp < z.stamp = omega arith in inl c
 before_transitive x y z (inr a) (inl b) = let e : x.stamp ≡ y.stamp = a.0 in let c : x.stamp < z.stamp = omega arith in inl c
@@ -30,7 +30,7 @@ pub merge_of_none : (kept : List (List Stamped)) → ((region : ℕ) → kept_at
 merge_of_none kept none = record { ascending = tt; members = λ x. (λ h. absurd h, λ h. subst (λ l. Has l x) (none (region_at x)) h) }
 
 module _ (kept : List (List Stamped)) (each : AreKept kept) where
-  region_of_kept : (region : ℕ) (x : Stamped) → Has (kept_at kept region) x → region_at x ≡ region
+  pub region_of_kept : (region : ℕ) (x : Stamped) → Has (kept_at kept region) x → region_at x ≡ region
   region_of_kept region x h = all_get (λ y. region_at y ≡ region) (kept_at kept region) (each region).0 x h
 
   kept_ascending : (region : ℕ) → EachThen ComesBefore (kept_at kept region)

@@ -95,9 +95,10 @@ pub fn rescheduling()
         AreLegalIn (world_regions cluster workload) w events → AreLegalFrom cluster workload w events }
 {}
 
-/// What regions keep has one merge at most, which has of each region what it keeps, in its order. The merge of nothing is empty.
+/// What regions keep has a merge, and one only, which has of each region what it keeps, in its order. The merge of nothing is empty.
 /// Else it begins with a head that comes before the heads of all others, and goes on with the merge of what is left.
 pub fn merges()
+    ensures some { (kept : List (List Stamped)) → AreKept kept → (merged : List Stamped) × IsMerge kept merged }
     ensures one { (kept : List (List Stamped)) (a b : List Stamped) → IsMerge kept a → IsMerge kept b → a ≡ b }
     ensures own { (kept : List (List Stamped)) → AreKept kept → (merged : List Stamped) → IsMerge kept merged →
         (region : ℕ) → those_at region merged ≡ kept_at kept region }

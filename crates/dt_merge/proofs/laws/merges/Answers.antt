@@ -1,5 +1,9 @@
 use Rattle.dt_merge.proofs.MergeLists.{merge_begins, merge_keeps, merge_of_none, merges_same}
+use Rattle.dt_merge.proofs.MergesExist.{merge_exists}
 use Rattle.dt_merge.proofs.laws.merges.Goals as goal
+
+pub returns-clause-some : goal.returns-clause-some
+returns-clause-some c kept each = merge_exists kept each
 
 pub returns-clause-one : goal.returns-clause-one
 returns-clause-one c kept a b m n = merges_same kept a b m n
