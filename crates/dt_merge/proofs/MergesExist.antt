@@ -75,7 +75,8 @@ module _ (kept : List (List Stamped)) (each : AreKept kept) where
   below zero = ([], record { ascending = tt; members = λ u. (λ h. absurd h, λ h. absurd (let lt : region_at u < 0 = h.0 in let none : ⊥ = omega arith in none)) })
   below (suc n) = more (below n)
     where
-      more : (zs : List Stamped) × IsPicked ComesBefore (λ u. (region_at u < n) × Has (kept_at kept (region_at u)) u) zs → (zs : List Stamped) × IsPicked ComesBefore (λ u. (region_at u < suc n) × Has (kept_at kept (region_at u)) u) zs
+      more : (zs : List Stamped) × IsPicked ComesBefore (λ u. (region_at u < n) × Has (kept_at kept (region_at u)) u) zs
+          → (zs : List Stamped) × IsPicked ComesBefore (λ u. (region_at u < suc n) × Has (kept_at kept (region_at u)) u) zs
       more r = ending (put_all (kept_at kept n) r.0 r.1.ascending (each n).1 (all_put (λ x. AllIn (AreApart x) r.0) (kept_at kept n) (λ x h. all_put (AreApart x) r.0 (λ y k. apart x y h ((r.1.members y).0 k).0))))
         where
           apart : (x y : Stamped) → Has (kept_at kept n) x → region_at y < n → AreApart x y
