@@ -11,7 +11,7 @@ use Rattle.dt_access.specs.Clash.{Bytes}
 use Rattle.dt_access.specs.declared.access.Mode.{Mode}
 use Rattle.dt_access.specs.declared.TxnId.{TxnId}
 use Rattle.dt_access.specs.declared.Part.{Part}
-use Rattle.dt_queue.specs.Queues.{HasDistinctSlots, IsWaiting, Waiting, neighbours, without}
+use Rattle.dt_queue.specs.Queues.{HasDistinctSlots, IsQueued, Waiting, neighbours, taken_out}
 use Rattle.dt_graph.specs.declared.vertex.Vertex.{Vertex}
 use Rattle.dt_graph.specs.declared.open.Open.{Open}
 use Rattle.dt_graph.specs.Waits.{degree, id_at, others}
@@ -50,7 +50,7 @@ enters_more home vertex first second a b c r s t i j k e f = record {
 }
 
 -- entries stay at distinct slots when one is pushed at a slot that was free
-pub distinct_pushed : (waiting : List Waiting) (w : Waiting) → HasDistinctSlots waiting → ¬ (IsWaiting waiting w.slot) → HasDistinctSlots (waiting ++ w ∷ [])
+pub distinct_pushed : (waiting : List Waiting) (w : Waiting) → HasDistinctSlots waiting → ¬ (IsQueued waiting w.slot) → HasDistinctSlots (waiting ++ w ∷ [])
 distinct_pushed waiting w d n = each_append _ waiting (w ∷ []) d (all_put _ waiting (λ v h. (λ e. n (any_put (λ u. u.slot ≡ w.slot) waiting v h e), tt))) (tt, tt)
 
 -- a count over an image
@@ -63,7 +63,7 @@ count_mapped p f (x ∷ xs) = by (count_mapped p f xs) (cases_Bool (p (f x)))
     by rest (inr e) = rw e rest
 
 -- one use is pushed, and its neighbours raise the degree
-pub enters_one : (waiting now : List Waiting) (w : Waiting) (slots slots_now : List ℕ) (count risen : ℕ) → HasDistinctSlots waiting → now ≡ waiting ++ w ∷ [] → ¬ (IsWaiting waiting w.slot)
+pub enters_one : (waiting now : List Waiting) (w : Waiting) (slots slots_now : List ℕ) (count risen : ℕ) → HasDistinctSlots waiting → now ≡ waiting ++ w ∷ [] → ¬ (IsQueued waiting w.slot)
     → slots_now ≡ slots ++ w.slot ∷ [] → Raises count (map (λ n. n.vertex) (neighbours now w.slot)) w.vertex risen → Enters w.home w.vertex ((w.key, w.mode) ∷ []) waiting now slots slots_now count risen
 enters_one waiting now w slots slots_now count risen d is fresh at r = record {
   pushed = record { more = w ∷ []; waiting = is; distinct = subst HasDistinctSlots (sym is) all_distinct; at_slots = at; of_vertex = (refl, tt) };
@@ -80,7 +80,7 @@ enters_one waiting now w slots slots_now count risen d is fresh at r = record {
     own = rw (slot_same w.vertex) (ap (λ l. length (others w.vertex (neighbours l w.slot))) (sym is))
 
 -- the entry that was pushed last is taken back
-pub without_last : (waiting : List Waiting) (w : Waiting) → HasDistinctSlots (waiting ++ w ∷ []) → without (waiting ++ w ∷ []) w.slot ≡ waiting
+pub without_last : (waiting : List Waiting) (w : Waiting) → HasDistinctSlots (waiting ++ w ∷ []) → taken_out (waiting ++ w ∷ []) w.slot ≡ waiting
 without_last waiting w d =
     filter-append (λ v. not (v.slot == w.slot)) waiting (w ∷ [])
     ∙ ap₂ ◌++◌ (filter_whole (λ v. not (v.slot == w.slot)) waiting (all_put _ waiting (λ v h. ap not (slot_other v.slot w.slot (each_across _ waiting (w ∷ []) v w d h (inl refl)))))) own
@@ -231,7 +231,7 @@ inserts_again part v old waiting slots missing count ready stuck ready_now stuck
     degree_is = get_or-set_same old.degrees v count 0 (subst (λ n. v < n) (sym sd) lt)
 
 -- the entries that were pushed are taken back one by one
-pub pushes_back : (vertex slot : ℕ) (old now : List Waiting) (kept slots : List ℕ) → Pushes vertex old now kept (slots ++ slot ∷ []) → length kept ≤ length slots → Pushes vertex old (without now slot) kept slots
+pub pushes_back : (vertex slot : ℕ) (old now : List Waiting) (kept slots : List ℕ) → Pushes vertex old now kept (slots ++ slot ∷ []) → length kept ≤ length slots → Pushes vertex old (taken_out now slot) kept slots
 pushes_back vertex slot old now kept slots p le = by (from_last p.more)
   where
     from_last : (more : List Waiting) → (more ≡ []) ⊎ ((front : List Waiting) × (w : Waiting) × (more ≡ front ++ w ∷ []))
@@ -247,12 +247,12 @@ pushes_back vertex slot old now kept slots p le = by (from_last p.more)
         longer : (k s : ℕ) → k ≤ s → s + 1 ≡ k → ⊥
         longer k s le e = omega (arith, le, e)
 
-    by : (p.more ≡ []) ⊎ ((front : List Waiting) × (w : Waiting) × (p.more ≡ front ++ w ∷ [])) → Pushes vertex old (without now slot) kept slots
+    by : (p.more ≡ []) ⊎ ((front : List Waiting) × (w : Waiting) × (p.more ≡ front ++ w ∷ [])) → Pushes vertex old (taken_out now slot) kept slots
     by (inl e) = absurd (too_long e)
     by (inr r) = record {
       more = r.0;
-      waiting = ap (λ s. without now s) (sym (same_last.1)) ∙ ap (λ l. without l r.1.slot) now_is ∙ without_last (old ++ r.0) r.1 (subst HasDistinctSlots now_is p.distinct);
-      distinct = subst HasDistinctSlots (sym (ap (λ s. without now s) (sym (same_last.1)) ∙ ap (λ l. without l r.1.slot) now_is ∙ without_last (old ++ r.0) r.1 (subst HasDistinctSlots now_is p.distinct)))
+      waiting = ap (λ s. taken_out now s) (sym (same_last.1)) ∙ ap (λ l. taken_out l r.1.slot) now_is ∙ without_last (old ++ r.0) r.1 (subst HasDistinctSlots now_is p.distinct);
+      distinct = subst HasDistinctSlots (sym (ap (λ s. taken_out now s) (sym (same_last.1)) ∙ ap (λ l. taken_out l r.1.slot) now_is ∙ without_last (old ++ r.0) r.1 (subst HasDistinctSlots now_is p.distinct)))
           (each_append_left _ (old ++ r.0) (r.1 ∷ []) (subst HasDistinctSlots now_is p.distinct));
       at_slots = same_last.0;
       of_vertex = all_append_left _ r.0 (r.1 ∷ []) (subst (AllIn (λ w. w.vertex ≡ vertex)) r.2 p.of_vertex);

@@ -9,12 +9,12 @@ use Rattle.std.proofs.lemmas.List.Elements.{filter-append}
 use Rattle.dt_lists.specs.Lists.{AnyIn, AllIn, Has, EachThen}
 use Rattle.dt_lists.proofs.Callers.{all_get, all_put, any_get, any_append_left, any_of_test, any_put, each_across, filter_none, has_middle, same_head, same_tail, Spot, spot}
 use Rattle.dt_queue.specs.declared.Follower.{Follower}
-use Rattle.dt_queue.specs.Queues.{HasDistinctSlots, IsWaiting, Waiting, after, follower_of, followers, followers_after, is_at, is_neighbour, neighbours}
+use Rattle.dt_queue.specs.Queues.{HasDistinctSlots, IsQueued, Waiting, pushed_after, follower_of, followers, followers_after, is_at, is_neighbour, neighbours}
 use Rattle.dt_graph.specs.Waits.{is_of}
 use Rattle.dt_graph.proofs.Nearest.{nearest_clash, neighbours_split, slot_same, slot_other}
 
 -- what is after an entry
-pub after_split : (front : List Waiting) (j : Waiting) (rest : List Waiting) → HasDistinctSlots (front ++ j ∷ rest) → after (front ++ j ∷ rest) j.slot ≡ rest
+pub after_split : (front : List Waiting) (j : Waiting) (rest : List Waiting) → HasDistinctSlots (front ++ j ∷ rest) → pushed_after (front ++ j ∷ rest) j.slot ≡ rest
 after_split [] j rest d = rw (slot_same j.slot) refl
 after_split (w ∷ front) j rest d = rw (slot_other w.slot j.slot (all_get _ (front ++ j ∷ rest) d.0 j (has_middle front j rest))) (after_split front j rest d.1)
 
@@ -59,8 +59,8 @@ module _ (waiting : List Waiting) (distinct : HasDistinctSlots waiting) where
       split : HasDistinctSlots (s.front ++ j ∷ s.rest)
       split = subst HasDistinctSlots s.is distinct
 
-      after_is : after waiting j.slot ≡ s.rest
-      after_is = ap (λ l. after l j.slot) s.is ∙ after_split s.front j s.rest split
+      after_is : pushed_after waiting j.slot ≡ s.rest
+      after_is = ap (λ l. pushed_after l j.slot) s.is ∙ after_split s.front j s.rest split
 
       -- no entry of the front is after j
       none : (front : List Waiting) (w : Waiting) (rest : List Waiting) → s.front ≡ front ++ w ∷ rest → test w ≡ true → ⊥
@@ -81,7 +81,7 @@ module _ (waiting : List Waiting) (distinct : HasDistinctSlots waiting) where
       own = rw own_none refl
 
   -- after one that is found the next ones are those that stand after it
-  pub followers_onward : (slot place : ℕ) (w : Waiting) (more : List Waiting) → IsWaiting waiting place → followers_after waiting slot place ≡ w ∷ more → IsWaiting waiting w.slot × (followers_after waiting slot w.slot ≡ more)
+  pub followers_onward : (slot place : ℕ) (w : Waiting) (more : List Waiting) → IsQueued waiting place → followers_after waiting slot place ≡ w ∷ more → IsQueued waiting w.slot × (followers_after waiting slot w.slot ≡ more)
   followers_onward slot place w more h e =
       let p : (p : Waiting) × Has waiting p × (p.slot ≡ place) = any_get _ waiting h in
       by p.0 (spot waiting p.0 p.1) (subst (λ x. followers_after waiting slot x ≡ w ∷ more) (sym p.2) e)
@@ -89,13 +89,13 @@ module _ (waiting : List Waiting) (distinct : HasDistinctSlots waiting) where
       test : Waiting → Bool
       test v = is_neighbour waiting slot v.slot
 
-      by : (p : Waiting) → Spot waiting p → followers_after waiting slot p.slot ≡ w ∷ more → IsWaiting waiting w.slot × (followers_after waiting slot w.slot ≡ more)
+      by : (p : Waiting) → Spot waiting p → followers_after waiting slot p.slot ≡ w ∷ more → IsQueued waiting w.slot × (followers_after waiting slot w.slot ≡ more)
       by p s f =
-          let rest_is : after waiting p.slot ≡ s.rest = ap (λ l. after l p.slot) s.is ∙ after_split s.front p s.rest (subst HasDistinctSlots s.is distinct) in
+          let rest_is : pushed_after waiting p.slot ≡ s.rest = ap (λ l. pushed_after l p.slot) s.is ∙ after_split s.front p s.rest (subst HasDistinctSlots s.is distinct) in
           let r : (front : List Waiting) × (rest : List Waiting) × (s.rest ≡ front ++ w ∷ rest) × (filter test rest ≡ more) = split_first test s.rest w more (sym (ap (filter test) rest_is) ∙ f) in
           let is : waiting ≡ s.front ++ p ∷ r.0 ++ w ∷ r.1 = s.is ∙ ap (λ l. s.front ++ p ∷ l) r.2 ∙ sym (append_assoc s.front (p ∷ r.0) (w ∷ r.1)) in (
             any_put (λ v. v.slot ≡ w.slot) waiting w (subst (λ l. Has l w) (sym is) (has_middle (s.front ++ p ∷ r.0) w r.1)) refl,
-            ap (filter test) (ap (λ l. after l w.slot) is ∙ after_split (s.front ++ p ∷ r.0) w r.1 (subst HasDistinctSlots is distinct)) ∙ r.3,
+            ap (filter test) (ap (λ l. pushed_after l w.slot) is ∙ after_split (s.front ++ p ∷ r.0) w r.1 (subst HasDistinctSlots is distinct)) ∙ r.3,
           )
 
 -- what is told of the first of a list

@@ -6,7 +6,7 @@ use Rattle.std.proofs.lemmas.List.{get_or-set_other, get_or-set_same, length-set
 use Rattle.dt_lists.specs.Lists.{AllIn, Has}
 use Rattle.dt_lists.proofs.Callers.{all_get, any_get, any_put, either_nat}
 use Rattle.dt_queue.specs.declared.Follower.{Follower}
-use Rattle.dt_queue.specs.Queues.{HasDistinctSlots, IsWaiting, Waiting, follower_of, followers, followers_after}
+use Rattle.dt_queue.specs.Queues.{HasDistinctSlots, IsQueued, Waiting, follower_of, followers, followers_after}
 use Rattle.dt_graph.specs.Waits.{lowered}
 use Rattle.dt_graph.specs.Steps.{AreLowered}
 use Rattle.dt_graph.proofs.Nearest.{slot_same, slot_other}
@@ -18,12 +18,12 @@ falls u x v = if u == v then 0 else (if x == v then 1 else 0)
 
 -- at this place of the walk over the followers of a slot of the vertex u
 pub record IsLowering (waiting : List Waiting) (slot u place : ℕ) (old now : List ℕ) : Type 0 where
-  pub waits : IsWaiting waiting place
+  pub waits : IsQueued waiting place
   pub size : length now ≡ length old
   pub still : (v : ℕ) → v < length old → get_or old v 0 + to_lower u v (followers_after waiting slot place) ≡ get_or now v 0 + lowered waiting slot u v
 
 module _ (waiting : List Waiting) (distinct : HasDistinctSlots waiting) (slot u : ℕ) (old : List ℕ) where
-  pub lowering_begins : IsWaiting waiting slot → IsLowering waiting slot u slot old old
+  pub lowering_begins : IsQueued waiting slot → IsLowering waiting slot u slot old old
   lowering_begins h = record { waits = h; size = refl; still = λ v lt. ap (λ n. get_or old v 0 + n) (ap (to_lower u v) begin) }
     where
       begin : followers_after waiting slot slot ≡ followers waiting slot
@@ -45,12 +45,12 @@ module _ (waiting : List Waiting) (distinct : HasDistinctSlots waiting) (slot u 
     found : (w : Waiting) × (more : List Waiting) × (followers_after waiting slot place ≡ w ∷ more) × (w.slot ≡ f.slot) × (w.vertex ≡ f.vertex)
     found = first_told (followers_after waiting slot place) f told
 
-    onward : IsWaiting waiting f.slot × (followers_after waiting slot f.slot ≡ found.1)
+    onward : IsQueued waiting f.slot × (followers_after waiting slot f.slot ≡ found.1)
     onward =
-        let r : IsWaiting waiting (found.0).slot × (followers_after waiting slot (found.0).slot ≡ found.1) = followers_onward waiting distinct slot place found.0 found.1 l.waits found.2 in
-        subst (λ s. IsWaiting waiting s × (followers_after waiting slot s ≡ found.1)) found.3 r
+        let r : IsQueued waiting (found.0).slot × (followers_after waiting slot (found.0).slot ≡ found.1) = followers_onward waiting distinct slot place found.0 found.1 l.waits found.2 in
+        subst (λ s. IsQueued waiting s × (followers_after waiting slot s ≡ found.1)) found.3 r
 
-    pub follower_waits : IsWaiting waiting f.slot
+    pub follower_waits : IsQueued waiting f.slot
     follower_waits = onward.0
 
     -- what is to be lowered here, and what is left

@@ -8,7 +8,7 @@ use Rattle.std.proofs.lemmas.List.{append_assoc, length-append}
 use Rattle.dt_lists.specs.Lists.{AnyIn, AllIn, Has, EachThen, SomeThen}
 use Rattle.dt_lists.specs.Chain.{Chain}
 use Rattle.dt_lists.proofs.Callers.{all_get, any_get, any_of_test, has_middle, has_longer, chain_join, chain_step, Spot, spot}
-use Rattle.dt_queue.specs.Queues.{Waiting, HasDistinctSlots, entries_clash, entry_at, before, nearest, neighbours}
+use Rattle.dt_queue.specs.Queues.{Waiting, HasDistinctSlots, entries_clash, entry_at, pushed_before, nearest, neighbours}
 
 pub slot_same : (a : ℕ) → (a == a) ≡ true
 slot_same a = eq-eqb a a refl
@@ -18,7 +18,7 @@ slot_other a b n = false_from_ne_true (a == b) (λ e. n (eqb-true a b e))
 
 -- an entry of entries at distinct slots, with what is before it
 
-pub before_split : (front : List Waiting) (j : Waiting) (rest : List Waiting) → HasDistinctSlots (front ++ j ∷ rest) → before (front ++ j ∷ rest) j.slot ≡ front
+pub before_split : (front : List Waiting) (j : Waiting) (rest : List Waiting) → HasDistinctSlots (front ++ j ∷ rest) → pushed_before (front ++ j ∷ rest) j.slot ≡ front
 before_split [] j rest d = rw (slot_same j.slot) refl
 before_split (w ∷ front) j rest d = rw (slot_other w.slot j.slot (all_get _ (front ++ j ∷ rest) d.0 j (has_middle front j rest))) (ap (λ l. w ∷ l) (before_split front j rest d.1))
 

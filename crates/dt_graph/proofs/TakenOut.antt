@@ -5,7 +5,7 @@ use Rattle.std.specs.List.{list_any}
 use Rattle.std.proofs.lemmas.Bool.{and_parts, and_from, cases_Bool, false_from_ne_true}
 use Rattle.dt_lists.specs.Lists.{AnyIn, AllIn, Has, Distinct, EachThen}
 use Rattle.dt_lists.proofs.Callers.{all_get, any_append, any_append_left, any_append_right, any_get, any_map, any_of_image, any_of_test, any_put, has_filter, has_map, has_of_filtered, test_of_any}
-use Rattle.dt_queue.specs.Queues.{HasDistinctSlots, IsWaiting, Waiting, without}
+use Rattle.dt_queue.specs.Queues.{HasDistinctSlots, IsQueued, Waiting, taken_out}
 use Rattle.dt_graph.specs.Waits.{is_leaving, is_of, slots_of}
 use Rattle.dt_graph.proofs.Nearest.{slot_same, slot_other}
 use Rattle.dt_graph.proofs.Sums.{filter_both, filter_same}
@@ -15,8 +15,8 @@ abbrev pub is_among_slots : List ℕ → ℕ → Bool
 is_among_slots slots slot = list_any (λ s. s == slot) slots
 
 -- the entries of some vertices are out, and of one more those at some of its slots
-abbrev pub taken_out : List Waiting → List ℕ → List ℕ → List Waiting
-taken_out waiting left slots = filter (λ w. not (is_leaving left w.vertex) && not (is_among_slots slots w.slot)) waiting
+abbrev pub all_out : List Waiting → List ℕ → List ℕ → List Waiting
+all_out waiting left slots = filter (λ w. not (is_leaving left w.vertex) && not (is_among_slots slots w.slot)) waiting
 
 joined : (xs : List ℕ) (y x : ℕ) → list_any (λ s. s == x) (xs ++ y ∷ []) ≡ (list_any (λ s. s == x) xs || (y == x))
 joined [] y x = by (cases_Bool (y == x))
@@ -32,7 +32,7 @@ joined (z ∷ zs) y x = by (joined zs y x) (cases_Bool (z == x))
     by rest (inr e) = rw e rest
 
 -- one slot more
-pub taken_more : (waiting : List Waiting) (left slots : List ℕ) (slot : ℕ) → without (taken_out waiting left slots) slot ≡ taken_out waiting left (slots ++ slot ∷ [])
+pub taken_more : (waiting : List Waiting) (left slots : List ℕ) (slot : ℕ) → taken_out (all_out waiting left slots) slot ≡ all_out waiting left (slots ++ slot ∷ [])
 taken_more waiting left slots slot = filter_both _ _ waiting ∙ filter_same _ _ waiting (λ w h. same (is_leaving left w.vertex) (is_among_slots slots w.slot) (w.slot == slot) (turned w.slot slot)
     ∙ ap (λ b. not (is_leaving left w.vertex) && not b) (sym (joined slots slot w.slot)))
   where
@@ -52,7 +52,7 @@ taken_more waiting left slots slot = filter_both _ _ waiting ∙ filter_same _ _
     same false false false e = rw (sym e) refl
 
 -- all slots of a vertex: the vertex is out
-pub taken_vertex : (waiting : List Waiting) (left : List ℕ) (v : ℕ) → HasDistinctSlots waiting → taken_out waiting left (slots_of waiting v) ≡ taken_out waiting (left ++ v ∷ []) []
+pub taken_vertex : (waiting : List Waiting) (left : List ℕ) (v : ℕ) → HasDistinctSlots waiting → all_out waiting left (slots_of waiting v) ≡ all_out waiting (left ++ v ∷ []) []
 taken_vertex waiting left v distinct = filter_same _ _ waiting (λ w h. ap (λ b. not (is_leaving left w.vertex) && not b) (slots_tell w h)
     ∙ same (is_leaving left w.vertex) (v == w.vertex) ∙ ap (λ b. not b && true) (sym (joined left v w.vertex)))
   where
@@ -84,11 +84,11 @@ taken_vertex waiting left v distinct = filter_same _ _ waiting (λ w h. ap (λ b
         by (inr e) = false_from_ne_true _ (λ t. let f : (v == w.vertex) ≡ true = eq-eqb v w.vertex (sym (of_slots w h t)) in cc) ∙ sym e
 
 -- nothing is out yet, and in the end all vertices are
-pub taken_none : (waiting : List Waiting) → taken_out waiting [] [] ≡ waiting
+pub taken_none : (waiting : List Waiting) → all_out waiting [] [] ≡ waiting
 taken_none [] = refl
 taken_none (w ∷ ws) = ap (λ l. w ∷ l) (taken_none ws)
 
-pub taken_all : (waiting : List Waiting) (left : List ℕ) → taken_out waiting left [] ≡ filter (λ w. not (is_leaving left w.vertex)) waiting
+pub taken_all : (waiting : List Waiting) (left : List ℕ) → all_out waiting left [] ≡ filter (λ w. not (is_leaving left w.vertex)) waiting
 taken_all waiting left = filter_same _ _ waiting (λ w h. same (is_leaving left w.vertex))
   where
     same : (b : Bool) → (not b && true) ≡ not b

@@ -5,7 +5,7 @@ use Rattle.std.proofs.lemmas.List.{append-nil, append_assoc}
 use Rattle.dt_lists.specs.Lists.{AnyIn, Has, Either}
 use Rattle.dt_lists.proofs.Callers.{any_append, any_append_left, any_append_right, any_get, either_any, either_nat}
 use Rattle.dt_queue.specs.declared.Follower.{Follower}
-use Rattle.dt_queue.specs.Queues.{HasDistinctSlots, IsWaiting, Waiting, follower_of, followers, followers_after}
+use Rattle.dt_queue.specs.Queues.{HasDistinctSlots, IsQueued, Waiting, follower_of, followers, followers_after}
 use Rattle.dt_graph.specs.Subset.{PutsIn, Removes, SubsetView}
 use Rattle.dt_graph.specs.Steps.{IsFollowedAt, Wakes}
 use Rattle.dt_graph.proofs.Followers.{first_told, followers_begin, followers_onward, none_told}
@@ -95,11 +95,11 @@ of_some_decided entries v = either_any _ entries (λ w. either_nat w.vertex v)
 pub record IsWaking (waiting : List Waiting) (slot place : ℕ) (degrees : List ℕ) (stuck ready stuck_now ready_now : SubsetView) : Type 0 where
   pub front : List Waiting
   pub split : followers waiting slot ≡ front ++ followers_after waiting slot place
-  pub waits : IsWaiting waiting place
+  pub waits : IsQueued waiting place
   pub wakes : Wakes (IsOfSome front) degrees stuck ready stuck_now ready_now
 
 module _ (waiting : List Waiting) (distinct : HasDistinctSlots waiting) (slot : ℕ) (degrees : List ℕ) (stuck ready : SubsetView) where
-  pub waking_begins : IsWaiting waiting slot → IsWaking waiting slot slot degrees stuck ready stuck ready
+  pub waking_begins : IsQueued waiting slot → IsWaking waiting slot slot degrees stuck ready stuck ready
   waking_begins h = record {
     front = [];
     split = (let j : (j : Waiting) × Has waiting j × (j.slot ≡ slot) = any_get _ waiting h in subst (λ s. followers waiting s ≡ followers_after waiting s s) j.2 (sym (followers_begin waiting distinct j.0 j.1)));
@@ -117,11 +117,11 @@ module _ (waiting : List Waiting) (distinct : HasDistinctSlots waiting) (slot : 
       → IsWaking waiting slot f.slot degrees stuck ready stuck_next ready_next
   waking_onward place stuck_now ready_now stuck_next ready_next f k told w =
       let t : (w : Waiting) × (more : List Waiting) × (followers_after waiting slot place ≡ w ∷ more) × (w.slot ≡ f.slot) × (w.vertex ≡ f.vertex) = first_told (followers_after waiting slot place) f told in
-      let r : IsWaiting waiting (t.0).slot × (followers_after waiting slot (t.0).slot ≡ t.1) = followers_onward waiting distinct slot place t.0 t.1 k.waits t.2 in
+      let r : IsQueued waiting (t.0).slot × (followers_after waiting slot (t.0).slot ≡ t.1) = followers_onward waiting distinct slot place t.0 t.1 k.waits t.2 in
       record {
         front = k.front ++ t.0 ∷ [];
         split = k.split ∙ ap (λ l. k.front ++ l) (t.2 ∙ ap (λ l. t.0 ∷ l) (sym r.1 ∙ ap (followers_after waiting slot) t.3)) ∙ sym (append_assoc k.front (t.0 ∷ []) (followers_after waiting slot f.slot));
-        waits = subst (IsWaiting waiting) t.3 r.0;
+        waits = subst (IsQueued waiting) t.3 r.0;
         wakes = wakes_same _ _ (λ v. same t.0 t.4 v) degrees stuck stuck_next ready ready_next
             (wakes_more (IsOfSome k.front) (λ v. f.vertex ≡ v) (of_some_decided k.front) degrees stuck stuck_now stuck_next ready ready_now ready_next k.wakes w);
       }

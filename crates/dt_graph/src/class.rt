@@ -1,6 +1,6 @@
 ghost use Rattle.std.specs.Prelude.{◌≡◌, ◌<◌, ◌^◌, IfOk, OnOk, length};
 ghost use Rattle.dt_lists.specs.Lists.{AllIn, Distinct};
-ghost use Rattle.dt_queue.specs.Queues.{HasDistinctSlots, IsWaiting};
+ghost use Rattle.dt_queue.specs.Queues.{HasDistinctSlots, IsQueued};
 ghost use Rattle.dt_graph.specs.Among.{IsAmong, IsSourceAt, IsSourceOf, Links};
 ghost use Rattle.dt_graph.specs.Steps.{HaveSlots};
 
@@ -28,7 +28,7 @@ fn link_slot(
     place: u32,
     graph: &mut Adj,
 ) -> Result<bool, NoMemory>
-    requires waits { IsWaiting queues.now slot }
+    requires waits { IsQueued queues.now slot }
     requires place { place < graph.old.vertices }
     requires size { graph.old.vertices ≡ length group.now }
     ensures { IfOk result (Links (IsSourceOf queues.now slot) group.now place graph.old graph.new) }
@@ -52,7 +52,7 @@ fn link(
     place: u32,
     graph: &mut Adj,
 ) -> Result<bool, NoMemory>
-    requires waits { AllIn (IsWaiting queues.now) slots.now }
+    requires waits { AllIn (IsQueued queues.now) slots.now }
     requires place { place < graph.old.vertices }
     requires size { graph.old.vertices ≡ length group.now }
     ensures { IfOk result (Links (IsSourceAt queues.now slots.now) group.now place graph.old graph.new) }

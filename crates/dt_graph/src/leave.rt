@@ -1,6 +1,6 @@
 ghost use Rattle.std.specs.Prelude.{◌≡◌, ◌≤◌, ◌<◌, ℕ, not, filter, get_or, length};
 ghost use Rattle.dt_lists.specs.Lists.{Distinct};
-ghost use Rattle.dt_queue.specs.Queues.{HasDistinctSlots, IsWaiting};
+ghost use Rattle.dt_queue.specs.Queues.{HasDistinctSlots, IsQueued};
 ghost use Rattle.dt_graph.specs.Steps.{AreEntriesBelow, AreLowered, IsFollowedAt, HaveSlots, Wakes};
 ghost use Rattle.dt_graph.specs.Waits.{IsFollowed, is_leaving, lowered, lowered_by};
 
@@ -10,7 +10,7 @@ use dt_queue::Queues;
 
 /// Lowers the degrees of the followers of the entry at a slot of a vertex, but not its own.
 fn lower_followers(queues: &Queues, slot: usize, vertex: u32, degrees: &mut [usize])
-    requires waits { IsWaiting queues.now slot }
+    requires waits { IsQueued queues.now slot }
     requires distinct { HasDistinctSlots queues.now }
     requires below { AreEntriesBelow (length degrees.old) queues.now }
     requires enough { (v : ℕ) → v < length degrees.old → lowered queues.now slot vertex v ≤ get_or degrees.old v 0 }
@@ -48,7 +48,7 @@ fn wake_followers(
     stuck: &mut Subset,
     ready: &mut Subset,
 )
-    requires waits { IsWaiting queues.now slot }
+    requires waits { IsQueued queues.now slot }
     requires distinct { HasDistinctSlots queues.now }
     requires below { AreEntriesBelow (length degrees.now) queues.now }
     requires stuck_bound { length degrees.now ≤ stuck.old.bound }
