@@ -27,7 +27,8 @@ use Rattle.dt_session.specs.Run.{world_from, AreLegalFrom}
 use Rattle.dt_session.specs.Eager.{AllChange}
 use Rattle.dt_session.specs.World.{World, Place, Submission, no_node, node_at, log_of, received_lengths, received_logs, received_of, logs_of, submissions, txn_of, view_at}
 use Rattle.dt_agreement.specs.Invariant.{IsPartAt, IsPlaceOf, IsPlaced, IsSubmissionOf, attempts_by}
-use Rattle.dt_agreement.proofs.Callers.{IsKnown, done_known, fronts_at, log_distinct, logs_length, next_keeps, ordered, received_log, received_within, test_of_key, txn_there}
+use Rattle.dt_agreement.proofs.Callers.{IsKnown, done_known, log_distinct, logs_length, next_keeps, ordered, received_log, received_within, test_of_key, txn_there}
+use Rattle.dt_txn.proofs.Callers.{fronts_at}
 use Rattle.dt_merge.specs.Own.{own, places_at}
 use Rattle.dt_merge.specs.Weight.{most_events, sum_below, weight, world_weight}
 use Rattle.dt_merge.specs.WorldRegions.{HasInvariant}

@@ -352,10 +352,11 @@ impl<S: Scheduler + Drop> World<S> {
         ensures replies { IfOk result (λ report. AllIn (IsReplyOf self.now.cluster.regions self.now.state) report.replies) }
         ensures tables { IfOk result (λ report. report.tables ≡ map (λ node. shown node.here.table) self.now.state.nodes) }
     {
+        let tables = tables(alloc, self.sites.as_slice())?;
         Ok(Report {
             replies: self.replies(alloc, events.as_slice())?,
             order: self.order(alloc, events.as_slice())?,
-            tables: tables(alloc, self.sites.as_slice())?,
+            tables,
             events: EventList::from_vec(events),
         })
     }
