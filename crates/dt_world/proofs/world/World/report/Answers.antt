@@ -21,7 +21,7 @@ order-requires g c = subst (LedTo c.args.self.now) (sym c.as_slice-3.ensures.val
 
 pub returns-clause-tables : goal.returns-clause-tables
 returns-clause-tables g c =
-    subst (λ (v : WorldView). c.in_ok-tables.field-0 ≡ map (λ (n : Node). shown n.here.table) v.state.nodes) c.self.view_is
+    subst (λ (v : WorldView). c.in_ok-tables.tables ≡ map (λ (n : Node). shown n.here.table) v.state.nodes) c.self.view_is
     (c.in_ok-tables.ensures ∙ ap (map (λ (p : SiteView). shown p.region.state.here.table)) c.as_slice.ensures.value ∙ sym (tables_shown c.self.inside.sites.items))
 
 pub returns-clause-report : goal.returns-clause-report
@@ -30,7 +30,7 @@ returns-clause-report g c =
     c.in_ok-replies.ensures ∙ ap (replies_of c.args.self.now.cluster c.args.self.now.workload) c.as_slice-2.ensures.value in
     let order : c.in_ok-order.field-0 ≡ rans_of c.args.self.now.cluster c.args.self.now.workload c.args.events.items =
     c.in_ok-order.ensures ∙ ap (rans_of c.args.self.now.cluster c.args.self.now.workload) c.as_slice-3.ensures.value in
-    let tables : c.in_ok-tables.field-0 ≡ tables_of c.args.self.now.cluster c.args.self.now.workload c.args.events.items = returns-clause-tables g c
+    let tables : c.in_ok-tables.tables ≡ tables_of c.args.self.now.cluster c.args.self.now.workload c.args.events.items = returns-clause-tables g c
     ∙ tables_are (led_by c.self.invariant c.self.view_is c.requires.legal c.requires.reached) in
     λ i. record { replies = replies i; order = order i; tables = tables i; events = c.from_vec.ensures i }
 
