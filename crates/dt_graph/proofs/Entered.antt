@@ -1,24 +1,21 @@
 -- Pushing the uses of a part, step by step, and taking the pushed entries back; and what a part adds to what is kept.
-use Rattle.std.proofs.Common.{◌≡◌, ◌≢◌, ◌+◌, ◌<◌, ◌≤◌, ◌⊎◌, ◌↔◌, ◌∙◌, ℕ, zero, suc, Bool, true, false, ◌==◌, not, if◌then◌else◌, List, []}
-use Rattle.std.proofs.Common.{◌∷◌, ◌++◌, length, map, filter, get_or, set, Option, None, Some, refl, sym, ap, ap₂, subst, inl, inr, arith}
+use Rattle.std.proofs.Common.{◌≡◌, ◌≢◌, ◌+◌, ◌<◌, ◌≤◌, ◌⊎◌, ◌∙◌, ℕ, suc, Bool, true, false, ◌==◌, not, if◌then◌else◌, List, []}
+use Rattle.std.proofs.Common.{◌∷◌, ◌++◌, length, map, filter, get_or, set, None, refl, sym, ap, ap₂, subst, inl, inr, arith}
 use Rattle.std.proofs.lemmas.Bool.{cases_Bool}
 use Rattle.std.proofs.lemmas.List.{append-nil, append_assoc, get_or-set_other, get_or-set_same, length-append, length-set, map-append}
 use Rattle.std.proofs.lemmas.List.Elements.{filter-append}
 use Rattle.std.proofs.Math.ListN.{get_or-append}
-use Rattle.dt_lists.specs.Lists.{AnyIn, AllIn, Has, Distinct, EachThen}
-use Rattle.dt_lists.proofs.Callers.{all_append, all_append_left, all_put, any_put, distinct_push, each_append, each_append_left, each_across, has_last, has_longer, has_map, has_more, same_head, same_tail}
+use Rattle.dt_lists.specs.Lists.{AnyIn, AllIn, Has, Distinct}
+use Rattle.dt_lists.proofs.Callers.{all_append, all_append_left, all_put, distinct_push, each_append_left, each_across, has_last, has_longer, has_map, has_more, same_head, same_tail}
 use Rattle.dt_access.specs.Clash.{Bytes}
 use Rattle.dt_access.specs.declared.access.Mode.{Mode}
-use Rattle.dt_access.specs.declared.TxnId.{TxnId}
 use Rattle.dt_access.specs.declared.Part.{Part}
 use Rattle.dt_queue.specs.Queues.{HasDistinctSlots, IsQueued, Waiting, neighbours, taken_out}
 use Rattle.dt_queue.proofs.Callers.{distinct_pushed, pushed_waits}
-use Rattle.dt_graph.specs.declared.vertex.Vertex.{Vertex}
-use Rattle.dt_graph.specs.declared.open.Open.{Open}
 use Rattle.dt_graph.specs.Waits.{degree, id_at, others}
 use Rattle.dt_graph.specs.Graph.{GraphView, vertex_at}
 use Rattle.dt_graph.specs.Subset.{SubsetView}
-use Rattle.dt_graph.specs.Steps.{AreEntriesOf, Enters, Grows, Inserts, IsVertexBefore, Pushes, Raises, Sorts, fresh_vertex}
+use Rattle.dt_graph.specs.Steps.{AreEntriesOf, Enters, Grows, Inserts, Pushes, Raises, Sorts, fresh_vertex}
 use Rattle.dt_graph.proofs.Nearest.{slot_same, slot_other}
 use Rattle.dt_graph.proofs.Degrees.{degree_pushed}
 use Rattle.dt_graph.proofs.Complete.{filter_whole}

@@ -1,6 +1,6 @@
 -- Where a search in a list of different items finds one, and what the list is after a new one was put to it, for any test that
 -- tells whether two items are the same.
-use Rattle.std.proofs.Common.{◌≡◌, ℕ, suc, ◌+◌, nat_eq, ◌<◌, Bool, true, false, cond, List, [], ◌∷◌, ◌++◌, drop, get_or, length, slice_get, take, Option, Some, None}
+use Rattle.std.proofs.Common.{◌≡◌, ℕ, suc, ◌+◌, nat_eq, ◌<◌, Bool, true, false, cond, List, [], ◌∷◌, ◌++◌, drop, get_or, length, slice_get, take, Some, None}
 use Rattle.std.proofs.Common.{Result, Ok, Err, IfOk, IsOk, refl, ap, sym, subst, inl, inr, arith, ◌∙◌}
 use Rattle.std.specs.List.{list_any, position, position_from}
 use Rattle.std.proofs.lemmas.Iterator.Adapters.{position_from-zero}
@@ -15,6 +15,7 @@ pub record Tells {A : Type 0} (same : A → A → Bool) : Type 0 where
   pub of_test : (x y : A) → same x y ≡ true → x ≡ y
   pub of_self : (x : A) → same x x ≡ true
 
+-- no test says both
 clash : {t : Bool} → t ≡ true → t ≡ false → ⊥
 clash e f = cc
 

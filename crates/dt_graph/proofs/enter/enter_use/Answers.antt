@@ -1,5 +1,5 @@
-use Rattle.std.proofs.Common.{◌≡◌, ◌++◌, ◌∷◌, [], ap, sym, subst, ◌∙◌}
-use Rattle.dt_queue.specs.Queues.{HasDistinctSlots, IsQueued, Waiting, taken_out}
+use Rattle.std.proofs.Common.{ap, ◌∙◌}
+use Rattle.dt_queue.specs.Queues.{taken_out}
 use Rattle.dt_queue.proofs.Callers.{distinct_pushed, pushed_waits}
 use Rattle.dt_graph.proofs.Entered.{enters_one, without_last}
 use Rattle.dt_graph.proofs.enter.enter_use.Goals as goal
