@@ -1,23 +1,21 @@
 -- Pushing the uses of a part, step by step, and taking the pushed entries back; and what a part adds to what is kept.
-use Rattle.std.proofs.Common.{◌≡◌, ◌≢◌, ◌+◌, ◌<◌, ◌≤◌, ◌⊎◌, ◌↔◌, ◌∙◌, ℕ, zero, suc, Bool, true, false, ◌==◌, not, if◌then◌else◌, List, []}
-use Rattle.std.proofs.Common.{◌∷◌, ◌++◌, length, map, filter, get_or, set, Option, None, Some, refl, sym, ap, ap₂, subst, inl, inr, arith}
+use Rattle.std.proofs.Common.{◌≡◌, ◌≢◌, ◌+◌, ◌<◌, ◌≤◌, ◌⊎◌, ◌∙◌, ℕ, suc, Bool, true, false, ◌==◌, not, if◌then◌else◌, List, []}
+use Rattle.std.proofs.Common.{◌∷◌, ◌++◌, length, map, filter, get_or, set, None, refl, sym, ap, ap₂, subst, inl, inr, arith}
 use Rattle.std.proofs.lemmas.Bool.{cases_Bool}
 use Rattle.std.proofs.lemmas.List.{append-nil, append_assoc, get_or-set_other, get_or-set_same, length-append, length-set, map-append}
 use Rattle.std.proofs.lemmas.List.Elements.{filter-append}
 use Rattle.std.proofs.Math.ListN.{get_or-append}
-use Rattle.dt_lists.specs.Lists.{AnyIn, AllIn, Has, Distinct, EachThen}
-use Rattle.dt_lists.proofs.Callers.{all_append, all_append_left, all_put, any_put, distinct_push, each_append, each_append_left, each_across, has_last, has_longer, has_map, has_more, same_head, same_tail}
+use Rattle.dt_lists.specs.Lists.{AnyIn, AllIn, Has, Distinct}
+use Rattle.dt_lists.proofs.Callers.{all_append, all_append_left, all_put, distinct_push, each_append_left, each_across, has_last, has_longer, has_map, has_more, same_head, same_tail}
 use Rattle.dt_access.specs.Clash.{Bytes}
 use Rattle.dt_access.specs.declared.access.Mode.{Mode}
-use Rattle.dt_access.specs.declared.TxnId.{TxnId}
 use Rattle.dt_access.specs.declared.Part.{Part}
 use Rattle.dt_queue.specs.Queues.{HasDistinctSlots, IsQueued, Waiting, neighbours, taken_out}
-use Rattle.dt_graph.specs.declared.vertex.Vertex.{Vertex}
-use Rattle.dt_graph.specs.declared.open.Open.{Open}
+use Rattle.dt_queue.proofs.Callers.{distinct_pushed, pushed_waits}
 use Rattle.dt_graph.specs.Waits.{degree, id_at, others}
 use Rattle.dt_graph.specs.Graph.{GraphView, vertex_at}
 use Rattle.dt_graph.specs.Subset.{SubsetView}
-use Rattle.dt_graph.specs.Steps.{AreEntriesOf, Enters, Grows, Inserts, IsVertexBefore, Pushes, Raises, Sorts, fresh_vertex}
+use Rattle.dt_graph.specs.Steps.{AreEntriesOf, Enters, Grows, Inserts, Pushes, Raises, Sorts, fresh_vertex}
 use Rattle.dt_graph.proofs.Nearest.{slot_same, slot_other}
 use Rattle.dt_graph.proofs.Degrees.{degree_pushed}
 use Rattle.dt_graph.proofs.Complete.{filter_whole}
@@ -48,10 +46,6 @@ enters_more home vertex first second a b c r s t i j k e f = record {
   at_home = all_append _ e.pushed.more f.pushed.more e.at_home f.at_home;
   counted = λ h. f.counted (e.counted h);
 }
-
--- entries stay at distinct slots when one is pushed at a slot that was free
-pub distinct_pushed : (waiting : List Waiting) (w : Waiting) → HasDistinctSlots waiting → ¬ (IsQueued waiting w.slot) → HasDistinctSlots (waiting ++ w ∷ [])
-distinct_pushed waiting w d n = each_append _ waiting (w ∷ []) d (all_put _ waiting (λ v h. (λ e. n (any_put (λ u. u.slot ≡ w.slot) waiting v h e), tt))) (tt, tt)
 
 -- a count over an image
 count_mapped : {A B : Type 0} (p : B → Bool) (f : A → B) (xs : List A) → length (filter p (map f xs)) ≡ length (filter (λ x. p (f x)) xs)
@@ -230,9 +224,28 @@ inserts_again part v old waiting slots missing count ready stuck ready_now stuck
     degree_is : get_or (set old.degrees v count) v 0 ≡ count
     degree_is = get_or-set_same old.degrees v count 0 (subst (λ n. v < n) (sym sd) lt)
 
--- the entries that were pushed are taken back one by one
-pub pushes_back : (vertex slot : ℕ) (old now : List Waiting) (kept slots : List ℕ) → Pushes vertex old now kept (slots ++ slot ∷ []) → length kept ≤ length slots → Pushes vertex old (taken_out now slot) kept slots
-pushes_back vertex slot old now kept slots p le = by (from_last p.more)
+-- an empty list has no last item
+no_end : {A : Type 0} (xs : List A) (x : A) → xs ++ x ∷ [] ≡ [] → ⊥
+no_end [] x e = cc
+no_end (y ∷ ys) x e = cc
+
+-- lists with the same last item are the same before it
+same_ends : (xs ys : List ℕ) (x y : ℕ) → xs ++ x ∷ [] ≡ ys ++ y ∷ [] → (xs ≡ ys) × (y ≡ x)
+same_ends [] [] x y e = (refl, sym (same_head e))
+same_ends [] (b ∷ ys) x y e = absurd (no_end ys y (sym (same_tail e)))
+same_ends (a ∷ xs) [] x y e = absurd (no_end xs x (same_tail e))
+same_ends (a ∷ xs) (b ∷ ys) x y e = let r : (xs ≡ ys) × (y ≡ x) = same_ends xs ys x y (same_tail e) in (ap₂ ◌∷◌ (same_head e) r.0, r.1)
+
+-- the entry that was pushed last, of those that were pushed for a vertex
+pub record IsLastPushed (slot : ℕ) (more : List Waiting) (kept slots : List ℕ) : Type 0 where
+  pub front : List Waiting
+  pub last : Waiting
+  pub pushed : more ≡ front ++ last ∷ []
+  pub at_slot : last.slot ≡ slot
+  pub before : slots ≡ kept ++ map (λ w. w.slot) front
+
+last_pushed : (vertex slot : ℕ) (old now : List Waiting) (kept slots : List ℕ) (p : Pushes vertex old now kept (slots ++ slot ∷ [])) → length kept ≤ length slots → IsLastPushed slot p.more kept slots
+last_pushed vertex slot old now kept slots p le = by (from_last p.more)
   where
     from_last : (more : List Waiting) → (more ≡ []) ⊎ ((front : List Waiting) × (w : Waiting) × (more ≡ front ++ w ∷ []))
     from_last [] = inl refl
@@ -241,42 +254,58 @@ pushes_back vertex slot old now kept slots p le = by (from_last p.more)
       | inr r ↦ inr (x ∷ r.0, r.1, ap (λ l. x ∷ l) r.2)
     ]
 
+    longer : (k s : ℕ) → k ≤ s → s + 1 ≡ k → ⊥
+    longer k s le e = omega (arith, le, e)
+
     too_long : p.more ≡ [] → ⊥
     too_long e = longer (length kept) (length slots) le (sym (length-append slots (slot ∷ [])) ∙ ap length p.at_slots ∙ ap (λ m. length (kept ++ map (λ w. w.slot) m)) e ∙ ap length (append-nil kept))
-      where
-        longer : (k s : ℕ) → k ≤ s → s + 1 ≡ k → ⊥
-        longer k s le e = omega (arith, le, e)
 
-    by : (p.more ≡ []) ⊎ ((front : List Waiting) × (w : Waiting) × (p.more ≡ front ++ w ∷ [])) → Pushes vertex old (taken_out now slot) kept slots
+    by : (p.more ≡ []) ⊎ ((front : List Waiting) × (w : Waiting) × (p.more ≡ front ++ w ∷ [])) → IsLastPushed slot p.more kept slots
     by (inl e) = absurd (too_long e)
-    by (inr r) = record {
-      more = r.0;
-      waiting = ap (λ s. taken_out now s) (sym (same_last.1)) ∙ ap (λ l. taken_out l r.1.slot) now_is ∙ without_last (old ++ r.0) r.1 (subst HasDistinctSlots now_is p.distinct);
-      distinct = subst HasDistinctSlots (sym (ap (λ s. taken_out now s) (sym (same_last.1)) ∙ ap (λ l. taken_out l r.1.slot) now_is ∙ without_last (old ++ r.0) r.1 (subst HasDistinctSlots now_is p.distinct)))
-          (each_append_left _ (old ++ r.0) (r.1 ∷ []) (subst HasDistinctSlots now_is p.distinct));
-      at_slots = same_last.0;
-      of_vertex = all_append_left _ r.0 (r.1 ∷ []) (subst (AllIn (λ w. w.vertex ≡ vertex)) r.2 p.of_vertex);
-    }
+    by (inr r) = record { front = r.0; last = r.1; pushed = r.2; at_slot = same_last.1; before = same_last.0 }
       where
-        now_is : now ≡ old ++ r.0 ++ r.1 ∷ []
-        now_is = p.waiting ∙ ap (λ m. old ++ m) r.2 ∙ sym (append_assoc old r.0 (r.1 ∷ []))
-
-        slots_is : slots ++ slot ∷ [] ≡ (kept ++ map (λ w. w.slot) r.0) ++ r.1.slot ∷ []
-        slots_is = p.at_slots ∙ ap (λ m. kept ++ map (λ w. w.slot) m) r.2 ∙ ap (λ l. kept ++ l) (map-append (λ w. w.slot) r.0 (r.1 ∷ [])) ∙ sym (append_assoc kept (map (λ w. w.slot) r.0) (r.1.slot ∷ []))
-
-        same_ends : (xs ys : List ℕ) (x y : ℕ) → xs ++ x ∷ [] ≡ ys ++ y ∷ [] → (xs ≡ ys) × (y ≡ x)
-        same_ends [] [] x y e = (refl, sym (same_head e))
-        same_ends [] (b ∷ ys) x y e = absurd (no_end ys y (same_tail e))
-          where
-            no_end : (ys : List ℕ) (y : ℕ) → [] ≡ ys ++ y ∷ [] → ⊥
-            no_end [] y e = cc
-            no_end (z ∷ zs) y e = cc
-        same_ends (a ∷ xs) [] x y e = absurd (no_end xs x (same_tail e))
-          where
-            no_end : (xs : List ℕ) (x : ℕ) → xs ++ x ∷ [] ≡ [] → ⊥
-            no_end [] x e = cc
-            no_end (z ∷ zs) x e = cc
-        same_ends (a ∷ xs) (b ∷ ys) x y e = let r : (xs ≡ ys) × (y ≡ x) = same_ends xs ys x y (same_tail e) in (ap₂ ◌∷◌ (same_head e) r.0, r.1)
+        slots_are : slots ++ slot ∷ [] ≡ (kept ++ map (λ w. w.slot) r.0) ++ r.1.slot ∷ []
+        slots_are = p.at_slots ∙ ap (λ m. kept ++ map (λ w. w.slot) m) r.2 ∙ ap (λ l. kept ++ l) (map-append (λ w. w.slot) r.0 (r.1 ∷ [])) ∙ sym (append_assoc kept (map (λ w. w.slot) r.0) (r.1.slot ∷ []))
 
         same_last : (slots ≡ kept ++ map (λ w. w.slot) r.0) × (r.1.slot ≡ slot)
-        same_last = same_ends slots (kept ++ map (λ w. w.slot) r.0) slot r.1.slot slots_is
+        same_last = same_ends slots (kept ++ map (λ w. w.slot) r.0) slot r.1.slot slots_are
+
+-- the entry that was pushed last waits
+pub last_waits : (vertex slot : ℕ) (old now : List Waiting) (kept slots : List ℕ) → Pushes vertex old now kept (slots ++ slot ∷ []) → length kept ≤ length slots → IsQueued now slot
+last_waits vertex slot old now kept slots p le =
+    let r = last_pushed vertex slot old now kept slots p le in
+    subst (λ l. IsQueued l slot) (sym (p.waiting ∙ ap (λ m. old ++ m) r.pushed ∙ sym (append_assoc old r.front (r.last ∷ []))))
+    (subst (IsQueued ((old ++ r.front) ++ r.last ∷ [])) r.at_slot (pushed_waits (old ++ r.front) r.last))
+
+-- the entries that were pushed are taken back one by one
+pub pushes_back : (vertex slot : ℕ) (old now : List Waiting) (kept slots : List ℕ) → Pushes vertex old now kept (slots ++ slot ∷ []) → length kept ≤ length slots → Pushes vertex old (taken_out now slot) kept slots
+pushes_back vertex slot old now kept slots p le = record {
+  more = r.front;
+  waiting = back;
+  distinct = subst HasDistinctSlots (sym back) (each_append_left _ (old ++ r.front) (r.last ∷ []) all_distinct);
+  at_slots = r.before;
+  of_vertex = all_append_left _ r.front (r.last ∷ []) (subst (AllIn (λ w. w.vertex ≡ vertex)) r.pushed p.of_vertex);
+}
+  where
+    r : IsLastPushed slot p.more kept slots
+    r = last_pushed vertex slot old now kept slots p le
+
+    now_is : now ≡ (old ++ r.front) ++ r.last ∷ []
+    now_is = p.waiting ∙ ap (λ m. old ++ m) r.pushed ∙ sym (append_assoc old r.front (r.last ∷ []))
+
+    all_distinct : HasDistinctSlots ((old ++ r.front) ++ r.last ∷ [])
+    all_distinct = subst HasDistinctSlots now_is p.distinct
+
+    back : taken_out now slot ≡ old ++ r.front
+    back = ap (λ s. taken_out now s) (sym r.at_slot) ∙ ap (λ l. taken_out l r.last.slot) now_is ∙ without_last (old ++ r.front) r.last all_distinct
+
+-- all that was pushed was taken back
+pub pushes_none : (vertex : ℕ) (old now : List Waiting) (kept slots : List ℕ) → Pushes vertex old now kept slots → length slots ≤ length kept → (now ≡ old) × (slots ≡ kept)
+pushes_none vertex old now kept slots p le = by p.more p.waiting p.at_slots
+  where
+    too_long : (k m s : ℕ) → s ≡ k + suc m → s ≤ k → ⊥
+    too_long k m s e le = omega (arith, e, le)
+
+    by : (more : List Waiting) → now ≡ old ++ more → slots ≡ kept ++ map (λ w. w.slot) more → (now ≡ old) × (slots ≡ kept)
+    by [] e f = (e ∙ append-nil old, f ∙ append-nil kept)
+    by (w ∷ more) e f = absurd (too_long (length kept) (length (map (λ w. w.slot) more)) (length slots) (ap length f ∙ length-append kept (w.slot ∷ map (λ w. w.slot) more)) le)

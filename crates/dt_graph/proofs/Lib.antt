@@ -27,3 +27,5 @@ pub mod Linked
 pub mod TakenOut
 pub mod Waking
 pub mod Full
+pub mod Indexed
+pub mod Sorting

@@ -1,5 +1,5 @@
-ghost use Rattle.std.specs.Prelude.{◌≡◌, ◌≤◌, ℕ, [], ◌∷◌, List, IfOk, OnErr, length};
-ghost use Rattle.dt_queue.specs.Queues.{HasDistinctSlots, Waiting};
+ghost use Rattle.std.specs.Prelude.{◌≡◌, ℕ, [], ◌∷◌, ◌++◌, List, IfOk, OnErr, OnOk, length, map};
+ghost use Rattle.dt_queue.specs.Queues.{HasDistinctSlots, IsQueued, Waiting, neighbours};
 ghost use Rattle.dt_graph.specs.Steps.{Enters, Pushes, Raises};
 
 use crate::vertex::Slots;
@@ -22,6 +22,27 @@ fn raised(degree: usize, neighbours: &[u32], vertex: u32) -> Result<usize, NoMem
     Ok(raised)
 }
 
+/// Keeps the slot of an entry that waits for a vertex, and answers the degree, raised by the neighbours of the entry; after
+/// `NoMemory` the slots are as before.
+fn keep_slot(
+    alloc: Global,
+    queues: &Queues,
+    slot: usize,
+    vertex: u32,
+    degree: usize,
+    slots: &mut Slots,
+) -> Result<usize, NoMemory>
+    requires { IsQueued queues.now slot }
+    ensures raised { IfOk result (Raises degree (map (λ w. w.vertex) (neighbours queues.now slot)) vertex) }
+    ensures kept { OnOk result (slots.new ≡ slots.old ++ slot ∷ []) }
+    ensures same { OnErr result (slots.new ≡ slots.old) }
+{
+    let neighbours = queues.neighbours(alloc, slot)?;
+    let risen = raised(degree, neighbours.as_slice(), vertex)?;
+    slots.push(slot)?;
+    Ok(risen)
+}
+
 /// Lets a vertex wait for the use of a key, and answers its degree; after `NoMemory` all is as before.
 fn enter_use(
     alloc: Global,
@@ -39,19 +60,13 @@ fn enter_use(
 {
     let (key, mode) = used;
     let slot = queues.push(alloc, home, key, *mode, vertex)?;
-    let risen = match queues.neighbours(alloc, slot) {
-        Ok(neighbours) => raised(degree, neighbours.as_slice(), vertex),
-        Err(error) => Err(error),
-    };
-    let kept = match risen {
-        Ok(_) => slots.push(slot),
-        Err(error) => Err(error),
-    };
-    if kept.is_err() {
-        queues.remove(slot);
+    match keep_slot(alloc, queues, slot, vertex, degree, slots) {
+        Ok(risen) => Ok(risen),
+        Err(error) => {
+            queues.remove(slot);
+            Err(error)
+        }
     }
-    kept?;
-    risen
 }
 
 /// Lets a vertex wait for the uses of a part, one after the other, and answers its degree; after `NoMemory` it waits for the
@@ -68,11 +83,11 @@ fn enter_uses(
     ensures entered { IfOk result (Enters part.now.home vertex part.now.keys queues.old queues.new slots.old slots.new degree) }
     ensures pushed { Pushes vertex queues.old queues.new slots.old slots.new }
 {
-    let mut degree = degree;
+    let mut risen = degree;
     for used in part.keys.as_slice() {
-        degree = enter_use(alloc, queues, part.home, used, vertex, degree, slots)?;
+        risen = enter_use(alloc, queues, part.home, used, vertex, risen, slots)?;
     }
-    Ok(degree)
+    Ok(risen)
 }
 
 /// Takes back the entries at the last slots, all but so many.
@@ -81,9 +96,10 @@ fn take_back(queues: &mut Queues, slots: &mut Slots, count: usize)
     ensures { (vertex : ℕ) (old : List Waiting) (kept : List ℕ) → length kept ≡ count → Pushes vertex old queues.old kept slots.old → (queues.new ≡ old) × (slots.new ≡ kept) }
 {
     while slots.len() > count {
-        if let Some(slot) = slots.pop() {
-            queues.remove(slot);
-        }
+        let Some(slot) = slots.pop() else {
+            unreachable!()
+        };
+        queues.remove(slot);
     }
 }
 
@@ -102,9 +118,11 @@ pub fn enter(
     ensures same_slots { OnErr result (slots.new ≡ slots.old) }
 {
     let count = slots.len();
-    let entered = enter_uses(alloc, queues, part, vertex, degree, slots);
-    if entered.is_err() {
-        take_back(queues, slots, count);
+    match enter_uses(alloc, queues, part, vertex, degree, slots) {
+        Ok(risen) => Ok(risen),
+        Err(error) => {
+            take_back(queues, slots, count);
+            Err(error)
+        }
     }
-    entered
 }

@@ -1,0 +1,80 @@
+-- Where a search in a list of different items finds one, and what the list is after a new one was put to it, for any test that
+-- tells whether two items are the same.
+use Rattle.std.proofs.Common.{◌≡◌, ℕ, suc, ◌+◌, nat_eq, ◌<◌, Bool, true, false, cond, List, [], ◌∷◌, ◌++◌, drop, get_or, length, slice_get, take, Some, None}
+use Rattle.std.proofs.Common.{Result, Ok, Err, IfOk, IsOk, refl, ap, sym, subst, inl, inr, arith, ◌∙◌}
+use Rattle.std.specs.List.{list_any, position, position_from}
+use Rattle.std.proofs.lemmas.Iterator.Adapters.{position_from-zero}
+use Rattle.std.proofs.lemmas.List.{take_more, take-append-drop}
+use Rattle.dt_lists.specs.Lists.{Distinct, Has}
+use Rattle.dt_lists.proofs.Callers.{any_get, any_of_test, each_across, each_append_left}
+use Rattle.dt_access.specs.Ids.{same_id}
+use Rattle.dt_access.proofs.Callers.{id_of_test, test_of_id}
+
+-- the test holds of two items where they are the same, and only there
+pub record Tells {A : Type 0} (same : A → A → Bool) : Type 0 where
+  pub of_test : (x y : A) → same x y ≡ true → x ≡ y
+  pub of_self : (x : A) → same x x ≡ true
+
+-- no test says both
+clash : {t : Bool} → t ≡ true → t ≡ false → ⊥
+clash e f = cc
+
+-- the place that a search tells
+found_from : {A : Type 0} (same : A → A → Bool) → Tells same → (x : A) (xs : List A) (start i : ℕ) → Some i ≡ position_from (same x) start xs → (j : ℕ) × (i ≡ start + j) × (slice_get xs j ≡ Some x)
+found_from same t x [] start i e = cc
+found_from same t x (y ∷ xs) start i e = by (same x y) refl e (λ f. found_from same t x xs (start + 1) i f)
+  where
+    by : (b : Bool) → same x y ≡ b → Some i ≡ cond b (Some start) (position_from (same x) (start + 1) xs)
+        → (Some i ≡ position_from (same x) (start + 1) xs → (j : ℕ) × (i ≡ start + 1 + j) × (slice_get xs j ≡ Some x)) → (j : ℕ) × (i ≡ start + j) × (slice_get (y ∷ xs) j ≡ Some x)
+    by true s f rest = let v : i ≡ start = value f in (0, omega (arith, v), ap Some (sym (t.of_test x y s)))
+      where
+        value : Some i ≡ Some start → i ≡ start
+        value f = cc
+    by false s f rest = let r = rest f in (suc r.0, omega (arith, r.1), r.2)
+
+pub found_at : {A : Type 0} (same : A → A → Bool) → Tells same → (x : A) (xs : List A) (i : ℕ) → Some i ≡ position (same x) xs → slice_get xs i ≡ Some x
+found_at same t x xs i e = let r = found_from same t x xs 0 i (e ∙ position_from-zero (same x) xs) in let s : i ≡ r.0 = omega (arith, r.1) in ap (slice_get xs) s ∙ r.2
+
+-- where a search tells no place, the item is not there
+missed_from : {A : Type 0} (same : A → A → Bool) → Tells same → (x : A) (xs : List A) (start : ℕ) → None ≡ position_from (same x) start xs → ¬ (Has xs x)
+missed_from same t x [] start e h = h
+missed_from same t x (y ∷ xs) start e h = by (same x y) refl e (λ f. missed_from same t x xs (start + 1) f)
+  where
+    by : (b : Bool) → same x y ≡ b → None ≡ cond b (Some start) (position_from (same x) (start + 1) xs) → (None ≡ position_from (same x) (start + 1) xs → ¬ (Has xs x)) → ⊥
+    by true s f rest = cc
+    by false s f rest = elim h [ inl e ↦ clash (subst (λ z. same x z ≡ true) (sym e) (t.of_self x)) s | inr g ↦ rest f g ]
+
+pub missed : {A : Type 0} (same : A → A → Bool) → Tells same → (x : A) (xs : List A) → None ≡ position (same x) xs → ¬ (Has xs x)
+missed same t x xs e = missed_from same t x xs 0 (e ∙ position_from-zero (same x) xs)
+
+-- an item that is not there is put at the back
+pub added_new : {A : Type 0} (same : A → A → Bool) → Tells same → (x : A) (xs : List A) → ¬ (Has xs x) → cond (list_any (same x) xs) xs (xs ++ x ∷ []) ≡ xs ++ x ∷ []
+added_new same t x xs fresh = by (list_any (same x) xs) refl
+  where
+    by : (b : Bool) → list_any (same x) xs ≡ b → cond b xs (xs ++ x ∷ []) ≡ xs ++ x ∷ []
+    by true e = let r = any_get (λ y. same x y ≡ true) xs (any_of_test (same x) xs e) in absurd (fresh (subst (Has xs) (sym (t.of_test x r.0 r.2)) r.1))
+    by false e = refl
+
+-- what goes for each answer goes where there is one
+pub settled : {A E P : Type 0} (r : Result A E) → IsOk r → IfOk r (λ _. P) → P
+settled (Ok a) o h = h
+settled (Err e) o h = cc
+
+-- the tests of ids and of numbers tell
+pub tells_id : Tells same_id
+tells_id = record { of_test = id_of_test; of_self = λ x. test_of_id x x refl }
+
+pub tells_number : Tells nat_eq
+tells_number = record { of_test = λ x y e. grind (arith, e); of_self = λ x. grind arith }
+
+-- the items of a list of different ones are put one after the other
+pub index_more : {A : Type 0} (same : A → A → Bool) → Tells same → (list keys new : List A) (n : ℕ) (d : A) → Distinct list → n < length list → keys ≡ take n list
+    → new ≡ cond (list_any (same (get_or list n d)) keys) keys (keys ++ get_or list n d ∷ []) → new ≡ take (n + 1) list
+index_more same t list keys new n d once lt is_front is_new =
+    is_new ∙ added_new same t (get_or list n d) keys (λ h. fresh (subst (λ l. Has l (get_or list n d)) is_front h)) ∙ ap (λ l. l ++ get_or list n d ∷ []) is_front ∙ sym (take_more list n d lt)
+  where
+    front_once : Distinct (take (n + 1) list)
+    front_once = each_append_left _ (take (n + 1) list) (drop (n + 1) list) (subst Distinct (sym (take-append-drop (n + 1) list)) once)
+
+    fresh : ¬ (Has (take n list) (get_or list n d))
+    fresh h = each_across _ (take n list) (get_or list n d ∷ []) (get_or list n d) (get_or list n d) (subst Distinct (take_more list n d lt) front_once) h (inl refl) refl
