@@ -1,4 +1,5 @@
-ghost use Rattle.std.specs.Prelude.{◌≡◌, ◌≤◌, ◌<◌, ℕ, not, filter, get_or, length, sum_by};
+ghost use Rattle.std.specs.Prelude.{◌≡◌, ◌≤◌, ◌<◌, ◌==◌, ℕ, not, filter, get_or, length, sum_by};
+ghost use Rattle.std.specs.List.{list_any};
 ghost use Rattle.dt_lists.specs.Lists.{AllIn, AnyIn, Distinct};
 ghost use Rattle.dt_queue.specs.Queues.{HasDistinctSlots, IsQueued};
 ghost use Rattle.dt_graph.specs.Steps.{AreEntriesBelow, AreLowered, IsFollowedAt, HaveSlots, Wakes};
@@ -47,8 +48,12 @@ fn lower_all(queues: &Queues, vertices: &[Vertex], leaving: &[u32], degrees: &mu
     ensures { AreLowered (lowered_by queues.now leaving.now) degrees.old degrees.new }
 {
     for vertex in leaving {
-        let slots = vertices[*vertex as usize].slots.as_slice();
-        lower_slots(queues, slots, *vertex, degrees);
+        lower_slots(
+            queues,
+            vertices[*vertex as usize].slots.as_slice(),
+            *vertex,
+            degrees,
+        );
     }
 }
 
@@ -114,8 +119,24 @@ fn wake_all(
     ensures { Wakes (IsFollowed queues.now leaving.now) degrees.now stuck.old ready.old stuck.new ready.new }
 {
     for vertex in leaving {
-        let slots = vertices[*vertex as usize].slots.as_slice();
-        wake_slots(queues, slots, degrees, stuck, ready);
+        wake_slots(
+            queues,
+            vertices[*vertex as usize].slots.as_slice(),
+            degrees,
+            stuck,
+            ready,
+        );
+    }
+}
+
+/// Takes the entries at some slots out of the queues.
+fn remove_slots(queues: &mut Queues, slots: &[usize])
+    requires once { Distinct slots.now }
+    requires wait { AllIn (IsQueued queues.old) slots.now }
+    ensures { queues.new ≡ filter (λ w. not (list_any (λ s. s == w.slot) slots.now)) queues.old }
+{
+    for slot in slots {
+        queues.remove(*slot);
     }
 }
 
@@ -127,9 +148,7 @@ fn remove_all(queues: &mut Queues, vertices: &[Vertex], leaving: &[u32])
     ensures { queues.new ≡ filter (λ w. not (is_leaving leaving.now w.vertex)) queues.old }
 {
     for vertex in leaving {
-        for slot in vertices[*vertex as usize].slots.as_slice() {
-            queues.remove(*slot);
-        }
+        remove_slots(queues, vertices[*vertex as usize].slots.as_slice());
     }
 }
 
