@@ -26,4 +26,6 @@ pub mod Lowering
 pub mod Linked
 pub mod TakenOut
 pub mod Waking
+pub mod Along
+pub mod Putting
 pub mod Full

@@ -11,7 +11,6 @@ use Rattle.dt_queue.specs.Queues.{HasDistinctSlots, IsQueued, Waiting, follower_
 use Rattle.dt_graph.specs.Waits.{lowered, slots_of}
 use Rattle.dt_graph.specs.Steps.{AreLowered}
 use Rattle.dt_graph.proofs.Nearest.{slot_same, slot_other}
-use Rattle.dt_graph.proofs.Sums.{sum_first}
 use Rattle.dt_graph.proofs.Followers.{first_told, followers_begin, followers_onward, lowered_one, none_told, to_lower}
 
 -- by how much the degree of v falls for one follower of the vertex x, of a slot of the vertex u
@@ -115,36 +114,6 @@ module _ (waiting : List Waiting) (distinct : HasDistinctSlots waiting) (slot u 
 pub record IsLoweringBy (takes : ℕ → ℕ → ℕ) (all rest : List ℕ) (old now : List ℕ) : Type 0 where
   pub size : length now ≡ length old
   pub still : (v : ℕ) → v < length old → get_or old v 0 + sum_by (λ x. takes x v) rest ≡ get_or now v 0 + sum_by (λ x. takes x v) all
-
-module _ (takes : ℕ → ℕ → ℕ) (all old : List ℕ) where
-  pub items_begin : IsLoweringBy takes all all old old
-  items_begin = record { size = refl; still = λ v lt. refl }
-
-  pub items_end : (rest now : List ℕ) → IsLoweringBy takes all rest old now → rest ≡ [] → AreLowered (λ v. sum_by (λ x. takes x v) all) old now
-  items_end rest now l e = (l.size, λ v lt. no_more _ _ _ _ (l.still v lt) (ap (sum_by (λ x. takes x v)) e))
-    where
-      no_more : (o m n k : ℕ) → o + m ≡ n + k → m ≡ 0 → o ≡ n + k
-      no_more o m n k e f = omega (arith, e, f)
-
-  module _ (rest now : List ℕ) (l : IsLoweringBy takes all rest old now) (x : ℕ) (more : List ℕ) (next : rest ≡ x ∷ more) where
-    item_of : (v : ℕ) → sum_by (λ x. takes x v) rest ≡ takes x v + sum_by (λ x. takes x v) more
-    item_of v = ap (sum_by (λ x. takes x v)) next ∙ sum_first (λ x. takes x v) x more
-
-    -- where each has enough for all, it has enough for the next item
-    pub item_fits : ((v : ℕ) → v < length old → sum_by (λ x. takes x v) all ≤ get_or old v 0) → (v : ℕ) → v < length now → takes x v ≤ get_or now v 0
-    item_fits enough v lt = let below : v < length old = subst (λ n. v < n) l.size lt in fits _ _ _ _ _ _ (l.still v below) (item_of v) (enough v below)
-      where
-        fits : (o m n k t r : ℕ) → o + m ≡ n + k → m ≡ t + r → k ≤ o → t ≤ n
-        fits o m n k t r e f h = omega (arith, e, f, h)
-
-    pub item_lowered : (after : List ℕ) → AreLowered (takes x) now after → IsLoweringBy takes all more old after
-    item_lowered after a = record {
-      size = a.0 ∙ l.size;
-      still = λ v lt. less _ _ _ _ _ _ _ (l.still v lt) (item_of v) (a.1 v (subst (λ n. v < n) (sym l.size) lt));
-    }
-      where
-        less : (o m n k t r s : ℕ) → o + m ≡ n + k → m ≡ t + r → n ≡ s + t → o + r ≡ s + k
-        less o m n k t r s e f g = omega (arith, e, f, g)
 
 -- what the leaving of a vertex takes from the degree of another
 abbrev pub taken_by : List Waiting → ℕ → ℕ → ℕ

@@ -1,9 +1,10 @@
 -- The entries of vertices are taken out slot by slot, vertex by vertex: what is still to go leaves of what waits just what is
 -- to stay of all.
 use Rattle.std.proofs.Common.{◌≡◌, ◌≢◌, ◌<◌, ◌⊎◌, ◌∙◌, ℕ, Bool, true, false, ◌&&◌, ◌==◌, not, List, []}
-use Rattle.std.proofs.Common.{◌∷◌, length, map, filter, refl, sym, ap, subst, inl, inr, eqb-true, eq-eqb, arith}
+use Rattle.std.proofs.Common.{◌∷◌, length, map, filter, get_or, refl, sym, ap, subst, inl, inr, eqb-true, eq-eqb, arith}
 use Rattle.std.specs.List.{list_any}
 use Rattle.std.proofs.lemmas.Bool.{cases_Bool, false_from_ne_true}
+use Rattle.std.proofs.lemmas.List.{get_or_read}
 use Rattle.dt_lists.specs.Lists.{AnyIn, AllIn, Has, Distinct, EachThen}
 use Rattle.dt_lists.proofs.Callers.{all_get, all_put, any_get, any_map, any_of_image, any_of_test, any_put, each_map, filter_each, has_filter, has_map, has_of_filtered, test_of_any}
 use Rattle.dt_queue.specs.Queues.{HasDistinctSlots, IsQueued, Waiting, taken_out}
@@ -160,16 +161,17 @@ module _ (vertices : List Vertex) (leaving : List ℕ) (old : List Waiting) wher
       all_stay [] = refl
       all_stay (w ∷ ws) = ap (λ l. w ∷ l) (all_stay ws)
 
--- the slots that are kept of a leaving vertex
-module _ (waiting : List Waiting) (vertices : List Vertex) (leaving : List ℕ) (have : HaveSlots waiting vertices leaving) (v : ℕ) (h : Has leaving v) where
-  pub leaving_within : v < length vertices
-  leaving_within = (all_get _ leaving have v h).0
+-- the slots that are read of a leaving vertex are those of its entries
+module _ (waiting : List Waiting) (vertices : List Vertex) (leaving : List ℕ) (have : HaveSlots waiting vertices leaving) (v : ℕ) (h : Has leaving v)
+    (read : Vertex) (is : read ≡ get_or vertices v read) (slots : List ℕ) (told : slots ≡ (get_or vertices v read).slots) where
+  pub read_slots : slots ≡ (vertex_at vertices v).slots
+  read_slots = told ∙ ap (λ x. x.slots) (sym is ∙ get_or_read vertices v read (all_get _ leaving have v h).0 is _)
 
-  pub leaving_slots : (vertex_at vertices v).slots ≡ slots_of waiting v
-  leaving_slots = (all_get _ leaving have v h).1
+  pub leaving_slots : slots ≡ slots_of waiting v
+  leaving_slots = read_slots ∙ (all_get _ leaving have v h).1
 
-  pub leaving_wait : AllIn (IsQueued waiting) (vertex_at vertices v).slots
+  pub leaving_wait : AllIn (IsQueued waiting) slots
   leaving_wait = subst (AllIn (IsQueued waiting)) (sym leaving_slots) (slots_wait waiting v)
 
-  pub leaving_once : HasDistinctSlots waiting → Distinct (vertex_at vertices v).slots
+  pub leaving_once : HasDistinctSlots waiting → Distinct slots
   leaving_once distinct = subst Distinct (sym leaving_slots) (slots_once waiting v distinct)
