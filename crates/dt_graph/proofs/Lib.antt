@@ -28,4 +28,5 @@ pub mod TakenOut
 pub mod Waking
 pub mod Along
 pub mod Putting
+pub mod Grown
 pub mod Full

@@ -1,12 +1,15 @@
 -- Putting vertices into a resolved class, one after the other: those in front are in it and stuck no more.
-use Rattle.std.proofs.Common.{◌≡◌, ◌≢◌, ◌<◌, ◌⊎◌, ◌↔◌, ◌+◌, ◌∙◌, ℕ, List, [], ◌∷◌, length, get_or, set, slice_get, take, Option, None, Some, refl, sym, subst, inl, inr}
+use Rattle.std.proofs.Common.{◌≡◌, ◌≢◌, ◌<◌, ◌⊎◌, ◌↔◌, ◌+◌, ◌∙◌, ℕ, List, [], ◌∷◌, ◌++◌, length, get_or, set, slice_get, take, Option, None, Some, refl, sym, subst, inl, inr}
 use Rattle.std.proofs.lemmas.List.{get_or-set_other, get_or-set_same, length-set}
 use Rattle.dt_lists.specs.Lists.{Either, Has}
 use Rattle.dt_lists.proofs.Callers.{either_any, either_nat}
+use Rattle.dt_access.specs.declared.TxnId.{TxnId}
+use Rattle.dt_queue.specs.Queues.{Waiting}
 use Rattle.dt_graph.specs.declared.vertex.Vertex.{Vertex}
+use Rattle.dt_graph.specs.declared.open.Open.{Open}
 use Rattle.dt_graph.specs.Graph.{vertex_at}
 use Rattle.dt_graph.specs.Subset.{PutsIn, Removes, SubsetView}
-use Rattle.dt_graph.specs.Steps.{IsPut}
+use Rattle.dt_graph.specs.Steps.{IsPut, Resolves}
 use Rattle.dt_graph.proofs.Along.{passed_at}
 
 -- the vertices in front were put into the class
@@ -27,7 +30,7 @@ putting_begins class old stuck = record {
 }
 
 module _ (class : ℕ) (members : List ℕ) (place : ℕ) (lt : place < length members) (old now : List Vertex) (stuck stuck_now stuck_next : SubsetView) where
-  item : ℕ
+  abbrev item : ℕ
   item = get_or members place 0
 
   -- one more is put into it
@@ -77,3 +80,28 @@ none_readied members ready at v = (λ h. inl h, λ h. elim h [ inl o ↦ o | inr
   where
     none : slice_get members 0 ≡ Some v → ⊥
     none e = cc
+
+-- all of them were put into it, and the first is ready
+pub resolves_held : (class : ℕ) (members : List ℕ) (ids : List TxnId) (vertices vertices_now : List Vertex) (degrees degrees_now : List ℕ) (waiting waiting_now : List Waiting) (ready ready_now : List ℕ)
+    (stuck stuck_now : SubsetView) (classes : List Open) → IsPutting class members vertices vertices_now stuck stuck_now → degrees_now ≡ degrees → waiting_now ≡ waiting
+    → ((v : ℕ) → Has ready_now v ↔ Has ready v ⊎ (slice_get members 0 ≡ Some v))
+    → Resolves members class (record { ids = ids; vertices = vertices; degrees = degrees; waiting = waiting; ready = ready; stuck = stuck.items; classes = classes }) (record {
+      ids = ids;
+      vertices = vertices_now;
+      degrees = degrees_now;
+      waiting = waiting_now;
+      ready = ready_now;
+      stuck = stuck_now.items;
+      classes = classes ++ record { members = members; next = 0 } ∷ [];
+    })
+resolves_held class members ids vertices vertices_now degrees degrees_now waiting waiting_now ready ready_now stuck stuck_now classes p same_degrees same_waiting readied = record {
+  ids = refl;
+  size = p.size;
+  inside = p.inside;
+  outside = p.outside;
+  degrees = same_degrees;
+  waiting = same_waiting;
+  ready = readied;
+  stuck = p.still_stuck;
+  classes = refl;
+}
