@@ -7,7 +7,7 @@ use Rattle.std.proofs.lemmas.Bool.{cases_Bool, false_from_ne_true}
 use Rattle.std.proofs.lemmas.List.{append_assoc}
 use Rattle.std.proofs.lemmas.List.Elements.{filter-append}
 use Rattle.dt_lists.specs.Lists.{AnyIn, AllIn, Has, EachThen}
-use Rattle.dt_lists.proofs.Callers.{all_get, all_put, any_get, any_append_left, any_of_test, any_put, each_across, filter_none, has_middle, same_head, same_tail, Spot, spot}
+use Rattle.dt_lists.proofs.Callers.{all_get, all_put, any_get, any_append_left, any_of_test, any_put, each_across, filter_all, filter_none, has_middle, same_head, same_tail, Spot, spot}
 use Rattle.dt_queue.specs.declared.Follower.{Follower}
 use Rattle.dt_queue.specs.Queues.{HasDistinctSlots, IsQueued, Waiting, pushed_after, follower_of, followers, followers_after, is_at, is_neighbour, neighbours}
 use Rattle.dt_graph.specs.Waits.{is_of}
@@ -128,3 +128,28 @@ lowered_one u v w more = by (cases_Bool (u == v)) (cases_Bool (w.vertex == v))
     by (inl e) f = rw e refl
     by (inr e) (inl f) = rw (e, f) (one_more _)
     by (inr e) (inr f) = rw (e, f) (none_more _)
+
+all_after : (P : Waiting → Type 0) (ws : List Waiting) (place : ℕ) → AllIn P ws → AllIn P (pushed_after ws place)
+all_after P [] place a = tt
+all_after P (w ∷ ws) place a = by (all_after P ws place a.1) (cases_Bool (w.slot == place))
+  where
+    by : AllIn P (pushed_after ws place) → ((w.slot == place) ≡ true) ⊎ ((w.slot == place) ≡ false) → AllIn P (pushed_after (w ∷ ws) place)
+    by later (inl e) = rw e a.1
+    by later (inr e) = rw e later
+
+-- what is told of a follower is of an entry
+pub told_below : (waiting : List Waiting) (slot place bound : ℕ) (f : Follower) → AllIn (λ w. w.vertex < bound) waiting → slice_get (map follower_of (followers_after waiting slot place)) 0 ≡ Some f → f.vertex < bound
+told_below waiting slot place bound f below told =
+    let t : (w : Waiting) × (more : List Waiting) × (followers_after waiting slot place ≡ w ∷ more) × (w.slot ≡ f.slot) × (w.vertex ≡ f.vertex) = first_told (followers_after waiting slot place) f told in
+    let all : AllIn (λ w. w.vertex < bound) (followers_after waiting slot place) = filter_all _ (λ w. is_neighbour waiting slot w.slot) (pushed_after waiting place) (all_after _ waiting place below) in
+    subst (λ v. v < bound) t.4 (subst (AllIn (λ w. w.vertex < bound)) t.2 all).0
+
+-- after what is told of the first follower one fewer is left
+pub fewer_told : (waiting : List Waiting) → HasDistinctSlots waiting → (slot place : ℕ) (f : Follower) → IsQueued waiting place → slice_get (map follower_of (followers_after waiting slot place)) 0 ≡ Some f
+    → length (followers_after waiting slot f.slot) < length (followers_after waiting slot place)
+fewer_told waiting distinct slot place f h told =
+    let t : (w : Waiting) × (more : List Waiting) × (followers_after waiting slot place ≡ w ∷ more) × (w.slot ≡ f.slot) × (w.vertex ≡ f.vertex) = first_told (followers_after waiting slot place) f told in
+    less _ _ _ (ap (λ s. length (followers_after waiting slot s)) (sym t.3) ∙ ap length (followers_onward waiting distinct slot place t.0 t.1 h t.2).1) (ap length t.2)
+  where
+    less : (a b n : ℕ) → a ≡ n → b ≡ suc n → a < b
+    less a b n e f = omega (arith, e, f)

@@ -26,6 +26,9 @@ pub mod Lowering
 pub mod Linked
 pub mod TakenOut
 pub mod Waking
+pub mod Along
+pub mod Putting
+pub mod Grown
 pub mod Full
 pub mod Indexed
 pub mod Sorting

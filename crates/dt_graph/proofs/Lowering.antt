@@ -3,11 +3,12 @@ use Rattle.std.proofs.Common.{◌≡◌, ◌≢◌, ◌+◌, ◌-◌, ◌<◌, �
 use Rattle.std.proofs.Common.{List, [], ◌∷◌, length, map, filter, get_or, set, slice_get, Option, None, Some, refl, sym, ap, subst, inl, inr, eqb-true, eq-eqb, arith}
 use Rattle.std.proofs.lemmas.Bool.{cases_Bool}
 use Rattle.std.proofs.lemmas.List.{get_or-set_other, get_or-set_same, length-set}
+use Rattle.std.specs.List.{sum_by}
 use Rattle.dt_lists.specs.Lists.{AllIn, Has}
 use Rattle.dt_lists.proofs.Callers.{all_get, any_get, any_put, either_nat}
 use Rattle.dt_queue.specs.declared.Follower.{Follower}
 use Rattle.dt_queue.specs.Queues.{HasDistinctSlots, IsQueued, Waiting, follower_of, followers, followers_after}
-use Rattle.dt_graph.specs.Waits.{lowered}
+use Rattle.dt_graph.specs.Waits.{lowered, slots_of}
 use Rattle.dt_graph.specs.Steps.{AreLowered}
 use Rattle.dt_graph.proofs.Nearest.{slot_same, slot_other}
 use Rattle.dt_graph.proofs.Followers.{first_told, followers_begin, followers_onward, lowered_one, none_told, to_lower}
@@ -107,3 +108,13 @@ module _ (waiting : List Waiting) (distinct : HasDistinctSlots waiting) (slot u 
 
             other : (o m n k r s : ℕ) → o + m ≡ n + k → m ≡ 0 + r → s ≡ n → o + r ≡ s + k
             other o m n k r s e g i = omega (arith, e, g, i)
+
+-- degrees are lowered item by item: with what those that are left are still to take from it each degree is what it was, but
+-- for what all of them take
+pub record IsLoweringBy (takes : ℕ → ℕ → ℕ) (all rest : List ℕ) (old now : List ℕ) : Type 0 where
+  pub size : length now ≡ length old
+  pub still : (v : ℕ) → v < length old → get_or old v 0 + sum_by (λ x. takes x v) rest ≡ get_or now v 0 + sum_by (λ x. takes x v) all
+
+-- what the leaving of a vertex takes from the degree of another
+abbrev pub taken_by : List Waiting → ℕ → ℕ → ℕ
+taken_by waiting u v = sum_by (λ slot. lowered waiting slot u v) (slots_of waiting u)

@@ -1,7 +1,8 @@
 -- Waking: of some vertices those that are stuck and of degree 0 become ready. Of one vertex, of more vertices, and along the
 -- walk over the followers of an entry.
-use Rattle.std.proofs.Common.{◌≡◌, ◌≢◌, ◌⊎◌, ◌↔◌, ◌∙◌, ℕ, List, [], ◌∷◌, ◌++◌, map, get_or, slice_get, None, Some, refl, sym, ap, subst, inl, inr}
+use Rattle.std.proofs.Common.{◌≡◌, ◌≢◌, ◌⊎◌, ◌↔◌, ◌∙◌, ◌+◌, ◌<◌, ℕ, List, [], ◌∷◌, ◌++◌, length, map, get_or, slice_get, take, None, Some, refl, sym, ap, subst, inl, inr}
 use Rattle.std.proofs.lemmas.List.{append-nil, append_assoc}
+use Rattle.std.proofs.lemmas.Grind.{take_at_read}
 use Rattle.dt_lists.specs.Lists.{AnyIn, Has, Either}
 use Rattle.dt_lists.proofs.Callers.{any_append, any_append_left, any_append_right, any_get, either_any, either_nat}
 use Rattle.dt_queue.specs.declared.Follower.{Follower}
@@ -131,3 +132,28 @@ module _ (waiting : List Waiting) (distinct : HasDistinctSlots waiting) (slot : 
         λ s. elim s [ inl o ↦ any_append_left (λ w. w.vertex ≡ v) k.front (x ∷ []) o | inr g ↦ any_append_right (λ w. w.vertex ≡ v) k.front (x ∷ []) (inl (e ∙ g)) ],
         λ h. elim (any_append (λ w. w.vertex ≡ v) k.front (x ∷ []) h) [ inl o ↦ inl o | inr m ↦ elim m [ inl g ↦ inr (sym e ∙ g) | inr z ↦ absurd z ] ],
       )
+
+-- of what is said of the items of a list, up to a place and then of the item there
+pub wakes_next : (P : ℕ → ℕ → Type 0) → ((x v : ℕ) → Either (P x v)) → (items : List ℕ) (place : ℕ) → place < length items → (degrees : List ℕ) (a b c r s t : SubsetView)
+    → Wakes (λ v. AnyIn (λ x. P x v) (take place items)) degrees a r b s → Wakes (P (get_or items place 0)) degrees b s c t → Wakes (λ v. AnyIn (λ x. P x v) (take (place + 1) items)) degrees a r c t
+wakes_next P decided items place lt degrees a b c r s t p q =
+    wakes_same _ _ same degrees a c r t (wakes_more (λ v. AnyIn (λ x. P x v) (take place items)) (P item) (λ v. either_any _ (take place items) (λ x. decided x v)) degrees a b c r s t p q)
+  where
+    item : ℕ
+    item = get_or items place 0
+
+    longer : take (place + 1) items ≡ take place items ++ item ∷ []
+    longer = (take_at_read items place 0 lt).1
+
+    same : (v : ℕ) → (AnyIn (λ x. P x v) (take place items) ⊎ P item v) ↔ AnyIn (λ x. P x v) (take (place + 1) items)
+    same v = (
+      λ h. subst (AnyIn (λ x. P x v)) (sym longer) (elim h [ inl o ↦ any_append_left (λ x. P x v) (take place items) (item ∷ []) o | inr y ↦ any_append_right (λ x. P x v) (take place items) (item ∷ []) (inl y) ]),
+      λ h. elim (any_append (λ x. P x v) (take place items) (item ∷ []) (subst (AnyIn (λ x. P x v)) longer h)) [ inl o ↦ inl o | inr m ↦ elim m [ inl y ↦ inr y | inr z ↦ absurd z ] ],
+    )
+
+-- it is decided whether a vertex follows an entry, or one of some entries
+pub followed_at_decided : (waiting : List Waiting) (slot v : ℕ) → Either (IsFollowedAt waiting slot v)
+followed_at_decided waiting slot v = of_some_decided (followers waiting slot) v
+
+pub followed_decided : (waiting : List Waiting) (slots : List ℕ) (v : ℕ) → Either (AnyIn (λ slot. IsFollowedAt waiting slot v) slots)
+followed_decided waiting slots v = either_any _ slots (λ slot. followed_at_decided waiting slot v)

@@ -1,5 +1,6 @@
-ghost use Rattle.std.specs.Prelude.{◌≡◌, ◌≤◌, ◌<◌, ℕ, not, filter, get_or, length};
-ghost use Rattle.dt_lists.specs.Lists.{Distinct};
+ghost use Rattle.std.specs.Prelude.{◌≡◌, ◌≤◌, ◌<◌, ◌==◌, ℕ, not, filter, get_or, length, sum_by};
+ghost use Rattle.std.specs.List.{list_any};
+ghost use Rattle.dt_lists.specs.Lists.{AllIn, AnyIn, Distinct};
 ghost use Rattle.dt_queue.specs.Queues.{HasDistinctSlots, IsQueued};
 ghost use Rattle.dt_graph.specs.Steps.{AreEntriesBelow, AreLowered, IsFollowedAt, HaveSlots, Wakes};
 ghost use Rattle.dt_graph.specs.Waits.{IsFollowed, is_leaving, lowered, lowered_by};
@@ -25,6 +26,19 @@ fn lower_followers(queues: &Queues, slot: usize, vertex: u32, degrees: &mut [usi
     }
 }
 
+/// Lowers the degrees of the followers of the entries at some slots of a vertex, but not its own.
+fn lower_slots(queues: &Queues, slots: &[usize], vertex: u32, degrees: &mut [usize])
+    requires wait { AllIn (IsQueued queues.now) slots.now }
+    requires distinct { HasDistinctSlots queues.now }
+    requires below { AreEntriesBelow (length degrees.old) queues.now }
+    requires enough { (v : ℕ) → v < length degrees.old → sum_by (λ slot. lowered queues.now slot vertex v) slots.now ≤ get_or degrees.old v 0 }
+    ensures { AreLowered (λ v. sum_by (λ slot. lowered queues.now slot vertex v) slots.now) degrees.old degrees.new }
+{
+    for slot in slots {
+        lower_followers(queues, *slot, vertex, degrees);
+    }
+}
+
 /// Lowers the degrees of the followers of all entries of the vertices.
 fn lower_all(queues: &Queues, vertices: &[Vertex], leaving: &[u32], degrees: &mut [usize])
     requires distinct { HasDistinctSlots queues.now }
@@ -34,9 +48,12 @@ fn lower_all(queues: &Queues, vertices: &[Vertex], leaving: &[u32], degrees: &mu
     ensures { AreLowered (lowered_by queues.now leaving.now) degrees.old degrees.new }
 {
     for vertex in leaving {
-        for slot in vertices[*vertex as usize].slots.as_slice() {
-            lower_followers(queues, *slot, *vertex, degrees);
-        }
+        lower_slots(
+            queues,
+            vertices[*vertex as usize].slots.as_slice(),
+            *vertex,
+            degrees,
+        );
     }
 }
 
@@ -65,6 +82,26 @@ fn wake_followers(
     }
 }
 
+/// Of the followers of the entries at some slots, those that are stuck and have come to degree 0 are ready.
+fn wake_slots(
+    queues: &Queues,
+    slots: &[usize],
+    degrees: &[usize],
+    stuck: &mut Subset,
+    ready: &mut Subset,
+)
+    requires wait { AllIn (IsQueued queues.now) slots.now }
+    requires distinct { HasDistinctSlots queues.now }
+    requires below { AreEntriesBelow (length degrees.now) queues.now }
+    requires stuck_bound { length degrees.now ≤ stuck.old.bound }
+    requires ready_bound { length degrees.now ≤ ready.old.bound }
+    ensures { Wakes (λ v. AnyIn (λ slot. IsFollowedAt queues.now slot v) slots.now) degrees.now stuck.old ready.old stuck.new ready.new }
+{
+    for slot in slots {
+        wake_followers(queues, *slot, degrees, stuck, ready);
+    }
+}
+
 /// Of the followers of all entries of the vertices, those that are stuck and have come to degree 0 are ready.
 fn wake_all(
     queues: &Queues,
@@ -82,9 +119,24 @@ fn wake_all(
     ensures { Wakes (IsFollowed queues.now leaving.now) degrees.now stuck.old ready.old stuck.new ready.new }
 {
     for vertex in leaving {
-        for slot in vertices[*vertex as usize].slots.as_slice() {
-            wake_followers(queues, *slot, degrees, stuck, ready);
-        }
+        wake_slots(
+            queues,
+            vertices[*vertex as usize].slots.as_slice(),
+            degrees,
+            stuck,
+            ready,
+        );
+    }
+}
+
+/// Takes the entries at some slots out of the queues.
+fn remove_slots(queues: &mut Queues, slots: &[usize])
+    requires once { Distinct slots.now }
+    requires wait { AllIn (IsQueued queues.old) slots.now }
+    ensures { queues.new ≡ filter (λ w. not (list_any (λ s. s == w.slot) slots.now)) queues.old }
+{
+    for slot in slots {
+        queues.remove(*slot);
     }
 }
 
@@ -96,9 +148,7 @@ fn remove_all(queues: &mut Queues, vertices: &[Vertex], leaving: &[u32])
     ensures { queues.new ≡ filter (λ w. not (is_leaving leaving.now w.vertex)) queues.old }
 {
     for vertex in leaving {
-        for slot in vertices[*vertex as usize].slots.as_slice() {
-            queues.remove(*slot);
-        }
+        remove_slots(queues, vertices[*vertex as usize].slots.as_slice());
     }
 }
 

@@ -1,4 +1,4 @@
-ghost use Rattle.std.specs.Prelude.{◌≡◌, ◌≤◌, ◌<◌, ◌+◌, ◌^◌, ℕ, List, [], ◌∷◌, ◌++◌, OnOk, OnErr, get_or, length};
+ghost use Rattle.std.specs.Prelude.{◌≡◌, ◌≤◌, ◌<◌, ◌+◌, ◌-◌, ◌^◌, ℕ, List, [], ◌∷◌, ◌++◌, IfOk, OnOk, OnErr, get_or, length, set};
 ghost use Rattle.dt_lists.specs.Lists.{AllIn, Distinct, Has};
 ghost use Rattle.dt_access.specs.declared.TxnId.{TxnId};
 ghost use Rattle.dt_queue.specs.Queues.{HasDistinctSlots, Waiting};
@@ -107,8 +107,7 @@ impl Waits {
         ensures ready { self.new.ready.bound ≡ self.old.ready.bound }
         ensures stuck { self.new.stuck.bound ≡ self.old.stuck.bound }
     {
-        let old = self.vertices[vertex as usize].slots.as_slice();
-        let mut slots = Slots::from_vec(Vec::from_slice(alloc, old)?);
+        let mut slots = self.copied_slots(alloc, vertex)?;
         let degree = enter(
             alloc,
             &mut self.queues,
@@ -117,11 +116,34 @@ impl Waits {
             self.degrees[vertex as usize],
             &mut slots,
         )?;
-        self.vertices[vertex as usize].slots = slots;
-        self.vertices[vertex as usize].missing -= 1;
-        self.degrees[vertex as usize] = degree;
+        self.grow(vertex, slots, degree);
         self.sort(vertex);
         Ok(())
+    }
+
+    /// A copy of the slots of a vertex.
+    fn copied_slots(&self, alloc: Global, vertex: u32) -> Result<Slots, NoMemory>
+        requires { vertex < length self.now.vertices.items }
+        ensures { IfOk result (λ slots. slots ≡ (vertex_at self.now.vertices.items vertex).slots) }
+    {
+        let slots = self.vertices[vertex as usize].slots.as_slice();
+        Ok(Slots::from_vec(Vec::from_slice(alloc, slots)?))
+    }
+
+    /// Gives a vertex with a part more its slots and its degree.
+    fn grow(&mut self, vertex: u32, slots: Slots, degree: usize)
+        requires vertex { vertex < length self.old.vertices.items }
+        requires sizes { length self.old.degrees.items ≡ length self.old.vertices.items }
+        requires missing { 0 < (vertex_at self.old.vertices.items vertex).missing }
+        ensures vertices { self.new.vertices.items ≡
+            set self.old.vertices.items vertex (record (vertex_at self.old.vertices.items vertex) { missing = (vertex_at self.old.vertices.items vertex).missing - 1; slots = slots }) }
+        ensures degrees { self.new.degrees.items ≡ set self.old.degrees.items vertex degree }
+        ensures same { self.new ≡ record self.old { vertices = self.new.vertices; degrees = self.new.degrees } }
+    {
+        let grown = &mut self.vertices[vertex as usize];
+        grown.slots = slots;
+        grown.missing -= 1;
+        self.degrees[vertex as usize] = degree;
     }
 
     /// Puts a vertex to the ready or the stuck ones, if it is complete.

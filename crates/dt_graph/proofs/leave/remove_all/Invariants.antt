@@ -1,0 +1,6 @@
+use Rattle.std.proofs.Common.{drop}
+use Rattle.dt_graph.proofs.TakenOut.{IsEmptying}
+use Rattle.dt_graph.proofs.leave.remove_all.Given as goal
+
+abbrev pub invariant-loop-vertex : goal.invariant-loop-vertex
+invariant-loop-vertex l = IsEmptying l.vertices l.leaving (drop l.vertex-index l.leaving) l.initial.queues l.queues

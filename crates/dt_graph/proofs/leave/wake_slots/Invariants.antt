@@ -1,0 +1,7 @@
+use Rattle.std.proofs.Common.{take}
+use Rattle.dt_lists.specs.Lists.{AnyIn}
+use Rattle.dt_graph.specs.Steps.{IsFollowedAt, Wakes}
+use Rattle.dt_graph.proofs.leave.wake_slots.Given as goal
+
+abbrev pub invariant-loop-slot : goal.invariant-loop-slot
+invariant-loop-slot l = Wakes (λ v. AnyIn (λ slot. IsFollowedAt l.queues slot v) (take l.slot-index l.slots)) l.degrees l.initial.stuck l.initial.ready l.stuck l.ready
