@@ -24,6 +24,7 @@ pub mod Entered
 pub mod Followers
 pub mod Lowering
 pub mod Linked
+pub mod Gathered
 pub mod TakenOut
 pub mod Waking
 pub mod Full
