@@ -20,6 +20,7 @@ use Rattle.dt_graph.specs.Among.{HasNeighbour, IsAmong, WaitsOutside}
 use Rattle.dt_graph.proofs.Left.{done_left, left_after, left_decided, out_of_not_left, resolvable_apart, resolvable_left, undone_before}
 use Rattle.dt_graph.proofs.Waiting.{edge_of_waits, free_by_queues, reach_by_queues}
 use Rattle.dt_graph.proofs.Free.{id_has, neighbour_waits, place_has, same_place}
+use Rattle.dt_graph.proofs.Linked.{one_place}
 
 module _ (view : View) (resolved : List (List TxnId)) (done : List TxnId) (k : IsOrderly view resolved done) (g : GraphView) (is : KeepsGraph view resolved done g) where
   -- a neighbour is another vertex with an edge, or the same vertex
@@ -58,13 +59,6 @@ module _ (view : View) (resolved : List (List TxnId)) (done : List TxnId) (k : I
     stuck_at : (p v : ℕ) → slice_get list p ≡ Some v → (v < length g.ids) × IsStuck view resolved done (id_at g.ids v)
     stuck_at p v e = (is.stuck v).0 (all_stuck v (has_place list p v e))
 
-    one_place : (xs : List ℕ) (p q v : ℕ) → Distinct xs → slice_get xs p ≡ Some v → slice_get xs q ≡ Some v → p ≡ q
-    one_place [] p q v d e f = cc
-    one_place (x ∷ xs) zero zero v d e f = refl
-    one_place (x ∷ xs) zero (suc q) v d e f = let s : x ≡ v = cc in absurd (all_get _ xs d.0 v (has_place xs q v f) s)
-    one_place (x ∷ xs) (suc p) zero v d e f = let s : x ≡ v = cc in absurd (all_get _ xs d.0 v (has_place xs p v e) s)
-    one_place (x ∷ xs) (suc p) (suc q) v d e f = ap suc (one_place xs p q v d.1 e f)
-
     -- an edge of the graph is one of the view, or within a vertex
     edge_reaches : (p q u v : ℕ) → slice_get list p ≡ Some u → slice_get list q ≡ Some v → IsEdge graph p q → Reaches view (id_at g.ids u) (id_at g.ids v)
     edge_reaches p q u v eu ev e =
@@ -80,7 +74,7 @@ module _ (view : View) (resolved : List (List TxnId)) (done : List TxnId) (k : I
             (neighbour_reaches u v (stuck_at p u eu).0 (stuck_at q v ev).0 (subst (λ z. HasNeighbour g.waiting z v) (some_same (sym ex ∙ eu)) (subst (HasNeighbour g.waiting x) (some_same (sym ey ∙ ev)) h)) ne))
 
     -- each place that leads to a place is one of the list
-    place_leads : {p q : ℕ} → Leads graph p q → (v : ℕ) → slice_get list q ≡ Some v → (u : ℕ) × (slice_get list p ≡ Some u) × Reaches view (id_at g.ids u) (id_at g.ids v)
+    pub place_leads : {p q : ℕ} → Leads graph p q → (v : ℕ) → slice_get list q ≡ Some v → (u : ℕ) × (slice_get list p ≡ Some u) × Reaches view (id_at g.ids u) (id_at g.ids v)
     place_leads here v e = (v, e, here)
     place_leads (onward {y = m} {z = q} c s) v e =
         let r : (u : ℕ) × (w : ℕ) × (slice_get list m ≡ Some u) × (slice_get list q ≡ Some w) × HasNeighbour g.waiting u w = (a.edges m q).0 s in
@@ -275,5 +269,5 @@ module _ (view : View) (resolved : List (List TxnId)) (done : List TxnId) (k : I
           let b : (i : ℕ) × (w : ℕ) × (slice_get list i ≡ Some w) × (id_at g.ids w ≡ id_at g.ids u.0) × Leads graph i q =
           reach_back list once all_stuck graph blocked a q v.0 v.1
           (λ e. let n : (n : ℕ) × Has blocked n × Leads graph n q = any_get _ blocked e in none_blocked n.0 n.1) (id_at g.ids u.0) (member_stuck (id_at g.ids u.0) hu).left m.0 in
-          subst (λ i. Leads graph i q) (one_place list once all_stuck graph blocked a list b.0 p u.0 once
+          subst (λ i. Leads graph i q) (one_place list b.0 p u.0 once
           (subst (λ w. slice_get list b.0 ≡ Some w) (same_place g.ids b.1 u.0 is.once (all_get _ list in_ids b.1 (has_place list b.0 b.1 b.2)) (all_get _ list in_ids u.0 (has_place list p u.0 u.1)) b.3) b.2) u.1) b.4

@@ -24,6 +24,10 @@ pub mod Entered
 pub mod Followers
 pub mod Lowering
 pub mod Linked
+pub mod Gathered
+pub mod Sorted
+pub mod Asked
+pub mod Chosen
 pub mod TakenOut
 pub mod Waking
 pub mod Along

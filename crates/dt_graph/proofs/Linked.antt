@@ -1,11 +1,12 @@
 -- The graph of what waits for what among the vertices of a list, as it is built: neighbour by neighbour, slot by slot, place by
 -- place.
 use Rattle.std.proofs.Common.{◌≡◌, ◌≢◌, ◌+◌, ◌<◌, ◌≤◌, ◌⊎◌, ◌↔◌, ◌∙◌, ℕ, zero, suc, Bool, true, false, ◌||◌, ◌==◌, IsTrue, List, [], ◌∷◌, ◌++◌}
-use Rattle.std.proofs.Common.{length, map, filter, slice_get, take, Option, None, Some, refl, sym, ap, subst, inl, inr, true≢false, eqb-true, eq-eqb, arith}
+use Rattle.std.proofs.Common.{length, map, filter, get_or, slice_get, take, Option, None, Some, refl, sym, ap, subst, inl, inr, true≢false, eqb-true, eq-eqb, arith}
 use Rattle.dt_lists.specs.Lists.{AnyIn, AllIn, Has, Distinct}
-use Rattle.dt_lists.proofs.Callers.{all_get, any_append, any_append_left, any_append_right, any_get, any_image, any_map, any_of_image, any_put, has_filter, has_of_filtered, has_place}
+use Rattle.std.proofs.lemmas.List.{take_more}
+use Rattle.dt_lists.proofs.Callers.{all_get, all_image, all_put, any_append, any_append_left, any_append_right, any_get, any_image, any_map, any_of_image, any_put, has_filter, has_of_filtered, has_place}
 use Rattle.dt_class.specs.Graphs.{AdjEdge, AdjView, IsEdge}
-use Rattle.dt_queue.specs.Queues.{Waiting, neighbours}
+use Rattle.dt_queue.specs.Queues.{IsQueued, Waiting, neighbours}
 use Rattle.dt_graph.specs.Waits.{is_of, slots_of}
 use Rattle.dt_graph.specs.Among.{HasNeighbour, IsSourceAt, IsSourceOf, Links}
 
@@ -17,10 +18,18 @@ links_none list place graph = record {
   is_blocked = (λ b. absurd (true≢false (sym b)), λ r. absurd r.1);
 }
 
+-- in a list in which nothing stands twice, an item is at one place alone
+pub one_place : {A : Type 0} (xs : List A) (p q : ℕ) (v : A) → Distinct xs → slice_get xs p ≡ Some v → slice_get xs q ≡ Some v → p ≡ q
+one_place [] p q v d e f = cc
+one_place (x ∷ xs) zero zero v d e f = refl
+one_place (x ∷ xs) zero (suc q) v d e f = let s : x ≡ v = cc in absurd (all_get _ xs d.0 v (has_place xs q v f) s)
+one_place (x ∷ xs) (suc p) zero v d e f = let s : x ≡ v = cc in absurd (all_get _ xs d.0 v (has_place xs p v e) s)
+one_place (x ∷ xs) (suc p) (suc q) v d e f = ap suc (one_place xs p q v d.1 e f)
+
 -- one source that is in the list
-pub links_in : (list : List ℕ) (place : ℕ) (graph : AdjView) (n source : ℕ) → ((p u : ℕ) → slice_get list p ≡ Some u → u ≡ n → p ≡ source) → slice_get list source ≡ Some n
-    → Links (λ u. u ≡ n) list place graph (record graph { edges = graph.edges ++ record { source = source; target = place } ∷ [] }) false
-links_in list place graph n source only at = record {
+pub links_in : (list : List ℕ) (place : ℕ) (graph : AdjView) (n source : ℕ) → Distinct list → slice_get list source ≡ Some n
+    → Links (λ u. n ≡ u) list place graph (record graph { edges = graph.edges ++ record { source = source; target = place } ∷ [] }) false
+links_in list place graph n source once at = record {
   vertices = refl;
   edges = λ p q. (
     λ e. elim (any_append _ graph.edges (record { source = source; target = place } ∷ []) e) [
@@ -29,17 +38,18 @@ links_in list place graph n source only at = record {
     ],
     λ s. elim s [
       | inl o ↦ any_append_left _ graph.edges (record { source = source; target = place } ∷ []) o
-      | inr r ↦ any_append_right _ graph.edges (record { source = source; target = place } ∷ []) (inl (sym (only p r.1.0 r.1.1 r.1.2), sym r.0))
+      | inr r ↦ any_append_right _ graph.edges (record { source = source; target = place } ∷ [])
+          (inl (one_place list source p n once at (subst (λ x. slice_get list p ≡ Some x) (sym r.1.2) r.1.1), sym r.0))
     ],
   );
-  is_blocked = (λ b. absurd (true≢false (sym b)), λ r. absurd (r.2 (subst (Has list) (sym r.1) (has_place list source n at))));
+  is_blocked = (λ b. absurd (true≢false (sym b)), λ r. absurd (r.2 (subst (Has list) r.1 (has_place list source n at))));
 }
 
 -- one source that is none of the list
-pub links_out : (list : List ℕ) (place : ℕ) (graph : AdjView) (n : ℕ) → ¬ (Has list n) → Links (λ u. u ≡ n) list place graph graph true
+pub links_out : (list : List ℕ) (place : ℕ) (graph : AdjView) (n : ℕ) → ¬ (Has list n) → Links (λ u. n ≡ u) list place graph graph true
 links_out list place graph n out = record {
   vertices = refl;
-  edges = λ p q. (λ e. inl e, λ s. elim s [ inl e ↦ e | inr r ↦ absurd (out (subst (Has list) r.1.2 (has_place list p r.1.0 r.1.1))) ]);
+  edges = λ p q. (λ e. inl e, λ s. elim s [ inl e ↦ e | inr r ↦ absurd (out (subst (Has list) (sym r.1.2) (has_place list p r.1.0 r.1.1))) ]);
   is_blocked = (λ b. (n, refl, out), λ r. refl);
 }
 
@@ -85,6 +95,53 @@ links_same S T list place a b x same l = record {
   );
 }
 
+-- the sources of one item more of a list
+pub links_next : (S : ℕ → ℕ → Type 0) (xs : List ℕ) (i : ℕ) (list : List ℕ) (place : ℕ) (a b c : AdjView) (x y : Bool) → i < length xs
+    → Links (λ u. AnyIn (λ n. S n u) (take i xs)) list place a b x → Links (S (get_or xs i 0)) list place b c y → Links (λ u. AnyIn (λ n. S n u) (take (i + 1) xs)) list place a c (x || y)
+links_next S xs i list place a b c x y lt l m =
+    links_same (λ u. AnyIn (λ n. S n u) (take i xs) ⊎ S (get_or xs i 0) u) (λ u. AnyIn (λ n. S n u) (take (i + 1) xs)) list place a c (x || y)
+    (λ u. (forth u, back u)) (links_more (λ u. AnyIn (λ n. S n u) (take i xs)) (S (get_or xs i 0)) list place a b c x y l m)
+  where
+    forth : (u : ℕ) → AnyIn (λ n. S n u) (take i xs) ⊎ S (get_or xs i 0) u → AnyIn (λ n. S n u) (take (i + 1) xs)
+    forth u s = rw (take_more xs i 0 lt) elim s [
+      | inl a ↦ any_append_left (λ n. S n u) (take i xs) (get_or xs i 0 ∷ []) a
+      | inr e ↦ any_append_right (λ n. S n u) (take i xs) (get_or xs i 0 ∷ []) (inl e)
+    ]
+
+    back : (u : ℕ) → AnyIn (λ n. S n u) (take (i + 1) xs) → AnyIn (λ n. S n u) (take i xs) ⊎ S (get_or xs i 0) u
+    back u h = elim (any_append (λ n. S n u) (take i xs) (get_or xs i 0 ∷ []) (rw (take_more xs i 0 lt) at h)) [
+      | inl a ↦ inl a
+      | inr r ↦ elim r [ inl e ↦ inr e | inr f ↦ absurd f ]
+    ]
+
+-- one neighbour more, which is in the list
+pub links_next_in : (xs : List ℕ) (i : ℕ) (list : List ℕ) (place : ℕ) (a b c : AdjView) (x y : Bool) (source : ℕ) → Distinct list → i < length xs → Links (Has (take i xs)) list place a b x
+    → slice_get list source ≡ Some (get_or xs i 0) → c ≡ record b { edges = b.edges ++ record { source = source; target = place } ∷ [] } → y ≡ x → Links (Has (take (i + 1) xs)) list place a c y
+links_next_in xs i list place a b c x y source once lt l at e f =
+    subst (λ z. Links (Has (take (i + 1) xs)) list place a z y) (sym e) (subst (Links (Has (take (i + 1) xs)) list place a _) (or_false x ∙ sym f)
+    (links_next (λ n u. n ≡ u) xs i list place a b _ x false lt l (links_in list place b (get_or xs i 0) source once at)))
+  where
+    or_false : (x : Bool) → (x || false) ≡ x
+    or_false true = refl
+    or_false false = refl
+
+-- one neighbour more, which is none of the list
+pub links_next_out : (xs : List ℕ) (i : ℕ) (list : List ℕ) (place : ℕ) (a b c : AdjView) (x y : Bool) → i < length xs → Links (Has (take i xs)) list place a b x
+    → ¬ (Has list (get_or xs i 0)) → c ≡ b → y ≡ true → Links (Has (take (i + 1) xs)) list place a c y
+links_next_out xs i list place a b c x y lt l out e f =
+    subst (λ z. Links (Has (take (i + 1) xs)) list place a z y) (sym e) (subst (Links (Has (take (i + 1) xs)) list place a _) (or_true x ∙ sym f)
+    (links_next (λ n u. n ≡ u) xs i list place a b b x true lt l (links_out list place b (get_or xs i 0) out)))
+  where
+    or_true : (x : Bool) → (x || true) ≡ true
+    or_true true = refl
+    or_true false = refl
+
+-- the sources are the vertices of entries
+pub links_of_entries : (ws : List Waiting) (list : List ℕ) (place : ℕ) (a b : AdjView) (x : Bool) → Links (Has (map (λ w. w.vertex) ws)) list place a b x → Links (λ u. AnyIn (λ w. w.vertex ≡ u) ws) list place a b x
+links_of_entries ws list place a b x l =
+    links_same (Has (map (λ w. w.vertex) ws)) (λ u. AnyIn (λ w. w.vertex ≡ u) ws) list place a b x
+    (λ u. (any_of_image (λ v. v ≡ u) (λ w. w.vertex) ws, any_image (λ v. v ≡ u) (λ w. w.vertex) ws)) l
+
 -- the sources at the slots of a vertex are its neighbours
 pub sources_of_vertex : (waiting : List Waiting) (u v : ℕ) → IsSourceAt waiting (slots_of waiting v) u ↔ HasNeighbour waiting u v
 sources_of_vertex waiting u v = (
@@ -96,3 +153,8 @@ sources_of_vertex waiting u v = (
       let w : (w : Waiting) × Has waiting w × ((w.vertex ≡ v) × AnyIn (λ n. n.vertex ≡ u) (neighbours waiting w.slot)) = any_get _ waiting a in
       any_image (λ slot. IsSourceOf waiting slot u) (λ w. w.slot) (filter (is_of v) waiting) (any_put _ (filter (is_of v) waiting) w.0 (has_filter (is_of v) waiting w.0 w.1 (eq-eqb w.0.vertex v w.2.0)) w.2.1),
 )
+
+-- at the slots of a vertex entries wait
+pub slots_wait : (waiting : List Waiting) (v : ℕ) → AllIn (IsQueued waiting) (slots_of waiting v)
+slots_wait waiting v = all_image (IsQueued waiting) (λ w. w.slot) (filter (is_of v) waiting)
+    (all_put _ (filter (is_of v) waiting) (λ w h. any_put (λ y. y.slot ≡ w.slot) waiting w (has_of_filtered (is_of v) waiting w h).0 refl))

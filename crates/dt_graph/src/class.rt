@@ -29,13 +29,15 @@ fn link_slot(
     graph: &mut Adj,
 ) -> Result<bool, NoMemory>
     requires waits { IsQueued queues.now slot }
+    requires once { Distinct group.now }
     requires place { place < graph.old.vertices }
     requires size { graph.old.vertices ≡ length group.now }
     ensures { IfOk result (Links (IsSourceOf queues.now slot) group.now place graph.old graph.new) }
 {
+    let neighbours = queues.neighbours(alloc, slot)?;
     let mut blocked = false;
-    for neighbour in queues.neighbours(alloc, slot)? {
-        match group.place_of(neighbour) {
+    for neighbour in neighbours.as_slice() {
+        match group.place_of(*neighbour) {
             Some(source) => graph.edge(source, place)?,
             None => blocked = true,
         }
@@ -53,15 +55,14 @@ fn link(
     graph: &mut Adj,
 ) -> Result<bool, NoMemory>
     requires waits { AllIn (IsQueued queues.now) slots.now }
+    requires once { Distinct group.now }
     requires place { place < graph.old.vertices }
     requires size { graph.old.vertices ≡ length group.now }
     ensures { IfOk result (Links (IsSourceAt queues.now slots.now) group.now place graph.old graph.new) }
 {
     let mut blocked = false;
     for slot in slots {
-        if link_slot(alloc, queues, *slot, group, place, graph)? {
-            blocked = true;
-        }
+        blocked |= link_slot(alloc, queues, *slot, group, place, graph)?;
     }
     Ok(blocked)
 }
