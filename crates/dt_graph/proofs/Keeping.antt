@@ -1,9 +1,10 @@
 -- What the scheduler with queues keeps is the graph of what it was told, at first and after each call; and what its calls read
 -- off it is what may be executed.
-use Rattle.std.proofs.Common.{◌≡◌, ◌<◌, ◌⊎◌, ◌↔◌, ◌∙◌, ℕ, zero, suc, List, [], ◌∷◌, ◌++◌, length, map, replicate, slice_get, Option, None, Some, refl, sym, ap, subst, inl, inr, arith}
+use Rattle.std.proofs.Common.{◌≡◌, ◌<◌, ◌+◌, ◌⊎◌, ◌↔◌, ◌∙◌, ℕ, zero, suc, List, [], ◌∷◌, ◌++◌, length, map, replicate, set, slice_get, Option, None, Some, MatchOption, IsSome, option_to_list, Result, Ok, Err, OnOk, OnErr, is_err, true, false, ◌-◌, ap₂, refl, sym, ap, subst, inl, inr, arith}
+use Rattle.std.proofs.lemmas.List.{length-append, set-get_or}
 use Rattle.std.proofs.lemmas.Option.{get_or_from_slice_get, slice_get-get_or}
 use Rattle.dt_lists.specs.Lists.{AnyIn, AllIn, Has, EachThen, Distinct, Pairwise}
-use Rattle.dt_lists.proofs.Callers.{all_get, all_put, any_at, any_from_at, any_get, any_put, has_place, pairwise_length, place_within}
+use Rattle.dt_lists.proofs.Callers.{all_get, all_put, any_at, any_from_at, any_get, any_put, has_place, pairwise_length, place_within, same_head, same_tail}
 use Rattle.dt_access.specs.Ids.{Before}
 use Rattle.dt_access.specs.Orders.{AreAscendingHomes}
 use Rattle.dt_access.specs.declared.TxnId.{TxnId}
@@ -21,7 +22,7 @@ use Rattle.dt_graph.specs.QueueSchedView.{IsKeeping}
 use Rattle.dt_graph.proofs.Orderly.{orderly_at_first, orderly_finish, orderly_insert, orderly_resolve}
 use Rattle.dt_graph.proofs.Free.{id_has, place_has}
 use Rattle.dt_graph.proofs.Inserted.{inserted}
-use Rattle.dt_graph.proofs.Resolved.{resolved_more}
+use Rattle.dt_graph.proofs.Resolved.{last_place, resolved_more}
 use Rattle.dt_graph.proofs.Finished.{finished_alone, finished_before, finished_last}
 
 -- a log of a view of empty logs is empty
@@ -63,6 +64,50 @@ keeping_first regions = record {
         let r : (home : ℕ) × (home < length (replicate regions [])) × HasPart (log_at (replicate regions []) home) t = any_at (λ log. HasPart log t) [] (replicate regions []) p in
         subst (λ log. HasPart log t) (no_log regions r.0) r.2
 
+-- what was pushed is the last item
+pub last_pushed : {A : Type 0} (xs : List A) (x y : A) → Some y ≡ slice_get (xs ++ x ∷ []) (length (xs ++ x ∷ []) - 1) → y ≡ x
+last_pushed {A = A} xs x y e = same (e ∙ ap (slice_get (xs ++ x ∷ [])) (before (length xs) _ (length-append xs (x ∷ []))) ∙ last_place xs x)
+  where
+    before : (n m : ℕ) → m ≡ n + 1 → m - 1 ≡ n
+    before n m e = omega (arith, e)
+
+    same : Some y ≡ Some x → y ≡ x
+    same e = cc
+
+never_empty : {A : Type 0} (ys : List A) (y : A) → [] ≡ ys ++ y ∷ [] → ⊥
+never_empty [] y e = cc
+never_empty (u ∷ ys) y e = cc
+
+-- a push that is popped leaves the list
+last_same : {A : Type 0} (xs zs : List A) (x z : A) → xs ++ x ∷ [] ≡ zs ++ z ∷ [] → zs ≡ xs
+last_same [] [] x z e = refl
+last_same [] (w ∷ zs) x z e = absurd (never_empty zs z (same_tail e))
+last_same (v ∷ xs) [] x z e = absurd (never_empty xs x (sym (same_tail e)))
+last_same (v ∷ xs) (w ∷ zs) x z e = ap₂ ◌∷◌ (sym (same_head e)) (last_same xs zs x z (same_tail e))
+
+pub popped : {A : Type 0} (xs zs : List A) (x : A) (r : Option A) → xs ++ x ∷ [] ≡ zs ++ option_to_list r → IsSome r ⊎ (xs ++ x ∷ [] ≡ []) → zs ≡ xs
+popped xs zs x (Some z) e s = last_same xs zs x z e
+popped xs zs x None e (inl s) = cc
+popped [] zs x None e (inr n) = cc
+popped (y ∷ xs) zs x None e (inr n) = cc
+
+-- a list to which an item was pushed has a last item
+pub not_none : {A B : Type 0} (xs : List A) (x : A) (r : Option B) → r ≡ None → (0 < length (xs ++ x ∷ []) → IsSome r) → ⊥
+not_none xs x (Some y) e s = cc
+not_none {B = B} xs x None e s = let f : IsSome {T = B} None = s (subst (λ n. 0 < n) (sym (length-append xs (x ∷ []))) (more (length xs))) in cc
+  where
+    more : (n : ℕ) → 0 < n + 1
+    more n = omega arith
+
+-- what is said of an answer, once it is known which it is
+pub when_err : {T E P : Type 0} (r : Result T E) → is_err r ≡ true → OnErr r P → P
+when_err (Ok x) e p = cc
+when_err (Err x) e p = p
+
+pub when_ok : {T E P : Type 0} (r : Result T E) → is_err r ≡ false → OnOk r P → P
+when_ok (Ok x) e p = p
+when_ok (Err x) e p = cc
+
 -- by the place of an id
 at_named : (ids : List TxnId) (v : ℕ) (id : TxnId) → slice_get ids v ≡ Some id → id_at ids v ≡ id
 at_named ids v id e = get_or_from_slice_get ids v id (record { seq = 0; region = 0 }) e
@@ -73,6 +118,20 @@ module _ (s : Sched) (old : GraphView) (k : IsKeeping s old) where
     orderly = orderly_insert s.logs s.resolved s.done part can k.orderly;
     graph = inserted s.logs s.resolved s.done part k.orderly can ascending i.0 i.1 old new k.graph i.2;
   }
+
+  -- the log was put back at its place
+  pub keeping_back : (part : Part) (log : List Part) (new : GraphView) → log ≡ log_at s.logs part.home → new ≡ old → IsKeeping (record s { logs = set s.logs part.home log }) new
+  keeping_back part log new e same = subst (IsKeeping (record s { logs = set s.logs part.home log })) (sym same)
+      (subst (λ l. IsKeeping (record s { logs = l }) old) (sym (ap (set s.logs part.home) e ∙ set-get_or s.logs part.home [])) k)
+
+  -- the part at the back of its log was inserted
+  pub keeping_pushed : (part back : Part) (log : List Part) (new : GraphView) → log ≡ log_at s.logs part.home ++ part ∷ [] → Some back ≡ slice_get log (length log - 1)
+      → CanInsert s.logs part → AreAscendingHomes back.homes → InsertsPart back old new → IsKeeping (record s { logs = set s.logs part.home log }) new
+  keeping_pushed part back log new e at can ascending i =
+      subst (λ l. IsKeeping (record s { logs = set s.logs part.home l }) new) (sym e) (keeping_insert part new can (subst (λ p. AreAscendingHomes p.homes) same ascending) (subst (λ p. InsertsPart p old new) same i))
+    where
+      same : back ≡ part
+      same = last_pushed (log_at s.logs part.home) part back (subst (λ l. Some back ≡ slice_get l (length l - 1)) e at)
 
   -- the rank that is kept of a vertex is that of its transaction
   rank_kept : (v : ℕ) → v < length old.ids → (vertex_at old.vertices v).rank ≡ rank_of s.logs (id_at old.ids v)
@@ -133,3 +192,8 @@ module _ (s : Sched) (old : GraphView) (k : IsKeeping s old) where
   next_ready_none busy all id x =
       let r : (v : ℕ) × (slice_get old.ids v ≡ Some id) × Has old.ready v = (ready_executable id).1 x in
       subst (Has busy) (at_named old.ids r.0 id r.1) (all r.0 r.2)
+
+  pub next_ready_told : (busy : List TxnId) (answer : Option TxnId)
+      → MatchOption answer ((v : ℕ) → Has old.ready v → Has busy (id_at old.ids v)) (λ id. ((v : ℕ) × Has old.ready v × (id_at old.ids v ≡ id)) × ¬ (Has busy id)) → IsNextReady s busy answer
+  next_ready_told busy None all = next_ready_none busy all
+  next_ready_told busy (Some id) r = next_ready_some busy id r.0 r.1

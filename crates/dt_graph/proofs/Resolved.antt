@@ -28,7 +28,7 @@ pairwise_more R [] (b ∷ ys) x y p r = absurd p
 pairwise_more R (a ∷ xs) [] x y p r = absurd p
 pairwise_more R (a ∷ xs) (b ∷ ys) x y p r = (p.0, pairwise_more R xs ys x y p.1 r)
 
-last_place : {A : Type 0} (xs : List A) (x : A) → slice_get (xs ++ x ∷ []) (length xs) ≡ Some x
+pub last_place : {A : Type 0} (xs : List A) (x : A) → slice_get (xs ++ x ∷ []) (length xs) ≡ Some x
 last_place [] x = refl
 last_place (y ∷ ys) x = last_place ys x
 

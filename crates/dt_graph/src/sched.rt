@@ -1,6 +1,7 @@
 ghost use Rattle.std.specs.Prelude.{◌≡◌, [], IfOk, replicate};
 
 use crate::graph::Graph;
+use crate::room::push_reserved;
 use dt_access::{Ids, Part, TxnId};
 use dt_sched::Scheduler;
 use dt_text::{Listed, NoMemory};
@@ -86,9 +87,7 @@ impl Scheduler for QueueSched {
         let class = Ids::from_vec(Vec::from_slice(alloc, ids)?);
         self.resolved.reserve(1)?;
         self.graph.resolve(alloc, ids)?;
-        if self.resolved.push(class).is_err() {
-            unreachable!()
-        }
+        push_reserved(&mut self.resolved, class);
         Ok(())
     }
 
@@ -99,8 +98,6 @@ impl Scheduler for QueueSched {
 
     fn finish(&mut self, id: TxnId) {
         self.graph.finish(id);
-        if self.done.push(id).is_err() {
-            unreachable!()
-        }
+        push_reserved(&mut self.done, id);
     }
 }
