@@ -4,7 +4,7 @@ use Rattle.std.proofs.Common.{Some, refl, ap, sym, subst, inl, inr, ◌∙◌}
 use Rattle.slab.specs.Slab.{get}
 use Rattle.dt_lists.specs.Lists.{AnyIn, Has}
 use Rattle.dt_lists.proofs.Callers.{any_get, any_put}
-use Rattle.dt_access.specs.Clash.{is_whole, is_write}
+use Rattle.dt_access.specs.Clash.{is_whole, may_change}
 use Rattle.dt_access.specs.declared.access.Mode.{Mode}
 use Rattle.dt_access.specs.declared.access.Mode.TheVariants.{Read, Write, Whole}
 use Rattle.dt_queue.specs.declared.cell.Cell.{Cell}
@@ -95,7 +95,7 @@ one_granule r c d (inr b) = b.0
 
 -- two reads do not clash
 pub reads_agree : (r : Rows) (c d : Cell) → c.mode ≡ Read → d.mode ≡ Read → ¬ (CellsClash r c d)
-reads_agree r c d a b (inl e) = elim e.1 [ inl f ↦ write_no (sym (ap is_write a) ∙ f) | inr f ↦ write_no (sym (ap is_write b) ∙ f) ]
+reads_agree r c d a b (inl e) = elim e.1 [ inl f ↦ write_no (sym (ap may_change a) ∙ f) | inr f ↦ write_no (sym (ap may_change b) ∙ f) ]
   where
     write_no : false ≡ true → ⊥
     write_no e = cc
@@ -118,7 +118,7 @@ on_one_row r c d a b (inr e) = absurd (elim e.1 [ inl f ↦ no_part (sym a ∙ f
 
 -- a write clashes with each use of its row
 pub write_clashes : (r : Rows) (c d : Cell) → c.mode ≡ Write → c.row ≡ d.row → CellsClash r c d
-write_clashes r c d a b = inl (b, inl (ap is_write a))
+write_clashes r c d a b = inl (b, inl (ap may_change a))
 
 pub whole_clashes : (r : Rows) (c d : Cell) → c.mode ≡ Whole → granule_at r c.row ≡ granule_at r d.row → CellsClash r c d
 whole_clashes r c d a b = inr (b, inl (ap is_whole a))

@@ -7,7 +7,7 @@ use Rattle.std.proofs.lemmas.Option.{slice_get-get_or}
 use Rattle.slab.specs.Slab.{Updates, get, entries, entries_from}
 use Rattle.dt_lists.specs.Lists.{AnyIn, Distinct, EachThen, Has, IsFront}
 use Rattle.dt_lists.proofs.Callers.{all_get, any_get, any_image, any_of_image, any_of_test, any_put, ascending_same, each_at, each_image, filter_each, has_filter, has_map, has_of_filtered, test_of_any}
-use Rattle.dt_access.specs.Clash.{Bytes, is_whole, is_write}
+use Rattle.dt_access.specs.Clash.{Bytes, is_whole, may_change}
 use Rattle.dt_access.proofs.Callers.{clash_cases, uses_of_granule, uses_of_row}
 use Rattle.dt_queue.specs.declared.cell.Cell.{Cell}
 use Rattle.dt_queue.specs.declared.mark.Mark.{Mark}
@@ -91,7 +91,7 @@ module _ (k : Kept) (kept : AreQueuesKept k) where
   meets_of p q a b (inl c) =
       let name : name_at k.rows.names.keys p.1.row ≡ name_at k.rows.names.keys q.1.row = ap (name_at k.rows.names.keys) c.0 in
       and_both _ _ (same_number _ _ (ap (λ (n : ℕ × Bytes). n.0) name))
-      (uses_of_row ((name_at k.rows.names.keys p.1.row).1, p.1.mode) ((name_at k.rows.names.keys q.1.row).1, q.1.mode) (ap (λ (n : ℕ × Bytes). n.1) name) (or_one (is_write p.1.mode) (is_write q.1.mode) c.1))
+      (uses_of_row ((name_at k.rows.names.keys p.1.row).1, p.1.mode) ((name_at k.rows.names.keys q.1.row).1, q.1.mode) (ap (λ (n : ℕ × Bytes). n.1) name) (or_one (may_change p.1.mode) (may_change q.1.mode) c.1))
   meets_of p q a b (inr c) =
       let name = same_name p.1.row q.1.row a b c.0 in
       and_both _ _ (same_number _ _ (ap (λ (n : ℕ × Bytes). n.0) name))
@@ -101,7 +101,7 @@ module _ (k : Kept) (kept : AreQueuesKept k) where
   of_meets p q a b e =
       let home : (name_at k.rows.names.keys p.1.row).0 ≡ (name_at k.rows.names.keys q.1.row).0 = number_same _ _ (and_left _ _ e) in
       elim (clash_cases ((name_at k.rows.names.keys p.1.row).1, p.1.mode) ((name_at k.rows.names.keys q.1.row).1, q.1.mode) (and_right _ _ e)) [
-        | inl c ↦ inl (one_row p.1.row q.1.row a b (λ i. (home i, c.0 i)), either_or (is_write p.1.mode) (is_write q.1.mode) c.1)
+        | inl c ↦ inl (one_row p.1.row q.1.row a b (λ i. (home i, c.0 i)), either_or (may_change p.1.mode) (may_change q.1.mode) c.1)
         | inr c ↦ inr (one_granule p.1.row q.1.row a b (λ i. (home i, c.0 i)), either_or (is_whole p.1.mode) (is_whole q.1.mode) c.1)
       ]
 

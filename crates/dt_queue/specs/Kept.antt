@@ -4,7 +4,7 @@
 use Rattle.std.specs.Prelude.{◌≡◌, ℕ, ◌<◌, ◌↔◌, ◌⊎◌, ◌^◌, nat_lt, true, List, [], ◌∷◌, map, get_or, length, if◌then◌else◌, None, Some}
 use Rattle.slab.specs.Slab.{Slab, Updates, get, entries}
 use Rattle.dt_lists.specs.Lists.{AnyIn, Has}
-use Rattle.dt_access.specs.Clash.{Bytes, is_whole, is_write}
+use Rattle.dt_access.specs.Clash.{Bytes, is_whole, may_change}
 use Rattle.dt_access.specs.declared.access.Mode.{Mode}
 use Rattle.dt_access.specs.declared.access.Mode.TheVariants.{Read, Write, Whole}
 use Rattle.dt_queue.specs.Queues.{Waiting}
@@ -113,7 +113,7 @@ IsNextInMode k x high m = IsNextOfMode x.mode k x.row x.number high m
 
 -- two cells clash: they are of one row, which one of them does more than read, or of one granule, which one takes as a whole
 abbrev pub CellsClash : Rows → Cell → Cell → Type 0
-CellsClash r c d = ((c.row ≡ d.row) × ((is_write c.mode ≡ true) ⊎ (is_write d.mode ≡ true)))
+CellsClash r c d = ((c.row ≡ d.row) × ((may_change c.mode ≡ true) ⊎ (may_change d.mode ≡ true)))
     ⊎ ((granule_at r c.row ≡ granule_at r d.row) × ((is_whole c.mode ≡ true) ⊎ (is_whole d.mode ≡ true)))
 
 -- it is the mark of one of the nearest cells before a cell that clash with it
