@@ -61,12 +61,7 @@ fn neighbours_without(
 }
 
 /// The followers of an entry, one after the other, as far as there are no more than so many.
-fn followers_of(
-    alloc: Global,
-    queues: &Queues,
-    slot: usize,
-    most: usize,
-) -> Result<Vec<u32>, Fail>
+fn followers_of(alloc: Global, queues: &Queues, slot: usize, most: usize) -> Result<Vec<u32>, Fail>
     requires { IsQueued queues.now slot }
 {
     let mut vertices = Vec::new(alloc);

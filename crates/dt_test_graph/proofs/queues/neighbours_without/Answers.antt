@@ -15,6 +15,6 @@ neighbours-requires c =
     let found = c.in-Some-Some.ensures'.lookup in
     let all : AllIn (IsQueued c.in_ok-queues.queues) c.deref-2.result.now = rw c.deref-2.ensures.value c.in_ok-queues.ensures in
     let waits : IsQueued c.in_ok-queues.queues c.in-Some-Some.slot.now =
-        at (IsQueued c.in_ok-queues.queues) c.deref-2.result.now c.args.place c.in-Some-Some.slot.now found.3.0 found.3.1 all in
+    at (IsQueued c.in_ok-queues.queues) c.deref-2.result.now c.args.place c.in-Some-Some.slot.now found.3.0 found.3.1 all in
     rw c.remove.ensures
-      (waits_without c.in_ok-queues.queues c.in-Some-Some.gone.now c.in-Some-Some.slot.now (λ e. c.if-gone-slot.true (sym e)) waits)
+    (waits_without c.in_ok-queues.queues c.in-Some-Some.gone.now c.in-Some-Some.slot.now (λ e. c.if-gone-slot.true (sym e)) waits)
