@@ -12,6 +12,14 @@ use std::test::Fail;
 /// What an entry is pushed with: its home, its key, its mode and its vertex.
 type Use = (u8, &'static [u8], Mode, u32);
 
+/// The key of a few bytes.
+fn key_of(alloc: Global, bytes: &[u8]) -> Result<Key, Fail> {
+    if bytes.len() > Key::LONGEST {
+        return Err(Fail::from("a key has few bytes"));
+    }
+    Ok(Key::read(alloc, bytes)?)
+}
+
 /// Queues with these entries, pushed one after the other, and their slots.
 fn queued(alloc: Global, uses: &[Use]) -> Result<(Queues, Vec<usize>), Fail>
     ensures { IfOk result (λ all. AllIn (IsQueued all.0) all.1.items) }
@@ -19,7 +27,7 @@ fn queued(alloc: Global, uses: &[Use]) -> Result<(Queues, Vec<usize>), Fail>
     let mut queues = Queues::new(alloc);
     let mut slots = Vec::new(alloc);
     for (home, bytes, mode, vertex) in uses {
-        let key = Key::read(alloc, bytes)?;
+        let key = key_of(alloc, bytes)?;
         let slot = queues.push(alloc, *home, &key, *mode, *vertex)?;
         slots.push(slot)?;
     }
@@ -52,22 +60,29 @@ fn neighbours_without(
     }
 }
 
-/// The followers of the entry at a place; nothing past the last one.
-fn followers(alloc: Global, uses: &[Use], place: usize) -> Result<Vec<u32>, Fail> {
-    let (queues, slots) = queued(alloc, uses)?;
+/// The followers of an entry, one after the other, as far as there are no more than so many.
+fn followers_of(alloc: Global, queues: &Queues, slot: usize, most: usize) -> Result<Vec<u32>, Fail>
+    requires { IsQueued queues.now slot }
+{
     let mut vertices = Vec::new(alloc);
-    let Some(slot) = slots.get(place) else {
-        return Ok(vertices);
-    };
-    let mut at = *slot;
-    for _ in uses {
-        let Some(follower) = queues.follower_after(*slot, at) else {
+    let mut at = slot;
+    for _ in 0..most {
+        let Some(follower) = queues.follower_after(slot, at) else {
             break;
         };
         vertices.push(follower.vertex)?;
         at = follower.slot;
     }
     Ok(vertices)
+}
+
+/// The followers of the entry at a place; nothing past the last one.
+fn followers(alloc: Global, uses: &[Use], place: usize) -> Result<Vec<u32>, Fail> {
+    let (queues, slots) = queued(alloc, uses)?;
+    match slots.get(place) {
+        Some(slot) => followers_of(alloc, &queues, *slot, uses.len()),
+        None => Ok(Vec::new(alloc)),
+    }
 }
 
 const ROW: [Use; 4] = [
