@@ -6,3 +6,5 @@
 mod classes;
 #[cfg(test)]
 mod queues;
+#[cfg(test)]
+mod schedulers;
