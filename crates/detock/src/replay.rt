@@ -15,8 +15,8 @@ use crate::status::{EventsCause, Status};
 use crate::words::replay_words;
 use dt_cluster::Cluster;
 use dt_events::Event;
+use dt_graph::QueueSched;
 use dt_outside::Folder;
-use dt_plain::PlainSched;
 use dt_report::print;
 use dt_text::NoMemory;
 use dt_workload::Workload;
@@ -68,7 +68,7 @@ fn world_after(
     cluster: &Cluster,
     workload: &Workload,
     events: &[(u32, Event)],
-) -> Result<World<PlainSched>, Status>
+) -> Result<World<QueueSched>, Status>
     requires cluster { IsValidCluster cluster.now }
     requires workload { IsValidWorkload cluster.now workload.now }
     requires few { length events.now ≤ file_limit }
