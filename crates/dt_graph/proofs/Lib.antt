@@ -20,6 +20,10 @@ pub mod Subsets
 pub mod Keeping
 pub mod MayLeave
 pub mod Fitted
+pub mod Finishing
+pub mod Inserting
+pub mod InOrder
+pub mod Resolving
 pub mod Entered
 pub mod Followers
 pub mod Lowering
