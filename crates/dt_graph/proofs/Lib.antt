@@ -22,6 +22,7 @@ pub mod MayLeave
 pub mod Fitted
 pub mod Finishing
 pub mod Inserting
+pub mod Sorted
 pub mod InOrder
 pub mod Resolving
 pub mod Entered
