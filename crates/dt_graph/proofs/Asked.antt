@@ -1,10 +1,9 @@
 -- What the questions to the graph are answered from: which transactions are ready, and which are stuck.
-use Rattle.std.proofs.Common.{◌≡◌, ◌+◌, ◌<◌, ◌≤◌, ◌↔◌, ◌∙◌, ℕ, Bool, true, false, IsTrue, List,
-  [], ◌∷◌, ◌++◌, length, get_or, map, slice_get, take, Some, refl, sym, ap, subst, true≢false, arith}
+use Rattle.std.proofs.Common.{◌≡◌, ◌+◌, ◌<◌, ◌≤◌, ◌↔◌, ◌∙◌, ℕ, Bool, true, false, IsTrue, List, [], ◌∷◌, ◌++◌, length, get_or, slice_get, take, Some, sym, ap, subst, true≢false}
 use Rattle.std.specs.List.{list_any}
 use Rattle.std.proofs.lemmas.List.{map_push, take_all, take_more}
 use Rattle.std.proofs.lemmas.Option.{get_or_from_slice_get, slice_get-get_or}
-use Rattle.dt_lists.specs.Lists.{AnyIn, AllIn, Has, Distinct}
+use Rattle.dt_lists.specs.Lists.{AllIn, Has, Distinct}
 use Rattle.dt_lists.proofs.Callers.{all_get, all_more, any_get, has_place, place_within}
 use Rattle.dt_access.specs.Ids.{same_id}
 use Rattle.dt_access.specs.declared.TxnId.{TxnId}
@@ -12,7 +11,7 @@ use Rattle.dt_access.proofs.Callers.{id_of_test, same_id_turned, test_of_id}
 use Rattle.dt_graph.specs.Graph.{AllAreStuck, AreVerticesOf, GraphView}
 use Rattle.dt_graph.specs.Waits.{id_at}
 use Rattle.dt_graph.proofs.Free.{id_has, same_place}
-use Rattle.dt_graph.proofs.Linked.{one_place}
+use Rattle.dt_graph.proofs.Subsets.{one_place}
 use Rattle.dt_graph.proofs.Sorted.{has_listed, listed_has}
 
 -- an id with a number is ready just where its number is
@@ -28,6 +27,7 @@ unready_told ids ready id out = (λ t. absurd (true≢false (sym t)), λ r. absu
 pub is_busy : (busy : List TxnId) (id : TxnId) (b : Bool) → b ≡ list_any (λ y. same_id y id) busy → b ≡ true → Has busy id
 is_busy busy id b e t = listed_has same_id id_of_test test_of_id same_id_turned busy id (sym e ∙ t)
 
+-- what a search of the busy ones tells where it finds none
 pub not_busy : (busy : List TxnId) (id : TxnId) (b : Bool) → b ≡ list_any (λ y. same_id y id) busy → b ≡ false → Has busy id → ⊥
 not_busy busy id b e f h = true≢false (sym (has_listed same_id id_of_test test_of_id same_id_turned busy id h) ∙ sym e ∙ f)
 
@@ -52,6 +52,7 @@ stuck_more g ids i v d vertices lt are at h = record {
   stuck = all_more (Has g.stuck) vertices v are.stuck h;
 }
 
+-- all of the ids are those of stuck vertices
 pub stuck_all : (g : GraphView) (ids : List TxnId) (i : ℕ) (vertices : List ℕ) → length ids ≤ i → AreVerticesOf g (take i ids) vertices → AreVerticesOf g ids vertices
 stuck_all g ids i vertices le are = subst (λ xs. AreVerticesOf g xs vertices) (take_all i ids le) are
 

@@ -1,10 +1,9 @@
 -- The answers about classes, read off the graph of what waits for what among stuck vertices.
 use Rattle.std.proofs.Common.{◌≡◌, ◌+◌, ◌<◌, ◌≤◌, ◌^◌, ◌↔◌, ◌∙◌, ℕ, Bool, true, false, IsTrue, List,
-  [], ◌∷◌, length, get_or, map, slice_get, Some, refl, sym, ap, subst, inl, true≢false, arith, ◌==◌, eqb-true, eq-eqb}
+  [], ◌∷◌, length, get_or, map, slice_get, Some, refl, sym, ap, subst, true≢false, arith, ◌==◌, eqb-true, eq-eqb}
 use Rattle.std.proofs.lemmas.List.{length-map}
 use Rattle.std.proofs.lemmas.Option.{get_or_from_slice_get, slice_get-get_or}
 use Rattle.dt_lists.specs.Lists.{AnyIn, AllIn, Has, Distinct, EachThen}
-use Rattle.dt_lists.specs.Chain.{here}
 use Rattle.dt_lists.proofs.Callers.{all_get, all_image, all_map, all_put, any_get, any_of_image, any_put, at_place, each_map, each_of_image, has_map, has_place, place_of, place_within}
 use Rattle.dt_access.specs.Ids.{AreAscending}
 use Rattle.dt_access.specs.declared.TxnId.{TxnId}
@@ -21,8 +20,7 @@ use Rattle.dt_graph.specs.Steps.{AreIdsAt, HaveSlots}
 use Rattle.dt_graph.proofs.Classes.{each_leads, member_stuck, none_blocked, not_all_blocked, place_leads, source_resolvable}
 use Rattle.dt_graph.proofs.Free.{place_has, same_place}
 use Rattle.dt_graph.proofs.Full.{full_has, full_length}
-use Rattle.dt_graph.proofs.Linked.{one_place}
-use Rattle.dt_graph.proofs.Subsets.{few_below}
+use Rattle.dt_graph.proofs.Subsets.{few_below, one_place}
 
 -- stuck vertices have the slots of their entries
 pub stuck_slots : (g : GraphView) → IsSomeGraph g → (list : List ℕ) → AllIn (Has g.stuck) list → HaveSlots g.waiting g.vertices list
@@ -40,11 +38,11 @@ pub vertices_many : (g : GraphView) (ids : List TxnId) (list : List ℕ) → Are
 vertices_many g ids list are = sym (length-map list (id_at g.ids)) ∙ ap length are.named
 
 -- whether a list is empty, as its length tells
-pub empty_of_test : (xs : List ℕ) (n : ℕ) (b : Bool) → n ≡ length xs → b ≡ (n == 0) → b ≡ true → length xs ≡ 0
-empty_of_test xs n b e t h = sym e ∙ eqb-true n 0 (sym t ∙ h)
+pub empty_told : (xs : List ℕ) (n : ℕ) (b : Bool) → n ≡ length xs → b ≡ (n == 0) → b ≡ true → length xs ≡ 0
+empty_told xs n b e t h = sym e ∙ eqb-true n 0 (sym t ∙ h)
 
-pub some_of_test : (xs : List ℕ) (n : ℕ) (b : Bool) → n ≡ length xs → b ≡ (n == 0) → b ≡ false → 0 < length xs
-some_of_test xs n b e t h = positive (length xs) (λ z. true≢false (sym (eq-eqb n 0 (e ∙ z)) ∙ sym t ∙ h))
+pub filled_told : (xs : List ℕ) (n : ℕ) (b : Bool) → n ≡ length xs → b ≡ (n == 0) → b ≡ false → 0 < length xs
+filled_told xs n b e t h = positive (length xs) (λ z. true≢false (sym (eq-eqb n 0 (e ∙ z)) ∙ sym t ∙ h))
   where
     positive : (m : ℕ) → ¬ (m ≡ 0) → 0 < m
     positive m ne = grind (arith, ne)

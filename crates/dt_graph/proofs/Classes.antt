@@ -1,26 +1,26 @@
 -- The classes that may be resolved, as they are found among stuck vertices: one that nothing outside of it reaches, nor
 -- anything blocked, may be resolved; and where all is reached from what is blocked, there is none.
-use Rattle.std.proofs.Common.{◌≡◌, ◌≢◌, ◌<◌, ◌≤◌, ◌⊎◌, ◌↔◌, ◌∙◌, ℕ, zero, suc, List, [], ◌∷◌, length, map, get_or, slice_get, Option, None, Some, refl, sym, ap, subst, inl, inr, arith}
-use Rattle.dt_lists.specs.Lists.{AnyIn, AllIn, Has, EachThen, Distinct, Either}
-use Rattle.dt_lists.specs.Chain.{Chain, here, onward}
-use Rattle.dt_lists.proofs.Callers.{all_get, all_put, any_get, any_put, any_map, any_of_image, at_place, chain_before, chain_join, chain_map, chain_step, chain_takes_back, either_and, either_any}
+use Rattle.std.proofs.Common.{◌≡◌, ◌≢◌, ◌<◌, ◌≤◌, ◌↔◌, ◌∙◌, ℕ, List, [], ◌∷◌, length, map, slice_get, Some, refl, sym, ap, subst, inl, inr, arith}
+use Rattle.dt_lists.specs.Lists.{AnyIn, AllIn, Has, Distinct, Either}
+use Rattle.dt_lists.specs.Chain.{here, onward}
+use Rattle.dt_lists.proofs.Callers.{all_get, all_put, any_get, any_put, any_map, any_of_image, at_place, chain_before, chain_join, chain_step, chain_takes_back, either_and, either_any}
 use Rattle.dt_lists.proofs.Callers.{either_has, either_nat, either_not, has_map, has_place, place_of, place_within, two_of_different}
 use Rattle.dt_access.specs.Ids.{AreAscending}
 use Rattle.dt_access.specs.declared.TxnId.{TxnId}
 use Rattle.dt_access.proofs.Callers.{before_differs, either_id}
-use Rattle.dt_sched.specs.Views.{View, Edge, IsClass, IsComplete, IsPresent, IsWellFormed, Mutual, Reaches}
+use Rattle.dt_sched.specs.Views.{View, Edge, IsClass, IsComplete, Mutual, Reaches}
 use Rattle.dt_sched.specs.Decide.{IsResolvable}
-use Rattle.dt_sched.proofs.Callers.{class_of_member, has_id_decided, in_own_class, reach_source}
-use Rattle.dt_class.specs.Graphs.{AdjView, AreAllBlocked, AreVertices, IsEdge, IsInClass, IsSource, Leads}
+use Rattle.dt_sched.proofs.Callers.{class_of_member, in_own_class, reach_source}
+use Rattle.dt_class.specs.Graphs.{AdjView, AreAllBlocked, IsEdge, IsInClass, IsSource, Leads}
 use Rattle.dt_queue.specs.Queues.{Waiting, neighbours}
-use Rattle.dt_graph.specs.Left.{IsLeft, IsFree, IsInResolved, IsOrderly}
-use Rattle.dt_graph.specs.Waits.{id_at, AreUses, HoldsUp}
+use Rattle.dt_graph.specs.Left.{IsLeft, IsFree, IsOrderly}
+use Rattle.dt_graph.specs.Waits.{id_at, HoldsUp}
 use Rattle.dt_graph.specs.Graph.{GraphView, KeepsGraph, IsStuck}
 use Rattle.dt_graph.specs.Among.{HasNeighbour, IsAmong, WaitsOutside}
 use Rattle.dt_graph.proofs.Left.{done_left, left_after, left_decided, out_of_not_left, resolvable_apart, resolvable_left, undone_before}
 use Rattle.dt_graph.proofs.Waiting.{edge_of_waits, free_by_queues, reach_by_queues}
-use Rattle.dt_graph.proofs.Free.{id_has, neighbour_waits, place_has, same_place}
-use Rattle.dt_graph.proofs.Linked.{one_place}
+use Rattle.dt_graph.proofs.Free.{neighbour_waits, place_has, same_place}
+use Rattle.dt_graph.proofs.Subsets.{one_place}
 
 module _ (view : View) (resolved : List (List TxnId)) (done : List TxnId) (k : IsOrderly view resolved done) (g : GraphView) (is : KeepsGraph view resolved done g) where
   -- a neighbour is another vertex with an edge, or the same vertex

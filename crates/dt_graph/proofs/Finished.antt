@@ -40,7 +40,7 @@ some_same : {A : Type 0} {x y : A} → Some x ≡ Some y → x ≡ y
 some_same e = cc
 
 -- a front as long as the list is the list
-take_all : {A : Type 0} (n : ℕ) (xs : List A) → length xs ≤ n → take n xs ≡ xs
+pub take_all : {A : Type 0} (n : ℕ) (xs : List A) → length xs ≤ n → take n xs ≡ xs
 take_all zero [] le = refl
 take_all zero (x ∷ xs) le = absurd (omega (arith, le))
 take_all (suc n) [] le = refl
@@ -300,7 +300,7 @@ module _ (view : View) (resolved : List (List TxnId)) (done : List TxnId) (t : T
       there : Has resolved ids
       there = has_place resolved place ids class_at
 
-      opened : IsOpened view done old.ids ids kept
+      pub opened : IsOpened view done old.ids ids kept
       opened =
           let r : (o : Open) × (slice_get old.classes place ≡ Some o) × IsOpened view done old.ids ids o = pairwise_get (IsOpened view done old.ids) resolved old.classes place ids class_at g.classes in
           subst (IsOpened view done old.ids ids) (some_same (sym r.1 ∙ kept_at)) r.2
@@ -337,10 +337,10 @@ module _ (view : View) (resolved : List (List TxnId)) (done : List TxnId) (t : T
           g.classes
 
       -- the members are distinct, and none of them is stuck
-      distinct_members : Distinct kept.members
+      pub distinct_members : Distinct kept.members
       distinct_members = each_map _ _ kept.members (λ u w s e. irreflexive (id_at old.ids w) (subst (λ z. IsSooner view (id_at old.ids z) (id_at old.ids w)) e s)) (each_of_image (IsSooner view) (id_at old.ids) kept.members opened.ordered)
 
-      member_of : (u : ℕ) → Has kept.members u → Has ids (id_at old.ids u)
+      pub member_of : (u : ℕ) → Has kept.members u → Has ids (id_at old.ids u)
       member_of u h = (opened.members (id_at old.ids u)).0 (has_map (id_at old.ids) kept.members u h)
 
       not_stuck : (u : ℕ) → Has old.stuck u → ¬ (Has kept.members u)

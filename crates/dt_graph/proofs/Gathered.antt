@@ -1,9 +1,9 @@
 -- The graph of what waits for what among the vertices of a list, as it is gathered place by place.
-use Rattle.std.proofs.Common.{◌≡◌, ◌≢◌, ◌+◌, ◌<◌, ◌≤◌, ◌⊎◌, ◌↔◌, ◌∙◌, ℕ, zero, suc, Bool, true, false, IsTrue, List,
+use Rattle.std.proofs.Common.{◌≡◌, ◌+◌, ◌<◌, ◌≤◌, ◌⊎◌, ◌↔◌, ◌∙◌, ℕ, zero, suc, Bool, true, false, IsTrue, List,
   [], ◌∷◌, ◌++◌, length, get_or, slice_get, Some, refl, sym, ap, subst, inl, inr, true≢false, arith}
 use Rattle.std.proofs.lemmas.Option.{slice_get-get_or}
-use Rattle.dt_lists.specs.Lists.{AnyIn, Has, Either}
-use Rattle.dt_lists.proofs.Callers.{all_get, any_get, either_nat, has_last, has_longer, has_more, has_place, place_within}
+use Rattle.dt_lists.specs.Lists.{Has}
+use Rattle.dt_lists.proofs.Callers.{all_get, either_nat, has_last, has_longer, has_more, has_place, place_within}
 use Rattle.dt_class.specs.Graphs.{AdjView, IsEdge}
 use Rattle.dt_queue.specs.Queues.{Waiting}
 use Rattle.dt_graph.specs.Waits.{slots_of}
@@ -40,6 +40,7 @@ kept_slots waiting vertices list p d h lt =
     get_or_any (x ∷ xs) zero lt d e = refl
     get_or_any (x ∷ xs) (suc i) lt d e = get_or_any xs i (omega (arith, lt)) d e
 
+-- before the first place nothing is gathered
 pub gather_none : (waiting : List Waiting) (list : List ℕ) → IsGathering waiting list 0 (record { vertices = length list; edges = [] }) []
 gather_none waiting list = record {
   vertices = refl;
@@ -47,6 +48,7 @@ gather_none waiting list = record {
   are_blocked = λ p. (λ e. absurd e, λ r. absurd (omega (arith, r.0)));
 }
 
+-- past the last place all is gathered
 pub gathered : (waiting : List Waiting) (list : List ℕ) (place : ℕ) (graph : AdjView) (blocked : List ℕ) → length list ≤ place → IsGathering waiting list place graph blocked
     → IsAmong waiting list graph blocked
 gathered waiting list place graph blocked past g = record {

@@ -134,6 +134,18 @@ module _ (view : View) (resolved : List (List TxnId)) (done : List TxnId) (part 
       there : (x : TxnId) → Has ids x → IsPresent view x
       there x m = present_of_complete view x (complete_of_closed view x (all_get (IsClosed view) ids (all_get _ resolved k.sound.resolved_closed ids h) x m))
 
+  -- where the transaction has a vertex, this lacks some part
+  pub missing_before : (old : GraphView) → KeepsGraph view resolved done old → (v : ℕ) → v < length old.ids → id_at old.ids v ≡ part.id → 0 < (vertex_at old.vertices v).missing
+  missing_before old g v lt named =
+      let at : (home : ℕ) × (home < length view) × HasPart (log_at view home) (id_at old.ids v) = any_at _ [] view ((g.present (id_at old.ids v)).0 (id_has old.ids v lt)) in
+      let p : (p : Part) × Has (log_at view at.0) p × (p.id ≡ id_at old.ids v) = any_get _ (log_at view at.0) at.2 in
+      let e : (vertex_at old.vertices v).missing ≡ lacking view part.id part.homes =
+      (g.kept v lt).missing at.0 p.0 p.1 p.2 ∙ ap (λ t. lacking view t p.0.homes) named ∙ ap (lacking view part.id) (alike at.0 p.0 p.1 (p.2 ∙ named)) in
+      some_missing _ _ _ e (lacking_less view part can part.homes (distinct_homes part.homes ascending) can.homed)
+    where
+      some_missing : (m l n : ℕ) → m ≡ l → l ≡ suc n → 0 < m
+      some_missing m l n e f = omega (arith, e, f)
+
   module _ (v : ℕ) (more : List Waiting) (old new : GraphView) (g : KeepsGraph view resolved done old) (i : Inserts part v more old new) where
     -- the entries
 

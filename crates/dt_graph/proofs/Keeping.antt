@@ -109,7 +109,7 @@ when_ok (Ok x) e p = p
 when_ok (Err x) e p = cc
 
 -- by the place of an id
-at_named : (ids : List TxnId) (v : ℕ) (id : TxnId) → slice_get ids v ≡ Some id → id_at ids v ≡ id
+pub at_named : (ids : List TxnId) (v : ℕ) (id : TxnId) → slice_get ids v ≡ Some id → id_at ids v ≡ id
 at_named ids v id e = get_or_from_slice_get ids v id (record { seq = 0; region = 0 }) e
 
 module _ (s : Sched) (old : GraphView) (k : IsKeeping s old) where

@@ -20,12 +20,16 @@ pub mod Subsets
 pub mod Keeping
 pub mod MayLeave
 pub mod Fitted
+pub mod Finishing
+pub mod Inserting
+pub mod Sorted
+pub mod InOrder
+pub mod Resolving
 pub mod Entered
 pub mod Followers
 pub mod Lowering
 pub mod Linked
 pub mod Gathered
-pub mod Sorted
 pub mod Asked
 pub mod Chosen
 pub mod TakenOut

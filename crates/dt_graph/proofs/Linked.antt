@@ -1,14 +1,15 @@
 -- The graph of what waits for what among the vertices of a list, as it is built: neighbour by neighbour, slot by slot, place by
 -- place.
-use Rattle.std.proofs.Common.{◌≡◌, ◌≢◌, ◌+◌, ◌<◌, ◌≤◌, ◌⊎◌, ◌↔◌, ◌∙◌, ℕ, zero, suc, Bool, true, false, ◌||◌, ◌==◌, IsTrue, List, [], ◌∷◌, ◌++◌}
-use Rattle.std.proofs.Common.{length, map, filter, get_or, slice_get, take, Option, None, Some, refl, sym, ap, subst, inl, inr, true≢false, eqb-true, eq-eqb, arith}
+use Rattle.std.proofs.Common.{◌≡◌, ◌+◌, ◌<◌, ◌⊎◌, ◌↔◌, ◌∙◌, ℕ, Bool, true, false, ◌||◌, IsTrue, List, [], ◌∷◌, ◌++◌}
+use Rattle.std.proofs.Common.{length, map, filter, get_or, slice_get, take, Some, refl, sym, subst, inl, inr, true≢false, eqb-true, eq-eqb}
 use Rattle.dt_lists.specs.Lists.{AnyIn, AllIn, Has, Distinct}
 use Rattle.std.proofs.lemmas.List.{take_more}
-use Rattle.dt_lists.proofs.Callers.{all_get, all_image, all_put, any_append, any_append_left, any_append_right, any_get, any_image, any_map, any_of_image, any_put, has_filter, has_of_filtered, has_place}
-use Rattle.dt_class.specs.Graphs.{AdjEdge, AdjView, IsEdge}
+use Rattle.dt_lists.proofs.Callers.{all_image, all_put, any_append, any_append_left, any_append_right, any_get, any_image, any_of_image, any_put, has_filter, has_of_filtered, has_place}
+use Rattle.dt_class.specs.Graphs.{AdjView}
 use Rattle.dt_queue.specs.Queues.{IsQueued, Waiting, neighbours}
 use Rattle.dt_graph.specs.Waits.{is_of, slots_of}
 use Rattle.dt_graph.specs.Among.{HasNeighbour, IsSourceAt, IsSourceOf, Links}
+use Rattle.dt_graph.proofs.Subsets.{one_place}
 
 -- no source
 pub links_none : (list : List ℕ) (place : ℕ) (graph : AdjView) → Links (λ u. ⊥) list place graph graph false
@@ -17,14 +18,6 @@ links_none list place graph = record {
   edges = λ p q. (λ e. inl e, λ s. elim s [ inl e ↦ e | inr r ↦ absurd r.1.2 ]);
   is_blocked = (λ b. absurd (true≢false (sym b)), λ r. absurd r.1);
 }
-
--- in a list in which nothing stands twice, an item is at one place alone
-pub one_place : {A : Type 0} (xs : List A) (p q : ℕ) (v : A) → Distinct xs → slice_get xs p ≡ Some v → slice_get xs q ≡ Some v → p ≡ q
-one_place [] p q v d e f = cc
-one_place (x ∷ xs) zero zero v d e f = refl
-one_place (x ∷ xs) zero (suc q) v d e f = let s : x ≡ v = cc in absurd (all_get _ xs d.0 v (has_place xs q v f) s)
-one_place (x ∷ xs) (suc p) zero v d e f = let s : x ≡ v = cc in absurd (all_get _ xs d.0 v (has_place xs p v e) s)
-one_place (x ∷ xs) (suc p) (suc q) v d e f = ap suc (one_place xs p q v d.1 e f)
 
 -- one source that is in the list
 pub links_in : (list : List ℕ) (place : ℕ) (graph : AdjView) (n source : ℕ) → Distinct list → slice_get list source ≡ Some n

@@ -1,5 +1,5 @@
 -- Lists that a sort gives: they have the same items, and where none stands twice each item is before all later ones.
-use Rattle.std.proofs.Common.{◌≡◌, ◌≢◌, ◌∙◌, ℕ, suc, ◌+◌, ◌<◌, ◌⊎◌, ◌↔◌, Bool, true, false, List, [], ◌∷◌, get_or, map, refl, sym, subst, inl, inr, arith, IsPermutation, IsSorted}
+use Rattle.std.proofs.Common.{◌≡◌, ◌∙◌, ℕ, suc, ◌+◌, ◌<◌, ◌⊎◌, ◌↔◌, Bool, true, false, List, [], ◌∷◌, get_or, map, refl, sym, subst, inl, inr, arith, IsPermutation, IsSorted}
 use Rattle.std.specs.Ordering.{nat_cmp, ordering_then, is_lt}
 use Rattle.std.specs.Cmp.{nat_cmp_is}
 use Rattle.std.specs.declared.cmp.Ordering.{Ordering}
@@ -8,9 +8,9 @@ use Rattle.std.specs.List.{AllByRecursion, IsDistinct, list_any}
 use Rattle.std.proofs.lemmas.Map.Keys.{IsDistinct-IsPermutation}
 use Rattle.std.proofs.lemmas.List.Sorted.{list_any-IsPermutation}
 use Rattle.std.proofs.lemmas.Bool.{false_from_ne_true}
-use Rattle.dt_lists.specs.Lists.{AnyIn, AllIn, Has, Distinct, EachThen}
+use Rattle.dt_lists.specs.Lists.{AllIn, Has, Distinct, EachThen}
 use Rattle.dt_lists.proofs.Callers.{all_map, any_image, any_map, any_of_image, any_of_test, test_of_any}
-use Rattle.dt_access.specs.Ids.{Before, AreAscending, same_id}
+use Rattle.dt_access.specs.Ids.{Before, same_id}
 use Rattle.dt_access.specs.declared.TxnId.{TxnId}
 use Rattle.dt_access.proofs.Callers.{before_total, before_transitive, id_of_test, same_id_turned, test_of_id}
 use Rattle.dt_graph.specs.Steps.{AreIdsAt}
@@ -77,6 +77,7 @@ module _ {A : Type 0} (cmp : A → A → Ordering) (R : A → A → Type 0) (one
 abbrev pub by_parts : TxnId → TxnId → Ordering
 by_parts a b = ordering_then (nat_cmp a.seq b.seq) (nat_cmp a.region b.region)
 
+-- an id that is before another one is less
 pub before_less : (a b : TxnId) → Before a b → is_lt (by_parts a b) ≡ true
 before_less a b (inl h) = rw (less a.seq b.seq h) refl
   where

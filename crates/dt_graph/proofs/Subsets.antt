@@ -81,7 +81,7 @@ last_place : {A : Type 0} (xs : List A) (x : A) → slice_get (xs ++ x ∷ []) (
 last_place [] x = refl
 last_place (y ∷ ys) x = last_place ys x
 
-one_place : (xs : List ℕ) (i j v : ℕ) → Distinct xs → slice_get xs i ≡ Some v → slice_get xs j ≡ Some v → i ≡ j
+pub one_place : {A : Type 0} (xs : List A) (i j : ℕ) (v : A) → Distinct xs → slice_get xs i ≡ Some v → slice_get xs j ≡ Some v → i ≡ j
 one_place [] i j v d e f = cc
 one_place (x ∷ xs) zero zero v d e f = refl
 one_place (x ∷ xs) zero (suc j) v d e f = let s : x ≡ v = cc in absurd (all_get _ xs d.0 v (has_place xs j v f) s)

@@ -1,5 +1,5 @@
 ghost use Rattle.std.specs.Prelude.{◌≡◌, ◌≤◌, ◌<◌, ◌⊎◌, ◌↔◌, ℕ, List, [], IfOk, IsTrue, MatchOption, OnErr, OnOk, Some, length, slice_get};
-ghost use Rattle.dt_lists.specs.Lists.{AllIn, Has};
+ghost use Rattle.dt_lists.specs.Lists.{AllIn, Distinct, Has};
 ghost use Rattle.dt_access.specs.Ids.{AreAscending};
 ghost use Rattle.dt_access.specs.Orders.{AreAscendingHomes};
 ghost use Rattle.dt_access.specs.declared.TxnId.{TxnId};
@@ -59,7 +59,7 @@ impl Graph {
         }
     }
 
-    /// PutsIn a part; after `NoMemory` all is as before.
+    /// Puts in a part; after `NoMemory` all is as before.
     pub fn insert(&mut self, alloc: Global, part: &Part) -> Result<(), NoMemory>
         requires { (view : View) × (resolved : List (List TxnId)) × (done : List TxnId) × IsOrderly view resolved done × CanInsert view part.now × KeepsGraph view resolved done self.old }
         ensures inserted { OnOk result (InsertsPart part.now self.old self.new) }
@@ -181,7 +181,8 @@ impl Graph {
 
     /// The vertices of transactions, the soonest first.
     fn in_order(&self, alloc: Global, ids: &[TxnId]) -> Result<Listed<u32>, NoMemory>
-        requires { AllIn (Has self.now.ids) ids.now }
+        requires there { AllIn (Has self.now.ids) ids.now }
+        requires once { Distinct ids.now }
         ensures { IfOk result (RunInOrder self.now ids.now) }
     {
         let mut members = Vec::with_capacity(alloc, ids.len())?;

@@ -1,6 +1,6 @@
 ghost use Rattle.std.specs.Prelude.{◌≡◌, ◌≤◌, ◌<◌, [], ◌∷◌, ◌++◌, vec_capacity, vec_len};
 
-/// PutsIn an item for which there is room. Takes no memory.
+/// Puts in an item for which there is room. Takes no memory.
 pub fn push_reserved<X: Drop>(items: &mut Vec<X>, item: X)
     requires { vec_len items.old < vec_capacity items.old }
     ensures added { items.new.items ≡ items.old.items ++ item ∷ [] }

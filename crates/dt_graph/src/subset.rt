@@ -59,7 +59,7 @@ impl Subset {
         self.places[number as usize].is_some()
     }
 
-    /// PutsIn a number, if it is not one of them. Takes no memory.
+    /// Puts in a number, if it is not one of them. Takes no memory.
     pub fn add(&mut self, number: u32)
         requires { number < self.old.bound }
         ensures { PutsIn number self.old self.new }

@@ -61,7 +61,7 @@ impl Waits {
         self.stuck.reach(vertices)
     }
 
-    /// PutsIn a vertex with its first part, for which there is room; after `NoMemory` all is as before.
+    /// Puts in a vertex with its first part, for which there is room; after `NoMemory` all is as before.
     pub fn add(&mut self, alloc: Global, part: &Part) -> Result<(), NoMemory>
         requires room { FitsOneMore self.old }
         requires few { length self.old.vertices.items + 1 < 2 ^ 32 }
@@ -93,7 +93,7 @@ impl Waits {
         Ok(())
     }
 
-    /// PutsIn one more part to a vertex; after `NoMemory` all is as before.
+    /// Puts in one more part to a vertex; after `NoMemory` all is as before.
     pub fn extend(&mut self, alloc: Global, vertex: u32, part: &Part) -> Result<(), NoMemory>
         requires vertex { vertex < length self.old.vertices.items }
         requires sizes { length self.old.degrees.items ≡ length self.old.vertices.items }

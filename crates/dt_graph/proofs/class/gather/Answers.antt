@@ -1,11 +1,6 @@
-use Rattle.std.proofs.Common.{◌≡◌, ◌∙◌, Some, get_or, refl, slice_get, sym, ap, subst, arith}
+use Rattle.std.proofs.Common.{◌≡◌, ◌∙◌, Some, get_or, slice_get, subst}
 use Rattle.std.proofs.lemmas.Option.{slice_get-get_or}
-use Rattle.std.proofs.lemmas.List.{get_or_read}
-use Rattle.dt_lists.specs.Lists.{AllIn, Has}
-use Rattle.dt_lists.proofs.Callers.{all_get, has_place}
-use Rattle.dt_queue.specs.Queues.{IsQueued}
 use Rattle.dt_graph.specs.Among.{IsSourceAt, Links}
-use Rattle.dt_graph.specs.Steps.{HaveSlots}
 use Rattle.dt_graph.specs.Waits.{slots_of}
 use Rattle.dt_graph.proofs.Gathered.{gather_blocked, gather_free, gathered, kept_slots}
 use Rattle.dt_graph.proofs.Linked.{slots_wait}

@@ -1,4 +1,3 @@
-use Rattle.std.proofs.Common.{get_or}
 use Rattle.dt_graph.specs.Among.{IsSourceOf}
 use Rattle.dt_graph.proofs.Linked.{links_next}
 use Rattle.dt_graph.proofs.class.link.Goals as goal

@@ -1,4 +1,32 @@
+use Rattle.std.proofs.Common.{◌≡◌, ◌∙◌, ◌<◌, length, sym, ap, subst, arith}
+use Rattle.std.specs.Vec.Iter.{into_iter_items}
+use Rattle.std.proofs.lemmas.List.{get_or_read}
+use Rattle.dt_lists.specs.Lists.{AllIn, Has}
+use Rattle.dt_lists.proofs.Callers.{place_within}
+use Rattle.dt_graph.specs.Graph.{GraphView}
+use Rattle.dt_graph.specs.Held.{kept_of}
+use Rattle.dt_graph.proofs.InOrder.{AreMembers, all_came, all_numbered, gathered, members_more, run_in_order}
 use Rattle.dt_graph.proofs.graph.Graph.in_order.Goals as goal
+use Rattle.dt_graph.proofs.graph.Graph.in_order.Goals.{in-Some+in_ok-push, in_default}
+
+pub loop-id-preserved : goal.loop-id-preserved
+loop-id-preserved c =
+    let g : GraphView = kept_of c.self.inside.names.ids c.self.inside.waits c.self.inside.open.items in
+    elim c.match-number_of.branch [
+      | in-Some+in_ok-push w ↦
+          let lt : w.in-Some.vertex < length c.self.inside.waits.vertices.items = subst (λ n. w.in-Some.vertex < n) (sym c.self.invariant.vertices) (place_within g.ids w.in-Some.vertex _ w.in-Some.ensures.number) in
+          let rank = ap (λ x. x.rank) (get_or_read c.self.inside.waits.vertices.items w.in-Some.vertex w.index.result.now lt w.index.ensures _) in
+          rw (← c.self.view_is, w.members-is, w.in_ok-push.ensures.items)
+          (members_more g c.args.ids.now c.loop-id.id-index (record { seq = 0; region = 0 }) c.loop-id.members.items w.index.result.now.rank w.in-Some.vertex c.loop-id-test.true
+          (rw (← c.self.view_is) at c.loop-id.invariant) w.in-Some.ensures.number rank)
+      | in_default w ↦
+          absurd (all_numbered g c.args.ids.now c.loop-id.id-index (record { seq = 0; region = 0 }) c.number_of.result (subst (λ g. AllIn (Has g.ids) c.args.ids.now) (sym c.self.view_is) c.requires.there)
+          c.loop-id-test.true w.in_default.is c.number_of.ensures.number)
+    ]
 
 pub returns : goal.returns
-returns c = ?
+returns c =
+    let none : length (into_iter_items c.loop-member.member-iterator) ≡ 0 = omega (arith, c.in-None.ensures.steps.0, c.loop-member.member-iterator.rest.ok.0) in
+    rw (all_came c.loop-member.vertices (into_iter_items c.loop-member.member-iterator) (into_iter_items c.into_iter-member-iterator.result) c.sort.new.self.items c.loop-member.invariant c.into_iter-member-iterator.ensures.into_iter_gives.0 none)
+    (run_in_order c.args.self.now c.args.ids.now c.loop-id.members.items c.sort.new.self.items c.requires.once
+    (gathered c.args.self.now c.args.ids.now c.loop-id.id-index c.loop-id.members.items c.loop-id-test.false c.loop-id.invariant) c.in_ok-sort.ensures.permutation c.in_ok-sort.ensures.sorted)

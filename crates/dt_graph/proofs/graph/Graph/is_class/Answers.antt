@@ -1,9 +1,9 @@
-use Rattle.std.proofs.Common.{◌≡◌, ◌∙◌, ◌<◌, ◌≤◌, ◌^◌, ◌==◌, List, ap, length, subst, sym, arith}
-use Rattle.dt_lists.specs.Lists.{AllIn, Has, Distinct}
+use Rattle.std.proofs.Common.{◌≡◌, ◌<◌, ◌^◌, ◌==◌, ap, length, subst, sym, arith}
+use Rattle.dt_lists.specs.Lists.{AllIn}
 use Rattle.dt_graph.specs.Among.{IsAmong}
-use Rattle.dt_graph.specs.Graph.{AreVerticesOf, GraphView, IsSomeGraph}
+use Rattle.dt_graph.specs.Graph.{AreVerticesOf, GraphView}
 use Rattle.dt_graph.specs.Steps.{HaveSlots}
-use Rattle.dt_graph.proofs.Chosen.{blocked_not_resolvable, class_told, empty_of_test, few_not_resolvable, no_items, some_of_test, stuck_slots, unstuck_not_resolvable, vertices_few, vertices_once}
+use Rattle.dt_graph.proofs.Chosen.{blocked_not_resolvable, class_told, empty_told, no_items, filled_told, stuck_slots, unstuck_not_resolvable, vertices_few, vertices_once}
 use Rattle.dt_graph.proofs.graph.Graph.is_class.Goals as goal
 
 pub returns-in_default : goal.returns-in_default
@@ -37,7 +37,7 @@ returns-then-not-is_empty c view resolved done k is =
     let x = c.in_ok-among.among in
     let among : IsAmong g.waiting list x.graph x.blocked.items = subst (λ (g : GraphView). IsAmong g.waiting list x.graph x.blocked.items) c.self.view_is c.in_ok-among.ensures in
     blocked_not_resolvable view resolved done k g is c.args.ids.now c.requires.ascending list are x.graph x.blocked.items among
-    (some_of_test x.blocked.items _ _ (omega (arith, x.blocked.ok.0)) c.is_empty.ensures c.if-not-is_empty.true)
+    (filled_told x.blocked.items _ _ (omega (arith, x.blocked.ok.0)) c.is_empty.ensures c.if-not-is_empty.true)
 
 pub returns : goal.returns
 returns c view resolved done k is =
@@ -46,7 +46,7 @@ returns c view resolved done k is =
     let are : AreVerticesOf g c.args.ids.now list = rw c.as_slice-2.ensures.value (rw c.in-Some.is at c.in_ok-vertices.ensures) in
     let x = c.in_ok-among.among in
     let among : IsAmong g.waiting list x.graph x.blocked.items = subst (λ (g : GraphView). IsAmong g.waiting list x.graph x.blocked.items) c.self.view_is c.in_ok-among.ensures in
-    let free = no_items x.blocked.items (empty_of_test x.blocked.items _ _ (omega (arith, x.blocked.ok.0)) c.is_empty.ensures c.if-not-is_empty.false) in
+    let free = no_items x.blocked.items (empty_told x.blocked.items _ _ (omega (arith, x.blocked.ok.0)) c.is_empty.ensures c.if-not-is_empty.false) in
     let many : c.len.result ≡ length c.in_ok-class.class.items = omega (arith, c.len.ensures, c.in_ok-class.class.ok.0) in
     class_told view resolved done k g is c.args.ids.now c.requires.ascending list are x.graph x.blocked.items among (omega (arith, c.if-ids-lt2.false)) free c.in_ok-class.class.items c.in_ok-class.ensures _
     (ap (λ n. n == length c.args.ids.now) many)

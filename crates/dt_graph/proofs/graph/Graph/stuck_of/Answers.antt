@@ -1,4 +1,4 @@
-use Rattle.std.proofs.Common.{refl, subst, true≢false, sym, ◌∙◌}
+use Rattle.std.proofs.Common.{refl, true≢false, sym, ◌∙◌}
 use Rattle.dt_graph.specs.Graph.{GraphView}
 use Rattle.dt_graph.specs.Held.{kept_of}
 use Rattle.dt_graph.proofs.Asked.{named_not_stuck, stuck_more, unnamed_not_stuck}

@@ -1,0 +1,121 @@
+-- What a call of finish may do, and what is told of what it did, by what is kept alone.
+use Rattle.std.proofs.Common.{◌≡◌, ◌≢◌, ◌+◌, ◌<◌, ◌≤◌, ◌⊎◌, ◌↔◌, ◌∙◌, ◌^◌, ℕ, zero, suc, List, [], ◌∷◌, ◌++◌, length, map, get_or, set, slice_get, Option, None, Some, Fits, w64, refl, sym, ap, subst, inl, inr, arith}
+use Rattle.std.proofs.lemmas.List.{length-map}
+use Rattle.std.proofs.lemmas.Option.{get_or_from_slice_get}
+use Rattle.dt_lists.specs.Lists.{AllIn, Has, Distinct}
+use Rattle.dt_lists.proofs.Callers.{all_get, has_place, place_within}
+use Rattle.dt_access.specs.declared.TxnId.{TxnId}
+use Rattle.dt_sched.specs.Views.{View, IsClass}
+use Rattle.dt_sched.specs.Decide.{IsExecutable}
+use Rattle.dt_sched.proofs.Callers.{complete_of_closed, present_of_complete}
+use Rattle.dt_graph.specs.declared.open.Open.{Open}
+use Rattle.dt_graph.specs.Left.{IsLeft, IsOrderly}
+use Rattle.dt_graph.specs.Waits.{id_at}
+use Rattle.dt_graph.specs.Graph.{GraphView, KeepsGraph, IsOpened, IsPlaceOfClass, vertex_at}
+use Rattle.dt_graph.specs.Names.{IsNumberOf}
+use Rattle.dt_graph.specs.Steps.{FinishesId, FinishesIn, IsReadyWithout, Leaves, MayFinishIn, MayLeave, alone, before, last, one, all, one_done, with_one_done}
+use Rattle.dt_graph.proofs.Finished.{distinct_members, member_of, next_is, opened}
+use Rattle.dt_graph.proofs.Keeping.{at_named}
+use Rattle.dt_graph.proofs.Left.{class_of_resolved, executable_left, left_after}
+use Rattle.dt_graph.proofs.MayLeave.{may_leave}
+use Rattle.dt_graph.proofs.Rows.{pairwise_get}
+use Rattle.dt_graph.proofs.Subsets.{few_below}
+
+-- the graph of an executable id
+abbrev pub MayFinish : GraphView → TxnId → Type 0
+MayFinish g id = (view : View) × (resolved : List (List TxnId)) × (done : List TxnId) × IsOrderly view resolved done × IsExecutable view resolved done id × KeepsGraph view resolved done g
+
+-- the next member of a class is counted in 64 bits
+pub counted_on : (place : ℕ) (g : GraphView) (m : MayFinishIn place g) (o : Open) → length g.ids < 2 ^ 32 → o ≡ get_or g.classes place o → o.next + 1 < 18446744073709551616
+counted_on place g m o few e =
+    fits o.next m.kept.next (length m.kept.members) (length g.ids) (ap (λ x. x.next) (e ∙ get_or_from_slice_get g.classes place m.kept o m.at_place)) m.waits (few_below (length g.ids) m.kept.members m.leaves.once m.leaves.within) few
+  where
+    fits : (n k l i : ℕ) → n ≡ k → k < l → l ≤ i → i < 4294967296 → n + 1 < 18446744073709551616
+    fits n k l i e f h j = omega (arith, e, f, h, j)
+
+module _ (place : ℕ) (g : GraphView) (m : MayFinishIn place g) (o : Open) (e : o ≡ get_or g.classes place o) where
+  pub open_is : o ≡ m.kept
+  open_is = e ∙ get_or_from_slice_get g.classes place m.kept o m.at_place
+
+  one_more : (n : ℕ) → n + 1 ≡ suc n
+  one_more n = omega arith
+
+  now_is : record { members = o.members; next = o.next + 1 } ≡ one_done m.kept
+  now_is = λ i. record { members = (open_is i).members; next = (one_more o.next ∙ ap (λ x. suc x.next) open_is) i }
+
+  pub within_open : (next : ℕ) → slice_get o.members (o.next + 1) ≡ Some next → next < length g.ids
+  within_open next at = all_get _ m.kept.members m.leaves.within next (has_of_at m.kept.members (o.next + 1) (subst (λ x. slice_get x.members (o.next + 1) ≡ Some next) open_is at))
+    where
+      has_of_at : (xs : List ℕ) (i : ℕ) → slice_get xs i ≡ Some next → Has xs next
+      has_of_at xs i at = has_place xs i next at
+
+  pub finishes_one : (next : ℕ) (ready : List ℕ) → slice_get o.members (o.next + 1) ≡ Some next → ((u : ℕ) → Has ready u ↔ Has g.ready u ⊎ (u ≡ next))
+      → FinishesIn place g (record g { ready = ready; classes = set g.classes place (record { members = o.members; next = o.next + 1 }) })
+  finishes_one next ready at r = subst (λ x. FinishesIn place g (record g { ready = ready; classes = set g.classes place x })) (sym now_is)
+      (one next m.kept m.at_place (subst (λ x. slice_get x.members x.next ≡ Some next) now_is at) r refl)
+
+  pub finishes_all : (new : GraphView) → length o.members ≤ o.next + 1 → Leaves o.members (record g { classes = set g.classes place (record { members = o.members; next = o.next + 1 }) }) new → FinishesIn place g new
+  finishes_all new le l = all m.kept m.at_place (ends (length m.kept.members) m.kept.next m.waits (subst (λ x. length x.members ≤ x.next) now_is le))
+      (subst (λ x. Leaves x.members (record g { classes = set g.classes place x }) new) now_is l)
+    where
+      ends : (l n : ℕ) → n < l → l ≤ suc n → suc n ≡ l
+      ends l n f h = omega (arith, f, h)
+
+-- what may leave, and may finish, hangs on nothing that is ready
+pub may_leave_without : (g : GraphView) (ready leaving : List ℕ) → MayLeave g leaving → MayLeave (record g { ready = ready }) leaving
+may_leave_without g ready leaving m = record { once = m.once; within = m.within; distinct = m.distinct; below = m.below; slots = m.slots; enough = m.enough }
+
+pub may_finish_without : (place : ℕ) (g : GraphView) (ready : List ℕ) → MayFinishIn place g → MayFinishIn place (record g { ready = ready })
+may_finish_without place g ready m = record { kept = m.kept; at_place = m.at_place; waits = m.waits; leaves = may_leave_without g ready m.kept.members m.leaves }
+
+module _ (g : GraphView) (id : TxnId) (r : MayFinish g id) where
+  left : IsLeft r.0 r.2 id
+  left = executable_left r.0 r.1 r.2 id r.4
+
+  pub number_there : (n : Option ℕ) → n ≡ None → ¬ (IsNumberOf g.ids id n)
+  number_there n e i = subst (IsNumberOf g.ids id) e i ((r.5.present id).1 left.0)
+
+  pub may_leave_one : (v : ℕ) → slice_get g.ids v ≡ Some id → MayLeave g (v ∷ [])
+  may_leave_one v at = may_leave r.0 r.1 r.2 g r.5 (v ∷ []) (tt, tt) (place_within g.ids v id at, tt) leaves
+    where
+      leaves : (u : ℕ) → Has (v ∷ []) u → IsLeft r.0 r.2 (id_at g.ids u)
+      leaves u (inl e) = subst (λ w. IsLeft r.0 r.2 (id_at g.ids w)) e (subst (IsLeft r.0 r.2) (sym (at_named g.ids v id at)) left)
+      leaves u (inr h) = absurd h
+
+  pub may_finish : (v place : ℕ) → slice_get g.ids v ≡ Some id → (vertex_at g.vertices v).class ≡ Some place → MayFinishIn place g
+  may_finish v place at some = record { kept = kept.0; at_place = kept.1; waits = waits; leaves = leaves }
+    where
+      lt : v < length g.ids
+      lt = place_within g.ids v id at
+
+      named : id_at g.ids v ≡ id
+      named = at_named g.ids v id at
+
+      class : (ids : List TxnId) × (slice_get r.1 place ≡ Some ids) × Has ids id
+      class = subst (IsPlaceOfClass r.1 id) some (subst (λ t. IsPlaceOfClass r.1 t (vertex_at g.vertices v).class) named (r.5.kept v lt).class)
+
+      kept : (o : Open) × (slice_get g.classes place ≡ Some o) × IsOpened r.0 r.2 g.ids class.0 o
+      kept = pairwise_get (IsOpened r.0 r.2 g.ids) r.1 g.classes place class.0 class.1 r.5.classes
+
+      waits : kept.0.next < length kept.0.members
+      waits = subst (λ n. kept.0.next < n) (length-map kept.0.members (id_at g.ids))
+          (place_within (map (id_at g.ids) kept.0.members) kept.0.next id (next_is r.0 r.1 r.2 id r.3 r.4 g g r.5 v lt named place class.0 kept.0 class.1 kept.1 class.2))
+
+      of_class : IsClass r.0 id class.0
+      of_class = class_of_resolved r.0 r.1 r.2 class.0 id r.3.sound (has_place r.1 place class.0 class.1) class.2
+
+      leaves : MayLeave g kept.0.members
+      leaves = may_leave r.0 r.1 r.2 g r.5 kept.0.members (distinct_members r.0 r.1 r.2 id r.3 r.4 g g r.5 v lt named place class.0 kept.0 class.1 kept.1 class.2) kept.2.within
+          (λ u h. left_after r.0 r.2 left ((of_class.members (id_at g.ids u)).0 (member_of r.0 r.1 r.2 id r.3 r.4 g g r.5 v lt named place class.0 kept.0 class.1 kept.1 class.2 u h)).1)
+
+-- what was done in a class, of an id that was ready
+pub finishes_in : (id : TxnId) (v place : ℕ) (ready : List ℕ) (old new : GraphView) → slice_get old.ids v ≡ Some id → (vertex_at old.vertices v).class ≡ Some place → IsReadyWithout old.ready v ready
+    → FinishesIn place (record old { ready = ready }) new → FinishesId id old new
+finishes_in id v place ready old new at some without (one next kept kept_at next_at r rest) = before v place next kept at some kept_at next_at (record {
+  ready = λ u. (
+    λ h. elim ((r u).0 h) [ inl o ↦ inl ((without u).0 o) | inr e ↦ inr e ],
+    λ s. (r u).1 (elim s [ inl o ↦ inl ((without u).1 o) | inr e ↦ inr e ]),
+  );
+  rest = rest;
+})
+finishes_in id v place ready old new at some without (all kept kept_at ends l) = last v place kept at some kept_at ends (record { ready = ready; without = without; leaves = l })
