@@ -1,5 +1,5 @@
 -- The walk that lowers degrees: at each place of the walk the degrees and what is still to be lowered make what was there.
-use Rattle.std.proofs.Common.{◌≡◌, ◌≢◌, ◌+◌, ◌-◌, ◌<◌, ◌≤◌, ◌⊎◌, ◌∙◌, ℕ, zero, true, false, ◌==◌, if◌then◌else◌}
+use Rattle.std.proofs.Common.{◌≡◌, ◌≢◌, ◌+◌, ◌-◌, ◌<◌, ◌≤◌, ◌⊎◌, ◌∙◌, ℕ, true, false, ◌==◌, if◌then◌else◌}
 use Rattle.std.proofs.Common.{List, [], ◌∷◌, length, map, get_or, set, slice_get, None, Some, refl, sym, ap, subst, inl, inr, arith}
 use Rattle.std.proofs.lemmas.Bool.{cases_Bool}
 use Rattle.std.proofs.lemmas.List.{get_or-set_other, get_or-set_same, length-set}
