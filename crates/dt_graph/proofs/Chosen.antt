@@ -1,6 +1,35 @@
 -- The answers about classes, read off the graph of what waits for what among stuck vertices.
-use Rattle.std.proofs.Common.{◌≡◌, ◌+◌, ◌<◌, ◌≤◌, ◌^◌, ◌↔◌, ◌∙◌, ℕ, Bool, true, false, IsTrue, List,
-  [], ◌∷◌, length, get_or, map, slice_get, Some, refl, sym, ap, subst, true≢false, arith, ◌==◌, eqb-true, eq-eqb}
+use Rattle.std.proofs.Common.{
+  ◌≡◌,
+  ◌+◌,
+  ◌<◌,
+  ◌≤◌,
+  ◌^◌,
+  ◌↔◌,
+  ◌∙◌,
+  ℕ,
+  Bool,
+  true,
+  false,
+  IsTrue,
+  List,
+  [],
+  ◌∷◌,
+  length,
+  get_or,
+  map,
+  slice_get,
+  Some,
+  refl,
+  sym,
+  ap,
+  subst,
+  true≢false,
+  arith,
+  ◌==◌,
+  eqb-true,
+  eq-eqb,
+}
 use Rattle.std.proofs.lemmas.List.{length-map}
 use Rattle.std.proofs.lemmas.Option.{get_or_from_slice_get, slice_get-get_or}
 use Rattle.dt_lists.specs.Lists.{AnyIn, AllIn, Has, Distinct, EachThen}
@@ -89,9 +118,12 @@ module _ (view : View) (resolved : List (List TxnId)) (done : List TxnId) (k : I
     within = all_map (Has g.stuck) _ list (λ v h. ((is.stuck v).0 h).0) are.stuck
 
     pub blocked_not_resolvable : 0 < length blocked → IsTrue false ↔ IsResolvable view resolved done ids
-    blocked_not_resolvable some = (λ t. absurd (true≢false (sym t)), λ x. absurd (
-        let b : (b : ℕ) × (slice_get blocked 0 ≡ Some b) = at_place blocked 0 some in
-        none_blocked view resolved done k g is ids x list graph blocked once a members within b.0 (has_place blocked 0 b.0 b.1)))
+    blocked_not_resolvable some = (
+      λ t. absurd (true≢false (sym t)),
+      λ x. absurd (
+          let b : (b : ℕ) × (slice_get blocked 0 ≡ Some b) = at_place blocked 0 some in
+          none_blocked view resolved done k g is ids x list graph blocked once a members within b.0 (has_place blocked 0 b.0 b.1)),
+    )
 
     module _ (two : 2 ≤ length ids) (free : blocked ≡ []) (class : List ℕ) (c : AreVertices graph (IsInClass graph 0) class) where
       many : graph.vertices ≡ length list

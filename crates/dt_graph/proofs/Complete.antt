@@ -1,18 +1,16 @@
 -- A transaction is complete just where none of its homes lacks a part of it, and an inserted part is lacked once less.
-use Rattle.std.proofs.Common.{◌≡◌, ◌≢◌, ◌+◌, ◌<◌, ◌⊎◌, ◌↔◌, ◌∙◌, ℕ, zero, suc, Bool, true, false, not, ◌||◌, List, [], ◌∷◌, ◌++◌, length, map}
+use Rattle.std.proofs.Common.{◌≡◌, ◌≢◌, ◌⊎◌, ◌↔◌, ◌∙◌, ℕ, suc, Bool, true, false, not, List, [], ◌∷◌, ◌++◌, length}
 use Rattle.std.proofs.Common.{filter, refl, sym, ap, subst, inl, inr, arith}
-use Rattle.std.specs.List.{list_any}
 use Rattle.std.proofs.lemmas.Bool.{cases_Bool, false_from_ne_true}
-use Rattle.dt_lists.specs.Lists.{AnyIn, AllIn, Has, Distinct, EachThen}
-use Rattle.dt_lists.proofs.Callers.{all_at, all_get, all_put, any_append, any_append_left, any_append_right, any_at, any_from_at, any_get, any_map, any_of_test, any_put, has_last, test_of_any}
+use Rattle.dt_lists.specs.Lists.{AnyIn, AllIn, Has, Distinct}
+use Rattle.dt_lists.proofs.Callers.{all_get, all_put, any_append, any_append_left, any_from_at, any_map, any_of_test, any_put, has_last, test_of_any}
 use Rattle.dt_access.specs.Ids.{same_id}
-use Rattle.dt_access.specs.Orders.{AreAscendingHomes}
 use Rattle.dt_access.specs.declared.TxnId.{TxnId}
 use Rattle.dt_access.specs.declared.Part.{Part}
 use Rattle.dt_access.proofs.Callers.{id_of_test, test_of_id}
-use Rattle.dt_sched.specs.Views.{View, log_at, HasPart, HasParts, IsComplete, IsWellFormed}
+use Rattle.dt_sched.specs.Views.{View, log_at, HasPart, HasParts, IsComplete}
 use Rattle.dt_sched.specs.Sched.{CanInsert, with_part}
-use Rattle.dt_sched.proofs.Callers.{log_with_part, part_of_complete}
+use Rattle.dt_sched.proofs.Callers.{log_with_part}
 use Rattle.dt_graph.specs.Graph.{has_part, lacking}
 use Rattle.dt_graph.proofs.Uses.{part_there}
 

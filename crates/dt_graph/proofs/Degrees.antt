@@ -1,14 +1,13 @@
 -- Degrees: how a push and the leaving of vertices change them. When vertices leave, the degree of each vertex that stays
 -- falls by the number of its entries that follow theirs, all told; these are counted before any entry is taken out.
-use Rattle.std.proofs.Common.{◌≡◌, ◌≢◌, ◌+◌, ◌≤◌, ◌⊎◌, ◌↔◌, ◌∙◌, ℕ, zero, suc, Bool, true, false, ◌&&◌, ◌==◌, not, if◌then◌else◌, List, []}
-use Rattle.std.proofs.Common.{◌∷◌, ◌++◌, length, map, filter, refl, sym, ap, ap₂, subst, inl, inr, eqb-true, eq-eqb, arith}
+use Rattle.std.proofs.Common.{◌≡◌, ◌≢◌, ◌+◌, ◌≤◌, ◌⊎◌, ◌∙◌, ℕ, Bool, true, false, ◌&&◌, ◌==◌, not, if◌then◌else◌, List, []}
+use Rattle.std.proofs.Common.{◌∷◌, ◌++◌, length, filter, refl, sym, ap, ap₂, subst, inl, inr, eqb-true, arith}
 use Rattle.std.specs.List.{sum_by, list_any}
-use Rattle.std.proofs.lemmas.Bool.{and_parts, and_from, cases_Bool, false_from_ne_true}
-use Rattle.std.proofs.lemmas.Bool.Decides.{nat_tests}
+use Rattle.std.proofs.lemmas.Bool.{cases_Bool, false_from_ne_true}
 use Rattle.std.proofs.lemmas.List.{append-nil}
 use Rattle.std.proofs.lemmas.List.Sums.{sum_by-append}
 use Rattle.std.proofs.lemmas.List.Elements.{filter-append}
-use Rattle.dt_lists.specs.Lists.{AnyIn, AllIn, Has, EachThen}
+use Rattle.dt_lists.specs.Lists.{AllIn, Has}
 use Rattle.dt_lists.specs.Lists.{Distinct}
 use Rattle.dt_lists.proofs.Callers.{all_get, all_put, any_get, any_of_test, each_across, each_append_left, filter_none, has_of_filtered, Spot, spot}
 use Rattle.dt_queue.specs.Queues.{Waiting, HasDistinctSlots, is_at, nearest, neighbours, is_neighbour, followers}

@@ -1,31 +1,28 @@
 -- An id that is done leaves what is kept the graph of the view with that id done: where its vertex leaves, where another
 -- member of its class is ready now, and where its class leaves.
-use Rattle.std.proofs.Common.{◌≡◌, ◌≢◌, ◌+◌, ◌<◌, ◌≤◌, ◌⊎◌, ◌↔◌, ◌∙◌, ℕ, zero, suc, Bool, true, false, not, List, [], ◌∷◌, ◌++◌, length, map}
-use Rattle.std.proofs.Common.{filter, get_or, set, take, drop, slice_get, Some, refl, sym, ap, subst, inl, inr, arith}
+use Rattle.std.proofs.Common.{◌≡◌, ◌≢◌, ◌+◌, ◌<◌, ◌≤◌, ◌⊎◌, ◌↔◌, ◌∙◌, ℕ, zero, suc, false, not, List, [], ◌∷◌, ◌++◌, length, map}
+use Rattle.std.proofs.Common.{filter, get_or, take, drop, slice_get, Some, refl, sym, ap, subst, inl, inr, arith}
 use Rattle.std.proofs.lemmas.Bool.{false_from_ne_true}
 use Rattle.std.proofs.lemmas.List.{length-map}
-use Rattle.dt_lists.specs.Lists.{AnyIn, AllIn, Has, EachThen, Distinct, Either, Pairwise}
-use Rattle.dt_lists.specs.Chain.{here}
+use Rattle.dt_lists.specs.Lists.{AllIn, Has, Distinct, Either, Pairwise}
 use Rattle.dt_lists.proofs.Callers.{all_get, all_map, all_put, any_get, any_put, either_has, either_nat, has_longer, has_last, has_more, has_map, has_place, each_map, each_of_image, place_within}
 use Rattle.dt_access.specs.declared.TxnId.{TxnId}
-use Rattle.dt_sched.specs.Views.{View, IsClosed, IsClass, IsComplete, IsPresent, IsSooner, IsWellFormed}
+use Rattle.dt_sched.specs.Views.{View, IsComplete, IsSooner}
 use Rattle.dt_sched.specs.Decide.{IsExecutable}
 use Rattle.dt_sched.proofs.Callers.{class_unique, has_id_decided, sooner_breaks_ties}
-use Rattle.dt_queue.specs.Queues.{Waiting}
-use Rattle.dt_graph.specs.declared.vertex.Vertex.{Vertex}
 use Rattle.dt_graph.specs.declared.open.Open.{Open}
 use Rattle.dt_graph.specs.Left.{IsLeft, IsOut, IsFree, IsInResolved, IsOrderly}
-use Rattle.dt_graph.specs.Waits.{id_at, AreUses, IsFollowed, degree, is_leaving, lowered_by, slots_of}
-use Rattle.dt_graph.specs.Graph.{GraphView, KeepsGraph, IsOpened, IsStuck, IsVertexOf, vertex_at}
-use Rattle.dt_graph.specs.Steps.{FinishesAlone, FinishesBefore, FinishesLast, IsReadyWithout, Leaves, one_done, with_one_done}
+use Rattle.dt_graph.specs.Waits.{id_at, AreUses, IsFollowed, degree, is_leaving}
+use Rattle.dt_graph.specs.Graph.{GraphView, KeepsGraph, IsOpened, IsStuck}
+use Rattle.dt_graph.specs.Steps.{FinishesAlone, FinishesBefore, FinishesLast, Leaves, one_done, with_one_done}
 use Rattle.dt_graph.proofs.Left.{executable_left, class_of_resolved}
 use Rattle.dt_graph.proofs.Leaving.{leaves_alone, leaves_with_class, nothing_leaves}
 use Rattle.dt_graph.proofs.Orderly.{orderly_finish}
 use Rattle.dt_graph.proofs.Test.{executable_in_resolved, executable_of_free, free_of_executable}
-use Rattle.dt_graph.proofs.Free.{free_by_degree, id_has, same_place}
+use Rattle.dt_graph.proofs.Free.{free_by_degree, same_place}
 use Rattle.dt_graph.proofs.Complete.{filter_whole}
 use Rattle.dt_graph.proofs.Inserted.{in_resolved_decided, pairwise_map}
-use Rattle.dt_graph.proofs.Together.{degrees_together, followed_of_lowered, free_together, leaving_has, left_still, left_vertex, slots_together, uses_together}
+use Rattle.dt_graph.proofs.Together.{degrees_together, followed_of_lowered, free_together, leaving_has, left_vertex, slots_together, uses_together}
 use Rattle.dt_graph.proofs.Rows.{front_longer, next_of_soonest, pairwise_get, pairwise_set, rest_shorter, sooner_of_next, waits_of_next}
 
 -- in a list in which nothing stands twice an item has one place

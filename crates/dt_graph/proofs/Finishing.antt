@@ -1,20 +1,19 @@
 -- What a call of finish may do, and what is told of what it did, by what is kept alone.
-use Rattle.std.proofs.Common.{◌≡◌, ◌≢◌, ◌+◌, ◌<◌, ◌≤◌, ◌⊎◌, ◌↔◌, ◌∙◌, ◌^◌, ℕ, zero, suc, List, [], ◌∷◌, ◌++◌, length, map, get_or, set, slice_get, Option, None, Some, Fits, w64, refl, sym, ap, subst, inl, inr, arith}
+use Rattle.std.proofs.Common.{◌≡◌, ◌+◌, ◌<◌, ◌≤◌, ◌⊎◌, ◌↔◌, ◌∙◌, ◌^◌, ℕ, suc, List, [], ◌∷◌, length, map, get_or, set, slice_get, Option, None, Some, refl, sym, ap, subst, inl, inr, arith}
 use Rattle.std.proofs.lemmas.List.{length-map}
 use Rattle.std.proofs.lemmas.Option.{get_or_from_slice_get}
-use Rattle.dt_lists.specs.Lists.{AllIn, Has, Distinct}
+use Rattle.dt_lists.specs.Lists.{Has}
 use Rattle.dt_lists.proofs.Callers.{all_get, has_place, place_within}
 use Rattle.dt_access.specs.declared.TxnId.{TxnId}
 use Rattle.dt_sched.specs.Views.{View, IsClass}
 use Rattle.dt_sched.specs.Decide.{IsExecutable}
-use Rattle.dt_sched.proofs.Callers.{complete_of_closed, present_of_complete}
 use Rattle.dt_graph.specs.declared.open.Open.{Open}
 use Rattle.dt_graph.specs.Left.{IsLeft, IsOrderly}
 use Rattle.dt_graph.specs.Waits.{id_at}
 use Rattle.dt_graph.specs.Graph.{GraphView, KeepsGraph, IsOpened, IsPlaceOfClass, vertex_at}
 use Rattle.dt_graph.specs.Names.{IsNumberOf}
-use Rattle.dt_graph.specs.Steps.{FinishesId, FinishesIn, IsReadyWithout, Leaves, MayFinishIn, MayLeave, alone, before, last, one, all, one_done, with_one_done}
-use Rattle.dt_graph.proofs.Finished.{distinct_members, member_of, next_is, opened}
+use Rattle.dt_graph.specs.Steps.{FinishesId, FinishesIn, IsReadyWithout, Leaves, MayFinishIn, MayLeave, before, last, one, all, one_done}
+use Rattle.dt_graph.proofs.Finished.{distinct_members, member_of, next_is}
 use Rattle.dt_graph.proofs.Keeping.{at_named}
 use Rattle.dt_graph.proofs.Left.{class_of_resolved, executable_left, left_after}
 use Rattle.dt_graph.proofs.MayLeave.{may_leave}

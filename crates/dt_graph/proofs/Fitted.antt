@@ -1,8 +1,7 @@
 -- What is ready or stuck is a vertex, and there are fewer than a 32-bit number tells.
-use Rattle.std.proofs.Common.{◌≡◌, ◌<◌, ◌≤◌, ◌+◌, ◌^◌, ◌⊎◌, ◌∙◌, ℕ, zero, suc, List, [], ◌∷◌, ◌++◌, length, slice_get, Some, refl, sym, ap, subst, inl, inr, arith}
+use Rattle.std.proofs.Common.{◌≡◌, ◌<◌, ◌≤◌, ◌+◌, ◌^◌, ◌∙◌, ℕ, List, [], ◌∷◌, length, refl, sym, ap, subst, inl, inr, arith}
 use Rattle.std.proofs.lemmas.List.{length-append, length-map}
-use Rattle.std.specs.List.{sum_by}
-use Rattle.dt_lists.specs.Lists.{AllIn, Has, Distinct}
+use Rattle.dt_lists.specs.Lists.{AllIn, Has}
 use Rattle.dt_lists.proofs.Callers.{all_get, all_put, distinct_within, has_place}
 use Rattle.dt_access.specs.declared.TxnId.{TxnId}
 use Rattle.dt_access.specs.declared.Part.{Part}
@@ -55,7 +54,8 @@ module _ (ids : List TxnId) (w : Waits) (f : IsFitted ids w) where
     stuck_within = subst (AllIn (λ v. v < length ids)) (sym (ap (λ g. g.stuck) e)) f.stuck_within;
   }
 
-  pub fitted_left : (leaving : List ℕ) (new : Waits) (classes : List Open) → Leaves leaving (kept_of ids w classes) (kept_of ids new classes) → new.ready.bound ≡ w.ready.bound → new.stuck.bound ≡ w.stuck.bound → IsFitted ids new
+  pub fitted_left : (leaving : List ℕ) (new : Waits) (classes : List Open) → Leaves leaving (kept_of ids w classes) (kept_of ids new classes) → new.ready.bound ≡ w.ready.bound → new.stuck.bound ≡ w.stuck.bound
+      → IsFitted ids new
   fitted_left leaving new classes l ready stuck = record {
     few = f.few;
     vertices = ap length l.vertices ∙ f.vertices;

@@ -1,12 +1,11 @@
 -- A walk over the followers of an entry: it begins with those after itself, which are all, and goes on with those after each
 -- that was found.
-use Rattle.std.proofs.Common.{◌≡◌, ◌≢◌, ◌+◌, ◌<◌, ◌⊎◌, ◌∙◌, ℕ, zero, suc, Bool, true, false, ◌==◌, not, if◌then◌else◌, List, [], ◌∷◌, ◌++◌}
-use Rattle.std.proofs.Common.{length, map, filter, get_or, slice_get, Option, None, Some, refl, sym, ap, subst, inl, inr, eqb-true, eq-eqb, arith}
-use Rattle.std.specs.List.{list_any}
+use Rattle.std.proofs.Common.{◌≡◌, ◌+◌, ◌<◌, ◌⊎◌, ◌∙◌, ℕ, suc, Bool, true, false, ◌==◌, if◌then◌else◌, List, [], ◌∷◌, ◌++◌}
+use Rattle.std.proofs.Common.{length, map, filter, slice_get, None, Some, refl, sym, ap, subst, inl, inr, eqb-true, arith}
 use Rattle.std.proofs.lemmas.Bool.{cases_Bool, false_from_ne_true}
 use Rattle.std.proofs.lemmas.List.{append_assoc}
 use Rattle.std.proofs.lemmas.List.Elements.{filter-append}
-use Rattle.dt_lists.specs.Lists.{AnyIn, AllIn, Has, EachThen}
+use Rattle.dt_lists.specs.Lists.{AnyIn, AllIn, Has}
 use Rattle.dt_lists.proofs.Callers.{all_get, all_put, any_get, any_append_left, any_of_test, any_put, each_across, filter_all, filter_none, has_middle, same_head, same_tail, Spot, spot}
 use Rattle.dt_queue.specs.declared.Follower.{Follower}
 use Rattle.dt_queue.specs.Queues.{HasDistinctSlots, IsQueued, Waiting, pushed_after, follower_of, followers, followers_after, is_at, is_neighbour, neighbours}

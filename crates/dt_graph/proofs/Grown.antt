@@ -1,5 +1,5 @@
 -- What a first part of a transaction, and each part more, make of what is held.
-use Rattle.std.proofs.Common.{◌≡◌, ◌<◌, ◌≤◌, ◌∙◌, ◌-◌, ℕ, suc, List, [], ◌∷◌, ◌++◌, length, get_or, set, Option, None, Some, refl, sym, ap, subst, arith}
+use Rattle.std.proofs.Common.{◌≡◌, ◌<◌, ◌-◌, ℕ, suc, List, [], ◌∷◌, ◌++◌, length, get_or, set, None, refl, sym, subst, arith}
 use Rattle.dt_lists.specs.Lists.{Distinct, Has}
 use Rattle.dt_access.specs.declared.TxnId.{TxnId}
 use Rattle.dt_access.specs.declared.Part.{Part}
@@ -26,27 +26,29 @@ module _ (part : Part) (ids : List TxnId) (classes : List Open) (old new : Waits
   added_first v missing is fresh lacking entered vs ds sorted =
       let e : Enters part.home (length ids) part.keys old.queues new.queues [] slots 0 count = subst (λ v. Enters part.home v part.keys old.queues new.queues [] slots 0 count) is entered in
       let s : Sorts (length ids) (old.vertices.items ++ first missing ∷ []) (old.degrees.items ++ count ∷ []) old.ready old.stuck new.ready new.stuck =
-          subst (λ l. Sorts (length ids) l (old.degrees.items ++ count ∷ []) old.ready old.stuck new.ready new.stuck) vs
-          (subst (λ l. Sorts (length ids) new.vertices.items l old.ready old.stuck new.ready new.stuck) ds
-          (subst (λ v. Sorts v new.vertices.items new.degrees.items old.ready old.stuck new.ready new.stuck) is sorted)) in
-      let i = inserts_first part (kept_of ids old classes) new.queues slots missing count old.ready old.stuck new.ready new.stuck once fresh vertices degrees lacking e refl refl s in
-      (e.pushed.more, subst (λ l. Inserts part (length ids) e.pushed.more (kept_of ids old classes) (record {
-        ids = ids ++ part.id ∷ [];
-        vertices = l;
-        degrees = new.degrees.items;
-        waiting = new.queues;
-        ready = new.ready.items;
-        stuck = new.stuck.items;
-        classes = classes;
-      })) (sym vs) (subst (λ l. Inserts part (length ids) e.pushed.more (kept_of ids old classes) (record {
-        ids = ids ++ part.id ∷ [];
-        vertices = old.vertices.items ++ first missing ∷ [];
-        degrees = l;
-        waiting = new.queues;
-        ready = new.ready.items;
-        stuck = new.stuck.items;
-        classes = classes;
-      })) (sym ds) i))
+      subst (λ l. Sorts (length ids) l (old.degrees.items ++ count ∷ []) old.ready old.stuck new.ready new.stuck) vs
+      (subst (λ l. Sorts (length ids) new.vertices.items l old.ready old.stuck new.ready new.stuck) ds
+      (subst (λ v. Sorts v new.vertices.items new.degrees.items old.ready old.stuck new.ready new.stuck) is sorted)) in
+      let i = inserts_first part (kept_of ids old classes) new.queues slots missing count old.ready old.stuck new.ready new.stuck once fresh vertices degrees lacking e refl refl s in (
+        e.pushed.more,
+        subst (λ l. Inserts part (length ids) e.pushed.more (kept_of ids old classes) (record {
+          ids = ids ++ part.id ∷ [];
+          vertices = l;
+          degrees = new.degrees.items;
+          waiting = new.queues;
+          ready = new.ready.items;
+          stuck = new.stuck.items;
+          classes = classes;
+        })) (sym vs) (subst (λ l. Inserts part (length ids) e.pushed.more (kept_of ids old classes) (record {
+          ids = ids ++ part.id ∷ [];
+          vertices = old.vertices.items ++ first missing ∷ [];
+          degrees = l;
+          waiting = new.queues;
+          ready = new.ready.items;
+          stuck = new.stuck.items;
+          classes = classes;
+        })) (sym ds) i),
+      )
 
   -- the vertex of a transaction with a part more
   abbrev grown : ℕ → Vertex
@@ -59,25 +61,27 @@ module _ (part : Part) (ids : List TxnId) (classes : List Open) (old new : Waits
       → (more : List Waiting) × Inserts part v more (kept_of ids old classes) (kept_of ids new classes)
   added_again v within named lacks e vs ds sorted =
       let s : Sorts v (set old.vertices.items v (grown v)) (set old.degrees.items v count) old.ready old.stuck new.ready new.stuck =
-          subst (λ l. Sorts v l (set old.degrees.items v count) old.ready old.stuck new.ready new.stuck) vs (subst (λ l. Sorts v new.vertices.items l old.ready old.stuck new.ready new.stuck) ds sorted) in
-      let i = inserts_again part v (kept_of ids old classes) new.queues slots _ count old.ready old.stuck new.ready new.stuck once within named vertices degrees (one_less _ lacks) e refl refl s in
-      (e.pushed.more, subst (λ l. Inserts part v e.pushed.more (kept_of ids old classes) (record {
-        ids = ids;
-        vertices = l;
-        degrees = new.degrees.items;
-        waiting = new.queues;
-        ready = new.ready.items;
-        stuck = new.stuck.items;
-        classes = classes;
-      })) (sym vs) (subst (λ l. Inserts part v e.pushed.more (kept_of ids old classes) (record {
-        ids = ids;
-        vertices = set old.vertices.items v (grown v);
-        degrees = l;
-        waiting = new.queues;
-        ready = new.ready.items;
-        stuck = new.stuck.items;
-        classes = classes;
-      })) (sym ds) i))
+      subst (λ l. Sorts v l (set old.degrees.items v count) old.ready old.stuck new.ready new.stuck) vs (subst (λ l. Sorts v new.vertices.items l old.ready old.stuck new.ready new.stuck) ds sorted) in
+      let i = inserts_again part v (kept_of ids old classes) new.queues slots _ count old.ready old.stuck new.ready new.stuck once within named vertices degrees (one_less _ lacks) e refl refl s in (
+        e.pushed.more,
+        subst (λ l. Inserts part v e.pushed.more (kept_of ids old classes) (record {
+          ids = ids;
+          vertices = l;
+          degrees = new.degrees.items;
+          waiting = new.queues;
+          ready = new.ready.items;
+          stuck = new.stuck.items;
+          classes = classes;
+        })) (sym vs) (subst (λ l. Inserts part v e.pushed.more (kept_of ids old classes) (record {
+          ids = ids;
+          vertices = set old.vertices.items v (grown v);
+          degrees = l;
+          waiting = new.queues;
+          ready = new.ready.items;
+          stuck = new.stuck.items;
+          classes = classes;
+        })) (sym ds) i),
+      )
     where
       one_less : (n : ℕ) → 0 < n → suc (n - 1) ≡ n
       one_less n lt = omega (arith, lt)

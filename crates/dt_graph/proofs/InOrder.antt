@@ -1,5 +1,6 @@
 -- The vertices of a class in the order in which they run: they are gathered with their ranks and ids, and sorted by these.
-use Rattle.std.proofs.Common.{◌≡◌, ◌≢◌, ◌+◌, ◌<◌, ◌≤◌, ◌⊎◌, ◌↔◌, ◌∙◌, ℕ, zero, suc, Bool, true, ◌&&◌, ◌==◌, List, [], ◌∷◌, ◌++◌, length, map, get_or, slice_get, take, Option, None, Some, IsPermutation, IsSorted, refl, sym, ap, ap₂, subst, inl, inr, eqb-true, eq-eqb, arith}
+use Rattle.std.proofs.Common.{◌≡◌, ◌+◌, ◌<◌, ◌≤◌, ◌⊎◌, ◌↔◌, ◌∙◌, ℕ, zero, suc, Bool, true, ◌&&◌, ◌==◌, List, [], ◌∷◌, ◌++◌, length, map, get_or, slice_get, take, Option}
+use Rattle.std.proofs.Common.{None, Some, IsPermutation, IsSorted, refl, sym, ap, ap₂, subst, inl, inr, eqb-true, eq-eqb, arith}
 use Rattle.std.proofs.lemmas.Bool.{and_from, and_parts}
 use Rattle.std.proofs.lemmas.Bool.Decides.{nat_tests}
 use Rattle.std.proofs.lemmas.List.{append-nil, map-append}

@@ -1,26 +1,24 @@
 -- A part that is inserted leaves what is kept the graph of the longer view.
-use Rattle.std.proofs.Common.{◌≡◌, ◌≢◌, ◌+◌, ◌<◌, ◌≤◌, ◌⊎◌, ◌↔◌, ◌∙◌, ℕ, zero, suc, Bool, true, false, ◌==◌, not, if◌then◌else◌, List, []}
-use Rattle.std.proofs.Common.{◌∷◌, ◌++◌, length, map, filter, get_or, take, drop, slice_get, Option, None, Some, refl, sym, ap, ap₂, subst, inl, inr, eq-eqb, arith}
+use Rattle.std.proofs.Common.{◌≡◌, ◌≢◌, ◌+◌, ◌<◌, ◌⊎◌, ◌↔◌, ◌∙◌, ℕ, suc, false, ◌==◌, if◌then◌else◌, List, []}
+use Rattle.std.proofs.Common.{◌∷◌, ◌++◌, length, map, filter, get_or, take, drop, refl, sym, ap, ap₂, subst, inl, inr, eq-eqb, arith}
 use Rattle.std.proofs.lemmas.List.{append-nil, append_assoc, map-append}
 use Rattle.std.proofs.lemmas.List.Elements.{filter-append}
-use Rattle.dt_lists.specs.Lists.{AnyIn, AllIn, Has, EachThen, Distinct, Either, Pairwise}
+use Rattle.dt_lists.specs.Lists.{AllIn, Has, EachThen, Distinct, Either, Pairwise}
 use Rattle.dt_lists.specs.Chain.{here}
 use Rattle.dt_lists.proofs.Callers.{all_at, all_get, all_map, all_put, any_at, any_from_at, any_get, any_put, each_append_left, either_any, filter_none, has_last}
 use Rattle.dt_access.specs.Orders.{AreAscendingHomes}
 use Rattle.dt_access.specs.declared.TxnId.{TxnId}
 use Rattle.dt_access.specs.declared.Part.{Part}
-use Rattle.dt_access.proofs.Callers.{either_id}
 use Rattle.dt_sched.specs.Views.{View, log_at, HasPart, HasParts, IsClosed, IsComplete, IsLonger, IsPresent, IsSooner, IsWellFormed}
 use Rattle.dt_sched.specs.Decide.{IsExecutable}
 use Rattle.dt_sched.specs.Sched.{CanInsert, with_part}
-use Rattle.dt_sched.proofs.Callers.{complete_longer, complete_of_closed, has_with_part, log_with_part, part_of_complete, present_longer, present_of_complete, has_id_decided, sooner_breaks_ties, with_part_longer, with_part_well_formed}
+use Rattle.dt_sched.proofs.Callers.{complete_longer, complete_of_closed, has_with_part, part_of_complete, present_longer, present_of_complete, has_id_decided, sooner_breaks_ties, with_part_longer, with_part_well_formed}
 use Rattle.dt_queue.specs.Queues.{Waiting, HasDistinctSlots, neighbours}
-use Rattle.dt_graph.specs.declared.vertex.Vertex.{Vertex}
 use Rattle.dt_graph.specs.declared.open.Open.{Open}
-use Rattle.dt_graph.specs.Left.{IsLeft, IsOut, IsFree, IsInResolved, IsOrderly}
+use Rattle.dt_graph.specs.Left.{IsLeft, IsFree, IsInResolved, IsOrderly}
 use Rattle.dt_graph.specs.Waits.{id_at, AreUses, degree, is_of, others, slots_of}
 use Rattle.dt_graph.specs.Graph.{GraphView, KeepsGraph, IsOpened, IsPlaceOfClass, IsStuck, IsVertexOf, lacking, vertex_at}
-use Rattle.dt_graph.specs.Steps.{AreEntriesOf, Grows, Inserts, IsVertexBefore, fresh_vertex}
+use Rattle.dt_graph.specs.Steps.{Inserts}
 use Rattle.dt_graph.proofs.Left.{out_back, out_stays}
 use Rattle.dt_graph.proofs.Orderly.{orderly_insert}
 use Rattle.dt_graph.proofs.Test.{executable_in_resolved, executable_of_free, free_of_executable}

@@ -1,5 +1,5 @@
 -- What is told of a call of insert.
-use Rattle.std.proofs.Common.{◌≡◌, ◌∙◌, ◌+◌, ◌<◌, ◌≤◌, ◌^◌, ℕ, List, Result, Ok, Err, OnOk, OnErr, length, sym, ap, subst, arith}
+use Rattle.std.proofs.Common.{◌≡◌, ◌∙◌, ◌+◌, ◌<◌, ◌≤◌, ℕ, List, Result, Ok, Err, OnOk, OnErr, length, ap, arith}
 use Rattle.dt_access.specs.declared.TxnId.{TxnId}
 use Rattle.dt_access.specs.declared.Part.{Part}
 use Rattle.dt_sched.specs.Views.{View}
@@ -23,7 +23,8 @@ few_more g part r n e = below n (length g.ids) (parts_in r.0) e (few_ids r.0 r.1
     below n l p e f h = omega (arith, e, f, h)
 
 -- after an error all is kept as before
-pub kept_as : {T E : Type 0} (r : Result T E) (ids now : List TxnId) (new old : Waits) (classes : List Open) → now ≡ ids → kept_of ids new classes ≡ kept_of ids old classes → OnErr r (kept_of now new classes ≡ kept_of ids old classes)
+pub kept_as : {T E : Type 0} (r : Result T E) (ids now : List TxnId) (new old : Waits) (classes : List Open) → now ≡ ids → kept_of ids new classes ≡ kept_of ids old classes → OnErr r
+    (kept_of now new classes ≡ kept_of ids old classes)
 kept_as (Ok x) ids now new old classes e same = tt
 kept_as (Err x) ids now new old classes e same = ap (λ l. kept_of l new classes) e ∙ same
 

@@ -1,23 +1,20 @@
 -- What the scheduler with queues keeps is the graph of what it was told, at first and after each call; and what its calls read
 -- off it is what may be executed.
-use Rattle.std.proofs.Common.{◌≡◌, ◌<◌, ◌+◌, ◌⊎◌, ◌↔◌, ◌∙◌, ℕ, zero, suc, List, [], ◌∷◌, ◌++◌, length, map, replicate, set, slice_get, Option, None, Some, MatchOption, IsSome, option_to_list, Result, Ok, Err, OnOk, OnErr, is_err, true, false, ◌-◌, ap₂, refl, sym, ap, subst, inl, inr, arith}
+use Rattle.std.proofs.Common.{◌≡◌, ◌<◌, ◌+◌, ◌⊎◌, ◌↔◌, ◌∙◌, ℕ, zero, suc, List, [], ◌∷◌, ◌++◌, length, map, replicate, set, slice_get, Option, None, Some, MatchOption, IsSome}
+use Rattle.std.proofs.Common.{option_to_list, Result, Ok, Err, OnOk, OnErr, is_err, true, false, ◌-◌, ap₂, refl, sym, ap, subst, inl, inr, arith}
 use Rattle.std.proofs.lemmas.List.{length-append, set-get_or}
 use Rattle.std.proofs.lemmas.Option.{get_or_from_slice_get, slice_get-get_or}
-use Rattle.dt_lists.specs.Lists.{AnyIn, AllIn, Has, EachThen, Distinct, Pairwise}
-use Rattle.dt_lists.proofs.Callers.{all_get, all_put, any_at, any_from_at, any_get, any_put, has_place, pairwise_length, place_within, same_head, same_tail}
-use Rattle.dt_access.specs.Ids.{Before}
+use Rattle.dt_lists.specs.Lists.{AllIn, Has, EachThen}
+use Rattle.dt_lists.proofs.Callers.{any_at, any_from_at, any_get, pairwise_length, place_within, same_head, same_tail}
 use Rattle.dt_access.specs.Orders.{AreAscendingHomes}
 use Rattle.dt_access.specs.declared.TxnId.{TxnId}
 use Rattle.dt_access.specs.declared.Part.{Part}
-use Rattle.dt_sched.specs.Views.{View, log_at, HasPart, IsPresent, IsSooner, rank_of}
+use Rattle.dt_sched.specs.Views.{log_at, HasPart, IsPresent, IsSooner, rank_of}
 use Rattle.dt_sched.specs.Sched.{CanExecute, CanInsert, CanResolve, IsNextReady, Sched, after_finish, after_insert, after_resolve, nothing_yet}
 use Rattle.dt_sched.proofs.Callers.{complete_of_closed, present_of_complete, rank_of_part}
-use Rattle.dt_graph.specs.declared.vertex.Vertex.{Vertex}
-use Rattle.dt_graph.specs.declared.open.Open.{Open}
-use Rattle.dt_graph.specs.Left.{IsInResolved, IsOrderly}
 use Rattle.dt_graph.specs.Waits.{id_at}
 use Rattle.dt_graph.specs.Graph.{GraphView, KeepsGraph, IsPlaceOfClass, nothing_kept, vertex_at}
-use Rattle.dt_graph.specs.Steps.{RunInOrder, FinishesAlone, FinishesBefore, FinishesId, FinishesLast, InsertsPart, Resolves, ResolvesClass, RunsBefore, alone, before, last}
+use Rattle.dt_graph.specs.Steps.{FinishesId, InsertsPart, Resolves, ResolvesClass, RunsBefore, alone, before, last}
 use Rattle.dt_graph.specs.QueueSchedView.{IsKeeping}
 use Rattle.dt_graph.proofs.Orderly.{orderly_at_first, orderly_finish, orderly_insert, orderly_resolve}
 use Rattle.dt_graph.proofs.Free.{id_has, place_has}

@@ -1,14 +1,14 @@
 -- What leaves the graph when t is done: t itself, where it is in no resolved class; its whole class, where it was the last
 -- member to be done; and else nothing.
-use Rattle.std.proofs.Common.{◌≡◌, ◌≢◌, ◌⊎◌, ◌≤◌, ◌↔◌, List, [], ◌∷◌, ◌++◌, length, sym, subst, inl, inr}
-use Rattle.dt_lists.specs.Lists.{AllIn, Has, Either}
+use Rattle.std.proofs.Common.{◌≡◌, ◌≢◌, ◌⊎◌, ◌↔◌, List, [], ◌∷◌, ◌++◌, sym, subst, inl, inr}
+use Rattle.dt_lists.specs.Lists.{Has, Either}
 use Rattle.dt_lists.specs.Chain.{here}
-use Rattle.dt_lists.proofs.Callers.{all_get, has_more, has_last, has_longer, chain_join}
+use Rattle.dt_lists.proofs.Callers.{has_more, has_last, has_longer, chain_join}
 use Rattle.dt_access.specs.declared.TxnId.{TxnId}
 use Rattle.dt_access.proofs.Callers.{either_id}
-use Rattle.dt_sched.specs.Views.{View, Reaches, IsClass, Mutual, Precedes}
+use Rattle.dt_sched.specs.Views.{View, Reaches, IsClass, Mutual}
 use Rattle.dt_sched.specs.Decide.{IsExecutable}
-use Rattle.dt_sched.proofs.Callers.{reach_decided, comparable, has_id_decided}
+use Rattle.dt_sched.proofs.Callers.{reach_decided, has_id_decided}
 use Rattle.dt_graph.specs.Left.{IsOut, IsInResolved, IsOrderly}
 use Rattle.dt_graph.proofs.Left.{out_decided, undone_before, undone_is_mutual, in_resolved, class_of_resolved}
 

@@ -1,12 +1,11 @@
 -- What is left in the graph is closed forward: what a left transaction reaches is left too. So a chain between two left
 -- ones passes left ones alone; what is out stays out as the view grows; and each executable id, and each member of a
 -- resolvable class, is left.
-use Rattle.std.proofs.Common.{◌≡◌, ◌≢◌, ◌⊎◌, ◌≤◌, ◌↔◌, List, ◌∷◌, length, sym, subst, inl, inr}
-use Rattle.dt_lists.specs.Lists.{AnyIn, AllIn, Has, IsWithin, Either}
+use Rattle.std.proofs.Common.{◌≢◌, ◌≤◌, List, ◌∷◌, length, sym, subst, inl, inr}
+use Rattle.dt_lists.specs.Lists.{AllIn, Has, IsWithin, Either}
 use Rattle.dt_lists.specs.Chain.{Chain, here, onward}
-use Rattle.dt_lists.proofs.Callers.{all_get, any_get, any_put, within_get, chain_join, chain_step, either_any, either_and, either_not, either_has}
+use Rattle.dt_lists.proofs.Callers.{all_get, any_get, any_put, within_get, chain_join, chain_step, either_any, either_and, either_not}
 use Rattle.dt_access.specs.declared.TxnId.{TxnId}
-use Rattle.dt_access.proofs.Callers.{either_id}
 use Rattle.dt_sched.specs.Views.{View, Edge, Reaches, IsPresent, IsClosed, IsLonger, IsWellFormed, IsClass, Mutual, Precedes}
 use Rattle.dt_sched.specs.Decide.{IsExecutable, IsResolvable, IsSound}
 use Rattle.dt_sched.proofs.Callers.{each_reaching_decided, edge_target, ids_in, has_of_present, reach_decided, reach_source, has_id_decided}

@@ -1,11 +1,11 @@
 -- The walk that lowers degrees: at each place of the walk the degrees and what is still to be lowered make what was there.
-use Rattle.std.proofs.Common.{◌≡◌, ◌≢◌, ◌+◌, ◌-◌, ◌<◌, ◌≤◌, ◌⊎◌, ◌∙◌, ℕ, zero, suc, Bool, true, false, ◌==◌, if◌then◌else◌}
-use Rattle.std.proofs.Common.{List, [], ◌∷◌, length, map, filter, get_or, set, slice_get, Option, None, Some, refl, sym, ap, subst, inl, inr, eqb-true, eq-eqb, arith}
+use Rattle.std.proofs.Common.{◌≡◌, ◌≢◌, ◌+◌, ◌-◌, ◌<◌, ◌≤◌, ◌⊎◌, ◌∙◌, ℕ, true, false, ◌==◌, if◌then◌else◌}
+use Rattle.std.proofs.Common.{List, [], ◌∷◌, length, map, get_or, set, slice_get, None, Some, refl, sym, ap, subst, inl, inr, arith}
 use Rattle.std.proofs.lemmas.Bool.{cases_Bool}
 use Rattle.std.proofs.lemmas.List.{get_or-set_other, get_or-set_same, length-set}
 use Rattle.std.specs.List.{sum_by}
-use Rattle.dt_lists.specs.Lists.{AllIn, Has}
-use Rattle.dt_lists.proofs.Callers.{all_get, any_get, any_put, either_nat}
+use Rattle.dt_lists.specs.Lists.{Has}
+use Rattle.dt_lists.proofs.Callers.{any_get, either_nat}
 use Rattle.dt_queue.specs.declared.Follower.{Follower}
 use Rattle.dt_queue.specs.Queues.{HasDistinctSlots, IsQueued, Waiting, follower_of, followers, followers_after}
 use Rattle.dt_graph.specs.Waits.{lowered, slots_of}

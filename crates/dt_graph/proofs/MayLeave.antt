@@ -1,6 +1,6 @@
 -- Left vertices may leave together: no degree is less than what is taken from it.
-use Rattle.std.proofs.Common.{◌≡◌, ◌≢◌, ◌<◌, ◌≤◌, ◌⊎◌, ◌∙◌, ℕ, Bool, true, false, ◌==◌, if◌then◌else◌, List, [], ◌∷◌, length, map, get_or}
-use Rattle.std.proofs.Common.{slice_get, Option, None, Some, refl, sym, ap, subst, inl, inr, eqb-true, arith}
+use Rattle.std.proofs.Common.{◌≡◌, ◌<◌, ◌≤◌, ◌⊎◌, ℕ, true, false, ◌==◌, if◌then◌else◌, List, length, get_or}
+use Rattle.std.proofs.Common.{refl, sym, subst, inl, inr, eqb-true, arith}
 use Rattle.std.proofs.lemmas.Bool.{cases_Bool}
 use Rattle.dt_lists.specs.Lists.{AllIn, Has, Distinct}
 use Rattle.dt_lists.proofs.Callers.{all_get, all_put}
@@ -9,7 +9,7 @@ use Rattle.dt_sched.specs.Views.{View}
 use Rattle.dt_queue.specs.Queues.{Waiting, neighbours}
 use Rattle.dt_graph.specs.Left.{IsLeft}
 use Rattle.dt_graph.specs.Waits.{id_at, degree, lowered_by, others}
-use Rattle.dt_graph.specs.Graph.{GraphView, KeepsGraph, vertex_at}
+use Rattle.dt_graph.specs.Graph.{GraphView, KeepsGraph}
 use Rattle.dt_graph.specs.Steps.{MayLeave}
 use Rattle.dt_graph.proofs.Left.{left_decided}
 use Rattle.dt_graph.proofs.Degrees.{lowered_fits}

@@ -1,13 +1,13 @@
 -- Entries of queues: where one stands among them, and that a chain of neighbours leads from each entry to each later one
 -- with which it clashes.
-use Rattle.std.proofs.Common.{◌≡◌, ◌≢◌, ◌<◌, ◌+◌, ◌⊎◌, ◌∙◌, ℕ, zero, suc, Bool, true, false, ◌&&◌, ◌==◌, not, if◌then◌else◌, List, [], ◌∷◌}
+use Rattle.std.proofs.Common.{◌≡◌, ◌≢◌, ◌<◌, ◌⊎◌, ◌∙◌, ℕ, zero, suc, Bool, true, false, ◌&&◌, ◌==◌, not, List, [], ◌∷◌}
 use Rattle.std.proofs.Common.{◌++◌, length, refl, sym, ap, subst, inl, inr, eqb-true, eq-eqb, arith}
 use Rattle.std.specs.List.{list_any}
-use Rattle.std.proofs.lemmas.Bool.{and_parts, and_from, cases_Bool, false_from_ne_true}
+use Rattle.std.proofs.lemmas.Bool.{and_parts, cases_Bool, false_from_ne_true}
 use Rattle.std.proofs.lemmas.List.{append_assoc, length-append}
-use Rattle.dt_lists.specs.Lists.{AnyIn, AllIn, Has, EachThen, SomeThen}
+use Rattle.dt_lists.specs.Lists.{Has}
 use Rattle.dt_lists.specs.Chain.{Chain}
-use Rattle.dt_lists.proofs.Callers.{all_get, any_get, any_of_test, has_middle, has_longer, chain_join, chain_step, Spot, spot}
+use Rattle.dt_lists.proofs.Callers.{all_get, any_get, any_of_test, has_middle, chain_join, chain_step, Spot, spot}
 use Rattle.dt_queue.specs.Queues.{Waiting, HasDistinctSlots, entries_clash, entry_at, pushed_before, nearest, neighbours}
 
 pub slot_same : (a : ℕ) → (a == a) ≡ true

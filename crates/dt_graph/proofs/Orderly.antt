@@ -1,13 +1,13 @@
 -- What a scheduler keeps true of what it was told holds at first, and each allowed call keeps it.
-use Rattle.std.proofs.Common.{◌≡◌, ◌⊎◌, ◌≤◌, ℕ, List, [], ◌∷◌, ◌++◌, length, replicate, sym, subst, inl, inr}
-use Rattle.dt_lists.specs.Lists.{AllIn, Has}
+use Rattle.std.proofs.Common.{◌⊎◌, ℕ, List, [], ◌∷◌, ◌++◌, replicate, sym, subst, inl, inr}
+use Rattle.dt_lists.specs.Lists.{Has}
 use Rattle.dt_lists.proofs.Callers.{all_get, has_more, has_longer}
 use Rattle.dt_access.specs.declared.TxnId.{TxnId}
 use Rattle.dt_access.specs.declared.Part.{Part}
-use Rattle.dt_sched.specs.Views.{View, Reaches, IsClass, IsClosed, IsLonger, IsWellFormed}
+use Rattle.dt_sched.specs.Views.{View, IsClass, IsClosed, IsLonger, IsWellFormed}
 use Rattle.dt_sched.specs.Decide.{IsExecutable, IsResolvable}
 use Rattle.dt_sched.specs.Sched.{CanInsert, with_part}
-use Rattle.dt_sched.proofs.Callers.{class_stays, class_unique, reaches_back, sound_at_first, sound_execute, sound_longer, sound_resolve, with_part_longer, with_part_well_formed}
+use Rattle.dt_sched.proofs.Callers.{class_stays, reaches_back, sound_at_first, sound_execute, sound_longer, sound_resolve, with_part_longer, with_part_well_formed}
 use Rattle.dt_graph.specs.Left.{IsOrderly}
 
 pub orderly_at_first : (regions : ℕ) → IsOrderly (replicate regions []) [] []

@@ -1,5 +1,5 @@
 -- Putting vertices into a resolved class, one after the other: those in front are in it and stuck no more.
-use Rattle.std.proofs.Common.{◌≡◌, ◌≢◌, ◌<◌, ◌⊎◌, ◌↔◌, ◌+◌, ◌∙◌, ℕ, List, [], ◌∷◌, ◌++◌, length, get_or, set, slice_get, take, Option, None, Some, refl, sym, subst, inl, inr}
+use Rattle.std.proofs.Common.{◌≡◌, ◌≢◌, ◌<◌, ◌⊎◌, ◌↔◌, ◌+◌, ◌∙◌, ℕ, List, [], ◌∷◌, ◌++◌, length, get_or, set, slice_get, take, None, Some, refl, sym, subst, inl, inr}
 use Rattle.std.proofs.lemmas.List.{get_or-set_other, get_or-set_same, length-set}
 use Rattle.dt_lists.specs.Lists.{Either, Has}
 use Rattle.dt_lists.proofs.Callers.{either_any, either_nat}

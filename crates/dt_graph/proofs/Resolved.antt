@@ -1,15 +1,13 @@
 -- A class that is resolved leaves what is kept the graph: its members are stuck no more, and the soonest of them is ready.
-use Rattle.std.proofs.Common.{◌≡◌, ◌≢◌, ◌<◌, ◌≤◌, ◌⊎◌, ◌↔◌, ◌∙◌, ℕ, zero, suc, List, [], ◌∷◌, ◌++◌, length, map, get_or, slice_get, Option, None}
+use Rattle.std.proofs.Common.{◌≡◌, ◌<◌, ◌≤◌, ◌⊎◌, ◌↔◌, ◌∙◌, ℕ, List, [], ◌∷◌, ◌++◌, length, map, slice_get, Option, None}
 use Rattle.std.proofs.Common.{Some, refl, sym, ap, subst, inl, inr, arith}
-use Rattle.dt_lists.specs.Lists.{AnyIn, AllIn, Has, EachThen, Distinct, Either, Pairwise}
+use Rattle.dt_lists.specs.Lists.{AllIn, Has, EachThen, Either, Pairwise}
 use Rattle.dt_lists.proofs.Callers.{all_get, all_put, any_get, any_of_image, any_put, either_has, either_nat, has_last, has_longer, has_map, has_more, has_place, place_in_longer}
 use Rattle.dt_lists.specs.Chain.{here}
 use Rattle.dt_access.specs.declared.TxnId.{TxnId}
-use Rattle.dt_sched.specs.Views.{View, IsClass, IsComplete, IsSooner}
+use Rattle.dt_sched.specs.Views.{View, IsSooner}
 use Rattle.dt_sched.specs.Decide.{IsExecutable, IsResolvable}
 use Rattle.dt_sched.proofs.Callers.{class_of_member, has_id_decided, sooner_breaks_ties}
-use Rattle.dt_graph.specs.declared.vertex.Vertex.{Vertex}
-use Rattle.dt_graph.specs.declared.open.Open.{Open}
 use Rattle.dt_graph.specs.Left.{IsInResolved, IsOrderly}
 use Rattle.dt_graph.specs.Waits.{id_at}
 use Rattle.dt_graph.specs.Graph.{GraphView, KeepsGraph, IsOpened, IsPlaceOfClass, IsStuck, IsVertexOf, vertex_at}

@@ -7,7 +7,7 @@ use Rattle.dt_graph.specs.Steps.{Sorts}
 
 -- it is complete and of degree 0
 pub sorts_ready : (v : ℕ) (vertices : List Vertex) (degrees : List ℕ) (ready stuck now : SubsetView) → (vertex_at vertices v).missing ≡ 0 → get_or degrees v 0 ≡ 0 → PutsIn v ready now
-  → Sorts v vertices degrees ready stuck now stuck
+    → Sorts v vertices degrees ready stuck now stuck
 sorts_ready v vertices degrees ready stuck now m d p = record {
   ready_bound = p.bound;
   stuck_bound = refl;
@@ -20,7 +20,7 @@ sorts_ready v vertices degrees ready stuck now m d p = record {
 
 -- it is complete and of a higher degree
 pub sorts_stuck : (v : ℕ) (vertices : List Vertex) (degrees : List ℕ) (ready stuck now : SubsetView) → (vertex_at vertices v).missing ≡ 0 → get_or degrees v 0 ≢ 0 → PutsIn v stuck now
-  → Sorts v vertices degrees ready stuck ready now
+    → Sorts v vertices degrees ready stuck ready now
 sorts_stuck v vertices degrees ready stuck now m d p = record {
   ready_bound = refl;
   stuck_bound = p.bound;

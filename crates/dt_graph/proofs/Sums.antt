@@ -1,10 +1,10 @@
 -- Sums over lists of entries: of equal terms, of a part of the list, and of terms that count.
-use Rattle.std.proofs.Common.{◌≡◌, ◌+◌, ◌⊎◌, ◌∙◌, ℕ, zero, suc, Bool, true, false, ◌&&◌, ◌||◌, ◌==◌, not, if◌then◌else◌, List, [], ◌∷◌, ◌++◌}
+use Rattle.std.proofs.Common.{◌≡◌, ◌+◌, ◌⊎◌, ◌∙◌, ℕ, suc, Bool, true, false, ◌&&◌, ◌||◌, ◌==◌, not, if◌then◌else◌, List, [], ◌∷◌}
 use Rattle.std.proofs.Common.{length, map, filter, refl, sym, ap, ap₂, inl, inr, eqb-true, eq-eqb, arith}
 use Rattle.std.specs.List.{list_any, sum_by}
 use Rattle.std.proofs.lemmas.Bool.{cases_Bool, false_from_ne_true}
 use Rattle.std.proofs.lemmas.List.Sums.{sum_by-append}
-use Rattle.dt_lists.specs.Lists.{AllIn, Has, Distinct}
+use Rattle.dt_lists.specs.Lists.{Has, Distinct}
 use Rattle.dt_lists.proofs.Callers.{all_get, any_get, any_of_test}
 
 -- the first term, and the rest

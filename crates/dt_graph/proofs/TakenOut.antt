@@ -1,19 +1,19 @@
 -- The entries of vertices are taken out slot by slot, vertex by vertex: what is still to go leaves of what waits just what is
 -- to stay of all.
-use Rattle.std.proofs.Common.{◌≡◌, ◌≢◌, ◌<◌, ◌⊎◌, ◌∙◌, ℕ, Bool, true, false, ◌&&◌, ◌==◌, not, List, []}
-use Rattle.std.proofs.Common.{◌∷◌, length, map, filter, get_or, refl, sym, ap, subst, inl, inr, eqb-true, eq-eqb, arith}
+use Rattle.std.proofs.Common.{◌≡◌, ◌≢◌, ◌⊎◌, ◌∙◌, ℕ, Bool, true, false, ◌&&◌, ◌==◌, not, List, []}
+use Rattle.std.proofs.Common.{◌∷◌, map, filter, get_or, refl, sym, ap, subst, inl, inr, eqb-true, eq-eqb}
 use Rattle.std.specs.List.{list_any}
 use Rattle.std.proofs.lemmas.Bool.{cases_Bool, false_from_ne_true}
 use Rattle.std.proofs.lemmas.List.{get_or_read}
-use Rattle.dt_lists.specs.Lists.{AnyIn, AllIn, Has, Distinct, EachThen}
-use Rattle.dt_lists.proofs.Callers.{all_get, all_put, any_get, any_map, any_of_image, any_of_test, any_put, each_map, filter_each, has_filter, has_map, has_of_filtered, test_of_any}
+use Rattle.dt_lists.specs.Lists.{AnyIn, AllIn, Has, Distinct}
+use Rattle.dt_lists.proofs.Callers.{all_get, all_put, any_get, any_map, any_of_image, any_of_test, any_put, filter_each, has_filter, has_map, has_of_filtered, test_of_any}
 use Rattle.dt_queue.specs.Queues.{HasDistinctSlots, IsQueued, Waiting, taken_out}
 use Rattle.dt_queue.proofs.Callers.{waits_without}
 use Rattle.dt_graph.specs.declared.vertex.Vertex.{Vertex}
 use Rattle.dt_graph.specs.Waits.{is_leaving, is_of, slots_of}
 use Rattle.dt_graph.specs.Graph.{vertex_at}
 use Rattle.dt_graph.specs.Steps.{HaveSlots}
-use Rattle.dt_graph.proofs.Nearest.{slot_same, slot_other}
+use Rattle.dt_graph.proofs.Nearest.{slot_other}
 use Rattle.dt_graph.proofs.Sums.{filter_both, filter_same}
 
 -- whether the slot is one of these

@@ -1,14 +1,14 @@
 -- What of the left transactions is executable. In no resolved class: what is complete and free, so nothing else that is left
 -- reaches it. In a resolved class: the soonest of its members that isn't done.
-use Rattle.std.proofs.Common.{◌≡◌, ◌≢◌, ◌⊎◌, ◌≤◌, ◌↔◌, List, [], ◌∷◌, length, sym, subst, inl, inr, arith}
-use Rattle.dt_lists.specs.Lists.{AllIn, Has, Either}
+use Rattle.std.proofs.Common.{◌≡◌, ◌≢◌, ◌≤◌, ◌↔◌, List, [], ◌∷◌, length, sym, subst, inl, inr, arith}
+use Rattle.dt_lists.specs.Lists.{Has, Either}
 use Rattle.dt_lists.specs.Chain.{here}
-use Rattle.dt_lists.proofs.Callers.{all_get, any_get, chain_join}
+use Rattle.dt_lists.proofs.Callers.{all_get, chain_join}
 use Rattle.dt_access.specs.declared.TxnId.{TxnId}
 use Rattle.dt_access.proofs.Callers.{either_id}
 use Rattle.dt_sched.specs.Views.{View, Reaches, IsComplete, IsClosed, IsClass, IsSooner, Mutual, Precedes}
 use Rattle.dt_sched.specs.Decide.{IsExecutable}
-use Rattle.dt_sched.proofs.Callers.{reach_source, class_alone, class_unique, complete_of_closed, has_id_decided, sooner_breaks_ties}
+use Rattle.dt_sched.proofs.Callers.{reach_source, class_alone, class_unique, complete_of_closed, sooner_breaks_ties}
 use Rattle.dt_graph.specs.Left.{IsOut, IsLeft, IsFree, IsInResolved, IsOrderly}
 use Rattle.dt_graph.proofs.Left.{out_of_not_left, left_decided, undone_before, undone_is_mutual, in_resolved, done_left, class_of_resolved}
 

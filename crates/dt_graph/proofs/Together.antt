@@ -1,21 +1,18 @@
 -- Vertices that leave together: the entries that stay are the uses of what is left, their slots and degrees are kept, and
 -- what came to degree 0 follows something that left.
-use Rattle.std.proofs.Common.{◌≡◌, ◌≢◌, ◌+◌, ◌<◌, ◌⊎◌, ◌↔◌, ◌∙◌, ℕ, zero, suc, Bool, true, false, ◌==◌, ◌&&◌, not, if◌then◌else◌, List, []}
-use Rattle.std.proofs.Common.{◌∷◌, ◌++◌, length, map, filter, get_or, refl, sym, ap, subst, inl, inr, eq-eqb, eqb-true, arith}
-use Rattle.std.specs.List.{list_any, sum_by}
+use Rattle.std.proofs.Common.{◌≡◌, ◌+◌, ◌<◌, ◌⊎◌, ◌↔◌, ◌∙◌, ℕ, Bool, true, false, ◌==◌, ◌&&◌, not, List, []}
+use Rattle.std.proofs.Common.{◌∷◌, ◌++◌, length, map, filter, refl, sym, ap, subst, inl, inr, eq-eqb, eqb-true}
+use Rattle.std.specs.List.{sum_by}
 use Rattle.std.proofs.lemmas.Bool.{cases_Bool, false_from_ne_true}
 use Rattle.std.proofs.lemmas.List.{append_assoc}
-use Rattle.dt_lists.specs.Lists.{AnyIn, AllIn, Has, EachThen, Distinct, Either}
+use Rattle.dt_lists.specs.Lists.{AnyIn, AllIn, Has, EachThen, Distinct}
 use Rattle.dt_lists.proofs.Callers.{all_get, all_put, any_get, any_map, any_of_test, any_put, any_of_image, either_any, either_nat, either_not, has_map, has_middle, has_of_filtered, test_of_any, chain_step, Spot, spot}
 use Rattle.dt_access.specs.declared.TxnId.{TxnId}
-use Rattle.dt_access.proofs.Callers.{either_id}
-use Rattle.dt_sched.specs.Views.{View, Edge, IsPresent, IsWellFormed}
-use Rattle.dt_queue.specs.Queues.{Waiting, HasDistinctSlots, entries_clash, followers}
+use Rattle.dt_sched.specs.Views.{View, Edge, IsWellFormed}
+use Rattle.dt_queue.specs.Queues.{Waiting, entries_clash, followers}
 use Rattle.dt_graph.specs.Left.{IsLeft, IsOut, IsFree}
 use Rattle.dt_graph.specs.Waits.{id_at, AreUses, IsFollowed, degree, is_leaving, is_of, lowered, lowered_by, slots_of}
-use Rattle.dt_graph.specs.Graph.{vertex_at}
 use Rattle.dt_graph.proofs.Left.{out_before}
-use Rattle.dt_graph.proofs.Nearest.{slot_same, slot_other}
 use Rattle.dt_graph.proofs.Fewer.{KeepsLater}
 use Rattle.dt_graph.proofs.Sums.{filter_both, filter_same}
 use Rattle.dt_graph.proofs.Degrees.{degree_leaving}

@@ -1,11 +1,10 @@
 -- The entries that wait stay the uses of what is left: when a part is inserted and its uses are pushed, and when vertices
 -- leave and their entries are taken out.
-use Rattle.std.proofs.Common.{◌≡◌, ◌≢◌, ◌<◌, ◌⊎◌, ◌↔◌, ◌∙◌, ℕ, Bool, true, false, List, [], ◌∷◌, ◌++◌, length, filter, refl, sym, ap, subst, inl, inr}
-use Rattle.std.proofs.lemmas.Bool.{cases_Bool}
-use Rattle.std.proofs.lemmas.List.{append_assoc, get_or-set_same, map-append}
-use Rattle.dt_lists.specs.Lists.{AnyIn, AllIn, Has, EachThen, SomeThen, Distinct, IsFront}
-use Rattle.dt_lists.proofs.Callers.{all_get, all_put, all_map, all_append, any_get, any_put, any_map, any_from_at, any_append, any_append_left, any_append_right, any_image, any_of_image, any_front}
-use Rattle.dt_lists.proofs.Callers.{each_append, each_map, filter_each, filter_all, has_filter, has_of_filtered, front_append, has_last, spot, Spot}
+use Rattle.std.proofs.Common.{◌≡◌, ◌<◌, ◌⊎◌, ◌↔◌, ◌∙◌, ℕ, Bool, true, List, [], ◌∷◌, ◌++◌, length, filter, refl, sym, ap, subst, inl, inr}
+use Rattle.std.proofs.lemmas.List.{get_or-set_same, map-append}
+use Rattle.dt_lists.specs.Lists.{AnyIn, AllIn, Has, EachThen}
+use Rattle.dt_lists.proofs.Callers.{all_get, all_put, all_map, all_append, any_get, any_put, any_map, any_from_at, any_append, any_append_left, any_append_right, any_image, any_of_image}
+use Rattle.dt_lists.proofs.Callers.{each_append, filter_each, filter_all, has_filter, has_of_filtered, has_last}
 use Rattle.dt_access.specs.Ids.{StandsBefore}
 use Rattle.dt_access.specs.Clash.{Bytes}
 use Rattle.dt_access.specs.declared.access.Mode.{Mode}

@@ -1,23 +1,23 @@
 -- What waits for what by the queues is enough: of left transactions, a chain of it leads from one to another just where the
 -- one reaches the other in the view.
-use Rattle.std.proofs.Common.{◌≡◌, ◌≢◌, ◌<◌, ◌⊎◌, ◌↔◌, ◌∙◌, ℕ, Bool, true, false, ◌&&◌, ◌==◌, List, [], ◌∷◌, ◌++◌, map, refl, sym, ap, subst, inl, inr, eqb-true, eq-eqb, arith}
+use Rattle.std.proofs.Common.{◌≡◌, ◌≢◌, ◌⊎◌, ◌↔◌, ◌∙◌, ℕ, true, List, [], ◌∷◌, ◌++◌, refl, sym, ap, subst, inl, inr, eqb-true, eq-eqb}
 use Rattle.std.proofs.lemmas.Bool.{and_parts, and_from}
-use Rattle.std.proofs.lemmas.List.{map-append, append_assoc}
-use Rattle.dt_lists.specs.Lists.{AnyIn, AllIn, Has, EachThen, SomeThen, Distinct}
+use Rattle.std.proofs.lemmas.List.{append_assoc}
+use Rattle.dt_lists.specs.Lists.{AnyIn, Has, EachThen, SomeThen}
 use Rattle.dt_lists.specs.Chain.{Chain, here, onward}
-use Rattle.dt_lists.proofs.Callers.{all_get, any_get, any_put, any_map, some_get, some_map, some_of_two, each_across, each_of_image, has_middle, has_longer, chain_join, chain_step, Spot, spot, KeyBefore}
+use Rattle.dt_lists.proofs.Callers.{all_get, any_get, any_put, some_get, some_map, some_of_two, each_across, has_middle, has_longer, chain_join, chain_step, Spot, spot}
 use Rattle.dt_access.specs.Ids.{StandsBefore}
 use Rattle.dt_access.specs.Clash.{Bytes, uses_clash, clash}
 use Rattle.dt_access.specs.declared.access.Mode.{Mode}
 use Rattle.dt_access.specs.declared.TxnId.{TxnId}
 use Rattle.dt_access.specs.declared.Part.{Part}
-use Rattle.dt_access.proofs.Callers.{either_id, uses_clash_symmetric}
+use Rattle.dt_access.proofs.Callers.{either_id}
 use Rattle.dt_sched.specs.Views.{View, log_at, ids_of, AreClashing, Edge, Reaches, IsWellFormed}
 use Rattle.dt_sched.proofs.Callers.{clash_of_uses, uses_of_clash, edge_at_home, home_of_edge}
 use Rattle.dt_graph.specs.Left.{IsLeft, LeftEdge, IsFree}
-use Rattle.dt_queue.specs.Queues.{Waiting, HasDistinctSlots, entries_clash, neighbours}
+use Rattle.dt_queue.specs.Queues.{Waiting, entries_clash, neighbours}
 use Rattle.dt_graph.specs.Waits.{id_at, IsUseOf, WaitsWith, FollowsLog, AreUses, HoldsUp}
-use Rattle.dt_graph.proofs.Left.{left_chain, left_after, left_edge}
+use Rattle.dt_graph.proofs.Left.{left_chain}
 use Rattle.dt_graph.proofs.Nearest.{neighbours_split, nearest_clash, IsNeighbour, chain_of_clash}
 
 -- of two parts that clash in a log, the ids stand in their order

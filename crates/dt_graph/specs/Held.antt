@@ -1,6 +1,6 @@
 -- What the scheduler with queues holds, as it is kept: vertices, degrees, queues, the ready and the stuck ones (`Waits`),
 -- with the ids of the vertices and the resolved classes beside. It is seen as the plain lists of Graph.antt.
-use Rattle.std.specs.Prelude.{◌≡◌, ◌≤◌, ◌<◌, ◌^◌, ℕ, List, length, vec_capacity, vec_len}
+use Rattle.std.specs.Prelude.{◌≡◌, ◌≤◌, ◌<◌, ◌^◌, List, length, vec_capacity, vec_len}
 use Rattle.dt_lists.specs.Lists.{AllIn}
 use Rattle.dt_access.specs.declared.TxnId.{TxnId}
 use Rattle.dt_graph.specs.declared.open.Open.{Open}

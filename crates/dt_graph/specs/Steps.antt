@@ -1,8 +1,8 @@
 -- What the calls make of what is kept: a part is inserted, a class is resolved, an id is done. Each is said in terms of what
 -- was kept before (Graph.antt), with no word of the view; that it stays the graph of the view is in proofs/Inserted.antt,
 -- proofs/Resolved.antt and proofs/Finished.antt.
-use Rattle.std.specs.Prelude.{◌≡◌, ◌≢◌, ◌≤◌, ◌<◌, ◌⊎◌, ◌↔◌, ◌+◌, ◌==◌, ℕ, suc, not, List, [], ◌∷◌, ◌++◌, length, map, get_or, set, slice_get, Option, None, Some}
-use Rattle.std.specs.List.{filter, list_any}
+use Rattle.std.specs.Prelude.{◌≡◌, ◌≢◌, ◌≤◌, ◌<◌, ◌⊎◌, ◌↔◌, ◌+◌, ◌==◌, ℕ, suc, not, List, [], ◌∷◌, ◌++◌, length, map, get_or, set, slice_get, None, Some}
+use Rattle.std.specs.List.{filter}
 use Rattle.dt_lists.specs.Lists.{AnyIn, AllIn, Has, EachThen, Distinct}
 use Rattle.dt_access.specs.Ids.{AreAscending, Before}
 use Rattle.dt_access.specs.Clash.{Bytes}

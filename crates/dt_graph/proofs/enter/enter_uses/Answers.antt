@@ -17,8 +17,8 @@ loop-used-preserved c =
     record {
       same = c.loop-used.invariant.same;
       entered = rw more
-      (enters_more c.args.part.now.home c.args.vertex (take at items) (c.used-item.result ∷ []) c.args.queues.now c.loop-used.queues c.enter_use.new.queues
-      c.args.slots.now c.loop-used.slots c.enter_use.new.slots c.args.degree c.loop-used.risen c.in_ok-risen.risen c.loop-used.invariant.entered c.in_ok-risen.ensures.entered);
+          (enters_more c.args.part.now.home c.args.vertex (take at items) (c.used-item.result ∷ []) c.args.queues.now c.loop-used.queues c.enter_use.new.queues
+          c.args.slots.now c.loop-used.slots c.enter_use.new.slots c.args.degree c.loop-used.risen c.in_ok-risen.risen c.loop-used.invariant.entered c.in_ok-risen.ensures.entered);
     }
 
 pub returns-clause-entered : goal.returns-clause-entered

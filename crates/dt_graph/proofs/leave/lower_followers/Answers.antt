@@ -1,4 +1,4 @@
-use Rattle.std.proofs.Common.{◌<◌, length, subst, sym}
+use Rattle.std.proofs.Common.{◌<◌, subst, sym}
 use Rattle.dt_graph.proofs.Followers.{fewer_told, told_below}
 use Rattle.dt_graph.proofs.Lowering.{lowering_begins, lowering_ends, lowering_onward, lowering_past, may_lower}
 use Rattle.dt_graph.proofs.leave.lower_followers.Goals as goal

@@ -1,4 +1,4 @@
-use Rattle.std.proofs.Common.{◌≡◌, ◌∙◌, ◌<◌, ◌≤◌, ◌∷◌, [], None, Some, length, get_or, slice_get, sym, ap, subst, inl, inr}
+use Rattle.std.proofs.Common.{◌≡◌, ◌∙◌, ◌<◌, ◌∷◌, [], None, Some, length, sym, ap, subst}
 use Rattle.std.proofs.lemmas.List.{get_or_read}
 use Rattle.dt_lists.proofs.Callers.{all_get, place_within}
 use Rattle.dt_graph.specs.Graph.{GraphView, vertex_at}
@@ -29,7 +29,8 @@ leave-requires-clause-enough c =
 pub invariant_of-self : goal.invariant_of-self
 invariant_of-self c =
     fitted_left c.self.inside.names.ids (record c.self.inside.waits { ready = c.remove.new.self })
-    (fitted_ready c.self.inside.names.ids c.self.inside.waits c.self.invariant c.remove.new.self c.remove.ensures.bound (λ v h. all_get _ c.self.inside.waits.ready.items c.self.invariant.ready_within v ((c.remove.ensures.members v).0 h).0))
+    (fitted_ready c.self.inside.names.ids c.self.inside.waits c.self.invariant c.remove.new.self c.remove.ensures.bound
+    (λ v h. all_get _ c.self.inside.waits.ready.items c.self.invariant.ready_within v ((c.remove.ensures.members v).0 h).0))
     (c.in-Some.vertex ∷ []) c.leave.new.self c.self.inside.open.items (c.leave.ensures.left c.self.inside.names.ids c.self.inside.open.items) c.leave.ensures.ready c.leave.ensures.stuck
 
 pub invariant_of-self-in-Some-class : goal.invariant_of-self-in-Some-class

@@ -1,11 +1,11 @@
-use Rattle.std.proofs.Common.{◌≡◌, ◌∙◌, ◌<◌, length, sym, ap, subst, arith}
+use Rattle.std.proofs.Common.{◌≡◌, ◌<◌, length, sym, ap, subst, arith}
 use Rattle.std.specs.Vec.Iter.{into_iter_items}
 use Rattle.std.proofs.lemmas.List.{get_or_read}
 use Rattle.dt_lists.specs.Lists.{AllIn, Has}
 use Rattle.dt_lists.proofs.Callers.{place_within}
 use Rattle.dt_graph.specs.Graph.{GraphView}
 use Rattle.dt_graph.specs.Held.{kept_of}
-use Rattle.dt_graph.proofs.InOrder.{AreMembers, all_came, all_numbered, gathered, members_more, run_in_order}
+use Rattle.dt_graph.proofs.InOrder.{all_came, all_numbered, gathered, members_more, run_in_order}
 use Rattle.dt_graph.proofs.graph.Graph.in_order.Goals as goal
 use Rattle.dt_graph.proofs.graph.Graph.in_order.Goals.{in-Some+in_ok-push, in_default}
 
@@ -27,6 +27,7 @@ loop-id-preserved c =
 pub returns : goal.returns
 returns c =
     let none : length (into_iter_items c.loop-member.member-iterator) ≡ 0 = omega (arith, c.in-None.ensures.steps.0, c.loop-member.member-iterator.rest.ok.0) in
-    rw (all_came c.loop-member.vertices (into_iter_items c.loop-member.member-iterator) (into_iter_items c.into_iter-member-iterator.result) c.sort.new.self.items c.loop-member.invariant c.into_iter-member-iterator.ensures.into_iter_gives.0 none)
+    rw (all_came c.loop-member.vertices (into_iter_items c.loop-member.member-iterator)
+    (into_iter_items c.into_iter-member-iterator.result) c.sort.new.self.items c.loop-member.invariant c.into_iter-member-iterator.ensures.into_iter_gives.0 none)
     (run_in_order c.args.self.now c.args.ids.now c.loop-id.members.items c.sort.new.self.items c.requires.once
     (gathered c.args.self.now c.args.ids.now c.loop-id.id-index c.loop-id.members.items c.loop-id-test.false c.loop-id.invariant) c.in_ok-sort.ensures.permutation c.in_ok-sort.ensures.sorted)

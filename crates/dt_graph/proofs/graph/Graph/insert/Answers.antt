@@ -1,6 +1,5 @@
-use Rattle.std.proofs.Common.{◌≡◌, ◌∙◌, ◌<◌, ◌≤◌, ◌+◌, ◌^◌, ◌∷◌, ◌++◌, [], ◌≢◌, length, refl, sym, ap, subst, arith}
+use Rattle.std.proofs.Common.{◌≡◌, ◌∙◌, ◌<◌, ◌≤◌, ◌+◌, ◌^◌, ◌∷◌, ◌++◌, [], length, refl, sym, ap, subst, arith}
 use Rattle.std.proofs.lemmas.List.{length-append}
-use Rattle.dt_lists.specs.Lists.{Has}
 use Rattle.dt_lists.proofs.Callers.{place_within}
 use Rattle.dt_graph.specs.Graph.{GraphView}
 use Rattle.dt_graph.specs.Held.{kept_of}
@@ -109,7 +108,8 @@ returns-in-Some-clause-inserted c =
     let ids = c.self.inside.names.ids in
     let classes = c.self.inside.open.items in
     rw (← c.self.view_is)
-    (on_ok c.extend.result (λ e. let i = e ids classes (sym c.self.invariant.vertices) c.number_of.ensures.once (at_named ids c.in-Some.vertex c.args.part.now.id c.in-Some.ensures.number) in (c.in-Some.vertex, i.0, i.1)) c.extend.ensures.extended)
+    (on_ok c.extend.result (λ e. let i = e ids classes (sym c.self.invariant.vertices) c.number_of.ensures.once (at_named ids c.in-Some.vertex c.args.part.now.id c.in-Some.ensures.number) in
+    (c.in-Some.vertex, i.0, i.1)) c.extend.ensures.extended)
 
 pub returns-in_ok-add-in-None-clause-inserted : goal.returns-in_ok-add-in-None-clause-inserted
 returns-in_ok-add-in-None-clause-inserted c =

@@ -1,4 +1,4 @@
-use Rattle.std.proofs.Common.{◌≡◌, ◌<◌, ◌∙◌, None, Some, get_or, length, vec_capacity, subst, sym, ap, arith}
+use Rattle.std.proofs.Common.{◌≡◌, ◌<◌, ◌∙◌, None, Some, get_or, length, vec_capacity, sym, ap, arith}
 use Rattle.std.proofs.lemmas.List.{get_or_read, length-set}
 use Rattle.dt_graph.proofs.Subsets.{added_already, added_at, none_of_test, room_for, some_of_test, subset_added, subset_room}
 use Rattle.dt_graph.proofs.subset.Subset.add.Goals as goal

@@ -1,6 +1,5 @@
-use Rattle.std.proofs.Common.{◌<◌, ◌↔◌, IsTrue, None, length, vec_capacity, subst, sym, ap, arith}
+use Rattle.std.proofs.Common.{◌<◌, None, length, vec_capacity, sym, ap, arith}
 use Rattle.std.proofs.lemmas.List.{get_or_read}
-use Rattle.dt_lists.specs.Lists.{Has}
 use Rattle.dt_graph.proofs.Subsets.{has_placed}
 use Rattle.dt_graph.proofs.subset.Subset.has.Goals as goal
 

@@ -1,4 +1,4 @@
-use Rattle.std.proofs.Common.{◌≡◌, ◌≤◌, ◌+◌, ◌∙◌, length, vec_capacity, subst, sym, ap, arith}
+use Rattle.std.proofs.Common.{◌≤◌, ◌+◌, ◌∙◌, length, vec_capacity, arith}
 use Rattle.std.proofs.lemmas.List.{length-append}
 use Rattle.dt_graph.proofs.Subsets.{few_below, subset_reached}
 use Rattle.dt_graph.proofs.subset.Subset.reach.Goals as goal

@@ -16,13 +16,13 @@ returns-clause-extended c ids classes size once named =
     let vertices : new.vertices.items ≡ grown.vertices.items = ap (λ w. w.vertices.items) c.sort.ensures.same in
     let degrees : new.degrees.items ≡ grown.degrees.items = ap (λ w. w.degrees.items) c.sort.ensures.same in
     let entered : Enters part.home v part.keys old.queues new.queues (vertex_at old.vertices.items v).slots slots (get_or old.degrees.items v 0) count =
-        subst (λ q. Enters part.home v part.keys old.queues q (vertex_at old.vertices.items v).slots slots (get_or old.degrees.items v 0) count) (sym queues)
-        (subst (λ s. Enters part.home v part.keys old.queues c.enter.new.queues s slots (get_or old.degrees.items v 0) count) c.in_ok-slots.ensures
-        (subst (λ d. Enters part.home v part.keys old.queues c.enter.new.queues c.in_ok-slots.slots slots d count) read c.in_ok-degree.ensures.entered)) in
+    subst (λ q. Enters part.home v part.keys old.queues q (vertex_at old.vertices.items v).slots slots (get_or old.degrees.items v 0) count) (sym queues)
+    (subst (λ s. Enters part.home v part.keys old.queues c.enter.new.queues s slots (get_or old.degrees.items v 0) count) c.in_ok-slots.ensures
+    (subst (λ d. Enters part.home v part.keys old.queues c.enter.new.queues c.in_ok-slots.slots slots d count) read c.in_ok-degree.ensures.entered)) in
     let sorted : Sorts v new.vertices.items new.degrees.items old.ready old.stuck new.ready new.stuck =
-        subst (λ l. Sorts v l new.degrees.items old.ready old.stuck new.ready new.stuck) (sym vertices)
-        (subst (λ l. Sorts v grown.vertices.items l old.ready old.stuck new.ready new.stuck) (sym degrees)
-        (subst (λ r. Sorts v grown.vertices.items grown.degrees.items r old.stuck new.ready new.stuck) (ap (λ w. w.ready) c.grow.ensures.same)
-        (subst (λ s. Sorts v grown.vertices.items grown.degrees.items grown.ready s new.ready new.stuck) (ap (λ w. w.stuck) c.grow.ensures.same) c.sort.ensures.sorted))) in
+    subst (λ l. Sorts v l new.degrees.items old.ready old.stuck new.ready new.stuck) (sym vertices)
+    (subst (λ l. Sorts v grown.vertices.items l old.ready old.stuck new.ready new.stuck) (sym degrees)
+    (subst (λ r. Sorts v grown.vertices.items grown.degrees.items r old.stuck new.ready new.stuck) (ap (λ w. w.ready) c.grow.ensures.same)
+    (subst (λ s. Sorts v grown.vertices.items grown.degrees.items grown.ready s new.ready new.stuck) (ap (λ w. w.stuck) c.grow.ensures.same) c.sort.ensures.sorted))) in
     added_again part ids classes old new once (sym size) (c.requires.sizes ∙ sym size) slots count v (subst (λ n. v < n) (sym size) c.requires.vertex) named c.requires.missing entered
     (vertices ∙ c.grow.ensures.vertices) (degrees ∙ c.grow.ensures.degrees) sorted

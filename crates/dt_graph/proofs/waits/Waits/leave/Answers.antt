@@ -1,4 +1,4 @@
-use Rattle.std.proofs.Common.{◌≡◌, ◌∙◌, length, refl, sym, ap, subst}
+use Rattle.std.proofs.Common.{◌≡◌, ◌∙◌, refl, sym, subst}
 use Rattle.std.specs.Vec.{with_items}
 use Rattle.std.proofs.lemmas.List.{with_items_is}
 use Rattle.dt_graph.specs.Waits.{lowered_by}
@@ -10,7 +10,7 @@ pub returns-clause-left : goal.returns-clause-left
 returns-clause-left c ids classes =
     let old = c.args.self.now in
     let a : AreLowered (lowered_by old.queues c.args.leaving.now) old.degrees.items c.leave.new.degrees =
-        subst (λ l. AreLowered (lowered_by old.queues c.args.leaving.now) l c.leave.new.degrees) c.as_mut_slice.ensures.value c.leave.ensures.lowered in
+    subst (λ l. AreLowered (lowered_by old.queues c.args.leaving.now) l c.leave.new.degrees) c.as_mut_slice.ensures.value c.leave.ensures.lowered in
     let held : (with_items old.degrees c.leave.new.degrees).items ≡ c.leave.new.degrees = with_items_is old.degrees c.leave.new.degrees (a.0 ∙ sym old.degrees.ok.0) in
     subst (λ l. Leaves c.args.leaving.now (kept_of ids old classes) (record {
       ids = ids;
