@@ -6,5 +6,3 @@
 mod classes;
 #[cfg(test)]
 mod queues;
-#[cfg(test)]
-mod schedulers;
