@@ -41,7 +41,7 @@ impl Queues {
     }
 
     /// Adds an entry at the back of its queue, and gives its slot, at which none waited; after `NoMemory` all is as before.
-    /// Pushes are numbered in 64 bits; where no number is left, the answer is `NoMemory` too.
+    /// There is no limit to the number of pushes.
     pub fn push(
         &mut self,
         alloc: Global,
@@ -54,6 +54,7 @@ impl Queues {
         ensures fresh { IfOk result (λ slot. ¬ (IsQueued self.old slot)) }
         ensures same { OnErr result (self.new ≡ self.old) }
     {
+        self.kept.make_number()?;
         self.kept.push(alloc, home, key, mode, vertex)
     }
 

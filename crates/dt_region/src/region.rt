@@ -8,7 +8,7 @@ ghost use Rattle.dt_txn.specs.Execution.{one};
 ghost use Rattle.dt_txn.specs.Replica.{taken_from};
 ghost use Rattle.dt_txn.specs.Transaction.{BodyFits};
 ghost use Rattle.dt_region.specs.Region.{held, outcome_of, sched_of};
-ghost use Rattle.dt_region.specs.Rules.{opening_state, MakesSubmit, MakesAppend, MakesDelivery, MakesStep, MakesAnswer};
+ghost use Rattle.dt_region.specs.Rules.{opening_state, MakesSubmit, MakesAppend, MakesDelivery, MakesRest, MakesStep, MakesAnswer};
 ghost use Rattle.dt_region.specs.Conditions.{IsTableFor, CanAppend, CanDeliver, CanMove, HoldsValid};
 ghost use Rattle.dt_region.specs.Sound.{IsSoundRegion};
 
@@ -280,6 +280,25 @@ impl<S: Scheduler> Region<S> {
         ensures makes { MakesDelivery self.old home first entries.items result self.new }
         ensures sound { IsSoundRegion self.new.state }
     {
+        self.deliver_rest(alloc, home, first, first, entries)
+    }
+
+    /// The same as `deliver` for a delivery that begins at place `begin`, of which the entries from place `first` on are
+    /// given: what the region has of it need not be copied. The event is kept from `begin` on.
+    pub fn deliver_rest(
+        &mut self,
+        alloc: Global,
+        home: u8,
+        begin: u32,
+        first: u32,
+        entries: Vec<Entry>,
+    ) -> Result<Taken, NoMemory>
+        requires home { home < self.old.state.regions }
+        requires begins { begin ≤ first }
+        requires can { CanDeliver self.old.state home first entries.items }
+        ensures makes { MakesRest self.old home begin first entries.items result self.new }
+        ensures sound { IsSoundRegion self.new.state }
+    {
         let region = self.number;
         let (parts, txns) = parts_and_txns(alloc, entries)?;
         let count = txns.len();
@@ -294,7 +313,7 @@ impl<S: Scheduler> Region<S> {
                 Event::Deliver {
                     region,
                     home,
-                    first,
+                    first: begin,
                     last,
                 },
             );

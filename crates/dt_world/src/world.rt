@@ -225,10 +225,10 @@ impl<S: Scheduler + Drop> World<S> {
             self.steps += 1;
             return Ok(());
         }
-        let entries = entries(alloc, source, home, first, last)?;
+        let entries = entries(alloc, source, home, received, last)?;
         self.sites[region as usize]
             .region
-            .deliver(alloc, home, first, entries)?;
+            .deliver_rest(alloc, home, first, received, entries)?;
         self.steps += 1;
         Ok(())
     }
