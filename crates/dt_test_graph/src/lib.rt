@@ -1,8 +1,15 @@
-//! Tests of the scheduler's graph: what a vertex reaches, its class, and queues.
+//! Tests of the schedulers and of their graph: what a vertex reaches, its class, queues, what is ready and what is resolved,
+//! and that the two schedulers answer alike.
 //! Each is a table of outside values with one loop and one assertion; there is no other code here.
 #![tactic(auto)]
 
 #[cfg(test)]
+mod alike;
+#[cfg(test)]
 mod classes;
 #[cfg(test)]
+mod fitting;
+#[cfg(test)]
 mod queues;
+#[cfg(test)]
+mod schedulers;

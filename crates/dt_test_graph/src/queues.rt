@@ -13,7 +13,7 @@ use std::test::Fail;
 type Use = (u8, &'static [u8], Mode, u32);
 
 /// The key of a few bytes.
-fn key_of(alloc: Global, bytes: &[u8]) -> Result<Key, Fail> {
+pub fn key_of(alloc: Global, bytes: &[u8]) -> Result<Key, Fail> {
     if bytes.len() > Key::LONGEST {
         return Err(Fail::from("a key has few bytes"));
     }

@@ -1,14 +1,10 @@
-//! Tests of what one region has: its rows, its scheduler, its transactions, and what is reported of them.
+//! Tests of what one region has: its rows, its transactions, and what is reported of them.
 //! Each is a table of outside values with one loop and one assertion; there is no other code here.
 #![tactic(auto)]
 
 #[cfg(test)]
-mod fitting;
-#[cfg(test)]
 mod reports;
 #[cfg(test)]
 mod rows;
-#[cfg(test)]
-mod schedulers;
 #[cfg(test)]
 mod transactions;

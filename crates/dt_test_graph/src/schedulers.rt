@@ -3,8 +3,9 @@ ghost use Rattle.std.specs.Prelude.{◌≡◌, [], IfOk, OnOk, replicate};
 ghost use Rattle.dt_sched.specs.Sched.{CanInsert};
 
 use crate::fitting::fits;
-use crate::rows::key_of;
+use crate::queues::key_of;
 use dt_access::{Homes, Keys, Mode, Part, TxnId, put_id};
+use dt_graph::QueueSched;
 use dt_plain::PlainSched;
 use dt_sched::Scheduler;
 use dt_text::{Listed, NoMemory};
@@ -13,9 +14,9 @@ use std::test::Fail;
 
 /// A part with one key: the sequence number and the region of its id, its rank, its home, the key with its mode, and the
 /// least and the greatest of its homes.
-type Row<'a> = (u32, u8, u8, u8, &'a [u8], Mode, u8, u8);
+pub type Row<'a> = (u32, u8, u8, u8, &'a [u8], Mode, u8, u8);
 
-fn part_of(alloc: Global, row: &Row) -> Result<Part, Fail> {
+pub fn part_of(alloc: Global, row: &Row) -> Result<Part, Fail> {
     let (seq, region, rank, home, key, mode, least, greatest) = *row;
     let mut keys = Keys::new(alloc);
     keys.push((key_of(alloc, key)?, mode))?;
@@ -34,7 +35,7 @@ fn part_of(alloc: Global, row: &Row) -> Result<Part, Fail> {
 }
 
 /// Checks that the part may be inserted.
-fn check_fit(logs: &[Listed<Part>], part: &Part) -> Result<(), Fail>
+pub fn check_fit(logs: &[Listed<Part>], part: &Part) -> Result<(), Fail>
     ensures { OnOk result (CanInsert logs.now part.now) }
 {
     if !fits(logs, part) {
@@ -44,7 +45,7 @@ fn check_fit(logs: &[Listed<Part>], part: &Part) -> Result<(), Fail>
 }
 
 /// So many empty logs.
-fn empty_logs(alloc: Global, regions: u8) -> Result<Vec<Listed<Part>>, NoMemory>
+pub fn empty_logs(alloc: Global, regions: u8) -> Result<Vec<Listed<Part>>, NoMemory>
     ensures { IfOk result (λ logs. logs.items ≡ replicate regions []) }
 {
     let mut logs = Vec::new(alloc);
@@ -69,7 +70,7 @@ fn loaded<S: Scheduler + Drop>(alloc: Global, regions: u8, rows: &[Row]) -> Resu
 }
 
 /// All that is ready, in ascending order, as the scheduler tells one after another.
-fn ready<S: Scheduler + Drop>(alloc: Global, sched: &S) -> Result<Vec<TxnId>, Fail> {
+pub fn ready<S: Scheduler + Drop>(alloc: Global, sched: &S) -> Result<Vec<TxnId>, Fail> {
     let mut ids = Vec::new(alloc);
     for _ in 0..100 {
         match sched.next_ready(alloc, ids.as_slice())? {
@@ -143,9 +144,9 @@ fn driven<S: Scheduler + Drop>(alloc: Global, sched: &mut S) -> Result<Vec<u8>, 
     Ok(out)
 }
 
-/// What the plain scheduler does with these parts.
-fn told(alloc: Global, rows: &[Row]) -> Result<Vec<u8>, Fail> {
-    let mut sched: PlainSched = loaded(alloc, 3, rows)?;
+/// What a scheduler does with these parts.
+fn told<S: Scheduler + Drop>(alloc: Global, rows: &[Row]) -> Result<Vec<u8>, Fail> {
+    let mut sched: S = loaded(alloc, 3, rows)?;
     driven(alloc, &mut sched)
 }
 
@@ -221,9 +222,17 @@ const CASES: [(&[Row<'static>], &[u8]); 7] = [
 ];
 
 #[test]
-fn a_scheduler_resolves_and_executes_until_nothing_is_left(rt: HostRuntime) -> Result<(), Fail> {
+fn the_plain_scheduler_goes_on_until_nothing_is_left(rt: HostRuntime) -> Result<(), Fail> {
     for (rows, want) in CASES {
-        assert_eq!(rt; told(rt.alloc(), rows)?.as_slice(), want);
+        assert_eq!(rt; told::<PlainSched>(rt.alloc(), rows)?.as_slice(), want);
+    }
+    Ok(())
+}
+
+#[test]
+fn the_scheduler_with_queues_goes_on_until_nothing_is_left(rt: HostRuntime) -> Result<(), Fail> {
+    for (rows, want) in CASES {
+        assert_eq!(rt; told::<QueueSched>(rt.alloc(), rows)?.as_slice(), want);
     }
     Ok(())
 }
