@@ -1,5 +1,5 @@
 -- The keys of the accounts, and the names of the sessions: that they are keys and names, and all different.
-use Rattle.std.proofs.Common.{◌≡◌, ◌≢◌, ℕ, ◌+◌, ◌*◌, ◌/◌, ◌%◌, ◌<◌, ◌≤◌, ◌^◌, Bool, true, false, ◌&&◌, nat_lt, nat_le, List, ◌∷◌, length, get_or, drop, map, refl, sym, ap, ◌∙◌, arith, IsTrue}
+use Rattle.std.proofs.Common.{◌≡◌, ℕ, ◌+◌, ◌/◌, ◌%◌, ◌<◌, ◌≤◌, Bool, true, false, ◌&&◌, nat_lt, nat_le, length, get_or, drop, map, refl, ap, arith}
 use Rattle.std.specs.List.{list_all, range_with_len}
 use Rattle.std.specs.Fmt.{digits}
 use Rattle.std.proofs.lemmas.Bool.Decides.{nat_tests}
@@ -39,8 +39,8 @@ pub account_key : (q : ℕ) → q < 100 → IsKey (account q) × IsStr (account 
 account_key q h = key_and_text (account q) (each_passes (λ q. is_key_and_text (account q)) 0 100 all_are_keys q (omega arith) (omega arith))
 
 -- different accounts have different keys
-pub account_apart : (p q : ℕ) → p < 100 → q < 100 → account p ≡ account q → p ≡ q
-account_apart p q hp hq e =
+pub account_apart : (p q : ℕ) → account p ≡ account q → p ≡ q
+account_apart p q e =
     let letter : 97 + p / 25 ≡ 97 + q / 25 = ap (λ bs. get_or bs 0 0) e in
     let place : p % 25 ≡ q % 25 = decimal_injective (p % 25) (q % 25) (omega arith) (omega arith) (ap (drop 2) e) in
     omega (arith, letter, place)

@@ -1,5 +1,5 @@
-mod AccountKeys
 mod Dealing
-mod Ranges
+pub mod AccountKeys
+pub mod Ranges
 pub mod ValidLoad
 pub mod Callers

@@ -1,20 +1,16 @@
 -- The generated load is valid: its cluster is one, and its workload is one of this cluster.
-use Rattle.std.proofs.Common.{◌≡◌, ◌≢◌, ℕ, zero, suc, ◌+◌, ◌*◌, ◌/◌, ◌%◌, ◌<◌, ◌≤◌, Bool, true, false, cond, ◌==◌, List, [], ◌∷◌, ◌++◌, length, map, refl, sym, ap, ◌∙◌, inr, subst, arith, append-nil, add-one, FitsSigned, w64, pos}
-use Rattle.std.specs.List.{count_by, filter, range_with_len, sum_by}
-use Rattle.std.proofs.lemmas.Bool.Decides.{nat_tests}
-use Rattle.std.proofs.lemmas.List.{length-map, length-append}
-use Rattle.std.proofs.lemmas.List.Sums.{count_by-le-length, sum_by-cons}
-use Rattle.std.proofs.lemmas.List.FromFn.{length-range_with_len}
-use Rattle.dt_lists.specs.Lists.{AllIn, EachThen, Has}
+use Rattle.std.proofs.Common.{◌≡◌, ℕ, zero, suc, ◌+◌, ◌%◌, ◌<◌, ◌≤◌, Bool, true, false, cond, ◌==◌, [], ◌∷◌, length, map, refl, sym, ap, ◌∙◌, inr, subst, arith, append-nil, add-one, FitsSigned, w64, pos}
+use Rattle.std.specs.List.{count_by, range_with_len, sum_by}
+use Rattle.std.proofs.lemmas.List.{length-append}
+use Rattle.std.proofs.lemmas.List.Sums.{count_by-le-length}
+use Rattle.dt_lists.specs.Lists.{AllIn, EachThen}
 use Rattle.dt_lists.proofs.Callers.{all_image, all_put, each_image, each_of_image}
 use Rattle.dt_text.specs.Texts.{Bytes, IsKey}
 use Rattle.dt_text.specs.declared.Value.{Value}
 use Rattle.dt_proc.specs.Builtin.{xfer}
-use Rattle.dt_proc.specs.Sound.{IsSoundProc}
 use Rattle.dt_proc.proofs.Callers.{builtin_sound}
-use Rattle.dt_eval.specs.Calls.{CallFits}
 use Rattle.dt_cluster.specs.Valid.{IsRowValue, IsValidCluster}
-use Rattle.dt_workload.specs.Valid.{IsValidSession, IsValidWorkload, RankedFits, WantedFits, calls_in, session_count_at}
+use Rattle.dt_workload.specs.Valid.{IsValidSession, IsValidWorkload, RankedFits, WantedFits}
 use Rattle.dt_workload.specs.declared.workload.Wanted.TheVariants.{Move}
 use Rattle.dt_workload.specs.declared.Session.{Session}
 use Rattle.dt_gen.specs.Load.{account, account_numbers, account_row, load_call, load_calls, load_cluster, load_session, load_workload, session_name, session_numbers, wanted_by, transfer_call}
@@ -29,7 +25,7 @@ all_accounts P each = all_in_row P 0 100 (λ q low high. each q (omega arith))
 
 pub accounts_apart : EachThen (λ p q. ¬ (account p ≡ account q)) account_numbers
 unfolding account_numbers
-accounts_apart = each_of_image (λ (x y : Bytes). ¬ (x ≡ y)) account (range_with_len 0 100) (distinct_row account 0 100 (λ p q low below high same. absurd (let is : p ≡ q = account_apart p q (omega arith) (omega arith) same in omega (arith, is))))
+accounts_apart = each_of_image (λ (x y : Bytes). ¬ (x ≡ y)) account (range_with_len 0 100) (distinct_row account 0 100 (λ p q low below high same. absurd (let is : p ≡ q = account_apart p q same in omega (arith, is))))
 
 pub load_cluster_valid : IsValidCluster load_cluster
 load_cluster_valid = record {
@@ -123,9 +119,9 @@ load_workload_valid n few = record {
   names_once = each_image (λ (x y : Bytes). ¬ (x ≡ y)) (λ (s : Session). s.name) (map (load_session n) session_numbers) (each_image (λ (x y : Session). ¬ (x.name ≡ y.name)) (load_session n) session_numbers sessions_apart);
   sessions = all_image (IsValidSession load_cluster) (load_session n) session_numbers (all_sessions (λ j. IsValidSession load_cluster (load_session n j)) (session_valid n));
   few_sessions = λ region.
-    let within = count_by-le-length (λ (s : Session). s.region == region) (map (load_session n) session_numbers) in
-    omega (arith, within, sessions_length n);
+      let within = count_by-le-length (λ (s : Session). s.region == region) (map (load_session n) session_numbers) in
+      omega (arith, within, sessions_length n);
   few_calls =
-    let all = sum_by-image (λ (s : Session). length s.calls) (load_session n) session_numbers in
-    omega (arith, all, sessions_have n);
+      let all = sum_by-image (λ (s : Session). length s.calls) (load_session n) session_numbers in
+      omega (arith, all, sessions_have n);
 }

@@ -45,11 +45,7 @@ pub(crate) fn key_of(rows: &[(Key, Value)], number: u32) -> &Key
 }
 
 /// The key of the account of a number, as an argument of a call.
-pub(crate) fn text_of(
-    alloc: Global,
-    rows: &[(Key, Value)],
-    number: u32,
-) -> Result<Value, NoMemory>
+pub(crate) fn text_of(alloc: Global, rows: &[(Key, Value)], number: u32) -> Result<Value, NoMemory>
     requires rows { rows.now ≡ map account_row account_numbers }
     requires number { number < 100 }
     ensures { IfOk result (λ value. value ≡ Value.Text (account number)) }

@@ -46,11 +46,7 @@ fn accounts_cluster(alloc: Global) -> Result<Cluster, NoMemory>
 }
 
 /// The sessions with their calls.
-fn busy_sessions(
-    alloc: Global,
-    rows: &[(Key, Value)],
-    calls: u32,
-) -> Result<SessionList, NoMemory>
+fn busy_sessions(alloc: Global, rows: &[(Key, Value)], calls: u32) -> Result<SessionList, NoMemory>
     requires { rows.now ≡ map account_row account_numbers }
     ensures { IfOk result (λ sessions. sessions ≡ map (load_session calls) session_numbers) }
 {

@@ -1,4 +1,4 @@
-use Rattle.std.proofs.Common.{◌≡◌, ◌<◌, rules, sym, subst}
+use Rattle.std.proofs.Common.{◌≡◌, rules, sym, subst}
 use Rattle.dt_text.specs.Texts.{IsKey}
 use Rattle.dt_gen.specs.Load.{account}
 use Rattle.dt_gen.proofs.AccountKeys.{account_key}

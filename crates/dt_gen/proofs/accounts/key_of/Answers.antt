@@ -1,7 +1,6 @@
-use Rattle.std.proofs.Common.{◌≡◌, ◌<◌, length, get_or, map, ap, ◌∙◌, arith}
+use Rattle.std.proofs.Common.{length, get_or, ap, ◌∙◌, arith}
 use Rattle.dt_text.specs.Texts.{Bytes}
 use Rattle.dt_text.specs.declared.Value.{Value}
-use Rattle.dt_gen.specs.Load.{account, account_numbers, account_row}
 use Rattle.dt_gen.proofs.AccountKeys.{account_there, accounts_length}
 use Rattle.dt_gen.proofs.accounts.key_of.Goals as goal
 

@@ -1,4 +1,4 @@
-use Rattle.std.proofs.Common.{◌≡◌, ◌<◌, sym, subst, ◌∙◌}
+use Rattle.std.proofs.Common.{sym, subst, ◌∙◌}
 use Rattle.dt_text.specs.Texts.{IsStr}
 use Rattle.dt_gen.proofs.AccountKeys.{account_key}
 use Rattle.dt_gen.proofs.accounts.text_of.Goals as goal

@@ -1,4 +1,4 @@
-use Rattle.std.proofs.Common.{◌≡◌, List, sym, subst}
+use Rattle.std.proofs.Common.{List, sym, subst}
 use Rattle.dt_cluster.specs.Valid.{IsValidCluster}
 use Rattle.dt_cluster.specs.declared.Cluster.{Cluster}
 use Rattle.dt_workload.specs.Valid.{IsValidWorkload}
@@ -11,7 +11,7 @@ pub returns-clause-valid : goal.returns-clause-valid
 returns-clause-valid c =
     let sessions = c.in_ok-sessions.sessions in
     let at : IsValidWorkload load_cluster (record { sessions = sessions }) =
-        subst (λ (all : List Session). IsValidWorkload load_cluster (record { sessions = all })) (sym c.in_ok-sessions.ensures) (load_workload_valid c.args.calls c.requires.few) in (
+    subst (λ (all : List Session). IsValidWorkload load_cluster (record { sessions = all })) (sym c.in_ok-sessions.ensures) (load_workload_valid c.args.calls c.requires.few) in (
       subst IsValidCluster (sym c.in_ok-cluster.ensures) load_cluster_valid,
       subst (λ (k : Cluster). IsValidWorkload k (record { sessions = sessions })) (sym c.in_ok-cluster.ensures) at,
     )

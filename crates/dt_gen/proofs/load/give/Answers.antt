@@ -1,7 +1,7 @@
-use Rattle.std.proofs.Common.{◌≡◌, ◌<◌, ◌%◌, ◌++◌, ◌∷◌, [], List, length, get_or, set, map, ap, ◌∙◌, arith, rules}
+use Rattle.std.proofs.Common.{◌≡◌, ◌%◌, ◌++◌, ◌∷◌, [], List, length, get_or, set, ap, ◌∙◌, arith, rules}
 use Rattle.dt_workload.specs.declared.Ranked.{Ranked}
 use Rattle.dt_workload.specs.declared.Session.{Session}
-use Rattle.dt_gen.specs.Load.{load_call, load_session, session_numbers}
+use Rattle.dt_gen.specs.Load.{load_call, load_session}
 use Rattle.dt_gen.proofs.Dealing.{dealt, session_there, sessions_length, with_call}
 use Rattle.dt_gen.proofs.load.give.Goals as goal
 

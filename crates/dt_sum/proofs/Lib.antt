@@ -1,0 +1,7 @@
+pub mod TransferMeaning
+pub mod Totals
+pub mod Holding
+pub mod LoadTransactions
+pub mod LoadWorlds
+pub mod ShownTotals
+pub mod Callers

@@ -1,0 +1,162 @@
+-- Transactions of the load keep what the accounts have together: a transfer by cases, whether its source has enough and which of
+-- the two keys is less, or that they are one; a move, since it writes nothing; and any that is stale.
+use Rattle.std.proofs.Common.{◌≡◌, ◌≢◌, ℕ, ◌+◌, ◌-◌, ◌*◌, ◌%◌, ◌<◌, ◌≤◌, ◌^◌, ◌==◌, ◌⊎◌, Bool, true, false, cond, List, [], ◌∷◌, map, Option, Some, None, pos, refl, sym, ap, ap₂, ◌∙◌, inl, inr, subst, arith}
+use Rattle.std.specs.Ordering.{nat_cmp}
+use Rattle.std.specs.Cmp.Lexicographic.{slice_cmp, bytes_decides}
+use Rattle.std.specs.declared.cmp.Ordering.{Ordering}
+use Rattle.std.specs.declared.cmp.Ordering.TheVariants.{Less, Equal, Greater}
+use Rattle.std.proofs.lemmas.Bool.{cases_lt}
+use Rattle.dt_lists.specs.Lists.{AllIn}
+use Rattle.dt_text.specs.Texts.{Bytes}
+use Rattle.dt_text.specs.declared.Value.{Value}
+use Rattle.dt_text.specs.declared.Value.TheVariants.{Int}
+use Rattle.dt_access.specs.Clash.{same_key}
+use Rattle.dt_access.specs.declared.Access.{Access}
+use Rattle.dt_access.specs.declared.Mode.{Mode}
+use Rattle.dt_access.specs.declared.TxnId.{TxnId}
+use Rattle.dt_access.proofs.Callers.{key_before_flip, same_key_after, same_key_before, same_key_equal}
+use Rattle.dt_proc.specs.Builtin.{builtin_procs, xfer}
+use Rattle.dt_eval.specs.declared.Finish.{Finish}
+use Rattle.dt_eval.specs.Meaning.{keys_of, meaning}
+use Rattle.dt_table.specs.declared.Effect.{Effect}
+use Rattle.dt_table.specs.Table.{Table, apply, value_of}
+use Rattle.dt_txn.specs.declared.txn.Body.{Body}
+use Rattle.dt_txn.specs.declared.txn.Body.TheVariants.{Call, Move}
+use Rattle.dt_txn.specs.declared.Txn.{Txn}
+use Rattle.dt_txn.specs.declared.Outcome.{Outcome}
+use Rattle.dt_txn.specs.Execution.{of_finish, reads_of, result_of, see, seen_of, stale_of, unless_stale}
+use Rattle.dt_txn.specs.Transaction.{used_of, uses_of}
+use Rattle.dt_txn.specs.Serial.{after, table_after}
+use Rattle.dt_session.specs.Step.{body_of}
+use Rattle.dt_gen.specs.Draws.{drawn}
+use Rattle.dt_workload.specs.declared.workload.Wanted.TheVariants as wanted
+use Rattle.dt_gen.specs.Load.{account, load_call, transfer_call, wanted_by}
+use Rattle.dt_gen.proofs.Callers.{account_apart}
+use Rattle.dt_sum.specs.Balances.{HoldsAccounts, balance}
+use Rattle.dt_sum.specs.Laws.{IsOfLoad, LoadKeepsTotal}
+use Rattle.dt_sum.proofs.Holding.{holding, holds_after, holds_after_two, within_total}
+use Rattle.dt_sum.proofs.TransferMeaning as transfer
+
+-- what a transaction reads are the values of the rows that it uses
+reads_at : (t : Table) (access : List Access) → reads_of access (map (seen_of t) access) ≡ map (λ u. (u.0, value_of t u.0)) (map used_of access)
+reads_at t [] = refl
+reads_at t (a ∷ access) = ap (λ (reads : List (Bytes × Option Value)). (a.key, value_of t a.key) ∷ reads) (reads_at t access)
+
+-- the table after a call that ended so
+abbrev ended : Table → Finish → Table
+ended t finish = apply (of_finish finish).1 t
+
+-- the values of rows in a table
+abbrev read_in : Table → List (Bytes × Mode) → List (Bytes × Option Value)
+read_in t uses = map (λ u. (u.0, value_of t u.0)) uses
+
+-- a table after a call whose end is known
+ended_by : (t : Table) (f g : Finish) → f ≡ g → HoldsAccounts 100000 (ended t g) → HoldsAccounts 100000 (ended t f)
+ended_by t f g e holds = subst (λ (h : Finish). HoldsAccounts 100000 (ended t h)) (sym e) holds
+
+-- how a transfer ends on one row, or on two
+abbrev on_one : Bytes → ℕ → Option Value → Finish
+on_one key amount had = meaning xfer (transfer.transfer_args key key amount) ((key, had) ∷ [])
+
+abbrev source_read_first : Bytes → Bytes → ℕ → Option Value → Option Value → Finish
+source_read_first source target amount had held = meaning xfer (transfer.transfer_args source target amount) ((source, had) ∷ (target, held) ∷ [])
+
+abbrev target_read_first : Bytes → Bytes → ℕ → Option Value → Option Value → Finish
+target_read_first source target amount had held = meaning xfer (transfer.transfer_args source target amount) ((target, held) ∷ (source, had) ∷ [])
+
+-- a transfer between accounts
+module _ (t : Table) (p q amount : ℕ) (hp : p < 100) (hq : q < 100) (few : amount ≤ 50) (holds : HoldsAccounts 100000 t) where
+  -- where both are one, the row is written as it was
+  to_itself : HoldsAccounts 100000 (ended t (on_one (account p) amount (value_of t (account p))))
+  to_itself =
+      ended_by t _ (on_one (account p) amount (holding (balance t p))) (ap (on_one (account p) amount) (holds.accounts p hp))
+      (elim (cases_lt (balance t p) amount) [
+        | inl less ↦ ended_by t _ _ (transfer.refused_alone (account p) amount (balance t p) less) holds
+        | inr enough ↦
+            let within = within_total 100000 t p hp holds in
+            ended_by t _ _ (transfer.done_alone (account p) amount (balance t p) enough (omega arith)) (holds_after 100000 100000 t p (balance t p) hp holds refl)
+      ])
+
+  module _ (apart : ¬ (account q ≡ account p)) (there : same_key (account p) (account q) ≡ false) (back : same_key (account q) (account p) ≡ false) where
+    -- where the source has the lesser key
+    source_first : HoldsAccounts 100000 (ended t (source_read_first (account p) (account q) amount (value_of t (account p)) (value_of t (account q))))
+    source_first =
+        ended_by t _ (source_read_first (account p) (account q) amount (holding (balance t p)) (holding (balance t q)))
+        (ap₂ (source_read_first (account p) (account q) amount) (holds.accounts p hp) (holds.accounts q hq))
+        (elim (cases_lt (balance t p) amount) [
+          | inl less ↦ ended_by t _ _ (transfer.refused_first (account p) (account q) amount (balance t p) (holding (balance t q)) less) holds
+          | inr enough ↦
+              let within = within_total 100000 t p hp holds in
+              let others = within_total 100000 t q hq holds in
+              ended_by t _ _ (transfer.done_first (account p) (account q) amount (balance t p) (balance t q) there back enough (omega arith) (omega arith))
+              (holds_after_two 100000 100000 t p q (balance t p - amount) (balance t q + amount) hp hq apart holds (omega arith))
+        ])
+
+    -- where the target has it
+    target_first : HoldsAccounts 100000 (ended t (target_read_first (account p) (account q) amount (value_of t (account p)) (value_of t (account q))))
+    target_first =
+        ended_by t _ (target_read_first (account p) (account q) amount (holding (balance t p)) (holding (balance t q)))
+        (ap₂ (target_read_first (account p) (account q) amount) (holds.accounts p hp) (holds.accounts q hq))
+        (elim (cases_lt (balance t p) amount) [
+          | inl less ↦ ended_by t _ _ (transfer.refused_second (account p) (account q) amount (balance t p) (holding (balance t q)) there less) holds
+          | inr enough ↦
+              let within = within_total 100000 t p hp holds in
+              let others = within_total 100000 t q hq holds in
+              ended_by t _ _ (transfer.done_second (account p) (account q) amount (balance t p) (balance t q) there back enough (omega arith) (omega arith))
+              (holds_after_two 100000 100000 t q p (balance t q + amount) (balance t p - amount) hq hp (λ is. apart (sym is)) holds (omega arith))
+        ])
+
+  -- a transfer, which reads the rows of these uses
+  abbrev transferred : List (Bytes × Mode) → Finish
+  transferred uses = meaning xfer (transfer.transfer_args (account p) (account q) amount) (read_in t uses)
+
+  transfer_holds : HoldsAccounts 100000 (ended t (transferred (keys_of xfer (transfer.transfer_args (account p) (account q) amount))))
+  transfer_holds = by (slice_cmp nat_cmp (account q) (account p)) refl
+    where
+      differ : same_key (account q) (account p) ≡ false → ¬ (account q ≡ account p)
+      differ no is = let yes : same_key (account q) (account p) ≡ true = (bytes_decides (account q) (account p)).1 is in cc
+
+      by : (o : Ordering) → slice_cmp nat_cmp (account q) (account p) ≡ o → HoldsAccounts 100000 (ended t (transferred (keys_of xfer (transfer.transfer_args (account p) (account q) amount))))
+      by Equal e =
+          let same : account q ≡ account p = (bytes_decides (account q) (account p)).0 (same_key_equal (account q) (account p) e) in
+          ended_by t _ _ (ap transferred (transfer.uses_same (account p) (account q) amount e))
+          (ended_by t _ _ (ap (λ (key : Bytes). meaning xfer (transfer.transfer_args (account p) key amount) ((account p, value_of t (account p)) ∷ [])) same) to_itself)
+      by Less e =
+          let back = same_key_before (account q) (account p) e in
+          ended_by t _ _ (ap transferred (transfer.uses_before (account p) (account q) amount e)) (target_first (differ back) (same_key_after (account p) (account q) e) back)
+      by Greater e =
+          let flipped = key_before_flip (account q) (account p) e in
+          let back = same_key_after (account q) (account p) flipped in
+          ended_by t _ _ (ap transferred (transfer.uses_after (account p) (account q) amount e)) (source_first (differ back) (same_key_before (account p) (account q) flipped) back)
+
+-- what a body of the load comes to, where it is not stale
+body_holds : (i u v w version : ℕ) (id : TxnId) (t : Table) → HoldsAccounts 100000 t
+    → HoldsAccounts 100000 (apply (result_of builtin_procs id (body_of (wanted_by i u v w)) (read_in t (uses_of builtin_procs version (body_of (wanted_by i u v w))))).1 t)
+body_holds i u v w version id t holds = by (i % 50 == 49)
+  where
+    abbrev body : Bool → Body
+    body b = body_of (cond b (wanted.Move (account (u % 100)) (v % 4)) (transfer_call (u % 100) (v % 100) (w % 50 + 1)))
+
+    by : (b : Bool) → HoldsAccounts 100000 (apply (result_of builtin_procs id (body b) (read_in t (uses_of builtin_procs version (body b)))).1 t)
+    by true = record { accounts = holds.accounts; others = holds.others; total = holds.total }
+    by false = transfer_holds t (u % 100) (v % 100) (w % 50 + 1) (omega arith) (omega arith) (omega arith) holds
+
+-- a transaction of the load keeps what the accounts have together
+pub load_keeps : (txn : Txn) (t : Table) → IsOfLoad txn → HoldsAccounts 100000 t → HoldsAccounts 100000 (after builtin_procs txn t)
+load_keeps txn t load holds = by (stale_of txn.access (see txn t))
+  where
+    reads : reads_of txn.access (see txn t) ≡ read_in t (uses_of builtin_procs 1 txn.body)
+    reads = reads_at t txn.access ∙ ap (read_in t) load.valid.uses
+
+    fresh : HoldsAccounts 100000 (apply (result_of builtin_procs txn.id txn.body (reads_of txn.access (see txn t))).1 t)
+    fresh = subst (λ (rs : List (Bytes × Option Value)). HoldsAccounts 100000 (apply (result_of builtin_procs txn.id txn.body rs).1 t)) (sym reads)
+        (subst (λ (body : Body). HoldsAccounts 100000 (apply (result_of builtin_procs txn.id body (read_in t (uses_of builtin_procs 1 body))).1 t)) (sym load.body) (body_holds load.call _ _ _ 1 txn.id t holds))
+
+    by : (stale : Option Outcome) → HoldsAccounts 100000 (apply (unless_stale stale (result_of builtin_procs txn.id txn.body (reads_of txn.access (see txn t)))).1 t)
+    by None = fresh
+    by (Some o) = holds
+
+-- and so do any of them one after another
+pub loads_keep : LoadKeepsTotal
+loads_keep [] t all holds = holds
+loads_keep (txn ∷ txns) t all holds = loads_keep txns (after builtin_procs txn t) all.1 (load_keeps txn t all.0 holds)

@@ -1,0 +1,8 @@
+//! The laws of the generated load: nothing that a run of it does makes or loses money.
+//!
+//! Read next: `specs/Balances.antt`, what the accounts have in a table; `specs/Laws.antt`, what stays so; `src/laws.rt`.
+#![tactic(auto)]
+
+mod laws;
+
+pub use laws::{each_region_holds_accounts, load_keeps_total, shown_sum_is_total};
