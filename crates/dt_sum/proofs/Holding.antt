@@ -2,6 +2,7 @@
 use Rattle.std.proofs.Common.{◌≡◌, ◌≢◌, ℕ, ◌+◌, ◌-◌, ◌<◌, ◌≤◌, Bool, true, false, cond, List, [], ◌∷◌, Option, Some, None, unwrap_or, pos, refl, sym, ap, ◌∙◌, subst, arith}
 use Rattle.std.specs.List.{sum_by}
 use Rattle.std.specs.Cmp.Lexicographic.{bytes_decides}
+use Rattle.std.specs.FinMap.{get}
 use Rattle.dt_lists.specs.Lists.{Distinct, Has}
 use Rattle.dt_lists.proofs.Callers.{each_map}
 use Rattle.dt_text.specs.Texts.{Bytes}
@@ -36,7 +37,7 @@ account_within q there = let within = row_within 0 100 q there in omega (arith, 
 pub value_written : (t : Table) (key : Bytes) (value : Option Value) (q : Bytes) → value_of (written t key value) q ≡ cond (same_key q key) value (value_of t q)
 value_written t key value q = ap (λ (o : Option (Option Value)). unwrap_or o None) (get-put t.values key value q) ∙ at (same_key q key)
   where
-    at : (b : Bool) → unwrap_or (cond b (Some value) _) None ≡ cond b value (value_of t q)
+    at : (b : Bool) → unwrap_or (cond b (Some value) (get t.values q)) None ≡ cond b value (value_of t q)
     at true = refl
     at false = refl
 
@@ -48,17 +49,17 @@ written_apart t key value q apart = value_written t key value q ∙ ap (λ b. co
 
 -- no account has more than all
 pub within_total : (total : ℕ) (t : Table) (q : ℕ) → q < 100 → HoldsAccounts total t → balance t q ≤ total
-within_total total t q h holds = omega (arith, within_sum (balance t) account_numbers q (account_in q h), holds.total)
+within_total total t q h holds = omega (arith, within_sum (balance t) account_numbers q (account_in q h), holds.together)
 
 -- a table in which one account got another number
 pub holds_after : (total after : ℕ) (t : Table) (q now : ℕ) → q < 100 → HoldsAccounts total t → after + balance t q ≡ total + now → HoldsAccounts after (written t (account q) (holding now))
 holds_after total after t q now h holds counted = record {
   accounts = λ p hp. by p hp (same_key (account p) (account q)) refl;
   others = λ key none. written_apart t (account q) (holding now) key (none q h) ∙ holds.others key none;
-  total =
+  together =
     let changed = sum_changes (balance t) (balance (written t (account q) (holding now))) account_numbers q accounts_once (account_in q h) (λ p other. ap amount_of (apart p other)) in
     let is : balance (written t (account q) (holding now)) q ≡ now = ap amount_of (written_here t (account q) (holding now)) in
-    omega (arith, changed, is, counted, holds.total);
+    omega (arith, changed, is, counted, holds.together);
 }
   where
     apart : (p : ℕ) → p ≢ q → value_of (written t (account q) (holding now)) (account p) ≡ value_of t (account p)

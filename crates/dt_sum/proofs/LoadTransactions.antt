@@ -1,6 +1,7 @@
 -- Transactions of the load keep what the accounts have together: a transfer by cases, whether its source has enough and which of
 -- the two keys is less, or that they are one; a move, since it writes nothing; and any that is stale.
-use Rattle.std.proofs.Common.{◌≡◌, ◌≢◌, ℕ, ◌+◌, ◌-◌, ◌*◌, ◌%◌, ◌<◌, ◌≤◌, ◌^◌, ◌==◌, ◌⊎◌, Bool, true, false, cond, List, [], ◌∷◌, map, Option, Some, None, pos, refl, sym, ap, ap₂, ◌∙◌, inl, inr, subst, arith}
+use Rattle.std.proofs.Common.{◌≡◌, ◌≢◌, ℕ, ◌+◌, ◌-◌, ◌*◌, ◌%◌, ◌<◌, ◌≤◌, ◌^◌, ◌==◌, ◌⊎◌, Bool, true, false, cond}
+use Rattle.std.proofs.Common.{List, [], ◌∷◌, map, Option, Some, None, pos, refl, sym, ap, ap₂, ◌∙◌, inl, inr, subst, arith}
 use Rattle.std.specs.Ordering.{nat_cmp}
 use Rattle.std.specs.Cmp.Lexicographic.{slice_cmp, bytes_decides}
 use Rattle.std.specs.declared.cmp.Ordering.{Ordering}
@@ -114,7 +115,7 @@ module _ (t : Table) (p q amount : ℕ) (hp : p < 100) (hq : q < 100) (few : amo
   transfer_holds = by (slice_cmp nat_cmp (account q) (account p)) refl
     where
       differ : same_key (account q) (account p) ≡ false → ¬ (account q ≡ account p)
-      differ no is = let yes : same_key (account q) (account p) ≡ true = (bytes_decides (account q) (account p)).1 is in cc
+      differ unequal is = let yes : same_key (account q) (account p) ≡ true = (bytes_decides (account q) (account p)).1 is in cc
 
       by : (o : Ordering) → slice_cmp nat_cmp (account q) (account p) ≡ o → HoldsAccounts 100000 (ended t (transferred (keys_of xfer (transfer.transfer_args (account p) (account q) amount))))
       by Equal e =
@@ -129,16 +130,17 @@ module _ (t : Table) (p q amount : ℕ) (hp : p < 100) (hq : q < 100) (few : amo
           let back = same_key_after (account q) (account p) flipped in
           ended_by t _ _ (ap transferred (transfer.uses_after (account p) (account q) amount e)) (source_first (differ back) (same_key_before (account p) (account q) flipped) back)
 
+-- the body of a move, or of a transfer, of the load
+abbrev body_by : Bool → ℕ → ℕ → ℕ → Body
+body_by is_move u v w = body_of (cond is_move (wanted.Move (account (u % 100)) (v % 4)) (transfer_call (u % 100) (v % 100) (w % 50 + 1)))
+
 -- what a body of the load comes to, where it is not stale
 body_holds : (i u v w version : ℕ) (id : TxnId) (t : Table) → HoldsAccounts 100000 t
     → HoldsAccounts 100000 (apply (result_of builtin_procs id (body_of (wanted_by i u v w)) (read_in t (uses_of builtin_procs version (body_of (wanted_by i u v w))))).1 t)
 body_holds i u v w version id t holds = by (i % 50 == 49)
   where
-    abbrev body : Bool → Body
-    body b = body_of (cond b (wanted.Move (account (u % 100)) (v % 4)) (transfer_call (u % 100) (v % 100) (w % 50 + 1)))
-
-    by : (b : Bool) → HoldsAccounts 100000 (apply (result_of builtin_procs id (body b) (read_in t (uses_of builtin_procs version (body b)))).1 t)
-    by true = record { accounts = holds.accounts; others = holds.others; total = holds.total }
+    by : (b : Bool) → HoldsAccounts 100000 (apply (result_of builtin_procs id (body_by b u v w) (read_in t (uses_of builtin_procs version (body_by b u v w)))).1 t)
+    by true = record { accounts = holds.accounts; others = holds.others; together = holds.together }
     by false = transfer_holds t (u % 100) (v % 100) (w % 50 + 1) (omega arith) (omega arith) (omega arith) holds
 
 -- a transaction of the load keeps what the accounts have together

@@ -1,6 +1,7 @@
 -- Each region holds the accounts at each moment of a run of the load: it does so at first, and what it executed since then are
 -- transactions of the load.
-use Rattle.std.proofs.Common.{◌≡◌, ◌≢◌, ℕ, zero, suc, ◌+◌, ◌%◌, ◌==◌, ◌<◌, ◌≤◌, Bool, true, false, cond, List, [], ◌∷◌, map, slice_get, Option, Some, None, unwrap_or, pos, refl, sym, ap, ◌∙◌, inl, inr, subst, arith}
+use Rattle.std.proofs.Common.{◌≡◌, ◌≢◌, ℕ, zero, suc, ◌+◌, ◌%◌, ◌==◌, ◌<◌, ◌≤◌, Bool, true, false, cond, List, []}
+use Rattle.std.proofs.Common.{◌∷◌, map, slice_get, Option, Some, None, unwrap_or, pos, refl, sym, ap, ◌∙◌, inl, inr, subst, arith}
 use Rattle.std.specs.List.{cons_option, filter, range_with_len, sum_by}
 use Rattle.std.specs.Ordering.{nat_cmp, eq_by_cmp}
 use Rattle.std.specs.Cmp.Lexicographic.{slice_cmp, nat_list_cmp_total, texts_ties, bytes_decides}
@@ -76,7 +77,7 @@ opening_holds = record {
   accounts = λ q h. opening_account q h ∙ ap (λ v. holding (amount_of v)) (sym (opening_account q h));
   others = λ key none.
     opening_value key ∙ ap (λ (o : Option (Option Value)). unwrap_or o None) (opened_lacks account_numbers key (λ q there. none q (account_within q there)));
-  total = sum_stays (λ q. 1000) (balance (opening_table load_cluster)) account_numbers (λ q there. ap amount_of (opening_account q (account_within q there))) ∙ thousands;
+  together = sum_stays (λ q. 1000) (balance (opening_table load_cluster)) account_numbers (λ q there. ap amount_of (opening_account q (account_within q there))) ∙ thousands;
 }
 
 -- ---- and afterwards

@@ -1,6 +1,7 @@
 -- The sum that a report shows of a table that holds the accounts: it shows each account once, and nothing else that has a
 -- number.
-use Rattle.std.proofs.Common.{◌≡◌, ◌≢◌, ℕ, ◌+◌, ◌<◌, T, Bool, true, false, cond, ◌&&◌, ◌||◌, ℤ, pos, ◌+ℤ◌, is_some, List, [], ◌∷◌, ◌++◌, map, Option, Some, None, unwrap_or, refl, sym, ap, ◌∙◌, inl, inr, subst, arith}
+use Rattle.std.proofs.Common.{◌≡◌, ◌≢◌, ℕ, ◌+◌, ◌<◌, T, Bool, true, false, cond, ◌&&◌, ◌||◌, nat_lt, ℤ, pos, ◌+ℤ◌, is_some}
+use Rattle.std.proofs.Common.{List, [], ◌∷◌, ◌++◌, map, Option, Some, None, unwrap_or, refl, sym, ap, ◌∙◌, inl, inr, subst, arith}
 use Rattle.std.specs.List.{fold, list_any, sum_by}
 use Rattle.std.proofs.lemmas.List.Sums.{sum_by-cons}
 use Rattle.std.proofs.lemmas.List.Folds.{list_any-append}
@@ -18,9 +19,10 @@ use Rattle.dt_text.specs.declared.Value.{Value}
 use Rattle.dt_text.specs.declared.Value.TheVariants.{Int}
 use Rattle.dt_text.proofs.Callers.{either_bytes}
 use Rattle.dt_access.specs.Clash.{same_key}
+use Rattle.dt_access.specs.Granules.{unit_of}
 use Rattle.dt_access.proofs.Callers.{same_key_self}
 use Rattle.dt_table.specs.declared.Shown.{Shown}
-use Rattle.dt_table.specs.Table.{Table, is_shown, set_of_keys, shown, shown_at, value_of}
+use Rattle.dt_table.specs.Table.{Table, counter_of, is_shown, set_of_keys, shown, shown_at, value_of}
 use Rattle.dt_gen.specs.Load.{account, account_numbers}
 use Rattle.dt_gen.proofs.Callers.{accounts_apart, sum_by-image}
 use Rattle.dt_sum.specs.Balances.{HoldsAccounts, amount_of, balance, number_of_row, row_sum, total_of}
@@ -90,7 +92,7 @@ is_there None v e = absurd cc
 valued_shown : (t : Table) (key : Bytes) (v : Value) → value_of t key ≡ Some v → Has (shown_keys t) key
 valued_shown t key v e =
     let names = keys t.values ++ keys t.moves in
-    let test : is_shown t key ≡ true = ap (λ o. is_some o || _) e in
+    let test : is_shown t key ≡ true = ap (λ (o : Option Value). is_some o || (same_key (unit_of t.version key) key && nat_lt 0 (counter_of t key))) e in
     let among_values : among key (keys t.values) ≡ true = sym (contains_key-keys t.values key) ∙ is_there (get t.values key) v e in
     let among_names : among key names ≡ true = list_any-append (eq_by_cmp (slice_cmp nat_cmp) key) (keys t.values) (keys t.moves) ∙ ap (λ b. b || among key (keys t.moves)) among_values in
     has_of_test key (shown_keys t) (
@@ -134,7 +136,7 @@ module _ (total : ℕ) (t : Table) (holds : HoldsAccounts total t) where
       let distinct : Distinct (map account account_numbers) = each_image (λ (x y : Bytes). ¬ (x ≡ y)) account account_numbers accounts_apart in
       let same = same_sums (counted t) (shown_keys t) (map account account_numbers) (keys_distinct (retain_keys (set_of_keys (keys t.values ++ keys t.moves)) (is_shown t))) distinct all_shown nothing in
       let image : sum_by (counted t) (map account account_numbers) ≡ total_of t = sum_by-image (counted t) account account_numbers in
-      same ∙ image ∙ holds.total
+      same ∙ image ∙ holds.together
     where
       all_shown : (key : Bytes) → Has (map account account_numbers) key → Has (shown_keys t) key
       all_shown key h = at (any_get (λ q. account q ≡ key) account_numbers (any_of_image (λ y. y ≡ key) account account_numbers h))

@@ -28,7 +28,7 @@ total_of t = sum_by (balance t) account_numbers
 pub record HoldsAccounts (total : ℕ) (t : Table) : Type 0 where
   pub accounts : (q : ℕ) → q < 100 → value_of t (account q) ≡ Some (Int (pos (balance t q)))
   pub others : (key : Bytes) → ((q : ℕ) → q < 100 → ¬ (key ≡ account q)) → value_of t key ≡ None
-  pub total : total_of t ≡ total
+  pub together : total_of t ≡ total
 
 -- the number that a row has, which may be negative; 0 where it has none
 abbrev pub number_of_row : Option Value → ℤ

@@ -29,8 +29,21 @@ fn session_of(alloc: Global, calls: u32, session: usize) -> Result<Vec<u8>, Fail
 
 /// The numbers of a cluster in words, and how many procedures, homes and rows it has.
 fn numbers_of(alloc: Global, cluster: &Cluster) -> Result<Vec<u8>, NoMemory> {
-    let counts = format!(in alloc; "{} {} {}", cluster.procs.len(), cluster.homes.len(), cluster.rows.len())?;
-    let numbers = format!(in alloc; "{} {} {} {} {} {} ", cluster.version, cluster.regions, cluster.workers, cluster.tries, cluster.drop, cluster.repeat)?;
+    let counts = format!(in alloc;
+        "{} {} {}",
+        cluster.procs.len(),
+        cluster.homes.len(),
+        cluster.rows.len()
+    )?;
+    let numbers = format!(in alloc;
+        "{} {} {} {} {} {} ",
+        cluster.version,
+        cluster.regions,
+        cluster.workers,
+        cluster.tries,
+        cluster.drop,
+        cluster.repeat
+    )?;
     let mut out = Vec::new(alloc);
     out.extend_from_slice(numbers.as_bytes())?;
     out.extend_from_slice(counts.as_bytes())?;
@@ -48,56 +61,58 @@ fn row_of(alloc: Global, cluster: &Cluster, place: usize) -> Result<Vec<u8>, NoM
     Ok(out)
 }
 
+/// Sessions of loads: the number of calls of a load, the place of the session, and its words.
+const SESSIONS: [(u32, usize, &str); 13] = [
+    (1, 0, "s00@0 7 \"b/13\" \"c/8\" 14,;"),
+    (1, 1, "s01@0;"),
+    (1, 63, "s63@3;"),
+    (1, 64, ""),
+    (
+        128,
+        0,
+        "s00@0 7 \"b/13\" \"c/8\" 14, 7 \"b/19\" \"d/14\" 14,;",
+    ),
+    (
+        129,
+        0,
+        "s00@0 7 \"b/13\" \"c/8\" 14, 7 \"b/19\" \"d/14\" 14, 7 \"a/8\" \"b/14\" 36,;",
+    ),
+    (
+        129,
+        1,
+        "s01@0 7 \"a/15\" \"c/1\" 28, 7 \"a/11\" \"c/11\" 27,;",
+    ),
+    (
+        200,
+        7,
+        "s07@0 7 \"d/3\" \"d/20\" 12, 7 \"a/22\" \"c/2\" 25, 7 \"a/9\" \"d/0\" 6, c/15>1,;",
+    ),
+    (
+        200,
+        8,
+        "s08@0 7 \"c/17\" \"c/4\" 32, 7 \"d/19\" \"a/15\" 48, 7 \"d/0\" \"d/13\" 4,;",
+    ),
+    (
+        200,
+        35,
+        "s35@2 7 \"a/15\" \"d/11\" 4, d/20>2, 7 \"a/2\" \"a/2\" 13,;",
+    ),
+    (49, 48, "s48@3 7 \"a/14\" \"c/21\" 27,;"),
+    (
+        200,
+        49,
+        "s49@3 d/22>3, 7 \"a/20\" \"a/17\" 15, 7 \"d/17\" \"b/21\" 13,;",
+    ),
+    (
+        200,
+        63,
+        "s63@3 7 \"d/3\" \"c/13\" 36, 7 \"a/15\" \"b/20\" 43, 7 \"b/22\" \"a/17\" 16,;",
+    ),
+];
+
 #[test]
 fn each_session_of_a_load_has_its_calls(rt: HostRuntime) -> Result<(), Fail> {
-    let rows: [(u32, usize, &str); 13] = [
-        (1, 0, "s00@0 7 \"b/13\" \"c/8\" 14,;"),
-        (1, 1, "s01@0;"),
-        (1, 63, "s63@3;"),
-        (1, 64, ""),
-        (
-            128,
-            0,
-            "s00@0 7 \"b/13\" \"c/8\" 14, 7 \"b/19\" \"d/14\" 14,;",
-        ),
-        (
-            129,
-            0,
-            "s00@0 7 \"b/13\" \"c/8\" 14, 7 \"b/19\" \"d/14\" 14, 7 \"a/8\" \"b/14\" 36,;",
-        ),
-        (
-            129,
-            1,
-            "s01@0 7 \"a/15\" \"c/1\" 28, 7 \"a/11\" \"c/11\" 27,;",
-        ),
-        (
-            200,
-            7,
-            "s07@0 7 \"d/3\" \"d/20\" 12, 7 \"a/22\" \"c/2\" 25, 7 \"a/9\" \"d/0\" 6, c/15>1,;",
-        ),
-        (
-            200,
-            8,
-            "s08@0 7 \"c/17\" \"c/4\" 32, 7 \"d/19\" \"a/15\" 48, 7 \"d/0\" \"d/13\" 4,;",
-        ),
-        (
-            200,
-            35,
-            "s35@2 7 \"a/15\" \"d/11\" 4, d/20>2, 7 \"a/2\" \"a/2\" 13,;",
-        ),
-        (49, 48, "s48@3 7 \"a/14\" \"c/21\" 27,;"),
-        (
-            200,
-            49,
-            "s49@3 d/22>3, 7 \"a/20\" \"a/17\" 15, 7 \"d/17\" \"b/21\" 13,;",
-        ),
-        (
-            200,
-            63,
-            "s63@3 7 \"d/3\" \"c/13\" 36, 7 \"a/15\" \"b/20\" 43, 7 \"b/22\" \"a/17\" 16,;",
-        ),
-    ];
-    for (calls, session, words) in rows {
+    for (calls, session, words) in SESSIONS {
         assert_eq!(rt;
             session_of(rt.alloc(), calls, session)?.as_slice(),
             words.as_bytes()
@@ -122,10 +137,7 @@ fn a_load_has_accounts_in_four_regions(rt: HostRuntime) -> Result<(), Fail> {
         b"1 4 4 3 5 7 8 0 100"
     );
     for (place, words) in rows {
-        assert_eq!(rt;
-            row_of(rt.alloc(), &cluster, place)?.as_slice(),
-            words
-        );
+        assert_eq!(rt; row_of(rt.alloc(), &cluster, place)?.as_slice(), words);
     }
     Ok(())
 }
