@@ -1,7 +1,5 @@
 -- How writes change what the accounts have, where a table holds them: each write gives one account a number.
-use Rattle.std.proofs.Common.{◌≡◌, ◌≢◌, ℕ, ◌+◌, ◌-◌, ◌<◌, ◌≤◌, Bool, true, false, cond, List, [], ◌∷◌, Option, Some, None, unwrap_or, pos, refl, sym, ap, ◌∙◌, subst, arith}
-use Rattle.std.specs.List.{sum_by}
-use Rattle.std.specs.Cmp.Lexicographic.{bytes_decides}
+use Rattle.std.proofs.Common.{◌≡◌, ◌≢◌, ℕ, ◌+◌, ◌-◌, ◌<◌, ◌≤◌, Bool, true, false, cond, Option, Some, None, unwrap_or, pos, refl, sym, ap, ◌∙◌, arith}
 use Rattle.std.specs.FinMap.{get}
 use Rattle.dt_lists.specs.Lists.{Distinct, Has}
 use Rattle.dt_lists.proofs.Callers.{each_map}
@@ -14,7 +12,7 @@ use Rattle.dt_table.specs.Table.{Table, value_of, written}
 use Rattle.dt_table.proofs.Callers.{get-put}
 use Rattle.dt_gen.specs.Load.{account, account_numbers}
 use Rattle.dt_gen.proofs.Callers.{account_apart, accounts_apart}
-use Rattle.dt_sum.specs.Balances.{HoldsAccounts, amount_of, balance, total_of}
+use Rattle.dt_sum.specs.Balances.{HoldsAccounts, amount_of, balance}
 use Rattle.dt_sum.proofs.Totals.{row_has, row_within, sum_changes, within_sum}
 
 -- a row that has a number, which is not negative
@@ -57,9 +55,9 @@ holds_after total after t q now h holds counted = record {
   accounts = λ p hp. by p hp (same_key (account p) (account q)) refl;
   others = λ key none. written_apart t (account q) (holding now) key (none q h) ∙ holds.others key none;
   together =
-    let changed = sum_changes (balance t) (balance (written t (account q) (holding now))) account_numbers q accounts_once (account_in q h) (λ p other. ap amount_of (apart p other)) in
-    let is : balance (written t (account q) (holding now)) q ≡ now = ap amount_of (written_here t (account q) (holding now)) in
-    omega (arith, changed, is, counted, holds.together);
+      let changed = sum_changes (balance t) (balance (written t (account q) (holding now))) account_numbers q accounts_once (account_in q h) (λ p other. ap amount_of (apart p other)) in
+      let is : balance (written t (account q) (holding now)) q ≡ now = ap amount_of (written_here t (account q) (holding now)) in
+      omega (arith, changed, is, counted, holds.together);
 }
   where
     apart : (p : ℕ) → p ≢ q → value_of (written t (account q) (holding now)) (account p) ≡ value_of t (account p)

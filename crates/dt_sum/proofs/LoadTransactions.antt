@@ -1,16 +1,14 @@
 -- Transactions of the load keep what the accounts have together: a transfer by cases, whether its source has enough and which of
 -- the two keys is less, or that they are one; a move, since it writes nothing; and any that is stale.
-use Rattle.std.proofs.Common.{◌≡◌, ◌≢◌, ℕ, ◌+◌, ◌-◌, ◌*◌, ◌%◌, ◌<◌, ◌≤◌, ◌^◌, ◌==◌, ◌⊎◌, Bool, true, false, cond}
-use Rattle.std.proofs.Common.{List, [], ◌∷◌, map, Option, Some, None, pos, refl, sym, ap, ap₂, ◌∙◌, inl, inr, subst, arith}
+use Rattle.std.proofs.Common.{◌≡◌, ℕ, ◌+◌, ◌-◌, ◌%◌, ◌<◌, ◌≤◌, ◌==◌, Bool, true, false, cond}
+use Rattle.std.proofs.Common.{List, [], ◌∷◌, map, Option, Some, None, refl, sym, ap, ap₂, ◌∙◌, inl, inr, subst, arith}
 use Rattle.std.specs.Ordering.{nat_cmp}
 use Rattle.std.specs.Cmp.Lexicographic.{slice_cmp, bytes_decides}
 use Rattle.std.specs.declared.cmp.Ordering.{Ordering}
 use Rattle.std.specs.declared.cmp.Ordering.TheVariants.{Less, Equal, Greater}
 use Rattle.std.proofs.lemmas.Bool.{cases_lt}
-use Rattle.dt_lists.specs.Lists.{AllIn}
 use Rattle.dt_text.specs.Texts.{Bytes}
 use Rattle.dt_text.specs.declared.Value.{Value}
-use Rattle.dt_text.specs.declared.Value.TheVariants.{Int}
 use Rattle.dt_access.specs.Clash.{same_key}
 use Rattle.dt_access.specs.declared.Access.{Access}
 use Rattle.dt_access.specs.declared.Mode.{Mode}
@@ -19,20 +17,16 @@ use Rattle.dt_access.proofs.Callers.{key_before_flip, same_key_after, same_key_b
 use Rattle.dt_proc.specs.Builtin.{builtin_procs, xfer}
 use Rattle.dt_eval.specs.declared.Finish.{Finish}
 use Rattle.dt_eval.specs.Meaning.{keys_of, meaning}
-use Rattle.dt_table.specs.declared.Effect.{Effect}
 use Rattle.dt_table.specs.Table.{Table, apply, value_of}
 use Rattle.dt_txn.specs.declared.txn.Body.{Body}
-use Rattle.dt_txn.specs.declared.txn.Body.TheVariants.{Call, Move}
 use Rattle.dt_txn.specs.declared.Txn.{Txn}
 use Rattle.dt_txn.specs.declared.Outcome.{Outcome}
 use Rattle.dt_txn.specs.Execution.{of_finish, reads_of, result_of, see, seen_of, stale_of, unless_stale}
 use Rattle.dt_txn.specs.Transaction.{used_of, uses_of}
-use Rattle.dt_txn.specs.Serial.{after, table_after}
+use Rattle.dt_txn.specs.Serial.{after}
 use Rattle.dt_session.specs.Step.{body_of}
-use Rattle.dt_gen.specs.Draws.{drawn}
 use Rattle.dt_workload.specs.declared.workload.Wanted.TheVariants as wanted
-use Rattle.dt_gen.specs.Load.{account, load_call, transfer_call, wanted_by}
-use Rattle.dt_gen.proofs.Callers.{account_apart}
+use Rattle.dt_gen.specs.Load.{account, transfer_call, wanted_by}
 use Rattle.dt_sum.specs.Balances.{HoldsAccounts, balance}
 use Rattle.dt_sum.specs.Laws.{IsOfLoad, LoadKeepsTotal}
 use Rattle.dt_sum.proofs.Holding.{holding, holds_after, holds_after_two, within_total}

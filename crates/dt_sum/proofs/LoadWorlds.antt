@@ -1,7 +1,7 @@
 -- Each region holds the accounts at each moment of a run of the load: it does so at first, and what it executed since then are
 -- transactions of the load.
-use Rattle.std.proofs.Common.{◌≡◌, ◌≢◌, ℕ, zero, suc, ◌+◌, ◌%◌, ◌==◌, ◌<◌, ◌≤◌, Bool, true, false, cond, List, []}
-use Rattle.std.proofs.Common.{◌∷◌, map, slice_get, Option, Some, None, unwrap_or, pos, refl, sym, ap, ◌∙◌, inl, inr, subst, arith}
+use Rattle.std.proofs.Common.{◌≡◌, ℕ, zero, suc, ◌%◌, ◌==◌, ◌<◌, Bool, true, false, cond, List, []}
+use Rattle.std.proofs.Common.{◌∷◌, map, slice_get, Option, Some, None, unwrap_or, refl, sym, ap, ◌∙◌, inl, inr, subst}
 use Rattle.std.specs.List.{cons_option, filter, range_with_len, sum_by}
 use Rattle.std.specs.Ordering.{nat_cmp, eq_by_cmp}
 use Rattle.std.specs.Cmp.Lexicographic.{slice_cmp, nat_list_cmp_total, texts_ties, bytes_decides}
@@ -11,24 +11,20 @@ use Rattle.dt_lists.specs.Lists.{AllIn, AnyIn, Has}
 use Rattle.dt_lists.proofs.Callers.{all_get, any_get, any_of_image}
 use Rattle.dt_text.specs.Texts.{Bytes}
 use Rattle.dt_text.specs.declared.Value.{Value}
-use Rattle.dt_text.specs.declared.Value.TheVariants.{Int}
 use Rattle.dt_access.specs.declared.TxnId.{TxnId}
 use Rattle.dt_access.specs.Clash.{same_key}
-use Rattle.dt_events.specs.declared.Event.{Event}
-use Rattle.dt_table.specs.Table.{Table, value_of}
+use Rattle.dt_table.specs.Table.{value_of}
 use Rattle.dt_txn.specs.declared.Txn.{Txn}
-use Rattle.dt_txn.specs.Transaction.{IsValid}
 use Rattle.dt_txn.specs.Replica.{done_ids}
 use Rattle.dt_workload.specs.declared.Ranked.{Ranked}
-use Rattle.dt_workload.specs.declared.Session.{Session}
 use Rattle.dt_session.specs.World.{Submission, World, node_at, opening_table, submissions, txn_of}
 use Rattle.dt_session.specs.Step.{body_of}
-use Rattle.dt_session.specs.Run.{AreLegal, order_of, txns_of, world_after}
-use Rattle.dt_agreement.specs.Invariant.{Inv, IsOfCall, IsSubmissionOf}
+use Rattle.dt_session.specs.Run.{order_of, txns_of, world_after}
+use Rattle.dt_agreement.specs.Invariant.{Inv, IsSubmissionOf}
 use Rattle.dt_agreement.proofs.Callers.{home_region, legal_keeps, transaction_valid, txn_there}
-use Rattle.dt_gen.specs.Load.{account, account_numbers, account_row, load_call, load_calls, load_cluster, load_session, load_workload, session_numbers}
-use Rattle.dt_gen.proofs.Callers.{account_apart, load_cluster_valid, load_workload_valid}
-use Rattle.dt_sum.specs.Balances.{HoldsAccounts, amount_of, balance, total_of}
+use Rattle.dt_gen.specs.Load.{account, account_numbers, account_row, load_call, load_cluster, load_session, load_workload, session_numbers}
+use Rattle.dt_gen.proofs.Callers.{load_cluster_valid, load_workload_valid}
+use Rattle.dt_sum.specs.Balances.{HoldsAccounts, amount_of, balance}
 use Rattle.dt_sum.specs.Laws.{EachRegionHoldsAccounts, IsOfLoad}
 use Rattle.dt_sum.proofs.Holding.{account_in, account_within, holding}
 use Rattle.dt_sum.proofs.LoadTransactions.{loads_keep}
@@ -76,7 +72,7 @@ pub opening_holds : HoldsAccounts 100000 (opening_table load_cluster)
 opening_holds = record {
   accounts = λ q h. opening_account q h ∙ ap (λ v. holding (amount_of v)) (sym (opening_account q h));
   others = λ key none.
-    opening_value key ∙ ap (λ (o : Option (Option Value)). unwrap_or o None) (opened_lacks account_numbers key (λ q there. none q (account_within q there)));
+      opening_value key ∙ ap (λ (o : Option (Option Value)). unwrap_or o None) (opened_lacks account_numbers key (λ q there. none q (account_within q there)));
   together = sum_stays (λ q. 1000) (balance (opening_table load_cluster)) account_numbers (λ q there. ap amount_of (opening_account q (account_within q there))) ∙ thousands;
 }
 

@@ -1,18 +1,16 @@
 -- The sum that a report shows of a table that holds the accounts: it shows each account once, and nothing else that has a
 -- number.
-use Rattle.std.proofs.Common.{◌≡◌, ◌≢◌, ℕ, ◌+◌, ◌<◌, T, Bool, true, false, cond, ◌&&◌, ◌||◌, nat_lt, ℤ, pos, ◌+ℤ◌, is_some}
+use Rattle.std.proofs.Common.{◌≡◌, ℕ, ◌+◌, T, Bool, true, false, cond, ◌&&◌, ◌||◌, nat_lt, pos, ◌+ℤ◌, is_some}
 use Rattle.std.proofs.Common.{List, [], ◌∷◌, ◌++◌, map, Option, Some, None, unwrap_or, refl, sym, ap, ◌∙◌, inl, inr, subst, arith}
 use Rattle.std.specs.List.{fold, list_any, sum_by}
 use Rattle.std.proofs.lemmas.List.Sums.{sum_by-cons}
 use Rattle.std.proofs.lemmas.List.Folds.{list_any-append}
 use Rattle.std.specs.Ordering.{nat_cmp, is_eq, is_lt, eq_by_cmp}
-use Rattle.std.specs.declared.cmp.Ordering.{Ordering}
-use Rattle.std.specs.declared.cmp.Ordering.TheVariants.{Less, Equal}
 use Rattle.std.specs.Cmp.{tied_itself}
 use Rattle.std.specs.Cmp.Lexicographic.{slice_cmp, nat_list_cmp_total, texts_ties, bytes_decides}
 use Rattle.std.specs.FinMap.{FinMap, contains_key-keys, entries, entries_sorted, get, get-from_entries, get-retain_keys, is_sorted, keys, retain_keys}
 use Rattle.std.specs.FinMap.Entries.{below_all, is_some-find}
-use Rattle.dt_lists.specs.Lists.{AllIn, AnyIn, Distinct, Either, Has}
+use Rattle.dt_lists.specs.Lists.{AllIn, Distinct, Has}
 use Rattle.dt_lists.proofs.Callers.{any_get, any_of_image, any_put, any_image, each_image, either_any}
 use Rattle.dt_text.specs.Texts.{Bytes}
 use Rattle.dt_text.specs.declared.Value.{Value}
@@ -20,12 +18,11 @@ use Rattle.dt_text.specs.declared.Value.TheVariants.{Int}
 use Rattle.dt_text.proofs.Callers.{either_bytes}
 use Rattle.dt_access.specs.Clash.{same_key}
 use Rattle.dt_access.specs.Granules.{unit_of}
-use Rattle.dt_access.proofs.Callers.{same_key_self}
 use Rattle.dt_table.specs.declared.Shown.{Shown}
-use Rattle.dt_table.specs.Table.{Table, counter_of, is_shown, set_of_keys, shown, shown_at, value_of}
+use Rattle.dt_table.specs.Table.{Table, counter_of, is_shown, set_of_keys, shown_at, value_of}
 use Rattle.dt_gen.specs.Load.{account, account_numbers}
 use Rattle.dt_gen.proofs.Callers.{accounts_apart, sum_by-image}
-use Rattle.dt_sum.specs.Balances.{HoldsAccounts, amount_of, balance, number_of_row, row_sum, total_of}
+use Rattle.dt_sum.specs.Balances.{HoldsAccounts, amount_of, balance, number_of_row, total_of}
 use Rattle.dt_sum.specs.Laws.{ShownSumIsTotal}
 use Rattle.dt_sum.proofs.Holding.{account_in, account_within}
 use Rattle.dt_sum.proofs.Totals.{same_sums}
@@ -96,10 +93,10 @@ valued_shown t key v e =
     let among_values : among key (keys t.values) ≡ true = sym (contains_key-keys t.values key) ∙ is_there (get t.values key) v e in
     let among_names : among key names ≡ true = list_any-append (eq_by_cmp (slice_cmp nat_cmp) key) (keys t.values) (keys t.moves) ∙ ap (λ b. b || among key (keys t.moves)) among_values in
     has_of_test key (shown_keys t) (
-      sym (contains_key-keys (retain_keys (set_of_keys names) (is_shown t)) key)
-      ∙ ap is_some (get-retain_keys (set_of_keys names) (is_shown t) key (λ x tied. ap (is_shown t) (sym ((bytes_decides key x).0 (texts_ties key x ∙ ap is_eq tied)))))
-      ∙ ap (λ b. is_some (cond b (get (set_of_keys names) key) None)) test
-      ∙ in_set names key among_names
+    sym (contains_key-keys (retain_keys (set_of_keys names) (is_shown t)) key)
+    ∙ ap is_some (get-retain_keys (set_of_keys names) (is_shown t) key (λ x tied. ap (is_shown t) (sym ((bytes_decides key x).0 (texts_ties key x ∙ ap is_eq tied)))))
+    ∙ ap (λ b. is_some (cond b (get (set_of_keys names) key) None)) test
+    ∙ in_set names key among_names
     )
 
 -- what the row of a key counts

@@ -1,9 +1,9 @@
 -- How sums over accounts change where one of them changes, and that two lists with the same items have one sum.
-use Rattle.std.proofs.Common.{◌≡◌, ◌≢◌, ℕ, zero, suc, ◌+◌, ◌<◌, ◌≤◌, List, [], ◌∷◌, refl, sym, ap, ◌∙◌, inl, inr, subst, arith}
+use Rattle.std.proofs.Common.{◌≡◌, ◌≢◌, ℕ, zero, suc, ◌+◌, ◌<◌, ◌≤◌, List, [], ◌∷◌, refl, sym, ap, ◌∙◌, inl, inr, arith}
 use Rattle.std.specs.List.{range_with_len, sum_by}
 use Rattle.std.proofs.lemmas.List.Sums.{sum_by-cons}
 use Rattle.std.proofs.lemmas.Bool.{cases_lt}
-use Rattle.dt_lists.specs.Lists.{AllIn, Distinct, Has}
+use Rattle.dt_lists.specs.Lists.{Distinct, Has}
 use Rattle.dt_lists.proofs.Callers.{all_get, all_put}
 
 -- a sum of things of which none has changed
@@ -84,6 +84,6 @@ same_sums f xs [] once_xs once_ys all nothing = none xs (λ x h. nothing x h (λ
 same_sums f xs (y ∷ ys) once_xs once_ys all nothing =
     let w = without_item f xs y once_xs (all y (inl refl)) in
     let rest = same_sums f w.rest ys w.once once_ys.1
-      (λ z h. w.others z (all z (inr h)) (λ is. all_get _ ys once_ys.0 z h (sym is)))
-      (λ x h gone. nothing x (w.within x h).0 (λ k. elim k [ inl is ↦ (w.within x h).1 (sym is) | inr later ↦ gone later ])) in
+    (λ z h. w.others z (all z (inr h)) (λ is. all_get _ ys once_ys.0 z h (sym is)))
+    (λ x h gone. nothing x (w.within x h).0 (λ k. elim k [ inl is ↦ (w.within x h).1 (sym is) | inr later ↦ gone later ])) in
     omega (arith, w.sum, rest, sum_by-cons f y ys)

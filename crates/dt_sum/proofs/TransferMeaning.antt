@@ -1,7 +1,6 @@
 -- What a transfer comes to between two accounts: the source has the amount less and the target has it more, or it aborts.
-use Rattle.std.proofs.Common.{◌≡◌, ℕ, zero, suc, ◌+◌, ◌-◌, ◌<◌, ◌≤◌, ◌^◌, Bool, true, false, cond, List, [], ◌∷◌, map, refl, sym, ap, ◌∙◌, subst, arith, append-nil}
-use Rattle.std.proofs.Common.{Option, Some, None, Result, Ok, Err, ℤ, pos, ◌-ℤ◌, codes, nat_lt, ltb}
-use Rattle.std.proofs.lemmas.Bool.Decides.{nat_tests}
+use Rattle.std.proofs.Common.{◌≡◌, ℕ, ◌+◌, ◌-◌, ◌<◌, ◌≤◌, ◌^◌, true, false, List, [], ◌∷◌, arith, append-nil}
+use Rattle.std.proofs.Common.{Option, Some, pos, ◌-ℤ◌, codes, ltb}
 use Rattle.std.proofs.lemmas.Bool.{lt-ltb, le-ltb}
 use Rattle.std.proofs.lemmas.Int.{ints}
 use Rattle.dt_text.specs.Texts.{Bytes}
@@ -14,13 +13,9 @@ use Rattle.dt_access.specs.Clash.{same_key}
 use Rattle.dt_access.specs.declared.Mode.{Mode}
 use Rattle.dt_access.specs.declared.Mode.TheVariants.{Write}
 use Rattle.dt_access.proofs.Callers.{same_key_self}
-use Rattle.dt_proc.specs.Builtin.{xfer, transfer}
-use Rattle.dt_eval.specs.declared.finish.Cause.{Cause}
+use Rattle.dt_proc.specs.Builtin.{xfer}
 use Rattle.dt_eval.specs.declared.finish.Cause.TheVariants as cause
-use Rattle.dt_eval.specs.declared.finish.Finish.{Finish}
 use Rattle.dt_eval.specs.declared.finish.Finish.TheVariants as finish
-use Rattle.dt_eval.specs.Data.{RunState, datum_of, value_in, with_value}
-use Rattle.dt_eval.specs.Statements.{after_block}
 use Rattle.dt_eval.specs.Keys.{keys_of}
 use Rattle.dt_eval.specs.Meaning.{meaning}
 

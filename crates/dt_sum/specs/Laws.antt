@@ -8,7 +8,7 @@ use Rattle.dt_table.specs.Table.{Table, shown}
 use Rattle.dt_txn.specs.declared.Txn.{Txn}
 use Rattle.dt_txn.specs.Transaction.{IsValid}
 use Rattle.dt_txn.specs.Serial.{table_after}
-use Rattle.dt_session.specs.World.{node_at, opening_table}
+use Rattle.dt_session.specs.World.{node_at}
 use Rattle.dt_session.specs.Step.{body_of}
 use Rattle.dt_session.specs.Run.{AreLegal, world_after}
 use Rattle.dt_gen.specs.Load.{load_call, load_cluster, load_workload}
