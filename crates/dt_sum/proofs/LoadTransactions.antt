@@ -7,6 +7,7 @@ use Rattle.std.specs.Cmp.Lexicographic.{slice_cmp, bytes_decides}
 use Rattle.std.specs.declared.cmp.Ordering.{Ordering}
 use Rattle.std.specs.declared.cmp.Ordering.TheVariants.{Less, Equal, Greater}
 use Rattle.std.proofs.lemmas.Bool.{cases_lt}
+use Rattle.dt_lists.specs.Lists.{AllIn}
 use Rattle.dt_text.specs.Texts.{Bytes}
 use Rattle.dt_text.specs.declared.Value.{Value}
 use Rattle.dt_access.specs.Clash.{same_key}
@@ -17,18 +18,20 @@ use Rattle.dt_access.proofs.Callers.{key_before_flip, same_key_after, same_key_b
 use Rattle.dt_proc.specs.Builtin.{builtin_procs, xfer}
 use Rattle.dt_eval.specs.declared.Finish.{Finish}
 use Rattle.dt_eval.specs.Meaning.{keys_of, meaning}
+use Rattle.dt_table.specs.declared.Effect.{Effect}
 use Rattle.dt_table.specs.Table.{Table, apply, value_of}
 use Rattle.dt_txn.specs.declared.txn.Body.{Body}
 use Rattle.dt_txn.specs.declared.Txn.{Txn}
 use Rattle.dt_txn.specs.declared.Outcome.{Outcome}
-use Rattle.dt_txn.specs.Execution.{of_finish, reads_of, result_of, see, seen_of, stale_of, unless_stale}
+use Rattle.dt_txn.specs.declared.outcome.Seen.{Seen}
+use Rattle.dt_txn.specs.Execution.{of_finish, one, reads_of, result_of, see, seen_of, stale_at, stale_of, unless_stale}
 use Rattle.dt_txn.specs.Transaction.{used_of, uses_of}
-use Rattle.dt_txn.specs.Serial.{after}
+use Rattle.dt_txn.specs.Serial.{after, outcomes}
 use Rattle.dt_session.specs.Step.{body_of}
 use Rattle.dt_workload.specs.declared.workload.Wanted.TheVariants as wanted
 use Rattle.dt_gen.specs.Load.{account, transfer_call, wanted_by}
 use Rattle.dt_sum.specs.Balances.{HoldsAccounts, balance}
-use Rattle.dt_sum.specs.Laws.{IsOfLoad, LoadKeepsTotal}
+use Rattle.dt_sum.specs.Laws.{IsLoadOutcome, IsOfLoad, LoadKeepsTotal}
 use Rattle.dt_sum.proofs.Holding.{holding, holds_after, holds_after_two, within_total}
 use Rattle.dt_sum.proofs.TransferMeaning as transfer
 
@@ -37,17 +40,17 @@ reads_at : (t : Table) (access : List Access) → reads_of access (map (seen_of 
 reads_at t [] = refl
 reads_at t (a ∷ access) = ap (λ (reads : List (Bytes × Option Value)). (a.key, value_of t a.key) ∷ reads) (reads_at t access)
 
--- the table after a call that ended so
-abbrev ended : Table → Finish → Table
-ended t finish = apply (of_finish finish).1 t
+-- an outcome and an effect on a table, after which the accounts have together what they had
+abbrev GoesWell : Table → Outcome × Effect → Type 0
+GoesWell t result = IsLoadOutcome result.0 × HoldsAccounts 100000 (apply result.1 t)
 
 -- the values of rows in a table
 abbrev read_in : Table → List (Bytes × Mode) → List (Bytes × Option Value)
 read_in t uses = map (λ u. (u.0, value_of t u.0)) uses
 
--- a table after a call whose end is known
-ended_by : (t : Table) (f g : Finish) → f ≡ g → HoldsAccounts 100000 (ended t g) → HoldsAccounts 100000 (ended t f)
-ended_by t f g e holds = subst (λ (h : Finish). HoldsAccounts 100000 (ended t h)) (sym e) holds
+-- a call whose end is known
+ended_by : (t : Table) (f g : Finish) → f ≡ g → GoesWell t (of_finish g) → GoesWell t (of_finish f)
+ended_by t f g e well = subst (λ (h : Finish). GoesWell t (of_finish h)) (sym e) well
 
 -- how a transfer ends on one row, or on two
 abbrev on_one : Bytes → ℕ → Option Value → Finish
@@ -62,56 +65,56 @@ target_read_first source target amount had held = meaning xfer (transfer.transfe
 -- a transfer between accounts
 module _ (t : Table) (p q amount : ℕ) (hp : p < 100) (hq : q < 100) (few : amount ≤ 50) (holds : HoldsAccounts 100000 t) where
   -- where both are one, the row is written as it was
-  to_itself : HoldsAccounts 100000 (ended t (on_one (account p) amount (value_of t (account p))))
+  to_itself : GoesWell t (of_finish (on_one (account p) amount (value_of t (account p))))
   to_itself =
       ended_by t _ (on_one (account p) amount (holding (balance t p))) (ap (on_one (account p) amount) (holds.accounts p hp))
       (elim (cases_lt (balance t p) amount) [
-        | inl less ↦ ended_by t _ _ (transfer.refused_alone (account p) amount (balance t p) less) holds
+        | inl less ↦ ended_by t _ _ (transfer.refused_alone (account p) amount (balance t p) less) (refl, holds)
         | inr enough ↦
             let within = within_total 100000 t p hp holds in
-            ended_by t _ _ (transfer.done_alone (account p) amount (balance t p) enough (omega arith)) (holds_after 100000 100000 t p (balance t p) hp holds refl)
+            ended_by t _ _ (transfer.done_alone (account p) amount (balance t p) enough (omega arith)) (tt, holds_after 100000 100000 t p (balance t p) hp holds refl)
       ])
 
   module _ (apart : ¬ (account q ≡ account p)) (there : same_key (account p) (account q) ≡ false) (back : same_key (account q) (account p) ≡ false) where
     -- where the source has the lesser key
-    source_first : HoldsAccounts 100000 (ended t (source_read_first (account p) (account q) amount (value_of t (account p)) (value_of t (account q))))
+    source_first : GoesWell t (of_finish (source_read_first (account p) (account q) amount (value_of t (account p)) (value_of t (account q))))
     source_first =
         ended_by t _ (source_read_first (account p) (account q) amount (holding (balance t p)) (holding (balance t q)))
         (ap₂ (source_read_first (account p) (account q) amount) (holds.accounts p hp) (holds.accounts q hq))
         (elim (cases_lt (balance t p) amount) [
-          | inl less ↦ ended_by t _ _ (transfer.refused_first (account p) (account q) amount (balance t p) (holding (balance t q)) less) holds
+          | inl less ↦ ended_by t _ _ (transfer.refused_first (account p) (account q) amount (balance t p) (holding (balance t q)) less) (refl, holds)
           | inr enough ↦
               let within = within_total 100000 t p hp holds in
               let others = within_total 100000 t q hq holds in
               ended_by t _ _ (transfer.done_first (account p) (account q) amount (balance t p) (balance t q) there back enough (omega arith) (omega arith))
-              (holds_after_two 100000 100000 t p q (balance t p - amount) (balance t q + amount) hp hq apart holds (omega arith))
+              (tt, holds_after_two 100000 100000 t p q (balance t p - amount) (balance t q + amount) hp hq apart holds (omega arith))
         ])
 
     -- where the target has it
-    target_first : HoldsAccounts 100000 (ended t (target_read_first (account p) (account q) amount (value_of t (account p)) (value_of t (account q))))
+    target_first : GoesWell t (of_finish (target_read_first (account p) (account q) amount (value_of t (account p)) (value_of t (account q))))
     target_first =
         ended_by t _ (target_read_first (account p) (account q) amount (holding (balance t p)) (holding (balance t q)))
         (ap₂ (target_read_first (account p) (account q) amount) (holds.accounts p hp) (holds.accounts q hq))
         (elim (cases_lt (balance t p) amount) [
-          | inl less ↦ ended_by t _ _ (transfer.refused_second (account p) (account q) amount (balance t p) (holding (balance t q)) there less) holds
+          | inl less ↦ ended_by t _ _ (transfer.refused_second (account p) (account q) amount (balance t p) (holding (balance t q)) there less) (refl, holds)
           | inr enough ↦
               let within = within_total 100000 t p hp holds in
               let others = within_total 100000 t q hq holds in
               ended_by t _ _ (transfer.done_second (account p) (account q) amount (balance t p) (balance t q) there back enough (omega arith) (omega arith))
-              (holds_after_two 100000 100000 t q p (balance t q + amount) (balance t p - amount) hq hp (λ is. apart (sym is)) holds (omega arith))
+              (tt, holds_after_two 100000 100000 t q p (balance t q + amount) (balance t p - amount) hq hp (λ is. apart (sym is)) holds (omega arith))
         ])
 
   -- a transfer, which reads the rows of these uses
   abbrev transferred : List (Bytes × Mode) → Finish
   transferred uses = meaning xfer (transfer.transfer_args (account p) (account q) amount) (read_in t uses)
 
-  transfer_holds : HoldsAccounts 100000 (ended t (transferred (keys_of xfer (transfer.transfer_args (account p) (account q) amount))))
-  transfer_holds = by (slice_cmp nat_cmp (account q) (account p)) refl
+  transfer_goes_well : GoesWell t (of_finish (transferred (keys_of xfer (transfer.transfer_args (account p) (account q) amount))))
+  transfer_goes_well = by (slice_cmp nat_cmp (account q) (account p)) refl
     where
       differ : same_key (account q) (account p) ≡ false → ¬ (account q ≡ account p)
       differ unequal is = let yes : same_key (account q) (account p) ≡ true = (bytes_decides (account q) (account p)).1 is in cc
 
-      by : (o : Ordering) → slice_cmp nat_cmp (account q) (account p) ≡ o → HoldsAccounts 100000 (ended t (transferred (keys_of xfer (transfer.transfer_args (account p) (account q) amount))))
+      by : (o : Ordering) → slice_cmp nat_cmp (account q) (account p) ≡ o → GoesWell t (of_finish (transferred (keys_of xfer (transfer.transfer_args (account p) (account q) amount))))
       by Equal e =
           let same : account q ≡ account p = (bytes_decides (account q) (account p)).0 (same_key_equal (account q) (account p) e) in
           ended_by t _ _ (ap transferred (transfer.uses_same (account p) (account q) amount e))
@@ -129,30 +132,48 @@ abbrev body_by : Bool → ℕ → ℕ → ℕ → Body
 body_by is_move u v w = body_of (cond is_move (wanted.Move (account (u % 100)) (v % 4)) (transfer_call (u % 100) (v % 100) (w % 50 + 1)))
 
 -- what a body of the load comes to, where it is not stale
-body_holds : (i u v w version : ℕ) (id : TxnId) (t : Table) → HoldsAccounts 100000 t
-    → HoldsAccounts 100000 (apply (result_of builtin_procs id (body_of (wanted_by i u v w)) (read_in t (uses_of builtin_procs version (body_of (wanted_by i u v w))))).1 t)
-body_holds i u v w version id t holds = by (i % 50 == 49)
+body_goes_well : (i u v w version : ℕ) (id : TxnId) (t : Table) → HoldsAccounts 100000 t
+    → GoesWell t (result_of builtin_procs id (body_of (wanted_by i u v w)) (read_in t (uses_of builtin_procs version (body_of (wanted_by i u v w)))))
+body_goes_well i u v w version id t holds = by (i % 50 == 49)
   where
-    by : (b : Bool) → HoldsAccounts 100000 (apply (result_of builtin_procs id (body_by b u v w) (read_in t (uses_of builtin_procs version (body_by b u v w)))).1 t)
-    by true = record { accounts = holds.accounts; others = holds.others; together = holds.together }
-    by false = transfer_holds t (u % 100) (v % 100) (w % 50 + 1) (omega arith) (omega arith) (omega arith) holds
+    by : (b : Bool) → GoesWell t (result_of builtin_procs id (body_by b u v w) (read_in t (uses_of builtin_procs version (body_by b u v w))))
+    by true = (tt, record { accounts = holds.accounts; others = holds.others; together = holds.together })
+    by false = transfer_goes_well t (u % 100) (v % 100) (w % 50 + 1) (omega arith) (omega arith) (omega arith) holds
 
--- a transaction of the load keeps what the accounts have together
-pub load_keeps : (txn : Txn) (t : Table) → IsOfLoad txn → HoldsAccounts 100000 t → HoldsAccounts 100000 (after builtin_procs txn t)
-load_keeps txn t load holds = by (stale_of txn.access (see txn t))
+-- what says that a transaction is stale is an outcome of the load
+abbrev IsLoadOutcomeIf : Option Outcome → Type 0
+IsLoadOutcomeIf None = Unit {0}
+IsLoadOutcomeIf (Some o) = IsLoadOutcome o
+
+stale_is : (access : List Access) (seen : List Seen) → IsLoadOutcomeIf (stale_of access seen)
+stale_is [] seen = tt
+stale_is (a ∷ access) [] = tt
+stale_is (a ∷ access) (s ∷ seen) = by s.mover (stale_is access seen)
+  where
+    by : (mover : Option TxnId) → IsLoadOutcomeIf (stale_of access seen) → IsLoadOutcomeIf (stale_at s.unit a.counter mover (stale_of access seen))
+    by None later = later
+    by (Some m) later = tt
+
+-- a transaction of the load goes well
+pub load_goes_well : (txn : Txn) (t : Table) → IsOfLoad txn → HoldsAccounts 100000 t → GoesWell t (one builtin_procs txn t)
+load_goes_well txn t load holds = by (stale_of txn.access (see txn t)) (stale_is txn.access (see txn t))
   where
     reads : reads_of txn.access (see txn t) ≡ read_in t (uses_of builtin_procs 1 txn.body)
     reads = reads_at t txn.access ∙ ap (read_in t) load.valid.uses
 
-    fresh : HoldsAccounts 100000 (apply (result_of builtin_procs txn.id txn.body (reads_of txn.access (see txn t))).1 t)
-    fresh = subst (λ (rs : List (Bytes × Option Value)). HoldsAccounts 100000 (apply (result_of builtin_procs txn.id txn.body rs).1 t)) (sym reads)
-        (subst (λ (body : Body). HoldsAccounts 100000 (apply (result_of builtin_procs txn.id body (read_in t (uses_of builtin_procs 1 body))).1 t)) (sym load.body) (body_holds load.call _ _ _ 1 txn.id t holds))
+    fresh : GoesWell t (result_of builtin_procs txn.id txn.body (reads_of txn.access (see txn t)))
+    fresh = subst (λ (rs : List (Bytes × Option Value)). GoesWell t (result_of builtin_procs txn.id txn.body rs)) (sym reads)
+        (subst (λ (body : Body). GoesWell t (result_of builtin_procs txn.id body (read_in t (uses_of builtin_procs 1 body)))) (sym load.body) (body_goes_well load.call _ _ _ 1 txn.id t holds))
 
-    by : (stale : Option Outcome) → HoldsAccounts 100000 (apply (unless_stale stale (result_of builtin_procs txn.id txn.body (reads_of txn.access (see txn t)))).1 t)
-    by None = fresh
-    by (Some o) = holds
+    by : (stale : Option Outcome) → IsLoadOutcomeIf stale → GoesWell t (unless_stale stale (result_of builtin_procs txn.id txn.body (reads_of txn.access (see txn t))))
+    by None is = fresh
+    by (Some o) is = (is, holds)
 
 -- and so do any of them one after another
 pub loads_keep : LoadKeepsTotal
 loads_keep [] t all holds = holds
-loads_keep (txn ∷ txns) t all holds = loads_keep txns (after builtin_procs txn t) all.1 (load_keeps txn t all.0 holds)
+loads_keep (txn ∷ txns) t all holds = loads_keep txns (after builtin_procs txn t) all.1 (load_goes_well txn t all.0 holds).1
+
+pub loads_end : (txns : List Txn) (t : Table) → AllIn IsOfLoad txns → HoldsAccounts 100000 t → AllIn (λ d. IsLoadOutcome d.1) (outcomes builtin_procs txns t)
+loads_end [] t all holds = tt
+loads_end (txn ∷ txns) t all holds = let well = load_goes_well txn t all.0 holds in (well.0, loads_end txns (after builtin_procs txn t) all.1 well.1)

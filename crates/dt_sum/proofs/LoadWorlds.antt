@@ -1,7 +1,7 @@
 -- Each region holds the accounts at each moment of a run of the load: it does so at first, and what it executed since then are
 -- transactions of the load.
-use Rattle.std.proofs.Common.{◌≡◌, ℕ, zero, suc, ◌%◌, ◌==◌, ◌<◌, Bool, true, false, cond, List, []}
-use Rattle.std.proofs.Common.{◌∷◌, map, slice_get, Option, Some, None, unwrap_or, refl, sym, ap, ◌∙◌, inl, inr, subst}
+use Rattle.std.proofs.Common.{◌≡◌, ℕ, zero, suc, ◌%◌, ◌==◌, ◌<◌, ◌≤◌, Bool, true, false, cond, List, []}
+use Rattle.std.proofs.Common.{◌∷◌, map, slice_get, Option, Some, None, unwrap_or, pos, refl, sym, ap, ◌∙◌, inl, inr, subst}
 use Rattle.std.specs.List.{cons_option, filter, range_with_len, sum_by}
 use Rattle.std.specs.Ordering.{nat_cmp, eq_by_cmp}
 use Rattle.std.specs.Cmp.Lexicographic.{slice_cmp, nat_list_cmp_total, texts_ties, bytes_decides}
@@ -13,21 +13,24 @@ use Rattle.dt_text.specs.Texts.{Bytes}
 use Rattle.dt_text.specs.declared.Value.{Value}
 use Rattle.dt_access.specs.declared.TxnId.{TxnId}
 use Rattle.dt_access.specs.Clash.{same_key}
-use Rattle.dt_table.specs.Table.{value_of}
+use Rattle.dt_events.specs.declared.Event.{Event}
+use Rattle.dt_table.specs.Table.{shown, value_of}
 use Rattle.dt_txn.specs.declared.Txn.{Txn}
+use Rattle.dt_txn.specs.declared.Outcome.{Outcome}
 use Rattle.dt_txn.specs.Replica.{done_ids}
 use Rattle.dt_workload.specs.declared.Ranked.{Ranked}
 use Rattle.dt_session.specs.World.{Submission, World, node_at, opening_table, submissions, txn_of}
 use Rattle.dt_session.specs.Step.{body_of}
-use Rattle.dt_session.specs.Run.{order_of, txns_of, world_after}
+use Rattle.dt_session.specs.Run.{AreLegal, order_of, region_table, txns_of, world_after}
 use Rattle.dt_agreement.specs.Invariant.{Inv, IsSubmissionOf}
-use Rattle.dt_agreement.proofs.Callers.{home_region, legal_keeps, transaction_valid, txn_there}
+use Rattle.dt_agreement.proofs.Callers.{home_region, legal_agree, legal_keeps, transaction_valid, txn_there}
 use Rattle.dt_gen.specs.Load.{account, account_numbers, account_row, load_call, load_cluster, load_session, load_workload, session_numbers}
 use Rattle.dt_gen.proofs.Callers.{load_cluster_valid, load_workload_valid}
-use Rattle.dt_sum.specs.Balances.{HoldsAccounts, amount_of, balance}
-use Rattle.dt_sum.specs.Laws.{EachRegionHoldsAccounts, IsOfLoad}
+use Rattle.dt_sum.specs.Balances.{HoldsAccounts, row_sum, amount_of, balance}
+use Rattle.dt_sum.specs.Laws.{EachAttemptEndsPlainly, EachRegionHoldsAccounts, EachReportShowsTheTotal, IsLoadOutcome, IsOfLoad}
 use Rattle.dt_sum.proofs.Holding.{account_in, account_within, holding}
-use Rattle.dt_sum.proofs.LoadTransactions.{loads_keep}
+use Rattle.dt_sum.proofs.LoadTransactions.{loads_end, loads_keep}
+use Rattle.dt_sum.proofs.ShownTotals.{shown_sum}
 use Rattle.dt_sum.proofs.Totals.{sum_stays}
 
 -- ---- at first
@@ -115,11 +118,38 @@ module _ (calls : ℕ) (w : World) (order : List TxnId) (inv : Inv load_cluster 
       by None e rest = rest
       by (Some txn) e rest = (txn_of_load id txn e, rest)
 
--- the table of a region is that of what it executed
+-- the table of a region is that of what it executed, and so are the outcomes that it keeps
+
+module _ (calls : ℕ) (events : List Event) (region : ℕ) (few : calls ≤ 20000) (legal : AreLegal load_cluster (load_workload calls) events) (within : region < 4) where
+  abbrev now : World
+  now = world_after load_cluster (load_workload calls) events
+
+  abbrev executed : List Txn
+  executed = txns_of now (done_ids (node_at now region).here)
+
+  inv : Inv load_cluster (load_workload calls) now (order_of events)
+  inv = legal_keeps load_cluster load_cluster_valid (load_workload calls) (load_workload_valid calls few) events legal
+
+  all_of_load : AllIn IsOfLoad executed
+  all_of_load = txns_of_load calls now (order_of events) inv (done_ids (node_at now region).here)
+
+  region_holds : HoldsAccounts 100000 (node_at now region).here.table
+  region_holds = subst (HoldsAccounts 100000) (sym (inv.tables region within).table) (loads_keep executed (opening_table load_cluster) all_of_load opening_holds)
+
+  region_ends : AllIn (λ d. IsLoadOutcome d.1) (node_at now region).here.done
+  region_ends = subst (λ (done : List (TxnId × Outcome)). AllIn (λ d. IsLoadOutcome d.1) done) (sym (inv.tables region within).outcomes)
+      (loads_end executed (opening_table load_cluster) all_of_load opening_holds)
+
+  report_shows : row_sum (shown (region_table load_cluster (load_workload calls) events region)) ≡ pos 100000
+  report_shows =
+      let agreed = (legal_agree load_cluster load_cluster_valid (load_workload calls) (load_workload_valid calls few) events legal).tables region within in
+      shown_sum 100000 (region_table load_cluster (load_workload calls) events region) (subst (HoldsAccounts 100000) agreed region_holds)
+
 pub each_region : EachRegionHoldsAccounts
-each_region calls events region few legal within =
-    let w = world_after load_cluster (load_workload calls) events in
-    let inv = legal_keeps load_cluster load_cluster_valid (load_workload calls) (load_workload_valid calls few) events legal in
-    let ids = done_ids (node_at w region).here in
-    let run = inv.tables region within in
-    subst (HoldsAccounts 100000) (sym run.table) (loads_keep (txns_of w ids) (opening_table load_cluster) (txns_of_load calls w (order_of events) inv ids) opening_holds)
+each_region calls events region few legal within = region_holds calls events region few legal within
+
+pub each_end : EachAttemptEndsPlainly
+each_end calls events region few legal within = region_ends calls events region few legal within
+
+pub each_report : EachReportShowsTheTotal
+each_report calls events region few legal within = report_shows calls events region few legal within

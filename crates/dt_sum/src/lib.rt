@@ -5,4 +5,7 @@
 
 mod laws;
 
-pub use laws::{each_region_holds_accounts, load_keeps_total, shown_sum_is_total};
+pub use laws::{
+    each_attempt_ends_plainly, each_region_holds_accounts, each_report_shows_the_total,
+    load_keeps_total, shown_sum_is_total,
+};

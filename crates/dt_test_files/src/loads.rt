@@ -134,7 +134,7 @@ fn a_load_has_accounts_in_four_regions(rt: HostRuntime) -> Result<(), Fail> {
     let (cluster, _) = load_of(rt.alloc(), 1)?;
     assert_eq!(rt;
         numbers_of(rt.alloc(), &cluster)?.as_slice(),
-        b"1 4 4 3 5 7 8 0 100"
+        "1 4 4 3 5 7 8 0 100".as_bytes()
     );
     for (place, words) in rows {
         assert_eq!(rt; row_of(rt.alloc(), &cluster, place)?.as_slice(), words);
