@@ -40,10 +40,10 @@ distinct_row f a (suc n) apart = (others (a + 1) n (omega arith) (omega arith), 
 pub row_more : (n : ℕ) → range_with_len 0 (n + 1) ≡ range_with_len 0 n ++ n ∷ []
 row_more n = sym (map-id (range_with_len 0 (n + 1))) ∙ map-range_with_len_more (λ x. x) 0 n n (omega arith) ∙ ap (λ l. l ++ n ∷ []) (map-id (range_with_len 0 n))
 
--- a number stands in a row at most once
-pub once_in_row : (k a n : ℕ) → count_by (λ j. k == j) (range_with_len a n) ≤ 1
-once_in_row k a zero = omega arith
-once_in_row k a (suc n) = by (k == a) refl (once_in_row k (a + 1) n)
+-- a number of a row stands in it once
+pub once_in_row : (k a n : ℕ) → a ≤ k → k < a + n → count_by (λ j. k == j) (range_with_len a n) ≡ 1
+once_in_row k a zero low high = absurd (omega arith)
+once_in_row k a (suc n) low high = by (k == a) refl (λ above. once_in_row k (a + 1) n above (omega arith))
   where
     past : (b m : ℕ) → k < b → count_by (λ j. k == j) (range_with_len b m) ≡ 0
     past b zero h = refl
@@ -52,15 +52,16 @@ once_in_row k a (suc n) = by (k == a) refl (once_in_row k (a + 1) n)
         sum_by-cons (λ j. cond (k == j) 1 0) b (range_with_len (b + 1) m) ∙ ap (λ c. cond c 1 0 + count_by (λ j. k == j) (range_with_len (b + 1) m)) off
         ∙ (let rest = past (b + 1) m (omega arith) in omega (arith, rest))
 
-    by : (c : Bool) → (k == a) ≡ c → count_by (λ j. k == j) (range_with_len (a + 1) n) ≤ 1 → count_by (λ j. k == j) (range_with_len a (suc n)) ≤ 1
+    by : (c : Bool) → (k == a) ≡ c → (a + 1 ≤ k → count_by (λ j. k == j) (range_with_len (a + 1) n) ≡ 1) → count_by (λ j. k == j) (range_with_len a (suc n)) ≡ 1
     by true e later =
         let is : k ≡ a = grind (arith, nat_tests) in
         let rest = past (a + 1) n (omega arith) in
         let first = sum_by-cons (λ j. cond (k == j) 1 0) a (range_with_len (a + 1) n) ∙ ap (λ c. cond c 1 0 + count_by (λ j. k == j) (range_with_len (a + 1) n)) e in
         omega (arith, rest, first)
     by false e later =
+        let above : a + 1 ≤ k = grind (arith, nat_tests) in
         let first = sum_by-cons (λ j. cond (k == j) 1 0) a (range_with_len (a + 1) n) ∙ ap (λ c. cond c 1 0 + count_by (λ j. k == j) (range_with_len (a + 1) n)) e in
-        omega (arith, later, first)
+        omega (arith, later above, first)
 
 -- the sum of sums
 pub sum_by-both : {X : Type 0} (f g : X → ℕ) (xs : List X) → sum_by (λ x. f x + g x) xs ≡ sum_by f xs + sum_by g xs

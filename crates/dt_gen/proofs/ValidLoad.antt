@@ -11,7 +11,7 @@ use Rattle.dt_text.specs.declared.Value.{Value}
 use Rattle.dt_proc.specs.Builtin.{xfer}
 use Rattle.dt_proc.proofs.Callers.{builtin_sound}
 use Rattle.dt_cluster.specs.Valid.{IsRowValue, IsValidCluster}
-use Rattle.dt_workload.specs.Valid.{IsValidSession, IsValidWorkload, RankedFits, WantedFits}
+use Rattle.dt_workload.specs.Valid.{calls_in, IsValidSession, IsValidWorkload, RankedFits, WantedFits}
 use Rattle.dt_workload.specs.declared.workload.Wanted.TheVariants.{Move}
 use Rattle.dt_workload.specs.declared.Session.{Session}
 use Rattle.dt_gen.specs.Load.{account, account_numbers, account_row, load_call, load_calls, load_cluster, load_session, load_workload, session_name, session_numbers, wanted_by, transfer_call}
@@ -72,12 +72,12 @@ load_call_fits : (i : ℕ) → RankedFits load_cluster (load_call i)
 load_call_fits i = (omega arith, wanted_fits i _ _ _)
 
 -- each call is in one session
-one_turn : (n : ℕ) → count_by (λ j. n % 64 == j) session_numbers ≤ 1
+one_turn : (n : ℕ) → count_by (λ j. n % 64 == j) session_numbers ≡ 1
 unfolding session_numbers
-one_turn n = once_in_row (n % 64) 0 64
+one_turn n = once_in_row (n % 64) 0 64 (omega arith) (omega arith)
 
 -- one call more in all is one call more of one session
-sessions_more : (n : ℕ) → sum_by (λ j. length (load_calls (n + 1) j)) session_numbers ≤ sum_by (λ j. length (load_calls n j)) session_numbers + 1
+sessions_more : (n : ℕ) → sum_by (λ j. length (load_calls (n + 1) j)) session_numbers ≡ sum_by (λ j. length (load_calls n j)) session_numbers + 1
 sessions_more n =
     let had : ℕ → ℕ = λ j. length (load_calls n j) in
     let gets : ℕ → ℕ = λ j. cond (n % 64 == j) 1 0 in
@@ -94,11 +94,11 @@ sessions_more n =
         ap length (calls_more n j) ∙ length-append (load_calls n j) (cond (n % 64 == j) (load_call n ∷ []) [])
         ∙ ap (λ k. length (load_calls n j) + k) (at (n % 64 == j))
 
--- so all sessions together have no more calls than there are
-sessions_have : (n : ℕ) → sum_by (λ j. length (load_calls n j)) session_numbers ≤ n
+-- so all sessions together have as many calls as there are
+sessions_have : (n : ℕ) → sum_by (λ j. length (load_calls n j)) session_numbers ≡ n
 unfolding session_numbers
 sessions_have zero = omega arith
-sessions_have (suc n) = subst (λ m. sum_by (λ j. length (load_calls m j)) session_numbers ≤ m) (add-one n) (let before = sessions_have n in let more = sessions_more n in omega (arith, before, more))
+sessions_have (suc n) = subst (λ m. sum_by (λ j. length (load_calls m j)) session_numbers ≡ m) (add-one n) (let before = sessions_have n in let more = sessions_more n in omega (arith, before, more))
 
 pub sessions_apart : EachThen (λ i j. ¬ (session_name i ≡ session_name j)) session_numbers
 unfolding session_numbers
@@ -115,6 +115,10 @@ session_valid n j h = record {
   calls = all_image (RankedFits load_cluster) load_call _ (all_put _ _ (λ i _. load_call_fits i));
 }
 
+-- how many calls and moves the workload has
+pub load_calls_in : (n : ℕ) → calls_in (load_workload n).sessions ≡ n
+load_calls_in n = sum_by-image (λ (s : Session). length s.calls) (load_session n) session_numbers ∙ sessions_have n
+
 pub load_workload_valid : (n : ℕ) → n ≤ 20000 → IsValidWorkload load_cluster (load_workload n)
 load_workload_valid n few = record {
   names_once = each_image (λ (x y : Bytes). ¬ (x ≡ y)) (λ (s : Session). s.name) (map (load_session n) session_numbers) (each_image (λ (x y : Session). ¬ (x.name ≡ y.name)) (load_session n) session_numbers sessions_apart);
@@ -122,7 +126,5 @@ load_workload_valid n few = record {
   few_sessions = λ region.
       let within = count_by-le-length (λ (s : Session). s.region == region) (map (load_session n) session_numbers) in
       omega (arith, within, sessions_length n);
-  few_calls =
-      let all = sum_by-image (λ (s : Session). length s.calls) (load_session n) session_numbers in
-      omega (arith, all, sessions_have n);
+  few_calls = omega (arith, load_calls_in n);
 }
