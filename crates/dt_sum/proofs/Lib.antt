@@ -4,4 +4,5 @@ pub mod Holding
 pub mod LoadTransactions
 pub mod LoadWorlds
 pub mod ShownTotals
+pub mod CountedAnswers
 pub mod Callers

@@ -6,6 +6,6 @@
 mod laws;
 
 pub use laws::{
-    each_attempt_ends_plainly, each_region_holds_accounts, each_report_shows_the_total,
-    load_keeps_total, shown_sum_is_total,
+    each_attempt_ends_plainly, each_call_is_answered_once, each_region_holds_accounts,
+    each_report_shows_the_total, load_keeps_total, shown_sum_is_total,
 };
