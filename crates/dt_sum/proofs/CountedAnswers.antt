@@ -17,7 +17,7 @@ use Rattle.dt_workload.specs.declared.Session.{Session}
 use Rattle.dt_workload.specs.declared.Workload.{Workload}
 use Rattle.dt_session.specs.World.{Place, World, asked_of, idle_place, is_session, opening_world, received_of, session_at, taken_of, txn_of, with_place}
 use Rattle.dt_session.specs.Step.{IsLegal, MayAnswer, answered, attempt_for, called, next, placed, received, submitted}
-use Rattle.dt_session.specs.Run.{AreLegal, AreLegalFrom, order_of, world_after, world_from}
+use Rattle.dt_session.specs.Run.{AreLegalFrom, order_of, world_after, world_from}
 use Rattle.dt_session.specs.Finished.{AreAnswered}
 use Rattle.dt_agreement.proofs.Callers.{legal_keeps, places_parallel, session_of_test}
 use Rattle.dt_gen.specs.Load.{load_cluster, load_workload}
