@@ -29,7 +29,11 @@ fn played(alloc: Global, places: u32, steps: &[u8]) -> Result<Vec<u8>, Fail> {
 const STEPS: [(u32, &[u8], &[u8]); 7] = [
     (8, b"++|---", b"0,1,-"),
     (8, b"++++++++|+", b"9!"),
-    (8, b"+++++++++|+--------+|+|--", b"8!10!0,1,2,3,4,5,6,7,19!21,-"),
+    (
+        8,
+        b"+++++++++|+--------+|+|--",
+        b"8!10!0,1,2,3,4,5,6,7,19!21,-",
+    ),
     (8, b"+-|--", b"-0,-"),
     (8, b"++|+-|---", b"0,1,3,-"),
     (1, b"+|+-+|+|-", b"2!0,4!6,"),
@@ -100,12 +104,7 @@ fn phase<R: Threads>(
 
 /// What comes of phases on a ring of so many places, in each of which so many packets are put: a `!` for each that comes
 /// back, the stamps of those that are taken, and a `|` where the ends are beside each other.
-fn phases<R: Threads>(
-    rt: &R,
-    alloc: Global,
-    places: u32,
-    puts: &[u32],
-) -> Result<Vec<u8>, Fail> {
+fn phases<R: Threads>(rt: &R, alloc: Global, places: u32, puts: &[u32]) -> Result<Vec<u8>, Fail> {
     let (mut outlet, mut inlet) = ring(alloc, places)?;
     let mut out = Vec::new(alloc);
     let mut first = 0u64;
