@@ -10,17 +10,39 @@ use std::alloc::Global;
 use std::test::Fail;
 use std::thread::{Threads, join_mut};
 
-/// What comes of some steps on a ring of so many places: at each `+` a packet is put, whose stamp is the place of the step, at
-/// each `-` one is taken, and at each `|` the two ends are brought beside each other.
+/// A step on a ring: at a `+` a packet of this stamp is put, at a `-` one is taken, and else the two ends are brought beside
+/// each other. Adds what comes of it.
+fn step(
+    alloc: Global,
+    out: &mut Vec<u8>,
+    outlet: &mut RingOut,
+    inlet: &mut RingIn,
+    stamp: u64,
+    step: u8,
+) -> Result<(), NoMemory>
+    requires { AreEnds outlet.old inlet.old }
+    ensures { AreEnds outlet.new inlet.new }
+{
+    match step {
+        b'+' => put(alloc, out, outlet, stamp),
+        b'-' => take(alloc, out, inlet),
+        _ => beside(outlet, inlet),
+    }
+}
+
+/// What comes of some steps on a ring of so many places. The stamp of a packet is the place of its step.
 fn played(alloc: Global, places: u32, steps: &[u8]) -> Result<Vec<u8>, Fail> {
     let (mut outlet, mut inlet) = ring(alloc, places)?;
     let mut out = Vec::new(alloc);
-    for (place, step) in steps.iter().enumerate() {
-        match *step {
-            b'+' => put(alloc, &mut out, &mut outlet, place as u64)?,
-            b'-' => take(alloc, &mut out, &mut inlet)?,
-            _ => beside(&mut outlet, &mut inlet)?,
-        }
+    for (place, sign) in steps.iter().enumerate() {
+        step(
+            alloc,
+            &mut out,
+            &mut outlet,
+            &mut inlet,
+            place as u64,
+            *sign,
+        )?;
     }
     Ok(out)
 }

@@ -4,6 +4,6 @@ use Rattle.dt_test_run.proofs.rings.put_all.Given as goal
 
 abbrev pub invariant-loop-number : goal.invariant-loop-number
 invariant-loop-number l = record {
-  same : SameOut l.old-outlet l.outlet;
+  same : SameOut l.fn.outlet l.outlet;
   few : l.refused ≤ l.number;
 }
