@@ -3,4 +3,4 @@ use Rattle.std.specs.List.{filter}
 use Rattle.dt_graph.proofs.enter.raised.Given as goal
 
 abbrev pub invariant-loop-neighbour : goal.invariant-loop-neighbour
-invariant-loop-neighbour l = l.raised ≡ l.degree + length (filter (λ n. not (n == l.vertex)) (take l.neighbour-index l.neighbours))
+invariant-loop-neighbour l = l.raised ≡ l.before + length (filter (λ n. not (n == l.vertex)) (take l.neighbour-index l.neighbours))
