@@ -1,9 +1,10 @@
 -- Pushing the uses of a part, step by step, and taking the pushed entries back; and what a part adds to what is kept.
-use Rattle.std.proofs.Common.{◌≡◌, ◌≢◌, ◌+◌, ◌<◌, ◌≤◌, ◌⊎◌, ◌∙◌, ◌^◌, ℕ, zero, suc, Bool, true, false, ◌==◌, not, if◌then◌else◌, List, []}
-use Rattle.std.proofs.Common.{◌∷◌, ◌++◌, length, map, filter, get_or, set, take, None, refl, sym, ap, ap₂, subst, inl, inr, arith}
+use Rattle.std.proofs.Common.{◌≡◌, ◌≢◌, ◌+◌, ◌<◌, ◌≤◌, ◌⊎◌, ◌∙◌, ◌^◌, ℕ, suc, Bool, true, false, ◌==◌, not, if◌then◌else◌, List, []}
+use Rattle.std.proofs.Common.{◌∷◌, ◌++◌, length, map, filter, get_or, set, None, refl, sym, ap, ap₂, subst, inl, inr, arith}
 use Rattle.std.proofs.lemmas.Bool.{cases_Bool}
 use Rattle.std.proofs.lemmas.List.{append-nil, append_assoc, get_or-set_other, get_or-set_same, length-append, length-set, map-append}
 use Rattle.std.proofs.lemmas.List.Elements.{filter-append}
+use Rattle.std.proofs.lemmas.List.Sums.{length-filter}
 use Rattle.std.proofs.Math.ListN.{get_or-append}
 use Rattle.dt_lists.specs.Lists.{AnyIn, AllIn, Has, Distinct}
 use Rattle.dt_lists.proofs.Callers.{all_append, all_append_left, all_put, distinct_push, each_append_left, each_across, has_last, has_longer, has_map, has_more, same_head, same_tail}
@@ -54,17 +55,6 @@ count_mapped p f (x ∷ xs) = by (count_mapped p f xs) (cases_Bool (p (f x)))
     by rest (inl e) = rw e (ap suc rest)
     by rest (inr e) = rw e rest
 
--- of the items that pass, one more is counted
-pub passes_more : (p : ℕ → Bool) (xs : List ℕ) (i : ℕ) → i < length xs → p (get_or xs i 0) ≡ true → length (filter p (take i xs)) + 1 ≤ length (filter p xs)
-passes_more p [] i lt e = absurd (omega (arith, lt))
-passes_more p (x ∷ xs) zero lt e = rw e (omega arith)
-passes_more p (x ∷ xs) (suc i) lt e = by (p x) (passes_more p xs i (omega (arith, lt)) e)
-  where
-    by : (b : Bool) → length (filter p (take i xs)) + 1 ≤ length (filter p xs)
-        → length (if b then x ∷ filter p (take i xs) else filter p (take i xs)) + 1 ≤ length (if b then x ∷ filter p xs else filter p xs)
-    by true le = omega (arith, le)
-    by false le = le
-
 -- one use is pushed
 module _ (waiting now : List Waiting) (w : Waiting) (d : HasDistinctSlots waiting) (is : now ≡ waiting ++ w ∷ []) (fresh : ¬ (IsQueued waiting w.slot)) (before : ℕ) (e : before ≡ degree waiting w.vertex) where
   all_distinct : HasDistinctSlots (waiting ++ w ∷ [])
@@ -76,7 +66,7 @@ module _ (waiting now : List Waiting) (w : Waiting) (d : HasDistinctSlots waitin
   -- its neighbours raise the degree
   raised_degree : raised before (map (λ n. n.vertex) (neighbours now w.slot)) w.vertex ≡ degree now w.vertex
   raised_degree =
-      ap₂ ◌+◌ e (count_mapped (λ n. not (n == w.vertex)) (λ n. n.vertex) (neighbours now w.slot))
+      ap₂ ◌+◌ e (sym (length-filter (λ n. not (n == w.vertex)) (map (λ n. n.vertex) (neighbours now w.slot))) ∙ count_mapped (λ n. not (n == w.vertex)) (λ n. n.vertex) (neighbours now w.slot))
       ∙ sym (ap (λ l. degree l w.vertex) is ∙ degree_pushed waiting w w.vertex all_distinct ∙ ap (λ n. degree waiting w.vertex + n) own)
 
   pub raised_fits : length now < 2 ^ 64 → raised before (map (λ n. n.vertex) (neighbours now w.slot)) w.vertex < 2 ^ 128

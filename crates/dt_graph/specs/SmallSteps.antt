@@ -1,8 +1,7 @@
 -- What the small steps within a call do: entries are pushed for a vertex, degrees are raised and lowered, vertices are put to
 -- the ready or the stuck ones, and the members of a class are done one after the other. What a whole call makes of what is kept
 -- stands in Steps.antt of dt_waits.
-use Rattle.std.specs.Prelude.{◌≡◌, ◌≢◌, ◌<◌, ◌⊎◌, ◌↔◌, ◌+◌, ◌==◌, ℕ, suc, not, List, ◌++◌, length, map, get_or, slice_get, Some}
-use Rattle.std.specs.List.{filter}
+use Rattle.std.specs.Prelude.{◌≡◌, ◌≢◌, ◌<◌, ◌⊎◌, ◌↔◌, ◌+◌, ◌==◌, ℕ, suc, not, List, ◌++◌, count_by, length, map, get_or, slice_get, Some}
 use Rattle.dt_lists.specs.Lists.{AnyIn, AllIn, Has, Distinct}
 use Rattle.dt_access.specs.Ids.{AreAscending}
 use Rattle.dt_access.specs.Clash.{Bytes}
@@ -33,7 +32,7 @@ pub record Enters (home vertex : ℕ) (uses : List (Bytes × Mode)) (old new : L
 
 -- a degree, raised by the neighbours that are other vertices
 abbrev pub raised : ℕ → List ℕ → ℕ → ℕ
-raised before neighbours vertex = before + length (filter (λ n. not (n == vertex)) neighbours)
+raised before neighbours vertex = before + count_by (λ n. not (n == vertex)) neighbours
 
 -- of the vertices to which so many were to be lowered, each was lowered by its count
 abbrev pub AreLowered : (ℕ → ℕ) → List ℕ → List ℕ → Type 0

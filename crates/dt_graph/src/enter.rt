@@ -14,13 +14,11 @@ fn raised(before: u128, neighbours: &[u32], vertex: u32) -> u128
     requires { raised before neighbours.now vertex < 2 ^ 128 }
     ensures { result ≡ raised before neighbours.now vertex }
 {
-    let mut raised = before;
-    for neighbour in neighbours {
-        if *neighbour != vertex {
-            raised += 1;
-        }
-    }
-    raised
+    let others = neighbours
+        .iter()
+        .filter(|neighbour| **neighbour != vertex)
+        .count();
+    before + others as u128
 }
 
 /// Keeps the slot of an entry that waits for a vertex, and answers the degree, raised by the neighbours of the entry; after
