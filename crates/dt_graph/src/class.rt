@@ -6,10 +6,10 @@ ghost use Rattle.dt_graph.specs.Links.{IsSourceAt, IsSourceOf, Links};
 ghost use Rattle.dt_waits.specs.Steps.{HaveSlots};
 
 use crate::group::Group;
-use dt_waits::Vertex;
 use dt_class::Adj;
 use dt_queue::Queues;
 use dt_text::NoMemory;
+use dt_waits::Vertex;
 use std::alloc::Global;
 
 /// What vertices wait for among themselves, by their places in a list, and which of them wait for others too.

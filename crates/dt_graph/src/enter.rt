@@ -3,10 +3,10 @@ ghost use Rattle.dt_queue.specs.Queues.{HasDistinctSlots, IsQueued, Waiting, nei
 ghost use Rattle.dt_waits.specs.Waits.{degree};
 ghost use Rattle.dt_graph.specs.SmallSteps.{Enters, Pushes, raised};
 
-use dt_waits::Slots;
 use dt_access::{Mode, Part};
 use dt_queue::Queues;
 use dt_text::{Key, NoMemory};
+use dt_waits::Slots;
 use std::alloc::Global;
 
 /// The degree of a vertex, raised by those of the neighbours that are other vertices.

@@ -14,10 +14,10 @@ ghost use Rattle.dt_waits.specs.Waits.{id_at};
 
 use crate::class::gather;
 use crate::names::Names;
-use dt_waits::Open;
 use crate::waits::Waits;
 use dt_access::{Ids, Part, TxnId};
 use dt_text::{Listed, NoMemory};
+use dt_waits::Open;
 use std::alloc::Global;
 use std::marker::Model;
 

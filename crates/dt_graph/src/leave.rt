@@ -7,8 +7,8 @@ ghost use Rattle.dt_graph.specs.SmallSteps.{AreLowered, IsFollowedAt, Wakes};
 ghost use Rattle.dt_waits.specs.Waits.{IsFollowed, is_leaving, lowered, lowered_by};
 
 use crate::subset::Subset;
-use dt_waits::Vertex;
 use dt_queue::Queues;
+use dt_waits::Vertex;
 
 /// Lowers the degrees of the followers of the entry at a slot of a vertex, but not its own.
 fn lower_followers(queues: &Queues, slot: usize, vertex: u32, degrees: &mut [u128])

@@ -13,10 +13,10 @@ use crate::enter::enter;
 use crate::leave::leave;
 use crate::room::push_reserved;
 use crate::subset::Subset;
-use dt_waits::{Slots, Vertex};
 use dt_access::Part;
 use dt_queue::Queues;
 use dt_text::NoMemory;
+use dt_waits::{Slots, Vertex};
 use std::alloc::Global;
 
 /// The vertices by their numbers, what each waits for, and which of them are ready or stuck.
