@@ -278,7 +278,7 @@ many (p ∷ K) a i rise low given = elim (either_le i a) [
         absurd (omega (arith, lt, r.2, low p (inl refl)))
 
     by : p.1.number ≡ a → (((q : ℕ × Cell) → Has K q → a + 1 ≤ q.1.number) → ((n : ℕ) → a + 1 ≤ n → n < i → AnyIn (λ (q : ℕ × Cell). q.1.number ≡ n) K) → i ≤ a + 1 + length K) → i ≤ a + length
-      (p ∷ K)
+        (p ∷ K)
     by e rest =
         let few : i ≤ a + 1 + length K = rest (λ q h. let lt : p.1.number < q.1.number = all_get (Rise p) K rise.0 q h in omega (arith, lt, e)) (λ n le lt. behind n le (given n (omega (arith, le)) lt)) in
         omega (arith, few)
