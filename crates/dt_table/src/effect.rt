@@ -12,16 +12,16 @@ pub struct Effect {
     /// The new values, or none, of keys.
     pub writes: Writes,
     /// A unit's new home, and the mover.
-    pub moved: Option<(Unit, u8, TxnId)>,
+    pub moved: Option<(UnitName, u8, TxnId)>,
 }
 
 /// The name of a unit, in bytes of its own: a table takes them over without memory. Contracts see it as the key that it is.
 #[derive(Drop)]
-pub struct Unit {
+pub struct UnitName {
     bytes: Vec<u8>,
 }
 
-impl Model for Unit {
+impl Model for UnitName {
     ghost use Rattle.std.specs.Prelude.{List, ℕ};
     ghost use Rattle.dt_text.specs.Texts.{IsKey};
 
@@ -32,12 +32,12 @@ impl Model for Unit {
     ghost invariant = { λ u. IsKey u.bytes.items };
 }
 
-impl Unit {
+impl UnitName {
     /// The unit of this name.
     pub fn of(alloc: Global, key: &Key) -> Result<Self, NoMemory>
         ensures { IfOk result (λ unit. unit ≡ key.now) }
     {
-        Ok(Unit {
+        Ok(UnitName {
             bytes: Vec::from_slice(alloc, key.bytes())?,
         })
     }
@@ -54,7 +54,7 @@ impl Unit {
         ensures same { result.items ≡ self }
         ensures key { IsKey self }
     {
-        let Unit { bytes } = self;
+        let UnitName { bytes } = self;
         bytes
     }
 }
