@@ -4,7 +4,7 @@
 -- made its events up to the packet's stamp, and the target has all that comes before it. So a target that hears the stamp
 -- before it uses the packet gives its own events greater stamps than those of what it uses. Read next: `Standing`, when a node
 -- stands in a world.
-use Rattle.std.specs.Prelude.{◌≡◌, ◌≤◌, ℕ, List, ◌++◌, length, drop, map, take, Some}
+use Rattle.std.specs.Prelude.{◌≡◌, ◌+◌, ◌≤◌, List, ◌++◌, length, drop, map, take, Some}
 use Rattle.dt_lists.specs.Lists.{AllIn}
 use Rattle.dt_events.specs.declared.Stamped.{Stamped}
 use Rattle.dt_packet.specs.declared.packet.Packet.{Packet}
@@ -19,10 +19,12 @@ use Rattle.dt_node.specs.NodeView.{most_items}
 -- what a packet tells is so in a world
 pub record IsToldOf (w : World) (p : Packet) : Type 0 where
   -- its requests are a stretch of what the source asked of the target, each with the transaction of its id
-  pub asked : map (λ txn. txn.id) p.asked ≡ take (length p.asked) (drop p.asked_at (asked_of w p.source p.target))
+  pub asked_to : p.asked_at + length p.asked ≤ length (asked_of w p.source p.target)
+  pub asked : map (λ txn. txn.id) p.asked ≡ drop p.asked_at (take (p.asked_at + length p.asked) (asked_of w p.source p.target))
   pub asked_txns : AllIn (λ txn. txn_of w txn.id ≡ Some txn) p.asked
   -- its entries are a stretch of the log of the source, each with the transaction of its part
-  pub entries : map (λ e. e.part) p.entries ≡ take (length p.entries) (drop p.log_at (log_of w p.source))
+  pub entries_to : p.log_at + length p.entries ≤ length (log_of w p.source)
+  pub entries : map (λ e. e.part) p.entries ≡ drop p.log_at (take (p.log_at + length p.entries) (log_of w p.source))
   pub entry_txns : AllIn (λ e. txn_of w e.part.id ≡ Some e.txn) p.entries
   -- the source has come at least so far with the requests and the log of the target
   pub took : p.took ≤ taken_of w p.source p.target

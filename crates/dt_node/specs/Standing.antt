@@ -5,6 +5,7 @@
 -- next: `Turn`, for what a turn makes of it.
 use Rattle.std.specs.Prelude.{◌≡◌, ◌≢◌, ◌<◌, ◌≤◌, ◌+◌, ◌^◌, ℕ, List, length, get_or}
 use Rattle.dt_lists.specs.Lists.{AllIn}
+use Rattle.dt_events.specs.declared.Event.{Event}
 use Rattle.dt_events.specs.declared.Stamped.{Stamped}
 use Rattle.dt_proc.specs.Tree.{ProcTree}
 use Rattle.dt_region.specs.Region.{latest_stamp}
@@ -21,28 +22,24 @@ use Rattle.dt_site.specs.StandsIn.{StandsIn}
 use Rattle.dt_node.specs.NodeView.{NodeView, number_of}
 use Rattle.dt_node.specs.Packets.{IsTruePacket}
 
--- the world after stamped events
-abbrev pub world_of_items : Cluster → Workload → List Stamped → World
-world_of_items cluster workload all = world_after cluster workload (events_of all)
-
 -- another region has placed at least as many of a node's requests, and received at least as much of its log, as the node
 -- knows of it
 pub record KnowsNoMore (w : World) (n : NodeView) (other : ℕ) : Type 0 where
   pub took : get_or n.took other 0 ≤ taken_of w other (number_of n)
   pub received : get_or n.received other 0 ≤ received_of w other (number_of n)
 
--- a node stands in the world after these stamped events, which are legal and each change something
-pub record NodeFits (cluster : Cluster) (workload : Workload) (all : List Stamped) (n : NodeView) : Type 0 where
-  pub run : IsLegalRun cluster workload (events_of all)
-  pub changing : AllChange cluster workload (opening_world cluster workload) (events_of all)
+-- a node stands in the world after these events, which are legal and each change something
+pub record NodeFits (cluster : Cluster) (workload : Workload) (events : List Event) (n : NodeView) : Type 0 where
+  pub run : IsLegalRun cluster workload events
+  pub changing : AllChange cluster workload (opening_world cluster workload) events
   -- it is one of the regions, and so are its sessions
   pub number : number_of n < cluster.regions
-  pub site : StandsIn cluster.regions (world_of_items cluster workload all) (number_of n) n.site
-  pub sessions : SessionsStandIn cluster workload (world_of_items cluster workload all) (number_of n) n.sessions
+  pub site : StandsIn cluster.regions (world_after cluster workload events) (number_of n) n.site
+  pub sessions : SessionsStandIn cluster workload (world_after cluster workload events) (number_of n) n.sessions
   -- it knows something of each region, and of the others no more than is so
   pub took : length n.took ≡ cluster.regions
   pub received : length n.received ≡ cluster.regions
-  pub knows : (other : ℕ) → other ≢ number_of n → KnowsNoMore (world_of_items cluster workload all) n other
+  pub knows : (other : ℕ) → other ≢ number_of n → KnowsNoMore (world_after cluster workload events) n other
 
 -- a packet is one that another region sent to this node's
 pub record IsFor (regions me : ℕ) (p : Packet) : Type 0 where
@@ -56,7 +53,7 @@ pub record NodeStands (procs : List ProcTree) (packets : List Packet) (n : NodeV
   pub workload : Workload
   pub all : List Stamped
   pub procs_are : procs ≡ cluster.procs
-  pub fits : NodeFits cluster workload all n
+  pub fits : NodeFits cluster workload (events_of all) n
   pub addressed : AllIn (IsFor cluster.regions (number_of n)) packets
   pub true_packets : AllIn (IsTruePacket cluster workload all) packets
   pub heard : latest_stamp n.site.region < 2 ^ 60

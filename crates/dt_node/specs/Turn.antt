@@ -20,18 +20,18 @@ use Rattle.dt_cluster.specs.declared.Cluster.{Cluster}
 use Rattle.dt_workload.specs.declared.Workload.{Workload}
 use Rattle.dt_session.specs.Sessions.{MayBeAnswered, MayGo, waits_of}
 use Rattle.dt_session.specs.World.{opening_table}
-use Rattle.dt_session.specs.Run.{AreLegalFrom}
+use Rattle.dt_session.specs.Run.{AreLegalFrom, world_after}
 use Rattle.dt_session.specs.Eager.{AllChange, first_calls, first_events, sessions_at}
 use Rattle.dt_events.specs.Stamps.{events_of}
 use Rattle.dt_merge.specs.Merge.{HasLowerStamp, region_at}
 use Rattle.dt_node.specs.NodeView.{NodeView, new_items, number_of}
-use Rattle.dt_node.specs.Standing.{NodeFits, world_of_items}
+use Rattle.dt_node.specs.Standing.{NodeFits}
 
 -- new events are legal after those that there are, each changes something, and the node stands in the world after them
-pub record GoesAfter (cluster : Cluster) (workload : Workload) (all new : List Stamped) (after : NodeView) : Type 0 where
-  pub legal : AreLegalFrom cluster workload (world_of_items cluster workload all) (events_of new)
-  pub changing : AllChange cluster workload (world_of_items cluster workload all) (events_of new)
-  pub fits : NodeFits cluster workload (all ++ new) after
+pub record GoesAfter (cluster : Cluster) (workload : Workload) (events new : List Event) (after : NodeView) : Type 0 where
+  pub legal : AreLegalFrom cluster workload (world_after cluster workload events) new
+  pub changing : AllChange cluster workload (world_after cluster workload events) new
+  pub fits : NodeFits cluster workload (events ++ new) after
 
 -- a node has made its way from one state to another: it kept events of its own, which go on from whatever events there were
 pub record HasGone (procs : List ProcTree) (before after : NodeView) : Type 0 where
@@ -39,8 +39,8 @@ pub record HasGone (procs : List ProcTree) (before after : NodeView) : Type 0 wh
   pub grows : after.site.region.events ≡ before.site.region.events ++ new_items before after
   pub mine : AllIn (λ x. region_at x ≡ number_of before) (new_items before after)
   -- this holds for all events of all regions after which the node stood in the world
-  pub goes : (cluster : Cluster) (workload : Workload) (all : List Stamped) → procs ≡ cluster.procs → NodeFits cluster workload all before
-      → GoesAfter cluster workload all (new_items before after) after
+  pub goes : (cluster : Cluster) (workload : Workload) (events : List Event) → procs ≡ cluster.procs → NodeFits cluster workload events before
+      → GoesAfter cluster workload events (events_of (new_items before after)) after
   -- whose it is stays, and its plan
   pub number : number_of after ≡ number_of before
   pub regions : after.site.region.state.regions ≡ before.site.region.state.regions
@@ -51,16 +51,16 @@ pub record HasGone (procs : List ProcTree) (before after : NodeView) : Type 0 wh
 
 -- a packet brought the request that an event with this stamp places: the request stands in it at its number
 pub record BringsRequest (home source number stamp : ℕ) (p : Packet) : Type 0 where
-  pub target : p.target ≡ home
-  pub source : p.source ≡ source
+  pub to_home : p.target ≡ home
+  pub from_source : p.source ≡ source
   pub from : p.asked_at ≤ number
   pub to : number < p.asked_at + length p.asked
   pub earlier : p.stamp < stamp
 
 -- a packet brought the entries that an event with this stamp receives: they begin and end as in the packet
 pub record BringsEntries (region home first last stamp : ℕ) (p : Packet) : Type 0 where
-  pub target : p.target ≡ region
-  pub source : p.source ≡ home
+  pub to_region : p.target ≡ region
+  pub from_home : p.source ≡ home
   pub from : first ≡ p.log_at
   pub to : last ≡ p.log_at + length p.entries
   pub earlier : p.stamp < stamp

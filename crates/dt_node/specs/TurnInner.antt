@@ -1,25 +1,24 @@
 -- Only proofs need this file, and the private calls of a turn. A turn makes its way in many small calls, and of each of them
 -- the same is said: what it makes of the node (`MovesOn`), and what has to be so before it (`CanGo`). Read `Turn` for what a
 -- whole turn makes.
-use Rattle.std.specs.Prelude.{◌≡◌, ◌≢◌, ◌<◌, ◌≤◌, ◌+◌, ◌^◌, ℕ, List, ◌∷◌, [], length, get_or, max, set, slice_get, Option, Some, None}
+use Rattle.std.specs.Prelude.{◌≡◌, ◌<◌, ◌≤◌, ◌+◌, ◌^◌, ℕ, List, length, get_or, max, set, Option, Some, None, option_map}
 use Rattle.dt_lists.specs.Lists.{AllIn}
 use Rattle.dt_access.specs.Clash.{Bytes}
-use Rattle.dt_access.specs.declared.TxnId.{TxnId}
 use Rattle.dt_events.specs.declared.Stamped.{Stamped}
+use Rattle.dt_events.specs.Stamps.{events_of}
 use Rattle.dt_proc.specs.Tree.{ProcTree}
 use Rattle.dt_txn.specs.declared.Body.{Body}
-use Rattle.dt_txn.specs.declared.Txn.{Txn}
 use Rattle.dt_region.specs.Region.{RegionView, latest_stamp}
 use Rattle.dt_packet.specs.declared.packet.Packet.{Packet}
 use Rattle.dt_cluster.specs.declared.Cluster.{Cluster}
-use Rattle.dt_workload.specs.declared.Ranked.{Ranked}
 use Rattle.dt_workload.specs.declared.Workload.{Workload}
-use Rattle.dt_session.specs.Sessions.{SessionsView, MayGo}
-use Rattle.dt_session.specs.World.{World, asked_of, txn_of}
+use Rattle.dt_session.specs.Step.{ranked_body}
+use Rattle.dt_session.specs.Sessions.{SessionsView, MayGo, numbers_next, seat_of, wanted_of}
+use Rattle.dt_session.specs.Run.{world_after}
 use Rattle.dt_site.specs.declared.Origin.{Origin}
 use Rattle.dt_node.specs.NodeView.{NodeView, new_items, number_of}
 use Rattle.dt_node.specs.Packets.{IsToldOf}
-use Rattle.dt_node.specs.Standing.{IsFor, NodeFits, world_of_items}
+use Rattle.dt_node.specs.Standing.{IsFor, NodeFits}
 use Rattle.dt_node.specs.Turn.{AreBrought, HasGone, StampsRise, last_at}
 
 -- what a call of a turn makes of the node; the packets are those that waited before the turn
@@ -35,9 +34,9 @@ pub record CanGo (procs : List ProcTree) (packets : List Packet) (n : NodeView) 
   pub workload : Workload
   pub all : List Stamped
   pub procs_are : procs ≡ cluster.procs
-  pub fits : NodeFits cluster workload all n
+  pub fits : NodeFits cluster workload (events_of all) n
   pub addressed : AllIn (IsFor cluster.regions (number_of n)) packets
-  pub told : AllIn (IsToldOf (world_of_items cluster workload all)) packets
+  pub told : AllIn (IsToldOf (world_after cluster workload (events_of all))) packets
   pub packet_stamps : AllIn (λ p. p.stamp < 2 ^ 60) packets
   pub low : latest_stamp n.site.region ≤ 2 ^ 60 + length all
 
