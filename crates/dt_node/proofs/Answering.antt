@@ -2,6 +2,7 @@
 use Rattle.std.proofs.Common.{◌≡◌, ◌≢◌, ◌<◌, ◌+◌, ℕ, List, [], ◌∷◌, length, Ok, Some, None, refl, sym, ap, subst, ◌∙◌, cond, arith}
 use Rattle.std.specs.Prelude.{Option, option_and_then, option_map}
 use Rattle.std.specs.Cmp.Lexicographic.{bytes_decides, texts_ties}
+use Rattle.std.proofs.lemmas.Map.{length-set_value}
 use Rattle.dt_access.specs.Clash.{Bytes}
 use Rattle.dt_access.specs.declared.TxnId.{TxnId}
 use Rattle.dt_events.specs.declared.Event.{Event}
@@ -13,7 +14,7 @@ use Rattle.dt_cluster.specs.declared.Cluster.{Cluster}
 use Rattle.dt_workload.specs.declared.Session.{Session}
 use Rattle.dt_workload.specs.declared.Workload.{Workload}
 use Rattle.dt_session.specs.declared.sessions.Seat.{Seat}
-use Rattle.dt_session.specs.Sessions.{MayBeAnswered, MayGo, after_answer, answered_seat, seat_of, waits_of, with_changed}
+use Rattle.dt_session.specs.Sessions.{MayBeAnswered, MayGo, SessionsView, after_answer, is_named, answered_seat, seat_of, waits_of, with_changed}
 use Rattle.dt_session.specs.World.{World, Place, session_at, with_place}
 use Rattle.dt_session.specs.Step.{IsLegal, MayAnswer, MayEnd, MaySubmit, awaited_at, next}
 use Rattle.dt_session.specs.Run.{world_after}
@@ -27,6 +28,11 @@ use Rattle.dt_node.specs.NodeView.{NodeView, number_of}
 use Rattle.dt_node.specs.Standing.{NodeFits}
 use Rattle.dt_node.specs.Turn.{GoesAfter, last_at}
 use Rattle.dt_node.proofs.Going.{one_goes, reached}
+
+-- as many sessions as before
+pub seats_kept : (change : Seat → Seat) (s : SessionsView) (name : Bytes) (o : Option Seat) → length (with_changed change s name o).seats ≡ length s.seats
+seats_kept change s name None = refl
+seats_kept change s name (Some seat) = length-set_value (is_named name) s.seats (change seat)
 
 module _ {cluster : Cluster} {workload : Workload} {events : List Event} {a : NodeView} (f : NodeFits cluster workload events a) (name : Bytes) where
   abbrev w : World
@@ -97,7 +103,7 @@ module _ {cluster : Cluster} {workload : Workload} {events : List Event} {a : No
               (seat_changed answered_seat a.sessions name seat e name ∙ ap (λ t. cond t (Some (answered_seat seat)) (seat_of a.sessions name)) (sym (texts_ties name name) ∙ (bytes_decides name name).1 refl))
 
       answer_here : GoesAfter cluster workload events (Answer (number_of a) name ∷ []) b
-      answer_here = one_goes f (Answer (number_of a) name) (answer_made (reached f) f.number f.site name session place found may r is) changed standing (ap (λ x. x.state.number) is) refl refl
+      answer_here = one_goes f (Answer (number_of a) name) (answer_made (reached f) f.number f.site name session place found may r is) changed standing (ap (λ x. x.state.number) is) (seats_kept answered_seat a.sessions name (seat_of a.sessions name)) refl refl
 
     pub answer_goes : MayBeAnswered a.sessions name (last_at a name) → GoesAfter cluster workload events (Answer (number_of a) name ∷ []) b
     answer_goes m = go here refl (go_answer m)

@@ -79,4 +79,4 @@ module _ {cluster : Cluster} {workload : Workload} {events : List Event} {a : No
 
     pub receive_goes : GoesAfter cluster workload events (Deliver (number_of a) home first (first + length entries) ∷ []) (record a { site = in_region a.site r })
     receive_goes = one_goes f (Deliver (number_of a) home first (first + length entries)) steps changed
-        (sessions_stay (reached f) (Deliver (number_of a) home first (first + length entries)) steps.legal (ap (λ v. v.places) steps.is) f.number f.sessions) (ap (λ (x : RegionView). x.state.number) made.3) refl refl
+        (sessions_stay (reached f) (Deliver (number_of a) home first (first + length entries)) steps.legal (ap (λ v. v.places) steps.is) f.number f.sessions) (ap (λ (x : RegionView). x.state.number) made.3) refl refl refl

@@ -1,5 +1,5 @@
 -- The events of a node's turn go on from those that there were, one after another; and what packets tell stays so meanwhile.
-use Rattle.std.proofs.Common.{◌≡◌, ◌≢◌, ◌<◌, ◌≤◌, ℕ, List, [], ◌∷◌, ◌++◌, length, get_or, set, Some, refl, sym, ap, subst, ◌∙◌, append-nil, append_assoc}
+use Rattle.std.proofs.Common.{◌≡◌, ◌≢◌, ◌<◌, ◌≤◌, ◌^◌, ℕ, List, [], ◌∷◌, ◌++◌, length, get_or, set, Some, refl, sym, ap, subst, ◌∙◌, append-nil, append_assoc}
 use Rattle.std.proofs.lemmas.List.{get_or-set_other}
 use Rattle.dt_lists.specs.Lists.{AllIn}
 use Rattle.dt_lists.proofs.Callers.{all_map}
@@ -55,8 +55,8 @@ module _ {cluster : Cluster} {workload : Workload} where
       → Steps cluster workload (world_after cluster workload events) e (number_of a) a.site b.site places
       → next cluster workload (world_after cluster workload events) e ≢ world_after cluster workload events
       → SessionsStandIn cluster workload (next cluster workload (world_after cluster workload events) e) (number_of a) b.sessions
-      → number_of b ≡ number_of a → b.took ≡ a.took → b.received ≡ a.received → GoesAfter cluster workload events (e ∷ []) b
-  one_goes {events} {a} {b} f e s changed sessions number took received = record {
+      → number_of b ≡ number_of a → length b.sessions.seats ≡ length a.sessions.seats → b.took ≡ a.took → b.received ≡ a.received → GoesAfter cluster workload events (e ∷ []) b
+  one_goes {events} {a} {b} f e s changed sessions number many took received = record {
     legal = (s.legal, tt);
     changing = (changed, tt);
     fits = record {
@@ -66,6 +66,7 @@ module _ {cluster : Cluster} {workload : Workload} where
       site = subst (λ m. StandsIn cluster.regions (world_after cluster workload (events ++ e ∷ [])) m b.site) (sym number) (subst (λ v. StandsIn cluster.regions v (number_of a) b.site) later s.stands);
       sessions = subst (λ m. SessionsStandIn cluster workload (world_after cluster workload (events ++ e ∷ [])) m b.sessions) (sym number)
           (subst (λ v. SessionsStandIn cluster workload v (number_of a) b.sessions) later sessions);
+      few = subst (λ m. m < 2 ^ 32) (sym many) f.few;
       took = ap length took ∙ f.took;
       received = ap length received ∙ f.received;
       knows = λ other n. knows other (λ is. n (is ∙ sym number));

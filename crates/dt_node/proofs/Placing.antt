@@ -67,4 +67,4 @@ module _ {cluster : Cluster} {workload : Workload} {events : List Event} {a : No
 
     pub place_goes : GoesAfter cluster workload events (Append (number_of a) source number ∷ []) (record a { site = in_region a.site r })
     place_goes = one_goes f (Append (number_of a) source number) steps changed (sessions_stay (reached f) (Append (number_of a) source number) steps.legal (ap (λ v. v.places) steps.is) f.number f.sessions)
-        (ap (λ (x : RegionView). x.state.number) made.1) refl refl
+        (ap (λ (x : RegionView). x.state.number) made.1) refl refl refl

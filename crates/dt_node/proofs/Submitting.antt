@@ -31,7 +31,7 @@ use Rattle.dt_node.specs.NodeView.{NodeView, number_of}
 use Rattle.dt_node.specs.Standing.{NodeFits}
 use Rattle.dt_node.specs.Turn.{GoesAfter, last_at}
 use Rattle.dt_node.specs.TurnInner.{IsNextAt}
-use Rattle.dt_node.proofs.Answering.{go_submit}
+use Rattle.dt_node.proofs.Answering.{go_submit, seats_kept}
 use Rattle.dt_node.proofs.Going.{one_goes, reached}
 
 some_same : {A : Type 0} {x y : A} → ◌≡◌ {A = Option A} (Some x) (Some y) → x ≡ y
@@ -174,4 +174,5 @@ module _ {cluster : Cluster} {workload : Workload} {events : List Event} {a : No
           absurd (omega (arith, before, after, more, still))
 
       pub submit_goes : GoesAfter cluster workload events (Submit (number_of a) name ∷ []) (record a { site = q; sessions = after_wait a.sessions name id })
-      submit_goes = one_goes f (Submit (number_of a) name) steps changed standing (ap (λ (x : SiteView). x.region.state.number) made.1) refl refl
+      submit_goes = one_goes f (Submit (number_of a) name) steps changed standing (ap (λ (x : SiteView). x.region.state.number) made.1)
+          (seats_kept (λ seat. waiting seat id) a.sessions name (seat_of a.sessions name)) refl refl

@@ -4,6 +4,7 @@ pub mod Standing
 pub mod Turn
 pub mod Sending
 pub mod Measure
+pub mod TurnInner
 pub mod NodeCode
 pub use Rattle.dt_session.specs.World
 pub use Rattle.dt_session.specs.Step

@@ -3,7 +3,7 @@
 -- owed: how many of the node's requests it has placed, and how much of the node's log it has received. A node may know less
 -- than there is, and never more. One learns here what a node is, and what it sends to another region (`packet_for`): all that
 -- this one is not known to have, as far as a packet holds it. Read next: `Packets`, for what makes a packet true.
-use Rattle.std.specs.Prelude.{ℕ, ◌+◌, List, [], length, drop, filter_map, get_or, take, replicate, nat_lt, Option, option_map, if◌then◌else◌}
+use Rattle.std.specs.Prelude.{ℕ, ◌+◌, List, [], length, drop, filter_map, get_or, max, take, replicate, nat_lt, Option, option_map, if◌then◌else◌}
 use Rattle.dt_access.specs.declared.Part.{Part}
 use Rattle.dt_access.specs.declared.TxnId.{TxnId}
 use Rattle.dt_events.specs.declared.Stamped.{Stamped}
@@ -88,6 +88,10 @@ packet_for n target = record {
   took = taken_from n.site.region.state.here target;
   received = length (log_at n.site.region.state.logs target);
 }
+
+-- a node that heard of a stamp
+abbrev pub heard_by : NodeView → ℕ → NodeView
+heard_by n stamp = record n { site = record n.site { region = record n.site.region { heard = max n.site.region.heard stamp } } }
 
 -- the events that a node made on its way from one state to a later one
 abbrev pub new_items : NodeView → NodeView → List Stamped

@@ -36,6 +36,8 @@ pub record NodeFits (cluster : Cluster) (workload : Workload) (events : List Eve
   pub number : number_of n < cluster.regions
   pub site : StandsIn cluster.regions (world_after cluster workload events) (number_of n) n.site
   pub sessions : SessionsStandIn cluster workload (world_after cluster workload events) (number_of n) n.sessions
+  -- its sessions are counted by 32 bits
+  pub few : length n.sessions.seats < 2 ^ 32
   -- it knows something of each region, and of the others no more than is so
   pub took : length n.took ≡ cluster.regions
   pub received : length n.received ≡ cluster.regions

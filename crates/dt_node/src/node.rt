@@ -1,16 +1,19 @@
-ghost use Rattle.std.specs.Prelude.{◌≡◌, ◌<◌, ◌≤◌, ◌+◌, ◌^◌, ℕ, List, flat_map, get_or, length, map, IfOk, OnOk};
-ghost use Rattle.dt_lists.specs.Lists.{AllIn};
+ghost use Rattle.std.specs.Prelude.{◌≡◌, ◌<◌, ◌≤◌, ◌+◌, ◌^◌, List, [], flat_map, length, map, replicate, IfOk, OnOk};
+ghost use Rattle.dt_lists.specs.Lists.{AllIn, Pairwise};
+ghost use Rattle.dt_txn.specs.Replica.{IsDrained};
 ghost use Rattle.dt_cluster.specs.Valid.{IsValidCluster};
 ghost use Rattle.dt_workload.specs.Valid.{IsValidWorkload};
-ghost use Rattle.dt_node.specs.NodeView.{opening_node_of};
+ghost use Rattle.dt_node.specs.NodeView.{heard_by, new_items, opening_node_of};
 ghost use Rattle.dt_node.specs.Sending.{HasSent};
 ghost use Rattle.dt_node.specs.Standing.{NodeStands};
 ghost use Rattle.dt_node.specs.Turn.{AreBrought, BeginsEagerly, HasGone, HasTaken, IsSettled, StampsRise};
+ghost use Rattle.dt_node.specs.TurnInner.{CanGo, KnowsTheSame, MovesOn, PassesOnce};
 
 use dt_cluster::Cluster;
 use dt_packet::{Inlet, LossPlan, Outlet};
 use dt_proc::Procs;
-use dt_region::{Region, Rounds};
+use dt_region::Region;
+use dt_round::Rounds;
 use dt_sched::Scheduler;
 use dt_session::Sessions;
 use dt_site::Site;
@@ -45,7 +48,7 @@ impl<S: Scheduler> Model for Node<S> {
     ghost view = { λ n. record { site = n.site; sessions = n.sessions; took = n.took.items; received = n.received.items; plan = n.plan; turns = n.turns } };
 }
 
-impl<S: Scheduler> Node<S> {
+impl<S: Scheduler + Drop> Node<S> {
     /// The node of this region of a cluster before anything happens.
     pub fn new(
         alloc: Global,
@@ -108,17 +111,16 @@ impl<S: Scheduler> Node<S> {
 
     /// Makes a turn. `ins` and `outs` have one end for each other region, in ascending order of regions. What waits at the
     /// inlets has to be true in a world in which the node stands, and each outlet needs two free places. It fails only for
-    /// want of memory; then the packets and the number of turns are given up, and what the node kept goes on from what there
-    /// was.
+    /// want of memory; then packets and the number of turns are given up, and what the node kept goes on from what there was.
     pub fn turn<D: Rounds<Region<S>>, I: Inlet, O: Outlet>(
         &mut self,
         alloc: Global,
         procs: &Procs,
-        rounds: &mut D,
+        rounds: &D,
         ins: &mut [I],
         outs: &mut [O],
     ) -> Result<(), NoMemory>
-        requires ready { D.ready rounds.old }
+        requires ready { D.ready rounds.now }
         requires stands { NodeStands procs.now (flat_map I.waits ins.old) self.old }
         requires ends { length outs.old + 1 ≡ self.old.site.region.state.regions }
         requires places { AllIn (λ out. 2 ≤ (O.seen out).free) outs.old }
@@ -131,8 +133,8 @@ impl<S: Scheduler> Node<S> {
         ensures settled { OnOk result (IsSettled self.old self.new) }
         ensures begins { OnOk result (flat_map I.waits ins.old ≡ [] → BeginsEagerly procs.now self.old self.new) }
         ensures sent { OnOk result (HasSent self.old self.new (map O.seen outs.old) (map O.seen outs.new)) }
-        ensures same_ins { Pairwise I.same ins.old ins.new }
-        ensures same_outs { Pairwise O.same outs.old outs.new }
+        ensures same_ins { (first : List I) → Pairwise I.same first ins.old → Pairwise I.same first ins.new }
+        ensures same_outs { (first : List O) → Pairwise O.same first outs.old → Pairwise O.same first outs.new }
     {
         self.receive_all(alloc, ins)?;
         self.go_on(alloc, procs, rounds)?;
@@ -144,17 +146,60 @@ impl<S: Scheduler> Node<S> {
         &mut self,
         alloc: Global,
         procs: &Procs,
-        rounds: &mut D,
+        rounds: &D,
     ) -> Result<(), NoMemory>
+        requires ready { D.ready rounds.now }
+        requires can { CanGo procs.now [] self.old }
+        ensures moved { MovesOn procs.now [] self.old self.new }
+        ensures knows { KnowsTheSame self.old self.new }
+        ensures settled { OnOk result (IsSettled self.old self.new) }
+        ensures begins { OnOk result (BeginsEagerly procs.now self.old self.new) }
     {
-        loop {
-            let answered = self.answer_all(alloc)?;
-            let submitted = self.submit_all(alloc, procs)?;
-            rounds.round(alloc, &mut self.site.region, procs)?;
-            if !answered && !submitted {
-                return Ok(());
-            }
-        }
+        while self.pass(alloc, procs, rounds)? {}
+        Ok(())
+    }
+
+    /// Lets the sessions go on once, and makes a round. Says whether some session went on.
+    fn pass<D: Rounds<Region<S>>>(
+        &mut self,
+        alloc: Global,
+        procs: &Procs,
+        rounds: &D,
+    ) -> Result<bool, NoMemory>
+        requires ready { D.ready rounds.now }
+        requires can { CanGo procs.now [] self.old }
+        ensures moved { MovesOn procs.now [] self.old self.new }
+        ensures knows { KnowsTheSame self.old self.new }
+        ensures drained { OnOk result (IsDrained self.new.site.region.state.logs self.new.site.region.state.here) }
+        ensures passed { IfOk result (λ some. PassesOnce self.old some self.new) }
+        ensures begins { OnOk result (BeginsEagerly procs.now self.old self.new) }
+    {
+        let answered = self.answer_all(alloc)?;
+        let submitted = self.submit_all(alloc, procs)?;
+        self.round(alloc, procs, rounds)?;
+        Ok(answered | submitted)
+    }
+
+    /// The third step: makes a round.
+    fn round<D: Rounds<Region<S>>>(
+        &mut self,
+        alloc: Global,
+        procs: &Procs,
+        rounds: &D,
+    ) -> Result<(), NoMemory>
+        requires ready { D.ready rounds.now }
+        requires can { CanGo procs.now [] self.old }
+        ensures moved { MovesOn procs.now [] self.old self.new }
+        ensures knows { KnowsTheSame self.old self.new }
+        ensures sessions { self.new.sessions ≡ self.old.sessions }
+        ensures asked { self.new.site.region.state.here.asked ≡ self.old.site.region.state.here.asked }
+        ensures taken { self.new.site.region.state.here.taken ≡ self.old.site.region.state.here.taken }
+        ensures drained { OnOk result (IsDrained self.new.site.region.state.logs self.new.site.region.state.here) }
+    {
+        rounds.round(alloc, &mut self.site.region, procs)?;
+        // Names the region, so that the proof has what its type keeps.
+        let _number = self.site.region.number();
+        Ok(())
     }
 }
 
@@ -162,9 +207,5 @@ impl<S: Scheduler> Node<S> {
 fn zeros(alloc: Global, regions: u8) -> Result<Vec<u32>, NoMemory>
     ensures { IfOk result (λ counts. counts.items ≡ replicate regions 0) }
 {
-    let mut counts = Vec::with_capacity(alloc, regions as usize)?;
-    for _ in 0..regions {
-        counts.push(0)?;
-    }
-    Ok(counts)
+    Ok(vec![in alloc; 0; regions as usize]?)
 }

@@ -16,7 +16,7 @@ use std::alloc::Global;
 /// So many requests, and so many entries, a packet has at most.
 const MOST_ITEMS: usize = 256;
 
-impl<S: Scheduler> Node<S> {
+impl<S: Scheduler + Drop> Node<S> {
     /// The last step of a turn: sends one packet to each other region, as often as the plan says. All packets are made before
     /// the first is put.
     pub(crate) fn send<O: Outlet>(&mut self, alloc: Global, outs: &mut [O]) -> Result<(), NoMemory>
