@@ -105,6 +105,8 @@ pub record HasHeard (packets : List Packet) (before after : NodeView) (other : �
 -- all packets were taken, and all that they tell is known
 pub record HasTaken (packets : List Packet) (before after : NodeView) : Type 0 where
   pub each : AllIn (IsTaken after) packets
+  pub many_took : length after.took ≡ length before.took
+  pub many_received : length after.received ≡ length before.received
   pub heard : (other : ℕ) → other < length before.took → other < length before.received → HasHeard packets before after other
 
 -- the outcome at its node of the attempt that a session waits for, if there are both

@@ -1,0 +1,14 @@
+pub mod Falling
+pub mod Greatest
+pub mod Going
+pub mod Answering
+pub mod Submitting
+pub mod Placing
+pub mod Delivering
+pub mod Rounding
+pub mod Stamping
+pub mod Moving
+pub mod Making
+pub mod Telling
+pub mod Taking
+pub mod Few

@@ -1,0 +1,120 @@
+-- What each call on the node's region and sessions makes of the node: `MovesOn`, from what the call says by itself.
+use Rattle.std.proofs.Common.{◌≡◌, ◌≢◌, ◌<◌, ◌≤◌, ◌+◌, ◌-◌, ℕ, zero, suc, true, List, [], ◌∷◌, ◌++◌, length, map, max, drop, take, get_or, set, slice_get, Ok, Some, refl, sym, ap, subst, ◌∙◌, inl, arith}
+use Rattle.std.specs.Prelude.{slice_index}
+use Rattle.std.proofs.lemmas.List.{get_or-set_same, get_or-set_other, length-append}
+use Rattle.dt_lists.specs.Lists.{AllIn, Either}
+use Rattle.dt_lists.proofs.Callers.{all_map, either_nat}
+use Rattle.dt_access.specs.Clash.{Bytes}
+use Rattle.dt_access.specs.declared.TxnId.{TxnId}
+use Rattle.dt_log.specs.declared.Taken.TheVariants.{New}
+use Rattle.dt_events.specs.declared.Event.{Event}
+use Rattle.dt_events.specs.declared.Event.TheVariants.{Submit, Append, Deliver, Answer}
+use Rattle.dt_events.specs.Stamps.{stamped_from}
+use Rattle.dt_sched.specs.Views.{log_at}
+use Rattle.dt_proc.specs.Tree.{ProcTree}
+use Rattle.dt_txn.specs.declared.Body.{Body}
+use Rattle.dt_txn.specs.declared.Entry.{Entry}
+use Rattle.dt_txn.specs.declared.Txn.{Txn}
+use Rattle.dt_txn.specs.Replica.{taken_from}
+use Rattle.dt_region.specs.Region.{RegionView, latest_stamp}
+use Rattle.dt_region.specs.Rules.{MakesAppend, MakesDelivery, past_end, with_entries, with_event}
+use Rattle.dt_region.specs.Sound.{IsSoundRegion}
+use Rattle.dt_packet.specs.declared.packet.Packet.{Packet}
+use Rattle.dt_cluster.specs.declared.Cluster.{Cluster}
+use Rattle.dt_workload.specs.declared.Workload.{Workload}
+use Rattle.dt_session.specs.Sessions.{after_answer, after_wait}
+use Rattle.dt_session.specs.World.{World, asked_of, txn_of}
+use Rattle.dt_session.specs.Run.{world_after}
+use Rattle.dt_site.specs.declared.Origin.{Origin}
+use Rattle.dt_site.specs.Site.{SiteView, MakesAttempt, in_region}
+use Rattle.dt_node.specs.NodeView.{NodeView, number_of}
+use Rattle.dt_node.specs.Standing.{NodeFits}
+use Rattle.dt_node.specs.Turn.{BringsRequest, GoesAfter, IsBroughtBy}
+use Rattle.dt_node.specs.TurnInner.{IsNextAt, MayAnswerAt, MovesOn}
+use Rattle.dt_node.proofs.Answering.{answer_goes}
+use Rattle.dt_node.proofs.Moving.{StaysBeside, made_some}
+use Rattle.dt_node.proofs.Submitting.{submit_goes}
+
+-- a session was answered
+pub answer_moves : {procs : List ProcTree} {a : NodeView} (name : Bytes) (r : RegionView) → r ≡ with_event a.site.region a.site.region.state (Answer (number_of a) name) → MayAnswerAt a name
+    → MovesOn procs [] a (record a { site = in_region a.site r; sessions = after_answer a.sessions name })
+answer_moves {procs} {a} name r is may = made_some {procs = procs} {packets = []} {a = a} {b = record a { site = in_region a.site r; sessions = after_answer a.sessions name }} (Answer (number_of a) name ∷ [])
+    (ap (λ (x : RegionView). x.events) is)
+    (ap (λ (x : RegionView). x.heard) is)  -- stamps
+    (refl, tt) (λ cluster workload events p f. answer_goes f name r is may)
+    (record {
+      number = ap (λ (x : RegionView). x.state.number) is;
+      regions = ap (λ (x : RegionView). x.state.regions) is;
+      plan = refl;
+      taken = λ source. let same : taken_from r.state.here source ≡ taken_from a.site.region.state.here source = ap (λ (x : RegionView). taken_from x.state.here source) is in omega (arith, same);
+      logs = λ home. let same : length (log_at r.state.logs home) ≡ length (log_at a.site.region.state.logs home) = ap (λ (x : RegionView). length (log_at x.state.logs home)) is in omega (arith, same);
+    }) (tt, tt)
+
+-- a session submitted its next attempt
+pub submit_moves : {procs : List ProcTree} {a : NodeView} (name : Bytes) {origin : Origin} {rank : ℕ} {body : Body} → IsNextAt a name origin rank body → (id : TxnId) (q : SiteView)
+    → MakesAttempt procs a.site rank body origin (Ok id) q → IsSoundRegion q.region.state → MovesOn procs [] a (record a { site = q; sessions = after_wait a.sessions name id })
+submit_moves {procs} {a} name {origin} {rank} {body} t id q made sound = made_some {procs = procs} {packets = []} {a = a} {b = record a { site = q; sessions = after_wait a.sessions name id }} (Submit (number_of a) name ∷ [])
+    (ap (λ (x : SiteView). x.region.events) made.1 ∙ ap (λ n. a.site.region.events ++ stamped_from (latest_stamp a.site.region + 1) (Submit (number_of a) n ∷ [])) t.session)
+    (ap (λ (x : SiteView). x.region.heard) made.1)  -- stamps
+    (refl, tt) (λ cluster workload events p f. submit_goes f name t id q (subst (λ l. MakesAttempt l a.site rank body origin (Ok id) q) p made) sound)
+    (record {
+      number = ap (λ (x : SiteView). x.region.state.number) made.1;
+      regions = ap (λ (x : SiteView). x.region.state.regions) made.1;
+      plan = refl;
+      taken = λ source. let same : taken_from q.region.state.here source ≡ taken_from a.site.region.state.here source = ap (λ (x : SiteView). taken_from x.region.state.here source) made.1 in omega (arith, same);
+      logs = λ home. let same : length (log_at q.region.state.logs home) ≡ length (log_at a.site.region.state.logs home) = ap (λ (x : SiteView). length (log_at x.region.state.logs home)) made.1 in omega (arith, same);
+    }) (tt, tt)
+
+-- setting one count above what it was lowers none
+raised : (counts : List ℕ) (place other : ℕ) → slice_index counts other ≤ slice_index (set counts place (slice_index counts place + 1)) other
+raised [] place other = omega arith
+raised (n ∷ counts) zero zero = omega arith
+raised (n ∷ counts) zero (suc other) = omega arith
+raised (n ∷ counts) (suc place) zero = omega arith
+raised (n ∷ counts) (suc place) (suc other) = raised counts place other
+
+-- making one list longer shortens none
+lengthened : {A : Type 0} (lists : List (List A)) (place other : ℕ) (more : List A) → length (get_or lists other []) ≤ length (get_or (set lists place (get_or lists place [] ++ more)) other [])
+lengthened [] place other more = omega arith
+lengthened (l ∷ lists) zero zero more = omega (arith, length-append l more)
+lengthened (l ∷ lists) zero (suc other) more = omega arith
+lengthened (l ∷ lists) (suc place) zero more = omega arith
+lengthened (l ∷ lists) (suc place) (suc other) more = lengthened lists place other more
+
+-- a request was placed
+module _ {procs : List ProcTree} {packets : List Packet} {a : NodeView} (source number : ℕ) (txn : Txn) (r : RegionView) (made : MakesAppend a.site.region source number txn (Ok true) r) where
+  pub place_beside : StaysBeside a (record a { site = in_region a.site r })
+  place_beside = record {
+    number = ap (λ (x : RegionView). x.state.number) made.1;
+    regions = ap (λ (x : RegionView). x.state.regions) made.1;
+    plan = refl;
+    taken = λ other. subst (λ (x : RegionView). taken_from a.site.region.state.here other ≤ taken_from x.state.here other) (sym made.1) (raised a.site.region.state.here.taken source other);
+    logs = λ home. subst (λ (x : RegionView). length (log_at a.site.region.state.logs home) ≤ length (log_at x.state.logs home)) (sym made.1)
+        (lengthened a.site.region.state.logs _ home _);
+  }
+
+  pub place_moves : ((cluster : Cluster) (workload : Workload) (events : List Event) → procs ≡ cluster.procs → NodeFits cluster workload events a
+      → GoesAfter cluster workload events (Append (number_of a) source number ∷ []) (record a { site = in_region a.site r }))
+      → IsBroughtBy packets (latest_stamp a.site.region + 1) (Append (number_of a) source number) → MovesOn procs packets a (record a { site = in_region a.site r })
+  place_moves goes brought = made_some {procs = procs} {packets = packets} {a = a} {b = record a { site = in_region a.site r }} (Append (number_of a) source number ∷ []) (ap (λ (x : RegionView). x.events) made.1)
+      (ap (λ (x : RegionView). x.heard) made.1)  -- stamps
+      (refl, tt) goes place_beside (brought, tt)
+
+-- entries were received
+module _ {procs : List ProcTree} {packets : List Packet} {a : NodeView} (home first : ℕ) (entries : List Entry) (n : ℕ) (r : RegionView) (made : MakesDelivery a.site.region home first entries (Ok (New n)) r) where
+  pub receive_beside : StaysBeside a (record a { site = in_region a.site r })
+  receive_beside = record {
+    number = ap (λ (x : RegionView). x.state.number) made.3;
+    regions = ap (λ (x : RegionView). x.state.regions) made.3;
+    plan = refl;
+    taken = λ other. let same : taken_from r.state.here other ≡ taken_from a.site.region.state.here other = ap (λ (x : RegionView). taken_from x.state.here other) made.3 in omega (arith, same);
+    logs = λ other. subst (λ (x : RegionView). length (log_at a.site.region.state.logs other) ≤ length (log_at x.state.logs other)) (sym made.3)
+        (lengthened a.site.region.state.logs home other (map (λ e. e.part) (past_end (log_at a.site.region.state.logs home) first entries)));
+  }
+
+  pub receive_moves : ((cluster : Cluster) (workload : Workload) (events : List Event) → procs ≡ cluster.procs → NodeFits cluster workload events a
+      → GoesAfter cluster workload events (Deliver (number_of a) home first (first + length entries) ∷ []) (record a { site = in_region a.site r }))
+      → IsBroughtBy packets (latest_stamp a.site.region + 1) (Deliver (number_of a) home first (first + length entries)) → MovesOn procs packets a (record a { site = in_region a.site r })
+  receive_moves goes brought = made_some {procs = procs} {packets = packets} {a = a} {b = record a { site = in_region a.site r }} (Deliver (number_of a) home first (first + length entries) ∷ []) (ap (λ (x : RegionView). x.events) made.3)
+      (ap (λ (x : RegionView). x.heard) made.3)  -- stamps
+      (refl, tt) goes receive_beside (brought, tt)
