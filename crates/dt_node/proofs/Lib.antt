@@ -12,3 +12,4 @@ pub mod Making
 pub mod Telling
 pub mod Taking
 pub mod Few
+pub mod Ready

@@ -82,7 +82,7 @@ lengthened (l ∷ lists) (suc place) zero more = omega arith
 lengthened (l ∷ lists) (suc place) (suc other) more = lengthened lists place other more
 
 -- a request was placed
-module _ {procs : List ProcTree} {packets : List Packet} {a : NodeView} (source number : ℕ) (txn : Txn) (r : RegionView) (made : MakesAppend a.site.region source number txn (Ok true) r) where
+module _ {a : NodeView} (source number : ℕ) (txn : Txn) (r : RegionView) (made : MakesAppend a.site.region source number txn (Ok true) r) where
   pub place_beside : StaysBeside a (record a { site = in_region a.site r })
   place_beside = record {
     number = ap (λ (x : RegionView). x.state.number) made.1;
@@ -93,15 +93,15 @@ module _ {procs : List ProcTree} {packets : List Packet} {a : NodeView} (source 
         (lengthened a.site.region.state.logs _ home _);
   }
 
-  pub place_moves : ((cluster : Cluster) (workload : Workload) (events : List Event) → procs ≡ cluster.procs → NodeFits cluster workload events a
+  pub place_moves : {procs : List ProcTree} {packets : List Packet} → ((cluster : Cluster) (workload : Workload) (events : List Event) → procs ≡ cluster.procs → NodeFits cluster workload events a
       → GoesAfter cluster workload events (Append (number_of a) source number ∷ []) (record a { site = in_region a.site r }))
       → IsBroughtBy packets (latest_stamp a.site.region + 1) (Append (number_of a) source number) → MovesOn procs packets a (record a { site = in_region a.site r })
-  place_moves goes brought = made_some {procs = procs} {packets = packets} {a = a} {b = record a { site = in_region a.site r }} (Append (number_of a) source number ∷ []) (ap (λ (x : RegionView). x.events) made.1)
+  place_moves {procs} {packets} goes brought = made_some {procs = procs} {packets = packets} {a = a} {b = record a { site = in_region a.site r }} (Append (number_of a) source number ∷ []) (ap (λ (x : RegionView). x.events) made.1)
       (ap (λ (x : RegionView). x.heard) made.1)  -- stamps
       (refl, tt) goes place_beside (brought, tt)
 
 -- entries were received
-module _ {procs : List ProcTree} {packets : List Packet} {a : NodeView} (home first : ℕ) (entries : List Entry) (n : ℕ) (r : RegionView) (made : MakesDelivery a.site.region home first entries (Ok (New n)) r) where
+module _ {a : NodeView} (home first : ℕ) (entries : List Entry) (n : ℕ) (r : RegionView) (made : MakesDelivery a.site.region home first entries (Ok (New n)) r) where
   pub receive_beside : StaysBeside a (record a { site = in_region a.site r })
   receive_beside = record {
     number = ap (λ (x : RegionView). x.state.number) made.3;
@@ -112,9 +112,9 @@ module _ {procs : List ProcTree} {packets : List Packet} {a : NodeView} (home fi
         (lengthened a.site.region.state.logs home other (map (λ e. e.part) (past_end (log_at a.site.region.state.logs home) first entries)));
   }
 
-  pub receive_moves : ((cluster : Cluster) (workload : Workload) (events : List Event) → procs ≡ cluster.procs → NodeFits cluster workload events a
+  pub receive_moves : {procs : List ProcTree} {packets : List Packet} → ((cluster : Cluster) (workload : Workload) (events : List Event) → procs ≡ cluster.procs → NodeFits cluster workload events a
       → GoesAfter cluster workload events (Deliver (number_of a) home first (first + length entries) ∷ []) (record a { site = in_region a.site r }))
       → IsBroughtBy packets (latest_stamp a.site.region + 1) (Deliver (number_of a) home first (first + length entries)) → MovesOn procs packets a (record a { site = in_region a.site r })
-  receive_moves goes brought = made_some {procs = procs} {packets = packets} {a = a} {b = record a { site = in_region a.site r }} (Deliver (number_of a) home first (first + length entries) ∷ []) (ap (λ (x : RegionView). x.events) made.3)
+  receive_moves {procs} {packets} goes brought = made_some {procs = procs} {packets = packets} {a = a} {b = record a { site = in_region a.site r }} (Deliver (number_of a) home first (first + length entries) ∷ []) (ap (λ (x : RegionView). x.events) made.3)
       (ap (λ (x : RegionView). x.heard) made.3)  -- stamps
       (refl, tt) goes receive_beside (brought, tt)

@@ -127,11 +127,8 @@ module _ {procs : List ProcTree} {packets : List Packet} {a b : NodeView} (event
     (mine : AllIn (λ e. region_of e ≡ number_of a) events)
     (goes : (cluster : Cluster) (workload : Workload) (before : List Event) → procs ≡ cluster.procs → NodeFits cluster workload before a → GoesAfter cluster workload before events b)
     (beside : StaysBeside a b) (brought : AllIn (λ x. IsBroughtBy packets x.stamp x.event) (stamped_from (latest_stamp a.site.region + 1) events)) where
-  are : new_items a b ≡ stamped_from (latest_stamp a.site.region + 1) events
-  are = new_are a b kept
-
   pub made_some : MovesOn procs packets a b
-  made_some = record {
+  made_some = let are : new_items a b ≡ stamped_from (latest_stamp a.site.region + 1) events = new_are a b kept in record {
     gone = record {
       grows = kept ∙ ap (λ l. a.site.region.events ++ l) (sym are);
       mine = subst (AllIn (λ x. region_at x ≡ number_of a)) (sym are) (mine_stamped (latest_stamp a.site.region + 1) (number_of a) events mine);
@@ -150,11 +147,8 @@ module _ {procs : List ProcTree} {packets : List Packet} {a b : NodeView} (event
 module _ {procs : List ProcTree} {packets : List Packet} {a b : NodeView} (same : b.site.region.events ≡ a.site.region.events)
     (up : latest_stamp a.site.region ≤ latest_stamp b.site.region) (low : latest_stamp b.site.region ≤ greatest (latest_stamp a.site.region) (map (λ p. p.stamp) packets))  -- stamps
     (fits : (cluster : Cluster) (workload : Workload) (events : List Event) → NodeFits cluster workload events a → NodeFits cluster workload events b) (beside : StaysBeside a b) where
-  none : new_items a b ≡ []
-  none = new_none a b same
-
   pub made_none : MovesOn procs packets a b
-  made_none = record {
+  made_none = let none : new_items a b ≡ [] = new_none a b same in record {
     gone = record {
       grows = same ∙ sym (append-nil a.site.region.events) ∙ ap (λ l. a.site.region.events ++ l) (sym none);
       mine = subst (AllIn (λ x. region_at x ≡ number_of a)) (sym none) tt;

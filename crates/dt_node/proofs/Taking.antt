@@ -68,9 +68,9 @@ taken_on {xs} {a} {b} {c} t took received taken logs = subst (λ l. HasTaken l a
 pub taking_starts : (packets : List Packet) (a : NodeView) → IsTaking a packets packets a
 taking_starts packets a = record { done = []; is = refl; moved = λ procs. made_nothing a; taken = taken_none {a = a} {b = a} refl refl; turns = refl }
 
-pub taking_goes : {a b c : NodeView} {packets xs left : List Packet} → IsTaking a packets (xs ++ left) b → ((procs : List ProcTree) → MovesOn procs xs b c) → HasTaken xs b c → c.turns ≡ b.turns
+pub taking_goes : {a b c : NodeView} {packets xs : List Packet} (left : List Packet) → IsTaking a packets (xs ++ left) b → ((procs : List ProcTree) → MovesOn procs xs b c) → HasTaken xs b c → c.turns ≡ b.turns
     → IsTaking a packets left c
-taking_goes {a} {b} {c} {packets} {xs} {left} t moved taken turns = record {
+taking_goes {a} {b} {c} {packets} {xs} left t moved taken turns = record {
   done = t.done ++ xs;
   is = t.is ∙ sym (append_assoc t.done xs left);
   moved = λ procs. moves_more (t.moved procs) (moved procs);
@@ -83,6 +83,6 @@ taking_ends {a} {b} {packets} t =
     let all : t.done ≡ packets = sym (t.is ∙ append-nil t.done) in (λ procs. subst (λ l. MovesOn procs l a b) all (t.moved procs), subst (λ l. HasTaken l a b) all t.taken)
 
 -- where the taking broke off, what was made is still by these packets
-pub taking_breaks : {a b c : NodeView} {packets xs left : List Packet} → IsTaking a packets (xs ++ left) b → ((procs : List ProcTree) → MovesOn procs xs b c) → (procs : List ProcTree) → MovesOn procs packets a c
-taking_breaks {a} {b} {c} {packets} {xs} {left} t moved procs =
+pub taking_breaks : {a b c : NodeView} {packets xs : List Packet} (left : List Packet) → IsTaking a packets (xs ++ left) b → ((procs : List ProcTree) → MovesOn procs xs b c) → (procs : List ProcTree) → MovesOn procs packets a c
+taking_breaks {a} {b} {c} {packets} {xs} left t moved procs =
     subst (λ l. MovesOn procs l a c) (append_assoc t.done xs left ∙ sym t.is) (moves_by_more left (moves_more (t.moved procs) (moved procs)))

@@ -81,7 +81,7 @@ module _ {procs : List ProcTree} {packets : List Packet} {n : NodeView} (s : Nod
   }
 
 -- and goes on where it may, with what is left of the packets
-module _ {procs : List ProcTree} {xs ys : List Packet} {a b : NodeView} (c : CanGo procs (xs ++ ys) a) (m : MovesOn procs xs a b) where
+module _ {procs : List ProcTree} (xs ys : List Packet) {a b : NodeView} (c : CanGo procs (xs ++ ys) a) (m : MovesOn procs xs a b) where
   new_events : List Event
   new_events = events_of (new_items a b)
 
@@ -135,5 +135,5 @@ module _ {procs : List ProcTree} {xs ys : List Packet} {a b : NodeView} (c : Can
           let up : latest_stamp b.site.region ≤ greatest (latest_stamp a.site.region) (map (λ p. p.stamp) xs) + length (new_items a b) = m.stamps.low in  -- stamps
           omega (arith, up, below, length-append c.all (new_items a b))  -- stamps
 
-pub take_on : {xs ys : List Packet} {a b : NodeView} → CanTake (xs ++ ys) a → ((procs : List ProcTree) → MovesOn procs xs a b) → CanTake ys b
-take_on c m = record { procs = c.procs; can = can_on c.can (m c.procs) }
+pub take_on : (xs ys : List Packet) {a b : NodeView} → CanTake (xs ++ ys) a → ((procs : List ProcTree) → MovesOn procs xs a b) → CanTake ys b
+take_on xs ys c m = record { procs = c.procs; can = can_on xs ys c.can (m c.procs) }
