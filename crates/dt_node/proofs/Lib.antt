@@ -10,6 +10,8 @@ pub mod Stamping
 pub mod Moving
 pub mod Making
 pub mod Telling
+pub mod Parting
+pub mod Noting
 pub mod Taking
 pub mod Few
 pub mod Ready

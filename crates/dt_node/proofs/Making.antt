@@ -28,7 +28,7 @@ use Rattle.dt_session.specs.Run.{world_after}
 use Rattle.dt_site.specs.declared.Origin.{Origin}
 use Rattle.dt_site.specs.Site.{SiteView, MakesAttempt, in_region}
 use Rattle.dt_node.specs.NodeView.{NodeView, number_of}
-use Rattle.dt_node.specs.Standing.{NodeFits}
+use Rattle.dt_node.specs.Standing.{AreTold, NodeFits}
 use Rattle.dt_node.specs.Turn.{BringsRequest, GoesAfter, IsBroughtBy}
 use Rattle.dt_node.specs.TurnInner.{IsNextAt, MayAnswerAt, MovesOn}
 use Rattle.dt_node.proofs.Answering.{answer_goes}
@@ -41,7 +41,7 @@ pub answer_moves : {procs : List ProcTree} {a : NodeView} (name : Bytes) (r : Re
 answer_moves {procs} {a} name r is may = made_some {procs = procs} {packets = []} {a = a} {b = record a { site = in_region a.site r; sessions = after_answer a.sessions name }} (Answer (number_of a) name ∷ [])
     (ap (λ (x : RegionView). x.events) is)
     (ap (λ (x : RegionView). x.heard) is)  -- stamps
-    (refl, tt) (λ cluster workload events p f. answer_goes f name r is may)
+    (refl, tt) (λ cluster workload events p f _. answer_goes f name r is may)
     (record {
       number = ap (λ (x : RegionView). x.state.number) is;
       regions = ap (λ (x : RegionView). x.state.regions) is;
@@ -56,7 +56,7 @@ pub submit_moves : {procs : List ProcTree} {a : NodeView} (name : Bytes) {origin
 submit_moves {procs} {a} name {origin} {rank} {body} t id q made sound = made_some {procs = procs} {packets = []} {a = a} {b = record a { site = q; sessions = after_wait a.sessions name id }} (Submit (number_of a) name ∷ [])
     (ap (λ (x : SiteView). x.region.events) made.1 ∙ ap (λ n. a.site.region.events ++ stamped_from (latest_stamp a.site.region + 1) (Submit (number_of a) n ∷ [])) t.session)
     (ap (λ (x : SiteView). x.region.heard) made.1)  -- stamps
-    (refl, tt) (λ cluster workload events p f. submit_goes f name t id q (subst (λ l. MakesAttempt l a.site rank body origin (Ok id) q) p made) sound)
+    (refl, tt) (λ cluster workload events p f _. submit_goes f name t id q (subst (λ l. MakesAttempt l a.site rank body origin (Ok id) q) p made) sound)
     (record {
       number = ap (λ (x : SiteView). x.region.state.number) made.1;
       regions = ap (λ (x : SiteView). x.region.state.regions) made.1;
@@ -93,10 +93,10 @@ module _ {a : NodeView} (source number : ℕ) (txn : Txn) (r : RegionView) (made
         (lengthened a.site.region.state.logs _ home _);
   }
 
-  pub place_moves : {procs : List ProcTree} {packets : List Packet} → ((cluster : Cluster) (workload : Workload) (events : List Event) → procs ≡ cluster.procs → NodeFits cluster workload events a
-      → GoesAfter cluster workload events (Append (number_of a) source number ∷ []) (record a { site = in_region a.site r }))
+  pub place_moves : {procs : List ProcTree} (packets : List Packet) → ((cluster : Cluster) (workload : Workload) (events : List Event) → procs ≡ cluster.procs → NodeFits cluster workload events a
+      → AreTold cluster workload events packets a → GoesAfter cluster workload events (Append (number_of a) source number ∷ []) (record a { site = in_region a.site r }))
       → IsBroughtBy packets (latest_stamp a.site.region + 1) (Append (number_of a) source number) → MovesOn procs packets a (record a { site = in_region a.site r })
-  place_moves {procs} {packets} goes brought = made_some {procs = procs} {packets = packets} {a = a} {b = record a { site = in_region a.site r }} (Append (number_of a) source number ∷ []) (ap (λ (x : RegionView). x.events) made.1)
+  place_moves {procs} packets goes brought = made_some {procs = procs} {packets = packets} {a = a} {b = record a { site = in_region a.site r }} (Append (number_of a) source number ∷ []) (ap (λ (x : RegionView). x.events) made.1)
       (ap (λ (x : RegionView). x.heard) made.1)  -- stamps
       (refl, tt) goes place_beside (brought, tt)
 
@@ -112,9 +112,9 @@ module _ {a : NodeView} (home first : ℕ) (entries : List Entry) (n : ℕ) (r :
         (lengthened a.site.region.state.logs home other (map (λ e. e.part) (past_end (log_at a.site.region.state.logs home) first entries)));
   }
 
-  pub receive_moves : {procs : List ProcTree} {packets : List Packet} → ((cluster : Cluster) (workload : Workload) (events : List Event) → procs ≡ cluster.procs → NodeFits cluster workload events a
-      → GoesAfter cluster workload events (Deliver (number_of a) home first (first + length entries) ∷ []) (record a { site = in_region a.site r }))
+  pub receive_moves : {procs : List ProcTree} (packets : List Packet) → ((cluster : Cluster) (workload : Workload) (events : List Event) → procs ≡ cluster.procs → NodeFits cluster workload events a
+      → AreTold cluster workload events packets a → GoesAfter cluster workload events (Deliver (number_of a) home first (first + length entries) ∷ []) (record a { site = in_region a.site r }))
       → IsBroughtBy packets (latest_stamp a.site.region + 1) (Deliver (number_of a) home first (first + length entries)) → MovesOn procs packets a (record a { site = in_region a.site r })
-  receive_moves {procs} {packets} goes brought = made_some {procs = procs} {packets = packets} {a = a} {b = record a { site = in_region a.site r }} (Deliver (number_of a) home first (first + length entries) ∷ []) (ap (λ (x : RegionView). x.events) made.3)
+  receive_moves {procs} packets goes brought = made_some {procs = procs} {packets = packets} {a = a} {b = record a { site = in_region a.site r }} (Deliver (number_of a) home first (first + length entries) ∷ []) (ap (λ (x : RegionView). x.events) made.3)
       (ap (λ (x : RegionView). x.heard) made.3)  -- stamps
       (refl, tt) goes receive_beside (brought, tt)

@@ -1,8 +1,8 @@
 -- What calls of a turn make, put together: one call after another, a call that makes no event, and a call that makes some.
 use Rattle.std.proofs.Common.{◌≡◌, ◌≢◌, ◌<◌, ◌≤◌, ◌+◌, ◌^◌, ℕ, List, [], ◌∷◌, ◌++◌, length, map, drop, refl, sym, ap, subst, ◌∙◌, append-nil, append_assoc, arith}
 use Rattle.std.proofs.lemmas.List.{map-append, length-append}
-use Rattle.dt_lists.specs.Lists.{AllIn, AnyIn}
-use Rattle.dt_lists.proofs.Callers.{all_append, all_append_left, all_append_right, all_get, all_map, any_append_left, any_append_right}
+use Rattle.dt_lists.specs.Lists.{AllIn}
+use Rattle.dt_lists.proofs.Callers.{all_append, all_image, all_map, any_append_left, any_append_right}
 use Rattle.dt_events.specs.declared.Event.{Event}
 use Rattle.dt_events.specs.declared.Event.TheVariants.{Submit, Append, Deliver, Insert, Resolve, Execute, Answer}
 use Rattle.dt_events.specs.declared.Stamped.{Stamped}
@@ -17,10 +17,11 @@ use Rattle.dt_cluster.specs.declared.Cluster.{Cluster}
 use Rattle.dt_workload.specs.declared.Workload.{Workload}
 use Rattle.dt_merge.specs.Merge.{region_at}
 use Rattle.dt_node.specs.NodeView.{NodeView, new_items, number_of}
-use Rattle.dt_node.specs.Standing.{NodeFits}
+use Rattle.dt_node.specs.Standing.{AreTold, NodeFits}
 use Rattle.dt_node.specs.Turn.{AreBrought, GoesAfter, HasGone, IsBroughtBy, greatest}
 use Rattle.dt_node.specs.TurnInner.{MovesOn}
 use Rattle.dt_node.proofs.Going.{goes_more, goes_none}
+use Rattle.dt_node.proofs.Telling.{told_along, told_first, told_rest}
 use Rattle.dt_node.proofs.Greatest.{above_greatest}
 use Rattle.dt_node.proofs.Stamping.{rise_by, rise_more, rise_none}  -- stamps
 
@@ -37,8 +38,8 @@ pub new_none : (a b : NodeView) → b.site.region.events ≡ a.site.region.event
 new_none a b same = new_are a b (same ∙ sym (append-nil a.site.region.events))
 
 -- the new events of one way and then of another
-pub new_joined : {procs : List ProcTree} {a b c : NodeView} → HasGone procs a b → HasGone procs b c → new_items a c ≡ new_items a b ++ new_items b c
-new_joined {procs} {a} {b} {c} g h = new_are a c (h.grows ∙ ap (λ l. l ++ new_items b c) g.grows ∙ append_assoc a.site.region.events (new_items a b) (new_items b c))
+pub new_joined : {procs : List ProcTree} {xs ys : List Packet} {a b c : NodeView} → HasGone procs xs a b → HasGone procs ys b c → new_items a c ≡ new_items a b ++ new_items b c
+new_joined {procs} {xs} {ys} {a} {b} {c} g h = new_are a c (h.grows ∙ ap (λ l. l ++ new_items b c) g.grows ∙ append_assoc a.site.region.events (new_items a b) (new_items b c))
 
 -- what some packets brought, more packets brought
 more_left : (xs ys : List Packet) (stamp : ℕ) (event : Event) → IsBroughtBy xs stamp event → IsBroughtBy (xs ++ ys) stamp event
@@ -59,18 +60,25 @@ more_right xs ys stamp (Resolve region ids) f = tt
 more_right xs ys stamp (Execute region id) f = tt
 more_right xs ys stamp (Answer region name) f = tt
 
+-- the events of a node, without their stamps
+own_events : (a : NodeView) (items : List Stamped) → AllIn (λ x. region_at x ≡ number_of a) items → AllIn (λ e. region_of e ≡ number_of a) (events_of items)
+own_events a items mine = all_image _ (λ x. x.event) items mine
+
 -- one way and then another
-module _ {procs : List ProcTree} {a b c : NodeView} (g : HasGone procs a b) (h : HasGone procs b c) where
-  pub gone_more : HasGone procs a c
+module _ {procs : List ProcTree} {xs ys : List Packet} {a b c : NodeView} (g : HasGone procs xs a b) (h : HasGone procs ys b c) where
+  pub gone_more : HasGone procs (xs ++ ys) a c
   gone_more =
       let joined : new_items a c ≡ new_items a b ++ new_items b c = new_joined g h in
       record {
         grows = h.grows ∙ ap (λ l. l ++ new_items b c) g.grows ∙ append_assoc a.site.region.events (new_items a b) (new_items b c) ∙ ap (λ l. a.site.region.events ++ l) (sym joined);
         mine = subst (AllIn (λ x. region_at x ≡ number_of a)) (sym joined)
             (all_append _ (new_items a b) (new_items b c) g.mine (all_map _ _ (new_items b c) (λ x e. e ∙ g.number) h.mine));
-        goes = λ cluster workload events p f.
-            let first : GoesAfter cluster workload events (events_of (new_items a b)) b = g.goes cluster workload events p f in
-            let second : GoesAfter cluster workload (events ++ events_of (new_items a b)) (events_of (new_items b c)) c = h.goes cluster workload (events ++ events_of (new_items a b)) p first.fits in
+        goes = λ cluster workload events p f t.
+            let first : GoesAfter cluster workload events (events_of (new_items a b)) b = g.goes cluster workload events p f (told_first xs ys t) in
+            let then : AreTold cluster workload (events ++ events_of (new_items a b)) ys b =
+            told_along (events_of (new_items a b)) f first.legal (own_events a (new_items a b) g.mine) g.number (told_rest xs ys t) in
+            let second : GoesAfter cluster workload (events ++ events_of (new_items a b)) (events_of (new_items b c)) c =
+            h.goes cluster workload (events ++ events_of (new_items a b)) p first.fits then in
             subst (λ l. GoesAfter cluster workload events l c) (sym (ap events_of joined ∙ map-append (λ x. x.event) (new_items a b) (new_items b c))) (goes_more first second);
         number = h.number ∙ g.number;
         regions = h.regions ∙ g.regions;
@@ -125,14 +133,16 @@ pub record StaysBeside (a b : NodeView) : Type 0 where
 module _ {procs : List ProcTree} {packets : List Packet} {a b : NodeView} (events : List Event) (kept : b.site.region.events ≡ a.site.region.events ++ stamped_from (latest_stamp a.site.region + 1) events)
     (heard : b.site.region.heard ≡ a.site.region.heard)  -- stamps
     (mine : AllIn (λ e. region_of e ≡ number_of a) events)
-    (goes : (cluster : Cluster) (workload : Workload) (before : List Event) → procs ≡ cluster.procs → NodeFits cluster workload before a → GoesAfter cluster workload before events b)
+    (goes : (cluster : Cluster) (workload : Workload) (before : List Event) → procs ≡ cluster.procs → NodeFits cluster workload before a
+      → AreTold cluster workload before packets a → GoesAfter cluster workload before events b)
     (beside : StaysBeside a b) (brought : AllIn (λ x. IsBroughtBy packets x.stamp x.event) (stamped_from (latest_stamp a.site.region + 1) events)) where
   pub made_some : MovesOn procs packets a b
   made_some = let are : new_items a b ≡ stamped_from (latest_stamp a.site.region + 1) events = new_are a b kept in record {
     gone = record {
       grows = kept ∙ ap (λ l. a.site.region.events ++ l) (sym are);
       mine = subst (AllIn (λ x. region_at x ≡ number_of a)) (sym are) (mine_stamped (latest_stamp a.site.region + 1) (number_of a) events mine);
-      goes = λ cluster workload before p f. subst (λ l. GoesAfter cluster workload before l b) (sym (ap events_of are ∙ events_back (latest_stamp a.site.region + 1) events)) (goes cluster workload before p f);
+      goes = λ cluster workload before p f t.
+          subst (λ l. GoesAfter cluster workload before l b) (sym (ap events_of are ∙ events_back (latest_stamp a.site.region + 1) events)) (goes cluster workload before p f t);
       number = beside.number;
       regions = beside.regions;
       plan = beside.plan;
@@ -146,13 +156,14 @@ module _ {procs : List ProcTree} {packets : List Packet} {a b : NodeView} (event
 -- no event was made
 module _ {procs : List ProcTree} {packets : List Packet} {a b : NodeView} (same : b.site.region.events ≡ a.site.region.events)
     (up : latest_stamp a.site.region ≤ latest_stamp b.site.region) (low : latest_stamp b.site.region ≤ greatest (latest_stamp a.site.region) (map (λ p. p.stamp) packets))  -- stamps
-    (fits : (cluster : Cluster) (workload : Workload) (events : List Event) → NodeFits cluster workload events a → NodeFits cluster workload events b) (beside : StaysBeside a b) where
+    (fits : (cluster : Cluster) (workload : Workload) (events : List Event) → NodeFits cluster workload events a → AreTold cluster workload events packets a
+      → NodeFits cluster workload events b) (beside : StaysBeside a b) where
   pub made_none : MovesOn procs packets a b
   made_none = let none : new_items a b ≡ [] = new_none a b same in record {
     gone = record {
       grows = same ∙ sym (append-nil a.site.region.events) ∙ ap (λ l. a.site.region.events ++ l) (sym none);
       mine = subst (AllIn (λ x. region_at x ≡ number_of a)) (sym none) tt;
-      goes = λ cluster workload events p f. subst (λ l. GoesAfter cluster workload events l b) (sym (ap events_of none)) (goes_none (fits cluster workload events f));
+      goes = λ cluster workload events p f t. subst (λ l. GoesAfter cluster workload events l b) (sym (ap events_of none)) (goes_none (fits cluster workload events f t));
       number = beside.number;
       regions = beside.regions;
       plan = beside.plan;
@@ -167,7 +178,7 @@ module _ {procs : List ProcTree} {packets : List Packet} {a b : NodeView} (same 
 pub made_nothing : {procs : List ProcTree} {packets : List Packet} (a : NodeView) → MovesOn procs packets a a
 made_nothing {procs} {packets} a = made_none {procs = procs} {packets = packets} {a = a} {b = a} refl
     (omega arith) (above_greatest (latest_stamp a.site.region) (map (λ p. p.stamp) packets))  -- stamps
-    (λ cluster workload events f. f) (record {
+    (λ cluster workload events f t. f) (record {
       number = refl;
       regions = refl;
       plan = refl;

@@ -56,6 +56,12 @@ module _ {xs ys : List Packet} {a b c : NodeView} (joined : new_items a c ≡ ne
         low = subst (λ l. latest_stamp c.site.region ≤ greatest (latest_stamp a.site.region) (map (λ p. p.stamp) (xs ++ ys)) + length l) (sym joined) both_low;
       }
 
+-- a packet with a greater stamp in the place of one with stamp 0
+pub rise_with : {q : Packet} (p : Packet) {a b : NodeView} → q.stamp ≡ 0 → StampsRise (q ∷ []) a b → StampsRise (p ∷ []) a b
+rise_with {q} p {a} {b} none s =
+    let low : latest_stamp b.site.region ≤ max (latest_stamp a.site.region) q.stamp + length (new_items a b) = s.low in
+    record { rising = s.rising; above = s.above; below = s.below; up = s.up; low = omega (arith, low, none) }
+
 -- no event was made, and perhaps a stamp was heard that some packet has
 pub rise_none : {packets : List Packet} {a b : NodeView} → new_items a b ≡ [] → latest_stamp a.site.region ≤ latest_stamp b.site.region
     → latest_stamp b.site.region ≤ greatest (latest_stamp a.site.region) (map (λ p. p.stamp) packets) → StampsRise packets a b

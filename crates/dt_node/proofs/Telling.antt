@@ -27,7 +27,7 @@ use Rattle.dt_site.specs.StandsIn.{IsReached}
 use Rattle.dt_site.proofs.Callers.{after_more, has_received, run_more, txns_stay}
 use Rattle.dt_node.specs.NodeView.{NodeView, new_items, number_of}
 use Rattle.dt_node.specs.Packets.{IsToldOf, IsTruePacket}
-use Rattle.dt_node.specs.Standing.{IsFor, NodeFits, NodeStands}
+use Rattle.dt_node.specs.Standing.{AreTold, IsFor, NodeFits, NodeStands}
 use Rattle.dt_node.specs.Turn.{GoesAfter, greatest}
 use Rattle.dt_node.specs.TurnInner.{BeginsWithin, CanGo, CanTake, MovesOn}
 use Rattle.dt_node.proofs.Going.{reached}
@@ -55,6 +55,25 @@ module _ {cluster : Cluster} {workload : Workload} {me : ℕ} {p : Packet} (othe
       told_on new (record { events = k.events ++ e ∷ []; run = run_more k e legal.0; after = after_more k e }) legal.1 mine.1
       (told_still (ap (λ o. o.node) (frame cluster workload w p.source e (λ is. other (sym is ∙ mine.0)))) (λ id txn f. txns_stay k e legal.0 id txn f) t)
 
+-- what is told stays so along a way of the node
+pub told_along : {cluster : Cluster} {workload : Workload} {events : List Event} {packets : List Packet} {a b : NodeView} (new : List Event) → NodeFits cluster workload events a → AreLegalFrom cluster workload (world_after cluster workload events) new
+    → AllIn (λ e. region_of e ≡ number_of a) new → number_of b ≡ number_of a → AreTold cluster workload events packets a → AreTold cluster workload (events ++ new) packets b
+told_along {cluster} {workload} {events} {packets} {a} {b} new f legal mine number t = record {
+  addressed = subst (λ n. AllIn (IsFor cluster.regions n) packets) (sym number) t.addressed;
+  told = all_put _ packets (λ p h. subst (λ w. IsToldOf w p) (sym later) (told_on (all_get _ packets t.addressed p h).other new (reached f) legal mine (all_get _ packets t.told p h)));
+}
+  where
+    later : world_after cluster workload (events ++ new) ≡ world_from cluster workload (world_after cluster workload events) new
+    later = world_from_append cluster workload (opening_world cluster workload) events new
+
+-- of fewer packets as much is told
+
+pub told_first : {cluster : Cluster} {workload : Workload} {events : List Event} (xs ys : List Packet) {a : NodeView} → AreTold cluster workload events (xs ++ ys) a → AreTold cluster workload events xs a
+told_first xs ys t = record { addressed = all_append_left _ xs ys t.addressed; told = all_append_left _ xs ys t.told }
+
+pub told_rest : {cluster : Cluster} {workload : Workload} {events : List Event} (xs ys : List Packet) {a : NodeView} → AreTold cluster workload events (xs ++ ys) a → AreTold cluster workload events ys a
+told_rest xs ys t = record { addressed = all_append_right _ xs ys t.addressed; told = all_append_right _ xs ys t.told }
+
 -- a turn begins where it may
 module _ {procs : List ProcTree} {packets : List Packet} {n : NodeView} (s : NodeStands procs packets n) where
   begins_within : (p : Packet) → IsFor s.cluster.regions (number_of n) p → IsTruePacket s.cluster s.workload s.all p → BeginsWithin n p
@@ -73,8 +92,7 @@ module _ {procs : List ProcTree} {packets : List Packet} {n : NodeView} (s : Nod
     all = s.all;
     procs_are = s.procs_are;
     fits = s.fits;
-    addressed = s.addressed;
-    told = all_map _ _ packets (λ p t. t.told s.all [] (sym (append-nil s.all)) tt) s.true_packets;
+    told = record { addressed = s.addressed; told = all_map _ _ packets (λ p t. t.told s.all [] (sym (append-nil s.all)) tt) s.true_packets };
     begins = all_put _ packets (λ p h. begins_within p (all_get _ packets s.addressed p h) (all_get _ packets s.true_packets p h));
     packet_stamps = s.packet_stamps;  -- stamps
     low = let h : latest_stamp n.site.region < 2 ^ 60 = s.heard in omega (arith, h);  -- stamps
@@ -91,17 +109,11 @@ module _ {procs : List ProcTree} (xs ys : List Packet) {a b : NodeView} (c : Can
 
   goes : GoesAfter c.cluster c.workload (events_of c.all) new_events b
   unfolding new_events
-  goes = m.gone.goes c.cluster c.workload (events_of c.all) c.procs_are c.fits
+  goes = m.gone.goes c.cluster c.workload (events_of c.all) c.procs_are c.fits (told_first xs ys c.told)
 
   own_events : AllIn (λ e. region_of e ≡ number_of a) new_events
   unfolding new_events
   own_events = all_image _ (λ x. x.event) (new_items a b) m.gone.mine
-
-  world_then : world_after c.cluster c.workload (events_of (c.all ++ new_items a b)) ≡ world_from c.cluster c.workload (world_after c.cluster c.workload (events_of c.all)) new_events
-  world_then = ap (world_after c.cluster c.workload) all_events ∙ world_from_append c.cluster c.workload (opening_world c.cluster c.workload) (events_of c.all) new_events
-
-  still_told : (p : Packet) → IsFor c.cluster.regions (number_of a) p → IsToldOf (world_after c.cluster c.workload (events_of c.all)) p → IsToldOf (world_after c.cluster c.workload (events_of (c.all ++ new_items a b))) p
-  still_told p to t = subst (λ w. IsToldOf w p) (sym world_then) (told_on to.other new_events (reached c.fits) goes.legal own_events t)
 
   still_within : (p : Packet) → BeginsWithin a p → BeginsWithin b p
   still_within p f =
@@ -118,8 +130,7 @@ module _ {procs : List ProcTree} (xs ys : List Packet) {a b : NodeView} (c : Can
     all = c.all ++ new_items a b;
     procs_are = c.procs_are;
     fits = subst (λ l. NodeFits c.cluster c.workload l b) (sym all_events) goes.fits;
-    addressed = subst (λ n. AllIn (IsFor c.cluster.regions n) ys) (sym m.gone.number) (all_append_right _ xs ys c.addressed);
-    told = all_put _ ys (λ p h. still_told p (all_get _ ys (all_append_right _ xs ys c.addressed) p h) (all_get _ ys (all_append_right _ xs ys c.told) p h));
+    told = subst (λ l. AreTold c.cluster c.workload l ys b) (sym all_events) (told_along new_events c.fits goes.legal own_events m.gone.number (told_rest xs ys c.told));
     begins = all_map _ _ ys still_within (all_append_right _ xs ys c.begins);
     packet_stamps = all_append_right _ xs ys c.packet_stamps;  -- stamps
     low = low_then;  -- stamps

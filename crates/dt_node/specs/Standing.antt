@@ -20,7 +20,7 @@ use Rattle.dt_events.specs.Stamps.{events_of}
 use Rattle.dt_site.specs.SessionsStandIn.{SessionsStandIn}
 use Rattle.dt_site.specs.StandsIn.{StandsIn}
 use Rattle.dt_node.specs.NodeView.{NodeView, number_of}
-use Rattle.dt_node.specs.Packets.{IsTruePacket}
+use Rattle.dt_node.specs.Packets.{IsToldOf, IsTruePacket}
 
 -- another region has placed at least as many of a node's requests, and received at least as much of its log, as the node
 -- knows of it
@@ -48,6 +48,11 @@ pub record IsFor (regions me : ℕ) (p : Packet) : Type 0 where
   pub target : p.target ≡ me
   pub other : p.source ≢ me
   pub source : p.source < regions
+
+-- packets for a node's region, of which all that they tell is so after these events
+pub record AreTold (cluster : Cluster) (workload : Workload) (events : List Event) (packets : List Packet) (n : NodeView) : Type 0 where
+  pub addressed : AllIn (IsFor cluster.regions (number_of n)) packets
+  pub told : AllIn (IsToldOf (world_after cluster workload events)) packets
 
 -- there is a world in which a node stands and these packets, which wait for it, are true; and its stamps leave room
 pub record NodeStands (procs : List ProcTree) (packets : List Packet) (n : NodeView) : Type 0 where

@@ -25,7 +25,7 @@ use Rattle.dt_session.specs.Eager.{AllChange, first_calls, first_events, session
 use Rattle.dt_events.specs.Stamps.{events_of}
 use Rattle.dt_merge.specs.Merge.{HasLowerStamp, region_at}
 use Rattle.dt_node.specs.NodeView.{NodeView, new_items, number_of}
-use Rattle.dt_node.specs.Standing.{NodeFits}
+use Rattle.dt_node.specs.Standing.{AreTold, NodeFits}
 
 -- new events are legal after those that there are, each changes something, and the node stands in the world after them
 pub record GoesAfter (cluster : Cluster) (workload : Workload) (events new : List Event) (after : NodeView) : Type 0 where
@@ -33,14 +33,15 @@ pub record GoesAfter (cluster : Cluster) (workload : Workload) (events new : Lis
   pub changing : AllChange cluster workload (world_after cluster workload events) new
   pub fits : NodeFits cluster workload (events ++ new) after
 
--- a node has made its way from one state to another: it kept events of its own, which go on from whatever events there were
-pub record HasGone (procs : List ProcTree) (before after : NodeView) : Type 0 where
+-- a node has made its way from one state to another, by what these packets tell: it kept events of its own, which go on from
+-- whatever events there were
+pub record HasGone (procs : List ProcTree) (packets : List Packet) (before after : NodeView) : Type 0 where
   -- what it kept stays, and the new events come behind
   pub grows : after.site.region.events ≡ before.site.region.events ++ new_items before after
   pub mine : AllIn (λ x. region_at x ≡ number_of before) (new_items before after)
-  -- this holds for all events of all regions after which the node stood in the world
+  -- this holds for all events of all regions after which the node stood in the world, and what the packets tell was so
   pub goes : (cluster : Cluster) (workload : Workload) (events : List Event) → procs ≡ cluster.procs → NodeFits cluster workload events before
-      → GoesAfter cluster workload events (events_of (new_items before after)) after
+      → AreTold cluster workload events packets before → GoesAfter cluster workload events (events_of (new_items before after)) after
   -- whose it is stays, and its plan
   pub number : number_of after ≡ number_of before
   pub regions : after.site.region.state.regions ≡ before.site.region.state.regions
@@ -63,6 +64,7 @@ pub record BringsEntries (region home first last stamp : ℕ) (p : Packet) : Typ
   pub from_home : p.source ≡ home
   pub from : first ≡ p.log_at
   pub to : last ≡ p.log_at + length p.entries
+  pub some : 1 ≤ length p.entries
   pub earlier : p.stamp < stamp
 
 -- what an event with this stamp takes from another region, if it does, some packet brought

@@ -18,17 +18,15 @@ use Rattle.dt_cluster.specs.declared.Cluster.{Cluster}
 use Rattle.dt_workload.specs.declared.Workload.{Workload}
 use Rattle.dt_session.specs.Step.{ranked_body}
 use Rattle.dt_session.specs.Sessions.{SessionsView, MayBeAnswered, MayGo, numbers_next, seat_of, wanted_of}
-use Rattle.dt_session.specs.Run.{world_after}
 use Rattle.dt_site.specs.declared.Origin.{Origin}
 use Rattle.dt_node.specs.Measure.{left_for}
 use Rattle.dt_node.specs.NodeView.{NodeView, new_items, number_of}
-use Rattle.dt_node.specs.Packets.{IsToldOf}
-use Rattle.dt_node.specs.Standing.{IsFor, NodeFits}
+use Rattle.dt_node.specs.Standing.{AreTold, NodeFits}
 use Rattle.dt_node.specs.Turn.{AreBrought, HasGone, HasPlacedOwn, HasTaken, StampsRise, last_at}
 
 -- what a call of a turn makes of the node; these are the packets that it has used
 pub record MovesOn (procs : List ProcTree) (packets : List Packet) (before after : NodeView) : Type 0 where
-  pub gone : HasGone procs before after
+  pub gone : HasGone procs packets before after
   pub brought : AreBrought packets (new_items before after)
   pub stamps : StampsRise packets before after
 
@@ -45,8 +43,7 @@ pub record CanGo (procs : List ProcTree) (packets : List Packet) (n : NodeView) 
   pub all : List Stamped
   pub procs_are : procs ≡ cluster.procs
   pub fits : NodeFits cluster workload (events_of all) n
-  pub addressed : AllIn (IsFor cluster.regions (number_of n)) packets
-  pub told : AllIn (IsToldOf (world_after cluster workload (events_of all))) packets
+  pub told : AreTold cluster workload (events_of all) packets n
   pub begins : AllIn (BeginsWithin n) packets
   pub packet_stamps : AllIn (λ p. p.stamp < 2 ^ 60) packets
   pub low : latest_stamp n.site.region ≤ 2 ^ 60 + length all

@@ -125,7 +125,7 @@ impl<S: Scheduler + Drop> Node<S> {
         requires ends { length outs.old + 1 ≡ self.old.site.region.state.regions }
         requires places { AllIn (λ out. 2 ≤ (O.seen out).free) outs.old }
         requires turns { self.old.turns + 1 < 2 ^ 64 }
-        ensures gone { HasGone procs.now self.old self.new }
+        ensures gone { HasGone procs.now (flat_map I.waits ins.old) self.old self.new }
         ensures brought { AreBrought (flat_map I.waits ins.old) (new_items self.old self.new) }
         ensures stamps { StampsRise (flat_map I.waits ins.old) self.old self.new }
         ensures emptied { OnOk result (flat_map I.waits ins.new ≡ []) }
