@@ -12,6 +12,10 @@ pub mod Making
 pub mod Telling
 pub mod Parting
 pub mod Noting
+pub mod Bringing
+pub mod Passing
+pub mod Whole
+pub mod Settling
 pub mod Taking
 pub mod Few
 pub mod Ready

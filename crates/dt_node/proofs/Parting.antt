@@ -1,7 +1,7 @@
 -- A packet by its parts: first its requests are used and then its entries, and each of these as if a packet had brought it alone.
 use Rattle.std.proofs.Common.{◌≡◌, ◌≢◌, ◌<◌, ◌≤◌, ◌+◌, ◌^◌, ℕ, List, [], ◌∷◌, ◌++◌, length, map, max, drop, take, get_or, refl, sym, ap, subst, ◌∙◌, inl, inr, arith}
 use Rattle.dt_lists.specs.Lists.{AllIn, AnyIn, Has}
-use Rattle.dt_lists.proofs.Callers.{all_get, all_put}
+use Rattle.dt_lists.proofs.Callers.{all_append, all_get, all_map, all_put, any_append}
 use Rattle.dt_events.specs.declared.Event.{Event}
 use Rattle.dt_events.specs.declared.Event.TheVariants.{Submit, Append, Deliver, Insert, Resolve, Execute, Answer}
 use Rattle.dt_events.specs.declared.Stamped.{Stamped}
@@ -15,7 +15,8 @@ use Rattle.dt_cluster.specs.declared.Cluster.{Cluster}
 use Rattle.dt_workload.specs.declared.Workload.{Workload}
 use Rattle.dt_session.specs.World.{World, asked_of, log_of}
 use Rattle.dt_session.specs.Run.{world_after}
-use Rattle.dt_node.proofs.Stamping.{rise_with}  -- stamps
+use Rattle.dt_node.proofs.Moving.{moves_more}
+use Rattle.dt_node.proofs.Stamping.{rise_same, rise_with}  -- stamps
 use Rattle.dt_node.specs.NodeView.{NodeView, new_items, number_of}
 use Rattle.dt_node.specs.Packets.{IsToldOf}
 use Rattle.dt_node.specs.Standing.{AreTold, IsFor}
@@ -161,6 +162,26 @@ gone_by xs ys told g = record {
   taken = g.taken;
   logs = g.logs;
 }
+
+-- the same packets twice
+brought_once : (xs : List Packet) (stamp : ℕ) (event : Event) → IsBroughtBy (xs ++ xs) stamp event → IsBroughtBy xs stamp event
+brought_once xs stamp (Append home source number) f = λ apart. elim (any_append _ xs xs (f apart)) [ inl b ↦ b | inr b ↦ b ]
+brought_once xs stamp (Deliver region home first last) f = λ apart. elim (any_append _ xs xs (f apart)) [ inl b ↦ b | inr b ↦ b ]
+brought_once xs stamp (Submit region name) f = tt
+brought_once xs stamp (Insert region home) f = tt
+brought_once xs stamp (Resolve region ids) f = tt
+brought_once xs stamp (Execute region id) f = tt
+brought_once xs stamp (Answer region name) f = tt
+
+-- one way and then another, both by the same packets
+pub moves_same : {procs : List ProcTree} {xs : List Packet} {a b c : NodeView} → MovesOn procs xs a b → MovesOn procs xs b c → MovesOn procs xs a c
+moves_same {procs} {xs} {a} {b} {c} g h =
+    let m : MovesOn procs (xs ++ xs) a c = moves_more g h in
+    record {
+      gone = gone_by (xs ++ xs) xs (λ cluster workload events t. record { addressed = all_append _ xs xs t.addressed t.addressed; told = all_append _ xs xs t.told t.told }) m.gone;
+      brought = record { each = all_map _ _ (new_items a c) (λ x f. brought_once xs x.stamp x.event f) m.brought.each };
+      stamps = rise_same m.stamps;  -- stamps
+    }
 
 module _ {procs : List ProcTree} {a b : NodeView} (p : Packet) (here : p.target ≡ number_of a) (heard : p.stamp ≤ latest_stamp a.site.region) where
   pub moves_by_asking : MovesOn procs (asking_packet a p.source p.asked_at p.asked ∷ []) a b → MovesOn procs (p ∷ []) a b

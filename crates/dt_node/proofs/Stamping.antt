@@ -12,7 +12,7 @@ use Rattle.dt_packet.specs.declared.packet.Packet.{Packet}
 use Rattle.dt_merge.specs.Merge.{HasLowerStamp}
 use Rattle.dt_node.specs.NodeView.{NodeView, new_items}
 use Rattle.dt_node.specs.Turn.{StampsRise, greatest}
-use Rattle.dt_node.proofs.Greatest.{above_greatest, greatest_append, greatest_more}
+use Rattle.dt_node.proofs.Greatest.{above_greatest, greatest_append, greatest_more, greatest_twice}
 
 -- the stamp of the last of some events
 
@@ -117,3 +117,13 @@ rise_by {packets} {a} {b} events kept heard new many =
     latest (e ∷ es) k =
         let last : last_stamp b.site.region.events ≡ latest_stamp a.site.region + 1 + length es = ap last_stamp k ∙ last_from a.site.region.events (latest_stamp a.site.region + 1) e es in
         omega (arith, last, heard)
+
+-- the same packets twice
+pub rise_same : {xs : List Packet} {a b : NodeView} → StampsRise (xs ++ xs) a b → StampsRise xs a b
+rise_same {xs} {a} {b} s =
+    let low : latest_stamp b.site.region ≤ greatest (latest_stamp a.site.region) (map (λ p. p.stamp) (xs ++ xs)) + length (new_items a b) = s.low in
+    let is : greatest (latest_stamp a.site.region) (map (λ p. p.stamp) (xs ++ xs)) ≡ greatest (latest_stamp a.site.region) (map (λ p. p.stamp) xs ++ map (λ p. p.stamp) xs) =
+    ap (greatest (latest_stamp a.site.region)) (map-append (λ p. p.stamp) xs xs) in
+    let once : greatest (latest_stamp a.site.region) (map (λ p. p.stamp) xs ++ map (λ p. p.stamp) xs) ≤ greatest (latest_stamp a.site.region) (map (λ p. p.stamp) xs) =
+    greatest_twice (latest_stamp a.site.region) (map (λ p. p.stamp) xs) in
+    record { rising = s.rising; above = s.above; below = s.below; up = s.up; low = omega (arith, low, is, once) }

@@ -3,7 +3,7 @@ use Rattle.std.proofs.Common.{◌≡◌, ◌≢◌, ◌<◌, ◌≤◌, ◌+◌,
 use Rattle.std.specs.Prelude.{slice_index}
 use Rattle.std.proofs.lemmas.List.{map-append, length-append}
 use Rattle.dt_lists.specs.Lists.{AllIn}
-use Rattle.dt_lists.proofs.Callers.{all_append_left, all_append_right, all_get, all_image, all_map, all_put}
+use Rattle.dt_lists.proofs.Callers.{all_append, all_append_left, all_append_right, all_get, all_image, all_map, all_put}
 use Rattle.dt_access.specs.declared.TxnId.{TxnId}
 use Rattle.dt_events.specs.declared.Event.{Event}
 use Rattle.dt_events.specs.declared.Stamped.{Stamped}
@@ -148,3 +148,20 @@ module _ {procs : List ProcTree} (xs ys : List Packet) {a b : NodeView} (c : Can
 
 pub take_on : (xs ys : List Packet) {a b : NodeView} → CanTake (xs ++ ys) a → ((procs : List ProcTree) → MovesOn procs xs a b) → CanTake ys b
 take_on xs ys c m = record { procs = c.procs; can = can_on xs ys c.can (m c.procs) }
+
+can_twice : {procs : List ProcTree} (xs : List Packet) {a : NodeView} → CanGo procs xs a → CanGo procs (xs ++ xs) a
+can_twice xs c = record {
+  cluster = c.cluster;
+  workload = c.workload;
+  all = c.all;
+  procs_are = c.procs_are;
+  fits = c.fits;
+  told = record { addressed = all_append _ xs xs c.told.addressed c.told.addressed; told = all_append _ xs xs c.told.told c.told.told };
+  begins = all_append _ xs xs c.begins c.begins;
+  packet_stamps = all_append _ xs xs c.packet_stamps c.packet_stamps;  -- stamps
+  low = c.low;  -- stamps
+}
+
+-- the packets that were used may be used again
+pub can_again : (xs : List Packet) {a b : NodeView} → CanTake xs a → ((procs : List ProcTree) → MovesOn procs xs a b) → CanTake xs b
+can_again xs {a} c m = take_on xs xs (record { procs = c.procs; can = can_twice xs c.can }) m

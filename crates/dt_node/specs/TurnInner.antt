@@ -130,6 +130,12 @@ abbrev pub EndsOne : (NodeView → Bytes → Type 0) → NodeView → ℕ → Bo
 EndsOne May before index true after = HasGoneOn before after
 EndsOne May before index false after = (after ≡ before) × ((name : Bytes) → slice_get (map (λ p. p.0) before.sessions.seats) index ≡ Some name → ¬ (May before name))
 
+-- how a step of the sessions before a place ends: some went on, or none could, and nothing has changed
+abbrev pub EndsSoFar : (NodeView → Bytes → Type 0) → NodeView → ℕ → Bool → NodeView → Type 0
+EndsSoFar May before index true after = HasGoneOn before after
+EndsSoFar May before index false after =
+    (after ≡ before) × ((place : ℕ) (name : Bytes) → place < index → slice_get (map (λ p. p.0) before.sessions.seats) place ≡ Some name → ¬ (May before name))
+
 -- how a step of all sessions ends: some went on, or none could, and nothing has changed
 abbrev pub EndsAll : (NodeView → Bytes → Type 0) → NodeView → Bool → NodeView → Type 0
 EndsAll May before true after = HasGoneOn before after
