@@ -23,7 +23,7 @@ use Rattle.dt_node.specs.Standing.{AreTold, IsFor}
 use Rattle.dt_node.specs.Turn.{BringsEntries, BringsRequest, HasGone, IsBroughtBy}
 use Rattle.dt_node.specs.TurnInner.{BeginsWithin, CanGo, CanTake, MovesOn, asking_packet, logging_packet}
 
-module _ {n : NodeView} (p : Packet) (here : p.target ≡ number_of n) where
+module _ (n : NodeView) (p : Packet) (here : p.target ≡ number_of n) where
   abbrev asks : Packet
   asks = asking_packet n p.source p.asked_at p.asked
 
@@ -186,8 +186,8 @@ moves_same {procs} {xs} {a} {b} {c} g h =
 module _ {procs : List ProcTree} {a b : NodeView} (p : Packet) (here : p.target ≡ number_of a) (heard : p.stamp ≤ latest_stamp a.site.region) where
   pub moves_by_asking : MovesOn procs (asking_packet a p.source p.asked_at p.asked ∷ []) a b → MovesOn procs (p ∷ []) a b
   moves_by_asking m = record {
-    gone = gone_by (asking_packet a p.source p.asked_at p.asked ∷ []) (p ∷ []) (λ cluster workload events t. asks_are_told p here t) m.gone;
-    brought = record { each = all_put _ (new_items a b) (λ x h. from_asks p here x.stamp (later x h) x.event (all_get _ (new_items a b) m.brought.each x h)) };
+    gone = gone_by (asking_packet a p.source p.asked_at p.asked ∷ []) (p ∷ []) (λ cluster workload events t. asks_are_told a p here t) m.gone;
+    brought = record { each = all_put _ (new_items a b) (λ x h. from_asks a p here x.stamp (later x h) x.event (all_get _ (new_items a b) m.brought.each x h)) };
     stamps = rise_with p refl m.stamps;  -- stamps
   }
     where  -- stamps
@@ -196,8 +196,8 @@ module _ {procs : List ProcTree} {a b : NodeView} (p : Packet) (here : p.target 
 
   pub moves_by_logging : MovesOn procs (logging_packet a p.source p.log_at p.entries ∷ []) a b → MovesOn procs (p ∷ []) a b
   moves_by_logging m = record {
-    gone = gone_by (logging_packet a p.source p.log_at p.entries ∷ []) (p ∷ []) (λ cluster workload events t. logs_are_told p here t) m.gone;
-    brought = record { each = all_put _ (new_items a b) (λ x h. from_logs p here x.stamp (later x h) x.event (all_get _ (new_items a b) m.brought.each x h)) };
+    gone = gone_by (logging_packet a p.source p.log_at p.entries ∷ []) (p ∷ []) (λ cluster workload events t. logs_are_told a p here t) m.gone;
+    brought = record { each = all_put _ (new_items a b) (λ x h. from_logs a p here x.stamp (later x h) x.event (all_get _ (new_items a b) m.brought.each x h)) };
     stamps = rise_with p refl m.stamps;  -- stamps
   }
     where  -- stamps

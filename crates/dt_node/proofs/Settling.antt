@@ -1,6 +1,7 @@
 -- When a turn may stop: a pass over the sessions after which none went on, and a round that left nothing to do.
-use Rattle.std.proofs.Common.{◌≡◌, ◌<◌, ◌≤◌, ◌+◌, ℕ, false, List, [], ◌∷◌, ◌++◌, length, Some, None, refl, sym, ap, ap₂, subst, subst₂, ◌∙◌, append-nil, arith}
+use Rattle.std.proofs.Common.{◌≡◌, ◌<◌, ◌≤◌, ◌+◌, ℕ, false, List, [], ◌∷◌, ◌++◌, length, Some, None, refl, sym, ap, ap₂, subst, subst₂, ◌∙◌, append-nil, append_assoc, arith}
 use Rattle.std.specs.Prelude.{Option, option_and_then}
+use Rattle.std.proofs.lemmas.List.{map-append}
 use Rattle.dt_access.specs.Clash.{Bytes}
 use Rattle.dt_access.specs.declared.TxnId.{TxnId}
 use Rattle.dt_events.specs.declared.Event.{Event}
@@ -10,13 +11,17 @@ use Rattle.dt_proc.specs.Tree.{ProcTree}
 use Rattle.dt_txn.specs.declared.Outcome.{Outcome}
 use Rattle.dt_txn.specs.Replica.{IsDrained, Replica}
 use Rattle.dt_region.specs.Region.{outcome_of}
+use Rattle.dt_packet.specs.declared.packet.Packet.{Packet}
+use Rattle.dt_cluster.specs.declared.Cluster.{Cluster}
+use Rattle.dt_workload.specs.declared.Workload.{Workload}
 use Rattle.dt_session.specs.Sessions.{MayBeAnswered, MayGo, SessionsView, waits_of}
 use Rattle.dt_session.specs.World.{World, node_at, outcome_in}
 use Rattle.dt_session.specs.Run.{world_after}
 use Rattle.dt_node.specs.NodeView.{NodeView, new_items, number_of}
-use Rattle.dt_node.specs.Turn.{GoesAfter, HasPlacedOwn, IsSettled, IsStill, last_at}
+use Rattle.dt_node.specs.Standing.{NodeFits}
+use Rattle.dt_node.specs.Turn.{BeginsEagerly, GoesAfter, HasGone, HasPlacedOwn, IsSettled, IsStill, last_at}
 use Rattle.dt_node.specs.TurnInner.{CanGo, MayAnswerAt, MaySubmitAt, MovesOn, PassesOnce}
-use Rattle.dt_node.proofs.Moving.{new_joined}
+use Rattle.dt_node.proofs.Moving.{made_none, new_joined}
 
 -- where two lists together are empty, both are
 none_both : {A : Type 0} (xs ys : List A) → xs ++ ys ≡ [] → (xs ≡ []) × (ys ≡ [])
@@ -56,4 +61,49 @@ settles {procs} {a} {n} {b} c g m placed last drained = record {
   still = λ none name.
       let both = none_both (new_items a n) (new_items n b) (sym (new_joined g.gone m.gone) ∙ none) in still_then c m both.1 last.0 last.1 name;
   placed = λ own. last.2 (placed own);
+}
+
+-- a turn that began with the first calls began so, whatever followed
+pub begins_more : {procs : List ProcTree} {xs ys : List Packet} {a b c : NodeView} → HasGone procs xs a b → HasGone procs ys b c → BeginsEagerly procs a b → BeginsEagerly procs a c
+begins_more {procs} {xs} {ys} {a} {b} {c} g h e = record {
+  begins = λ cluster workload p f.
+      let front = e.begins cluster workload p f in
+      let joined : events_of (new_items a c) ≡ events_of (new_items a b) ++ events_of (new_items b c) =
+      ap events_of (new_joined g h) ∙ map-append (λ x. x.event) (new_items a b) (new_items b c) in
+      (front.0 ++ events_of (new_items b c), sym (append_assoc _ front.0 (events_of (new_items b c))) ∙ ap (λ l. l ++ events_of (new_items b c)) front.1 ∙ sym joined);
+}
+
+-- the packets were sent: one turn more is made, and nothing else of the node has changed
+
+sent_fits : {cluster : Cluster} {workload : Workload} {events : List Event} {n : NodeView} → NodeFits cluster workload events n → NodeFits cluster workload events (record n { turns = n.turns + 1 })
+sent_fits f = record {
+  run = f.run;
+  changing = f.changing;
+  number = f.number;
+  site = f.site;
+  sessions = f.sessions;
+  few = f.few;
+  took = f.took;
+  received = f.received;
+  knows = λ other n. let k = f.knows other n in record { took = k.took; received = k.received };
+}
+
+pub sent_moves : {procs : List ProcTree} (a : NodeView) → MovesOn procs [] a (record a { turns = a.turns + 1 })
+sent_moves {procs} a = made_none {procs = procs} {packets = []} {a = a} {b = record a { turns = a.turns + 1 }} refl
+    (omega arith) (omega arith)  -- stamps
+    (λ cluster workload events f t. sent_fits f) (record {
+      number = refl;
+      regions = refl;
+      plan = refl;
+      taken = λ source. omega arith;
+      logs = λ home. omega arith;
+    })
+
+-- what is settled stays so where nothing but the number of turns has changed, and a longer way leaves no session that can go on
+pub settled_on : {procs : List ProcTree} {xs : List Packet} {a b c : NodeView} → HasGone procs xs a b → HasGone procs [] b c → (HasPlacedOwn a → HasPlacedOwn b) → IsSettled b c → IsSettled a (record c { turns = c.turns + 1 })
+settled_on {procs} {xs} {a} {b} {c} g h placed s = record {
+  drained = s.drained;
+  still = λ none name.
+      let both = none_both (new_items a b) (new_items b c) (sym (new_joined g h) ∙ none) in let t = s.still both.1 name in record { waits = t.waits; unanswered = t.unanswered };
+  placed = λ own. s.placed (placed own);
 }

@@ -9,7 +9,7 @@ use Rattle.dt_proc.specs.Tree.{ProcTree}
 use Rattle.dt_txn.specs.Replica.{taken_from}
 use Rattle.dt_packet.specs.declared.packet.Packet.{Packet}
 use Rattle.dt_node.specs.NodeView.{NodeView}
-use Rattle.dt_node.specs.Turn.{HasHeard, HasTaken, IsTaken, greatest, those_from}
+use Rattle.dt_node.specs.Turn.{HasHeard, HasPlacedOwn, HasTaken, IsTaken, greatest, those_from}
 use Rattle.dt_node.specs.TurnInner.{IsTaking, MovesOn}
 use Rattle.dt_node.proofs.Greatest.{greatest_append}
 use Rattle.dt_node.proofs.Moving.{made_nothing, moves_by_more, moves_more}
@@ -66,16 +66,17 @@ taken_on {xs} {a} {b} {c} t took received taken logs = subst (λ l. HasTaken l a
 -- some packets of these were taken
 
 pub taking_starts : (packets : List Packet) (a : NodeView) → IsTaking a packets packets a
-taking_starts packets a = record { done = []; is = refl; moved = λ procs. made_nothing a; taken = taken_none {a = a} {b = a} refl refl; turns = refl }
+taking_starts packets a = record { done = []; is = refl; moved = λ procs. made_nothing a; taken = taken_none {a = a} {b = a} refl refl; turns = refl; placed = λ own. own }
 
 pub taking_goes : {a b c : NodeView} {packets xs : List Packet} (left : List Packet) → IsTaking a packets (xs ++ left) b → ((procs : List ProcTree) → MovesOn procs xs b c) → HasTaken xs b c → c.turns ≡ b.turns
-    → IsTaking a packets left c
-taking_goes {a} {b} {c} {packets} {xs} left t moved taken turns = record {
+    → (HasPlacedOwn b → HasPlacedOwn c) → IsTaking a packets left c
+taking_goes {a} {b} {c} {packets} {xs} left t moved taken turns placed = record {
   done = t.done ++ xs;
   is = t.is ∙ sym (append_assoc t.done xs left);
   moved = λ procs. moves_more (t.moved procs) (moved procs);
   taken = taken_more t.taken taken (moved []).gone.taken (moved []).gone.logs;
   turns = turns ∙ t.turns;
+  placed = λ own. placed (t.placed own);
 }
 
 pub taking_ends : {a b : NodeView} {packets : List Packet} → IsTaking a packets [] b → ((procs : List ProcTree) → MovesOn procs packets a b) × HasTaken packets a b

@@ -27,7 +27,7 @@ module _ (p : Packet) (a : NodeView) (c : CanTake (p ∷ []) a) where
   can_hear = can_again (p ∷ []) c (λ procs. heard_moves p a)
 
   pub may_ask : CanTake (asking_packet hearing p.source p.asked_at p.asked ∷ []) hearing
-  may_ask = can_ask p here can_hear
+  may_ask = can_ask hearing p here can_hear
 
   module _ (b : NodeView) (asked : (procs : List ProcTree) → MovesOn procs (asking_packet hearing p.source p.asked_at p.asked ∷ []) hearing b) where
     stamp_heard : p.stamp ≤ latest_stamp hearing.site.region
@@ -45,7 +45,7 @@ module _ (p : Packet) (a : NodeView) (c : CanTake (p ∷ []) a) where
     can_go_on = can_again (p ∷ []) c asked_so_far
 
     pub may_log : CanTake (logging_packet b p.source p.log_at p.entries ∷ []) b
-    may_log = can_log p here_still can_go_on
+    may_log = can_log b p here_still can_go_on
 
     module _ (d : NodeView) (logged : (procs : List ProcTree) → MovesOn procs (logging_packet b p.source p.log_at p.entries ∷ []) b d) where
       still_heard : p.stamp ≤ latest_stamp b.site.region

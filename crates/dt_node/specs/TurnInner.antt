@@ -105,6 +105,7 @@ pub record IsTaking (before : NodeView) (packets left : List Packet) (now : Node
   pub moved : (procs : List ProcTree) → MovesOn procs done before now
   pub taken : HasTaken done before now
   pub turns : now.turns ≡ before.turns
+  pub placed : HasPlacedOwn before → HasPlacedOwn now
 
 -- what a session submits next, at this node: the next try of its next call, with the rank of that
 pub record IsNextAt (n : NodeView) (name : Bytes) (origin : Origin) (rank : ℕ) (body : Body) : Type 0 where

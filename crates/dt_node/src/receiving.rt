@@ -2,7 +2,7 @@ ghost use Rattle.std.specs.Prelude.{◌≡◌, ◌<◌, ◌≤◌, ◌+◌, ◌�
 ghost use Rattle.dt_lists.specs.Lists.{Pairwise};
 ghost use Rattle.dt_proc.specs.Tree.{ProcTree};
 ghost use Rattle.dt_txn.specs.Replica.{taken_from};
-ghost use Rattle.dt_node.specs.Turn.{HasTaken};
+ghost use Rattle.dt_node.specs.Turn.{HasPlacedOwn, HasTaken};
 ghost use Rattle.dt_sched.specs.Views.{log_at};
 ghost use Rattle.dt_node.specs.TurnInner.{CanTake, KnowsTheSame, MovesOn, asking_packet, logging_packet, noted};
 
@@ -25,6 +25,7 @@ impl<S: Scheduler + Drop> Node<S> {
         ensures emptied { OnOk result (flat_map I.waits ins.new ≡ []) }
         ensures taken { OnOk result (HasTaken (flat_map I.waits ins.old) self.old self.new) }
         ensures turns { self.new.turns ≡ self.old.turns }
+        ensures placed { HasPlacedOwn self.old → HasPlacedOwn self.new }
         ensures many { length ins.new ≡ length ins.old }
         ensures same { (first : List I) → Pairwise I.same first ins.old → Pairwise I.same first ins.new }
     {
@@ -41,6 +42,7 @@ impl<S: Scheduler + Drop> Node<S> {
         ensures emptied { OnOk result (I.waits inlet.new ≡ []) }
         ensures taken { OnOk result (HasTaken (I.waits inlet.old) self.old self.new) }
         ensures turns { self.new.turns ≡ self.old.turns }
+        ensures placed { HasPlacedOwn self.old → HasPlacedOwn self.new }
         ensures same { (first : I) → I.same first inlet.old → I.same first inlet.new }
     {
         while let Some(packet) = inlet.take() {
@@ -55,6 +57,7 @@ impl<S: Scheduler + Drop> Node<S> {
         ensures moved { (procs : List ProcTree) → MovesOn procs (packet ∷ []) self.old self.new }
         ensures taken { OnOk result (HasTaken (packet ∷ []) self.old self.new) }
         ensures turns { self.new.turns ≡ self.old.turns }
+        ensures placed { HasPlacedOwn self.old → HasPlacedOwn self.new }
     {
         let Packet {
             source,
@@ -86,6 +89,7 @@ impl<S: Scheduler + Drop> Node<S> {
         ensures moved { (procs : List ProcTree) → MovesOn procs (asking_packet self.old source first asked ∷ []) self.old self.new }
         ensures taken { OnOk result (first + length asked ≤ taken_from self.new.site.region.state.here source) }
         ensures knows { KnowsTheSame self.old self.new }
+        ensures placed { HasPlacedOwn self.old → HasPlacedOwn self.new }
     {
         let mut number = first;
         for txn in asked.into_vec() {
@@ -107,6 +111,7 @@ impl<S: Scheduler + Drop> Node<S> {
         ensures moved { (procs : List ProcTree) → MovesOn procs (asking_packet self.old source number (txn ∷ []) ∷ []) self.old self.new }
         ensures taken { OnOk result (number + 1 ≤ taken_from self.new.site.region.state.here source) }
         ensures knows { KnowsTheSame self.old self.new }
+        ensures placed { HasPlacedOwn self.old → HasPlacedOwn self.new }
     {
         self.site.region.append_owned(alloc, source, number, txn)?;
         Ok(())
@@ -125,6 +130,7 @@ impl<S: Scheduler + Drop> Node<S> {
         ensures moved { (procs : List ProcTree) → MovesOn procs (logging_packet self.old source first entries ∷ []) self.old self.new }
         ensures taken { OnOk result (first + length entries ≤ length (log_at self.new.site.region.state.logs source)) }
         ensures knows { KnowsTheSame self.old self.new }
+        ensures placed { HasPlacedOwn self.old → HasPlacedOwn self.new }
     {
         self.site
             .region
