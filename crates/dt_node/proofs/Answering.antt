@@ -103,7 +103,8 @@ module _ {cluster : Cluster} {workload : Workload} {events : List Event} {a : No
               (seat_changed answered_seat a.sessions name seat e name ∙ ap (λ t. cond t (Some (answered_seat seat)) (seat_of a.sessions name)) (sym (texts_ties name name) ∙ (bytes_decides name name).1 refl))
 
       answer_here : GoesAfter cluster workload events (Answer (number_of a) name ∷ []) b
-      answer_here = one_goes f (Answer (number_of a) name) (answer_made (reached f) f.number f.site name session place found may r is) changed standing (ap (λ x. x.state.number) is) (seats_kept answered_seat a.sessions name (seat_of a.sessions name)) refl refl
+      answer_here = one_goes f (Answer (number_of a) name) (answer_made (reached f) f.number f.site name session place found may r is) changed standing
+          (ap (λ x. x.state.number) is) (seats_kept answered_seat a.sessions name (seat_of a.sessions name)) refl refl
 
     pub answer_goes : MayBeAnswered a.sessions name (last_at a name) → GoesAfter cluster workload events (Answer (number_of a) name ∷ []) b
     answer_goes m = go here refl (go_answer m)

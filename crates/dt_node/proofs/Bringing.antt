@@ -1,5 +1,6 @@
 -- A request that a packet brought is placed, and entries that it brought are received: what the calls ask for, and how they end.
-use Rattle.std.proofs.Common.{◌≡◌, ◌≢◌, ◌<◌, ◌≤◌, ◌+◌, ◌-◌, ℕ, Bool, true, false, List, [], ◌∷◌, length, map, drop, take, get_or, set, slice_get, Result, Ok, Err, Some, refl, sym, ap, subst, ◌∙◌, inl, inr, arith}
+use Rattle.std.proofs.Common.{◌≡◌, ◌≢◌, ◌<◌, ◌≤◌, ◌+◌, ◌-◌, ℕ, Bool, true, false, List, [], ◌∷◌, length, map, drop}
+use Rattle.std.proofs.Common.{take, get_or, set, slice_get, Result, Ok, Err, Some, refl, sym, ap, subst, ◌∙◌, inl, inr, arith}
 use Rattle.std.proofs.lemmas.List.{get_or-set_same, length-map, length-append, length-drop}
 use Rattle.dt_text.specs.declared.NoMemory.{NoMemory}
 use Rattle.dt_lists.specs.Lists.{AllIn, Either}

@@ -93,7 +93,8 @@ module _ {cluster : Cluster} {workload : Workload} where
                 took = subst (λ c. get_or b.took q 0 ≤ taken_of (next cluster workload (world_after cluster workload events) e) q c) (sym number)
                     (subst (λ (x : Node). get_or b.took q 0 ≤ taken_from x.here (number_of a)) (sym same) (subst (λ l. get_or l q 0 ≤ taken_of (world_after cluster workload events) q (number_of a)) (sym took) known.took));
                 received = subst (λ c. get_or b.received q 0 ≤ received_of (next cluster workload (world_after cluster workload events) e) q c) (sym number)
-                    (subst (λ (x : Node). get_or b.received q 0 ≤ slice_index (set x.received q (length x.log)) (number_of a)) (sym same) (subst (λ l. get_or l q 0 ≤ received_of (world_after cluster workload events) q (number_of a)) (sym received) known.received));
+                    (subst (λ (x : Node). get_or b.received q 0 ≤ slice_index (set x.received q (length x.log)) (number_of a)) (sym same)
+                    (subst (λ l. get_or l q 0 ≤ received_of (world_after cluster workload events) q (number_of a)) (sym received) known.received));
               }
 
   -- a node that is not the region's stays

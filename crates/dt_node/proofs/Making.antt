@@ -1,5 +1,6 @@
 -- What each call on the node's region and sessions makes of the node: `MovesOn`, from what the call says by itself.
-use Rattle.std.proofs.Common.{◌≡◌, ◌≢◌, ◌<◌, ◌≤◌, ◌+◌, ◌-◌, ℕ, zero, suc, true, List, [], ◌∷◌, ◌++◌, length, map, max, drop, take, get_or, set, slice_get, Ok, Some, refl, sym, ap, subst, ◌∙◌, inl, arith}
+use Rattle.std.proofs.Common.{◌≡◌, ◌≢◌, ◌<◌, ◌≤◌, ◌+◌, ◌-◌, ℕ, zero, suc, true, List, [], ◌∷◌, ◌++◌, length}
+use Rattle.std.proofs.Common.{map, max, drop, take, get_or, set, slice_get, Ok, Some, refl, sym, ap, subst, ◌∙◌, inl, arith}
 use Rattle.std.specs.Prelude.{slice_index}
 use Rattle.std.proofs.lemmas.List.{get_or-set_same, get_or-set_other, length-append}
 use Rattle.dt_lists.specs.Lists.{AllIn, Either}
@@ -115,6 +116,7 @@ module _ {a : NodeView} (home first : ℕ) (entries : List Entry) (n : ℕ) (r :
   pub receive_moves : {procs : List ProcTree} (packets : List Packet) → ((cluster : Cluster) (workload : Workload) (events : List Event) → procs ≡ cluster.procs → NodeFits cluster workload events a
       → AreTold cluster workload events packets a → GoesAfter cluster workload events (Deliver (number_of a) home first (first + length entries) ∷ []) (record a { site = in_region a.site r }))
       → IsBroughtBy packets (latest_stamp a.site.region + 1) (Deliver (number_of a) home first (first + length entries)) → MovesOn procs packets a (record a { site = in_region a.site r })
-  receive_moves {procs} packets goes brought = made_some {procs = procs} {packets = packets} {a = a} {b = record a { site = in_region a.site r }} (Deliver (number_of a) home first (first + length entries) ∷ []) (ap (λ (x : RegionView). x.events) made.3)
+  receive_moves {procs} packets goes brought = made_some {procs = procs} {packets = packets} {a = a} {b = record a { site = in_region a.site r }}
+      (Deliver (number_of a) home first (first + length entries) ∷ []) (ap (λ (x : RegionView). x.events) made.3)
       (ap (λ (x : RegionView). x.heard) made.3)  -- stamps
       (refl, tt) goes receive_beside (brought, tt)

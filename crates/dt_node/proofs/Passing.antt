@@ -1,5 +1,6 @@
 -- The sessions go on one after another, by their places: what is so of each is so of all.
-use Rattle.std.proofs.Common.{◌≡◌, ◌≢◌, ◌<◌, ◌≤◌, ◌+◌, ◌⊎◌, ℕ, zero, suc, Bool, true, false, cond, ◌||◌, List, [], ◌∷◌, length, map, slice_get, Some, None, refl, sym, ap, subst, ◌∙◌, inl, inr, arith}
+use Rattle.std.proofs.Common.{◌≡◌, ◌≢◌, ◌<◌, ◌≤◌, ◌+◌, ◌⊎◌, ℕ, zero, suc, Bool, true, false, cond, ◌||◌, List}
+use Rattle.std.proofs.Common.{[], ◌∷◌, length, map, slice_get, Some, None, refl, sym, ap, subst, ◌∙◌, inl, inr, arith}
 use Rattle.std.specs.Prelude.{Option}
 use Rattle.std.specs.Map.{lookup}
 use Rattle.std.proofs.lemmas.Bool.{cases_Bool}
@@ -33,7 +34,8 @@ ends_more May a b c index false false s o = (o.0 ∙ s.0, λ place name lt found
   where
     go : (place : ℕ) (name : Bytes) → place < index + 1 → slice_get (map (λ p. p.0) a.sessions.seats) place ≡ Some name → Either (place ≡ index) → ¬ (May a name)
     go place name lt found (inl e) =
-        subst (λ x. ¬ (May x name)) s.0 (o.1 name (subst (λ (x : NodeView). slice_get (map (λ p. p.0) x.sessions.seats) index ≡ Some name) (sym s.0) (subst (λ i. slice_get (map (λ p. p.0) a.sessions.seats) i ≡ Some name) e found)))
+        subst (λ x. ¬ (May x name)) s.0 (o.1 name
+        (subst (λ (x : NodeView). slice_get (map (λ p. p.0) x.sessions.seats) index ≡ Some name) (sym s.0) (subst (λ i. slice_get (map (λ p. p.0) a.sessions.seats) i ≡ Some name) e found)))
     go place name lt found (inr n) = s.1 place name (omega (arith, lt, n)) found
 
 -- a session that a name finds stands at some place

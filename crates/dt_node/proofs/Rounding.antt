@@ -1,6 +1,7 @@
 -- A round of the node's region: insertions, resolutions and executions, one after another, in the world. A round tells them
 -- as steps by the region's own account, and they are those of the world, since what the region holds is the world's.
-use Rattle.std.proofs.Common.{◌≡◌, ◌≢◌, ◌<◌, ◌≤◌, ◌+◌, ℕ, zero, suc, List, [], ◌∷◌, ◌++◌, length, get_or, set, Some, None, refl, sym, ap, ap₂, subst, subst₂, ◌∙◌, arith, append-nil, append_assoc}
+use Rattle.std.proofs.Common.{◌≡◌, ◌≢◌, ◌<◌, ◌≤◌, ◌+◌, ℕ, zero, suc, List, [], ◌∷◌, ◌++◌, length}
+use Rattle.std.proofs.Common.{get_or, set, Some, None, refl, sym, ap, ap₂, subst, subst₂, ◌∙◌, arith, append-nil, append_assoc}
 use Rattle.std.specs.Prelude.{Option, slice_index}
 use Rattle.std.proofs.lemmas.List.{get_or-set_same, get_or-set_other, length_push, set-get_or}
 use Rattle.dt_lists.specs.Lists.{Has}

@@ -48,9 +48,9 @@ module _ {procs : List ProcTree} {n b : NodeView} (c : CanGo procs [] n) (m : Mo
       ∙ ap (λ (h : Replica). option_and_then (outcome_in h.done) (waits_of n.sessions name)) same_here
 
   pub still_then : b.sessions ≡ n.sessions → ((name : Bytes) → ¬ (MayAnswerAt n name) × ¬ (MaySubmitAt n name)) → (name : Bytes) → IsStill b name
-  still_then sessions no name = record {
-    waits = λ may. (no name).1 (subst₂ (λ (s : SessionsView) (o : Option Outcome). MayGo s name o) sessions (last_same sessions name) may);
-    unanswered = λ may. (no name).0 (subst₂ (λ (s : SessionsView) (o : Option Outcome). MayBeAnswered s name o) sessions (last_same sessions name) may);
+  still_then sessions none_can name = record {
+    waits = λ may. (none_can name).1 (subst₂ (λ (s : SessionsView) (o : Option Outcome). MayGo s name o) sessions (last_same sessions name) may);
+    unanswered = λ may. (none_can name).0 (subst₂ (λ (s : SessionsView) (o : Option Outcome). MayBeAnswered s name o) sessions (last_same sessions name) may);
   }
 
 -- the last pass of a turn

@@ -26,7 +26,8 @@ use Rattle.dt_site.specs.declared.Origin.{Origin}
 use Rattle.dt_site.specs.SessionsStandIn.{SessionsStandIn, seat_in}
 use Rattle.dt_site.specs.Site.{SiteView, MakesAttempt}
 use Rattle.dt_site.specs.StandsIn.{IsReached}
-use Rattle.dt_site.proofs.Callers.{IsShort, Steps, Submits, after_more, fits_region, ids, inv, kept_here, legal_short, many_here, numbers_are, order, origin_for, places_then, run_more, sessions_changed, submit_legal, submit_made, waits_next}
+use Rattle.dt_site.proofs.Callers.{IsShort, Steps, Submits, after_more, fits_region, ids, inv, kept_here, legal_short}
+use Rattle.dt_site.proofs.Callers.{many_here, numbers_are, order, origin_for, places_then, run_more, sessions_changed, submit_legal, submit_made, waits_next}
 use Rattle.dt_node.specs.NodeView.{NodeView, number_of}
 use Rattle.dt_node.specs.Standing.{NodeFits}
 use Rattle.dt_node.specs.Turn.{GoesAfter, last_at}

@@ -56,7 +56,8 @@ module _ {cluster : Cluster} {workload : Workload} {me : ℕ} {p : Packet} (othe
       (told_still (ap (λ o. o.node) (frame cluster workload w p.source e (λ is. other (sym is ∙ mine.0)))) (λ id txn f. txns_stay k e legal.0 id txn f) t)
 
 -- what is told stays so along a way of the node
-pub told_along : {cluster : Cluster} {workload : Workload} {events : List Event} {packets : List Packet} {a b : NodeView} (new : List Event) → NodeFits cluster workload events a → AreLegalFrom cluster workload (world_after cluster workload events) new
+pub told_along : {cluster : Cluster} {workload : Workload} {events : List Event} {packets : List Packet} {a b : NodeView} (new : List Event) → NodeFits cluster workload events a
+    → AreLegalFrom cluster workload (world_after cluster workload events) new
     → AllIn (λ e. region_of e ≡ number_of a) new → number_of b ≡ number_of a → AreTold cluster workload events packets a → AreTold cluster workload (events ++ new) packets b
 told_along {cluster} {workload} {events} {packets} {a} {b} new f legal mine number t = record {
   addressed = subst (λ n. AllIn (IsFor cluster.regions n) packets) (sym number) t.addressed;
