@@ -16,6 +16,7 @@ pub mod Bringing
 pub mod Passing
 pub mod Whole
 pub mod Settling
+pub mod Pieces
 pub mod Taking
 pub mod Few
 pub mod Ready

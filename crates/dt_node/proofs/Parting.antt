@@ -150,7 +150,7 @@ module _ (n : NodeView) (p : Packet) (here : p.target ≡ number_of n) where
   from_logs stamp lt (Answer region name) f = tt
 
 -- a way that rests on less that is told rests on more
-gone_by : {procs : List ProcTree} (xs ys : List Packet) {a b : NodeView}
+pub gone_by : {procs : List ProcTree} (xs ys : List Packet) {a b : NodeView}
     → ((cluster : Cluster) (workload : Workload) (events : List Event) → AreTold cluster workload events ys a → AreTold cluster workload events xs a) → HasGone procs xs a b → HasGone procs ys a b
 gone_by xs ys told g = record {
   grows = g.grows;

@@ -1,7 +1,7 @@
 -- Only proofs need this file, and the private calls of a turn. A turn makes its way in many small calls, and of each of them
 -- the same is said: what it makes of the node (`MovesOn`), and what has to be so before it (`CanGo`). Read `Turn` for what a
 -- whole turn makes.
-use Rattle.std.specs.Prelude.{◌≡◌, ◌<◌, ◌≤◌, ◌+◌, ◌^◌, ℕ, List, [], ◌++◌, length, get_or, map, max, set, slice_get, Bool, true, false, Option, Some, None, option_map}
+use Rattle.std.specs.Prelude.{◌≡◌, ◌<◌, ◌≤◌, ◌+◌, ◌^◌, ℕ, List, [], ◌∷◌, ◌++◌, length, get_or, map, max, set, slice_get, Bool, true, false, Option, Some, None, option_map}
 use Rattle.dt_lists.specs.Lists.{AllIn}
 use Rattle.dt_access.specs.Clash.{Bytes}
 use Rattle.dt_events.specs.declared.Stamped.{Stamped}
@@ -105,6 +105,16 @@ pub record IsTaking (before : NodeView) (packets left : List Packet) (now : Node
   pub moved : (procs : List ProcTree) → MovesOn procs done before now
   pub taken : HasTaken done before now
   pub turns : now.turns ≡ before.turns
+  pub placed : HasPlacedOwn before → HasPlacedOwn now
+
+-- some of these requests were placed, of which the first has this number, and these are left, of which the first has that one
+pub record IsPlacing (before : NodeView) (source first : ℕ) (asked left : List Txn) (number : ℕ) (now : NodeView) : Type 0 where
+  pub done : List Txn
+  pub is : asked ≡ done ++ left
+  pub next : number ≡ first + length done
+  pub moved : (procs : List ProcTree) → MovesOn procs (asking_packet before source first asked ∷ []) before now
+  pub taken : number ≤ taken_from now.site.region.state.here source
+  pub knows : KnowsTheSame before now
   pub placed : HasPlacedOwn before → HasPlacedOwn now
 
 -- what a session submits next, at this node: the next try of its next call, with the rank of that
