@@ -1,1 +1,5 @@
 pub mod Callers
+pub mod Counting
+pub mod Effects
+pub mod Going
+pub mod Underway

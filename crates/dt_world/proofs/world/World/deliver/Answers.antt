@@ -5,7 +5,7 @@ use Rattle.dt_region.specs.Region.{RegionView}
 use Rattle.dt_events.specs.declared.Event.TheVariants.{Deliver}
 use Rattle.dt_session.specs.Step.{IsLegal}
 use Rattle.dt_world.specs.WorldView.{WorldView}
-use Rattle.dt_world.proofs.OneSite.{region_here, sound_here, same_lawful, same_view}
+use Rattle.dt_world.proofs.OneSite.{region_here, sound_here, same_lawful, same_view, stamp_here}
 use Rattle.dt_world.proofs.Rule3Deliver.{can_take, deliver_done, deliver_none, delivery_is, entries_are, out_of_order, past_log}
 use Rattle.dt_world.proofs.WorldLaws.{a_site, behind, made_before, out_of_memory}
 use Rattle.dt_world.proofs.WorldFacts.{steps_few}
@@ -117,3 +117,8 @@ returns-in_err-deliver_rest g c =
     let here = behind (a_site c.self.invariant c.if-region-self.false) c.index_mut.ensures.value c.behind-self-3.view_is in
     out_of_memory (Deliver c.args.region c.args.home c.args.first c.args.last) _ c.from_residual-in_err-deliver_rest.ensures.1
     (same_view c.self.invariant c.if-region-self.false here c.deliver_rest.new.self c.in_err-deliver_rest.ensures.makes ∙ c.self.view_is)
+
+pub deliver_rest-requires-clause-stamp : goal.deliver_rest-requires-clause-stamp
+deliver_rest-requires-clause-stamp g c =
+    let here = behind (a_site c.self.invariant c.if-region-self.false) c.index_mut.ensures.value c.behind-self-3.view_is in
+    stamp_here c.self.invariant c.if-region-self.false here (steps_few c.self.invariant c.self.view_is c.requires)
