@@ -106,7 +106,8 @@ impl<S: Scheduler> Region<S> {
 
     /// How many regions there are. Takes no memory.
     pub fn regions(&self) -> u8
-        ensures { result ≡ self.now.state.regions }
+        ensures regions { result ≡ self.now.state.regions }
+        ensures sound { IsSoundRegion self.now.state }
     {
         self.regions
     }

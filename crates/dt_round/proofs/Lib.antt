@@ -3,3 +3,4 @@ pub mod Counting
 pub mod Effects
 pub mod Going
 pub mod Underway
+pub mod OneStep
