@@ -1,11 +1,14 @@
--- When all that a region received is inserted: where it is so for each region's log.
-use Rattle.std.proofs.Common.{◌≡◌, ◌≢◌, ◌≤◌, ◌<◌, ◌+◌, ℕ, suc, [], length, sym, ap, subst, ◌∙◌, inl, inr, arith}
-use Rattle.std.specs.Prelude.{slice_index}
+-- When a region is drained: all that it received is inserted, and its scheduler finds nothing to do.
+use Rattle.std.proofs.Common.{◌≡◌, ◌≢◌, ◌≤◌, ◌<◌, ◌+◌, ◌↔◌, ℕ, suc, Bool, true, false, List, [], Option, Some, None, length, sym, ap, subst, ◌∙◌, inl, inr, arith}
+use Rattle.std.specs.Prelude.{IsTrue, is_none, is_some, slice_index}
 use Rattle.std.proofs.lemmas.List.{get_or_past}
 use Rattle.dt_lists.specs.Lists.{Either}
 use Rattle.dt_lists.proofs.Callers.{either_le, either_nat}
-use Rattle.dt_sched.specs.Views.{log_at}
-use Rattle.dt_region.specs.Region.{RegionState}
+use Rattle.dt_access.specs.declared.TxnId.{TxnId}
+use Rattle.dt_sched.specs.Views.{View, log_at}
+use Rattle.dt_sched.specs.Sched.{IsNextClass, IsNextReady}
+use Rattle.dt_txn.specs.Replica.{IsDrained, Replica}
+use Rattle.dt_region.specs.Region.{RegionState, sched_of}
 use Rattle.dt_region.specs.RegionInner.{HasInsertedAll}
 use Rattle.dt_region.specs.Sound.{IsSoundRegion}
 
@@ -40,3 +43,28 @@ has_all s sound all home = by (either_le (suc home) s.regions)
         let none : slice_index s.here.inserted home ≡ 0 = get_or_past s.here.inserted home 0 (omega (arith, past, a)) in
         let empty : log_at s.logs home ≡ [] = get_or_past s.logs home [] (omega (arith, past, b)) in
         none ∙ sym (ap length empty)
+
+-- a test that a drained region passes has failed
+pub not_drained : (logs : View) (here : Replica) {b : Bool} → (IsDrained logs here → IsTrue b) → b ≡ false → IsTrue false ↔ IsDrained logs here
+not_drained logs here passes failed = (λ e. absurd (clash e), λ d. sym failed ∙ passes d)
+  where
+    clash : IsTrue false → ⊥
+    clash e = cc
+
+-- something is executable
+pub ready_undrained : (logs : View) (here : Replica) (ready : Option TxnId) → is_some ready ≡ true → IsNextReady (sched_of logs here) [] ready → IsTrue false ↔ IsDrained logs here
+ready_undrained logs here None some is = cc
+ready_undrained logs here (Some id) some is = (λ e. cc, λ d. absurd (d.executed id is.0))
+
+-- all is inserted and nothing is executable: then it is drained where no class is resolvable
+pub drained_exactly : (logs : View) (here : Replica) → HasInsertedAll logs here → (ready : Option TxnId) → is_some ready ≡ false → IsNextReady (sched_of logs here) [] ready
+    → (class : Option (List TxnId)) → IsNextClass (sched_of logs here) class → (b : Bool) → b ≡ is_none class → IsTrue b ↔ IsDrained logs here
+drained_exactly logs here inserted (Some id) some ready class next b is = cc
+drained_exactly logs here inserted None some ready None next b is = (
+  λ _. record { inserted = inserted; executed = λ id can. ready id can; resolved = λ ids can. next ids can },
+  λ _. is,
+)
+drained_exactly logs here inserted None some ready (Some ids) next b is = (λ e. absurd (clash (sym is ∙ e)), λ d. absurd (d.resolved ids next))
+  where
+    clash : ◌≡◌ {A = Bool} false true → ⊥
+    clash e = cc
