@@ -1,6 +1,6 @@
 -- When a region is drained: all that it received is inserted, and its scheduler finds nothing to do.
-use Rattle.std.proofs.Common.{◌≡◌, ◌≢◌, ◌≤◌, ◌<◌, ◌+◌, ◌↔◌, ℕ, suc, Bool, true, false, List, [], Option, Some, None, length, sym, ap, subst, ◌∙◌, inl, inr, arith}
-use Rattle.std.specs.Prelude.{IsTrue, is_none, is_some, slice_index}
+use Rattle.std.proofs.Common.{◌≡◌, ◌≢◌, ◌≤◌, ◌<◌, ◌+◌, ◌↔◌, ℕ, suc, Bool, true, false, List, [], Option, Some, None, length, not, refl, sym, ap, subst, ◌∙◌, inl, inr, arith}
+use Rattle.std.specs.Prelude.{IsTrue, is_some, slice_index}
 use Rattle.std.proofs.lemmas.List.{get_or_past}
 use Rattle.dt_lists.specs.Lists.{Either}
 use Rattle.dt_lists.proofs.Callers.{either_le, either_nat}
@@ -58,13 +58,9 @@ ready_undrained logs here (Some id) some is = (λ e. cc, λ d. absurd (d.execute
 
 -- all is inserted and nothing is executable: then it is drained where no class is resolvable
 pub drained_exactly : (logs : View) (here : Replica) → HasInsertedAll logs here → (ready : Option TxnId) → is_some ready ≡ false → IsNextReady (sched_of logs here) [] ready
-    → (class : Option (List TxnId)) → IsNextClass (sched_of logs here) class → (b : Bool) → b ≡ is_none class → IsTrue b ↔ IsDrained logs here
+    → (class : Option (List TxnId)) → IsNextClass (sched_of logs here) class → (b : Bool) → is_some class ≡ not b → IsTrue b ↔ IsDrained logs here
 drained_exactly logs here inserted (Some id) some ready class next b is = cc
-drained_exactly logs here inserted None some ready None next b is = (
-  λ _. record { inserted = inserted; executed = λ id can. ready id can; resolved = λ ids can. next ids can },
-  λ _. is,
-)
-drained_exactly logs here inserted None some ready (Some ids) next b is = (λ e. absurd (clash (sym is ∙ e)), λ d. absurd (d.resolved ids next))
-  where
-    clash : ◌≡◌ {A = Bool} false true → ⊥
-    clash e = cc
+drained_exactly logs here inserted None some ready None next true is = (λ _. record { inserted = inserted; executed = λ id can. ready id can; resolved = λ ids can. next ids can }, λ _. refl)
+drained_exactly logs here inserted None some ready None next false is = cc
+drained_exactly logs here inserted None some ready (Some ids) next true is = cc
+drained_exactly logs here inserted None some ready (Some ids) next false is = (λ e. cc, λ d. absurd (d.resolved ids next))

@@ -1,5 +1,5 @@
 -- The stamps that a region knows of, and the events that it keeps, after one event more.
-use Rattle.std.proofs.Common.{◌≡◌, ◌≤◌, ◌-◌, ◌+◌, ℕ, List, [], ◌∷◌, ◌++◌, length, max, Some, None, slice_get, refl, ap, ◌∙◌, arith}
+use Rattle.std.proofs.Common.{◌≡◌, ◌≤◌, ◌-◌, ◌+◌, ℕ, zero, suc, List, [], ◌∷◌, ◌++◌, length, max, Some, slice_get, refl, ap, ◌∙◌, arith}
 use Rattle.std.proofs.lemmas.List.{map-append}
 use Rattle.std.proofs.Math.Nat.{le-max_right, max-eq_left}
 use Rattle.dt_events.specs.declared.Event.{Event}
@@ -9,17 +9,18 @@ use Rattle.dt_region.specs.Region.{RegionState, RegionView, latest_stamp}
 use Rattle.dt_region.specs.Rules.{with_event}
 use Rattle.dt_region.proofs.Seen.{under}
 
--- the stamp of the last of some events, of which there is none
-pub last_none : (items : List Stamped) → slice_get items (length items - 1) ≡ None → last_stamp items ≡ 0
-last_none [] e = refl
-last_none (x ∷ []) e = cc
-last_none (x ∷ y ∷ items) e = last_none (y ∷ items) e
+-- the stamp of the last event, if there is one
 
--- or one
+last_at : (items : List Stamped) (n : ℕ) (x : Stamped) → n + 1 ≡ length items → slice_get items n ≡ Some x → last_stamp items ≡ x.stamp
+last_at [] n x many e = cc
+last_at (y ∷ []) zero x many e = let same : y ≡ x = cc in ap (λ z. z.stamp) same
+last_at (y ∷ []) (suc n) x many e = cc
+last_at (y ∷ z ∷ items) zero x many e = absurd (omega (arith, many))
+last_at (y ∷ z ∷ items) (suc n) x many e = let later : n + 1 ≡ length (z ∷ items) = omega (arith, many) in last_at (z ∷ items) n x later e
+
 pub last_some : (items : List Stamped) (x : Stamped) → slice_get items (length items - 1) ≡ Some x → last_stamp items ≡ x.stamp
 last_some [] x e = cc
-last_some (y ∷ []) x e = let same : y ≡ x = cc in ap (λ z. z.stamp) same
-last_some (y ∷ z ∷ items) x e = last_some (z ∷ items) x e
+last_some (y ∷ items) x e = last_at (y ∷ items) (length (y ∷ items) - 1) x (omega arith) e
 
 last_pushed : (items : List Stamped) (x : Stamped) → last_stamp (items ++ x ∷ []) ≡ x.stamp
 last_pushed [] x = refl
