@@ -245,7 +245,7 @@ module _ (r : RegionView) (s : RegionState) (events : List Stamped) (heard : ℕ
       pub old_made : (begin : ℕ) (after : List Stamped) → after ≡ events → MakesRest r home begin first entries (Ok taken) (record { state = made foreign logs; events = after; heard = heard })
       old_made begin after kept = by taken none takes
         where
-          whole : record { state = made foreign logs; events = after } ≡ r
+          whole : record { state = made foreign logs; events = after; heard = heard } ≡ r
           whole = (λ j. record { state = old_is j; events = kept j; heard = heard }) ∙ stands.view
 
           by : (x : Taken) → ((m : ℕ) → x ≢ New m) → Takes log_here first parts (Ok x) (log_at logs home) → MakesRest r home begin first entries (Ok x) (record { state = made foreign logs; events = after; heard = heard })

@@ -6,6 +6,7 @@ use Rattle.std.proofs.lemmas.List.{length-append, length-map}
 use Rattle.std.proofs.lemmas.List.Sums.{sum_by-cons}
 use Rattle.dt_lists.specs.Lists.{AllIn, Distinct, EachThen, Has}
 use Rattle.dt_lists.proofs.Callers.{all_get, all_image, all_map, all_put, distinct_within, each_image}
+use Rattle.dt_access.specs.declared.Part.{Part}
 use Rattle.dt_access.specs.declared.TxnId.{TxnId}
 use Rattle.dt_sched.specs.Views.{View, IsClass, IsClosed, ids_of, log_at}
 use Rattle.dt_sched.specs.Decide.{IsSound}
@@ -32,7 +33,7 @@ few_inserted (n ∷ counts) (log ∷ logs) e each =
 -- as many ids as parts
 ids_count : (view : View) → length (ids_in view) ≡ parts_in view
 ids_count [] = refl
-ids_count (log ∷ view) = length-append (ids_of log) (ids_in view) ∙ ap₂ (λ a b. a + b) (length-map log (λ p. p.id)) (ids_count view) ∙ sym (sum_by-cons length log view)
+ids_count (log ∷ view) = length-append (ids_of log) (ids_in view) ∙ ap₂ (λ a b. a + b) (length-map log (λ (p : Part). p.id)) (ids_count view) ∙ sym (sum_by-cons length log view)
 
 -- the first of a group
 first_in : List TxnId → TxnId

@@ -25,7 +25,7 @@ use Rattle.dt_round.specs.Steps.{steps_of}
 
 -- a replica has become another by one step
 pub record IsCounted (here next : Replica) : Type 0 where
-  pub one : steps_of next ≡ steps_of here + 1
+  pub more : steps_of next ≡ steps_of here + 1
   pub version : next.table.version ≡ here.table.version
   pub moves : (key : Bytes) → counter_of next.table key + length here.done ≤ counter_of here.table key + length next.done
 
@@ -45,7 +45,7 @@ module _ (procs : List ProcTree) (s : RegionState) (sound : IsSoundRegion s) whe
 
   inserts : (region home : ℕ) → MayMake s (Insert region home) → IsCounted s.here (stepped procs (held s) s.here (Insert region home))
   inserts region home may = record {
-    one =
+    more =
         let more : sum (set s.here.inserted home (slice_index s.here.inserted home + 1)) + slice_index s.here.inserted home ≡ sum s.here.inserted + (slice_index s.here.inserted home + 1) =
         sum_by-set (λ y. y) s.here.inserted home (slice_index s.here.inserted home + 1) 0 (has_log home may) in
         omega (arith, more);
@@ -55,7 +55,7 @@ module _ (procs : List ProcTree) (s : RegionState) (sound : IsSoundRegion s) whe
 
   resolves : (region : ℕ) (ids : List TxnId) → IsCounted s.here (stepped procs (held s) s.here (Resolve region ids))
   resolves region ids = record {
-    one = let more : length (s.here.resolved ++ ids ∷ []) ≡ length s.here.resolved + 1 = length-append s.here.resolved (ids ∷ []) in omega (arith, more);
+    more = let more : length (s.here.resolved ++ ids ∷ []) ≡ length s.here.resolved + 1 = length-append s.here.resolved (ids ∷ []) in omega (arith, more);
     version = refl;
     moves = λ key. omega arith;
   }
@@ -64,7 +64,7 @@ module _ (procs : List ProcTree) (s : RegionState) (sound : IsSoundRegion s) whe
   does txn =
       let more : length (s.here.done ++ (txn.id, (one procs txn s.here.table).0) ∷ []) ≡ length s.here.done + 1 = length-append s.here.done ((txn.id, (one procs txn s.here.table).0) ∷ []) in
       record {
-        one = omega (arith, more);
+        more = omega (arith, more);
         version = version-apply (one procs txn s.here.table).1 s.here.table;
         moves = λ key. (let moved = counter_of-apply (one procs txn s.here.table).1 s.here.table key in omega (arith, more, moved));
       }

@@ -33,7 +33,7 @@ stamped_more n (x ∷ events) event =
     let later : n + 1 + length events ≡ n + length (x ∷ events) = omega arith in
     ap (λ l. under n x ∷ l) (stamped_more (n + 1) events event ∙ ap (λ m. stamped_from (n + 1) events ++ under m event ∷ []) later)
 
-pub continues_none : (procs : List ProcTree) (r : RegionView) → Continues procs r r
+abbrev pub continues_none : (procs : List ProcTree) (r : RegionView) → Continues procs r r
 continues_none procs r = record { events = []; legal = tt; state = refl; kept = sym (append-nil r.events); heard = refl }
 
 module _ (procs : List ProcTree) (a b c : RegionView) (going : Continues procs a b) (many : latest_stamp b ≡ latest_stamp a + length going.events)
@@ -61,7 +61,7 @@ module _ (procs : List ProcTree) (a b c : RegionView) (going : Continues procs a
       ∙ append_assoc a.events (stamped_from (latest_stamp a + 1) going.events) (under (latest_stamp a + 1 + length going.events) event ∷ [])
       ∙ ap (λ l. a.events ++ l) (sym (stamped_more (latest_stamp a + 1) going.events event))
 
-  pub continues_more : Continues procs a c
+  abbrev pub continues_more : Continues procs a c
   continues_more = record {
     events = events;
     legal = legal_more procs (held a.state) a.state.number a.state.logs a.state.here going.events event going.legal (mine ∙ ap (λ s. s.number) going.state) may;

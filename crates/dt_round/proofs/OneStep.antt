@@ -14,23 +14,23 @@ use Rattle.dt_region.specs.RegionInner.{HasInsertedAll}
 use Rattle.dt_region.specs.Rules.{MakesStep, MayMake}
 use Rattle.dt_region.specs.Sound.{IsSoundRegion}
 use Rattle.dt_region.proofs.Callers.{HasInserted, has_inserted, has_one_more}
-use Rattle.dt_round.specs.Steps.{IsStep, StepsOn}
+use Rattle.dt_round.specs.Steps.{IsOwnStep, StepsOn}
 
 module _ (procs : List ProcTree) (r now : RegionView) (same : now ≡ r) where
-  pub inserts : (home : ℕ) (on : Bool) (after : RegionView) → on ≡ true → MakesStep [] now (Insert now.state.number home) (Ok on) after → IsStep procs r after
+  pub inserts : (home : ℕ) (on : Bool) (after : RegionView) → on ≡ true → MakesStep [] now (Insert now.state.number home) (Ok on) after → IsOwnStep procs r after
   inserts home on after e m =
       let made : MakesStep procs now (Insert now.state.number home) (Ok true) after = subst (λ b. MakesStep procs now (Insert now.state.number home) (Ok b) after) e m in
-      subst (λ x. IsStep procs x after) same (record { event = Insert now.state.number home; mine = refl; makes = made })
+      subst (λ x. IsOwnStep procs x after) same (record { event = Insert now.state.number home; mine = refl; makes = made })
 
   pub executes : (id : TxnId) → CanExecute (sched_of now.state.logs now.state.here) id → (result : Result Bool NoMemory) (after : RegionView)
       → MakesStep procs now (Execute now.state.number id) result after → StepsOn procs r result after
-  executes id can (Ok true) after m = subst (λ x. IsStep procs x after) same (record { event = Execute now.state.number id; mine = refl; makes = m })
+  executes id can (Ok true) after m = subst (λ x. IsOwnStep procs x after) same (record { event = Execute now.state.number id; mine = refl; makes = m })
   executes id can (Ok false) after m = absurd (m.0 can)
   executes id can (Err e) after m = m ∙ same
 
   pub resolves : (ids : List TxnId) → CanResolve (sched_of now.state.logs now.state.here) ids → (result : Result Bool NoMemory) (after : RegionView)
       → MakesStep [] now (Resolve now.state.number ids) result after → StepsOn procs r result after
-  resolves ids can (Ok true) after m = subst (λ x. IsStep procs x after) same (record { event = Resolve now.state.number ids; mine = refl; makes = m })
+  resolves ids can (Ok true) after m = subst (λ x. IsOwnStep procs x after) same (record { event = Resolve now.state.number ids; mine = refl; makes = m })
   resolves ids can (Ok false) after m = absurd (m.0 can)
   resolves ids can (Err e) after m = m ∙ same
 

@@ -13,12 +13,12 @@ use Rattle.dt_txn.specs.declared.txn.Txn.{Txn}
 use Rattle.dt_txn.specs.Transaction.{IsValid}
 use Rattle.dt_txn.specs.Replica.{Replica, done_ids, stepped, view_of}
 use Rattle.dt_region.specs.Region.{HasStamp, RegionState, RegionView, held, latest_stamp, sched_of}
-use Rattle.dt_region.specs.Rules.{MakesStep}
+use Rattle.dt_region.specs.Rules.{after_step}
 use Rattle.dt_region.specs.Conditions.{CanMove, HasPlaceToMove, HoldsValid}
 use Rattle.dt_region.specs.Sound.{IsSoundRegion}
 use Rattle.dt_region.proofs.Callers.{fronts_few, latest_more}
 use Rattle.dt_round.specs.Rounds.{CanRound, Continues}
-use Rattle.dt_round.specs.Steps.{IsStep, steps_left, steps_of}
+use Rattle.dt_round.specs.Steps.{IsOwnStep, steps_left, steps_of}
 use Rattle.dt_round.proofs.Counting.{few_done, few_steps}
 use Rattle.dt_round.proofs.Effects.{IsCounted, step_counted}
 use Rattle.dt_round.proofs.Going.{continues_more, continues_none}
@@ -85,12 +85,12 @@ module _ (procs : List ProcTree) (entry now : RegionView) (u : IsUnderway procs 
           omega (arith, a, b, c, d)
 
   -- one step more
-  module _ (next : RegionView) (step : IsStep procs now next) (sound : IsSoundRegion next.state) where
+  module _ (next : RegionView) (step : IsOwnStep procs now next) (sound : IsSoundRegion next.state) where
     counts : IsCounted now.state.here next.state.here
     counts = subst (λ (r : RegionView). IsCounted now.state.here r.state.here) (sym step.makes.1) (step_counted procs now.state u.sound step.event step.makes.0)
 
     latest : latest_stamp next ≡ latest_stamp now + 1
-    latest = ap latest_stamp step.makes.1 ∙ latest_more now _ step.event
+    latest = ap latest_stamp step.makes.1 ∙ latest_more now (after_step procs now.state step.event) step.event
 
     holds : HoldsValid procs next.state
     holds id txn e =
@@ -105,7 +105,7 @@ module _ (procs : List ProcTree) (entry now : RegionView) (u : IsUnderway procs 
         let a = u.many in
         let b = u.counted in
         let c = latest in
-        let d = counts.one in
+        let d = counts.more in
         record {
           began = u.began;
           continues = continues_more procs entry now next u.continues u.many step.event step.mine step.makes;
@@ -119,7 +119,7 @@ module _ (procs : List ProcTree) (entry now : RegionView) (u : IsUnderway procs 
     -- and one less is left
     pub one_less : steps_left next.state < steps_left now.state
     one_less =
-        let a = counts.one in
+        let a = counts.more in
         let b : steps_of next.state.here ≤ 3 * parts_in next.state.logs = few_steps next.state sound in
         let c : parts_in next.state.logs ≡ parts_in now.state.logs = ap (λ (r : RegionView). parts_in r.state.logs) step.makes.1 in
         omega (arith, a, b, c)

@@ -62,7 +62,11 @@ fn step<S: Scheduler>(
 }
 
 // Inserts the next part of the first log of which one is left. False where all that is received is inserted.
-fn insert_some<S: Scheduler>(alloc: Global, region: &mut Region<S>, regions: u8) -> Result<bool, NoMemory>
+fn insert_some<S: Scheduler>(
+    alloc: Global,
+    region: &mut Region<S>,
+    regions: u8,
+) -> Result<bool, NoMemory>
     requires regions { regions ≡ region.old.state.regions }
     requires sound { IsSoundRegion region.old.state }
     requires stamp { HasStamp region.old }

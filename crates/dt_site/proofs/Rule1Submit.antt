@@ -9,7 +9,7 @@ use Rattle.dt_access.specs.declared.TxnId.{TxnId}
 use Rattle.dt_events.specs.declared.Event.TheVariants.{Submit}
 use Rattle.dt_txn.specs.declared.Txn.{Txn}
 use Rattle.dt_txn.specs.Replica.{next_id, submission_for}
-use Rattle.dt_region.specs.Region.{held, find_txn}
+use Rattle.dt_region.specs.Region.{held, find_txn, latest_stamp}
 use Rattle.dt_region.specs.Rules.{id_for, txn_for}
 use Rattle.dt_region.specs.Sound.{IsSoundRegion}
 use Rattle.dt_region.proofs.Callers.{kept_more, latest_more}

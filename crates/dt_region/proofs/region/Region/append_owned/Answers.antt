@@ -20,15 +20,15 @@ pub invariant_of-self-2 : goal.invariant_of-self-2
 invariant_of-self-2 g c =
     let turn = c.if-number-taken.false ∙ c.taken.ensures.taken in
     let seen = seen_as c.self.view_is c.self.invariant in
-    let kept = append_kept _ _ _ _ seen c.args.source c.args.number c.args.txn c.requires.source c.requires.can turn c.reserve-2.ensures.same c.keep.ensures.kept in
-    append_keeps _ _ _ _ seen c.args.source c.args.number c.args.txn c.requires.source c.requires.can turn _ _ kept (c.in_ok-place.ensures.ok ∙ ap (with_part c.self.inside.logs.items) c.in_ok-part.ensures)
+    let kept = append_kept _ _ _ _ _ seen c.args.source c.args.number c.args.txn c.requires.source c.requires.can turn c.reserve-2.ensures.same c.keep.ensures.kept in
+    append_keeps _ _ _ _ _ seen c.args.source c.args.number c.args.txn c.requires.source c.requires.can turn _ _ kept (c.in_ok-place.ensures.ok ∙ ap (with_part c.self.inside.logs.items) c.in_ok-part.ensures)
 
 pub returns-clause-makes : goal.returns-clause-makes
 returns-clause-makes g c =
     let turn = c.if-number-taken.false ∙ c.taken.ensures.taken in
     let seen = seen_as c.self.view_is c.self.invariant in
-    let kept = append_kept _ _ _ _ seen c.args.source c.args.number c.args.txn c.requires.source c.requires.can turn c.reserve-2.ensures.same c.keep.ensures.kept in
-    append_made _ _ _ _ seen c.args.source c.args.number c.args.txn c.requires.source c.requires.can turn _ _ kept (c.in_ok-place.ensures.ok ∙ ap (with_part c.self.inside.logs.items) c.in_ok-part.ensures)
+    let kept = append_kept _ _ _ _ _ seen c.args.source c.args.number c.args.txn c.requires.source c.requires.can turn c.reserve-2.ensures.same c.keep.ensures.kept in
+    append_made _ _ _ _ _ seen c.args.source c.args.number c.args.txn c.requires.source c.requires.can turn _ _ kept (c.in_ok-place.ensures.ok ∙ ap (with_part c.self.inside.logs.items) c.in_ok-part.ensures)
     _ c.next_stamp-stamp.ensures _ (c.keep_event.ensures ∙ ap (λ es. es ++ under c.next_stamp-stamp.result (Append c.self.inside.number c.args.source c.args.number) ∷ []) c.reserve.ensures.items)
 
 pub returns-clause-sound : goal.returns-clause-sound
