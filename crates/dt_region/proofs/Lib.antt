@@ -15,3 +15,4 @@ pub mod Rule5Resolve
 pub mod Rule6Execute
 pub mod Drained
 pub mod Stamps
+pub mod StepSound

@@ -100,5 +100,9 @@ module _ (procs : List ProcTree) (r : RegionView) (s : RegionState) (events : Li
     pub submit_keeps : AreWell (made submitted asked) seen
     submit_keeps = subst (λ x. AreWell x seen) (sym submit_is) (submit_sound procs s stands.well.0 rank body fits_here, stands.well.1)
 
-    pub submit_made : (session : List ℕ) (stamp : ℕ) (is_next : stamp ≡ latest_stamp r + 1) (after : List Stamped) → after ≡ events ++ under stamp (Submit s.number session) ∷ [] → MakesSubmit procs r session rank body (Ok id) (record { state = made submitted asked; events = after; heard = heard })
-    submit_made session stamp is_next after kept = subst (λ x. MakesSubmit procs x session rank body (Ok id) (record { state = made submitted asked; events = after; heard = heard })) stands.view (i, λ j. record { state = submit_is j; events = kept_under stands (Submit s.number session) stamp after is_next kept j; heard = heard })
+    pub submit_made : (session : List ℕ) (stamp : ℕ) (is_next : stamp ≡ latest_stamp r + 1) (after : List Stamped)
+        → after ≡ events ++ under stamp (Submit s.number session) ∷ []
+        → MakesSubmit procs r session rank body (Ok id) (record { state = made submitted asked; events = after; heard = heard })
+    submit_made session stamp is_next after kept =
+        subst (λ x. MakesSubmit procs x session rank body (Ok id) (record { state = made submitted asked; events = after; heard = heard })) stands.view
+        (i, λ j. record { state = submit_is j; events = kept_under stands (Submit s.number session) stamp after is_next kept j; heard = heard })

@@ -157,5 +157,9 @@ module _ (r : RegionView) (s : RegionState) (events : List Stamped) (heard : ℕ
     pub append_keeps : AreWell (made foreign logs) seen
     append_keeps = subst (λ x. AreWell x seen) (sym append_is) (append_well s stands.well.0 source number txn (subst (λ x. source < x.state.regions) (sym stands.view) known) can_here turn_here seen stands.well.1)
 
-    pub append_made : (stamp : ℕ) (is_next : stamp ≡ latest_stamp r + 1) (after : List Stamped) → after ≡ events ++ under stamp (Append s.number source number) ∷ [] → MakesAppend r source number txn (Ok true) (record { state = made foreign logs; events = after; heard = heard })
-    append_made stamp is_next after kept = subst (λ x. MakesAppend x source number txn (Ok true) (record { state = made foreign logs; events = after; heard = heard })) stands.view (turn_here, λ j. record { state = append_is j; events = kept_under stands (Append s.number source number) stamp after is_next kept j; heard = heard })
+    pub append_made : (stamp : ℕ) (is_next : stamp ≡ latest_stamp r + 1) (after : List Stamped)
+        → after ≡ events ++ under stamp (Append s.number source number) ∷ []
+        → MakesAppend r source number txn (Ok true) (record { state = made foreign logs; events = after; heard = heard })
+    append_made stamp is_next after kept =
+        subst (λ x. MakesAppend x source number txn (Ok true) (record { state = made foreign logs; events = after; heard = heard })) stands.view
+        (turn_here, λ j. record { state = append_is j; events = kept_under stands (Append s.number source number) stamp after is_next kept j; heard = heard })

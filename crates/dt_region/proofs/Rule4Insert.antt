@@ -93,7 +93,7 @@ module _ (s : RegionState) (sound : IsSoundRegion s) (home : ℕ) (part : Part) 
   abbrev after : RegionState
   after = record s { here = record s.here { inserted = lengths } }
 
-  insert_sound : IsSoundRegion after
+  pub insert_sound : IsSoundRegion after
   insert_sound = record {
     number = sound.number;
     regions = sound.regions;
@@ -153,7 +153,10 @@ module _ (r : RegionView) (s : RegionState) (events : List Stamped) (heard : ℕ
     pub insert_keeps : AreWell (made place now) now
     insert_keeps = subst (λ x. AreWell x now) (sym insert_is) (insert_well s stands.well.0 home part known_here next_here now now_is)
 
-    pub insert_made : (stamp : ℕ) (is_next : stamp ≡ latest_stamp r + 1) (after : List Stamped) → after ≡ events ++ under stamp (Insert s.number home) ∷ [] → MakesStep [] r (Insert r.state.number home) (Ok true) (record { state = made place now; events = after; heard = heard })
+    pub insert_made : (stamp : ℕ) (is_next : stamp ≡ latest_stamp r + 1) (after : List Stamped)
+        → after ≡ events ++ under stamp (Insert s.number home) ∷ []
+        → MakesStep [] r (Insert r.state.number home) (Ok true) (record { state = made place now; events = after; heard = heard })
     insert_made stamp is_next after kept =
         let may : slice_index s.here.inserted home < length (log_at s.logs home) = slice_get_within (log_at s.logs home) (slice_index s.here.inserted home) part next_here in
-        subst (λ x. MakesStep [] x (Insert x.state.number home) (Ok true) (record { state = made place now; events = after; heard = heard })) stands.view (may, λ j. record { state = insert_is j; events = kept_under stands (Insert s.number home) stamp after is_next kept j; heard = heard })
+        subst (λ x. MakesStep [] x (Insert x.state.number home) (Ok true) (record { state = made place now; events = after; heard = heard })) stands.view
+        (may, λ j. record { state = insert_is j; events = kept_under stands (Insert s.number home) stamp after is_next kept j; heard = heard })

@@ -13,7 +13,7 @@ use Rattle.dt_region.specs.Sound.{IsSoundRegion}
 use Rattle.dt_region.specs.RegionInner.{AreWell}
 use Rattle.dt_region.proofs.Seen.{IsSeenAs, kept_under, under}
 
-resolve_sound : (s : RegionState) → IsSoundRegion s → (ids : List TxnId) → CanResolve (sched_of s.logs s.here) ids → IsSoundRegion (record s { here = record s.here { resolved = s.here.resolved ++ ids ∷ [] } })
+pub resolve_sound : (s : RegionState) → IsSoundRegion s → (ids : List TxnId) → CanResolve (sched_of s.logs s.here) ids → IsSoundRegion (record s { here = record s.here { resolved = s.here.resolved ++ ids ∷ [] } })
 resolve_sound s sound ids may = record {
   number = sound.number;
   regions = sound.regions;
@@ -50,5 +50,9 @@ module _ (r : RegionView) (s : RegionState) (events : List Stamped) (heard : ℕ
     pub resolve_keeps : AreWell (made now) now
     resolve_keeps = subst (λ x. AreWell x now) (sym (ap made now_is)) (resolve_sound s stands.well.0 ids may, now_is)
 
-    pub resolve_made : (stamp : ℕ) (is_next : stamp ≡ latest_stamp r + 1) (after : List Stamped) → after ≡ events ++ under stamp (Resolve s.number ids) ∷ [] → MakesStep [] r (Resolve r.state.number ids) (Ok true) (record { state = made now; events = after; heard = heard })
-    resolve_made stamp is_next after kept = subst (λ x. MakesStep [] x (Resolve x.state.number ids) (Ok true) (record { state = made now; events = after; heard = heard })) stands.view (may, λ j. record { state = made (now_is j); events = kept_under stands (Resolve s.number ids) stamp after is_next kept j; heard = heard })
+    pub resolve_made : (stamp : ℕ) (is_next : stamp ≡ latest_stamp r + 1) (after : List Stamped)
+        → after ≡ events ++ under stamp (Resolve s.number ids) ∷ []
+        → MakesStep [] r (Resolve r.state.number ids) (Ok true) (record { state = made now; events = after; heard = heard })
+    resolve_made stamp is_next after kept =
+        subst (λ x. MakesStep [] x (Resolve x.state.number ids) (Ok true) (record { state = made now; events = after; heard = heard })) stands.view
+        (may, λ j. record { state = made (now_is j); events = kept_under stands (Resolve s.number ids) stamp after is_next kept j; heard = heard })

@@ -19,7 +19,7 @@ use Rattle.dt_txn.specs.declared.Txn.{Txn}
 use Rattle.dt_txn.specs.Transaction.{homes_of, part_of, IsValid}
 use Rattle.dt_txn.specs.Replica.{fronts}
 use Rattle.dt_region.specs.Region.{RegionView, held, latest_stamp}
-use Rattle.dt_region.specs.Rules.{MakesRest, after_deliver, past_end, with_entries, with_event}
+use Rattle.dt_region.specs.Rules.{MakesDelivery, after_deliver, past_end, with_entries, with_event}
 use Rattle.dt_region.specs.Conditions.{CanDeliver, IsPartOf}
 use Rattle.dt_region.specs.Sound.{IsSoundRegion}
 use Rattle.dt_region.proofs.Callers.{kept_more, latest_more}
@@ -314,7 +314,7 @@ module _ {cluster : Cluster} {workload : Workload} {w : World} (k : IsReached cl
             stamp = ap latest_stamp is ∙ latest_more p.region p.region.state (Deliver p.region.state.number home begin (first + length entries));
           }
 
-        pub deliver_made : (r : RegionView) (t : Taken) → MakesRest p.region home begin first entries (Ok t) r → IsSoundRegion r.state
+        pub deliver_made : (r : RegionView) (t : Taken) → MakesDelivery p.region home begin first entries (Ok t) r → IsSoundRegion r.state
             → Steps cluster workload w (Deliver region home begin last) region p (in_region p r) w.places
         deliver_made r (New n) m sound = deliver_steps r m.3 sound
         deliver_made r Old m sound = let a : first + length entries ≤ length has_of = m.1 in absurd (omega (arith, a, to_last, has_received, goes_on))

@@ -230,7 +230,7 @@ impl<S: Scheduler + Drop> World<S> {
         let entries = entries(alloc, source, home, received, last)?;
         self.sites[region as usize]
             .region
-            .deliver_rest(alloc, home, first, received, entries)?;
+            .deliver(alloc, home, first, received, entries)?;
         self.steps += 1;
         Ok(())
     }

@@ -3,7 +3,7 @@ use Rattle.dt_events.specs.declared.Event.TheVariants.{Deliver}
 use Rattle.dt_region.specs.Rules.{keep_all}
 use Rattle.dt_region.proofs.Rule3Deliver.{deliver_room_of_parts, new_keeps, new_made, old_keeps, old_made}
 use Rattle.dt_region.proofs.Seen.{seen_as, under}
-use Rattle.dt_region.proofs.region.Region.deliver_rest.Goals as goal
+use Rattle.dt_region.proofs.region.Region.deliver.Goals as goal
 
 pub take-requires-clause-place : goal.take-requires-clause-place
 take-requires-clause-place g c reach =
