@@ -31,7 +31,8 @@ returns-in-New-clause-makes g c =
     c.in_ok-parts.parts.items c.in_ok-parts.txns.items c.in_ok-parts.txns.len
     c.in_ok-parts.ensures.parts c.in_ok-parts.ensures.txns c.in_ok-parts.txns.ok.0 c.in-New.new _ _ c.in_ok-taken.taken c.in-New.is c.in_ok-taken.ensures.takes c.in_ok-taken.ensures.others
     (λ submitted counted own. c.keep_last.ensures submitted counted own ∙ ap (λ f. keep_all submitted f (drop (c.in_ok-parts.txns.len - c.in-New.new) c.in_ok-parts.txns.items)) c.reserve-2.ensures.same)
-    c.args.begin _ c.next_stamp-stamp.ensures _ (c.keep_event.ensures ∙ (λ i. c.reserve.ensures.items i ++ under c.next_stamp-stamp.result (Deliver c.self.inside.number c.args.home c.args.begin (c.args.first + c.len-count.ensures i)) ∷ []))
+    c.args.begin _ c.next_stamp-stamp.ensures _
+    (c.keep_event.ensures ∙ (λ i. c.reserve.ensures.items i ++ under c.next_stamp-stamp.result (Deliver c.self.inside.number c.args.home c.args.begin (c.args.first + c.len-count.ensures i)) ∷ []))
 
 pub returns-in-New-clause-sound : goal.returns-in-New-clause-sound
 returns-in-New-clause-sound g c = (invariant_of-self-in-New g c).0

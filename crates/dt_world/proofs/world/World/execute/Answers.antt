@@ -48,4 +48,5 @@ returns-then-not-branch g c =
     )
 
 pub execute-requires-clause-stamp : goal.execute-requires-clause-stamp
-execute-requires-clause-stamp g c = stamp_here c.self.invariant c.if-region-self.false (behind (a_site c.self.invariant c.if-region-self.false) c.index_mut.ensures.value c.behind-self.view_is) (steps_few c.self.invariant c.self.view_is c.requires)
+execute-requires-clause-stamp g c =
+    stamp_here c.self.invariant c.if-region-self.false (behind (a_site c.self.invariant c.if-region-self.false) c.index_mut.ensures.value c.behind-self.view_is) (steps_few c.self.invariant c.self.view_is c.requires)
