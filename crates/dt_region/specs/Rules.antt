@@ -121,22 +121,18 @@ MakesAppend r source number txn (Ok true) after =
 MakesAppend r source number txn (Ok false) after = (number ≢ taken_from r.state.here source) × (after ≡ r)
 MakesAppend r source number txn (Err e) after = after ≡ r
 
--- of a delivery nothing is taken across a gap, and old entries change nothing; otherwise the last n of them, those past
--- the log's end, are new, and the event goes from the place where the delivery begins to the new end of the log. The
--- entries are those of the delivery from place `first` on.
-abbrev pub MakesRest : RegionView → ℕ → ℕ → ℕ → List Entry → Result Taken NoMemory → RegionView → Type 0
-MakesRest r home begin first entries (Ok Gap) after = (length (log_at r.state.logs home) < first) × (after ≡ r)
-MakesRest r home begin first entries (Ok Old) after =
+-- A delivery begins at place `begin` of a home's log, and given of it are the entries from place `first` on. Nothing is
+-- taken across a gap, and old entries change nothing; otherwise the last n of the entries, those past the log's end, are
+-- new, and the event goes from the place where the delivery begins to the new end of the log.
+abbrev pub MakesDelivery : RegionView → ℕ → ℕ → ℕ → List Entry → Result Taken NoMemory → RegionView → Type 0
+MakesDelivery r home begin first entries (Ok Gap) after = (length (log_at r.state.logs home) < first) × (after ≡ r)
+MakesDelivery r home begin first entries (Ok Old) after =
     (first ≤ length (log_at r.state.logs home)) × (first + length entries ≤ length (log_at r.state.logs home)) × (after ≡ r)
-MakesRest r home begin first entries (Ok (New n)) after =
+MakesDelivery r home begin first entries (Ok (New n)) after =
     (first ≤ length (log_at r.state.logs home)) × (length (log_at r.state.logs home) < first + length entries)
     × (length (log_at r.state.logs home) + n ≡ first + length entries)
     × (after ≡ with_event r (after_deliver r.state home first entries) (Deliver r.state.number home begin (first + length entries)))
-MakesRest r home begin first entries (Err e) after = after ≡ r
-
--- a delivery of all its entries begins at the place of the first of them
-abbrev pub MakesDelivery : RegionView → ℕ → ℕ → List Entry → Result Taken NoMemory → RegionView → Type 0
-MakesDelivery r home first entries result after = MakesRest r home first first entries result after
+MakesDelivery r home begin first entries (Err e) after = after ≡ r
 
 -- a step of its own (insert, resolve, execute) is made exactly where it may be made, and nothing changes otherwise
 abbrev pub MakesStep : List ProcTree → RegionView → Event → Result Bool NoMemory → RegionView → Type 0

@@ -10,7 +10,7 @@ ghost use Rattle.dt_txn.specs.Replica.{IsDrained, taken_from};
 ghost use Rattle.dt_txn.specs.Transaction.{BodyFits};
 ghost use Rattle.dt_region.specs.RegionInner.{HasInsertedAll};
 ghost use Rattle.dt_region.specs.Region.{HasStamp, held, latest_stamp, outcome_of, sched_of};
-ghost use Rattle.dt_region.specs.Rules.{opening_state, MakesSubmit, MakesAppend, MakesDelivery, MakesRest, MakesStep, MakesAnswer};
+ghost use Rattle.dt_region.specs.Rules.{opening_state, MakesSubmit, MakesAppend, MakesDelivery, MakesStep, MakesAnswer};
 ghost use Rattle.dt_region.specs.Conditions.{IsTableFor, CanAppend, CanDeliver, CanMove, HoldsValid};
 ghost use Rattle.dt_region.specs.Sound.{IsSoundRegion};
 
@@ -106,7 +106,8 @@ impl<S: Scheduler> Region<S> {
 
     /// How many regions there are. Takes no memory.
     pub fn regions(&self) -> u8
-        ensures { result ≡ self.now.state.regions }
+        ensures regions { result ≡ self.now.state.regions }
+        ensures sound { IsSoundRegion self.now.state }
     {
         self.regions
     }
@@ -299,29 +300,12 @@ impl<S: Scheduler> Region<S> {
         Ok(true)
     }
 
-    /// Takes a delivery of a home's log: its entries from place `first` on. `New` where some stand past the end of what the
-    /// region has of that log: these are added, their transactions are held, and the event is kept, from `first` to the
-    /// log's new end. `Gap` where `first` itself stands past that end, and `Old` where no entry is new; then nothing
-    /// changes, and neither does after `NoMemory`.
+    /// Takes a delivery of a home's log that begins at place `begin`, of which the entries from place `first` on are given:
+    /// what the region has already need not be copied for it. `New` where some stand past the end of what the region has of
+    /// that log: these are added, their transactions are held, and the event is kept, from `begin` to the log's new end.
+    /// `Gap` where `first` itself stands past that end, and `Old` where no entry is new; then nothing changes, and neither
+    /// does after `NoMemory`.
     pub fn deliver(
-        &mut self,
-        alloc: Global,
-        home: u8,
-        first: u32,
-        entries: Vec<Entry>,
-    ) -> Result<Taken, NoMemory>
-        requires stamp { HasStamp self.old }
-        requires home { home < self.old.state.regions }
-        requires can { CanDeliver self.old.state home first entries.items }
-        ensures makes { MakesDelivery self.old home first entries.items result self.new }
-        ensures sound { IsSoundRegion self.new.state }
-    {
-        self.deliver_rest(alloc, home, first, first, entries)
-    }
-
-    /// The same as `deliver` for a delivery that begins at place `begin`, of which the entries from place `first` on are
-    /// given: what the region has of it need not be copied. The event is kept from `begin` on.
-    pub fn deliver_rest(
         &mut self,
         alloc: Global,
         home: u8,
@@ -333,7 +317,7 @@ impl<S: Scheduler> Region<S> {
         requires home { home < self.old.state.regions }
         requires begins { begin ≤ first }
         requires can { CanDeliver self.old.state home first entries.items }
-        ensures makes { MakesRest self.old home begin first entries.items result self.new }
+        ensures makes { MakesDelivery self.old home begin first entries.items result self.new }
         ensures sound { IsSoundRegion self.new.state }
     {
         let stamp = self.next_stamp();

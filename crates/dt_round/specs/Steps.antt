@@ -22,19 +22,19 @@ abbrev pub steps_left : RegionState → ℕ
 steps_left s = 3 * parts_in s.logs - steps_of s.here
 
 -- by one step of its own the first region has become the second
-pub record IsStep (procs : List ProcTree) (before after : RegionView) : Type 0 where
+pub record IsOwnStep (procs : List ProcTree) (before after : RegionView) : Type 0 where
   pub event : Event
   pub mine : region_of event ≡ before.state.number
   pub makes : MakesStep procs before event (Ok true) after
 
 -- how an attempt at an insertion ends: one was made, or there was none to make
 abbrev pub InsertsSome : List ProcTree → RegionView → Result Bool NoMemory → RegionView → Type 0
-InsertsSome procs r (Ok true) after = IsStep procs r after
+InsertsSome procs r (Ok true) after = IsOwnStep procs r after
 InsertsSome procs r (Ok false) after = HasInsertedAll r.state.logs r.state.here × (after ≡ r)
 InsertsSome procs r (Err e) after = after ≡ r
 
 -- how an attempt at a step ends: one was made, or there was none to make
 abbrev pub StepsOn : List ProcTree → RegionView → Result Bool NoMemory → RegionView → Type 0
-StepsOn procs r (Ok true) after = IsStep procs r after
+StepsOn procs r (Ok true) after = IsOwnStep procs r after
 StepsOn procs r (Ok false) after = IsDrained r.state.logs r.state.here × (after ≡ r)
 StepsOn procs r (Err e) after = after ≡ r

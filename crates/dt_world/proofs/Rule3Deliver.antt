@@ -12,7 +12,7 @@ use Rattle.dt_events.specs.declared.Event.TheVariants.{Deliver}
 use Rattle.dt_txn.specs.declared.Entry.{Entry}
 use Rattle.dt_region.specs.Region.{RegionState, RegionView, held}
 use Rattle.dt_region.specs.Conditions.{CanDeliver}
-use Rattle.dt_region.specs.Rules.{MakesRest}
+use Rattle.dt_region.specs.Rules.{MakesDelivery}
 use Rattle.dt_region.specs.Sound.{IsSoundRegion}
 use Rattle.dt_cluster.specs.declared.Cluster.{Cluster}
 use Rattle.dt_workload.specs.declared.Workload.{Workload}
@@ -91,10 +91,10 @@ module _ {cluster : Cluster} {sessions : WorldSessions} {sites : List SiteView} 
         (can_deliver k.reached lr (k.stands region lr) lh has last new_ordered within entries parts_are found (apart k.reached lr (k.stands region lr) lh has last new_ordered within first on)
         (omega (arith, (short k).parts, few)))
 
-    pub deliver_done : (later : RegionView) (t : Taken) → MakesRest r home first has entries (Ok t) later → IsSoundRegion later.state
+    pub deliver_done : (later : RegionView) (t : Taken) → MakesDelivery r home first has entries (Ok t) later → IsSoundRegion later.state
         → IsMade cluster sessions sites steps (Deliver region home first last) sessions (set sites region (record { region = later; origins = origins }))
     deliver_done later t m sound =
-        let m' = subst (λ x. MakesRest x home first has entries (Ok t) later) b.region_is m in
+        let m' = subst (λ x. MakesDelivery x home first has entries (Ok t) later) b.region_is m in
         subst (λ q. IsMade cluster sessions sites steps (Deliver region home first last) sessions (set sites region q)) (sym (b.site_is later))
         (step_made k (Deliver region home first last) lr (deliver_made k.reached lr (k.stands region lr) lh has last new_ordered within entries parts_are found first on (omega (arith, has_is)) later t m' sound) refl
         (subst (λ n. joins n first last ≡ true) (has_received k.reached lr (k.stands region lr) lh) on))

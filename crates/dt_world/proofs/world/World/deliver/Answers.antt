@@ -4,8 +4,9 @@ use Rattle.dt_sched.specs.Views.{log_at}
 use Rattle.dt_region.specs.Region.{RegionView}
 use Rattle.dt_events.specs.declared.Event.TheVariants.{Deliver}
 use Rattle.dt_session.specs.Step.{IsLegal}
+use Rattle.dt_site.proofs.Callers.{joins_from, joins_to}
 use Rattle.dt_world.specs.WorldView.{WorldView}
-use Rattle.dt_world.proofs.OneSite.{region_here, sound_here, same_lawful, same_view}
+use Rattle.dt_world.proofs.OneSite.{region_here, sound_here, same_lawful, same_view, stamp_here}
 use Rattle.dt_world.proofs.Rule3Deliver.{can_take, deliver_done, deliver_none, delivery_is, entries_are, out_of_order, past_log}
 use Rattle.dt_world.proofs.WorldLaws.{a_site, behind, made_before, out_of_memory}
 use Rattle.dt_world.proofs.WorldFacts.{steps_few}
@@ -46,17 +47,33 @@ entries-requires-clause-home g c =
     let home = behind (a_site c.self.invariant c.if-home-self.false) c.index.ensures c.behind-self.view_is in
     region_here c.self.invariant c.if-home-self.false home c.args.home c.if-home-self.false
 
-pub deliver_rest-requires-clause-home : goal.deliver_rest-requires-clause-home
-deliver_rest-requires-clause-home g c =
-    let here = behind (a_site c.self.invariant c.if-region-self.false) c.index_mut.ensures.value c.behind-self-3.view_is in
-    region_here c.self.invariant c.if-region-self.false here c.args.home c.if-home-self.false
-
-pub deliver_rest-requires-clause-can : goal.deliver_rest-requires-clause-can
-deliver_rest-requires-clause-can g c =
+pub entries-requires-clause-order : goal.entries-requires-clause-order
+entries-requires-clause-order g c =
     let home = behind (a_site c.self.invariant c.if-home-self.false) c.index.ensures c.behind-self.view_is in
     let region = behind (a_site c.self.invariant c.if-region-self.false) c.index-2.ensures c.behind-self-2.view_is in
     let delivery = delivery_is home region c.args.first c.args.last true c.len.ensures c.log.ensures c.if-last-len.false c.len-received.ensures c.log-2.ensures c.joins.ensures c.if-not-joins.false in
-    let entries = entries_are home c.received c.args.last c.in_ok-entries.entries.items c.in_ok-entries.ensures.parts c.in_ok-entries.ensures.txns in
+    let more = joins_to _ c.args.first c.args.last delivery.joined in
+    omega (arith, more, delivery.has_is)
+
+pub deliver-requires-clause-begins : goal.deliver-requires-clause-begins
+deliver-requires-clause-begins g c =
+    let home = behind (a_site c.self.invariant c.if-home-self.false) c.index.ensures c.behind-self.view_is in
+    let region = behind (a_site c.self.invariant c.if-region-self.false) c.index-2.ensures c.behind-self-2.view_is in
+    let delivery = delivery_is home region c.args.first c.args.last true c.len.ensures c.log.ensures c.if-last-len.false c.len-received.ensures c.log-2.ensures c.joins.ensures c.if-not-joins.false in
+    let reach = joins_from _ c.args.first c.args.last delivery.joined in
+    omega (arith, reach, delivery.has_is)
+
+pub deliver-requires-clause-home : goal.deliver-requires-clause-home
+deliver-requires-clause-home g c =
+    let here = behind (a_site c.self.invariant c.if-region-self.false) c.index_mut.ensures.value c.behind-self-3.view_is in
+    region_here c.self.invariant c.if-region-self.false here c.args.home c.if-home-self.false
+
+pub deliver-requires-clause-can : goal.deliver-requires-clause-can
+deliver-requires-clause-can g c =
+    let home = behind (a_site c.self.invariant c.if-home-self.false) c.index.ensures c.behind-self.view_is in
+    let region = behind (a_site c.self.invariant c.if-region-self.false) c.index-2.ensures c.behind-self-2.view_is in
+    let delivery = delivery_is home region c.args.first c.args.last true c.len.ensures c.log.ensures c.if-last-len.false c.len-received.ensures c.log-2.ensures c.joins.ensures c.if-not-joins.false in
+    let entries = entries_are home _ c.args.last c.in_ok-entries.entries.items c.in_ok-entries.ensures.parts c.in_ok-entries.ensures.txns in
     let here = behind (a_site c.self.invariant c.if-region-self.false) c.index_mut.ensures.value c.behind-self-3.view_is in
     let few = steps_few c.self.invariant c.self.view_is c.requires in
     can_take c.self.invariant c.if-region-self.false c.if-home-self.false c.if-first-last.false delivery.reaches delivery.joined _ delivery.has_is c.in_ok-entries.entries.items entries.parts entries.txns here (omega (arith, few))
@@ -66,20 +83,20 @@ invariant_of-self-2 g c =
     let home = behind (a_site c.self.invariant c.if-home-self.false) c.index.ensures c.behind-self.view_is in
     let region = behind (a_site c.self.invariant c.if-region-self.false) c.index-2.ensures c.behind-self-2.view_is in
     let delivery = delivery_is home region c.args.first c.args.last true c.len.ensures c.log.ensures c.if-last-len.false c.len-received.ensures c.log-2.ensures c.joins.ensures c.if-not-joins.false in
-    let entries = entries_are home c.received c.args.last c.in_ok-entries.entries.items c.in_ok-entries.ensures.parts c.in_ok-entries.ensures.txns in
+    let entries = entries_are home _ c.args.last c.in_ok-entries.entries.items c.in_ok-entries.ensures.parts c.in_ok-entries.ensures.txns in
     let here = behind (a_site c.self.invariant c.if-region-self.false) c.index_mut.ensures.value c.behind-self-3.view_is in
     (deliver_done c.self.invariant c.if-region-self.false c.if-home-self.false c.if-first-last.false delivery.reaches delivery.joined _ delivery.has_is c.in_ok-entries.entries.items entries.parts entries.txns here
-    c.deliver_rest.new.self c.in_ok-deliver_rest.field-0 c.in_ok-deliver_rest.ensures.makes c.deliver_rest.ensures.sound).lawful
+    c.deliver.new.self c.in_ok-deliver.field-0 c.in_ok-deliver.ensures.makes c.deliver.ensures.sound).lawful
 
 pub returns : goal.returns
 returns g c =
     let home = behind (a_site c.self.invariant c.if-home-self.false) c.index.ensures c.behind-self.view_is in
     let region = behind (a_site c.self.invariant c.if-region-self.false) c.index-2.ensures c.behind-self-2.view_is in
     let delivery = delivery_is home region c.args.first c.args.last true c.len.ensures c.log.ensures c.if-last-len.false c.len-received.ensures c.log-2.ensures c.joins.ensures c.if-not-joins.false in
-    let entries = entries_are home c.received c.args.last c.in_ok-entries.entries.items c.in_ok-entries.ensures.parts c.in_ok-entries.ensures.txns in
+    let entries = entries_are home _ c.args.last c.in_ok-entries.entries.items c.in_ok-entries.ensures.parts c.in_ok-entries.ensures.txns in
     let here = behind (a_site c.self.invariant c.if-region-self.false) c.index_mut.ensures.value c.behind-self-3.view_is in
     made_before c.self.view_is (deliver_done c.self.invariant c.if-region-self.false c.if-home-self.false c.if-first-last.false delivery.reaches delivery.joined
-    c.in_ok-entries.entries.items entries.parts entries.txns here c.deliver_rest.new.self c.in_ok-deliver_rest.field-0 c.in_ok-deliver_rest.ensures.makes c.deliver_rest.ensures.sound)
+    c.in_ok-entries.entries.items entries.parts entries.txns here c.deliver.new.self c.in_ok-deliver.field-0 c.in_ok-deliver.ensures.makes c.deliver.ensures.sound)
 
 pub index-requires : goal.index-requires
 index-requires g c = let here : c.args.home < length c.self.inside.sites.items = a_site c.self.invariant c.if-home-self.false in grind (arith, common_steps, here)
@@ -90,10 +107,10 @@ index-requires-2 g c = let here : c.args.region < length c.self.inside.sites.ite
 pub index_mut-requires : goal.index_mut-requires
 index_mut-requires g c = let here : c.args.region < length c.self.inside.sites.items = a_site c.self.invariant c.if-region-self.false in grind (arith, common_steps, here)
 
-pub invariant_of-self-in_err-deliver_rest : goal.invariant_of-self-in_err-deliver_rest
-invariant_of-self-in_err-deliver_rest g c =
+pub invariant_of-self-in_err-deliver : goal.invariant_of-self-in_err-deliver
+invariant_of-self-in_err-deliver g c =
     let here = behind (a_site c.self.invariant c.if-region-self.false) c.index_mut.ensures.value c.behind-self-3.view_is in
-    same_lawful c.self.invariant c.if-region-self.false here c.deliver_rest.new.self c.in_err-deliver_rest.ensures.makes
+    same_lawful c.self.invariant c.if-region-self.false here c.deliver.new.self c.in_err-deliver.ensures.makes
 
 pub returns-then-first-last : goal.returns-then-first-last
 returns-then-first-last g c =
@@ -112,8 +129,13 @@ returns-then-first-last g c =
       )
     ]
 
-pub returns-in_err-deliver_rest : goal.returns-in_err-deliver_rest
-returns-in_err-deliver_rest g c =
+pub returns-in_err-deliver : goal.returns-in_err-deliver
+returns-in_err-deliver g c =
     let here = behind (a_site c.self.invariant c.if-region-self.false) c.index_mut.ensures.value c.behind-self-3.view_is in
-    out_of_memory (Deliver c.args.region c.args.home c.args.first c.args.last) _ c.from_residual-in_err-deliver_rest.ensures.1
-    (same_view c.self.invariant c.if-region-self.false here c.deliver_rest.new.self c.in_err-deliver_rest.ensures.makes ∙ c.self.view_is)
+    out_of_memory (Deliver c.args.region c.args.home c.args.first c.args.last) _ c.from_residual-in_err-deliver.ensures.1
+    (same_view c.self.invariant c.if-region-self.false here c.deliver.new.self c.in_err-deliver.ensures.makes ∙ c.self.view_is)
+
+pub deliver-requires-clause-stamp : goal.deliver-requires-clause-stamp
+deliver-requires-clause-stamp g c =
+    let here = behind (a_site c.self.invariant c.if-region-self.false) c.index_mut.ensures.value c.behind-self-3.view_is in
+    stamp_here c.self.invariant c.if-region-self.false here (steps_few c.self.invariant c.self.view_is c.requires)
