@@ -87,7 +87,7 @@ module _ {a : NodeView} (source first : ℕ) (entries : List Entry) (c : CanTake
       let few = one_more c.can in
       can_receive c.can.fits c.can.told.addressed.0.source c.can.told.addressed.0.other first entries c.can.told.told.0.entries_to c.can.told.told.0.entries c.can.told.told.0.entry_txns (omega (arith, few))
 
-  pub receive_ends : {procs : List ProcTree} (result : Result Taken NoMemory) (r : RegionView) → MakesDelivery a.site.region source first entries result r → IsSoundRegion r.state
+  pub receive_ends : {procs : List ProcTree} (result : Result Taken NoMemory) (r : RegionView) → MakesDelivery a.site.region source first first entries result r → IsSoundRegion r.state
       → MovesOn procs (logging_packet a source first entries ∷ []) a (record a { site = in_region a.site r })
   receive_ends (Ok (New n)) r m sound = receive_moves source first entries n r m (logging_packet a source first entries ∷ [])
       (λ cluster workload events p f t. receive_goes f t.addressed.0.source t.addressed.0.other first entries t.told.0.entries_to t.told.0.entries t.told.0.entry_txns r n m sound)
@@ -106,7 +106,7 @@ module _ {a : NodeView} (source first : ℕ) (entries : List Entry) (c : CanTake
   receive_ends {procs} (Err e) r m sound =
       subst (λ (x : RegionView). MovesOn procs (logging_packet a source first entries ∷ []) a (record a { site = in_region a.site x })) (sym m) (made_nothing a)
 
-  pub receive_taken : (taken : Taken) (r : RegionView) → MakesDelivery a.site.region source first entries (Ok taken) r → first + length entries ≤ length (log_at r.state.logs source)
+  pub receive_taken : (taken : Taken) (r : RegionView) → MakesDelivery a.site.region source first first entries (Ok taken) r → first + length entries ≤ length (log_at r.state.logs source)
   receive_taken (New n) r m =
       let there : source < length a.site.region.state.logs = subst (λ k. source < k) (sym c.can.fits.site.sound.logs) log_there in
       let now : log_at r.state.logs source ≡ with_entries (log_at a.site.region.state.logs source) first entries =

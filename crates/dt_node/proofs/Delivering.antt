@@ -47,7 +47,7 @@ module _ {cluster : Cluster} {workload : Workload} {events : List Event} {a : No
       can_deliver (reached f) f.number f.site lh first (first + length entries) ordered within entries parts txns other (omega (arith, short.parts, few))
 
   -- some were new to it
-  module _ (r : RegionView) (n : ℕ) (made : MakesDelivery a.site.region home first entries (Ok (New n)) r) (sound : IsSoundRegion r.state) where
+  module _ (r : RegionView) (n : ℕ) (made : MakesDelivery a.site.region home first first entries (Ok (New n)) r) (sound : IsSoundRegion r.state) where
     steps : Steps cluster workload w (Deliver (number_of a) home first (first + length entries)) (number_of a) a.site (in_region a.site r) w.places
     steps = deliver_made (reached f) f.number f.site lh first (first + length entries) ordered within entries parts txns first
         (joins_both (length (log_at a.site.region.state.logs home)) first (first + length entries) made.0 made.1) made.0 r (New n) made sound

@@ -1,7 +1,7 @@
 -- What each call on the node's region and sessions makes of the node: `MovesOn`, from what the call says by itself.
 use Rattle.std.proofs.Common.{◌≡◌, ◌≢◌, ◌<◌, ◌≤◌, ◌+◌, ◌-◌, ℕ, zero, suc, true, List, [], ◌∷◌, ◌++◌, length}
-use Rattle.std.proofs.Common.{map, max, drop, take, get_or, set, slice_get, Ok, Some, refl, sym, ap, subst, ◌∙◌, inl, arith}
-use Rattle.std.specs.Prelude.{slice_index}
+use Rattle.std.proofs.Common.{map, max, drop, take, get_or, set, slice_get, Ok, None, Some, refl, sym, ap, subst, ◌∙◌, inl, arith}
+use Rattle.std.specs.Prelude.{Option, slice_index}
 use Rattle.std.proofs.lemmas.List.{get_or-set_same, get_or-set_other, length-append}
 use Rattle.dt_lists.specs.Lists.{AllIn, Either}
 use Rattle.dt_lists.proofs.Callers.{all_map, either_nat}
@@ -9,15 +9,17 @@ use Rattle.dt_access.specs.Clash.{Bytes}
 use Rattle.dt_access.specs.declared.TxnId.{TxnId}
 use Rattle.dt_log.specs.declared.Taken.TheVariants.{New}
 use Rattle.dt_events.specs.declared.Event.{Event}
-use Rattle.dt_events.specs.declared.Event.TheVariants.{Submit, Append, Deliver, Answer}
+use Rattle.dt_events.specs.declared.Event.TheVariants.{Submit, Append, Deliver, Insert, Resolve, Execute, Answer}
+use Rattle.dt_events.specs.Events.{region_of}
 use Rattle.dt_events.specs.Stamps.{stamped_from}
-use Rattle.dt_sched.specs.Views.{log_at}
+use Rattle.dt_sched.specs.Views.{View, log_at}
 use Rattle.dt_proc.specs.Tree.{ProcTree}
 use Rattle.dt_txn.specs.declared.Body.{Body}
 use Rattle.dt_txn.specs.declared.Entry.{Entry}
 use Rattle.dt_txn.specs.declared.Txn.{Txn}
-use Rattle.dt_txn.specs.Replica.{taken_from}
-use Rattle.dt_region.specs.Region.{RegionView, latest_stamp}
+use Rattle.dt_txn.specs.Replica.{IsContinuation, MayStep, Replica, executed, stepped, taken_from}
+use Rattle.dt_round.specs.Rounds.{Continues, after_steps}
+use Rattle.dt_region.specs.Region.{RegionState, RegionView, held, latest_stamp}
 use Rattle.dt_region.specs.Rules.{MakesAppend, MakesDelivery, past_end, with_entries, with_event}
 use Rattle.dt_region.specs.Sound.{IsSoundRegion}
 use Rattle.dt_packet.specs.declared.packet.Packet.{Packet}
@@ -34,6 +36,7 @@ use Rattle.dt_node.specs.Turn.{BringsRequest, GoesAfter, IsBroughtBy}
 use Rattle.dt_node.specs.TurnInner.{IsNextAt, MayAnswerAt, MovesOn}
 use Rattle.dt_node.proofs.Answering.{answer_goes}
 use Rattle.dt_node.proofs.Moving.{StaysBeside, made_some}
+use Rattle.dt_node.proofs.Rounding.{round_goes}
 use Rattle.dt_node.proofs.Submitting.{submit_goes}
 
 -- a session was answered
@@ -102,7 +105,7 @@ module _ {a : NodeView} (source number : ℕ) (txn : Txn) (r : RegionView) (made
       (refl, tt) goes place_beside (brought, tt)
 
 -- entries were received
-module _ {a : NodeView} (home first : ℕ) (entries : List Entry) (n : ℕ) (r : RegionView) (made : MakesDelivery a.site.region home first entries (Ok (New n)) r) where
+module _ {a : NodeView} (home first : ℕ) (entries : List Entry) (n : ℕ) (r : RegionView) (made : MakesDelivery a.site.region home first first entries (Ok (New n)) r) where
   pub receive_beside : StaysBeside a (record a { site = in_region a.site r })
   receive_beside = record {
     number = ap (λ (x : RegionView). x.state.number) made.3;
@@ -120,3 +123,61 @@ module _ {a : NodeView} (home first : ℕ) (entries : List Entry) (n : ℕ) (r :
       (Deliver (number_of a) home first (first + length entries) ∷ []) (ap (λ (x : RegionView). x.events) made.3)
       (ap (λ (x : RegionView). x.heard) made.3)  -- stamps
       (refl, tt) goes receive_beside (brought, tt)
+
+-- a round was made
+
+module _ {procs : List ProcTree} {found : TxnId → Option Txn} {me : ℕ} {logs : View} where
+  round_mine : (events : List Event) (here : Replica) → IsContinuation procs found me logs here events → AllIn (λ e. region_of e ≡ me) events
+  round_mine [] here c = tt
+  round_mine (event ∷ events) here c = (c.0, round_mine events (stepped procs found here event) c.2)
+
+  -- none of its events takes anything from another region
+  round_takes_nothing : (stamp : ℕ) (events : List Event) (here : Replica) → IsContinuation procs found me logs here events → AllIn (λ x. IsBroughtBy [] x.stamp x.event) (stamped_from stamp events)
+  round_takes_nothing stamp [] here c = tt
+  round_takes_nothing stamp (event ∷ events) here c = (one stamp event c.1, round_takes_nothing (stamp + 1) events (stepped procs found here event) c.2)
+    where
+      one : (s : ℕ) (e : Event) → MayStep logs here e → IsBroughtBy [] s e
+      one s (Insert region home) m = tt
+      one s (Resolve region ids) m = tt
+      one s (Execute region id) m = tt
+      one s (Submit region name) m = tt
+      one s (Answer region name) m = tt
+      one s (Append home source number) m = absurd m
+      one s (Deliver region home first last) m = absurd m
+
+-- what steps of a region's own do to its replica leaves what it took
+taken_in_steps : (procs : List ProcTree) (found : TxnId → Option Txn) (here : Replica) (events : List Event) → (after_steps procs found here events).taken ≡ here.taken
+taken_in_steps procs found here [] = refl
+taken_in_steps procs found here (event ∷ events) = taken_in_steps procs found (stepped procs found here event) events ∙ one event
+  where
+    ran : (t : Option Txn) → (executed procs here t).taken ≡ here.taken
+    ran None = refl
+    ran (Some txn) = refl
+
+    one : (e : Event) → (stepped procs found here e).taken ≡ here.taken
+    one (Insert region home) = refl
+    one (Resolve region ids) = refl
+    one (Execute region id) = ran (found id)
+    one (Submit region name) = refl
+    one (Answer region name) = refl
+    one (Append home source number) = refl
+    one (Deliver region home first last) = refl
+
+pub round_moves : {procs : List ProcTree} {a : NodeView} (r : RegionView) → Continues procs a.site.region r → IsSoundRegion r.state → MovesOn procs [] a (record a { site = in_region a.site r })
+round_moves {procs} {a} r c sound = made_some {procs = procs} {packets = []} {a = a} {b = record a { site = in_region a.site r }} c.events c.kept
+    c.heard  -- stamps
+    (round_mine c.events a.site.region.state.here c.legal)
+    (λ cluster workload before p f _. round_goes f c.events r
+    (subst (λ l. IsContinuation l (held a.site.region.state) (number_of a) a.site.region.state.logs a.site.region.state.here c.events) p c.legal)
+    (subst (λ l. r.state ≡ record a.site.region.state { here = after_steps l (held a.site.region.state) a.site.region.state.here c.events }) p c.state) sound)
+    (record {
+      number = ap (λ (s : RegionState). s.number) c.state;
+      regions = ap (λ (s : RegionState). s.regions) c.state;
+      plan = refl;
+      taken = λ source.
+          let same : taken_from r.state.here source ≡ taken_from a.site.region.state.here source =
+          ap (λ (s : RegionState). taken_from s.here source) c.state
+          ∙ ap (λ l. slice_index l source) (taken_in_steps procs (held a.site.region.state) a.site.region.state.here c.events) in omega (arith, same);
+      logs = λ home. let same : length (log_at r.state.logs home) ≡ length (log_at a.site.region.state.logs home) = ap (λ (s : RegionState). length (log_at s.logs home)) c.state in omega (arith, same);
+    })
+    (round_takes_nothing (latest_stamp a.site.region + 1) c.events a.site.region.state.here c.legal)

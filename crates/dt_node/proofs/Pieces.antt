@@ -90,8 +90,9 @@ module _ {w : World} (b n : NodeView) (same : number_of n ≡ number_of b) (sour
   }
 
 -- the same of what is told after events
-piece_told : {cluster : Cluster} {workload : Workload} {events : List Event} (b n : NodeView) → number_of n ≡ number_of b → (source first number : ℕ) (done : List Txn) (x : Txn) (left asked : List Txn)
-    → asked ≡ done ++ x ∷ left → number ≡ first + length done → AreTold cluster workload events (asking_packet b source first asked ∷ []) n → AreTold cluster workload events (asking_packet n source number (x ∷ []) ∷ []) n
+piece_told : {cluster : Cluster} {workload : Workload} {events : List Event} (b n : NodeView) → number_of n ≡ number_of b → (source first number : ℕ) (done : List Txn) (x : Txn)
+    (left asked : List Txn) → asked ≡ done ++ x ∷ left → number ≡ first + length done → AreTold cluster workload events (asking_packet b source first asked ∷ []) n
+    → AreTold cluster workload events (asking_packet n source number (x ∷ []) ∷ []) n
 piece_told {cluster} {workload} {events} b n same source first number done x left asked is next told =
     one_is_told b n same source first number done x left asked is next told.told.0 refl told
 

@@ -134,7 +134,7 @@ impl<S: Scheduler + Drop> Node<S> {
     {
         self.site
             .region
-            .deliver(alloc, source, first, entries.into_vec())?;
+            .deliver(alloc, source, first, first, entries.into_vec())?;
         Ok(())
     }
 
