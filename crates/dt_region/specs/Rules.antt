@@ -19,7 +19,7 @@ use Rattle.dt_txn.specs.declared.txn.Txn.{Txn}
 use Rattle.dt_txn.specs.declared.txn.Entry.{Entry}
 use Rattle.dt_txn.specs.Transaction.{part_of}
 use Rattle.dt_txn.specs.Replica.{MayStep, stepped, opening_replica, next_id, submission_for, after_asking, taken_from, after_taking}
-use Rattle.dt_region.specs.Region.{RegionState, RegionView, find_txn, held}
+use Rattle.dt_region.specs.Region.{RegionState, RegionView, find_txn, held, latest_stamp}
 
 -- a region before anything happens, in a cluster of so many regions, with this table
 abbrev pub opening_state : ℕ → ℕ → Table → RegionState
@@ -99,9 +99,13 @@ after_step procs s event = record s { here = stepped procs (held s) s.here event
 -- From here on: how each call is answered, and what the region is after it, its events with it. After `NoMemory` it is
 -- always as before.
 
--- the region in its new state, with one event more
+-- the region in its new state, with one event more, whose stamp is one above all that it knows of
 abbrev pub with_event : RegionView → RegionState → Event → RegionView
-with_event r state event = record { state = state; events = r.events ++ event ∷ [] }
+with_event r state event = record {
+  state = state;
+  events = r.events ++ record { stamp = latest_stamp r + 1; event = event } ∷ [];
+  heard = r.heard;
+}
 
 -- a submission answers the id that the transaction got, which is the next one of the region
 abbrev pub MakesSubmit : List ProcTree → RegionView → List ℕ → ℕ → Body → Result TxnId NoMemory → RegionView → Type 0

@@ -18,10 +18,12 @@ use Rattle.dt_txn.specs.declared.Entry.{Entry}
 use Rattle.dt_txn.specs.declared.Txn.{Txn}
 use Rattle.dt_txn.specs.Transaction.{homes_of, part_of, IsValid}
 use Rattle.dt_txn.specs.Replica.{fronts}
-use Rattle.dt_region.specs.Region.{RegionView, held}
+use Rattle.dt_region.specs.Region.{RegionView, held, latest_stamp}
 use Rattle.dt_region.specs.Rules.{MakesDelivery, after_deliver, past_end, with_entries, with_event}
 use Rattle.dt_region.specs.Conditions.{CanDeliver, IsPartOf}
 use Rattle.dt_region.specs.Sound.{IsSoundRegion}
+use Rattle.dt_region.proofs.Callers.{kept_more, latest_more}
+use Rattle.dt_events.specs.Stamps.{events_of}
 use Rattle.dt_cluster.specs.declared.Cluster.{Cluster}
 use Rattle.dt_workload.specs.declared.Workload.{Workload}
 use Rattle.dt_session.specs.World.{World, Node, log_of, logs_of, no_node, node_at, received_lengths, received_logs, received_of, txn_of}
@@ -306,7 +308,10 @@ module _ {cluster : Cluster} {workload : Workload} {w : World} (k : IsReached cl
               node = node_then k (Deliver region home begin last) (in_region p r) lr next_is;
             };
             others = others;
-            kept = ap (λ x. x.events) is ∙ ap₂ (λ a b. p.region.events ++ Deliver a home begin b ∷ []) s.number to_last;
+            kept =
+                ap (λ x. events_of x.events) is ∙ kept_more p.region p.region.state (Deliver p.region.state.number home begin (first + length entries))
+                ∙ ap₂ (λ a b. events_of p.region.events ++ Deliver a home begin b ∷ []) s.number to_last;
+            stamp = ap latest_stamp is ∙ latest_more p.region p.region.state (Deliver p.region.state.number home begin (first + length entries));
           }
 
         pub deliver_made : (r : RegionView) (t : Taken) → MakesDelivery p.region home begin first entries (Ok t) r → IsSoundRegion r.state

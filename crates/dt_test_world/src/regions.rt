@@ -45,34 +45,49 @@ fn a_move(alloc: Global) -> Result<Txn, Fail>
     })
 }
 
-/// Region 0 of two is asked to place it, as the request of this number of region 1: whether it does so, how many requests of
-/// region 1 it has placed then, how many parts its log has, whether it holds the transaction, and its events.
-fn asked_to_place(alloc: Global, number: u32) -> Result<Vec<u8>, Fail> {
+/// Region 0 of two hears of a stamp, and is asked to place it, as the request of this number of region 1: whether it does so, how
+/// many requests of region 1 it has placed then, how many parts its log has, whether it holds the transaction, the stamp of its
+/// last event, whether it is drained, and its events, each behind its stamp.
+fn asked_to_place(alloc: Global, number: u32, heard: u32) -> Result<Vec<u8>, Fail> {
     let table = Table::new(alloc, 1, 2, &[], &[])?;
     let mut region: Region<QueueSched> = Region::new(alloc, 0, 2, table)?;
     let txn = a_move(alloc)?;
+    region.hear(u64::from(heard));
     let placed = region.append(alloc, 1, number, &txn)?;
     let taken = region.taken(1);
     let parts = region.log(0).len();
     let held = region.txn(txn.id).is_some();
-    let mut told = format!(in alloc; "{placed} {taken} {parts} {held}\n")?.into_bytes();
-    for event in region.events() {
-        put_event(alloc, &mut told, event)?;
+    let stamp = region.stamp();
+    let drained = region.drained(alloc)?;
+    let mut told = format!(in alloc;
+        "{placed} {taken} {parts} {held} {stamp} {drained}\n"
+    )?.into_bytes();
+    for kept in region.events() {
+        told.extend_from_slice(format!(in alloc; "{} ", kept.stamp)?.as_bytes())?;
+        put_event(alloc, &mut told, &kept.event)?;
     }
     Ok(told)
 }
 
-/// The number of a request, and what comes of it.
-const REQUESTS: [(u32, &[u8]); 3] = [
-    (0, b"true 1 1 true\nappend 0 1 0\n"),
-    (1, b"false 0 0 false\n"),
-    (4294967295, b"false 0 0 false\n"),
+/// The number of a request, the stamp that is heard before it, and what comes of it.
+const REQUESTS: [(u32, u32, &[u8]); 5] = [
+    (0, 0, b"true 1 1 true 1 false\n1 append 0 1 0\n"),
+    (0, 41, b"true 1 1 true 42 false\n42 append 0 1 0\n"),
+    (
+        0,
+        4294967295,
+        b"true 1 1 true 4294967296 false\n4294967296 append 0 1 0\n",
+    ),
+    (1, 41, b"false 0 0 false 0 true\n"),
+    (4294967295, 0, b"false 0 0 false 0 true\n"),
 ];
 
 #[test]
-fn a_request_is_placed_in_its_turn_and_else_changes_nothing(rt: HostRuntime) -> Result<(), Fail> {
-    for (number, want) in REQUESTS {
-        assert_eq!(rt; asked_to_place(rt.alloc(), number)?.as_slice(), want);
+fn a_request_is_placed_in_its_turn_under_the_next_stamp_and_else_changes_nothing(
+    rt: HostRuntime,
+) -> Result<(), Fail> {
+    for (number, heard, want) in REQUESTS {
+        assert_eq!(rt; asked_to_place(rt.alloc(), number, heard)?.as_slice(), want);
     }
     Ok(())
 }

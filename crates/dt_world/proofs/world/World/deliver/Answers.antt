@@ -6,7 +6,7 @@ use Rattle.dt_events.specs.declared.Event.TheVariants.{Deliver}
 use Rattle.dt_session.specs.Step.{IsLegal}
 use Rattle.dt_site.proofs.Callers.{joins_from, joins_to}
 use Rattle.dt_world.specs.WorldView.{WorldView}
-use Rattle.dt_world.proofs.OneSite.{region_here, sound_here, same_lawful, same_view}
+use Rattle.dt_world.proofs.OneSite.{region_here, sound_here, same_lawful, same_view, stamp_here}
 use Rattle.dt_world.proofs.Rule3Deliver.{can_take, deliver_done, deliver_none, delivery_is, entries_are, out_of_order, past_log}
 use Rattle.dt_world.proofs.WorldLaws.{a_site, behind, made_before, out_of_memory}
 use Rattle.dt_world.proofs.WorldFacts.{steps_few}
@@ -134,3 +134,8 @@ returns-in_err-deliver g c =
     let here = behind (a_site c.self.invariant c.if-region-self.false) c.index_mut.ensures.value c.behind-self-3.view_is in
     out_of_memory (Deliver c.args.region c.args.home c.args.first c.args.last) _ c.from_residual-in_err-deliver.ensures.1
     (same_view c.self.invariant c.if-region-self.false here c.deliver.new.self c.in_err-deliver.ensures.makes ∙ c.self.view_is)
+
+pub deliver-requires-clause-stamp : goal.deliver-requires-clause-stamp
+deliver-requires-clause-stamp g c =
+    let here = behind (a_site c.self.invariant c.if-region-self.false) c.index_mut.ensures.value c.behind-self-3.view_is in
+    stamp_here c.self.invariant c.if-region-self.false here (steps_few c.self.invariant c.self.view_is c.requires)

@@ -1,0 +1,1 @@
+-- What the proofs of crates above may cite of this crate; they cite nothing else of its proofs.
