@@ -36,7 +36,7 @@ ids_count [] = refl
 ids_count (log ∷ view) = length-append (ids_of log) (ids_in view) ∙ ap₂ (λ a b. a + b) (length-map log (λ (p : Part). p.id)) (ids_count view) ∙ sym (sum_by-cons length log view)
 
 -- the first of a group
-first_in : List TxnId → TxnId
+abbrev first_in : List TxnId → TxnId
 first_in [] = record { seq = 0; region = 0 }
 first_in (id ∷ ids) = id
 

@@ -19,9 +19,7 @@ use std::alloc::Global;
 pub struct Alone;
 
 impl<S: Scheduler> Rounds<Region<S>> for Alone {
-    ghost use Rattle.std.specs.Prelude.{⊤};
-
-    ghost ready = { λ alone. ⊤ };
+    ghost ready = { λ alone. Unit {0} };
 
     fn round(&self, alloc: Global, region: &mut Region<S>, procs: &Procs) -> Result<(), NoMemory> {
         let regions = region.regions();
