@@ -22,7 +22,7 @@ module _ (procs : List ProcTree) (txn_of : TxnId → Option Txn) where
   after_more here [] event = refl
   after_more here (x ∷ events) event = after_more (stepped procs txn_of here x) events event
 
-  legal_more : (region : ℕ) (logs : View) (here : Replica) (events : List Event) (event : Event) → IsContinuation procs txn_of region logs here events → region_of event ≡ region
+  pub legal_more : (region : ℕ) (logs : View) (here : Replica) (events : List Event) (event : Event) → IsContinuation procs txn_of region logs here events → region_of event ≡ region
       → MayStep logs (after_steps procs txn_of here events) event → IsContinuation procs txn_of region logs here (events ++ event ∷ [])
   legal_more region logs here [] event h mine may = (mine, may, tt)
   legal_more region logs here (x ∷ events) event h mine may = (h.0, h.1, legal_more region logs (stepped procs txn_of here x) events event h.2 mine may)
@@ -44,16 +44,16 @@ module _ (procs : List ProcTree) (a b c : RegionView) (going : Continues procs a
   abbrev here : Replica
   here = after_steps procs (held a.state) a.state.here going.events
 
-  may : MayStep a.state.logs here event
+  pub may : MayStep a.state.logs here event
   may = subst (λ s. MayStep s.logs s.here event) going.state makes.0
 
-  state : c.state ≡ record a.state { here = after_steps procs (held a.state) a.state.here events }
+  pub state : c.state ≡ record a.state { here = after_steps procs (held a.state) a.state.here events }
   state =
       ap (λ r. r.state) makes.1
       ∙ ap (λ s. after_step procs s event) going.state
       ∙ ap (λ h. record a.state { here = h }) (sym (after_more procs (held a.state) a.state.here going.events event))
 
-  kept : c.events ≡ a.events ++ stamped_from (latest_stamp a + 1) events
+  pub kept : c.events ≡ a.events ++ stamped_from (latest_stamp a + 1) events
   kept =
       let next : latest_stamp b + 1 ≡ latest_stamp a + 1 + length going.events = omega (arith, many) in
       ap (λ r. r.events) makes.1
