@@ -112,7 +112,7 @@ module _ {a : NodeView} (source first : ℕ) (entries : List Entry) (c : CanTake
       let now : log_at r.state.logs source ≡ with_entries (log_at a.site.region.state.logs source) first entries =
       ap (λ (x : RegionView). log_at x.state.logs source) m.3 ∙ get_or-set_same a.site.region.state.logs source (with_entries (log_at a.site.region.state.logs source) first entries) [] there in
       let long : length (with_entries (log_at a.site.region.state.logs source) first entries)
-          ≡ length (log_at a.site.region.state.logs source) + length (past_end (log_at a.site.region.state.logs source) first entries) =
+      ≡ length (log_at a.site.region.state.logs source) + length (past_end (log_at a.site.region.state.logs source) first entries) =
       length-append (log_at a.site.region.state.logs source) (map (λ e. e.part) (past_end (log_at a.site.region.state.logs source) first entries))
       ∙ ap (λ k. length (log_at a.site.region.state.logs source) + k) (length-map (past_end (log_at a.site.region.state.logs source) first entries) (λ e. e.part)) in
       let some : length (past_end (log_at a.site.region.state.logs source) first entries) ≡ length entries - (length (log_at a.site.region.state.logs source) - first) =

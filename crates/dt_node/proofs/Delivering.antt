@@ -68,7 +68,7 @@ module _ {cluster : Cluster} {workload : Workload} {events : List Event} {a : No
         let now : log_at r.state.logs home ≡ with_entries (log_at a.site.region.state.logs home) first entries =
         ap (λ (x : RegionView). log_at x.state.logs home) made.3 ∙ get_or-set_same a.site.region.state.logs home (with_entries (log_at a.site.region.state.logs home) first entries) [] there in
         let long : length (with_entries (log_at a.site.region.state.logs home) first entries)
-            ≡ length (log_at a.site.region.state.logs home) + length (past_end (log_at a.site.region.state.logs home) first entries) =
+        ≡ length (log_at a.site.region.state.logs home) + length (past_end (log_at a.site.region.state.logs home) first entries) =
         length-append (log_at a.site.region.state.logs home) (map (λ e. e.part) (past_end (log_at a.site.region.state.logs home) first entries))
         ∙ ap (λ m. length (log_at a.site.region.state.logs home) + m) (length-map (past_end (log_at a.site.region.state.logs home) first entries) (λ e. e.part)) in
         let some : length (past_end (log_at a.site.region.state.logs home) first entries) ≡ length entries - (length (log_at a.site.region.state.logs home) - first) =

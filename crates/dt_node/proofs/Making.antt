@@ -126,7 +126,7 @@ module _ {a : NodeView} (home first : ℕ) (entries : List Entry) (n : ℕ) (r :
 
 -- a round was made
 
-module _ {procs : List ProcTree} {found : TxnId → Option Txn} {me : ℕ} {logs : View} where
+module _ (procs : List ProcTree) (found : TxnId → Option Txn) (me : ℕ) (logs : View) where
   round_mine : (events : List Event) (here : Replica) → IsContinuation procs found me logs here events → AllIn (λ e. region_of e ≡ me) events
   round_mine [] here c = tt
   round_mine (event ∷ events) here c = (c.0, round_mine events (stepped procs found here event) c.2)
@@ -166,7 +166,7 @@ taken_in_steps procs found here (event ∷ events) = taken_in_steps procs found 
 pub round_moves : {procs : List ProcTree} {a : NodeView} (r : RegionView) → Continues procs a.site.region r → IsSoundRegion r.state → MovesOn procs [] a (record a { site = in_region a.site r })
 round_moves {procs} {a} r c sound = made_some {procs = procs} {packets = []} {a = a} {b = record a { site = in_region a.site r }} c.events c.kept
     c.heard  -- stamps
-    (round_mine c.events a.site.region.state.here c.legal)
+    (round_mine procs (held a.site.region.state) (number_of a) a.site.region.state.logs c.events a.site.region.state.here c.legal)
     (λ cluster workload before p f _. round_goes f c.events r
     (subst (λ l. IsContinuation l (held a.site.region.state) (number_of a) a.site.region.state.logs a.site.region.state.here c.events) p c.legal)
     (subst (λ l. r.state ≡ record a.site.region.state { here = after_steps l (held a.site.region.state) a.site.region.state.here c.events }) p c.state) sound)
@@ -180,4 +180,4 @@ round_moves {procs} {a} r c sound = made_some {procs = procs} {packets = []} {a 
           ∙ ap (λ l. slice_index l source) (taken_in_steps procs (held a.site.region.state) a.site.region.state.here c.events) in omega (arith, same);
       logs = λ home. let same : length (log_at r.state.logs home) ≡ length (log_at a.site.region.state.logs home) = ap (λ (s : RegionState). length (log_at s.logs home)) c.state in omega (arith, same);
     })
-    (round_takes_nothing (latest_stamp a.site.region + 1) c.events a.site.region.state.here c.legal)
+    (round_takes_nothing procs (held a.site.region.state) (number_of a) a.site.region.state.logs (latest_stamp a.site.region + 1) c.events a.site.region.state.here c.legal)

@@ -134,7 +134,7 @@ module _ {procs : List ProcTree} {packets : List Packet} {a b : NodeView} (event
     (heard : b.site.region.heard ≡ a.site.region.heard)  -- stamps
     (mine : AllIn (λ e. region_of e ≡ number_of a) events)
     (goes : (cluster : Cluster) (workload : Workload) (before : List Event) → procs ≡ cluster.procs → NodeFits cluster workload before a
-      → AreTold cluster workload before packets a → GoesAfter cluster workload before events b)
+    → AreTold cluster workload before packets a → GoesAfter cluster workload before events b)
     (beside : StaysBeside a b) (brought : AllIn (λ x. IsBroughtBy packets x.stamp x.event) (stamped_from (latest_stamp a.site.region + 1) events)) where
   pub made_some : MovesOn procs packets a b
   made_some = let are : new_items a b ≡ stamped_from (latest_stamp a.site.region + 1) events = new_are a b kept in record {
@@ -157,7 +157,7 @@ module _ {procs : List ProcTree} {packets : List Packet} {a b : NodeView} (event
 module _ {procs : List ProcTree} {packets : List Packet} {a b : NodeView} (same : b.site.region.events ≡ a.site.region.events)
     (up : latest_stamp a.site.region ≤ latest_stamp b.site.region) (low : latest_stamp b.site.region ≤ greatest (latest_stamp a.site.region) (map (λ p. p.stamp) packets))  -- stamps
     (fits : (cluster : Cluster) (workload : Workload) (events : List Event) → NodeFits cluster workload events a → AreTold cluster workload events packets a
-      → NodeFits cluster workload events b) (beside : StaysBeside a b) where
+    → NodeFits cluster workload events b) (beside : StaysBeside a b) where
   pub made_none : MovesOn procs packets a b
   made_none = let none : new_items a b ≡ [] = new_none a b same in record {
     gone = record {

@@ -52,9 +52,12 @@ place_of_name name (x ∷ seats) seat e = go (cases_Bool (is_named name x.0)) (p
 module _ (May : NodeView → Bytes → Type 0) (found : (n : NodeView) (name : Bytes) → May n name → (seat : Seat) × (seat_of n.sessions name ≡ Some seat)) where
   pub ends_all : (a b : NodeView) (index : ℕ) (some : Bool) → length a.sessions.seats ≤ index → EndsSoFar May a index some b → EndsAll May a some b
   ends_all a b index true le s = s
-  ends_all a b index false le s = (s.0, λ name may.
-      let f = found a name may in let p = place_of_name name a.sessions.seats f.0 f.1 in
-      let lt : p.0 < length a.sessions.seats = p.1 in s.1 p.0 name (omega (arith, lt, le)) p.2 may)
+  ends_all a b index false le s = (
+    s.0,
+    λ name may.
+        let f = found a name may in let p = place_of_name name a.sessions.seats f.0 f.1 in
+        let lt : p.0 < length a.sessions.seats = p.1 in s.1 p.0 name (omega (arith, lt, le)) p.2 may,
+  )
 
 answer_found : (n : NodeView) (name : Bytes) → MayAnswerAt n name → (seat : Seat) × (seat_of n.sessions name ≡ Some seat)
 answer_found n name may = go (seat_of n.sessions name) refl may

@@ -34,10 +34,10 @@ module _ {xs ys : List Packet} {a b c : NodeView} (joined : new_items a c ≡ ne
   both_low =
       let second : latest_stamp c.site.region ≤ greatest (latest_stamp b.site.region) (map (λ p. p.stamp) ys) + length (new_items b c) = t.low in
       let up : greatest (latest_stamp b.site.region) (map (λ p. p.stamp) ys)
-          ≤ greatest (greatest (latest_stamp a.site.region) (map (λ p. p.stamp) xs)) (map (λ p. p.stamp) ys) + length (new_items a b) =
+      ≤ greatest (greatest (latest_stamp a.site.region) (map (λ p. p.stamp) xs)) (map (λ p. p.stamp) ys) + length (new_items a b) =
       greatest_more (greatest (latest_stamp a.site.region) (map (λ p. p.stamp) xs)) (length (new_items a b)) (latest_stamp b.site.region) (map (λ p. p.stamp) ys) first_low in
       let all : greatest (latest_stamp a.site.region) (map (λ p. p.stamp) (xs ++ ys))
-          ≡ greatest (greatest (latest_stamp a.site.region) (map (λ p. p.stamp) xs)) (map (λ p. p.stamp) ys) =
+      ≡ greatest (greatest (latest_stamp a.site.region) (map (λ p. p.stamp) xs)) (map (λ p. p.stamp) ys) =
       ap (greatest (latest_stamp a.site.region)) (map-append (λ p. p.stamp) xs ys) ∙ greatest_append (latest_stamp a.site.region) (map (λ p. p.stamp) xs) (map (λ p. p.stamp) ys) in
       let long : length (new_items a b ++ new_items b c) ≡ length (new_items a b) + length (new_items b c) = length-append (new_items a b) (new_items b c) in
       omega (arith, second, up, all, long)
