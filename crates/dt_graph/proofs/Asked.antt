@@ -8,10 +8,9 @@ use Rattle.dt_lists.proofs.Callers.{all_get, all_more, any_get, has_place, place
 use Rattle.dt_access.specs.Ids.{same_id}
 use Rattle.dt_access.specs.declared.TxnId.{TxnId}
 use Rattle.dt_access.proofs.Callers.{id_of_test, same_id_turned, test_of_id}
-use Rattle.dt_graph.specs.Graph.{AllAreStuck, AreVerticesOf, GraphView}
-use Rattle.dt_graph.specs.Waits.{id_at}
-use Rattle.dt_graph.proofs.Free.{id_has, same_place}
-use Rattle.dt_graph.proofs.Subsets.{one_place}
+use Rattle.dt_waits.specs.Graph.{AllAreStuck, AreVerticesOf, GraphView}
+use Rattle.dt_waits.specs.Waits.{id_at}
+use Rattle.dt_waits.proofs.Callers.{id_has, one_place, same_place}
 use Rattle.dt_graph.proofs.Sorted.{has_listed, listed_has}
 
 -- an id with a number is ready just where its number is
@@ -51,10 +50,6 @@ stuck_more g ids i v d vertices lt are at h = record {
   named = map_push (id_at g.ids) vertices v ∙ (λ j. are.named j ++ get_or_from_slice_get g.ids v (get_or ids i d) (record { seq = 0; region = 0 }) at j ∷ []) ∙ sym (take_more ids i d lt);
   stuck = all_more (Has g.stuck) vertices v are.stuck h;
 }
-
--- all of the ids are those of stuck vertices
-pub stuck_all : (g : GraphView) (ids : List TxnId) (i : ℕ) (vertices : List ℕ) → length ids ≤ i → AreVerticesOf g (take i ids) vertices → AreVerticesOf g ids vertices
-stuck_all g ids i vertices le are = subst (λ xs. AreVerticesOf g xs vertices) (take_all i ids le) are
 
 -- where one of the ids isn't that of a stuck vertex, not all are
 module _ (g : GraphView) (ids : List TxnId) (i : ℕ) (t : TxnId) (within : AllIn (λ v. v < length g.ids) g.stuck) (lt : i < length ids) (at : id_at ids i ≡ t) where

@@ -33,7 +33,7 @@ use Rattle.std.proofs.Common.{
 use Rattle.std.proofs.lemmas.List.{length-map}
 use Rattle.std.proofs.lemmas.Option.{get_or_from_slice_get, slice_get-get_or}
 use Rattle.dt_lists.specs.Lists.{AnyIn, AllIn, Has, Distinct, EachThen}
-use Rattle.dt_lists.proofs.Callers.{all_get, all_image, all_map, all_put, any_get, any_of_image, any_put, at_place, each_map, each_of_image, has_map, has_place, place_of, place_within}
+use Rattle.dt_lists.proofs.Callers.{all_get, all_image, all_map, all_put, any_get, any_of_image, any_put, at_place, distinct_within, each_map, each_of_image, has_map, has_place, place_of, place_within}
 use Rattle.dt_access.specs.Ids.{AreAscending}
 use Rattle.dt_access.specs.declared.TxnId.{TxnId}
 use Rattle.dt_access.proofs.Callers.{before_differs}
@@ -41,15 +41,15 @@ use Rattle.dt_sched.specs.Views.{View}
 use Rattle.dt_sched.specs.Decide.{IsResolvable}
 use Rattle.dt_class.specs.Graphs.{AdjView, AreAllBlocked, AreVertices, IsInClass, IsSource, Leads}
 use Rattle.dt_queue.specs.Queues.{Waiting}
-use Rattle.dt_graph.specs.Left.{IsOrderly}
-use Rattle.dt_graph.specs.Waits.{id_at}
-use Rattle.dt_graph.specs.Graph.{AllAreStuck, AreVerticesOf, GraphView, IsSomeGraph, IsStuck, KeepsGraph}
-use Rattle.dt_graph.specs.Among.{IsAmong, WaitsOutside}
-use Rattle.dt_graph.specs.Steps.{AreIdsAt, HaveSlots}
-use Rattle.dt_graph.proofs.Classes.{each_leads, member_stuck, none_blocked, not_all_blocked, place_leads, source_resolvable}
-use Rattle.dt_graph.proofs.Free.{place_has, same_place}
+use Rattle.dt_waits.specs.Left.{IsOrderly}
+use Rattle.dt_waits.specs.Waits.{id_at}
+use Rattle.dt_waits.specs.Graph.{AllAreStuck, AreVerticesOf, GraphView, IsSomeGraph, IsStuck, KeepsGraph}
+use Rattle.dt_waits.specs.Among.{IsAmong, WaitsOutside}
+use Rattle.dt_graph.specs.SmallSteps.{AreIdsAt}
+use Rattle.dt_waits.specs.Steps.{HaveSlots}
+use Rattle.dt_waits.proofs.Callers.{each_leads, member_stuck, none_blocked, not_all_blocked, one_place, place_has, place_leads, same_place, source_resolvable}
 use Rattle.dt_graph.proofs.Full.{full_has, full_length}
-use Rattle.dt_graph.proofs.Subsets.{few_below, one_place}
+use Rattle.dt_graph.proofs.Subsets.{few_below}
 
 -- stuck vertices have the slots of their entries
 pub stuck_slots : (g : GraphView) → IsSomeGraph g → (list : List ℕ) → AllIn (Has g.stuck) list → HaveSlots g.waiting g.vertices list
@@ -94,9 +94,6 @@ vertices_few g list few within once all =
 
 module _ (view : View) (resolved : List (List TxnId)) (done : List TxnId) (k : IsOrderly view resolved done) (g : GraphView) (is : KeepsGraph view resolved done g) where
   -- a class that may be resolved has several ids, all of them stuck
-  pub few_not_resolvable : (ids : List TxnId) → length ids < 2 → IsTrue false ↔ IsResolvable view resolved done ids
-  few_not_resolvable ids lt = (λ t. absurd (true≢false (sym t)), λ x. absurd (omega (arith, lt, x.several)))
-
   all_stuck : (ids : List TxnId) → IsResolvable view resolved done ids → AllAreStuck g ids
   all_stuck ids x = all_put _ ids (λ t h.
       let s : IsStuck view resolved done t = member_stuck view resolved done k g is ids x t h in
@@ -186,18 +183,15 @@ module _ (view : View) (resolved : List (List TxnId)) (done : List TxnId) (k : I
     all_same : (v : ℕ) → Has list v ↔ Has g.stuck v
     all_same v = (subst (λ xs. Has xs v) same, subst (λ xs. Has xs v) (sym same))
 
-    pub none_stuck : length list ≡ 0 → (ids : List TxnId) → IsResolvable view resolved done ids → ⊥
-    none_stuck empty ids x =
-        let t : (t : TxnId) × (slice_get ids 0 ≡ Some t) = at_place ids 0 (first (length ids) x.several) in
-        let v : (v : ℕ) × Has g.stuck v × (id_at g.ids v ≡ t.0) = any_get _ g.stuck (all_get _ ids (all_stuck ids x) t.0 (has_place ids 0 t.0 t.1)) in
-        no_item list empty v.0 ((all_same v.0).1 v.1)
+    -- one alone is no class
+    pub few_stuck : length list < 2 → (ids : List TxnId) → IsResolvable view resolved done ids → ⊥
+    few_stuck few ids x =
+        let le : length ids ≤ length (map (id_at g.ids) list) =
+        distinct_within ids (map (id_at g.ids) list) (each_map _ _ ids before_differs x.group.1.ascending) (all_map _ _ ids (λ t a. named t (any_get _ g.stuck a)) (all_stuck ids x)) in
+        omega (arith, few, le, x.several, length-map list (id_at g.ids))
       where
-        first : (n : ℕ) → 2 ≤ n → 0 < n
-        first n two = omega (arith, two)
-
-        no_item : (xs : List ℕ) → length xs ≡ 0 → (v : ℕ) → Has xs v → ⊥
-        no_item [] e v h = h
-        no_item (x ∷ xs) e v h = omega (arith, e)
+        named : (t : TxnId) → (v : ℕ) × Has g.stuck v × (id_at g.ids v ≡ t) → Has (map (id_at g.ids) list) t
+        named t v = subst (Has (map (id_at g.ids) list)) v.2 (has_map (id_at g.ids) list v.0 ((all_same v.0).1 v.1))
 
     module _ (graph : AdjView) (blocked : List ℕ) (a : IsAmong g.waiting list graph blocked) where
       pub none_chosen : AreAllBlocked graph blocked → (ids : List TxnId) → IsResolvable view resolved done ids → ⊥

@@ -1,9 +1,10 @@
 -- Pushing the uses of a part, step by step, and taking the pushed entries back; and what a part adds to what is kept.
-use Rattle.std.proofs.Common.{◌≡◌, ◌≢◌, ◌+◌, ◌<◌, ◌≤◌, ◌⊎◌, ◌∙◌, ℕ, suc, Bool, true, false, ◌==◌, not, if◌then◌else◌, List, []}
+use Rattle.std.proofs.Common.{◌≡◌, ◌≢◌, ◌+◌, ◌<◌, ◌≤◌, ◌⊎◌, ◌∙◌, ◌^◌, ℕ, suc, Bool, true, false, ◌==◌, not, if◌then◌else◌, List, []}
 use Rattle.std.proofs.Common.{◌∷◌, ◌++◌, length, map, filter, get_or, set, None, refl, sym, ap, ap₂, subst, inl, inr, arith}
 use Rattle.std.proofs.lemmas.Bool.{cases_Bool}
 use Rattle.std.proofs.lemmas.List.{append-nil, append_assoc, get_or-set_other, get_or-set_same, length-append, length-set, map-append}
 use Rattle.std.proofs.lemmas.List.Elements.{filter-append}
+use Rattle.std.proofs.lemmas.List.Sums.{length-filter}
 use Rattle.std.proofs.Math.ListN.{get_or-append}
 use Rattle.dt_lists.specs.Lists.{AnyIn, AllIn, Has, Distinct}
 use Rattle.dt_lists.proofs.Callers.{all_append, all_append_left, all_put, distinct_push, each_append_left, each_across, has_last, has_longer, has_map, has_more, same_head, same_tail}
@@ -12,28 +13,26 @@ use Rattle.dt_access.specs.declared.access.Mode.{Mode}
 use Rattle.dt_access.specs.declared.Part.{Part}
 use Rattle.dt_queue.specs.Queues.{HasDistinctSlots, IsQueued, Waiting, neighbours, taken_out}
 use Rattle.dt_queue.proofs.Callers.{distinct_pushed, pushed_waits}
-use Rattle.dt_graph.specs.Waits.{degree, id_at, others}
-use Rattle.dt_graph.specs.Graph.{GraphView, vertex_at}
+use Rattle.dt_waits.specs.Waits.{degree, id_at, others}
+use Rattle.dt_waits.specs.Graph.{GraphView, vertex_at}
 use Rattle.dt_graph.specs.Subset.{SubsetView}
-use Rattle.dt_graph.specs.Steps.{AreEntriesOf, Enters, Grows, Inserts, Pushes, Raises, Sorts, fresh_vertex}
-use Rattle.dt_graph.proofs.Nearest.{slot_same, slot_other}
-use Rattle.dt_graph.proofs.Degrees.{degree_pushed}
-use Rattle.dt_graph.proofs.Complete.{filter_whole}
-use Rattle.dt_graph.proofs.Free.{id_has}
+use Rattle.dt_waits.specs.Steps.{AreEntriesOf, Grows, Inserts, fresh_vertex}
+use Rattle.dt_graph.specs.SmallSteps.{Enters, Pushes, Sorts, raised}
+use Rattle.dt_waits.proofs.Callers.{degree_fits, degree_pushed, filter_whole, id_has, slot_other, slot_same}
 
 -- no use was pushed
-pub enters_none : (home vertex : ℕ) (waiting : List Waiting) (slots : List ℕ) (count : ℕ) → HasDistinctSlots waiting → Enters home vertex [] waiting waiting slots slots count count
-enters_none home vertex waiting slots count d = record {
+pub enters_none : (home vertex : ℕ) (waiting : List Waiting) (slots : List ℕ) (before : ℕ) → HasDistinctSlots waiting → before ≡ degree waiting vertex → Enters home vertex [] waiting waiting slots slots before
+enters_none home vertex waiting slots before d e = record {
   pushed = record { more = []; waiting = sym (append-nil waiting); distinct = d; at_slots = sym (append-nil slots); of_vertex = tt };
   used = refl;
   at_home = tt;
-  counted = λ e. e;
+  counted = e;
 }
 
 -- one after the other
-pub enters_more : (home vertex : ℕ) (first second : List (Bytes × Mode)) (a b c : List Waiting) (r s t : List ℕ) (i j k : ℕ)
-    → Enters home vertex first a b r s i j → Enters home vertex second b c s t j k → Enters home vertex (first ++ second) a c r t i k
-enters_more home vertex first second a b c r s t i j k e f = record {
+pub enters_more : (home vertex : ℕ) (first second : List (Bytes × Mode)) (a b c : List Waiting) (r s t : List ℕ) (j k : ℕ)
+    → Enters home vertex first a b r s j → Enters home vertex second b c s t k → Enters home vertex (first ++ second) a c r t k
+enters_more home vertex first second a b c r s t j k e f = record {
   pushed = record {
     more = e.pushed.more ++ f.pushed.more;
     waiting = f.pushed.waiting ∙ ap (λ l. l ++ f.pushed.more) e.pushed.waiting ∙ append_assoc a e.pushed.more f.pushed.more;
@@ -44,7 +43,7 @@ enters_more home vertex first second a b c r s t i j k e f = record {
   };
   used = map-append (λ w. (w.key, w.mode)) e.pushed.more f.pushed.more ∙ ap₂ ◌++◌ e.used f.used;
   at_home = all_append _ e.pushed.more f.pushed.more e.at_home f.at_home;
-  counted = λ h. f.counted (e.counted h);
+  counted = f.counted;
 }
 
 -- a count over an image
@@ -56,22 +55,31 @@ count_mapped p f (x ∷ xs) = by (count_mapped p f xs) (cases_Bool (p (f x)))
     by rest (inl e) = rw e (ap suc rest)
     by rest (inr e) = rw e rest
 
--- one use is pushed, and its neighbours raise the degree
-pub enters_one : (waiting now : List Waiting) (w : Waiting) (slots slots_now : List ℕ) (count risen : ℕ) → HasDistinctSlots waiting → now ≡ waiting ++ w ∷ [] → ¬ (IsQueued waiting w.slot)
-    → slots_now ≡ slots ++ w.slot ∷ [] → Raises count (map (λ n. n.vertex) (neighbours now w.slot)) w.vertex risen → Enters w.home w.vertex ((w.key, w.mode) ∷ []) waiting now slots slots_now count risen
-enters_one waiting now w slots slots_now count risen d is fresh at r = record {
-  pushed = record { more = w ∷ []; waiting = is; distinct = subst HasDistinctSlots (sym is) all_distinct; at_slots = at; of_vertex = (refl, tt) };
-  used = refl;
-  at_home = (refl, tt);
-  counted = λ e. r ∙ ap₂ ◌+◌ e (count_mapped (λ n. not (n == w.vertex)) (λ n. n.vertex) (neighbours now w.slot))
-      ∙ sym (ap (λ l. degree l w.vertex) is ∙ degree_pushed waiting w w.vertex all_distinct ∙ ap (λ n. degree waiting w.vertex + n) own);
-}
-  where
-    all_distinct : HasDistinctSlots (waiting ++ w ∷ [])
-    all_distinct = distinct_pushed waiting w d fresh
+-- one use is pushed
+module _ (waiting now : List Waiting) (w : Waiting) (d : HasDistinctSlots waiting) (is : now ≡ waiting ++ w ∷ []) (fresh : ¬ (IsQueued waiting w.slot)) (before : ℕ) (e : before ≡ degree waiting w.vertex) where
+  all_distinct : HasDistinctSlots (waiting ++ w ∷ [])
+  all_distinct = distinct_pushed waiting w d fresh
 
-    own : (if w.vertex == w.vertex then length (others w.vertex (neighbours (waiting ++ w ∷ []) w.slot)) else 0) ≡ length (others w.vertex (neighbours now w.slot))
-    own = rw (slot_same w.vertex) (ap (λ l. length (others w.vertex (neighbours l w.slot))) (sym is))
+  own : (if w.vertex == w.vertex then length (others w.vertex (neighbours (waiting ++ w ∷ []) w.slot)) else 0) ≡ length (others w.vertex (neighbours now w.slot))
+  own = rw (slot_same w.vertex) (ap (λ l. length (others w.vertex (neighbours l w.slot))) (sym is))
+
+  -- its neighbours raise the degree
+  raised_degree : raised before (map (λ n. n.vertex) (neighbours now w.slot)) w.vertex ≡ degree now w.vertex
+  raised_degree =
+      ap₂ ◌+◌ e (sym (length-filter (λ n. not (n == w.vertex)) (map (λ n. n.vertex) (neighbours now w.slot))) ∙ count_mapped (λ n. not (n == w.vertex)) (λ n. n.vertex) (neighbours now w.slot))
+      ∙ sym (ap (λ l. degree l w.vertex) is ∙ degree_pushed waiting w w.vertex all_distinct ∙ ap (λ n. degree waiting w.vertex + n) own)
+
+  pub raised_fits : length now < 2 ^ 64 → raised before (map (λ n. n.vertex) (neighbours now w.slot)) w.vertex < 2 ^ 128
+  raised_fits few = subst (λ n. n < 2 ^ 128) (sym raised_degree) (degree_fits now w.vertex few)
+
+  pub enters_one : (slots slots_now : List ℕ) (risen : ℕ) → slots_now ≡ slots ++ w.slot ∷ [] → risen ≡ raised before (map (λ n. n.vertex) (neighbours now w.slot)) w.vertex
+      → Enters w.home w.vertex ((w.key, w.mode) ∷ []) waiting now slots slots_now risen
+  enters_one slots slots_now risen at r = record {
+    pushed = record { more = w ∷ []; waiting = is; distinct = subst HasDistinctSlots (sym is) all_distinct; at_slots = at; of_vertex = (refl, tt) };
+    used = refl;
+    at_home = (refl, tt);
+    counted = r ∙ raised_degree;
+  }
 
 -- the entry that was pushed last is taken back
 pub without_last : (waiting : List Waiting) (w : Waiting) → HasDistinctSlots (waiting ++ w ∷ []) → taken_out (waiting ++ w ∷ []) w.slot ≡ waiting
@@ -84,8 +92,8 @@ without_last waiting w d =
     own = rw (slot_same w.slot) refl
 
 -- the entries of a part are those of its uses
-pub entries_of : (part : Part) (vertex : ℕ) (old new : List Waiting) (slots now : List ℕ) (count risen : ℕ) → (e : Enters part.home vertex part.keys old new slots now count risen) → AreEntriesOf part vertex e.pushed.more
-entries_of part vertex old new slots now count risen e = record {
+pub entries_of : (part : Part) (vertex : ℕ) (old new : List Waiting) (slots now : List ℕ) (risen : ℕ) → (e : Enters part.home vertex part.keys old new slots now risen) → AreEntriesOf part vertex e.pushed.more
+entries_of part vertex old new slots now risen e = record {
   of_part = three e.pushed.more (λ w h. h) e.at_home e.pushed.of_vertex;
   all_uses = λ way h. used_by e.pushed.more way (subst (λ l. Has l way) (sym e.used) h);
 }
@@ -111,7 +119,7 @@ last_at (x ∷ xs) y d = last_at xs y d
 -- a transaction's first part is added, with a vertex of its own
 pub inserts_first : (part : Part) (old : GraphView) (waiting : List Waiting) (slots : List ℕ) (missing count : ℕ) (ready stuck ready_now stuck_now : SubsetView)
     → Distinct old.ids → ¬ (Has old.ids part.id) → length old.vertices ≡ length old.ids → length old.degrees ≡ length old.ids → suc missing ≡ length part.homes
-    → (e : Enters part.home (length old.ids) part.keys old.waiting waiting [] slots 0 count) → ready.items ≡ old.ready → stuck.items ≡ old.stuck
+    → (e : Enters part.home (length old.ids) part.keys old.waiting waiting [] slots count) → ready.items ≡ old.ready → stuck.items ≡ old.stuck
     → Sorts (length old.ids) (old.vertices ++ record { rank = part.rank; missing = missing; class = None; slots = slots } ∷ []) (old.degrees ++ count ∷ []) ready stuck ready_now stuck_now
     → Inserts part (length old.ids) e.pushed.more old (record {
       ids = old.ids ++ part.id ∷ [];
@@ -141,11 +149,11 @@ inserts_first part old waiting slots missing count ready stuck ready_now stuck_n
       );
   waiting = e.pushed.waiting;
   distinct = e.pushed.distinct;
-  entries = entries_of part (length old.ids) old.waiting waiting [] slots 0 count e;
+  entries = entries_of part (length old.ids) old.waiting waiting [] slots count e;
   before = fresh_vertex part;
   is_before = inr (refl, fresh, refl);
   grows = subst (Grows (fresh_vertex part) e.pushed.more) (sym vertex_is) (record { rank = refl; missing = lacking; class = refl; slots = e.pushed.at_slots });
-  counted = λ known none. degree_is ∙ e.counted (sym (none refl));
+  counted = degree_is ∙ e.counted;
   ready = λ u. (
     λ h. elim ((sorts.readied u).0 h) [ inl o ↦ inl (subst (λ l. Has l u) er o) | inr n ↦ inr n ],
     λ s. (sorts.readied u).1 (elim s [ inl o ↦ inl (subst (λ l. Has l u) (sym er) o) | inr n ↦ inr n ]),
@@ -176,7 +184,7 @@ inserts_first part old waiting slots missing count ready stuck ready_now stuck_n
 -- one more part is added to the vertex of its transaction
 pub inserts_again : (part : Part) (v : ℕ) (old : GraphView) (waiting : List Waiting) (slots : List ℕ) (missing count : ℕ) (ready stuck ready_now stuck_now : SubsetView)
     → Distinct old.ids → v < length old.ids → id_at old.ids v ≡ part.id → length old.vertices ≡ length old.ids → length old.degrees ≡ length old.ids → suc missing ≡ (vertex_at old.vertices v).missing
-    → (e : Enters part.home v part.keys old.waiting waiting (vertex_at old.vertices v).slots slots (get_or old.degrees v 0) count) → ready.items ≡ old.ready → stuck.items ≡ old.stuck
+    → (e : Enters part.home v part.keys old.waiting waiting (vertex_at old.vertices v).slots slots count) → ready.items ≡ old.ready → stuck.items ≡ old.stuck
     → Sorts v (set old.vertices v (record (vertex_at old.vertices v) { missing = missing; slots = slots })) (set old.degrees v count) ready stuck ready_now stuck_now
     → Inserts part v e.pushed.more old (record {
       ids = old.ids;
@@ -202,11 +210,11 @@ inserts_again part v old waiting slots missing count ready stuck ready_now stuck
   );
   waiting = e.pushed.waiting;
   distinct = e.pushed.distinct;
-  entries = entries_of part v old.waiting waiting (vertex_at old.vertices v).slots slots (get_or old.degrees v 0) count e;
+  entries = entries_of part v old.waiting waiting (vertex_at old.vertices v).slots slots count e;
   before = vertex_at old.vertices v;
   is_before = inl (lt, refl);
   grows = subst (Grows (vertex_at old.vertices v) e.pushed.more) (sym vertex_is) (record { rank = refl; missing = lacking; class = refl; slots = e.pushed.at_slots });
-  counted = λ known none. degree_is ∙ e.counted (known lt);
+  counted = degree_is ∙ e.counted;
   ready = λ u. (
     λ h. elim ((sorts.readied u).0 h) [ inl o ↦ inl (subst (λ l. Has l u) er o) | inr n ↦ inr n ],
     λ s. (sorts.readied u).1 (elim s [ inl o ↦ inl (subst (λ l. Has l u) (sym er) o) | inr n ↦ inr n ]),

@@ -7,17 +7,14 @@ use Rattle.dt_lists.proofs.Callers.{all_get, has_place, place_within}
 use Rattle.dt_access.specs.declared.TxnId.{TxnId}
 use Rattle.dt_sched.specs.Views.{View, IsClass}
 use Rattle.dt_sched.specs.Decide.{IsExecutable}
-use Rattle.dt_graph.specs.declared.open.Open.{Open}
-use Rattle.dt_graph.specs.Left.{IsLeft, IsOrderly}
-use Rattle.dt_graph.specs.Waits.{id_at}
-use Rattle.dt_graph.specs.Graph.{GraphView, KeepsGraph, IsOpened, IsPlaceOfClass, vertex_at}
+use Rattle.dt_waits.specs.declared.open.Open.{Open}
+use Rattle.dt_waits.specs.Left.{IsLeft, IsOrderly}
+use Rattle.dt_waits.specs.Waits.{id_at}
+use Rattle.dt_waits.specs.Graph.{GraphView, KeepsGraph, IsOpened, IsPlaceOfClass, vertex_at}
 use Rattle.dt_graph.specs.Names.{IsNumberOf}
-use Rattle.dt_graph.specs.Steps.{FinishesId, FinishesIn, IsReadyWithout, Leaves, MayFinishIn, MayLeave, before, last, one, all, one_done}
-use Rattle.dt_graph.proofs.Finished.{distinct_members, member_of, next_is}
-use Rattle.dt_graph.proofs.Keeping.{at_named}
-use Rattle.dt_graph.proofs.Left.{class_of_resolved, executable_left, left_after}
-use Rattle.dt_graph.proofs.MayLeave.{may_leave}
-use Rattle.dt_graph.proofs.Rows.{pairwise_get}
+use Rattle.dt_waits.specs.Steps.{FinishesId, IsReadyWithout, Leaves, MayLeave, before, last, one_done}
+use Rattle.dt_graph.specs.SmallSteps.{FinishesIn, MayFinishIn, all, one}
+use Rattle.dt_waits.proofs.Callers.{at_named, class_of_resolved, distinct_members, executable_left, left_after, may_leave, member_of, next_is, pairwise_get}
 use Rattle.dt_graph.proofs.Subsets.{few_below}
 
 -- the graph of an executable id

@@ -9,13 +9,13 @@ use Rattle.dt_sched.specs.Views.{View, ids_of}
 use Rattle.dt_sched.specs.Sched.{parts_in}
 use Rattle.dt_sched.proofs.Callers.{has_of_present, ids_in}
 use Rattle.dt_queue.specs.Queues.{Waiting}
-use Rattle.dt_graph.specs.declared.open.Open.{Open}
+use Rattle.dt_waits.specs.declared.open.Open.{Open}
 use Rattle.dt_graph.specs.declared.waits.Waits.{Waits}
-use Rattle.dt_graph.specs.Graph.{GraphView, KeepsGraph}
+use Rattle.dt_waits.specs.Graph.{GraphView, KeepsGraph}
 use Rattle.dt_graph.specs.Held.{IsFitted, kept_of}
-use Rattle.dt_graph.specs.Steps.{Inserts, Leaves, Resolves}
+use Rattle.dt_waits.specs.Steps.{Inserts, Leaves, Resolves}
 use Rattle.dt_graph.specs.Subset.{SubsetView}
-use Rattle.dt_graph.proofs.Sums.{sum_first}
+use Rattle.dt_waits.proofs.Callers.{sum_first}
 
 -- all ids of the parts of a view are as many as its parts
 ids_in_length : (view : View) → length (ids_in view) ≡ parts_in view

@@ -9,8 +9,8 @@ use Rattle.dt_lists.specs.Lists.{AnyIn, AllIn, Has}
 use Rattle.dt_lists.proofs.Callers.{all_get, all_put, any_get, any_append_left, any_of_test, any_put, each_across, filter_all, filter_none, has_middle, same_head, same_tail, Spot, spot}
 use Rattle.dt_queue.specs.declared.Follower.{Follower}
 use Rattle.dt_queue.specs.Queues.{HasDistinctSlots, IsQueued, Waiting, pushed_after, follower_of, followers, followers_after, is_at, is_neighbour, neighbours}
-use Rattle.dt_graph.specs.Waits.{is_of}
-use Rattle.dt_graph.proofs.Nearest.{nearest_clash, neighbours_split, slot_same, slot_other}
+use Rattle.dt_waits.specs.Waits.{is_of}
+use Rattle.dt_waits.proofs.Callers.{nearest_clash, neighbours_split, slot_same, slot_other}
 
 -- what is after an entry
 pub after_split : (front : List Waiting) (j : Waiting) (rest : List Waiting) → HasDistinctSlots (front ++ j ∷ rest) → pushed_after (front ++ j ∷ rest) j.slot ≡ rest

@@ -36,11 +36,12 @@ use Rattle.dt_lists.specs.Lists.{Has}
 use Rattle.dt_lists.proofs.Callers.{all_get, either_nat, has_last, has_longer, has_more, has_place, place_within}
 use Rattle.dt_class.specs.Graphs.{AdjView, IsEdge}
 use Rattle.dt_queue.specs.Queues.{Waiting}
-use Rattle.dt_graph.specs.Waits.{slots_of}
-use Rattle.dt_graph.specs.Among.{HasNeighbour, IsAmong, IsSourceAt, Links, WaitsOutside}
-use Rattle.dt_graph.specs.declared.vertex.Vertex.{Vertex}
-use Rattle.dt_graph.specs.Graph.{vertex_at}
-use Rattle.dt_graph.specs.Steps.{HaveSlots}
+use Rattle.dt_waits.specs.Waits.{slots_of}
+use Rattle.dt_waits.specs.Among.{HasNeighbour, IsAmong, WaitsOutside}
+use Rattle.dt_graph.specs.Links.{IsSourceAt, Links}
+use Rattle.dt_waits.specs.declared.vertex.Vertex.{Vertex}
+use Rattle.dt_waits.specs.Graph.{vertex_at}
+use Rattle.dt_waits.specs.Steps.{HaveSlots}
 use Rattle.dt_graph.proofs.Linked.{sources_of_vertex}
 
 -- the vertices at two places, of which the first is a neighbour of the second
@@ -69,14 +70,6 @@ kept_slots waiting vertices list p d h lt =
     get_or_any [] i lt d e = absurd (omega (arith, lt))
     get_or_any (x ∷ xs) zero lt d e = refl
     get_or_any (x ∷ xs) (suc i) lt d e = get_or_any xs i (omega (arith, lt)) d e
-
--- before the first place nothing is gathered
-pub gather_none : (waiting : List Waiting) (list : List ℕ) → IsGathering waiting list 0 (record { vertices = length list; edges = [] }) []
-gather_none waiting list = record {
-  vertices = refl;
-  edges = λ p q. (λ e. absurd e, λ r. absurd (omega (arith, r.0)));
-  are_blocked = λ p. (λ e. absurd e, λ r. absurd (omega (arith, r.0)));
-}
 
 -- past the last place all is gathered
 pub gathered : (waiting : List Waiting) (list : List ℕ) (place : ℕ) (graph : AdjView) (blocked : List ℕ) → length list ≤ place → IsGathering waiting list place graph blocked

@@ -1,16 +1,17 @@
 -- What a first part of a transaction, and each part more, make of what is held.
-use Rattle.std.proofs.Common.{◌≡◌, ◌<◌, ◌-◌, ℕ, suc, List, [], ◌∷◌, ◌++◌, length, get_or, set, None, refl, sym, subst, arith}
+use Rattle.std.proofs.Common.{◌≡◌, ◌<◌, ◌-◌, ℕ, suc, List, [], ◌∷◌, ◌++◌, length, set, None, refl, sym, subst, arith}
 use Rattle.dt_lists.specs.Lists.{Distinct, Has}
 use Rattle.dt_access.specs.declared.TxnId.{TxnId}
 use Rattle.dt_access.specs.declared.Part.{Part}
 use Rattle.dt_queue.specs.Queues.{Waiting}
-use Rattle.dt_graph.specs.declared.vertex.Vertex.{Vertex}
-use Rattle.dt_graph.specs.declared.open.Open.{Open}
+use Rattle.dt_waits.specs.declared.vertex.Vertex.{Vertex}
+use Rattle.dt_waits.specs.declared.open.Open.{Open}
 use Rattle.dt_graph.specs.declared.waits.Waits.{Waits}
-use Rattle.dt_graph.specs.Waits.{id_at}
-use Rattle.dt_graph.specs.Graph.{vertex_at}
+use Rattle.dt_waits.specs.Waits.{id_at}
+use Rattle.dt_waits.specs.Graph.{vertex_at}
 use Rattle.dt_graph.specs.Held.{kept_of}
-use Rattle.dt_graph.specs.Steps.{Enters, Inserts, Sorts}
+use Rattle.dt_graph.specs.SmallSteps.{Enters, Sorts}
+use Rattle.dt_waits.specs.Steps.{Inserts}
 use Rattle.dt_graph.proofs.Entered.{inserts_again, inserts_first}
 
 module _ (part : Part) (ids : List TxnId) (classes : List Open) (old new : Waits) (once : Distinct ids)
@@ -19,12 +20,12 @@ module _ (part : Part) (ids : List TxnId) (classes : List Open) (old new : Waits
   abbrev first : ℕ → Vertex
   first missing = record { rank = part.rank; missing = missing; class = None; slots = slots }
 
-  pub added_first : (v missing : ℕ) → v ≡ length ids → ¬ (Has ids part.id) → suc missing ≡ length part.homes → Enters part.home v part.keys old.queues new.queues [] slots 0 count
+  pub added_first : (v missing : ℕ) → v ≡ length ids → ¬ (Has ids part.id) → suc missing ≡ length part.homes → Enters part.home v part.keys old.queues new.queues [] slots count
       → new.vertices.items ≡ old.vertices.items ++ record { rank = part.rank; missing = missing; class = None; slots = slots } ∷ [] → new.degrees.items ≡ old.degrees.items ++ count ∷ []
       → Sorts v new.vertices.items new.degrees.items old.ready old.stuck new.ready new.stuck
       → (more : List Waiting) × Inserts part (length ids) more (kept_of ids old classes) (kept_of (ids ++ part.id ∷ []) new classes)
   added_first v missing is fresh lacking entered vs ds sorted =
-      let e : Enters part.home (length ids) part.keys old.queues new.queues [] slots 0 count = subst (λ v. Enters part.home v part.keys old.queues new.queues [] slots 0 count) is entered in
+      let e : Enters part.home (length ids) part.keys old.queues new.queues [] slots count = subst (λ v. Enters part.home v part.keys old.queues new.queues [] slots count) is entered in
       let s : Sorts (length ids) (old.vertices.items ++ first missing ∷ []) (old.degrees.items ++ count ∷ []) old.ready old.stuck new.ready new.stuck =
       subst (λ l. Sorts (length ids) l (old.degrees.items ++ count ∷ []) old.ready old.stuck new.ready new.stuck) vs
       (subst (λ l. Sorts (length ids) new.vertices.items l old.ready old.stuck new.ready new.stuck) ds
@@ -55,7 +56,7 @@ module _ (part : Part) (ids : List TxnId) (classes : List Open) (old new : Waits
   grown v = record (vertex_at old.vertices.items v) { missing = (vertex_at old.vertices.items v).missing - 1; slots = slots }
 
   pub added_again : (v : ℕ) → v < length ids → id_at ids v ≡ part.id → 0 < (vertex_at old.vertices.items v).missing
-      → Enters part.home v part.keys old.queues new.queues (vertex_at old.vertices.items v).slots slots (get_or old.degrees.items v 0) count
+      → Enters part.home v part.keys old.queues new.queues (vertex_at old.vertices.items v).slots slots count
       → new.vertices.items ≡ set old.vertices.items v (record (vertex_at old.vertices.items v) { missing = (vertex_at old.vertices.items v).missing - 1; slots = slots })
       → new.degrees.items ≡ set old.degrees.items v count → Sorts v new.vertices.items new.degrees.items old.ready old.stuck new.ready new.stuck
       → (more : List Waiting) × Inserts part v more (kept_of ids old classes) (kept_of ids new classes)

@@ -15,12 +15,11 @@ use Rattle.dt_access.specs.Ids.{Before, same_id}
 use Rattle.dt_access.specs.declared.TxnId.{TxnId}
 use Rattle.dt_access.proofs.Callers.{id_of_test, same_by_parts, same_id_turned, test_of_id}
 use Rattle.dt_graph.specs.declared.graph.Member.{Member}
-use Rattle.dt_graph.specs.Graph.{GraphView, vertex_at}
+use Rattle.dt_waits.specs.Graph.{GraphView, vertex_at}
 use Rattle.dt_graph.specs.Names.{IsNumberOf}
-use Rattle.dt_graph.specs.Steps.{RunInOrder, RunsBefore}
-use Rattle.dt_graph.specs.Waits.{id_at}
-use Rattle.dt_graph.proofs.Finished.{take_all}
-use Rattle.dt_graph.proofs.Keeping.{at_named}
+use Rattle.dt_waits.specs.Steps.{RunInOrder, RunsBefore}
+use Rattle.dt_waits.specs.Waits.{id_at}
+use Rattle.dt_waits.proofs.Callers.{at_named, take_all}
 use Rattle.dt_graph.proofs.Sorted.{by_parts, each_of_sorted, permuted_distinct, permuted_has}
 
 -- the member is a vertex of the graph, with its id and its rank

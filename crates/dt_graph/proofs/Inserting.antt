@@ -4,10 +4,10 @@ use Rattle.dt_access.specs.declared.TxnId.{TxnId}
 use Rattle.dt_access.specs.declared.Part.{Part}
 use Rattle.dt_sched.specs.Views.{View}
 use Rattle.dt_sched.specs.Sched.{CanInsert, parts_in}
-use Rattle.dt_graph.specs.declared.open.Open.{Open}
+use Rattle.dt_waits.specs.declared.open.Open.{Open}
 use Rattle.dt_graph.specs.declared.waits.Waits.{Waits}
-use Rattle.dt_graph.specs.Left.{IsOrderly}
-use Rattle.dt_graph.specs.Graph.{GraphView, KeepsGraph}
+use Rattle.dt_waits.specs.Left.{IsOrderly}
+use Rattle.dt_waits.specs.Graph.{GraphView, KeepsGraph}
 use Rattle.dt_graph.specs.Held.{kept_of}
 use Rattle.dt_graph.proofs.Fitted.{few_ids}
 

@@ -7,17 +7,10 @@ use Rattle.std.proofs.lemmas.List.{take_more}
 use Rattle.dt_lists.proofs.Callers.{all_image, all_put, any_append, any_append_left, any_append_right, any_get, any_image, any_of_image, any_put, has_filter, has_of_filtered, has_place}
 use Rattle.dt_class.specs.Graphs.{AdjView}
 use Rattle.dt_queue.specs.Queues.{IsQueued, Waiting, neighbours}
-use Rattle.dt_graph.specs.Waits.{is_of, slots_of}
-use Rattle.dt_graph.specs.Among.{HasNeighbour, IsSourceAt, IsSourceOf, Links}
-use Rattle.dt_graph.proofs.Subsets.{one_place}
-
--- no source
-pub links_none : (list : List ℕ) (place : ℕ) (graph : AdjView) → Links (λ u. ⊥) list place graph graph false
-links_none list place graph = record {
-  vertices = refl;
-  edges = λ p q. (λ e. inl e, λ s. elim s [ inl e ↦ e | inr r ↦ absurd r.1.2 ]);
-  is_blocked = (λ b. absurd (true≢false (sym b)), λ r. absurd r.1);
-}
+use Rattle.dt_waits.specs.Waits.{is_of, slots_of}
+use Rattle.dt_waits.specs.Among.{HasNeighbour}
+use Rattle.dt_graph.specs.Links.{IsSourceAt, IsSourceOf, Links}
+use Rattle.dt_waits.proofs.Callers.{one_place}
 
 -- one source that is in the list
 pub links_in : (list : List ℕ) (place : ℕ) (graph : AdjView) (n source : ℕ) → Distinct list → slice_get list source ≡ Some n

@@ -8,9 +8,9 @@ use Rattle.dt_lists.specs.Lists.{Has}
 use Rattle.dt_lists.proofs.Callers.{any_get, either_nat}
 use Rattle.dt_queue.specs.declared.Follower.{Follower}
 use Rattle.dt_queue.specs.Queues.{HasDistinctSlots, IsQueued, Waiting, follower_of, followers, followers_after}
-use Rattle.dt_graph.specs.Waits.{lowered, slots_of}
-use Rattle.dt_graph.specs.Steps.{AreLowered}
-use Rattle.dt_graph.proofs.Nearest.{slot_same, slot_other}
+use Rattle.dt_waits.specs.Waits.{lowered, slots_of}
+use Rattle.dt_graph.specs.SmallSteps.{AreLowered}
+use Rattle.dt_waits.proofs.Callers.{slot_same, slot_other}
 use Rattle.dt_graph.proofs.Followers.{first_told, followers_begin, followers_onward, lowered_one, none_told, to_lower}
 
 -- by how much the degree of v falls for one follower of the vertex x, of a slot of the vertex u
@@ -50,9 +50,6 @@ module _ (waiting : List Waiting) (distinct : HasDistinctSlots waiting) (slot u 
     onward =
         let r : IsQueued waiting (found.0).slot × (followers_after waiting slot (found.0).slot ≡ found.1) = followers_onward waiting distinct slot place found.0 found.1 l.waits found.2 in
         subst (λ s. IsQueued waiting s × (followers_after waiting slot s ≡ found.1)) found.3 r
-
-    pub follower_waits : IsQueued waiting f.slot
-    follower_waits = onward.0
 
     -- what is to be lowered here, and what is left
     step_of : (v : ℕ) → to_lower u v (followers_after waiting slot place) ≡ falls u f.vertex v + to_lower u v (followers_after waiting slot f.slot)

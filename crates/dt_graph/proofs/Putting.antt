@@ -5,11 +5,11 @@ use Rattle.dt_lists.specs.Lists.{Either, Has}
 use Rattle.dt_lists.proofs.Callers.{either_any, either_nat}
 use Rattle.dt_access.specs.declared.TxnId.{TxnId}
 use Rattle.dt_queue.specs.Queues.{Waiting}
-use Rattle.dt_graph.specs.declared.vertex.Vertex.{Vertex}
-use Rattle.dt_graph.specs.declared.open.Open.{Open}
-use Rattle.dt_graph.specs.Graph.{vertex_at}
+use Rattle.dt_waits.specs.declared.vertex.Vertex.{Vertex}
+use Rattle.dt_waits.specs.declared.open.Open.{Open}
+use Rattle.dt_waits.specs.Graph.{vertex_at}
 use Rattle.dt_graph.specs.Subset.{PutsIn, Removes, SubsetView}
-use Rattle.dt_graph.specs.Steps.{IsPut, Resolves}
+use Rattle.dt_waits.specs.Steps.{IsPut, Resolves}
 use Rattle.dt_graph.proofs.Along.{passed_at}
 
 -- the vertices in front were put into the class
@@ -19,15 +19,6 @@ pub record IsPutting (class : ℕ) (front : List ℕ) (old now : List Vertex) (s
   pub outside : (v : ℕ) → ¬ (Has front v) → vertex_at now v ≡ vertex_at old v
   pub bound : stuck_now.bound ≡ stuck.bound
   pub still_stuck : (v : ℕ) → Has stuck_now.items v ↔ Has stuck.items v × ¬ (Has front v)
-
-pub putting_begins : (class : ℕ) (old : List Vertex) (stuck : SubsetView) → IsPutting class [] old old stuck stuck
-putting_begins class old stuck = record {
-  size = refl;
-  inside = λ v h. absurd h;
-  outside = λ v n. refl;
-  bound = refl;
-  still_stuck = λ v. (λ h. (h, λ z. z), λ h. h.0);
-}
 
 module _ (class : ℕ) (members : List ℕ) (place : ℕ) (lt : place < length members) (old now : List Vertex) (stuck stuck_now stuck_next : SubsetView) where
   abbrev item : ℕ

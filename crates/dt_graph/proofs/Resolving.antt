@@ -8,9 +8,9 @@ use Rattle.dt_access.proofs.Callers.{before_differs}
 use Rattle.dt_sched.specs.Views.{View}
 use Rattle.dt_sched.specs.Decide.{IsResolvable}
 use Rattle.dt_sched.proofs.Callers.{present_of_complete}
-use Rattle.dt_graph.specs.Left.{IsOrderly}
-use Rattle.dt_graph.specs.Graph.{GraphView, KeepsGraph}
-use Rattle.dt_graph.proofs.Resolved.{last_place}
+use Rattle.dt_waits.specs.Left.{IsOrderly}
+use Rattle.dt_waits.specs.Graph.{GraphView, KeepsGraph}
+use Rattle.dt_waits.proofs.Callers.{last_place}
 
 -- the ids may be resolved, and what is kept is the graph
 abbrev pub MayResolve : GraphView → List TxnId → Type 0

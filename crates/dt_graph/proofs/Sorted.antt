@@ -13,8 +13,8 @@ use Rattle.dt_lists.proofs.Callers.{all_map, any_image, any_map, any_of_image, a
 use Rattle.dt_access.specs.Ids.{Before, same_id}
 use Rattle.dt_access.specs.declared.TxnId.{TxnId}
 use Rattle.dt_access.proofs.Callers.{before_total, before_transitive, id_of_test, same_id_turned, test_of_id}
-use Rattle.dt_graph.specs.Steps.{AreIdsAt}
-use Rattle.dt_graph.specs.Waits.{id_at}
+use Rattle.dt_graph.specs.SmallSteps.{AreIdsAt}
+use Rattle.dt_waits.specs.Waits.{id_at}
 
 -- a permutation has the same items, each as often; whether two are the same is told by a test
 module _ {A : Type 0} (same : A → A → Bool) (tells : (x y : A) → same x y ≡ true → x ≡ y) (told : (x y : A) → x ≡ y → same x y ≡ true) (turned : (x y : A) → same x y ≡ same y x) where

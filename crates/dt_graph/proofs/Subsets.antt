@@ -7,6 +7,7 @@ use Rattle.std.proofs.Math.ListN.{get_or-append}
 use Rattle.dt_lists.specs.Lists.{AllIn, Has, Distinct}
 use Rattle.dt_lists.proofs.Callers.{all_append, all_append_left, all_get, all_map, all_put, distinct_push, distinct_within, each_append_left, each_across, either_nat, has_last, has_longer, has_more}
 use Rattle.dt_lists.proofs.Callers.{has_place, place_in_longer, place_in_more, place_of}
+use Rattle.dt_waits.proofs.Callers.{one_place}
 use Rattle.dt_graph.specs.Subset.{PutsIn, StandsAtPlace, IsSubset, Removes}
 
 -- the numbers below a bound
@@ -80,13 +81,6 @@ set_beside (z ∷ xs) (suc i) (suc j) y ne = set_beside xs i j y (λ e. ne (ap s
 last_place : {A : Type 0} (xs : List A) (x : A) → slice_get (xs ++ x ∷ []) (length xs) ≡ Some x
 last_place [] x = refl
 last_place (y ∷ ys) x = last_place ys x
-
-pub one_place : {A : Type 0} (xs : List A) (i j : ℕ) (v : A) → Distinct xs → slice_get xs i ≡ Some v → slice_get xs j ≡ Some v → i ≡ j
-one_place [] i j v d e f = cc
-one_place (x ∷ xs) zero zero v d e f = refl
-one_place (x ∷ xs) zero (suc j) v d e f = let s : x ≡ v = cc in absurd (all_get _ xs d.0 v (has_place xs j v f) s)
-one_place (x ∷ xs) (suc i) zero v d e f = let s : x ≡ v = cc in absurd (all_get _ xs d.0 v (has_place xs i v e) s)
-one_place (x ∷ xs) (suc i) (suc j) v d e f = ap suc (one_place xs i j v d.1 e f)
 
 same_some : {A : Type 0} {x y : A} → Some x ≡ Some y → x ≡ y
 same_some e = cc

@@ -9,12 +9,11 @@ use Rattle.dt_lists.specs.Lists.{AnyIn, AllIn, Has, Distinct}
 use Rattle.dt_lists.proofs.Callers.{all_get, all_put, any_get, any_map, any_of_image, any_of_test, any_put, filter_each, has_filter, has_map, has_of_filtered, test_of_any}
 use Rattle.dt_queue.specs.Queues.{HasDistinctSlots, IsQueued, Waiting, taken_out}
 use Rattle.dt_queue.proofs.Callers.{waits_without}
-use Rattle.dt_graph.specs.declared.vertex.Vertex.{Vertex}
-use Rattle.dt_graph.specs.Waits.{is_leaving, is_of, slots_of}
-use Rattle.dt_graph.specs.Graph.{vertex_at}
-use Rattle.dt_graph.specs.Steps.{HaveSlots}
-use Rattle.dt_graph.proofs.Nearest.{slot_other}
-use Rattle.dt_graph.proofs.Sums.{filter_both, filter_same}
+use Rattle.dt_waits.specs.declared.vertex.Vertex.{Vertex}
+use Rattle.dt_waits.specs.Waits.{is_leaving, is_of, slots_of}
+use Rattle.dt_waits.specs.Graph.{vertex_at}
+use Rattle.dt_waits.specs.Steps.{HaveSlots}
+use Rattle.dt_waits.proofs.Callers.{filter_both, filter_same, slot_other}
 
 -- whether the slot is one of these
 abbrev pub is_among_slots : List ℕ → ℕ → Bool
@@ -53,9 +52,6 @@ neither xs y x = by (cases_Bool (y == x)) (cases_Bool (list_any (λ s. s == x) x
     by (inr e) (inr f) = rw (e, f) refl
 
 module _ (slots : List ℕ) (old : List Waiting) where
-  pub taking_begins : Distinct slots → AllIn (IsQueued old) slots → IsTakingOut slots slots old old
-  taking_begins once wait = record { once = once; wait = wait; stays = refl }
-
   pub taking_on : (rest : List ℕ) (now : List Waiting) → IsTakingOut slots rest old now → (slot : ℕ) (more : List ℕ) → rest ≡ slot ∷ more → IsTakingOut slots more old (taken_out now slot)
   taking_on rest now t slot more next = by (subst (λ l. IsTakingOut slots l old now) next t)
     where
@@ -125,9 +121,6 @@ pub record IsEmptying (vertices : List Vertex) (leaving rest : List ℕ) (old no
   pub stays : without_vertices rest now ≡ without_vertices leaving old
 
 module _ (vertices : List Vertex) (leaving : List ℕ) (old : List Waiting) where
-  pub emptying_begins : Distinct leaving → HasDistinctSlots old → HaveSlots old vertices leaving → IsEmptying vertices leaving leaving old old
-  emptying_begins once distinct slots = record { once = once; distinct = distinct; slots = slots; stays = refl }
-
   pub emptying_on : (rest : List ℕ) (now : List Waiting) → IsEmptying vertices leaving rest old now → (v : ℕ) (more : List ℕ) → rest ≡ v ∷ more → (after : List Waiting)
       → after ≡ without_slots (vertex_at vertices v).slots now → IsEmptying vertices leaving more old after
   emptying_on rest now t v more next after is = subst (IsEmptying vertices leaving more old) (sym is) (by (subst (λ l. IsEmptying vertices leaving l old now) next t))

@@ -8,7 +8,7 @@ use Rattle.dt_lists.proofs.Callers.{any_append, any_append_left, any_append_righ
 use Rattle.dt_queue.specs.declared.Follower.{Follower}
 use Rattle.dt_queue.specs.Queues.{HasDistinctSlots, IsQueued, Waiting, follower_of, followers, followers_after}
 use Rattle.dt_graph.specs.Subset.{PutsIn, Removes, SubsetView}
-use Rattle.dt_graph.specs.Steps.{IsFollowedAt, Wakes}
+use Rattle.dt_graph.specs.SmallSteps.{IsFollowedAt, Wakes}
 use Rattle.dt_graph.proofs.Followers.{first_told, followers_begin, followers_onward, none_told}
 
 -- of no vertex

@@ -1,11 +1,11 @@
 -- What the scheduler with queues holds, as it is kept: vertices, degrees, queues, the ready and the stuck ones (`Waits`),
--- with the ids of the vertices and the resolved classes beside. It is seen as the plain lists of Graph.antt.
+-- with the ids of the vertices and the resolved classes beside. It is seen as the plain lists of Graph.antt of dt_waits.
 use Rattle.std.specs.Prelude.{◌≡◌, ◌≤◌, ◌<◌, ◌^◌, List, length, vec_capacity, vec_len}
 use Rattle.dt_lists.specs.Lists.{AllIn}
 use Rattle.dt_access.specs.declared.TxnId.{TxnId}
-use Rattle.dt_graph.specs.declared.open.Open.{Open}
+use Rattle.dt_waits.specs.declared.open.Open.{Open}
 use Rattle.dt_graph.specs.declared.waits.Waits.{Waits}
-use Rattle.dt_graph.specs.Graph.{GraphView}
+use Rattle.dt_waits.specs.Graph.{GraphView}
 
 -- what is held, as plain lists
 abbrev pub kept_of : List TxnId → Waits → List Open → GraphView

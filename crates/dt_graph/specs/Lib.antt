@@ -1,9 +1,6 @@
-pub mod Left
-pub mod Waits
 pub mod QueueSchedView
-pub mod Graph
-pub mod Steps
-pub mod Among
+pub mod SmallSteps
+pub mod Links
 pub mod Subset
 pub mod Names
 pub mod Held

@@ -1,14 +1,15 @@
 ghost use Rattle.std.specs.Prelude.{◌≡◌, ◌<◌, ◌^◌, IfOk, OnOk, length};
 ghost use Rattle.dt_lists.specs.Lists.{AllIn, Distinct};
 ghost use Rattle.dt_queue.specs.Queues.{HasDistinctSlots, IsQueued};
-ghost use Rattle.dt_graph.specs.Among.{IsAmong, IsSourceAt, IsSourceOf, Links};
-ghost use Rattle.dt_graph.specs.Steps.{HaveSlots};
+ghost use Rattle.dt_waits.specs.Among.{IsAmong};
+ghost use Rattle.dt_graph.specs.Links.{IsSourceAt, IsSourceOf, Links};
+ghost use Rattle.dt_waits.specs.Steps.{HaveSlots};
 
 use crate::group::Group;
-use crate::vertex::Vertex;
 use dt_class::Adj;
 use dt_queue::Queues;
 use dt_text::NoMemory;
+use dt_waits::Vertex;
 use std::alloc::Global;
 
 /// What vertices wait for among themselves, by their places in a list, and which of them wait for others too.

@@ -1,25 +1,24 @@
-ghost use Rattle.std.specs.Prelude.{◌≡◌, ℕ, [], ◌∷◌, ◌++◌, List, IfOk, OnErr, OnOk, length, map};
+ghost use Rattle.std.specs.Prelude.{◌≡◌, ◌<◌, ◌^◌, ℕ, [], ◌∷◌, ◌++◌, List, IfOk, OnErr, OnOk, length, map};
 ghost use Rattle.dt_queue.specs.Queues.{HasDistinctSlots, IsQueued, Waiting, neighbours};
-ghost use Rattle.dt_graph.specs.Steps.{Enters, Pushes, Raises};
+ghost use Rattle.dt_waits.specs.Waits.{degree};
+ghost use Rattle.dt_graph.specs.SmallSteps.{Enters, Pushes, raised};
 
-use crate::vertex::Slots;
 use dt_access::{Mode, Part};
 use dt_queue::Queues;
 use dt_text::{Key, NoMemory};
+use dt_waits::Slots;
 use std::alloc::Global;
 
-/// The degree of a vertex, raised by those of the neighbours that are other vertices. Degrees are counted in 64 bits; where
-/// no count is left, the answer is `NoMemory` too.
-fn raised(degree: usize, neighbours: &[u32], vertex: u32) -> Result<usize, NoMemory>
-    ensures { IfOk result (Raises degree neighbours.now vertex) }
+/// The degree of a vertex, raised by those of the neighbours that are other vertices.
+fn raised(before: u128, neighbours: &[u32], vertex: u32) -> u128
+    requires { raised before neighbours.now vertex < 2 ^ 128 }
+    ensures { result ≡ raised before neighbours.now vertex }
 {
-    let mut raised = degree;
-    for neighbour in neighbours {
-        if *neighbour != vertex {
-            raised = raised.checked_add(1).ok_or(NoMemory)?;
-        }
-    }
-    Ok(raised)
+    let others = neighbours
+        .iter()
+        .filter(|neighbour| **neighbour != vertex)
+        .count();
+    before + others as u128
 }
 
 /// Keeps the slot of an entry that waits for a vertex, and answers the degree, raised by the neighbours of the entry; after
@@ -29,18 +28,18 @@ fn keep_slot(
     queues: &Queues,
     slot: usize,
     vertex: u32,
-    degree: usize,
+    before: u128,
     slots: &mut Slots,
-) -> Result<usize, NoMemory>
-    requires { IsQueued queues.now slot }
-    ensures raised { IfOk result (Raises degree (map (λ w. w.vertex) (neighbours queues.now slot)) vertex) }
+) -> Result<u128, NoMemory>
+    requires waits { IsQueued queues.now slot }
+    requires fits { raised before (map (λ w. w.vertex) (neighbours queues.now slot)) vertex < 2 ^ 128 }
+    ensures raised { IfOk result (λ risen. risen ≡ raised before (map (λ w. w.vertex) (neighbours queues.now slot)) vertex) }
     ensures kept { OnOk result (slots.new ≡ slots.old ++ slot ∷ []) }
     ensures same { OnErr result (slots.new ≡ slots.old) }
 {
     let neighbours = queues.neighbours(alloc, slot)?;
-    let risen = raised(degree, neighbours.as_slice(), vertex)?;
     slots.push(slot)?;
-    Ok(risen)
+    Ok(raised(before, neighbours.as_slice(), vertex))
 }
 
 /// Lets a vertex wait for the use of a key, and answers its degree; after `NoMemory` all is as before.
@@ -50,17 +49,18 @@ fn enter_use(
     home: u8,
     used: &(Key, Mode),
     vertex: u32,
-    degree: usize,
+    before: u128,
     slots: &mut Slots,
-) -> Result<usize, NoMemory>
-    requires { HasDistinctSlots queues.old }
-    ensures entered { IfOk result (Enters home vertex (used.now ∷ []) queues.old queues.new slots.old slots.new degree) }
+) -> Result<u128, NoMemory>
+    requires distinct { HasDistinctSlots queues.old }
+    requires counted { before ≡ degree queues.old vertex }
+    ensures entered { IfOk result (Enters home vertex (used.now ∷ []) queues.old queues.new slots.old slots.new) }
     ensures same_queues { OnErr result (queues.new ≡ queues.old) }
     ensures same_slots { OnErr result (slots.new ≡ slots.old) }
 {
     let (key, mode) = used;
     let slot = queues.push(alloc, home, key, *mode, vertex)?;
-    match keep_slot(alloc, queues, slot, vertex, degree, slots) {
+    match keep_slot(alloc, queues, slot, vertex, before, slots) {
         Ok(risen) => Ok(risen),
         Err(error) => {
             queues.remove(slot);
@@ -76,14 +76,15 @@ fn enter_uses(
     queues: &mut Queues,
     part: &Part,
     vertex: u32,
-    degree: usize,
+    before: u128,
     slots: &mut Slots,
-) -> Result<usize, NoMemory>
-    requires { HasDistinctSlots queues.old }
-    ensures entered { IfOk result (Enters part.now.home vertex part.now.keys queues.old queues.new slots.old slots.new degree) }
+) -> Result<u128, NoMemory>
+    requires distinct { HasDistinctSlots queues.old }
+    requires counted { before ≡ degree queues.old vertex }
+    ensures entered { IfOk result (Enters part.now.home vertex part.now.keys queues.old queues.new slots.old slots.new) }
     ensures pushed { Pushes vertex queues.old queues.new slots.old slots.new }
 {
-    let mut risen = degree;
+    let mut risen = before;
     for used in part.keys.as_slice() {
         risen = enter_use(alloc, queues, part.home, used, vertex, risen, slots)?;
     }
@@ -109,16 +110,17 @@ pub fn enter(
     queues: &mut Queues,
     part: &Part,
     vertex: u32,
-    degree: usize,
+    before: u128,
     slots: &mut Slots,
-) -> Result<usize, NoMemory>
-    requires { HasDistinctSlots queues.old }
-    ensures entered { IfOk result (Enters part.now.home vertex part.now.keys queues.old queues.new slots.old slots.new degree) }
+) -> Result<u128, NoMemory>
+    requires distinct { HasDistinctSlots queues.old }
+    requires counted { before ≡ degree queues.old vertex }
+    ensures entered { IfOk result (Enters part.now.home vertex part.now.keys queues.old queues.new slots.old slots.new) }
     ensures same_queues { OnErr result (queues.new ≡ queues.old) }
     ensures same_slots { OnErr result (slots.new ≡ slots.old) }
 {
     let count = slots.len();
-    match enter_uses(alloc, queues, part, vertex, degree, slots) {
+    match enter_uses(alloc, queues, part, vertex, before, slots) {
         Ok(risen) => Ok(risen),
         Err(error) => {
             take_back(queues, slots, count);

@@ -6,17 +6,18 @@ ghost use Rattle.dt_access.specs.declared.TxnId.{TxnId};
 ghost use Rattle.dt_sched.specs.Decide.{IsExecutable, IsResolvable};
 ghost use Rattle.dt_sched.specs.Sched.{CanInsert};
 ghost use Rattle.dt_sched.specs.Views.{View};
-ghost use Rattle.dt_graph.specs.Graph.{AllAreStuck, AreVerticesOf, KeepsGraph, IsSomeGraph, nothing_kept};
-ghost use Rattle.dt_graph.specs.Left.{IsOrderly};
-ghost use Rattle.dt_graph.specs.Steps.{AreIdsAt, RunInOrder, FinishesId, FinishesIn, InsertsPart, MayFinishIn, ResolvesClass};
-ghost use Rattle.dt_graph.specs.Waits.{id_at};
+ghost use Rattle.dt_waits.specs.Graph.{AllAreStuck, AreVerticesOf, KeepsGraph, IsSomeGraph, nothing_kept};
+ghost use Rattle.dt_waits.specs.Left.{IsOrderly};
+ghost use Rattle.dt_graph.specs.SmallSteps.{AreIdsAt, FinishesIn, MayFinishIn};
+ghost use Rattle.dt_waits.specs.Steps.{RunInOrder, FinishesId, InsertsPart, ResolvesClass};
+ghost use Rattle.dt_waits.specs.Waits.{id_at};
 
 use crate::class::gather;
 use crate::names::Names;
-use crate::open::Open;
 use crate::waits::Waits;
 use dt_access::{Ids, Part, TxnId};
 use dt_text::{Listed, NoMemory};
+use dt_waits::Open;
 use std::alloc::Global;
 use std::marker::Model;
 
@@ -25,16 +26,16 @@ use std::marker::Model;
 pub struct Graph {
     names: Names,
     waits: Waits,
-    open: Vec<Open>,
+    classes: Vec<Open>,
 }
 
 impl Model for Graph {
-    ghost use Rattle.dt_graph.specs.Graph.{GraphView};
+    ghost use Rattle.dt_waits.specs.Graph.{GraphView};
     ghost use Rattle.dt_graph.specs.Held.{IsFitted, kept_of};
 
     ghost Value = { GraphView };
 
-    ghost view = { λ g. kept_of g.names.ids g.waits g.open.items };
+    ghost view = { λ g. kept_of g.names.ids g.waits g.classes.items };
 
     ghost invariant = { λ g. IsFitted g.names.ids g.waits };
 }
@@ -55,7 +56,7 @@ impl Graph {
         Graph {
             names: Names::new(alloc),
             waits: Waits::new(alloc),
-            open: Vec::new(alloc),
+            classes: Vec::new(alloc),
         }
     }
 
@@ -150,7 +151,7 @@ impl Graph {
             IfOk result (λ answer. MatchOption answer ((ids : List TxnId) → IsResolvable view resolved done ids → ⊥) (λ ids. IsResolvable view resolved done ids)) }
     {
         let stuck = self.waits.stuck.as_slice();
-        if stuck.is_empty() {
+        if stuck.len() < 2 {
             return Ok(None);
         }
         let among = gather(
@@ -204,17 +205,17 @@ impl Graph {
         Ok(vertices)
     }
 
-    /// Opens a class that was resolved; after `NoMemory` all is as before.
+    /// Keeps a class that was resolved; after `NoMemory` all is as before.
     pub fn resolve(&mut self, alloc: Global, ids: &[TxnId]) -> Result<(), NoMemory>
         requires { (view : View) × (resolved : List (List TxnId)) × (done : List TxnId) × IsOrderly view resolved done × IsResolvable view resolved done ids.now × KeepsGraph view resolved done self.old }
         ensures resolved { OnOk result (ResolvesClass ids.now self.old self.new) }
         ensures same { OnErr result (self.new ≡ self.old) }
     {
-        let class = self.open.len();
+        let class = self.classes.len();
         let members = self.in_order(alloc, ids)?;
-        self.open.push(Open { members, next: 0 })?;
+        self.classes.push(Open { members, next: 0 })?;
         self.waits
-            .resolve(self.open[class].members.as_slice(), class);
+            .resolve(self.classes[class].members.as_slice(), class);
         Ok(())
     }
 
@@ -232,16 +233,16 @@ impl Graph {
         }
     }
 
-    /// Lets the next member of an open class be done: the one after it is ready, or the class leaves.
+    /// Lets the next member of a resolved class be done: the one after it is ready, or the class leaves.
     fn finish_in(&mut self, class: usize)
         requires { MayFinishIn class self.old }
         ensures { FinishesIn class self.old self.new }
     {
-        let open = &mut self.open[class];
-        open.next += 1;
-        match open.members.as_slice().get(open.next) {
+        let kept = &mut self.classes[class];
+        kept.next += 1;
+        match kept.members.as_slice().get(kept.next) {
             Some(vertex) => self.waits.ready.add(*vertex),
-            None => self.waits.leave(open.members.as_slice()),
+            None => self.waits.leave(kept.members.as_slice()),
         }
     }
 }

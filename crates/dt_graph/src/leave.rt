@@ -2,15 +2,16 @@ ghost use Rattle.std.specs.Prelude.{◌≡◌, ◌≤◌, ◌<◌, ◌==◌, ℕ
 ghost use Rattle.std.specs.List.{list_any};
 ghost use Rattle.dt_lists.specs.Lists.{AllIn, AnyIn, Distinct};
 ghost use Rattle.dt_queue.specs.Queues.{HasDistinctSlots, IsQueued};
-ghost use Rattle.dt_graph.specs.Steps.{AreEntriesBelow, AreLowered, IsFollowedAt, HaveSlots, Wakes};
-ghost use Rattle.dt_graph.specs.Waits.{IsFollowed, is_leaving, lowered, lowered_by};
+ghost use Rattle.dt_waits.specs.Steps.{AreEntriesBelow, HaveSlots};
+ghost use Rattle.dt_graph.specs.SmallSteps.{AreLowered, IsFollowedAt, Wakes};
+ghost use Rattle.dt_waits.specs.Waits.{IsFollowed, is_leaving, lowered, lowered_by};
 
 use crate::subset::Subset;
-use crate::vertex::Vertex;
 use dt_queue::Queues;
+use dt_waits::Vertex;
 
 /// Lowers the degrees of the followers of the entry at a slot of a vertex, but not its own.
-fn lower_followers(queues: &Queues, slot: usize, vertex: u32, degrees: &mut [usize])
+fn lower_followers(queues: &Queues, slot: usize, vertex: u32, degrees: &mut [u128])
     requires waits { IsQueued queues.now slot }
     requires distinct { HasDistinctSlots queues.now }
     requires below { AreEntriesBelow (length degrees.old) queues.now }
@@ -27,7 +28,7 @@ fn lower_followers(queues: &Queues, slot: usize, vertex: u32, degrees: &mut [usi
 }
 
 /// Lowers the degrees of the followers of the entries at some slots of a vertex, but not its own.
-fn lower_slots(queues: &Queues, slots: &[usize], vertex: u32, degrees: &mut [usize])
+fn lower_slots(queues: &Queues, slots: &[usize], vertex: u32, degrees: &mut [u128])
     requires wait { AllIn (IsQueued queues.now) slots.now }
     requires distinct { HasDistinctSlots queues.now }
     requires below { AreEntriesBelow (length degrees.old) queues.now }
@@ -40,7 +41,7 @@ fn lower_slots(queues: &Queues, slots: &[usize], vertex: u32, degrees: &mut [usi
 }
 
 /// Lowers the degrees of the followers of all entries of the vertices.
-fn lower_all(queues: &Queues, vertices: &[Vertex], leaving: &[u32], degrees: &mut [usize])
+fn lower_all(queues: &Queues, vertices: &[Vertex], leaving: &[u32], degrees: &mut [u128])
     requires distinct { HasDistinctSlots queues.now }
     requires slots { HaveSlots queues.now vertices.now leaving.now }
     requires below { AreEntriesBelow (length degrees.old) queues.now }
@@ -61,7 +62,7 @@ fn lower_all(queues: &Queues, vertices: &[Vertex], leaving: &[u32], degrees: &mu
 fn wake_followers(
     queues: &Queues,
     slot: usize,
-    degrees: &[usize],
+    degrees: &[u128],
     stuck: &mut Subset,
     ready: &mut Subset,
 )
@@ -86,7 +87,7 @@ fn wake_followers(
 fn wake_slots(
     queues: &Queues,
     slots: &[usize],
-    degrees: &[usize],
+    degrees: &[u128],
     stuck: &mut Subset,
     ready: &mut Subset,
 )
@@ -107,7 +108,7 @@ fn wake_all(
     queues: &Queues,
     vertices: &[Vertex],
     leaving: &[u32],
-    degrees: &[usize],
+    degrees: &[u128],
     stuck: &mut Subset,
     ready: &mut Subset,
 )
@@ -158,7 +159,7 @@ pub fn leave(
     queues: &mut Queues,
     vertices: &[Vertex],
     leaving: &[u32],
-    degrees: &mut [usize],
+    degrees: &mut [u128],
     stuck: &mut Subset,
     ready: &mut Subset,
 )

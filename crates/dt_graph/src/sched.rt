@@ -20,7 +20,8 @@ pub struct QueueSched {
 
 impl Model for QueueSched {
     ghost use Rattle.std.specs.Prelude.{◌-◌, vec_len, vec_capacity};
-    ghost use Rattle.dt_graph.specs.QueueSchedView.{IsKeeping, QueueSchedView};
+    ghost use Rattle.dt_waits.specs.Graph.{IsKeeping};
+    ghost use Rattle.dt_graph.specs.QueueSchedView.{QueueSchedView};
 
     ghost Value = { QueueSchedView };
 

@@ -2,27 +2,28 @@ ghost use Rattle.std.specs.Prelude.{◌≡◌, ◌≤◌, ◌<◌, ◌+◌, ◌-
 ghost use Rattle.dt_lists.specs.Lists.{AllIn, Distinct, Has};
 ghost use Rattle.dt_access.specs.declared.TxnId.{TxnId};
 ghost use Rattle.dt_queue.specs.Queues.{HasDistinctSlots, Waiting};
-ghost use Rattle.dt_graph.specs.declared.open.Open.{Open};
-ghost use Rattle.dt_graph.specs.Graph.{vertex_at};
-ghost use Rattle.dt_graph.specs.Steps.{AreEntriesBelow, HaveSlots, Inserts, Leaves, Resolves, Sorts};
-ghost use Rattle.dt_graph.specs.Waits.{id_at, lowered_by};
+ghost use Rattle.dt_waits.specs.declared.open.Open.{Open};
+ghost use Rattle.dt_waits.specs.Graph.{vertex_at};
+ghost use Rattle.dt_waits.specs.Steps.{AreEntriesBelow, HaveSlots, Inserts, Leaves, Resolves};
+ghost use Rattle.dt_graph.specs.SmallSteps.{Sorts};
+ghost use Rattle.dt_waits.specs.Waits.{degree, id_at, lowered_by};
 ghost use Rattle.dt_graph.specs.Held.{FitsOneMore, kept_of};
 
 use crate::enter::enter;
 use crate::leave::leave;
 use crate::room::push_reserved;
 use crate::subset::Subset;
-use crate::vertex::{Slots, Vertex};
 use dt_access::Part;
 use dt_queue::Queues;
 use dt_text::NoMemory;
+use dt_waits::{Slots, Vertex};
 use std::alloc::Global;
 
 /// The vertices by their numbers, what each waits for, and which of them are ready or stuck.
 #[derive(Drop)]
 pub struct Waits {
     pub vertices: Vec<Vertex>,
-    pub degrees: Vec<usize>,
+    pub degrees: Vec<u128>,
     pub queues: Queues,
     pub ready: Subset,
     pub stuck: Subset,
@@ -99,6 +100,7 @@ impl Waits {
         requires sizes { length self.old.degrees.items ≡ length self.old.vertices.items }
         requires distinct { HasDistinctSlots self.old.queues }
         requires missing { 0 < (vertex_at self.old.vertices.items vertex).missing }
+        requires counted { get_or self.old.degrees.items vertex 0 ≡ degree self.old.queues vertex }
         requires ready_bound { vertex < self.old.ready.bound }
         requires stuck_bound { vertex < self.old.stuck.bound }
         ensures extended { OnOk result ((ids : List TxnId) (classes : List Open) → length ids ≡ length self.old.vertices.items → Distinct ids → id_at ids vertex ≡ part.now.id →
@@ -131,7 +133,7 @@ impl Waits {
     }
 
     /// Gives a vertex with a part more its slots and its degree.
-    fn grow(&mut self, vertex: u32, slots: Slots, degree: usize)
+    fn grow(&mut self, vertex: u32, slots: Slots, degree: u128)
         requires vertex { vertex < length self.old.vertices.items }
         requires sizes { length self.old.degrees.items ≡ length self.old.vertices.items }
         requires missing { 0 < (vertex_at self.old.vertices.items vertex).missing }

@@ -129,7 +129,7 @@ either_mode Whole Read = inr (λ e. cc)
 either_mode Whole Write = inr (λ e. cc)
 either_mode Whole Whole = inl refl
 
-either_place : (m n : Mode) (p q : ℕ) → ((m ≡ n) × (p ≡ q)) ⊎ ¬ ((m ≡ n) × (p ≡ q))
+pub either_place : (m n : Mode) (p q : ℕ) → ((m ≡ n) × (p ≡ q)) ⊎ ¬ ((m ≡ n) × (p ≡ q))
 either_place m n p q = elim (either_mode m n) [
   | inl e ↦ elim (either_nat p q) [ inl f ↦ inl (e, f) | inr ne ↦ inr (λ b. ne b.1) ]
   | inr ne ↦ inr (λ b. ne b.0)

@@ -3,3 +3,4 @@ pub mod Lanes
 pub mod Next
 pub mod Rows
 pub mod Kept
+pub mod Numbers

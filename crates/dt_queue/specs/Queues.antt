@@ -1,13 +1,12 @@
 -- Queues of entries that wait for rows. An entry waits at a home for the use of a key, in a mode; the vertex that wants it
 -- stands beside. The entries of one home and one granule are a queue. Here all queues together are one list of entries, in
--- the order in which they were pushed, and a queue is what of this list is of its home and granule (`queue`): entries that
--- clash are of one queue, so nothing depends on how two queues lie among each other. An entry has to wait for those before
--- it that clash with it; it is enough that it waits for the nearest of them (`neighbours`), since these wait for the others.
+-- the order in which they were pushed: entries that clash are of one queue, so nothing depends on how two queues lie among
+-- each other. An entry has to wait for those before it that clash with it; it is enough that it waits for the nearest of them
+-- (`neighbours`), since these wait for the others.
 use Rattle.std.specs.Prelude.{◌≡◌, ◌≢◌, ℕ, Bool, ◌&&◌, ◌==◌, not, if◌then◌else◌, List, [], ◌∷◌}
 use Rattle.std.specs.List.{filter, list_any}
 use Rattle.dt_lists.specs.Lists.{AnyIn, EachThen}
-use Rattle.dt_access.specs.Granules.{granule_of}
-use Rattle.dt_access.specs.Clash.{Bytes, same_key, uses_clash}
+use Rattle.dt_access.specs.Clash.{Bytes, uses_clash}
 use Rattle.dt_access.specs.declared.access.Mode.{Mode}
 use Rattle.dt_access.specs.declared.access.Mode.TheVariants.{Read}
 use Rattle.dt_queue.specs.declared.follower.Follower.{Follower}
@@ -32,10 +31,6 @@ IsQueued waiting slot = AnyIn (λ w. w.slot ≡ slot) waiting
 -- no two entries are at one slot
 abbrev pub HasDistinctSlots : List Waiting → Type 0
 HasDistinctSlots waiting = EachThen (λ v w. v.slot ≢ w.slot) waiting
-
--- the queue of a home and a granule: the entries that wait there for keys of the granule, in the order of their pushes
-abbrev pub queue : List Waiting → ℕ → Bytes → List Waiting
-queue waiting home granule = filter (λ w. (w.home == home) && same_key (granule_of w.key) granule) waiting
 
 -- whether two entries clash: they wait at one home, and their uses clash
 abbrev pub entries_clash : Waiting → Waiting → Bool

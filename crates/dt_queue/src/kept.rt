@@ -1,4 +1,4 @@
-ghost use Rattle.std.specs.Prelude.{◌≡◌, ◌<◌, ◌==◌, [], ◌∷◌, ◌++◌, length, not, None, IfOk, OnOk, OnErr};
+ghost use Rattle.std.specs.Prelude.{◌≡◌, ◌<◌, ◌==◌, ◌-◌, ◌^◌, [], ◌∷◌, ◌++◌, length, not, None, IfOk, OnOk, OnErr};
 ghost use Rattle.std.specs.List.{filter};
 ghost use Rattle.slab.specs.Slab.{ContainsKey, Updates};
 ghost use Rattle.dt_lists.specs.Lists.{AllIn, IsFront};
@@ -47,7 +47,7 @@ impl Kept {
         }
     }
 
-    /// Adds an entry behind all others, and gives its slot; after `NoMemory` none was added.
+    /// Adds an entry behind all others, where a number is left, and gives its slot; after `NoMemory` none was added.
     pub fn push(
         &mut self,
         alloc: Global,
@@ -56,16 +56,14 @@ impl Kept {
         mode: Mode,
         vertex: u32,
     ) -> Result<usize, NoMemory>
-        requires { AreQueuesKept self.old }
+        requires kept { AreQueuesKept self.old }
+        requires left { self.old.next_number < 2 ^ 64 - 1 }
         ensures kept { AreQueuesKept self.new }
         ensures rows { IsFront self.old.rows.names.keys self.new.rows.names.keys }
         ensures added { IfOk result (λ slot. AddsCell self.old self.new slot (home, key.now) mode vertex) }
         ensures same { OnErr result (self.new.cells.slots ≡ self.old.cells.slots) }
     {
         let number = self.next_number;
-        if number == u64::MAX {
-            return Err(NoMemory);
-        }
         let row = self.rows.row(alloc, home, key)?;
         self.cells.reserve(1)?;
         let slot = self.cells.vacant_key();

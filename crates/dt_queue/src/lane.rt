@@ -1,7 +1,8 @@
-ghost use Rattle.std.specs.Prelude.{◌≡◌, ◌<◌, ◌==◌, [], ◌∷◌, ◌++◌, not, OnOk, OnErr};
+ghost use Rattle.std.specs.Prelude.{◌≡◌, ◌<◌, ◌≤◌, ◌==◌, [], ◌∷◌, ◌++◌, map, not, OnOk, OnErr};
 ghost use Rattle.std.specs.List.{filter};
 ghost use Rattle.dt_lists.specs.Lists.{AllIn};
 ghost use Rattle.dt_queue.specs.Lanes.{EndsBelow, IsFirstBetween, IsLastBetween, is_between};
+ghost use Rattle.dt_queue.specs.Numbers.{IsGap, renumbered};
 
 use crate::mark::Mark;
 use dt_text::NoMemory;
@@ -55,6 +56,20 @@ impl Lane {
         if let Some(mark) = self.marks.get(place) {
             if mark.number == number {
                 self.marks.remove(place);
+            }
+        }
+    }
+
+    /// Gives the mark of a number, if there is one, a lesser number; no other mark lies between the two. Takes no memory.
+    pub fn renumber(&mut self, number: u64, new: u64)
+        requires lesser { new ≤ number }
+        requires gap { AllIn (IsGap number new) self.old }
+        ensures { self.new ≡ map (renumbered number new) self.old }
+    {
+        let place = self.below(number);
+        if let Some(mark) = self.marks.get(place) {
+            if mark.number == number {
+                self.marks[place].number = new;
             }
         }
     }

@@ -1,7 +1,8 @@
-ghost use Rattle.std.specs.Prelude.{◌≡◌, ◌<◌, ◌==◌, [], ◌∷◌, ◌++◌, get_or, not, OnOk, OnErr};
+ghost use Rattle.std.specs.Prelude.{◌≡◌, ◌<◌, ◌≤◌, ◌==◌, [], ◌∷◌, ◌++◌, get_or, map, not, OnOk, OnErr};
 ghost use Rattle.std.specs.List.{filter};
 ghost use Rattle.dt_lists.specs.Lists.{AllIn};
 ghost use Rattle.dt_queue.specs.Lanes.{ChangesLane, IsFirstBetween, IsLastBetween, SameLanes, is_between};
+ghost use Rattle.dt_queue.specs.Numbers.{IsGap, renumbered};
 
 use crate::lane::Lane;
 use crate::mark::Mark;
@@ -31,6 +32,17 @@ pub fn remove_mark(lanes: &mut Vec<Lane>, place: usize, number: u64)
 {
     if place < lanes.len() {
         lanes[place].remove(number);
+    }
+}
+
+/// Gives the mark of a number of the lane at a place a lesser number; no other of its marks lies between. Takes no memory.
+pub fn renumber_mark(lanes: &mut Vec<Lane>, place: usize, number: u64, new: u64)
+    requires lesser { new ≤ number }
+    requires gap { AllIn (IsGap number new) (get_or lanes.old.items place []) }
+    ensures { ChangesLane lanes.old.items place (map (renumbered number new) (get_or lanes.old.items place [])) lanes.new.items }
+{
+    if place < lanes.len() {
+        lanes[place].renumber(number, new);
     }
 }
 

@@ -14,6 +14,7 @@ mod lanes;
 mod mark;
 mod nearest;
 mod next;
+mod numbers;
 mod queues;
 mod rows;
 

@@ -1,4 +1,4 @@
-ghost use Rattle.std.specs.Prelude.{◌≡◌, [], ◌∷◌, ◌++◌, map, slice_get, IfOk, OnErr};
+ghost use Rattle.std.specs.Prelude.{◌≡◌, ◌<◌, ◌^◌, [], ◌∷◌, ◌++◌, length, map, slice_get, IfOk, OnErr};
 ghost use Rattle.dt_queue.specs.Queues.{IsQueued, follower_of, followers_after, neighbours, taken_out};
 
 use crate::follower::Follower;
@@ -41,7 +41,7 @@ impl Queues {
     }
 
     /// Adds an entry at the back of its queue, and gives its slot, at which none waited; after `NoMemory` all is as before.
-    /// Pushes are numbered in 64 bits; where no number is left, the answer is `NoMemory` too.
+    /// There is no limit to the number of pushes; entries that wait at one time are counted in 64 bits, since each takes memory.
     pub fn push(
         &mut self,
         alloc: Global,
@@ -52,9 +52,13 @@ impl Queues {
     ) -> Result<usize, NoMemory>
         ensures added { IfOk result (λ slot. self.new ≡ self.old ++ record { slot = slot; home = home; key = key.now; mode = mode; vertex = vertex } ∷ []) }
         ensures fresh { IfOk result (λ slot. ¬ (IsQueued self.old slot)) }
+        ensures few { IfOk result (λ slot. length self.new < 2 ^ 64) }
         ensures same { OnErr result (self.new ≡ self.old) }
     {
-        self.kept.push(alloc, home, key, mode, vertex)
+        self.kept.make_number()?;
+        let pushed = self.kept.push(alloc, home, key, mode, vertex);
+        let _entries = self.kept.cells.len();
+        pushed
     }
 
     /// The vertices of the neighbours of an entry, in the order of their pushes.

@@ -1,8 +1,10 @@
-//! Tests of the files that a run reads: clusters and workloads.
+//! Tests of what a run begins with: the files of clusters and workloads, and generated loads.
 //! Each is a table of outside values with one loop and one assertion; there is no other code here.
 #![tactic(auto)]
 
 #[cfg(test)]
 mod clusters;
+#[cfg(test)]
+mod loads;
 #[cfg(test)]
 mod workloads;

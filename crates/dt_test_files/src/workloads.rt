@@ -39,7 +39,11 @@ fn put_wanted(alloc: Global, out: &mut Vec<u8>, ranked: &Ranked) -> Result<(), N
 }
 
 /// A session in words: its name, its region, and what it wants.
-fn put_session(alloc: Global, out: &mut Vec<u8>, session: &Session) -> Result<(), NoMemory> {
+pub(crate) fn put_session(
+    alloc: Global,
+    out: &mut Vec<u8>,
+    session: &Session,
+) -> Result<(), NoMemory> {
     out.extend_from_slice(session.name.bytes())?;
     out.push(b'@')?;
     put_u64(alloc, out, u64::from(session.region))?;

@@ -4,7 +4,7 @@ ghost use Rattle.dt_access.specs.Ids.{AreAscending};
 
 use crate::queues::key_of;
 use crate::schedulers::{Row, check_fit, empty_logs, part_of, ready};
-use dt_access::{Keys, Mode, Part, TxnId};
+use dt_access::{Homes, Keys, Mode, Part, TxnId};
 use dt_graph::QueueSched;
 use dt_plain::PlainSched;
 use dt_sched::Scheduler;
@@ -24,8 +24,9 @@ fn drawn(seed: &mut u64, bound: u64) -> u64
 /// A key and its mode.
 type Use = (&'static [u8], Mode);
 
-/// A part with a second key, which counts where it is greater than the first one.
-type Wide = (Row<'static>, Use);
+/// A part with a second key, which counts where it is greater than the first one, and whether its transaction has all three
+/// homes.
+type Wide = (Row<'static>, Use, bool);
 
 const USES: [Use; 12] = [
     (b"a", Mode::Whole),
@@ -59,16 +60,17 @@ fn add(seed: &mut u64, parts: &mut Vec<Wide>, part: Wide) -> Result<(), Fail> {
     Ok(())
 }
 
-/// Adds the parts of a transaction, of which each has one or two keys.
+/// Adds the parts of a transaction, of which each has one or two keys. It has one home, two or all three.
 fn add_all(seed: &mut u64, parts: &mut Vec<Wide>, seq: u32) -> Result<(), Fail> {
     let (region, rank) = (drawn(seed, 3) as u8, drawn(seed, 3) as u8);
     let (least, greatest) = (drawn(seed, 3) as u8, drawn(seed, 3) as u8);
-    for (home, is_home) in [(least, true), (greatest, least < greatest)] {
-        if is_home {
+    let all = drawn(seed, 4) == 0;
+    for home in 0..3 {
+        if all || home == least || home == greatest && least < greatest {
             let (key, mode) = a_use(seed);
             let row = (seq, region, rank, home, key, mode, least, greatest);
             let second = a_use(seed);
-            add(seed, parts, (row, second))?;
+            add(seed, parts, (row, second, all))?;
         }
     }
     Ok(())
@@ -83,6 +85,20 @@ fn some_parts(alloc: Global, seed: &mut u64, txns: u32) -> Result<Vec<Wide>, Fai
     Ok(parts)
 }
 
+/// The ids of the parts, in ascending order.
+fn ids_of(alloc: Global, parts: &[Wide]) -> Result<Vec<TxnId>, Fail> {
+    let mut ids = Vec::new(alloc);
+    for (row, _, _) in parts {
+        let (seq, region, _, _, _, _, _, _) = *row;
+        let id = TxnId { seq, region };
+        if !ids.contains(&id) {
+            ids.push(id)?;
+        }
+    }
+    ids.sort()?;
+    Ok(ids)
+}
+
 /// One or two keys: the second one counts where it is greater.
 fn keys_of(alloc: Global, first: Use, second: Use) -> Result<Keys, Fail> {
     let (key, other) = (key_of(alloc, first.0)?, key_of(alloc, second.0)?);
@@ -95,24 +111,39 @@ fn keys_of(alloc: Global, first: Use, second: Use) -> Result<Keys, Fail> {
     Ok(keys)
 }
 
+/// All three homes.
+fn all_homes(alloc: Global) -> Result<Homes, Fail> {
+    let mut homes = Homes::new(alloc);
+    homes.push(0)?;
+    homes.push(1)?;
+    homes.push(2)?;
+    Ok(homes)
+}
+
 fn wide_part(alloc: Global, wide: &Wide) -> Result<Part, Fail> {
-    let (row, second) = *wide;
+    let (row, second, all) = *wide;
     let (_, _, _, _, key, mode, _, _) = row;
     let mut part = part_of(alloc, &row)?;
     part.keys = keys_of(alloc, (key, mode), second)?;
+    if all {
+        part.homes = all_homes(alloc)?;
+    }
     Ok(part)
 }
 
-/// Whether both tell alike of each id whether it is executable.
+/// Whether both tell alike of each id, and of those that differ from it in the region, whether it is executable.
 fn same_executable(
     alloc: Global,
     plain: &PlainSched,
     queue: &QueueSched,
-    txns: u32,
+    ids: &[TxnId],
 ) -> Result<bool, Fail> {
-    for seq in 0..txns {
+    for known in ids {
         for region in 0..3 {
-            let id = TxnId { seq, region };
+            let id = TxnId {
+                seq: known.seq,
+                region,
+            };
             if plain.executable(alloc, id)? != queue.executable(alloc, id)? {
                 return Ok(false);
             }
@@ -134,12 +165,67 @@ fn same_class(alloc: Global, plain: &PlainSched, queue: &QueueSched) -> Result<b
     }
 }
 
+/// Whether both tell alike of some ids whether they are a class that may be resolved.
+fn same_resolvable(
+    alloc: Global,
+    plain: &PlainSched,
+    queue: &QueueSched,
+    ids: &[TxnId],
+) -> Result<bool, Fail>
+    requires { AreAscending ids.now }
+{
+    Ok(plain.resolvable(alloc, ids)? == queue.resolvable(alloc, ids)?)
+}
+
+/// The same of the first one, two, three of four ids and of all four, where they ascend: mostly they are no class, but a part
+/// of one, two together, or nothing of the kind.
+fn same_of_some(
+    alloc: Global,
+    plain: &PlainSched,
+    queue: &QueueSched,
+    ids: [TxnId; 4],
+) -> Result<bool, Fail> {
+    let [first, second, third, fourth] = ids;
+    if first.seq < second.seq && second.seq < third.seq && third.seq < fourth.seq {
+        let one = same_resolvable(alloc, plain, queue, &[first])?;
+        let two = same_resolvable(alloc, plain, queue, &[first, second])?;
+        let three = same_resolvable(alloc, plain, queue, &[first, second, third])?;
+        let four = same_resolvable(alloc, plain, queue, &[first, second, third, fourth])?;
+        return Ok(one && two && three && four);
+    }
+    Ok(true)
+}
+
+/// Four of the ids.
+fn four_of(seed: &mut u64, ids: &[TxnId]) -> Option<[TxnId; 4]> {
+    let first = drawn(seed, 3) as usize;
+    let second = first + 1 + drawn(seed, 2) as usize;
+    let third = second + 1 + drawn(seed, 2) as usize;
+    let fourth = third + 1 + drawn(seed, 2) as usize;
+    Some([
+        *ids.get(first)?,
+        *ids.get(second)?,
+        *ids.get(third)?,
+        *ids.get(fourth)?,
+    ])
+}
+
 /// Whether both answer alike.
-fn agree(alloc: Global, plain: &PlainSched, queue: &QueueSched, txns: u32) -> Result<bool, Fail> {
+fn agree(
+    alloc: Global,
+    seed: &mut u64,
+    plain: &PlainSched,
+    queue: &QueueSched,
+    ids: &[TxnId],
+) -> Result<bool, Fail> {
     let same = ready(alloc, plain)?.as_slice() == ready(alloc, queue)?.as_slice();
-    let executable = same_executable(alloc, plain, queue, txns)?;
+    let executable = same_executable(alloc, plain, queue, ids)?;
     let class = same_class(alloc, plain, queue)?;
-    Ok(same && executable && class)
+    let resolvable = match four_of(seed, ids) {
+        Some(some) => same_of_some(alloc, plain, queue, some)?,
+        None => true,
+    };
+    Ok(same && executable && class && resolvable)
 }
 
 /// Resolves a class, which has to be resolvable.
@@ -220,19 +306,19 @@ fn steps(
     seed: &mut u64,
     plain: &mut PlainSched,
     queue: &mut QueueSched,
-    txns: u32,
+    ids: &[TxnId],
     count: u32,
 ) -> Result<bool, Fail>
     ensures plain { plain.new.seen.logs ≡ plain.old.seen.logs }
     ensures queue { queue.new.seen.logs ≡ queue.old.seen.logs }
 {
     for _step in 0..count {
-        if !agree(alloc, plain, queue, txns)? {
+        if !agree(alloc, seed, plain, queue, ids)? {
             return Ok(false);
         }
         step(alloc, seed, plain, queue)?;
     }
-    agree(alloc, plain, queue, txns)
+    agree(alloc, seed, plain, queue, ids)
 }
 
 /// Inserts a part at both, and keeps it in the logs, where it has to fit.
@@ -264,7 +350,7 @@ fn go_on(
     plain: &mut PlainSched,
     queue: &mut QueueSched,
     parts: &[Wide],
-    txns: u32,
+    ids: &[TxnId],
 ) -> Result<bool, Fail>
     requires plain { plain.old.seen.logs ≡ replicate 3 [] }
     requires queue { queue.old.seen.logs ≡ replicate 3 [] }
@@ -272,17 +358,18 @@ fn go_on(
     let mut logs = empty_logs(alloc, 3)?;
     for wide in parts {
         insert(alloc, &mut logs, plain, queue, wide)?;
-        if !steps(alloc, seed, plain, queue, txns, 2)? {
+        if !steps(alloc, seed, plain, queue, ids, 2)? {
             return Ok(false);
         }
     }
-    steps(alloc, seed, plain, queue, txns, 40)
+    steps(alloc, seed, plain, queue, ids, 40)
 }
 
 /// Whether both answer alike in a drawn run of so many transactions.
 fn are_alike(alloc: Global, start: u64, txns: u32) -> Result<bool, Fail> {
     let mut seed = start;
     let parts = some_parts(alloc, &mut seed, txns)?;
+    let ids = ids_of(alloc, parts.as_slice())?;
     let mut plain = PlainSched::empty(alloc, 3)?;
     let mut queue = QueueSched::empty(alloc, 3)?;
     go_on(
@@ -291,7 +378,7 @@ fn are_alike(alloc: Global, start: u64, txns: u32) -> Result<bool, Fail> {
         &mut plain,
         &mut queue,
         parts.as_slice(),
-        txns,
+        ids.as_slice(),
     )
 }
 

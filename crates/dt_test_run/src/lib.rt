@@ -3,8 +3,12 @@
 #![tactic(auto)]
 
 #[cfg(test)]
+mod ends;
+#[cfg(test)]
 mod losses;
 #[cfg(test)]
 mod packets;
+#[cfg(test)]
+mod rings;
 #[cfg(test)]
 mod shelves;

@@ -1,49 +1,8 @@
 //! Shelves: what is put on them, and what is taken from them.
-use dt_packet::{Inlet, Outlet, Packet, Shelf};
-use dt_text::{NoMemory, put_u64};
-use dt_txn::{Entries, Txns};
+use crate::ends::{put, stamped, take};
+use dt_packet::{Inlet, Outlet, Shelf};
 use std::alloc::Global;
 use std::test::Fail;
-
-/// A packet of this stamp, with nothing in it.
-fn stamped(alloc: Global, stamp: u64) -> Packet {
-    Packet {
-        source: 0,
-        target: 1,
-        stamp,
-        asked_at: 0,
-        asked: Txns::new(alloc),
-        log_at: 0,
-        entries: Entries::new(alloc),
-        took: 0,
-        received: 0,
-    }
-}
-
-/// Puts a packet of this stamp. Where one comes back, adds its stamp and a `!`.
-fn put<O: Outlet>(
-    alloc: Global,
-    out: &mut Vec<u8>,
-    outlet: &mut O,
-    stamp: u64,
-) -> Result<(), NoMemory> {
-    if let Err(back) = outlet.put(stamped(alloc, stamp)) {
-        put_u64(alloc, out, back.stamp)?;
-        out.push(b'!')?;
-    }
-    Ok(())
-}
-
-/// Takes a packet and adds its stamp and a `,`, or adds a `-` where none waits.
-fn take<I: Inlet>(alloc: Global, out: &mut Vec<u8>, inlet: &mut I) -> Result<(), NoMemory> {
-    let Some(packet) = inlet.take() else {
-        out.push(b'-')?;
-        return Ok(());
-    };
-    put_u64(alloc, out, packet.stamp)?;
-    out.push(b',')?;
-    Ok(())
-}
 
 /// What comes of some steps on a shelf of so many places: at each `+` a packet is put, whose stamp is the place of the step,
 /// and at each `-` one is taken.

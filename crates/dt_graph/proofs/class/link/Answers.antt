@@ -1,4 +1,4 @@
-use Rattle.dt_graph.specs.Among.{IsSourceOf}
+use Rattle.dt_graph.specs.Links.{IsSourceOf}
 use Rattle.dt_graph.proofs.Linked.{links_next}
 use Rattle.dt_graph.proofs.class.link.Goals as goal
 

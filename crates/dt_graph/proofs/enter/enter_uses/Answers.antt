@@ -6,7 +6,7 @@ use Rattle.dt_graph.proofs.enter.enter_uses.Goals as goal
 pub loop-used-init : goal.loop-used-init
 loop-used-init c = record {
   same = c.as_slice-used-items.ensures.same;
-  entered = enters_none c.args.part.now.home c.args.vertex c.args.queues.now c.args.slots.now c.args.degree c.requires;
+  entered = enters_none c.args.part.now.home c.args.vertex c.args.queues.now c.args.slots.now c.args.before c.requires.distinct c.requires.counted;
 }
 
 pub loop-used-preserved : goal.loop-used-preserved
@@ -18,7 +18,7 @@ loop-used-preserved c =
       same = c.loop-used.invariant.same;
       entered = rw more
           (enters_more c.args.part.now.home c.args.vertex (take at items) (c.used-item.result ∷ []) c.args.queues.now c.loop-used.queues c.enter_use.new.queues
-          c.args.slots.now c.loop-used.slots c.enter_use.new.slots c.args.degree c.loop-used.risen c.in_ok-risen.risen c.loop-used.invariant.entered c.in_ok-risen.ensures.entered);
+          c.args.slots.now c.loop-used.slots c.enter_use.new.slots c.loop-used.risen c.in_ok-risen.risen c.loop-used.invariant.entered c.in_ok-risen.ensures.entered);
     }
 
 pub returns-clause-entered : goal.returns-clause-entered

@@ -1,5 +1,5 @@
 use Rattle.std.proofs.Common.{drop}
-use Rattle.dt_graph.specs.Waits.{lowered}
+use Rattle.dt_waits.specs.Waits.{lowered}
 use Rattle.dt_graph.proofs.Lowering.{IsLoweringBy}
 use Rattle.dt_graph.proofs.leave.lower_slots.Given as goal
 

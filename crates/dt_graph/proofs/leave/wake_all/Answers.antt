@@ -1,7 +1,7 @@
 use Rattle.std.proofs.Common.{subst}
 use Rattle.dt_lists.specs.Lists.{AnyIn}
-use Rattle.dt_graph.specs.Waits.{slots_of}
-use Rattle.dt_graph.specs.Steps.{IsFollowedAt, Wakes}
+use Rattle.dt_waits.specs.Waits.{slots_of}
+use Rattle.dt_graph.specs.SmallSteps.{IsFollowedAt, Wakes}
 use Rattle.dt_graph.proofs.Along.{item_in}
 use Rattle.dt_graph.proofs.TakenOut.{leaving_slots, leaving_wait}
 use Rattle.dt_graph.proofs.Waking.{followed_decided, wakes_next}

@@ -1,6 +1,6 @@
 use Rattle.std.proofs.Common.{take}
-use Rattle.dt_graph.specs.Waits.{IsFollowed}
-use Rattle.dt_graph.specs.Steps.{Wakes}
+use Rattle.dt_waits.specs.Waits.{IsFollowed}
+use Rattle.dt_graph.specs.SmallSteps.{Wakes}
 use Rattle.dt_graph.proofs.leave.wake_all.Given as goal
 
 abbrev pub invariant-loop-vertex : goal.invariant-loop-vertex

@@ -1,7 +1,7 @@
 use Rattle.std.proofs.Common.{subst, arith}
 use Rattle.std.proofs.lemmas.List.{take_all}
 use Rattle.dt_lists.specs.Lists.{AnyIn}
-use Rattle.dt_graph.specs.Steps.{IsFollowedAt, Wakes}
+use Rattle.dt_graph.specs.SmallSteps.{IsFollowedAt, Wakes}
 use Rattle.dt_graph.proofs.Waking.{followed_at_decided, wakes_next}
 use Rattle.dt_graph.proofs.leave.wake_slots.Goals as goal
 

@@ -1,6 +1,6 @@
 use Rattle.std.proofs.Common.{take}
 use Rattle.dt_lists.specs.Lists.{AnyIn}
-use Rattle.dt_graph.specs.Steps.{IsFollowedAt, Wakes}
+use Rattle.dt_graph.specs.SmallSteps.{IsFollowedAt, Wakes}
 use Rattle.dt_graph.proofs.leave.wake_slots.Given as goal
 
 abbrev pub invariant-loop-slot : goal.invariant-loop-slot

@@ -2,77 +2,78 @@ use Rattle.std.proofs.Common.{◌≡◌, ◌∙◌, ◌<◌, ◌≤◌, ◌+◌,
 use Rattle.std.proofs.lemmas.Option.{slice_get-get_or}
 use Rattle.dt_lists.specs.Lists.{Distinct}
 use Rattle.dt_lists.proofs.Callers.{all_get}
-use Rattle.dt_graph.specs.Graph.{GraphView}
+use Rattle.dt_waits.specs.Graph.{GraphView}
 use Rattle.dt_graph.specs.Held.{kept_of}
-use Rattle.dt_graph.specs.Steps.{HaveSlots, MayFinishIn}
-use Rattle.dt_graph.specs.Waits.{lowered_by}
+use Rattle.dt_waits.specs.Steps.{HaveSlots}
+use Rattle.dt_graph.specs.SmallSteps.{MayFinishIn}
+use Rattle.dt_waits.specs.Waits.{lowered_by}
 use Rattle.dt_graph.proofs.Finishing.{counted_on, finishes_all, finishes_one, open_is, within_open}
 use Rattle.dt_graph.proofs.Fitted.{fitted_left, fitted_ready}
 use Rattle.dt_graph.proofs.graph.Graph.finish_in.Goals as goal
 
-pub overflow_add-open : goal.overflow_add-open
-overflow_add-open c =
-    let g : GraphView = kept_of c.self.inside.names.ids c.self.inside.waits c.self.inside.open.items in
-    let few : c.index_mut-open.result.now.next + 1 < 18446744073709551616 =
-    counted_on c.args.class g (subst (MayFinishIn c.args.class) (sym c.self.view_is) c.requires) c.index_mut-open.result.now c.self.invariant.few c.index_mut-open.ensures.value in
+pub overflow_add-kept : goal.overflow_add-kept
+overflow_add-kept c =
+    let g : GraphView = kept_of c.self.inside.names.ids c.self.inside.waits c.self.inside.classes.items in
+    let few : c.index_mut-kept.result.now.next + 1 < 18446744073709551616 =
+    counted_on c.args.class g (subst (MayFinishIn c.args.class) (sym c.self.view_is) c.requires) c.index_mut-kept.result.now c.self.invariant.few c.index_mut-kept.ensures.value in
     omega (arith, few)
 
 pub add-requires : goal.add-requires
 add-requires c =
-    let g : GraphView = kept_of c.self.inside.names.ids c.self.inside.waits c.self.inside.open.items in
+    let g : GraphView = kept_of c.self.inside.names.ids c.self.inside.waits c.self.inside.classes.items in
     let m : MayFinishIn c.args.class g = subst (MayFinishIn c.args.class) (sym c.self.view_is) c.requires in
-    let at : slice_get c.index_mut-open.result.now.members (c.index_mut-open.result.now.next + 1) ≡ Some c.in-Some.vertex.now =
-    rw c.as_slice.ensures at (slice_get-get_or c.as_slice.result.now (c.index_mut-open.result.now.next + 1) c.in-Some.vertex.now c.in-Some.ensures.lookup.3.0 ∙ ap Some (sym c.in-Some.ensures.lookup.1)) in
-    let lt : c.in-Some.vertex.now < length g.ids = within_open c.args.class g m c.index_mut-open.result.now c.index_mut-open.ensures.value c.in-Some.vertex.now at in
+    let at : slice_get c.index_mut-kept.result.now.members (c.index_mut-kept.result.now.next + 1) ≡ Some c.in-Some.vertex.now =
+    rw c.as_slice.ensures at (slice_get-get_or c.as_slice.result.now (c.index_mut-kept.result.now.next + 1) c.in-Some.vertex.now c.in-Some.ensures.lookup.3.0 ∙ ap Some (sym c.in-Some.ensures.lookup.1)) in
+    let lt : c.in-Some.vertex.now < length g.ids = within_open c.args.class g m c.index_mut-kept.result.now c.index_mut-kept.ensures.value c.in-Some.vertex.now at in
     omega (arith, lt, c.self.invariant.ready_bound)
 
 pub invariant_of-self : goal.invariant_of-self
 invariant_of-self c =
-    let g : GraphView = kept_of c.self.inside.names.ids c.self.inside.waits c.self.inside.open.items in
+    let g : GraphView = kept_of c.self.inside.names.ids c.self.inside.waits c.self.inside.classes.items in
     let m : MayFinishIn c.args.class g = subst (MayFinishIn c.args.class) (sym c.self.view_is) c.requires in
-    let at : slice_get c.index_mut-open.result.now.members (c.index_mut-open.result.now.next + 1) ≡ Some c.in-Some.vertex.now =
-    rw c.as_slice.ensures at (slice_get-get_or c.as_slice.result.now (c.index_mut-open.result.now.next + 1) c.in-Some.vertex.now c.in-Some.ensures.lookup.3.0 ∙ ap Some (sym c.in-Some.ensures.lookup.1)) in
-    let lt : c.in-Some.vertex.now < length g.ids = within_open c.args.class g m c.index_mut-open.result.now c.index_mut-open.ensures.value c.in-Some.vertex.now at in
+    let at : slice_get c.index_mut-kept.result.now.members (c.index_mut-kept.result.now.next + 1) ≡ Some c.in-Some.vertex.now =
+    rw c.as_slice.ensures at (slice_get-get_or c.as_slice.result.now (c.index_mut-kept.result.now.next + 1) c.in-Some.vertex.now c.in-Some.ensures.lookup.3.0 ∙ ap Some (sym c.in-Some.ensures.lookup.1)) in
+    let lt : c.in-Some.vertex.now < length g.ids = within_open c.args.class g m c.index_mut-kept.result.now c.index_mut-kept.ensures.value c.in-Some.vertex.now at in
     fitted_ready c.self.inside.names.ids c.self.inside.waits c.self.invariant c.add.new.self c.add.ensures.bound
     (λ v h. elim ((c.add.ensures.members v).0 h) [ inl o ↦ all_get _ c.self.inside.waits.ready.items c.self.invariant.ready_within v o | inr e ↦ subst (λ u. u < length g.ids) (sym e) lt ])
 
 pub leave-requires-clause-once : goal.leave-requires-clause-once
 leave-requires-clause-once c =
-    let g : GraphView = kept_of c.self.inside.names.ids c.self.inside.waits c.self.inside.open.items in
+    let g : GraphView = kept_of c.self.inside.names.ids c.self.inside.waits c.self.inside.classes.items in
     let m : MayFinishIn c.args.class g = subst (MayFinishIn c.args.class) (sym c.self.view_is) c.requires in
-    rw c.as_slice-in-None.ensures (subst (λ o. Distinct o.members) (sym (open_is c.args.class g m c.index_mut-open.result.now c.index_mut-open.ensures.value)) m.leaves.once)
+    rw c.as_slice-in-None.ensures (subst (λ o. Distinct o.members) (sym (open_is c.args.class g m c.index_mut-kept.result.now c.index_mut-kept.ensures.value)) m.leaves.once)
 
 pub leave-requires-clause-slots : goal.leave-requires-clause-slots
 leave-requires-clause-slots c =
-    let g : GraphView = kept_of c.self.inside.names.ids c.self.inside.waits c.self.inside.open.items in
+    let g : GraphView = kept_of c.self.inside.names.ids c.self.inside.waits c.self.inside.classes.items in
     let m : MayFinishIn c.args.class g = subst (MayFinishIn c.args.class) (sym c.self.view_is) c.requires in
-    rw c.as_slice-in-None.ensures (subst (λ o. HaveSlots g.waiting g.vertices o.members) (sym (open_is c.args.class g m c.index_mut-open.result.now c.index_mut-open.ensures.value)) m.leaves.slots)
+    rw c.as_slice-in-None.ensures (subst (λ o. HaveSlots g.waiting g.vertices o.members) (sym (open_is c.args.class g m c.index_mut-kept.result.now c.index_mut-kept.ensures.value)) m.leaves.slots)
 
 pub leave-requires-clause-enough : goal.leave-requires-clause-enough
 leave-requires-clause-enough c =
-    let g : GraphView = kept_of c.self.inside.names.ids c.self.inside.waits c.self.inside.open.items in
+    let g : GraphView = kept_of c.self.inside.names.ids c.self.inside.waits c.self.inside.classes.items in
     let m : MayFinishIn c.args.class g = subst (MayFinishIn c.args.class) (sym c.self.view_is) c.requires in
     rw c.as_slice-in-None.ensures
-    (subst (λ o. (v : _) → v < length g.degrees → lowered_by g.waiting o.members v ≤ get_or g.degrees v 0) (sym (open_is c.args.class g m c.index_mut-open.result.now c.index_mut-open.ensures.value)) m.leaves.enough)
+    (subst (λ o. (v : _) → v < length g.degrees → lowered_by g.waiting o.members v ≤ get_or g.degrees v 0) (sym (open_is c.args.class g m c.index_mut-kept.result.now c.index_mut-kept.ensures.value)) m.leaves.enough)
 
 pub invariant_of-self-in-None : goal.invariant_of-self-in-None
 invariant_of-self-in-None c =
-    fitted_left c.self.inside.names.ids c.self.inside.waits c.self.invariant c.as_slice-in-None.result.now c.leave.new.self c.self.inside.open.items
-    (c.leave.ensures.left c.self.inside.names.ids c.self.inside.open.items) c.leave.ensures.ready c.leave.ensures.stuck
+    fitted_left c.self.inside.names.ids c.self.inside.waits c.self.invariant c.as_slice-in-None.result.now c.leave.new.self c.self.inside.classes.items
+    (c.leave.ensures.left c.self.inside.names.ids c.self.inside.classes.items) c.leave.ensures.ready c.leave.ensures.stuck
 
 pub returns-in-Some : goal.returns-in-Some
 returns-in-Some c =
-    let g : GraphView = kept_of c.self.inside.names.ids c.self.inside.waits c.self.inside.open.items in
+    let g : GraphView = kept_of c.self.inside.names.ids c.self.inside.waits c.self.inside.classes.items in
     let m : MayFinishIn c.args.class g = subst (MayFinishIn c.args.class) (sym c.self.view_is) c.requires in
-    let at : slice_get c.index_mut-open.result.now.members (c.index_mut-open.result.now.next + 1) ≡ Some c.in-Some.vertex.now =
-    rw c.as_slice.ensures at (slice_get-get_or c.as_slice.result.now (c.index_mut-open.result.now.next + 1) c.in-Some.vertex.now c.in-Some.ensures.lookup.3.0 ∙ ap Some (sym c.in-Some.ensures.lookup.1)) in
-    rw (← c.self.view_is) (finishes_one c.args.class g m c.index_mut-open.result.now c.index_mut-open.ensures.value c.in-Some.vertex.now c.add.new.self.items at c.add.ensures.members)
+    let at : slice_get c.index_mut-kept.result.now.members (c.index_mut-kept.result.now.next + 1) ≡ Some c.in-Some.vertex.now =
+    rw c.as_slice.ensures at (slice_get-get_or c.as_slice.result.now (c.index_mut-kept.result.now.next + 1) c.in-Some.vertex.now c.in-Some.ensures.lookup.3.0 ∙ ap Some (sym c.in-Some.ensures.lookup.1)) in
+    rw (← c.self.view_is) (finishes_one c.args.class g m c.index_mut-kept.result.now c.index_mut-kept.ensures.value c.in-Some.vertex.now c.add.new.self.items at c.add.ensures.members)
 
 pub returns-in-None : goal.returns-in-None
 returns-in-None c =
-    let g : GraphView = kept_of c.self.inside.names.ids c.self.inside.waits c.self.inside.open.items in
+    let g : GraphView = kept_of c.self.inside.names.ids c.self.inside.waits c.self.inside.classes.items in
     let m : MayFinishIn c.args.class g = subst (MayFinishIn c.args.class) (sym c.self.view_is) c.requires in
-    let o = c.index_mut-open.result.now in
-    let classes = Rattle.std.specs.List.slice_set c.self.inside.open.items c.args.class (record { members = o.members; next = o.next + 1 }) in
+    let o = c.index_mut-kept.result.now in
+    let classes = Rattle.std.specs.List.slice_set c.self.inside.classes.items c.args.class (record { members = o.members; next = o.next + 1 }) in
     rw (← c.self.view_is)
-    (finishes_all c.args.class g m o c.index_mut-open.ensures.value _ (rw c.as_slice.ensures at c.in-None.ensures.lookup.3) (rw c.as_slice-in-None.ensures at (c.leave.ensures.left c.self.inside.names.ids classes)))
+    (finishes_all c.args.class g m o c.index_mut-kept.ensures.value _ (rw c.as_slice.ensures at c.in-None.ensures.lookup.3) (rw c.as_slice-in-None.ensures at (c.leave.ensures.left c.self.inside.names.ids classes)))

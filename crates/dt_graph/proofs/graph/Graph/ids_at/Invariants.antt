@@ -1,5 +1,5 @@
 use Rattle.std.proofs.Common.{◌≡◌, get_or, map, take}
-use Rattle.dt_graph.specs.Waits.{id_at}
+use Rattle.dt_waits.specs.Waits.{id_at}
 use Rattle.dt_graph.proofs.graph.Graph.ids_at.Given as goal
 
 abbrev pub invariant-loop-place : goal.invariant-loop-place

@@ -3,7 +3,7 @@ use Rattle.std.specs.Vec.Iter.{into_iter_items}
 use Rattle.std.proofs.lemmas.List.{get_or_read}
 use Rattle.dt_lists.specs.Lists.{AllIn, Has}
 use Rattle.dt_lists.proofs.Callers.{place_within}
-use Rattle.dt_graph.specs.Graph.{GraphView}
+use Rattle.dt_waits.specs.Graph.{GraphView}
 use Rattle.dt_graph.specs.Held.{kept_of}
 use Rattle.dt_graph.proofs.InOrder.{all_came, all_numbered, gathered, members_more, run_in_order}
 use Rattle.dt_graph.proofs.graph.Graph.in_order.Goals as goal
@@ -11,7 +11,7 @@ use Rattle.dt_graph.proofs.graph.Graph.in_order.Goals.{in-Some+in_ok-push, in_de
 
 pub loop-id-preserved : goal.loop-id-preserved
 loop-id-preserved c =
-    let g : GraphView = kept_of c.self.inside.names.ids c.self.inside.waits c.self.inside.open.items in
+    let g : GraphView = kept_of c.self.inside.names.ids c.self.inside.waits c.self.inside.classes.items in
     elim c.match-number_of.branch [
       | in-Some+in_ok-push w ↦
           let lt : w.in-Some.vertex < length c.self.inside.waits.vertices.items = subst (λ n. w.in-Some.vertex < n) (sym c.self.invariant.vertices) (place_within g.ids w.in-Some.vertex _ w.in-Some.ensures.number) in

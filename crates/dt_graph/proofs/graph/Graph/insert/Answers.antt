@@ -1,19 +1,25 @@
 use Rattle.std.proofs.Common.{◌≡◌, ◌∙◌, ◌<◌, ◌≤◌, ◌+◌, ◌^◌, ◌∷◌, ◌++◌, [], length, refl, sym, ap, subst, arith}
 use Rattle.std.proofs.lemmas.List.{length-append}
 use Rattle.dt_lists.proofs.Callers.{place_within}
-use Rattle.dt_graph.specs.Graph.{GraphView}
+use Rattle.dt_waits.specs.Graph.{GraphView}
 use Rattle.dt_graph.specs.Held.{kept_of}
 use Rattle.dt_graph.proofs.Fitted.{fitted_inserted, fitted_same}
-use Rattle.dt_graph.proofs.Inserted.{missing_before}
+use Rattle.dt_waits.proofs.Callers.{at_named, counted_before, missing_before}
 use Rattle.dt_graph.proofs.Inserting.{MayInsert, few_more, kept_as, on_ok, result_cases}
-use Rattle.dt_graph.proofs.Keeping.{at_named}
 use Rattle.dt_graph.proofs.graph.Graph.insert.Goals as goal
 
 pub extend-requires-clause-missing : goal.extend-requires-clause-missing
 extend-requires-clause-missing c =
-    let g : GraphView = kept_of c.self.inside.names.ids c.self.inside.waits c.self.inside.open.items in
+    let g : GraphView = kept_of c.self.inside.names.ids c.self.inside.waits c.self.inside.classes.items in
     let r : MayInsert g c.args.part.now = subst (λ g. MayInsert g c.args.part.now) (sym c.self.view_is) c.requires in
     missing_before r.0 r.1 r.2 c.args.part.now r.3 r.4 c.as_slice-homes.ensures.ascending g r.5 c.in-Some.vertex (place_within g.ids c.in-Some.vertex c.args.part.now.id c.in-Some.ensures.number)
+    (at_named g.ids c.in-Some.vertex c.args.part.now.id c.in-Some.ensures.number)
+
+pub extend-requires-clause-counted : goal.extend-requires-clause-counted
+extend-requires-clause-counted c =
+    let g : GraphView = kept_of c.self.inside.names.ids c.self.inside.waits c.self.inside.classes.items in
+    let r : MayInsert g c.args.part.now = subst (λ g. MayInsert g c.args.part.now) (sym c.self.view_is) c.requires in
+    counted_before r.0 r.1 r.2 c.args.part.now r.3 r.4 c.as_slice-homes.ensures.ascending g r.5 c.in-Some.vertex (place_within g.ids c.in-Some.vertex c.args.part.now.id c.in-Some.ensures.number)
     (at_named g.ids c.in-Some.vertex c.args.part.now.id c.in-Some.ensures.number)
 
 pub extend-requires-clause-ready_bound : goal.extend-requires-clause-ready_bound
@@ -25,7 +31,7 @@ extend-requires-clause-stuck_bound c = omega (arith, place_within c.self.inside.
 pub invariant_of-self : goal.invariant_of-self
 invariant_of-self c =
     let ids = c.self.inside.names.ids in
-    let classes = c.self.inside.open.items in
+    let classes = c.self.inside.classes.items in
     result_cases c.extend.result c.extend.ensures.extended (c.extend.ensures.same ids classes)
     (λ e. let i = e ids classes (sym c.self.invariant.vertices) c.number_of.ensures.once (at_named ids c.in-Some.vertex c.args.part.now.id c.in-Some.ensures.number) in
     fitted_inserted ids c.self.inside.waits c.self.invariant ids c.extend.new.self c.args.part.now c.in-Some.vertex i.0 classes c.self.invariant.few
@@ -35,61 +41,61 @@ invariant_of-self c =
 pub invariant_of-self-in_err-reserve-in-None-2 : goal.invariant_of-self-in_err-reserve-in-None-2
 invariant_of-self-in_err-reserve-in-None-2 c =
     rw c.reserve.ensures.same
-    (fitted_same c.self.inside.names.ids c.self.inside.waits c.self.invariant c.reserve-in-None.new.self c.self.inside.open.items (c.reserve-in-None.ensures.same c.self.inside.names.ids c.self.inside.open.items)
+    (fitted_same c.self.inside.names.ids c.self.inside.waits c.self.invariant c.reserve-in-None.new.self c.self.inside.classes.items (c.reserve-in-None.ensures.same c.self.inside.names.ids c.self.inside.classes.items)
     c.reserve-in-None.ensures.ready c.reserve-in-None.ensures.stuck)
 
 pub returns-in_err-reserve-in-None-2-clause-same : goal.returns-in_err-reserve-in-None-2-clause-same
 returns-in_err-reserve-in-None-2-clause-same c =
-    rw (← c.self.view_is) (kept_as c.from_residual-in_err-reserve-in-None-2.result c.self.inside.names.ids c.reserve.new.self.ids c.reserve-in-None.new.self c.self.inside.waits c.self.inside.open.items c.reserve.ensures.same
-    (c.reserve-in-None.ensures.same c.self.inside.names.ids c.self.inside.open.items))
+    rw (← c.self.view_is) (kept_as c.from_residual-in_err-reserve-in-None-2.result c.self.inside.names.ids c.reserve.new.self.ids c.reserve-in-None.new.self c.self.inside.waits c.self.inside.classes.items c.reserve.ensures.same
+    (c.reserve-in-None.ensures.same c.self.inside.names.ids c.self.inside.classes.items))
 
 pub add-requires-clause-few : goal.add-requires-clause-few
 add-requires-clause-few c =
-    let g : GraphView = kept_of c.self.inside.names.ids c.self.inside.waits c.self.inside.open.items in
+    let g : GraphView = kept_of c.self.inside.names.ids c.self.inside.waits c.self.inside.classes.items in
     let r : MayInsert g c.args.part.now = subst (λ g. MayInsert g c.args.part.now) (sym c.self.view_is) c.requires in
-    few_more g c.args.part.now r _ (ap (λ g. length g.vertices) (c.reserve-in-None.ensures.same c.self.inside.names.ids c.self.inside.open.items) ∙ c.self.invariant.vertices)
+    few_more g c.args.part.now r _ (ap (λ g. length g.vertices) (c.reserve-in-None.ensures.same c.self.inside.names.ids c.self.inside.classes.items) ∙ c.self.invariant.vertices)
 
 pub add-requires-clause-sizes : goal.add-requires-clause-sizes
 add-requires-clause-sizes c =
-    let same = c.reserve-in-None.ensures.same c.self.inside.names.ids c.self.inside.open.items in
+    let same = c.reserve-in-None.ensures.same c.self.inside.names.ids c.self.inside.classes.items in
     ap (λ g. length g.degrees) same ∙ c.self.invariant.degrees ∙ sym c.self.invariant.vertices ∙ sym (ap (λ g. length g.vertices) same)
 
 pub add-requires-clause-distinct : goal.add-requires-clause-distinct
 add-requires-clause-distinct c =
-    let g : GraphView = kept_of c.self.inside.names.ids c.self.inside.waits c.self.inside.open.items in
+    let g : GraphView = kept_of c.self.inside.names.ids c.self.inside.waits c.self.inside.classes.items in
     let r : MayInsert g c.args.part.now = subst (λ g. MayInsert g c.args.part.now) (sym c.self.view_is) c.requires in
-    subst Rattle.dt_queue.specs.Queues.HasDistinctSlots (sym (ap (λ g. g.waiting) (c.reserve-in-None.ensures.same c.self.inside.names.ids c.self.inside.open.items))) r.5.uses.distinct
+    subst Rattle.dt_queue.specs.Queues.HasDistinctSlots (sym (ap (λ g. g.waiting) (c.reserve-in-None.ensures.same c.self.inside.names.ids c.self.inside.classes.items))) r.5.uses.distinct
 
 pub add-requires-clause-below : goal.add-requires-clause-below
 add-requires-clause-below c =
-    let g : GraphView = kept_of c.self.inside.names.ids c.self.inside.waits c.self.inside.open.items in
+    let g : GraphView = kept_of c.self.inside.names.ids c.self.inside.waits c.self.inside.classes.items in
     let r : MayInsert g c.args.part.now = subst (λ g. MayInsert g c.args.part.now) (sym c.self.view_is) c.requires in
-    let same = c.reserve-in-None.ensures.same c.self.inside.names.ids c.self.inside.open.items in
-    subst (λ w. Rattle.dt_graph.specs.Steps.AreEntriesBelow (length c.reserve-in-None.new.self.vertices.items) w) (sym (ap (λ g. g.waiting) same))
-    (subst (λ n. Rattle.dt_graph.specs.Steps.AreEntriesBelow n g.waiting) (sym (ap (λ g. length g.vertices) same ∙ c.self.invariant.vertices)) r.5.uses.vertices)
+    let same = c.reserve-in-None.ensures.same c.self.inside.names.ids c.self.inside.classes.items in
+    subst (λ w. Rattle.dt_waits.specs.Steps.AreEntriesBelow (length c.reserve-in-None.new.self.vertices.items) w) (sym (ap (λ g. g.waiting) same))
+    (subst (λ n. Rattle.dt_waits.specs.Steps.AreEntriesBelow n g.waiting) (sym (ap (λ g. length g.vertices) same ∙ c.self.invariant.vertices)) r.5.uses.vertices)
 
 pub invariant_of-self-in_err-add-in-None : goal.invariant_of-self-in_err-add-in-None
 invariant_of-self-in_err-add-in-None c =
     rw c.reserve.ensures.same
-    (fitted_same c.self.inside.names.ids c.self.inside.waits c.self.invariant c.add.new.self c.self.inside.open.items
-    (c.in_err-add-in-None.ensures.same c.self.inside.names.ids c.self.inside.open.items ∙ c.reserve-in-None.ensures.same c.self.inside.names.ids c.self.inside.open.items)
+    (fitted_same c.self.inside.names.ids c.self.inside.waits c.self.invariant c.add.new.self c.self.inside.classes.items
+    (c.in_err-add-in-None.ensures.same c.self.inside.names.ids c.self.inside.classes.items ∙ c.reserve-in-None.ensures.same c.self.inside.names.ids c.self.inside.classes.items)
     (omega (arith, c.reserve-in-None.ensures.ready, c.add.ensures.ready)) (omega (arith, c.reserve-in-None.ensures.stuck, c.add.ensures.stuck)))
 
 pub returns-in_err-add-in-None-clause-same : goal.returns-in_err-add-in-None-clause-same
 returns-in_err-add-in-None-clause-same c =
-    rw (← c.self.view_is) (kept_as c.from_residual-in_err-add-in-None.result c.self.inside.names.ids c.reserve.new.self.ids c.add.new.self c.self.inside.waits c.self.inside.open.items c.reserve.ensures.same
-    (c.in_err-add-in-None.ensures.same c.self.inside.names.ids c.self.inside.open.items ∙ c.reserve-in-None.ensures.same c.self.inside.names.ids c.self.inside.open.items))
+    rw (← c.self.view_is) (kept_as c.from_residual-in_err-add-in-None.result c.self.inside.names.ids c.reserve.new.self.ids c.add.new.self c.self.inside.waits c.self.inside.classes.items c.reserve.ensures.same
+    (c.in_err-add-in-None.ensures.same c.self.inside.names.ids c.self.inside.classes.items ∙ c.reserve-in-None.ensures.same c.self.inside.names.ids c.self.inside.classes.items))
 
 pub add-requires-in-None-clause-few : goal.add-requires-in-None-clause-few
 add-requires-in-None-clause-few c =
-    let g : GraphView = kept_of c.self.inside.names.ids c.self.inside.waits c.self.inside.open.items in
+    let g : GraphView = kept_of c.self.inside.names.ids c.self.inside.waits c.self.inside.classes.items in
     let r : MayInsert g c.args.part.now = subst (λ g. MayInsert g c.args.part.now) (sym c.self.view_is) c.requires in
     few_more g c.args.part.now r _ (ap length c.reserve.ensures.same)
 
 pub invariant_of-self-in-None : goal.invariant_of-self-in-None
 invariant_of-self-in-None c =
     let ids = c.self.inside.names.ids in
-    let classes = c.self.inside.open.items in
+    let classes = c.self.inside.classes.items in
     let g : GraphView = kept_of ids c.self.inside.waits classes in
     let r : MayInsert g c.args.part.now = subst (λ g. MayInsert g c.args.part.now) (sym c.self.view_is) c.requires in
     let size : length ids ≡ length c.reserve-in-None.new.self.vertices.items = sym (ap (λ g. length g.vertices) (c.reserve-in-None.ensures.same ids classes) ∙ c.self.invariant.vertices) in
@@ -106,7 +112,7 @@ invariant_of-self-in-None c =
 pub returns-in-Some-clause-inserted : goal.returns-in-Some-clause-inserted
 returns-in-Some-clause-inserted c =
     let ids = c.self.inside.names.ids in
-    let classes = c.self.inside.open.items in
+    let classes = c.self.inside.classes.items in
     rw (← c.self.view_is)
     (on_ok c.extend.result (λ e. let i = e ids classes (sym c.self.invariant.vertices) c.number_of.ensures.once (at_named ids c.in-Some.vertex c.args.part.now.id c.in-Some.ensures.number) in
     (c.in-Some.vertex, i.0, i.1)) c.extend.ensures.extended)
@@ -114,9 +120,9 @@ returns-in-Some-clause-inserted c =
 pub returns-in_ok-add-in-None-clause-inserted : goal.returns-in_ok-add-in-None-clause-inserted
 returns-in_ok-add-in-None-clause-inserted c =
     let ids = c.self.inside.names.ids in
-    let classes = c.self.inside.open.items in
+    let classes = c.self.inside.classes.items in
     let same = c.reserve-in-None.ensures.same ids classes in
     let size : length ids ≡ length c.reserve-in-None.new.self.vertices.items = sym (ap (λ g. length g.vertices) same ∙ c.self.invariant.vertices) in
     let i = c.in_ok-add-in-None.ensures.added ids classes size c.number_of.ensures.once c.in-None.ensures.number in
     rw (← c.self.view_is, c.add-in-None.ensures, c.reserve.ensures.same)
-    (length ids, i.0, subst (λ g. Rattle.dt_graph.specs.Steps.Inserts c.args.part.now (length ids) i.0 g (kept_of (ids ++ c.args.part.now.id ∷ []) c.add.new.self classes)) same i.1)
+    (length ids, i.0, subst (λ g. Rattle.dt_waits.specs.Steps.Inserts c.args.part.now (length ids) i.0 g (kept_of (ids ++ c.args.part.now.id ∷ []) c.add.new.self classes)) same i.1)

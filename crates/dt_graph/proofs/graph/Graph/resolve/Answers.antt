@@ -1,7 +1,7 @@
 use Rattle.std.proofs.Common.{◌≡◌, ◌∙◌, ◌<◌, ◌++◌, ◌∷◌, [], length, sym, ap, subst, arith}
 use Rattle.dt_lists.specs.Lists.{AllIn}
 use Rattle.dt_graph.specs.Held.{kept_of}
-use Rattle.dt_graph.specs.Steps.{Resolves, RunInOrder}
+use Rattle.dt_waits.specs.Steps.{Resolves, RunInOrder}
 use Rattle.dt_graph.proofs.Fitted.{fitted_resolved}
 use Rattle.dt_graph.proofs.Resolving.{are_once, are_there, pushed_at}
 use Rattle.dt_graph.proofs.graph.Graph.resolve.Goals as goal
@@ -14,19 +14,19 @@ in_order-requires-clause-once c = are_once c.args.self.now c.args.ids.now c.requ
 
 pub resolve-requires-clause-within : goal.resolve-requires-clause-within
 resolve-requires-clause-within c =
-    let size : c.len-class.result ≡ length c.self.inside.open.items = omega (arith, c.len-class.ensures, c.self.inside.open.ok.0) in
-    let same : c.as_slice.result.now ≡ c.in_ok-members.members = c.as_slice.ensures ∙ ap (λ o. o.members) (pushed_at c.self.inside.open.items _ _ c.len-class.result size (rw c.in_ok-push.ensures.items at c.index.ensures)) in
-    let run : RunInOrder (kept_of c.self.inside.names.ids c.self.inside.waits c.self.inside.open.items) c.args.ids.now c.in_ok-members.members = subst (λ g. RunInOrder g c.args.ids.now c.in_ok-members.members)
+    let size : c.len-class.result ≡ length c.self.inside.classes.items = omega (arith, c.len-class.ensures, c.self.inside.classes.ok.0) in
+    let same : c.as_slice.result.now ≡ c.in_ok-members.members = c.as_slice.ensures ∙ ap (λ o. o.members) (pushed_at c.self.inside.classes.items _ _ c.len-class.result size (rw c.in_ok-push.ensures.items at c.index.ensures)) in
+    let run : RunInOrder (kept_of c.self.inside.names.ids c.self.inside.waits c.self.inside.classes.items) c.args.ids.now c.in_ok-members.members = subst (λ g. RunInOrder g c.args.ids.now c.in_ok-members.members)
     (sym c.self.view_is) c.in_ok-members.ensures in
     subst (λ l. AllIn (λ v. v < length c.self.inside.waits.vertices.items) l) (sym same) (subst (λ n. AllIn (λ v. v < n) c.in_ok-members.members) (sym c.self.invariant.vertices) run.within)
 
 pub invariant_of-self-2 : goal.invariant_of-self-2
 invariant_of-self-2 c =
     let ids = c.self.inside.names.ids in
-    let classes = c.self.inside.open.items in
-    let size : c.len-class.result ≡ length c.self.inside.open.items = omega (arith, c.len-class.ensures, c.self.inside.open.ok.0) in
-    let same : c.as_slice.result.now ≡ c.in_ok-members.members = c.as_slice.ensures ∙ ap (λ o. o.members) (pushed_at c.self.inside.open.items _ _ c.len-class.result size (rw c.in_ok-push.ensures.items at c.index.ensures)) in
-    let run : RunInOrder (kept_of c.self.inside.names.ids c.self.inside.waits c.self.inside.open.items) c.args.ids.now c.in_ok-members.members = subst (λ g. RunInOrder g c.args.ids.now c.in_ok-members.members)
+    let classes = c.self.inside.classes.items in
+    let size : c.len-class.result ≡ length c.self.inside.classes.items = omega (arith, c.len-class.ensures, c.self.inside.classes.ok.0) in
+    let same : c.as_slice.result.now ≡ c.in_ok-members.members = c.as_slice.ensures ∙ ap (λ o. o.members) (pushed_at c.self.inside.classes.items _ _ c.len-class.result size (rw c.in_ok-push.ensures.items at c.index.ensures)) in
+    let run : RunInOrder (kept_of c.self.inside.names.ids c.self.inside.waits c.self.inside.classes.items) c.args.ids.now c.in_ok-members.members = subst (λ g. RunInOrder g c.args.ids.now c.in_ok-members.members)
     (sym c.self.view_is) c.in_ok-members.ensures in
     fitted_resolved ids c.self.inside.waits c.self.invariant c.as_slice.result.now c.len-class.result c.resolve.new.self classes (classes ++ record { members = c.as_slice.result.now; next = 0 } ∷ [])
     (subst (λ l. AllIn (λ v. v < length ids) l) (sym same) run.within) (c.resolve.ensures.resolved ids classes) c.resolve.ensures.ready c.resolve.ensures.stuck
@@ -34,10 +34,10 @@ invariant_of-self-2 c =
 pub returns-clause-resolved : goal.returns-clause-resolved
 returns-clause-resolved c =
     let ids = c.self.inside.names.ids in
-    let classes = c.self.inside.open.items in
-    let size : c.len-class.result ≡ length c.self.inside.open.items = omega (arith, c.len-class.ensures, c.self.inside.open.ok.0) in
-    let same : c.as_slice.result.now ≡ c.in_ok-members.members = c.as_slice.ensures ∙ ap (λ o. o.members) (pushed_at c.self.inside.open.items _ _ c.len-class.result size (rw c.in_ok-push.ensures.items at c.index.ensures)) in
-    let run : RunInOrder (kept_of c.self.inside.names.ids c.self.inside.waits c.self.inside.open.items) c.args.ids.now c.in_ok-members.members = subst (λ g. RunInOrder g c.args.ids.now c.in_ok-members.members)
+    let classes = c.self.inside.classes.items in
+    let size : c.len-class.result ≡ length c.self.inside.classes.items = omega (arith, c.len-class.ensures, c.self.inside.classes.ok.0) in
+    let same : c.as_slice.result.now ≡ c.in_ok-members.members = c.as_slice.ensures ∙ ap (λ o. o.members) (pushed_at c.self.inside.classes.items _ _ c.len-class.result size (rw c.in_ok-push.ensures.items at c.index.ensures)) in
+    let run : RunInOrder (kept_of c.self.inside.names.ids c.self.inside.waits c.self.inside.classes.items) c.args.ids.now c.in_ok-members.members = subst (λ g. RunInOrder g c.args.ids.now c.in_ok-members.members)
     (sym c.self.view_is) c.in_ok-members.ensures in
     let r = subst (λ n. Resolves c.as_slice.result.now n (kept_of ids c.self.inside.waits classes) (kept_of ids c.resolve.new.self (classes ++ record { members = c.as_slice.result.now; next = 0 } ∷ []))) size
     (c.resolve.ensures.resolved ids classes) in

@@ -1,18 +1,19 @@
-use Rattle.std.proofs.Common.{◌∙◌, ◌<◌, ◌^◌, ℕ, refl, ap, length, subst, sym}
+use Rattle.std.proofs.Common.{◌∙◌, ◌<◌, ◌^◌, ℕ, ap, length, subst, sym}
 use Rattle.dt_lists.specs.Lists.{AllIn, Distinct}
 use Rattle.dt_lists.proofs.Callers.{all_put}
 use Rattle.dt_class.specs.Graphs.{AreAllBlocked, AreVertices, IsInClass, IsSource}
-use Rattle.dt_graph.specs.Among.{IsAmong}
-use Rattle.dt_graph.specs.Graph.{GraphView}
-use Rattle.dt_graph.specs.Steps.{AreIdsAt, HaveSlots}
-use Rattle.dt_graph.proofs.Chosen.{blocked_within, chosen, empty_told, none_chosen, none_stuck, stuck_slots, vertices_few}
+use Rattle.dt_waits.specs.Among.{IsAmong}
+use Rattle.dt_waits.specs.Graph.{GraphView}
+use Rattle.dt_graph.specs.SmallSteps.{AreIdsAt}
+use Rattle.dt_waits.specs.Steps.{HaveSlots}
+use Rattle.dt_graph.proofs.Chosen.{blocked_within, chosen, few_stuck, none_chosen, stuck_slots, vertices_few}
 use Rattle.dt_graph.proofs.graph.Graph.some_class.Goals as goal
 
-pub returns-then-is_empty : goal.returns-then-is_empty
-returns-then-is_empty c view resolved done k is =
+pub returns-then-stuck-lt2 : goal.returns-then-stuck-lt2
+returns-then-stuck-lt2 c view resolved done k is =
     let list = c.as_slice-stuck.result.now in
-    none_stuck view resolved done k c.args.self.now is list (c.as_slice-stuck.ensures.items ∙ ap (λ (g : GraphView). g.stuck) c.self.view_is) (rw c.as_slice-stuck.ensures.items c.as_slice-stuck.ensures.once)
-    (empty_told list _ _ refl c.is_empty.ensures c.if-is_empty.true)
+    few_stuck view resolved done k c.args.self.now is list (c.as_slice-stuck.ensures.items ∙ ap (λ (g : GraphView). g.stuck) c.self.view_is) (rw c.as_slice-stuck.ensures.items c.as_slice-stuck.ensures.once)
+    c.if-stuck-lt2.true
 
 pub gather-requires-clause-few : goal.gather-requires-clause-few
 gather-requires-clause-few c =

@@ -1,5 +1,5 @@
 use Rattle.std.proofs.Common.{refl, true≢false, sym, ◌∙◌}
-use Rattle.dt_graph.specs.Graph.{GraphView}
+use Rattle.dt_waits.specs.Graph.{GraphView}
 use Rattle.dt_graph.specs.Held.{kept_of}
 use Rattle.dt_graph.proofs.Asked.{named_not_stuck, stuck_more, unnamed_not_stuck}
 use Rattle.dt_graph.proofs.graph.Graph.stuck_of.Goals as goal
@@ -7,7 +7,7 @@ use Rattle.dt_graph.proofs.graph.Graph.stuck_of.Goals.{in_default-via-in-Some+el
 
 pub returns-in_default : goal.returns-in_default
 returns-in_default c =
-    let g : GraphView = kept_of c.self.inside.names.ids c.self.inside.waits c.self.inside.open.items in
+    let g : GraphView = kept_of c.self.inside.names.ids c.self.inside.waits c.self.inside.classes.items in
     rw (← c.self.view_is) elim c.in_default.branch [
       | in_default-via-in-Some+else-has w ↦
           named_not_stuck g _ _ _ c.self.invariant.stuck_within c.loop-id-test.true refl _ w.in-Some.ensures.once w.in-Some.ensures.number

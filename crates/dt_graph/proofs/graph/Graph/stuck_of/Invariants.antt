@@ -1,5 +1,5 @@
 use Rattle.std.proofs.Common.{take}
-use Rattle.dt_graph.specs.Graph.{AreVerticesOf}
+use Rattle.dt_waits.specs.Graph.{AreVerticesOf}
 use Rattle.dt_graph.proofs.graph.Graph.stuck_of.Given as goal
 
 abbrev pub invariant-loop-id : goal.invariant-loop-id

@@ -1,4 +1,4 @@
-use Rattle.dt_graph.proofs.Keeping.{keeping_first}
+use Rattle.dt_waits.proofs.Callers.{keeping_first}
 use Rattle.dt_graph.proofs.sched.QueueSchedScheduler.empty.Goals as goal
 
 pub invariant_of-result : goal.invariant_of-result

@@ -1,4 +1,4 @@
-use Rattle.dt_graph.proofs.Keeping.{ready_executable}
+use Rattle.dt_waits.proofs.Callers.{ready_executable}
 use Rattle.dt_graph.proofs.sched.QueueSchedScheduler.executable.Goals as goal
 
 pub returns : goal.returns

@@ -1,6 +1,6 @@
 use Rattle.std.proofs.Common.{sym, subst}
 use Rattle.dt_sched.specs.Sched.{CanExecute}
-use Rattle.dt_graph.proofs.Keeping.{keeping_finish}
+use Rattle.dt_waits.proofs.Callers.{keeping_finish}
 use Rattle.dt_graph.proofs.sched.QueueSchedScheduler.finish.Goals as goal
 
 pub invariant_of-self : goal.invariant_of-self

@@ -5,7 +5,8 @@ use Rattle.dt_lists.proofs.Callers.{all_get}
 use Rattle.dt_access.specs.declared.Part.{Part}
 use Rattle.dt_sched.specs.Views.{log_at}
 use Rattle.dt_sched.specs.Sched.{CanInsert}
-use Rattle.dt_graph.proofs.Keeping.{keeping_back, keeping_pushed, not_none, popped, when_err, when_ok}
+use Rattle.dt_waits.proofs.Callers.{keeping_back, keeping_pushed}
+use Rattle.dt_graph.proofs.Pushed.{not_none, popped, when_err, when_ok}
 use Rattle.dt_graph.proofs.sched.QueueSchedScheduler.insert.Goals as goal
 use Rattle.dt_graph.proofs.sched.QueueSchedScheduler.insert.Goals.{in-Some, in-None}
 

@@ -1,4 +1,4 @@
-use Rattle.dt_graph.proofs.Keeping.{next_ready_told}
+use Rattle.dt_waits.proofs.Callers.{next_ready_told}
 use Rattle.dt_graph.proofs.sched.QueueSchedScheduler.next_ready.Goals as goal
 
 pub returns : goal.returns

@@ -1,6 +1,6 @@
 use Rattle.std.proofs.Common.{sym, subst}
 use Rattle.dt_sched.specs.Sched.{CanResolve}
-use Rattle.dt_graph.proofs.Keeping.{keeping_resolve}
+use Rattle.dt_waits.proofs.Callers.{keeping_resolve}
 use Rattle.dt_graph.proofs.sched.QueueSchedScheduler.resolve.Goals as goal
 
 pub invariant_of-self-2 : goal.invariant_of-self-2

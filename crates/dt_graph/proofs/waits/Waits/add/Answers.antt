@@ -1,16 +1,23 @@
 use Rattle.std.proofs.Common.{◌≡◌, ◌≤◌, ◌∙◌, ◌-◌, ℕ, suc, [], length, sym, ap, subst, arith}
-use Rattle.dt_graph.specs.Steps.{Enters, Sorts}
+use Rattle.dt_waits.specs.Steps.{AreEntriesBelow}
+use Rattle.dt_waits.proofs.Callers.{degree_of_new}
+use Rattle.dt_graph.specs.SmallSteps.{Enters, Sorts}
 use Rattle.dt_graph.proofs.Grown.{added_first}
 use Rattle.dt_graph.proofs.waits.Waits.add.Goals as goal
+
+pub enter-requires-clause-counted : goal.enter-requires-clause-counted
+enter-requires-clause-counted c =
+    let old = c.args.self.now in
+    sym (degree_of_new old.queues c.len-vertex.result (subst (λ n. AreEntriesBelow n old.queues) (sym (c.len-vertex.ensures ∙ old.vertices.ok.0)) c.requires.below))
 
 pub returns-clause-added : goal.returns-clause-added
 returns-clause-added c ids classes size once fresh =
     let old = c.args.self.now in let new = c.sort.new.self in let part = c.args.part.now in
     let same = c.sort.ensures.same in
     let v = c.len-vertex.result in
-    let entered : Enters part.home v part.keys old.queues new.queues [] c.enter.new.slots 0 c.in_ok-degree.degree =
-    subst (λ q. Enters part.home v part.keys old.queues q [] c.enter.new.slots 0 c.in_ok-degree.degree) (sym (ap (λ w. w.queues) same))
-    (subst (λ s. Enters part.home v part.keys old.queues c.enter.new.queues s c.enter.new.slots 0 c.in_ok-degree.degree) c.new-slots.ensures c.in_ok-degree.ensures.entered) in
+    let entered : Enters part.home v part.keys old.queues new.queues [] c.enter.new.slots c.in_ok-degree.degree =
+    subst (λ q. Enters part.home v part.keys old.queues q [] c.enter.new.slots c.in_ok-degree.degree) (sym (ap (λ w. w.queues) same))
+    (subst (λ s. Enters part.home v part.keys old.queues c.enter.new.queues s c.enter.new.slots c.in_ok-degree.degree) c.new-slots.ensures c.in_ok-degree.ensures.entered) in
     let sorted : Sorts v new.vertices.items new.degrees.items old.ready old.stuck new.ready new.stuck =
     subst (λ l. Sorts v l new.degrees.items old.ready old.stuck new.ready new.stuck) (sym (ap (λ w. w.vertices.items) same))
     (subst (λ l. Sorts v c.push_reserved.new.items.items l old.ready old.stuck new.ready new.stuck) (sym (ap (λ w. w.degrees.items) same)) c.sort.ensures.sorted) in

@@ -2,7 +2,7 @@ use Rattle.std.proofs.Common.{◌≡◌, ◌<◌, ◌⊎◌, ◌↔◌, ℕ, len
 use Rattle.std.proofs.lemmas.List.{get_or_read, take_all}
 use Rattle.dt_lists.specs.Lists.{Has}
 use Rattle.dt_lists.proofs.Callers.{all_get}
-use Rattle.dt_graph.specs.Graph.{vertex_at}
+use Rattle.dt_waits.specs.Graph.{vertex_at}
 use Rattle.dt_graph.specs.Subset.{PutsIn}
 use Rattle.dt_graph.proofs.Along.{item_in}
 use Rattle.dt_graph.proofs.Putting.{IsPutting, first_readied, none_readied, putting_on, resolves_held}

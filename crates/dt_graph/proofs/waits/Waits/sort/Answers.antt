@@ -1,6 +1,6 @@
 use Rattle.std.proofs.Common.{◌≡◌, ◌≢◌, None, [], ap, sym, get_or, ◌∙◌}
 use Rattle.std.proofs.lemmas.List.{get_or_read}
-use Rattle.dt_graph.specs.Graph.{vertex_at}
+use Rattle.dt_waits.specs.Graph.{vertex_at}
 use Rattle.dt_graph.proofs.Sorting.{sorts_ready, sorts_stuck}
 use Rattle.dt_graph.proofs.waits.Waits.sort.Goals as goal
 

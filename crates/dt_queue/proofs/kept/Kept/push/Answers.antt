@@ -14,12 +14,12 @@ use Rattle.dt_queue.proofs.kept.Kept.push.Goals as goal
 pub returns-in_err-row-clause-kept : goal.returns-in_err-row-clause-kept
 returns-in_err-row-clause-kept c =
     let k = c.args.self.now in
-    kept_same k _ c.requires c.in_err-row.ensures.linked c.in_err-row.ensures.kept (λ s. refl) refl (λ m p. same_lanes (record k { rows = c.row.new.self }) k refl refl refl m p)
+    kept_same k _ c.requires.kept c.in_err-row.ensures.linked c.in_err-row.ensures.kept (λ s. refl) refl (λ m p. same_lanes (record k { rows = c.row.new.self }) k refl refl refl m p)
 
 pub returns-in_err-reserve-clause-kept : goal.returns-in_err-reserve-clause-kept
 returns-in_err-reserve-clause-kept c =
     let k = c.args.self.now in
-    kept_same k _ c.requires c.in_ok-row.ensures.linked c.in_ok-row.ensures.kept (λ s. ap (λ (x : Slab Cell). get x s) c.in_err-reserve.ensures.rest_kept) refl
+    kept_same k _ c.requires.kept c.in_ok-row.ensures.linked c.in_ok-row.ensures.kept (λ s. ap (λ (x : Slab Cell). get x s) c.in_err-reserve.ensures.rest_kept) refl
     (λ m p. same_lanes (record k { cells = c.reserve.new.self; rows = c.row.new.self }) k refl refl refl m p)
 
 pub add_mark-requires : goal.add_mark-requires
@@ -28,7 +28,7 @@ add_mark-requires c =
     let mid : Kept = record k { cells = c.reserve.new.self; rows = c.row.new.self } in
     record {
       row_in = omega (arith, place_within c.row.new.self.names.keys c.in_ok-row.row _ c.in_ok-row.ensures.found, c.in_ok-row.ensures.linked.each_row);
-      last = rw (same_lanes mid k refl refl refl c.args.mode (place_at c.row.new.self c.args.mode c.in_ok-row.row)) (all_before k c.requires c.args.mode (place_at c.row.new.self c.args.mode c.in_ok-row.row));
+      last = rw (same_lanes mid k refl refl refl c.args.mode (place_at c.row.new.self c.args.mode c.in_ok-row.row)) (all_before k c.requires.kept c.args.mode (place_at c.row.new.self c.args.mode c.in_ok-row.row));
     }
 
 pub returns-in_err-add_mark-clause-kept : goal.returns-in_err-add_mark-clause-kept
@@ -36,7 +36,7 @@ returns-in_err-add_mark-clause-kept c =
     let k = c.args.self.now in
     let mid : Kept = record k { cells = c.reserve.new.self; rows = c.row.new.self } in
     let same = c.in_err-add_mark.ensures.same in
-    kept_same k c.add_mark.new.self c.requires (subst AreRowsLinked (sym same.rows) c.in_ok-row.ensures.linked) (subst (KeepsRows k.rows) (sym same.rows) c.in_ok-row.ensures.kept)
+    kept_same k c.add_mark.new.self c.requires.kept (subst AreRowsLinked (sym same.rows) c.in_ok-row.ensures.linked) (subst (KeepsRows k.rows) (sym same.rows) c.in_ok-row.ensures.kept)
     (λ s. ap (λ (x : Slab Cell). get x s) same.cells ∙ ap (λ (x : Slab Cell). get x s) c.in_ok-reserve.ensures.rest_kept) same.number (λ m p. same.lanes m p ∙ same_lanes mid k refl refl refl m p)
 
 pub returns-in_err-add_mark-clause-rows : goal.returns-in_err-add_mark-clause-rows
@@ -57,8 +57,8 @@ returns-clause-kept c =
     let cell : Cell = record { row = c.in_ok-row.row; mode = c.args.mode; vertex = c.args.vertex; number = k.next_number } in
     let added = c.in_ok-add_mark.ensures.added in
     let e = c.insert_reserved.ensures.key ∙ ap (λ (x : Slab Cell). x.vacant_key) added.cells ∙ sym c.vacant_key-slot.ensures.value in
-    let within : k.next_number + 1 < 2 ^ 64 = omega (arith, c.if-number.false, c.requires.last) in
-    (push_steps k mid marked n c.vacant_key-slot.result cell c.requires c.in_ok-row.ensures.linked c.in_ok-row.ensures.kept (λ s. ap (λ (x : Slab Cell). get x s) c.in_ok-reserve.ensures.rest_kept)
+    let within : k.next_number + 1 < 2 ^ 64 = omega (arith, c.requires.left) in
+    (push_steps k mid marked n c.vacant_key-slot.result cell c.requires.kept c.in_ok-row.ensures.linked c.in_ok-row.ensures.kept (λ s. ap (λ (x : Slab Cell). get x s) c.in_ok-reserve.ensures.rest_kept)
     (λ m p. same_lanes mid k refl refl refl m p) added refl (λ m p. same_lanes n marked refl refl refl m p) (subst (λ s. Updates marked.cells n.cells s (Some cell)) e c.insert_reserved.ensures.updates)
     (subst (λ s. get marked.cells s ≡ None) e c.insert_reserved.ensures.was_vacant) refl refl within (place_within c.row.new.self.names.keys c.in_ok-row.row _ c.in_ok-row.ensures.found)).0
 

@@ -1,0 +1,5 @@
+mod Dealing
+pub mod AccountKeys
+pub mod Ranges
+pub mod ValidLoad
+pub mod Callers

@@ -1,0 +1,83 @@
+-- Numbers in a row: what holds of each, when what is made of them is distinct, and sums over them.
+use Rattle.std.proofs.Common.{◌≡◌, ◌≢◌, ℕ, zero, suc, ◌+◌, ◌<◌, ◌≤◌, Bool, true, false, cond, ◌&&◌, ◌==◌, List, [], ◌∷◌, ◌++◌, map, refl, sym, ap, ◌∙◌, arith}
+use Rattle.std.specs.List.{range_with_len, sum_by, count_by, list_all}
+use Rattle.std.proofs.lemmas.List.Sums.{sum_by-cons}
+use Rattle.std.proofs.lemmas.List.FromFn.{map-range_with_len_more}
+use Rattle.std.proofs.lemmas.List.{map-id}
+use Rattle.std.proofs.lemmas.Bool.Decides.{nat_tests}
+use Rattle.dt_lists.specs.Lists.{AllIn, Distinct}
+
+-- what holds of each number of a row
+pub all_in_row : (P : ℕ → Type 0) (a n : ℕ) → ((q : ℕ) → a ≤ q → q < a + n → P q) → AllIn P (range_with_len a n)
+all_in_row P a zero each = tt
+all_in_row P a (suc n) each = (each a (omega arith) (omega arith), all_in_row P (a + 1) n (λ q low high. each q (omega arith) (omega arith)))
+
+-- where a test that computes passes all, it passes each
+pub each_passes : (test : ℕ → Bool) (a n : ℕ) → list_all test (range_with_len a n) ≡ true → (q : ℕ) → a ≤ q → q < a + n → test q ≡ true
+each_passes test a zero all q low high = absurd (omega arith)
+each_passes test a (suc n) all q low high =
+    let two : (test a ≡ true) × (list_all test (range_with_len (a + 1) n) ≡ true) = both (test a) (list_all test (range_with_len (a + 1) n)) all in
+    by (q == a) refl two.0 (λ above. each_passes test (a + 1) n two.1 q above (omega arith))
+  where
+    both : (b c : Bool) → (b && c) ≡ true → (b ≡ true) × (c ≡ true)
+    both true c e = (refl, e)
+    both false c e = absurd cc
+
+    by : (same : Bool) → (q == a) ≡ same → test a ≡ true → (a + 1 ≤ q → test q ≡ true) → test q ≡ true
+    by true e here later = let is : q ≡ a = grind (arith, nat_tests) in ap test is ∙ here
+    by false e here later = later (grind (arith, nat_tests))
+
+-- different numbers make different things
+pub distinct_row : {B : Type 0} (f : ℕ → B) (a n : ℕ) → ((p q : ℕ) → a ≤ p → p < q → q < a + n → f p ≢ f q) → Distinct (map f (range_with_len a n))
+distinct_row f a zero apart = tt
+distinct_row f a (suc n) apart = (others (a + 1) n (omega arith) (omega arith), distinct_row f (a + 1) n (λ p q low below high. apart p q (omega arith) below (omega arith)))
+  where
+    others : (b m : ℕ) → a < b → b + m ≤ a + suc n → AllIn (λ y. ¬ (f a ≡ y)) (map f (range_with_len b m))
+    others b zero above within = tt
+    others b (suc m) above within = (apart a b (omega arith) above (omega arith), others (b + 1) m (omega arith) (omega arith))
+
+-- one number more in a row
+pub row_more : (n : ℕ) → range_with_len 0 (n + 1) ≡ range_with_len 0 n ++ n ∷ []
+row_more n = sym (map-id (range_with_len 0 (n + 1))) ∙ map-range_with_len_more (λ x. x) 0 n n (omega arith) ∙ ap (λ l. l ++ n ∷ []) (map-id (range_with_len 0 n))
+
+-- a number of a row stands in it once
+pub once_in_row : (k a n : ℕ) → a ≤ k → k < a + n → count_by (λ j. k == j) (range_with_len a n) ≡ 1
+once_in_row k a zero low high = absurd (omega arith)
+once_in_row k a (suc n) low high = by (k == a) refl (λ above. once_in_row k (a + 1) n above (omega arith))
+  where
+    past : (b m : ℕ) → k < b → count_by (λ j. k == j) (range_with_len b m) ≡ 0
+    past b zero h = refl
+    past b (suc m) h =
+        let off : (k == b) ≡ false = grind (arith, nat_tests) in
+        sum_by-cons (λ j. cond (k == j) 1 0) b (range_with_len (b + 1) m) ∙ ap (λ c. cond c 1 0 + count_by (λ j. k == j) (range_with_len (b + 1) m)) off
+        ∙ (let rest = past (b + 1) m (omega arith) in omega (arith, rest))
+
+    by : (c : Bool) → (k == a) ≡ c → (a + 1 ≤ k → count_by (λ j. k == j) (range_with_len (a + 1) n) ≡ 1) → count_by (λ j. k == j) (range_with_len a (suc n)) ≡ 1
+    by true e later =
+        let is : k ≡ a = grind (arith, nat_tests) in
+        let rest = past (a + 1) n (omega arith) in
+        let first = sum_by-cons (λ j. cond (k == j) 1 0) a (range_with_len (a + 1) n) ∙ ap (λ c. cond c 1 0 + count_by (λ j. k == j) (range_with_len (a + 1) n)) e in
+        omega (arith, rest, first)
+    by false e later =
+        let above : a + 1 ≤ k = grind (arith, nat_tests) in
+        let first = sum_by-cons (λ j. cond (k == j) 1 0) a (range_with_len (a + 1) n) ∙ ap (λ c. cond c 1 0 + count_by (λ j. k == j) (range_with_len (a + 1) n)) e in
+        omega (arith, later above, first)
+
+-- the sum of sums
+pub sum_by-both : {X : Type 0} (f g : X → ℕ) (xs : List X) → sum_by (λ x. f x + g x) xs ≡ sum_by f xs + sum_by g xs
+sum_by-both f g [] = omega arith
+sum_by-both f g (x ∷ xs) =
+    let all = sum_by-cons (λ x. f x + g x) x xs in
+    let ones = sum_by-cons f x xs in
+    let others = sum_by-cons g x xs in
+    omega (arith, all, ones, others, sum_by-both f g xs)
+
+-- the sum over an image
+pub sum_by-image : {X Y : Type 0} (g : Y → ℕ) (f : X → Y) (xs : List X) → sum_by g (map f xs) ≡ sum_by (λ x. g (f x)) xs
+sum_by-image g f [] = refl
+sum_by-image g f (x ∷ xs) = sum_by-cons g (f x) (map f xs) ∙ ap (λ n. g (f x) + n) (sum_by-image g f xs) ∙ sym (sum_by-cons (λ x. g (f x)) x xs)
+
+-- sums of equal things
+pub sum_by-same : {X : Type 0} (f g : X → ℕ) (xs : List X) → ((x : X) → f x ≡ g x) → sum_by f xs ≡ sum_by g xs
+sum_by-same f g [] same = refl
+sum_by-same f g (x ∷ xs) same = sum_by-cons f x xs ∙ ap (λ n. n + sum_by f xs) (same x) ∙ ap (λ n. g x + n) (sum_by-same f g xs same) ∙ sym (sum_by-cons g x xs)

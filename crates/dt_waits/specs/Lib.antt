@@ -1,0 +1,5 @@
+pub mod Left
+pub mod Waits
+pub mod Graph
+pub mod Steps
+pub mod Among
