@@ -4,7 +4,7 @@ ghost use Rattle.dt_txn.specs.Transaction.{homes_of};
 
 use dt_access::{Access, Mode, TxnId};
 use dt_events::put_event;
-use dt_graph::QueueSched;
+use dt_plain::PlainSched;
 use dt_region::Region;
 use dt_table::Table;
 use dt_text::Key;
@@ -15,7 +15,7 @@ use std::test::Fail;
 /// Whether a region of two that has done nothing has nothing to resolve, and keeps no event.
 fn has_nothing_to_do(alloc: Global) -> Result<bool, Fail> {
     let table = Table::new(alloc, 1, 2, &[], &[])?;
-    let region: Region<QueueSched> = Region::new(alloc, 0, 2, table)?;
+    let region: Region<PlainSched> = Region::new(alloc, 0, 2, table)?;
     Ok(region.next_class(alloc)?.is_none() && region.events().is_empty())
 }
 
@@ -50,7 +50,7 @@ fn a_move(alloc: Global) -> Result<Txn, Fail>
 /// last event, whether it is drained, and its events, each behind its stamp.
 fn asked_to_place(alloc: Global, number: u32, heard: u32) -> Result<Vec<u8>, Fail> {
     let table = Table::new(alloc, 1, 2, &[], &[])?;
-    let mut region: Region<QueueSched> = Region::new(alloc, 0, 2, table)?;
+    let mut region: Region<PlainSched> = Region::new(alloc, 0, 2, table)?;
     let txn = a_move(alloc)?;
     region.hear(u64::from(heard));
     let placed = region.append(alloc, 1, number, &txn)?;

@@ -6,7 +6,7 @@ ghost use Rattle.dt_test_world.specs.Led.{HasLed};
 
 use dt_cluster::{Cluster, ClusterError, read_cluster};
 use dt_events::{Event, put_event, read_events};
-use dt_graph::QueueSched;
+use dt_plain::PlainSched;
 use dt_report::print;
 use dt_text::NoMemory;
 use dt_workload::{Workload, WorkloadError, read_workload};
@@ -48,7 +48,7 @@ pub fn workload_of(alloc: Global, cluster: &Cluster, file: &[u8]) -> Result<Work
 
 /// Makes an event, and adds it to those that were made, if it is legal. Gives its rule where it is refused.
 fn make(
-    world: &mut World<QueueSched>,
+    world: &mut World<PlainSched>,
     alloc: Global,
     made: &mut Vec<Event>,
     event: Event,
@@ -73,7 +73,7 @@ fn make(
 }
 
 /// A world, the events that led to it, and the line and the rule of each that was refused on the way.
-type Played = (World<QueueSched>, Vec<Event>, Vec<u8>);
+type Played = (World<PlainSched>, Vec<Event>, Vec<u8>);
 
 /// Makes the events of a file one after another, as far as they are legal.
 fn play(alloc: Global, cluster: &Cluster, workload: &Workload, file: &[u8]) -> Result<Played, Fail>
