@@ -1,11 +1,6 @@
-use Rattle.std.proofs.Common.{rules, ◌≡◌, List, ℕ, ◌+◌, ◌-◌, ◌*◌, ◌<◌, ◌≤◌, length, ◌/◌, ◌%◌, Bool, true, false, nat_eq, nat_lt, [], ◌∷◌, ◌++◌, slice_index_or, slice_set, bit_and, bit_or, Fits, w8, w32, w64, Bor, MutBor}
-use Rattle.dt_access.specs.declared.TxnId.{TxnId}
-use Rattle.dt_proc.specs.Tree.{ProcTree}
-use Rattle.dt_sched.specs.Sched.{CanExecute}
-use Rattle.dt_region.specs.Conditions.{CanMove, HoldsValid}
-use Rattle.dt_region.specs.Region.{HasStamp, sched_of}
-use Rattle.dt_region.specs.Sound.{IsSoundRegion}
-use Rattle.dt_round.specs.Steps.{InsertsSome, StepsOn}
+use Rattle.std.proofs.Common.{◌≡◌, Ok, sym, ap, subst, ◌∙◌}
+use Rattle.dt_region.specs.Region.{RegionView}
+use Rattle.dt_round.specs.Steps.{IsOwnStep, StepsOn}
 use Rattle.dt_round.proofs.alone.AloneRoundsRegion.round.Goals as goal
 use Rattle.dt_round.proofs.Underway.{at_first, moves_left, one_less, one_more, stamp_left}
 
@@ -26,8 +21,15 @@ step-requires-clause-moves g c = moves_left c.args.procs.now c.args.region.now c
 
 -- src/alone.rt:26:9
 pub steps-smaller : goal.steps-smaller
-steps-smaller g c = ?
+steps-smaller g c =
+    let made : IsOwnStep c.args.procs.now c.steps.region c.step.new.region = subst (λ b. StepsOn c.args.procs.now c.steps.region (Ok b) c.step.new.region) c.if-not-branch.false c.in_ok-step.ensures.steps in
+    one_less c.args.procs.now c.args.region.now c.steps.region c.steps.invariant.underway c.step.new.region made c.in_ok-step.ensures.sound
 
 -- src/alone.rt:26:9
 pub steps-preserved : goal.steps-preserved
-steps-preserved g c = ?
+steps-preserved g c =
+    let made : IsOwnStep c.args.procs.now c.steps.region c.step.new.region = subst (λ b. StepsOn c.args.procs.now c.steps.region (Ok b) c.step.new.region) c.if-not-branch.false c.in_ok-step.ensures.steps in
+    record {
+      underway = one_more c.args.procs.now c.args.region.now c.steps.region c.steps.invariant.underway c.step.new.region made c.in_ok-step.ensures.sound;
+      regions = c.steps.invariant.regions ∙ sym (ap (λ (r : RegionView). r.state.regions) made.makes.1);
+    }
