@@ -59,6 +59,8 @@ fn report_of(
 {
     let world = world_after(alloc, cluster, workload, events.as_slice())?;
     let report = world.report(alloc, without_numbers(alloc, events)?)?;
+    // The text is long: it gets the memory of the world.
+    drop(world);
     Ok(print(alloc, &report)?)
 }
 

@@ -2,13 +2,15 @@ ghost use Rattle.std.specs.Prelude.{◌≡◌, [], ◌∷◌, ◌++◌, IfOk, On
 ghost use Rattle.dt_access.specs.Orders.{AreAscendingHomes};
 
 use dt_text::NoMemory;
+use smallvec::SmallVec;
 use std::alloc::Global;
 use std::marker::Model;
 
-/// Homes in ascending order; so none stands twice.
+/// Homes in ascending order; so none stands twice. Up to eight of them lie in the list itself, and take no memory when they
+/// are copied.
 #[derive(Debug, Drop)]
 pub struct Homes {
-    items: Vec<u8>,
+    items: SmallVec<u8, 8>,
 }
 
 impl Model for Homes {
@@ -28,7 +30,7 @@ impl Homes {
         ensures { result ≡ [] }
     {
         Homes {
-            items: Vec::new(alloc),
+            items: SmallVec::new(alloc),
         }
     }
 
@@ -37,16 +39,9 @@ impl Homes {
         requires { AreAscendingHomes items.items }
         ensures { result ≡ items.items }
     {
-        Homes { items }
-    }
-
-    /// Gives the homes back as a vector. Takes no memory.
-    pub fn into_vec(self) -> Vec<u8>
-        ensures same { result.items ≡ self }
-        ensures ascending { AreAscendingHomes self }
-    {
-        let Homes { items } = self;
-        items
+        Homes {
+            items: SmallVec::from_vec(items),
+        }
     }
 
     /// Adds a home that is greater than all held ones; after `NoMemory` the list is as before.
@@ -72,7 +67,7 @@ impl Homes {
         ensures { IfOk result (λ copied. copied ≡ self.now) }
     {
         Ok(Homes {
-            items: Vec::from_slice(alloc, self.items.as_slice())?,
+            items: SmallVec::from_slice(alloc, self.items.as_slice())?,
         })
     }
 }

@@ -3,6 +3,8 @@ ghost use Rattle.dt_access.specs.Ids.{Before, ReadsId, id_text};
 
 use crate::copies::TryCopy;
 use dt_text::{NoMemory, read_u32};
+use itoa::Buffer;
+use smallvec::SmallVec;
 use std::alloc::Global;
 
 /// The id of a transaction: the number of the submission in its region, counted from 1, and that region.
@@ -58,7 +60,11 @@ pub fn put_id(alloc: Global, out: &mut Vec<u8>, id: TxnId) -> Result<(), NoMemor
     ensures added { OnOk result (out.new.items ≡ out.old.items ++ id_text id) }
     ensures same { OnErr result (out.new.items ≡ out.old.items) }
 {
-    let text = format!(in alloc; "{}.{}", id.seq, id.region)?;
-    out.extend_from_slice(text.as_bytes())?;
+    let mut text: SmallVec<u8, 14> = SmallVec::new(alloc);
+    let mut buffer = Buffer::new();
+    text.extend_from_slice(buffer.format(id.seq).as_bytes())?;
+    text.push(b'.')?;
+    text.extend_from_slice(buffer.format(id.region).as_bytes())?;
+    out.extend_from_slice(text.as_slice())?;
     Ok(())
 }

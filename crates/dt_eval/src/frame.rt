@@ -147,6 +147,7 @@ impl Frame {
         ensures answer { RunReaches (after_gifts self.old.rows.0 (map give_tree items.now) (seen self.old)) self.new result }
         ensures names { OnOk result (self.new.rows.0 ≡ self.old.rows.0) }
     {
+        self.given.reserve(items.len())?;
         for item in items {
             let value = self.gift(alloc, item)?;
             self.given.push(value)?;

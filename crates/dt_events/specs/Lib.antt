@@ -1,3 +1,4 @@
 pub mod Events
 pub mod Reading
 pub mod Laws
+pub mod Stamps

@@ -48,6 +48,13 @@ pub enum Event {
     },
 }
 
+/// An event with the stamp under which its region keeps it. The stamps of a region's events rise.
+#[derive(Drop)]
+pub struct Stamped {
+    pub stamp: u64,
+    pub event: Event,
+}
+
 impl Event {
     /// An equal event.
     pub fn copy(&self, alloc: Global) -> Result<Self, NoMemory>

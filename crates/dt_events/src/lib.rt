@@ -1,7 +1,7 @@
 //! Events: the atomic steps of regions, and their text.
 //!
-//! Read next: `specs/Events.antt`, how each kind of event is written and what a file of events is. When an event may happen,
-//! and what it does, is said in `dt_session`.
+//! Read next: `specs/Events.antt`, how each kind of event is written and what a file of events is, and `specs/Stamps.antt`, how
+//! a region numbers its events. When an event may happen, and what it does, is said in `dt_session`.
 #![tactic(auto)]
 
 mod event;
@@ -10,7 +10,7 @@ mod printed;
 mod reader;
 mod words;
 
-pub use event::Event;
+pub use event::{Event, Stamped};
 pub use laws::{
     events_have_no_fault, files_are_one_list, files_have_an_outcome, files_have_one_fault,
     lines_are_one_event, printed_events_read_back,

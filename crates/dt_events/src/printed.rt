@@ -101,11 +101,12 @@ fn ids_text(alloc: Global, kind: &[u8], region: u8, ids: &[TxnId]) -> Result<Vec
     Ok(text)
 }
 
-/// The first two words of an event: its kind and its region.
+/// The first two words of an event: its kind and its region. There is room for a line as most are.
 fn begun(alloc: Global, kind: &[u8], region: u8) -> Result<Vec<u8>, NoMemory>
     ensures { IfOk result (λ text. text.items ≡ kind.now ++ 32 ∷ decimal region) }
 {
-    let mut text = Vec::from_slice(alloc, kind)?;
+    let mut text = Vec::with_capacity(alloc, 64)?;
+    text.extend_from_slice(kind)?;
     put_number(alloc, &mut text, u32::from(region))?;
     Ok(text)
 }

@@ -15,7 +15,9 @@ use Rattle.dt_agreement.proofs.Callers.{legal_keeps}
 use Rattle.dt_merge.specs.Own.{Own, own, HasGrown, IsSupplied, source_of}
 use Rattle.dt_merge.specs.WorldRegions.{HasInvariant, world_regions}
 use Rattle.dt_merge.specs.Regional.{Regions, after_all, AreLegalIn, AllChangeIn, AreLocal, IsRescheduling, Rescheduled}
-use Rattle.dt_merge.specs.Merge.{Stamped, events_of, region_at, those_at, kept_at, HasLowerStamp, ComesBefore, AreKept, IsMerge, IsFed, IsChronicle}
+use Rattle.dt_events.specs.declared.Stamped.{Stamped}
+use Rattle.dt_events.specs.Stamps.{events_of}
+use Rattle.dt_merge.specs.Merge.{region_at, those_at, kept_at, HasLowerStamp, ComesBefore, AreKept, IsMerge, IsFed, IsChronicle}
 use Rattle.dt_merge.proofs.Reordering.{rescheduled, rescheduled_whole}
 use Rattle.dt_merge.proofs.Worlds.{world_local}
 use Rattle.dt_merge.proofs.MergeLists.{merge_keeps, not_above}

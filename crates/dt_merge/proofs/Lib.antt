@@ -1,14 +1,15 @@
-mod Cuts
-mod Reordering
-mod SideBySide
-mod OwnParts
-mod Frames
-mod OwnSteps
-mod Growing
-mod LocalEvents
-mod Worlds
-mod MergeLists
-mod Chronicles
-mod Weighing
-mod Bound
-mod MergesExist
+pub mod Cuts
+pub mod Reordering
+pub mod SideBySide
+pub mod OwnParts
+pub mod Frames
+pub mod OwnSteps
+pub mod Growing
+pub mod LocalEvents
+pub mod Worlds
+pub mod MergeLists
+pub mod Chronicles
+pub mod Weighing
+pub mod Bound
+pub mod MergesExist
+pub mod Callers

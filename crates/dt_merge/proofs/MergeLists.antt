@@ -4,7 +4,8 @@ use Rattle.std.proofs.Common.{refl, sym, ap, subst, ◌∙◌, inl, inr, arith, 
 use Rattle.std.proofs.lemmas.List.{get_or-set_same, get_or-set_other}
 use Rattle.dt_lists.specs.Lists.{EachThen, Has, Either}
 use Rattle.dt_lists.proofs.Callers.{all_get, all_put, ascending_same, each_map, either_nat, filter_each, has_filter, has_of_filtered}
-use Rattle.dt_merge.specs.Merge.{Stamped, region_at, those_at, kept_at, HasLowerStamp, ComesBefore, AreKept, IsMerge}
+use Rattle.dt_events.specs.declared.Stamped.{Stamped}
+use Rattle.dt_merge.specs.Merge.{region_at, those_at, kept_at, HasLowerStamp, ComesBefore, AreKept, IsMerge}
 
 before_irreflexive : (x : Stamped) → ¬ (ComesBefore x x)
 before_irreflexive x (inl lt) = let n : ⊥ = omega arith in n

@@ -2,7 +2,8 @@
 use Rattle.std.proofs.Common.{◌≡◌, ◌<◌, ◌⊎◌, ℕ, zero, suc, List, [], ◌∷◌, length, get_or, sym, subst, inl, inr, arith}
 use Rattle.dt_lists.specs.Lists.{AllIn, EachThen, Has}
 use Rattle.dt_lists.proofs.Callers.{IsPicked, all_get, all_map, all_put}
-use Rattle.dt_merge.specs.Merge.{Stamped, region_at, kept_at, HasLowerStamp, ComesBefore, AreKept, IsMerge}
+use Rattle.dt_events.specs.declared.Stamped.{Stamped}
+use Rattle.dt_merge.specs.Merge.{region_at, kept_at, HasLowerStamp, ComesBefore, AreKept, IsMerge}
 use Rattle.dt_merge.proofs.MergeLists.{before_transitive, region_of_kept}
 
 -- one of the two comes first

@@ -3,25 +3,17 @@
 -- is: all of it, in ascending order of stamps, and of regions where stamps are equal (`IsMerge`). It is to be read as one
 -- run, though the events were made side by side. How they came about is told by a chronicle (`IsChronicle`): one list in the
 -- order in which they were made. Read next: src/laws.rt, that the merge is a legal list, which leads to the same world.
-use Rattle.std.specs.Prelude.{◌≡◌, ◌<◌, ◌==◌, ◌⊎◌, ◌↔◌, ℕ, List, [], ◌++◌, map, filter, get_or, Some}
+use Rattle.std.specs.Prelude.{◌≡◌, ◌<◌, ◌==◌, ◌⊎◌, ◌↔◌, ℕ, List, [], ◌++◌, filter, get_or, Some}
 use Rattle.dt_lists.specs.Lists.{AllIn, EachThen, Has}
-use Rattle.dt_events.specs.declared.Event.{Event}
+use Rattle.dt_events.specs.declared.Stamped.{Stamped}
 use Rattle.dt_events.specs.Events.{region_of}
+use Rattle.dt_events.specs.Stamps.{events_of}
 use Rattle.dt_cluster.specs.declared.Cluster.{Cluster}
 use Rattle.dt_workload.specs.declared.Workload.{Workload}
 use Rattle.dt_session.specs.World.{opening_world}
 use Rattle.dt_session.specs.Run.{AreLegal, world_after}
 use Rattle.dt_session.specs.Eager.{AllChange}
 use Rattle.dt_merge.specs.Own.{source_of, IsSupplied}
-
--- an event with its stamp
-pub record Stamped : Type 0 where
-  pub stamp : ℕ
-  pub event : Event
-
--- the events, without their stamps
-abbrev pub events_of : List Stamped → List Event
-events_of items = map (λ x. x.event) items
 
 -- the region of a stamped event
 abbrev pub region_at : Stamped → ℕ

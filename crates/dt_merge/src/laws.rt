@@ -2,7 +2,9 @@
 ghost use Rattle.std.specs.Prelude.{◌≡◌, ◌≢◌, ◌⊎◌, ◌<◌, ◌≤◌, ◌+◌, ℕ, List, [], ◌∷◌, Some, length, set};
 ghost use Rattle.dt_access.specs.declared.TxnId.{TxnId};
 ghost use Rattle.dt_events.specs.Events.{region_of};
+ghost use Rattle.dt_events.specs.Stamps.{events_of};
 ghost use Rattle.dt_events.specs.declared.Event.{Event};
+ghost use Rattle.dt_events.specs.declared.Stamped.{Stamped};
 ghost use Rattle.dt_cluster.specs.Valid.{IsValidCluster};
 ghost use Rattle.dt_cluster.specs.declared.Cluster.{Cluster};
 ghost use Rattle.dt_workload.specs.Valid.{IsValidWorkload};
@@ -15,7 +17,7 @@ ghost use Rattle.dt_merge.specs.Own.{HasGrown, HaveGrown, IsSupplied, own, sourc
 ghost use Rattle.dt_merge.specs.Weight.{most_events, weight, world_weight};
 ghost use Rattle.dt_merge.specs.WorldRegions.{HasInvariant, world_regions};
 ghost use Rattle.dt_merge.specs.Regional.{AreLegalIn, AreSideBySide, AreTurns, IsRescheduling, Rescheduled, after_all};
-ghost use Rattle.dt_merge.specs.Merge.{AreKept, ComesBefore, IsChronicle, IsMerge, Stamped, events_of, kept_at, those_at};
+ghost use Rattle.dt_merge.specs.Merge.{AreKept, ComesBefore, IsChronicle, IsMerge, kept_at, those_at};
 
 /// An event leaves what is the own of other regions.
 pub fn frame()

@@ -1,6 +1,6 @@
 -- What a region holds it goes on holding, while it submits and gets more; and what it keeps of others comes to the same,
 -- whether it looks among all that it holds, or knows that what is of its own region it submitted.
-use Rattle.std.proofs.Common.{◌≡◌, ◌≢◌, ℕ, true, false, cond, List, [], ◌∷◌, ◌++◌, map, take, Option, Some, None, refl, sym, ap, subst, ◌∙◌, inl, inr, is_some, if◌then◌else◌}
+use Rattle.std.proofs.Common.{◌≡◌, ◌≢◌, ℕ, true, false, cond, List, [], ◌∷◌, ◌++◌, map, take, Some, None, refl, sym, ap, subst, ◌∙◌, inl, inr, is_some, if◌then◌else◌}
 use Rattle.std.specs.Prelude.{slice_index}
 use Rattle.std.proofs.lemmas.Bool.{false≢true}
 use Rattle.dt_lists.specs.Lists.{AllIn, Has, Distinct}

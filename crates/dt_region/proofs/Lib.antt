@@ -13,3 +13,6 @@ pub mod Rule3Deliver
 pub mod Rule4Insert
 pub mod Rule5Resolve
 pub mod Rule6Execute
+pub mod Drained
+pub mod Stamps
+pub mod StepSound

@@ -7,7 +7,7 @@ use Rattle.dt_lists.proofs.Callers.{all_more}
 use Rattle.dt_access.specs.declared.TxnId.{TxnId}
 use Rattle.dt_sched.specs.Views.{log_at}
 use Rattle.dt_sched.specs.Sched.{Sched}
-use Rattle.dt_events.specs.declared.Event.{Event}
+use Rattle.dt_events.specs.declared.Stamped.{Stamped}
 use Rattle.dt_events.specs.declared.Event.TheVariants.{Submit}
 use Rattle.dt_txn.specs.declared.txn.Body.{Body}
 use Rattle.dt_txn.specs.declared.txn.Txn.{Txn}
@@ -15,11 +15,11 @@ use Rattle.dt_proc.specs.Tree.{ProcTree}
 use Rattle.dt_txn.specs.Transaction.{annotate, homes_of, BodyFits, IsValid}
 use Rattle.dt_txn.specs.Asking.{ask}
 use Rattle.dt_txn.proofs.Callers.{ask_length}
-use Rattle.dt_region.specs.Region.{RegionState, RegionView, find_txn, held}
+use Rattle.dt_region.specs.Region.{RegionState, RegionView, latest_stamp, find_txn, held}
 use Rattle.dt_region.specs.Rules.{id_for, txn_for, after_submit, MakesSubmit}
 use Rattle.dt_region.specs.Sound.{AreCounted, IsSoundRegion, IsHeldPart}
 use Rattle.dt_region.specs.RegionInner.{AreWell}
-use Rattle.dt_region.proofs.Seen.{IsSeenAs}
+use Rattle.dt_region.proofs.Seen.{IsSeenAs, kept_under, under}
 use Rattle.dt_region.proofs.Find.{found_or_none, find_left, find_right, find_only, counted_at, apart}
 use Rattle.dt_access.proofs.Callers.{test_of_other}
 use Rattle.dt_region.proofs.Tables.{annotate_valid}
@@ -74,7 +74,7 @@ module _ (procs : List ProcTree) (s : RegionState) (sound : IsSoundRegion s) (ra
 
 -- The region has the state s and these events, and contracts see it as r: what the call makes of its fields is what the
 -- rule says.
-module _ (procs : List ProcTree) (r : RegionView) (s : RegionState) (events : List Event) (seen : Sched) (stands : IsSeenAs s events seen r)
+module _ (procs : List ProcTree) (r : RegionView) (s : RegionState) (events : List Stamped) (heard : ℕ) (seen : Sched) (stands : IsSeenAs s events heard seen r)
     (rank : ℕ) (body : Body) (fits : BodyFits procs r.state.here.table.version r.state.regions body) where
   fits_here : BodyFits procs s.here.table.version s.regions body
   fits_here = subst (λ x. BodyFits procs x.state.here.table.version x.state.regions body) (sym stands.view) fits
@@ -100,5 +100,9 @@ module _ (procs : List ProcTree) (r : RegionView) (s : RegionState) (events : Li
     pub submit_keeps : AreWell (made submitted asked) seen
     submit_keeps = subst (λ x. AreWell x seen) (sym submit_is) (submit_sound procs s stands.well.0 rank body fits_here, stands.well.1)
 
-    pub submit_made : (session : List ℕ) (after : List Event) → after ≡ events ++ Submit s.number session ∷ [] → MakesSubmit procs r session rank body (Ok id) (record { state = made submitted asked; events = after })
-    submit_made session after kept = subst (λ x. MakesSubmit procs x session rank body (Ok id) (record { state = made submitted asked; events = after })) stands.view (i, λ j. record { state = submit_is j; events = kept j })
+    pub submit_made : (session : List ℕ) (stamp : ℕ) (is_next : stamp ≡ latest_stamp r + 1) (after : List Stamped)
+        → after ≡ events ++ under stamp (Submit s.number session) ∷ []
+        → MakesSubmit procs r session rank body (Ok id) (record { state = made submitted asked; events = after; heard = heard })
+    submit_made session stamp is_next after kept =
+        subst (λ x. MakesSubmit procs x session rank body (Ok id) (record { state = made submitted asked; events = after; heard = heard })) stands.view
+        (i, λ j. record { state = submit_is j; events = kept_under stands (Submit s.number session) stamp after is_next kept j; heard = heard })

@@ -13,17 +13,17 @@ use Rattle.dt_sched.specs.Views.{View, log_at, ids_of, HasPart}
 use Rattle.dt_sched.specs.Decide.{IsSound}
 use Rattle.dt_sched.specs.Sched.{Sched, with_part}
 use Rattle.dt_sched.proofs.Callers.{log_with_part}
-use Rattle.dt_events.specs.declared.Event.{Event}
+use Rattle.dt_events.specs.declared.Stamped.{Stamped}
 use Rattle.dt_events.specs.declared.Event.TheVariants.{Append}
 use Rattle.dt_txn.specs.declared.txn.Txn.{Txn}
 use Rattle.dt_txn.specs.Transaction.{part_of}
-use Rattle.dt_region.specs.Region.{RegionState, RegionView, sched_of}
+use Rattle.dt_region.specs.Region.{RegionState, RegionView, latest_stamp, sched_of}
 use Rattle.dt_txn.specs.Replica.{view_of, done_ids, taken_from}
 use Rattle.dt_region.specs.Rules.{keep, after_append, MakesAppend}
 use Rattle.dt_region.specs.Conditions.{CanAppend}
 use Rattle.dt_region.specs.Sound.{AreCounted, IsSoundRegion, IsHeldPart}
 use Rattle.dt_region.specs.RegionInner.{AreWell}
-use Rattle.dt_region.proofs.Seen.{IsSeenAs}
+use Rattle.dt_region.proofs.Seen.{IsSeenAs, kept_under, under}
 use Rattle.dt_region.proofs.Held.{hold_keeps, hold_holds, hold_foreign, hold_homes}
 use Rattle.dt_txn.proofs.Callers.{fronts_grown}
 use Rattle.dt_region.proofs.Logs.{log_few, parts_with}
@@ -123,7 +123,7 @@ module _ (s : RegionState) (sound : IsSoundRegion s) (source number : ℕ) (txn 
 
 -- The region has the state s and these events, and contracts see it as r: what the call makes of its fields is what the
 -- rule says.
-module _ (r : RegionView) (s : RegionState) (events : List Event) (seen : Sched) (stands : IsSeenAs s events seen r)
+module _ (r : RegionView) (s : RegionState) (events : List Stamped) (heard : ℕ) (seen : Sched) (stands : IsSeenAs s events heard seen r)
     (source number : ℕ) (txn : Txn) (known : source < r.state.regions) (can : CanAppend r.state source number txn) (turn : number ≡ taken_from r.state.here source) where
   can_here : CanAppend s source number txn
   can_here = subst (λ x. CanAppend x.state source number txn) (sym stands.view) can
@@ -157,5 +157,9 @@ module _ (r : RegionView) (s : RegionState) (events : List Event) (seen : Sched)
     pub append_keeps : AreWell (made foreign logs) seen
     append_keeps = subst (λ x. AreWell x seen) (sym append_is) (append_well s stands.well.0 source number txn (subst (λ x. source < x.state.regions) (sym stands.view) known) can_here turn_here seen stands.well.1)
 
-    pub append_made : (after : List Event) → after ≡ events ++ Append s.number source number ∷ [] → MakesAppend r source number txn (Ok true) (record { state = made foreign logs; events = after })
-    append_made after kept = subst (λ x. MakesAppend x source number txn (Ok true) (record { state = made foreign logs; events = after })) stands.view (turn_here, λ j. record { state = append_is j; events = kept j })
+    pub append_made : (stamp : ℕ) (is_next : stamp ≡ latest_stamp r + 1) (after : List Stamped)
+        → after ≡ events ++ under stamp (Append s.number source number) ∷ []
+        → MakesAppend r source number txn (Ok true) (record { state = made foreign logs; events = after; heard = heard })
+    append_made stamp is_next after kept =
+        subst (λ x. MakesAppend x source number txn (Ok true) (record { state = made foreign logs; events = after; heard = heard })) stands.view
+        (turn_here, λ j. record { state = append_is j; events = kept_under stands (Append s.number source number) stamp after is_next kept j; heard = heard })

@@ -9,7 +9,7 @@ use Rattle.dt_lists.proofs.Callers.{all_get, all_put}
 use Rattle.dt_lists.proofs.Callers.{has_place}
 use Rattle.dt_lists.proofs.Callers.{either_nat}
 use Rattle.dt_access.specs.declared.Part.{Part}
-use Rattle.dt_events.specs.declared.Event.{Event}
+use Rattle.dt_events.specs.declared.Stamped.{Stamped}
 use Rattle.dt_events.specs.declared.Event.TheVariants.{Insert}
 use Rattle.dt_sched.specs.Views.{View, log_at, HasPart}
 use Rattle.dt_sched.specs.Decide.{IsSound}
@@ -18,11 +18,11 @@ use Rattle.dt_sched.proofs.Callers.{sound_insert}
 use Rattle.dt_txn.specs.declared.txn.Txn.{Txn}
 use Rattle.dt_txn.specs.Transaction.{homes_of}
 use Rattle.dt_txn.specs.Replica.{fronts, view_of, done_ids}
-use Rattle.dt_region.specs.Region.{RegionState, RegionView, held, sched_of}
+use Rattle.dt_region.specs.Region.{RegionState, RegionView, latest_stamp, held, sched_of}
 use Rattle.dt_region.specs.Rules.{after_step, MakesStep}
 use Rattle.dt_region.specs.Sound.{IsSoundRegion, IsHeldPart}
 use Rattle.dt_region.specs.RegionInner.{AreWell}
-use Rattle.dt_region.proofs.Seen.{IsSeenAs}
+use Rattle.dt_region.proofs.Seen.{IsSeenAs, kept_under, under}
 use Rattle.dt_region.proofs.Held.{held_homes, view_parts}
 use Rattle.dt_txn.proofs.Callers.{fronts_at}
 use Rattle.dt_region.proofs.Logs.{fronts_length, fronts_insert, fronts_few, parts_with, next_fresh, all_logs, log_few}
@@ -93,7 +93,7 @@ module _ (s : RegionState) (sound : IsSoundRegion s) (home : ℕ) (part : Part) 
   abbrev after : RegionState
   after = record s { here = record s.here { inserted = lengths } }
 
-  insert_sound : IsSoundRegion after
+  pub insert_sound : IsSoundRegion after
   insert_sound = record {
     number = sound.number;
     regions = sound.regions;
@@ -119,7 +119,7 @@ module _ (s : RegionState) (sound : IsSoundRegion s) (home : ℕ) (part : Part) 
 
 -- The region has the state s and these events, and contracts see it as r: what the call makes of its fields is what the
 -- rule says.
-module _ (r : RegionView) (s : RegionState) (events : List Event) (seen : Sched) (stands : IsSeenAs s events seen r)
+module _ (r : RegionView) (s : RegionState) (events : List Stamped) (heard : ℕ) (seen : Sched) (stands : IsSeenAs s events heard seen r)
     (home : ℕ) (known : home < r.state.regions) (part : Part) (next : slice_get (log_at r.state.logs home) (slice_index r.state.here.inserted home) ≡ Some part) where
   known_here : home < s.regions
   known_here = subst (λ x. home < x.state.regions) (sym stands.view) known
@@ -153,7 +153,10 @@ module _ (r : RegionView) (s : RegionState) (events : List Event) (seen : Sched)
     pub insert_keeps : AreWell (made place now) now
     insert_keeps = subst (λ x. AreWell x now) (sym insert_is) (insert_well s stands.well.0 home part known_here next_here now now_is)
 
-    pub insert_made : (after : List Event) → after ≡ events ++ Insert s.number home ∷ [] → MakesStep [] r (Insert r.state.number home) (Ok true) (record { state = made place now; events = after })
-    insert_made after kept =
+    pub insert_made : (stamp : ℕ) (is_next : stamp ≡ latest_stamp r + 1) (after : List Stamped)
+        → after ≡ events ++ under stamp (Insert s.number home) ∷ []
+        → MakesStep [] r (Insert r.state.number home) (Ok true) (record { state = made place now; events = after; heard = heard })
+    insert_made stamp is_next after kept =
         let may : slice_index s.here.inserted home < length (log_at s.logs home) = slice_get_within (log_at s.logs home) (slice_index s.here.inserted home) part next_here in
-        subst (λ x. MakesStep [] x (Insert x.state.number home) (Ok true) (record { state = made place now; events = after })) stands.view (may, λ j. record { state = insert_is j; events = kept j })
+        subst (λ x. MakesStep [] x (Insert x.state.number home) (Ok true) (record { state = made place now; events = after; heard = heard })) stands.view
+        (may, λ j. record { state = insert_is j; events = kept_under stands (Insert s.number home) stamp after is_next kept j; heard = heard })

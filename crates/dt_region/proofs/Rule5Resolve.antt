@@ -1,19 +1,19 @@
 -- Rule 5: what a resolution makes of a region's fields is what the rule says, and keeps the region sound. Its scheduler
 -- goes along.
-use Rattle.std.proofs.Common.{◌≡◌, Ok, true, List, [], ◌∷◌, ◌++◌, sym, ap, subst, ◌∙◌}
+use Rattle.std.proofs.Common.{◌≡◌, ◌+◌, ℕ, Ok, true, List, [], ◌∷◌, ◌++◌, sym, ap, subst, ◌∙◌}
 use Rattle.dt_access.specs.declared.TxnId.{TxnId}
-use Rattle.dt_events.specs.declared.Event.{Event}
+use Rattle.dt_events.specs.declared.Stamped.{Stamped}
 use Rattle.dt_events.specs.declared.Event.TheVariants.{Resolve}
 use Rattle.dt_sched.specs.Sched.{Sched, CanResolve, after_resolve}
 use Rattle.dt_sched.proofs.Callers.{sound_resolve}
 use Rattle.dt_txn.specs.Replica.{view_of, done_ids}
-use Rattle.dt_region.specs.Region.{RegionState, RegionView, sched_of}
+use Rattle.dt_region.specs.Region.{RegionState, RegionView, latest_stamp, sched_of}
 use Rattle.dt_region.specs.Rules.{MakesStep}
 use Rattle.dt_region.specs.Sound.{IsSoundRegion}
 use Rattle.dt_region.specs.RegionInner.{AreWell}
-use Rattle.dt_region.proofs.Seen.{IsSeenAs}
+use Rattle.dt_region.proofs.Seen.{IsSeenAs, kept_under, under}
 
-resolve_sound : (s : RegionState) → IsSoundRegion s → (ids : List TxnId) → CanResolve (sched_of s.logs s.here) ids → IsSoundRegion (record s { here = record s.here { resolved = s.here.resolved ++ ids ∷ [] } })
+pub resolve_sound : (s : RegionState) → IsSoundRegion s → (ids : List TxnId) → CanResolve (sched_of s.logs s.here) ids → IsSoundRegion (record s { here = record s.here { resolved = s.here.resolved ++ ids ∷ [] } })
 resolve_sound s sound ids may = record {
   number = sound.number;
   regions = sound.regions;
@@ -36,7 +36,7 @@ resolve_sound s sound ids may = record {
 
 -- The region has the state s and these events, and contracts see it as r: what the call makes of its fields is what the
 -- rule says.
-module _ (r : RegionView) (s : RegionState) (events : List Event) (seen : Sched) (stands : IsSeenAs s events seen r) (ids : List TxnId) (can : CanResolve seen ids) where
+module _ (r : RegionView) (s : RegionState) (events : List Stamped) (heard : ℕ) (seen : Sched) (stands : IsSeenAs s events heard seen r) (ids : List TxnId) (can : CanResolve seen ids) where
   abbrev made : Sched → RegionState
   made now = record s { here = record s.here { resolved = now.resolved } }
 
@@ -50,5 +50,9 @@ module _ (r : RegionView) (s : RegionState) (events : List Event) (seen : Sched)
     pub resolve_keeps : AreWell (made now) now
     resolve_keeps = subst (λ x. AreWell x now) (sym (ap made now_is)) (resolve_sound s stands.well.0 ids may, now_is)
 
-    pub resolve_made : (after : List Event) → after ≡ events ++ Resolve s.number ids ∷ [] → MakesStep [] r (Resolve r.state.number ids) (Ok true) (record { state = made now; events = after })
-    resolve_made after kept = subst (λ x. MakesStep [] x (Resolve x.state.number ids) (Ok true) (record { state = made now; events = after })) stands.view (may, λ j. record { state = made (now_is j); events = kept j })
+    pub resolve_made : (stamp : ℕ) (is_next : stamp ≡ latest_stamp r + 1) (after : List Stamped)
+        → after ≡ events ++ under stamp (Resolve s.number ids) ∷ []
+        → MakesStep [] r (Resolve r.state.number ids) (Ok true) (record { state = made now; events = after; heard = heard })
+    resolve_made stamp is_next after kept =
+        subst (λ x. MakesStep [] x (Resolve x.state.number ids) (Ok true) (record { state = made now; events = after; heard = heard })) stands.view
+        (may, λ j. record { state = made (now_is j); events = kept_under stands (Resolve s.number ids) stamp after is_next kept j; heard = heard })

@@ -1,10 +1,10 @@
 -- Rule 6: what an execution makes of a region's fields is what the rule says, and keeps the region sound. Its scheduler
 -- goes along.
-use Rattle.std.proofs.Common.{◌≡◌, ◌<◌, ◌≤◌, arith, ℕ, Ok, true, List, [], ◌∷◌, ◌++◌, map, Some, refl, sym, ap, subst, ◌∙◌}
+use Rattle.std.proofs.Common.{◌≡◌, ◌<◌, ◌≤◌, ◌+◌, arith, ℕ, Ok, true, List, [], ◌∷◌, ◌++◌, map, Some, refl, sym, ap, subst, ◌∙◌}
 use Rattle.dt_lists.specs.Lists.{Has}
 use Rattle.dt_access.specs.declared.Part.{Part}
 use Rattle.dt_access.specs.declared.TxnId.{TxnId}
-use Rattle.dt_events.specs.declared.Event.{Event}
+use Rattle.dt_events.specs.declared.Stamped.{Stamped}
 use Rattle.dt_events.specs.declared.Event.TheVariants.{Execute}
 use Rattle.dt_sched.specs.Views.{View, log_at, HasParts}
 use Rattle.dt_sched.specs.Decide.{IsExecutable, IsSound}
@@ -19,12 +19,12 @@ use Rattle.dt_txn.specs.declared.outcome.Outcome.{Outcome}
 use Rattle.dt_txn.specs.Execution.{one}
 use Rattle.dt_txn.specs.Replica.{view_of, done_ids, executed}
 use Rattle.dt_txn.proofs.Callers.{few_places, moves_unit}
-use Rattle.dt_region.specs.Region.{RegionState, RegionView, held, sched_of}
+use Rattle.dt_region.specs.Region.{RegionState, RegionView, latest_stamp, held, sched_of}
 use Rattle.dt_region.specs.Rules.{after_step, MakesStep}
 use Rattle.dt_region.specs.Conditions.{CanMove, HoldsValid}
 use Rattle.dt_region.specs.Sound.{IsSoundRegion, IsHeldPart}
 use Rattle.dt_region.specs.RegionInner.{AreWell}
-use Rattle.dt_region.proofs.Seen.{IsSeenAs}
+use Rattle.dt_region.proofs.Seen.{IsSeenAs, kept_under, under}
 use Rattle.dt_region.proofs.Held.{held_id, view_parts}
 use Rattle.dt_region.proofs.Tables.{after_table, one_place}
 
@@ -47,7 +47,7 @@ module _ (procs : List ProcTree) (s : RegionState) (sound : IsSoundRegion s) (ho
   done_now : done_ids after.here ≡ done_ids s.here ++ id ∷ []
   done_now = ids_done s.here.done (txn.id, (one procs txn s.here.table).0) ∙ ap (λ i. done_ids s.here ++ i ∷ []) (held_id s id txn e)
 
-  execute_sound : IsSoundRegion after
+  pub execute_sound : IsSoundRegion after
   execute_sound = record {
     number = sound.number;
     regions = sound.regions;
@@ -73,7 +73,8 @@ module _ (procs : List ProcTree) (s : RegionState) (sound : IsSoundRegion s) (ho
 
 -- The region has the state s and these events, and contracts see it as r: what the call makes of its fields is what the
 -- rule says.
-module _ (procs : List ProcTree) (r : RegionView) (s : RegionState) (events : List Event) (seen : Sched) (stands : IsSeenAs s events seen r) (holds : HoldsValid procs r.state) (id : TxnId) (can : CanExecute seen id) where
+module _ (procs : List ProcTree) (r : RegionView) (s : RegionState) (events : List Stamped) (heard : ℕ) (seen : Sched) (stands : IsSeenAs s events heard seen r)
+    (holds : HoldsValid procs r.state) (id : TxnId) (can : CanExecute seen id) where
   may_here : CanExecute (sched_of s.logs s.here) id
   may_here = subst (λ x. CanExecute x id) stands.well.1 can
 
@@ -128,7 +129,10 @@ module _ (procs : List ProcTree) (r : RegionView) (s : RegionState) (events : Li
       pub execute_keeps : AreWell (made now done table) now
       execute_keeps = subst (λ x. AreWell x now) (sym ran_so) (execute_well procs s stands.well.0 valid_here id may_here txn_here held_here.1 now now_is)
 
-      pub execute_made : (after : List Event) → after ≡ events ++ Execute s.number id ∷ [] → MakesStep procs r (Execute r.state.number id) (Ok true) (record { state = made now done table; events = after })
-      execute_made after kept =
+      pub execute_made : (stamp : ℕ) (is_next : stamp ≡ latest_stamp r + 1) (after : List Stamped)
+          → after ≡ events ++ under stamp (Execute s.number id) ∷ []
+          → MakesStep procs r (Execute r.state.number id) (Ok true) (record { state = made now done table; events = after; heard = heard })
+      execute_made stamp is_next after kept =
           let state : made now done table ≡ after_step procs s (Execute s.number id) = ran_so ∙ ap (λ o. record s { here = executed procs s.here o }) (sym held_here.1) in
-          subst (λ x. MakesStep procs x (Execute x.state.number id) (Ok true) (record { state = made now done table; events = after })) stands.view (may_here, λ j. record { state = state j; events = kept j })
+          subst (λ x. MakesStep procs x (Execute x.state.number id) (Ok true) (record { state = made now done table; events = after; heard = heard })) stands.view
+          (may_here, λ j. record { state = state j; events = kept_under stands (Execute s.number id) stamp after is_next kept j; heard = heard })

@@ -1,11 +1,12 @@
 -- What one region is: its number, the transactions that it knows, the logs as far as it received them, and what it made
 -- of them. What it asked, placed, inserted, resolved and executed, with its table, stands in its `Replica`, which the
 -- world's definitions use too, so that the rules mean the same in both. Read next: `Rules`, for how each rule changes it.
-use Rattle.std.specs.Prelude.{ℕ, List, [], ◌∷◌, ◌++◌, Option, Some, None, if◌then◌else◌}
+use Rattle.std.specs.Prelude.{◌<◌, ◌^◌, ℕ, List, [], ◌∷◌, ◌++◌, max, Option, Some, None, if◌then◌else◌}
 use Rattle.std.specs.Map.{lookup}
 use Rattle.dt_access.specs.Ids.{same_id}
 use Rattle.dt_access.specs.declared.TxnId.{TxnId}
-use Rattle.dt_events.specs.declared.Event.{Event}
+use Rattle.dt_events.specs.declared.Stamped.{Stamped}
+use Rattle.dt_events.specs.Stamps.{last_stamp}
 use Rattle.dt_sched.specs.Views.{View}
 use Rattle.dt_sched.specs.Sched.{Sched}
 use Rattle.dt_txn.specs.declared.txn.Txn.{Txn}
@@ -26,10 +27,21 @@ pub record RegionState : Type 0 where
   -- what it asked and placed, and what it made of the logs
   pub here : Replica
 
--- a region, as contracts see it: what it holds, and the events that it made, in order
+-- a region, as contracts see it: what it holds, the events that it made, in order, each with its stamp, and the greatest
+-- stamp that it heard of from others, or 0
 pub record RegionView : Type 0 where
   pub state : RegionState
-  pub events : List Event
+  pub events : List Stamped
+  pub heard : ℕ
+
+-- the greatest stamp that a region knows of: that of its last event, or one that it heard of; its next event gets the one
+-- above
+abbrev pub latest_stamp : RegionView → ℕ
+latest_stamp r = max (last_stamp r.events) r.heard
+
+-- a region has a stamp for one event more: stamps are numbers of 64 bits, of which the upper ones stay free
+abbrev pub HasStamp : RegionView → Type 0
+HasStamp r = latest_stamp r < 2 ^ 62
 
 -- the transaction of an id among these, if there is one
 abbrev pub find_txn : List Txn → TxnId → Option Txn

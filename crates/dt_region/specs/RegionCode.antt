@@ -13,8 +13,8 @@ use Rattle.dt_txn.specs.contracts.outcome.Outcome as outcome
 use Rattle.dt_txn.specs.declared.txn.Txn.{Txn}
 use Rattle.dt_txn.specs.declared.outcome.Outcome.{Outcome}
 use Rattle.dt_txn.specs.Replica.{Replica}
-use Rattle.dt_events.specs.contracts.event.Event as event
-use Rattle.dt_events.specs.declared.Event.{Event}
+use Rattle.dt_events.specs.contracts.event.Stamped as stamped
+use Rattle.dt_events.specs.declared.Stamped.{Stamped}
 use Rattle.dt_region.specs.Region.{RegionState, RegionView}
 
 -- the code of lists of lists of ids
@@ -53,4 +53,5 @@ state_code = code_by (ℕ × (ℕ × (List Txn × (List Txn × (List (List Part)
 
 -- a region is stored as its fields
 abbrev pub region_code : Coded RegionView
-region_code = code_by (RegionState × List Event) (coded× state_code (coded_list event.the_row.coded)) (λ k. (k.state, k.events)) (λ p. record { state = p.0; events = p.1 }) (λ _. refl)
+region_code = code_by (RegionState × (List Stamped × ℕ)) (coded× state_code (coded× (coded_list stamped.the_row.coded) coded_ℕ)) (λ k. (k.state, (k.events, k.heard)))
+    (λ p. record { state = p.0; events = p.1.0; heard = p.1.1 }) (λ _. refl)

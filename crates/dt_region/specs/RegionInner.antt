@@ -1,6 +1,8 @@
 -- Only proofs need this file: how a region keeps what contracts see of it, and what its type says of its fields. Skip it;
 -- read `Region` for what callers see, and `Sound` for what every region keeps.
-use Rattle.std.specs.Prelude.{◌≡◌}
+use Rattle.std.specs.Prelude.{◌≡◌, ℕ, length, slice_index}
+use Rattle.dt_sched.specs.Views.{View, log_at}
+use Rattle.dt_txn.specs.Replica.{Replica}
 use Rattle.dt_sched.specs.Sched.{Sched}
 use Rattle.dt_region.specs.Region.{RegionState, RegionView, sched_of}
 use Rattle.dt_region.specs.Sound.{IsSoundRegion}
@@ -26,7 +28,7 @@ state_in seen a = record {
 
 -- the region that is kept in these fields
 abbrev pub region_in : {S : Type 0} → (S → Sched) → Inside S → RegionView
-region_in seen a = record { state = state_in seen a; events = a.events.items }
+region_in seen a = record { state = state_in seen a; events = a.events.items; heard = a.heard }
 
 -- the region is sound, and its scheduler has what the region inserted, resolved and has done
 abbrev pub AreWell : RegionState → Sched → Type 0
@@ -35,3 +37,7 @@ AreWell s seen = IsSoundRegion s × (seen ≡ sched_of s.logs s.here)
 -- what the type of a region says of its fields
 abbrev pub IsWell : {S : Type 0} → (S → Sched) → Inside S → Type 0
 IsWell seen a = AreWell (state_in seen a) (seen a.scheduler)
+
+-- all that was received of these logs is inserted
+abbrev pub HasInsertedAll : View → Replica → Type 0
+HasInsertedAll received here = (home : ℕ) → slice_index here.inserted home ≡ length (log_at received home)

@@ -19,7 +19,7 @@ use Rattle.dt_txn.specs.declared.txn.Txn.{Txn}
 use Rattle.dt_txn.specs.declared.txn.Entry.{Entry}
 use Rattle.dt_txn.specs.Transaction.{part_of}
 use Rattle.dt_txn.specs.Replica.{MayStep, stepped, opening_replica, next_id, submission_for, after_asking, taken_from, after_taking}
-use Rattle.dt_region.specs.Region.{RegionState, RegionView, find_txn, held}
+use Rattle.dt_region.specs.Region.{RegionState, RegionView, find_txn, held, latest_stamp}
 
 -- a region before anything happens, in a cluster of so many regions, with this table
 abbrev pub opening_state : ℕ → ℕ → Table → RegionState
@@ -99,9 +99,13 @@ after_step procs s event = record s { here = stepped procs (held s) s.here event
 -- From here on: how each call is answered, and what the region is after it, its events with it. After `NoMemory` it is
 -- always as before.
 
--- the region in its new state, with one event more
+-- the region in its new state, with one event more, whose stamp is one above all that it knows of
 abbrev pub with_event : RegionView → RegionState → Event → RegionView
-with_event r state event = record { state = state; events = r.events ++ event ∷ [] }
+with_event r state event = record {
+  state = state;
+  events = r.events ++ record { stamp = latest_stamp r + 1; event = event } ∷ [];
+  heard = r.heard;
+}
 
 -- a submission answers the id that the transaction got, which is the next one of the region
 abbrev pub MakesSubmit : List ProcTree → RegionView → List ℕ → ℕ → Body → Result TxnId NoMemory → RegionView → Type 0
@@ -117,17 +121,18 @@ MakesAppend r source number txn (Ok true) after =
 MakesAppend r source number txn (Ok false) after = (number ≢ taken_from r.state.here source) × (after ≡ r)
 MakesAppend r source number txn (Err e) after = after ≡ r
 
--- of a delivery nothing is taken across a gap, and old entries change nothing; otherwise the last n of them, those past
--- the log's end, are new, and the event goes from its own first place to the new end of the log
-abbrev pub MakesDelivery : RegionView → ℕ → ℕ → List Entry → Result Taken NoMemory → RegionView → Type 0
-MakesDelivery r home first entries (Ok Gap) after = (length (log_at r.state.logs home) < first) × (after ≡ r)
-MakesDelivery r home first entries (Ok Old) after =
+-- A delivery begins at place `begin` of a home's log, and given of it are the entries from place `first` on. Nothing is
+-- taken across a gap, and old entries change nothing; otherwise the last n of the entries, those past the log's end, are
+-- new, and the event goes from the place where the delivery begins to the new end of the log.
+abbrev pub MakesDelivery : RegionView → ℕ → ℕ → ℕ → List Entry → Result Taken NoMemory → RegionView → Type 0
+MakesDelivery r home begin first entries (Ok Gap) after = (length (log_at r.state.logs home) < first) × (after ≡ r)
+MakesDelivery r home begin first entries (Ok Old) after =
     (first ≤ length (log_at r.state.logs home)) × (first + length entries ≤ length (log_at r.state.logs home)) × (after ≡ r)
-MakesDelivery r home first entries (Ok (New n)) after =
+MakesDelivery r home begin first entries (Ok (New n)) after =
     (first ≤ length (log_at r.state.logs home)) × (length (log_at r.state.logs home) < first + length entries)
     × (length (log_at r.state.logs home) + n ≡ first + length entries)
-    × (after ≡ with_event r (after_deliver r.state home first entries) (Deliver r.state.number home first (first + length entries)))
-MakesDelivery r home first entries (Err e) after = after ≡ r
+    × (after ≡ with_event r (after_deliver r.state home first entries) (Deliver r.state.number home begin (first + length entries)))
+MakesDelivery r home begin first entries (Err e) after = after ≡ r
 
 -- a step of its own (insert, resolve, execute) is made exactly where it may be made, and nothing changes otherwise
 abbrev pub MakesStep : List ProcTree → RegionView → Event → Result Bool NoMemory → RegionView → Type 0

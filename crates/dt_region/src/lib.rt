@@ -15,7 +15,9 @@
 //! | 6 | `execute` | a transaction has its outcome, and its effect on the region's table |
 //! | 7 | `answer` | a session has its answer, of which the region keeps the event alone |
 //!
-//! A call keeps its event where it changed something, and where it answers `NoMemory` nothing has changed. What a call
+//! A call keeps its event where it changed something, and where it answers `NoMemory` nothing has changed. The event's stamp
+//! is one above the greatest of the region's last stamp and all stamps that it heard of (`hear`). A region is `drained` where
+//! it has inserted all that it received, and may neither execute nor resolve anything; `dt_round` brings it there. What a call
 //! does is said in `specs/Rules.antt`, when it may be made in `specs/Conditions.antt`, and what holds of every region in
 //! `specs/Sound.antt`.
 //!

@@ -1,13 +1,15 @@
-ghost use Rattle.std.specs.Prelude.{◌≡◌, ◌<◌, ◌≤◌, [], ◌∷◌, ◌++◌, length, vec_len, vec_capacity, slice_index, slice_get, get_or, ℕ, ◌+◌, Some, IfOk};
+ghost use Rattle.std.specs.Prelude.{◌≡◌, ◌↔◌, ◌<◌, ◌≤◌, [], ◌∷◌, ◌++◌, length, max, vec_len, vec_capacity, slice_index, slice_get, get_or, ℕ, ◌+◌, Some, IsTrue, IfOk};
 ghost use Rattle.std.specs.Option.{option_copied};
+ghost use Rattle.dt_events.specs.Stamps.{last_stamp};
 ghost use Rattle.dt_events.specs.declared.Event.TheVariants.{Insert, Resolve, Execute};
 ghost use Rattle.dt_sched.specs.Views.{log_at};
-ghost use Rattle.dt_sched.specs.Sched.{IsNextClass};
+ghost use Rattle.dt_sched.specs.Sched.{IsNextClass, IsNextReady};
 ghost use Rattle.dt_txn.specs.declared.txn.Txn.{Txn};
 ghost use Rattle.dt_txn.specs.Execution.{one};
-ghost use Rattle.dt_txn.specs.Replica.{taken_from};
+ghost use Rattle.dt_txn.specs.Replica.{IsDrained, taken_from};
 ghost use Rattle.dt_txn.specs.Transaction.{BodyFits};
-ghost use Rattle.dt_region.specs.Region.{held, outcome_of, sched_of};
+ghost use Rattle.dt_region.specs.RegionInner.{HasInsertedAll};
+ghost use Rattle.dt_region.specs.Region.{HasStamp, held, latest_stamp, outcome_of, sched_of};
 ghost use Rattle.dt_region.specs.Rules.{opening_state, MakesSubmit, MakesAppend, MakesDelivery, MakesStep, MakesAnswer};
 ghost use Rattle.dt_region.specs.Conditions.{IsTableFor, CanAppend, CanDeliver, CanMove, HoldsValid};
 ghost use Rattle.dt_region.specs.Sound.{IsSoundRegion};
@@ -19,7 +21,7 @@ use crate::execution::{note_outcome, places_for};
 use crate::foreign::Foreign;
 use crate::opening::{no_counts, no_ids, no_parts};
 use dt_access::{Ids, TxnId};
-use dt_events::Event;
+use dt_events::{Event, Stamped};
 use dt_log::{Log, Taken};
 use dt_proc::Procs;
 use dt_sched::Scheduler;
@@ -32,8 +34,8 @@ use std::marker::Model;
 
 /// One region of a cluster. What it may execute and resolve is decided by its scheduler `S`.
 ///
-/// Contracts see its `state`, and as `events` the events that it made, in order. Its type keeps what `IsSoundRegion`
-/// says: in each log every id stands once, every part is that of the transaction which the region holds under its id,
+/// Contracts see its `state`, as `events` the events that it made, in order, each with its stamp, and as `heard` the
+/// greatest stamp that it heard of. Its type keeps what `IsSoundRegion` says: in each log every id stands once, every part is that of the transaction which the region holds under its id,
 /// all logs together have at most 4,294,967,295 parts, and what is resolved and done could be resolved and done.
 #[derive(Drop)]
 pub struct Region<S: Scheduler> {
@@ -48,7 +50,8 @@ pub struct Region<S: Scheduler> {
     done: IndexMap<TxnId, Outcome>,
     table: Table,
     scheduler: S,
-    events: Vec<Event>,
+    events: Vec<Stamped>,
+    heard: u64,
 }
 
 impl<S: Scheduler> Model for Region<S> {
@@ -73,7 +76,7 @@ impl<S: Scheduler> Region<S> {
         requires number { number < regions }
         requires regions { regions ≤ 8 }
         requires table { IsTableFor regions table.state }
-        ensures opening { IfOk result (λ region. region ≡ record { state = opening_state number regions table.state; events = [] }) }
+        ensures opening { IfOk result (λ region. region ≡ record { state = opening_state number regions table.state; events = []; heard = 0 }) }
         ensures sound { IfOk result (λ region. IsSoundRegion region.state) }
     {
         Ok(Region {
@@ -89,6 +92,7 @@ impl<S: Scheduler> Region<S> {
             table,
             scheduler: S::empty(alloc, regions)?,
             events: Vec::new(alloc),
+            heard: 0,
         })
     }
 
@@ -102,7 +106,8 @@ impl<S: Scheduler> Region<S> {
 
     /// How many regions there are. Takes no memory.
     pub fn regions(&self) -> u8
-        ensures { result ≡ self.now.state.regions }
+        ensures regions { result ≡ self.now.state.regions }
+        ensures sound { IsSoundRegion self.now.state }
     {
         self.regions
     }
@@ -165,11 +170,36 @@ impl<S: Scheduler> Region<S> {
         self.done.get(&id)
     }
 
-    /// The events that it made, in order. Takes no memory.
-    pub fn events(&self) -> &[Event]
+    /// The events that it made, in order, each with its stamp. Takes no memory.
+    pub fn events(&self) -> &[Stamped]
         ensures { result.now ≡ self.now.events }
     {
         self.events.as_slice()
+    }
+
+    /// The stamp of the last event that it made, or 0. Takes no memory.
+    pub fn stamp(&self) -> u64
+        ensures { result ≡ last_stamp self.now.events }
+    {
+        match self.events.as_slice().last() {
+            Some(last) => last.stamp,
+            None => 0,
+        }
+    }
+
+    /// Hears of a stamp: all its later events have greater ones. Takes no memory.
+    pub fn hear(&mut self, stamp: u64)
+        ensures { self.new ≡ record self.old { heard = max self.old.heard stamp } }
+    {
+        self.heard = self.heard.max(stamp);
+    }
+
+    // The stamp of its next event: one above its last event's and all that it heard of.
+    fn next_stamp(&self) -> u64
+        requires { HasStamp self.now }
+        ensures { result ≡ latest_stamp self.now + 1 }
+    {
+        self.stamp().max(self.heard) + 1
     }
 
     /// Submits a body of this rank for a session: it becomes the transaction of the region's next id, annotated by the
@@ -183,12 +213,14 @@ impl<S: Scheduler> Region<S> {
         body: Body,
         procs: &Procs,
     ) -> Result<TxnId, NoMemory>
+        requires stamp { HasStamp self.old }
         requires fits { BodyFits procs.now self.old.state.here.table.version self.old.state.regions body }
         requires rank { rank ≤ 9 }
         requires place { length self.old.state.submitted < 4294967295 }
         ensures makes { MakesSubmit procs.now self.old session.now rank body result self.new }
         ensures sound { IsSoundRegion self.new.state }
     {
+        let stamp = self.next_stamp();
         let id = TxnId {
             seq: self.submitted.len() as u32 + 1,
             region: self.number,
@@ -203,7 +235,7 @@ impl<S: Scheduler> Region<S> {
         self.submitted.reserve(1)?;
         ask(alloc, &mut self.asked, homes.as_slice(), id)?;
         add_last(&mut self.submitted, txn);
-        keep_event(&mut self.events, event);
+        keep_event(&mut self.events, stamp, event);
         Ok(id)
     }
 
@@ -219,6 +251,7 @@ impl<S: Scheduler> Region<S> {
         txn: &Txn,
     ) -> Result<bool, NoMemory>
         requires source { source < self.old.state.regions }
+        requires stamp { HasStamp self.old }
         requires can { CanAppend self.old.state source number txn.now }
         ensures makes { MakesAppend self.old source number txn.now result self.new }
         ensures sound { IsSoundRegion self.new.state }
@@ -239,6 +272,7 @@ impl<S: Scheduler> Region<S> {
         txn: Txn,
     ) -> Result<bool, NoMemory>
         requires source { source < self.old.state.regions }
+        requires stamp { HasStamp self.old }
         requires can { CanAppend self.old.state source number txn }
         ensures makes { MakesAppend self.old source number txn result self.new }
         ensures sound { IsSoundRegion self.new.state }
@@ -246,6 +280,7 @@ impl<S: Scheduler> Region<S> {
         if number != self.taken(source) {
             return Ok(false);
         }
+        let stamp = self.next_stamp();
         let home = self.number;
         let part = part_at(alloc, &txn, home)?;
         self.events.reserve(1)?;
@@ -255,6 +290,7 @@ impl<S: Scheduler> Region<S> {
         self.foreign.keep(home, txn);
         keep_event(
             &mut self.events,
+            stamp,
             Event::Append {
                 home,
                 source,
@@ -264,22 +300,27 @@ impl<S: Scheduler> Region<S> {
         Ok(true)
     }
 
-    /// Takes a delivery of a home's log: its entries from place `first` on. `New` where some stand past the end of what the
-    /// region has of that log: these are added, their transactions are held, and the event is kept, from `first` to the
-    /// log's new end. `Gap` where `first` itself stands past that end, and `Old` where no entry is new; then nothing
-    /// changes, and neither does after `NoMemory`.
+    /// Takes a delivery of a home's log that begins at place `begin`, of which the entries from place `first` on are given:
+    /// what the region has already need not be copied for it. `New` where some stand past the end of what the region has of
+    /// that log: these are added, their transactions are held, and the event is kept, from `begin` to the log's new end.
+    /// `Gap` where `first` itself stands past that end, and `Old` where no entry is new; then nothing changes, and neither
+    /// does after `NoMemory`.
     pub fn deliver(
         &mut self,
         alloc: Global,
         home: u8,
+        begin: u32,
         first: u32,
         entries: Vec<Entry>,
     ) -> Result<Taken, NoMemory>
+        requires stamp { HasStamp self.old }
         requires home { home < self.old.state.regions }
+        requires begins { begin ≤ first }
         requires can { CanDeliver self.old.state home first entries.items }
-        ensures makes { MakesDelivery self.old home first entries.items result self.new }
+        ensures makes { MakesDelivery self.old home begin first entries.items result self.new }
         ensures sound { IsSoundRegion self.new.state }
     {
+        let stamp = self.next_stamp();
         let region = self.number;
         let (parts, txns) = parts_and_txns(alloc, entries)?;
         let count = txns.len();
@@ -291,10 +332,11 @@ impl<S: Scheduler> Region<S> {
             let last = first + count as u32;
             keep_event(
                 &mut self.events,
+                stamp,
                 Event::Deliver {
                     region,
                     home,
-                    first,
+                    first: begin,
                     last,
                 },
             );
@@ -305,10 +347,12 @@ impl<S: Scheduler> Region<S> {
     /// Inserts the next part of a home's log into the region's view, and keeps the event. False exactly where all that is
     /// received is inserted; then nothing changes, and neither does after `NoMemory`.
     pub fn insert(&mut self, alloc: Global, home: u8) -> Result<bool, NoMemory>
-        requires { home < self.old.state.regions }
+        requires stamp { HasStamp self.old }
+        requires home { home < self.old.state.regions }
         ensures makes { MakesStep [] self.old (Insert self.old.state.number home) result self.new }
         ensures sound { IsSoundRegion self.new.state }
     {
+        let stamp = self.next_stamp();
         let region = self.number;
         let place = self.inserted(home);
         let Some(part) = self.log(home).get(place) else {
@@ -318,26 +362,28 @@ impl<S: Scheduler> Region<S> {
         self.events.reserve(1)?;
         self.scheduler.insert(alloc, part)?;
         self.inserted[home as usize] = place + 1;
-        keep_event(&mut self.events, Event::Insert { region, home });
+        keep_event(&mut self.events, stamp, Event::Insert { region, home });
         Ok(true)
     }
 
     /// Resolves a class of deadlocked transactions, and keeps the event. False exactly where the ids aren't a class that is
     /// resolvable here, in ascending order; then nothing changes, and neither does after `NoMemory`.
     pub fn resolve(&mut self, alloc: Global, ids: &[TxnId]) -> Result<bool, NoMemory>
+        requires stamp { HasStamp self.old }
         ensures makes { MakesStep [] self.old (Resolve self.old.state.number ids.now) result self.new }
         ensures sound { IsSoundRegion self.new.state }
     {
         if !are_ascending(ids) || !self.scheduler.resolvable(alloc, ids)? {
             return Ok(false);
         }
+        let stamp = self.next_stamp();
         let event = Event::Resolve {
             region: self.number,
             ids: Ids::from_vec(ids.to_vec(alloc)?),
         };
         self.events.reserve(1)?;
         self.scheduler.resolve(alloc, ids)?;
-        keep_event(&mut self.events, event);
+        keep_event(&mut self.events, stamp, event);
         Ok(true)
     }
 
@@ -347,6 +393,37 @@ impl<S: Scheduler> Region<S> {
         ensures { IfOk result (IsNextClass (sched_of self.now.state.logs self.now.state.here)) }
     {
         self.scheduler.next_class(alloc)
+    }
+
+    /// Some id that is executable here and isn't among the busy ones, or `None` where there is none. It fails only for want
+    /// of memory.
+    pub fn ready(&self, alloc: Global, busy: &[TxnId]) -> Result<Option<TxnId>, NoMemory>
+        ensures { IfOk result (IsNextReady (sched_of self.now.state.logs self.now.state.here) busy.now) }
+    {
+        self.scheduler.next_ready(alloc, busy)
+    }
+
+    /// Whether all that is received is inserted, nothing is executable and nothing is resolvable. It fails only for want
+    /// of memory.
+    pub fn drained(&self, alloc: Global) -> Result<bool, NoMemory>
+        ensures { IfOk result (λ b. IsTrue b ↔ IsDrained self.now.state.logs self.now.state.here) }
+    {
+        if !self.has_inserted_all() || self.ready(alloc, &[])?.is_some() {
+            return Ok(false);
+        }
+        Ok(self.next_class(alloc)?.is_none())
+    }
+
+    // Whether all that is received is inserted.
+    fn has_inserted_all(&self) -> bool
+        ensures { IsTrue result ↔ HasInsertedAll self.now.state.logs self.now.state.here }
+    {
+        for home in 0..self.regions {
+            if self.inserted(home) < self.log(home).len() {
+                return false;
+            }
+        }
+        true
     }
 
     // What a transaction that the region holds comes to on its table, by these procedures.
@@ -365,11 +442,13 @@ impl<S: Scheduler> Region<S> {
     /// executable here; then nothing changes, and neither does after `NoMemory`. If it is a move, its unit was moved fewer
     /// than 4,294,967,295 times so far.
     pub fn execute(&mut self, alloc: Global, id: TxnId, procs: &Procs) -> Result<bool, NoMemory>
+        requires stamp { HasStamp self.old }
         requires holds { HoldsValid procs.now self.old.state }
         requires place { CanMove self.old.state id }
         ensures makes { MakesStep procs.now self.old (Execute self.old.state.number id) result self.new }
         ensures sound { IsSoundRegion self.new.state }
     {
+        let stamp = self.next_stamp();
         let region = self.number;
         if !self.scheduler.executable(alloc, id)? {
             return Ok(false);
@@ -382,20 +461,22 @@ impl<S: Scheduler> Region<S> {
         self.table.apply(effect);
         note_outcome(&mut self.done, id, outcome);
         self.scheduler.finish(id);
-        keep_event(&mut self.events, Event::Execute { region, id });
+        keep_event(&mut self.events, stamp, Event::Execute { region, id });
         Ok(true)
     }
 
     /// Keeps the event that a session is answered, which changes nothing else. Whether the session may be answered is for
     /// the caller to know. After `NoMemory` the region is as before.
     pub fn answer(&mut self, alloc: Global, session: &Name) -> Result<(), NoMemory>
+        requires stamp { HasStamp self.old }
         ensures makes { MakesAnswer self.old session.now result self.new }
     {
+        let stamp = self.next_stamp();
         let event = Event::Answer {
             region: self.number,
             session: session.copy(alloc)?,
         };
-        self.events.push(event)?;
+        self.events.push(Stamped { stamp, event })?;
         Ok(())
     }
 }
@@ -419,12 +500,12 @@ fn add_last(txns: &mut Vec<Txn>, txn: Txn)
     }
 }
 
-// Keeps an event at the end, which takes no memory where there is room.
-fn keep_event(events: &mut Vec<Event>, event: Event)
+// Keeps an event under a stamp at the end, which takes no memory where there is room.
+fn keep_event(events: &mut Vec<Stamped>, stamp: u64, event: Event)
     requires { vec_len events.old < vec_capacity events.old }
-    ensures { events.new.items ≡ events.old.items ++ event ∷ [] }
+    ensures { events.new.items ≡ events.old.items ++ record { stamp = stamp; event = event } ∷ [] }
 {
-    match events.push(event) {
+    match events.push(Stamped { stamp, event }) {
         Ok(()) => (),
         Err(_) => unreachable!(),
     }

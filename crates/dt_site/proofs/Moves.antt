@@ -65,7 +65,7 @@ module _ {cluster : Cluster} {workload : Workload} {w : World} (k : IsReached cl
   fits_region body fits = subst₂ (λ v n. BodyFits cluster.procs v n body) (sym version_is) (sym s.many) fits
 
   -- no unit was moved more often than there are events
-  counter_few : (key : Bytes) → counter_of p.region.state.here.table key ≤ length k.events
+  pub counter_few : (key : Bytes) → counter_of p.region.state.here.table key ≤ length k.events
   counter_few key =
       let short : IsShort w (length k.events) = subst (λ v. IsShort v (length k.events)) (sym k.after) (legal_short cluster k.run.sound workload k.run.fits k.events k.run.legal) in
       let done : length (node_at w region).here.done ≤ length k.events = all_at (λ (x : Node). length x.here.done ≤ length k.events) no_node w.nodes region (omega arith) short.done in

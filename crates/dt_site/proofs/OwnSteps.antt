@@ -5,9 +5,11 @@ use Rattle.dt_events.specs.declared.Event.{Event}
 use Rattle.dt_events.specs.declared.Event.TheVariants.{Insert, Resolve, Execute}
 use Rattle.dt_txn.specs.declared.Txn.{Txn}
 use Rattle.dt_txn.specs.Replica.{Replica, MayStep, stepped, executed}
-use Rattle.dt_region.specs.Region.{RegionView, held}
+use Rattle.dt_region.specs.Region.{RegionView, held, latest_stamp}
 use Rattle.dt_region.specs.Rules.{MakesStep, after_step, with_event}
 use Rattle.dt_region.specs.Sound.{IsSoundRegion}
+use Rattle.dt_region.proofs.Callers.{kept_more, latest_more}
+use Rattle.dt_events.specs.Stamps.{events_of}
 use Rattle.dt_cluster.specs.declared.Cluster.{Cluster}
 use Rattle.dt_workload.specs.declared.Workload.{Workload}
 use Rattle.dt_session.specs.World.{World, Node, node_at, received_logs, txn_of}
@@ -57,7 +59,8 @@ module _ {cluster : Cluster} {workload : Workload} {w : World} (k : IsReached cl
         node = node_then k event (in_region p r) lr next_is;
       };
       others = λ q n lq. received_still q;
-      kept = ap (λ x. x.events) is;
+      kept = ap (λ x. events_of x.events) is ∙ kept_more p.region p.region.state event;
+      stamp = ap latest_stamp is ∙ latest_more p.region p.region.state event;
     }
 
   -- what each of the three calls makes where it answers true, and that the event is not legal where it answers false

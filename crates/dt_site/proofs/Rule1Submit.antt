@@ -9,9 +9,11 @@ use Rattle.dt_access.specs.declared.TxnId.{TxnId}
 use Rattle.dt_events.specs.declared.Event.TheVariants.{Submit}
 use Rattle.dt_txn.specs.declared.Txn.{Txn}
 use Rattle.dt_txn.specs.Replica.{next_id, submission_for}
-use Rattle.dt_region.specs.Region.{held, find_txn}
+use Rattle.dt_region.specs.Region.{held, find_txn, latest_stamp}
 use Rattle.dt_region.specs.Rules.{id_for, txn_for}
 use Rattle.dt_region.specs.Sound.{IsSoundRegion}
+use Rattle.dt_region.proofs.Callers.{kept_more, latest_more}
+use Rattle.dt_events.specs.Stamps.{events_of}
 use Rattle.dt_cluster.specs.declared.Cluster.{Cluster}
 use Rattle.dt_workload.specs.declared.Session.{Session}
 use Rattle.dt_workload.specs.declared.Ranked.{Ranked}
@@ -125,9 +127,13 @@ module _ {cluster : Cluster} {workload : Workload} {w : World} (k : IsReached cl
   unfolding q
   origins_are = length_push p.origins origin ∙ ap (λ n. n + 1) s.origins ∙ sym (length_push p.region.state.submitted txn)
 
-  kept_is : q.region.events ≡ p.region.events ++ Submit region name ∷ []
+  kept_is : events_of q.region.events ≡ events_of p.region.events ++ Submit region name ∷ []
   unfolding q
-  kept_is = ap (λ n. p.region.events ++ Submit n name ∷ []) s.number
+  kept_is = kept_more p.region p.region.state (Submit p.region.state.number name) ∙ ap (λ n. events_of p.region.events ++ Submit n name ∷ []) s.number
+
+  stamp_is : latest_stamp q.region ≡ latest_stamp p.region + 1
+  unfolding q
+  stamp_is = latest_more p.region p.region.state (Submit p.region.state.number name)
 
   submit_steps : IsSoundRegion q.region.state → Steps cluster workload w (Submit region name) region p q places
   submit_steps sound = record {
@@ -144,6 +150,7 @@ module _ {cluster : Cluster} {workload : Workload} {w : World} (k : IsReached cl
     };
     others = λ r n lq. still r;
     kept = kept_is;
+    stamp = stamp_is;
   }
 
   pub submit_made : (id : TxnId) (r : SiteView) → MakesAttempt cluster.procs p call.rank (body_of call.wanted) (origin_for w name place) (Ok id) r → IsSoundRegion r.region.state

@@ -17,10 +17,12 @@ use Rattle.dt_events.specs.declared.Event.TheVariants.{Append}
 use Rattle.dt_txn.specs.declared.Txn.{Txn}
 use Rattle.dt_txn.specs.Transaction.{homes_of, part_of, IsValid}
 use Rattle.dt_txn.specs.Replica.{after_taking, fronts, taken_from}
-use Rattle.dt_region.specs.Region.{RegionView, held}
+use Rattle.dt_region.specs.Region.{RegionView, held, latest_stamp}
 use Rattle.dt_region.specs.Rules.{MakesAppend, after_append, with_event}
 use Rattle.dt_region.specs.Conditions.{CanAppend}
 use Rattle.dt_region.specs.Sound.{IsSoundRegion}
+use Rattle.dt_region.proofs.Callers.{kept_more, latest_more}
+use Rattle.dt_events.specs.Stamps.{events_of}
 use Rattle.dt_cluster.specs.declared.Cluster.{Cluster}
 use Rattle.dt_workload.specs.declared.Workload.{Workload}
 use Rattle.dt_session.specs.World.{World, Node, asked_of, log_of, logs_of, no_node, node_at, received_lengths, received_logs, received_of, taken_of, txn_of}
@@ -186,7 +188,10 @@ module _ {cluster : Cluster} {workload : Workload} {w : World} (k : IsReached cl
           node = node_then k (Append home source number) (in_region p r) lh next_is;
         };
         others = others;
-        kept = ap (λ x. x.events) is ∙ ap (λ n. p.region.events ++ Append n source number ∷ []) s.number;
+        kept =
+            ap (λ x. events_of x.events) is ∙ kept_more p.region p.region.state (Append p.region.state.number source number)
+            ∙ ap (λ n. events_of p.region.events ++ Append n source number ∷ []) s.number;
+        stamp = ap latest_stamp is ∙ latest_more p.region p.region.state (Append p.region.state.number source number);
       }
 
   -- what the home may be given

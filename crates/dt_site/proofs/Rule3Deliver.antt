@@ -18,10 +18,12 @@ use Rattle.dt_txn.specs.declared.Entry.{Entry}
 use Rattle.dt_txn.specs.declared.Txn.{Txn}
 use Rattle.dt_txn.specs.Transaction.{homes_of, part_of, IsValid}
 use Rattle.dt_txn.specs.Replica.{fronts}
-use Rattle.dt_region.specs.Region.{RegionView, held}
+use Rattle.dt_region.specs.Region.{RegionView, held, latest_stamp}
 use Rattle.dt_region.specs.Rules.{MakesDelivery, after_deliver, past_end, with_entries, with_event}
 use Rattle.dt_region.specs.Conditions.{CanDeliver, IsPartOf}
 use Rattle.dt_region.specs.Sound.{IsSoundRegion}
+use Rattle.dt_region.proofs.Callers.{kept_more, latest_more}
+use Rattle.dt_events.specs.Stamps.{events_of}
 use Rattle.dt_cluster.specs.declared.Cluster.{Cluster}
 use Rattle.dt_workload.specs.declared.Workload.{Workload}
 use Rattle.dt_session.specs.World.{World, Node, log_of, logs_of, no_node, node_at, received_lengths, received_logs, received_of, txn_of}
@@ -122,9 +124,9 @@ module _ {cluster : Cluster} {workload : Workload} {w : World} (k : IsReached cl
     deliver_still stays = ap (λ b. cond b (received w region home last) w) (subst (λ n. joins n first last ≡ false) has_received stays)
 
     -- nothing of a region's own log is new to it
-    pub apart : joins (length has_of) first last ≡ true → home ≢ region
-    apart on e =
-        let more : received_of w region home < last = subst (λ n. n < last) has_received (joins_to (length has_of) first last on) in
+    pub apart : (begin : ℕ) → joins (length has_of) begin last ≡ true → home ≢ region
+    apart begin on e =
+        let more : received_of w region home < last = subst (λ n. n < last) has_received (joins_to (length has_of) begin last on) in
         let fits : region < length (node_at w region).received = subst (λ n. region < n) (sym ((inv k).sized region lr).received) lr in
         let a : received_of w region region < last = subst (λ h. received_of w region h < last) e more in
         let b : last ≤ length (log_of w region) = subst (λ h. last ≤ length (log_of w h)) e within in
@@ -218,14 +220,14 @@ module _ {cluster : Cluster} {workload : Workload} {w : World} (k : IsReached cl
         few = λ le. let a : parts_in (set p.region.state.logs home (with_entries has_of first entries)) ≤ parts_in (logs_of w) = few other le in omega (arith, a, short);
       }
 
-      -- a delivery that joins
+      -- a delivery that joins: it begins at some place, and of its entries those from `first` on are given
 
-      module _ (on : joins (length has_of) first last ≡ true) where
-        from_here : first ≤ length has_of
-        from_here = joins_from (length has_of) first last on
-
+      module _ (begin : ℕ) (on : joins (length has_of) begin last ≡ true) (from_here : first ≤ length has_of) where
         goes_on : received_of w region home < last
-        goes_on = subst (λ n. n < last) has_received (joins_to (length has_of) first last on)
+        goes_on = subst (λ n. n < last) has_received (joins_to (length has_of) begin last on)
+
+        begins_legal : IsLegal cluster workload w (Deliver region home begin last)
+        begins_legal = let le = joins_from (length has_of) begin last on in record { regions = (lr, lh); allowed = (omega (arith, le, goes_on, has_received), within) }
 
         longer_log : with_entries has_of first entries ≡ take last (log_of w home)
         longer_log = let r = log_then from_here in let le : received_of w region home ≤ last = omega (arith, goes_on) in r.3 ∙ ap (λ n. take n (log_of w home)) (r.2 le)
@@ -233,8 +235,8 @@ module _ {cluster : Cluster} {workload : Workload} {w : World} (k : IsReached cl
         abbrev node_now : Node
         node_now = record (node_at w region) { received = set (node_at w region).received home last }
 
-        received_is : next cluster workload w (Deliver region home first last) ≡ received w region home last
-        received_is = ap (λ b. cond b (received w region home last) w) (subst (λ n. joins n first last ≡ true) has_received on)
+        received_is : next cluster workload w (Deliver region home begin last) ≡ received w region home last
+        received_is = ap (λ b. cond b (received w region home last) w) (subst (λ n. joins n begin last ≡ true) has_received on)
 
         logs_same : logs_of (received w region home last) ≡ logs_of w
         logs_same = map_of_set (λ n. n.log) w.nodes region node_now no_node refl
@@ -242,7 +244,7 @@ module _ {cluster : Cluster} {workload : Workload} {w : World} (k : IsReached cl
         -- the logs of the region then, by both accounts
         logs_after : set p.region.state.logs home (with_entries has_of first entries) ≡ received_logs (received w region home last) region
         logs_after =
-            let other : home ≢ region = apart on in
+            let other : home ≢ region = apart begin on in
             let own : ℕ = length (log_of w region) in
             let node_then : node_at (received w region home last) region ≡ node_now = get_or-set_same w.nodes region node_now no_node (subst (λ n. region < n) (sym (inv k).nodes) lr) in
             ap (set p.region.state.logs home) longer_log ∙ logs_then other last
@@ -262,11 +264,11 @@ module _ {cluster : Cluster} {workload : Workload} {w : World} (k : IsReached cl
 
         -- the region after the event
 
-        module _ (r : RegionView) (is : r ≡ with_event p.region (after_deliver p.region.state home first entries) (Deliver p.region.state.number home first (first + length entries))) (sound : IsSoundRegion r.state) where
+        module _ (r : RegionView) (is : r ≡ with_event p.region (after_deliver p.region.state home first entries) (Deliver p.region.state.number home begin (first + length entries))) (sound : IsSoundRegion r.state) where
           node_made : node_of (in_region p r) ≡ node_now
           node_made =
               let here : ℕ = p.region.state.number in
-              let other : home ≢ here = λ e. apart on (e ∙ s.number) in
+              let other : home ≢ here = λ e. apart begin on (e ∙ s.number) in
               let new_log : log_at (set p.region.state.logs home (with_entries has_of first entries)) here ≡ log_at p.region.state.logs here =
               get_or-set_other p.region.state.logs home here (with_entries has_of first entries) [] (λ e. other (sym e)) in
               let new_received : set (map length (set p.region.state.logs home (with_entries has_of first entries))) here 0 ≡ set (set (map length p.region.state.logs) here 0) home last =
@@ -277,10 +279,10 @@ module _ {cluster : Cluster} {workload : Workload} {w : World} (k : IsReached cl
               ∙ ap₂ (λ (a : List Part) (b : List ℕ). record (node_of p) { log = a; received = b }) new_log new_received
               ∙ ap (λ (n : Node). record n { received = set n.received home last }) s.node
 
-          next_is : next cluster workload w (Deliver region home first last) ≡ record { nodes = set w.nodes region (node_of (in_region p r)); places = w.places }
+          next_is : next cluster workload w (Deliver region home begin last) ≡ record { nodes = set w.nodes region (node_of (in_region p r)); places = w.places }
           next_is = received_is ∙ ap (λ n. record { nodes = set w.nodes region n; places = w.places }) (sym node_made)
 
-          others : (q : ℕ) → q ≢ region → q < cluster.regions → received_logs (next cluster workload w (Deliver region home first last)) q ≡ received_logs w q
+          others : (q : ℕ) → q ≢ region → q < cluster.regions → received_logs (next cluster workload w (Deliver region home begin last)) q ≡ received_logs w q
           others q n lq =
               ap (λ v. received_logs v q) received_is
               ∙ ap₂ (λ x l. fronts (set x.received q (length x.log)) l) (get_or-set_other w.nodes region q node_now no_node n) logs_same
@@ -292,9 +294,9 @@ module _ {cluster : Cluster} {workload : Workload} {w : World} (k : IsReached cl
                 (has_dropped (length has_of - first) (map (λ e. e.txn) entries) u (subst (λ l. Has l u) (map_drop (λ e. e.txn) (length has_of - first) entries) e.0)))
           ]
 
-          deliver_steps : Steps cluster workload w (Deliver region home first last) region p (in_region p r) w.places
+          deliver_steps : Steps cluster workload w (Deliver region home begin last) region p (in_region p r) w.places
           deliver_steps = record {
-            legal = deliver_legal;
+            legal = begins_legal;
             is = next_is;
             stands = record {
               number = ap (λ x. x.state.number) is ∙ s.number;
@@ -302,15 +304,18 @@ module _ {cluster : Cluster} {workload : Workload} {w : World} (k : IsReached cl
               sound = sound;
               logs = ap (λ x. x.state.logs) is ∙ logs_after ∙ sym (ap (λ v. received_logs v region) received_is);
               origins = s.origins ∙ sym (ap (λ x. length x.state.submitted) is);
-              known = λ x u h. txns_stay k (Deliver region home first last) deliver_legal x u (known_now x u h);
-              node = node_then k (Deliver region home first last) (in_region p r) lr next_is;
+              known = λ x u h. txns_stay k (Deliver region home begin last) begins_legal x u (known_now x u h);
+              node = node_then k (Deliver region home begin last) (in_region p r) lr next_is;
             };
             others = others;
-            kept = ap (λ x. x.events) is ∙ ap₂ (λ a b. p.region.events ++ Deliver a home first b ∷ []) s.number to_last;
+            kept =
+                ap (λ x. events_of x.events) is ∙ kept_more p.region p.region.state (Deliver p.region.state.number home begin (first + length entries))
+                ∙ ap₂ (λ a b. events_of p.region.events ++ Deliver a home begin b ∷ []) s.number to_last;
+            stamp = ap latest_stamp is ∙ latest_more p.region p.region.state (Deliver p.region.state.number home begin (first + length entries));
           }
 
-        pub deliver_made : (r : RegionView) (t : Taken) → MakesDelivery p.region home first entries (Ok t) r → IsSoundRegion r.state
-            → Steps cluster workload w (Deliver region home first last) region p (in_region p r) w.places
+        pub deliver_made : (r : RegionView) (t : Taken) → MakesDelivery p.region home begin first entries (Ok t) r → IsSoundRegion r.state
+            → Steps cluster workload w (Deliver region home begin last) region p (in_region p r) w.places
         deliver_made r (New n) m sound = deliver_steps r m.3 sound
         deliver_made r Old m sound = let a : first + length entries ≤ length has_of = m.1 in absurd (omega (arith, a, to_last, has_received, goes_on))
         deliver_made r Gap m sound = let a : length has_of < first = m.0 in absurd (omega (arith, a, from_here))

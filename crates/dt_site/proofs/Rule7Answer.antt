@@ -3,9 +3,11 @@ use Rattle.std.proofs.Common.{◌≡◌, ◌<◌, ◌+◌, ℕ, List, [], ◌∷
 use Rattle.std.proofs.lemmas.List.{set-get_or}
 use Rattle.dt_access.specs.Clash.{Bytes}
 use Rattle.dt_events.specs.declared.Event.TheVariants.{Answer}
-use Rattle.dt_region.specs.Region.{RegionView}
+use Rattle.dt_region.specs.Region.{RegionView, latest_stamp}
 use Rattle.dt_region.specs.Rules.{with_event}
 use Rattle.dt_region.specs.Sound.{IsSoundRegion}
+use Rattle.dt_region.proofs.Callers.{kept_more, latest_more}
+use Rattle.dt_events.specs.Stamps.{events_of}
 use Rattle.dt_cluster.specs.declared.Cluster.{Cluster}
 use Rattle.dt_workload.specs.declared.Session.{Session}
 use Rattle.dt_workload.specs.declared.Workload.{Workload}
@@ -58,5 +60,6 @@ module _ {cluster : Cluster} {workload : Workload} {w : World} (k : IsReached cl
         node = node_then k (Answer region name) (in_region p r) lr next_is;
       };
       others = λ q n lq. still q;
-      kept = ap (λ x. x.events) is ∙ ap (λ n. p.region.events ++ Answer n name ∷ []) s.number;
+      kept = ap (λ x. events_of x.events) is ∙ kept_more p.region p.region.state (Answer p.region.state.number name) ∙ ap (λ n. events_of p.region.events ++ Answer n name ∷ []) s.number;
+      stamp = ap latest_stamp is ∙ latest_more p.region p.region.state (Answer p.region.state.number name);
     }

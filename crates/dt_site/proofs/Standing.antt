@@ -8,10 +8,11 @@ use Rattle.dt_access.specs.declared.Part.{Part}
 use Rattle.dt_sched.specs.Views.{log_at, HasPart, IsClosed}
 use Rattle.dt_sched.proofs.Callers.{complete_of_closed, present_of_complete}
 use Rattle.dt_events.specs.declared.Event.{Event}
+use Rattle.dt_events.specs.Stamps.{events_of}
 use Rattle.dt_txn.specs.declared.Txn.{Txn}
 use Rattle.dt_txn.specs.Replica.{Replica, fronts, view_of}
 use Rattle.dt_txn.specs.Transaction.{IsValid}
-use Rattle.dt_region.specs.Region.{RegionState, held, outcome_of}
+use Rattle.dt_region.specs.Region.{RegionState, held, latest_stamp, outcome_of}
 use Rattle.dt_region.specs.Sound.{IsSoundRegion, IsHeldPart}
 use Rattle.dt_cluster.specs.declared.Cluster.{Cluster}
 use Rattle.dt_workload.specs.declared.Workload.{Workload}
@@ -113,14 +114,15 @@ module _ {cluster : Cluster} {workload : Workload} {w : World} (k : IsReached cl
             subst (Has p.region.state.submitted) r.2
             (attempts_have p.region.state.submitted p.origins r.0 (subst (λ l. Has l r.0) (ap (λ n. n.submitted) (sym s.node)) here))
 
--- by a legal event of a region its site p becomes q, which keeps the event, and the sessions stand at these places; nothing
--- else of the world changes
+-- by a legal event of a region its site p becomes q, which keeps the event under one stamp more, and the sessions stand at
+-- these places; nothing else of the world changes
 pub record Steps (cluster : Cluster) (workload : Workload) (w : World) (event : Event) (region : ℕ) (p q : SiteView) (places : List Place) : Type 0 where
   pub legal : IsLegal cluster workload w event
   pub is : next cluster workload w event ≡ record { nodes = set w.nodes region (node_of q); places = places }
   pub stands : StandsIn cluster.regions (next cluster workload w event) region q
   pub others : (r : ℕ) → r ≢ region → r < cluster.regions → received_logs (next cluster workload w event) r ≡ received_logs w r
-  pub kept : q.region.events ≡ p.region.events ++ event ∷ []
+  pub kept : events_of q.region.events ≡ events_of p.region.events ++ event ∷ []
+  pub stamp : latest_stamp q.region ≡ latest_stamp p.region + 1
 
 -- the node of the region whose site changed
 module _ {cluster : Cluster} {workload : Workload} {w : World} (k : IsReached cluster workload w) (event : Event) (q : SiteView) {region : ℕ} {places : List Place} (lr : region < cluster.regions)

@@ -1,5 +1,6 @@
 ghost use Rattle.std.specs.Prelude.{◌≡◌, ◌<◌, ◌≤◌, ◌-◌, length, get_or, IfOk, OnOk};
 ghost use Rattle.dt_txn.specs.Transaction.{BodyFits};
+ghost use Rattle.dt_region.specs.Region.{HasStamp};
 ghost use Rattle.dt_region.specs.Conditions.{IsTableFor};
 ghost use Rattle.dt_region.specs.Sound.{IsSoundRegion};
 ghost use Rattle.dt_site.specs.Site.{MakesAttempt, opening_site};
@@ -77,6 +78,7 @@ impl<S: Scheduler> Site<S> {
         procs: &Procs,
         origin: Origin,
     ) -> Result<TxnId, NoMemory>
+        requires stamp { HasStamp self.old.region }
         requires fits { BodyFits procs.now self.old.region.state.here.table.version self.old.region.state.regions body }
         requires rank { rank ≤ 9 }
         requires place { length self.old.region.state.submitted < 4294967295 }

@@ -11,6 +11,6 @@ mod stored;
 mod table;
 mod units;
 
-pub use effect::Effect;
+pub use effect::{Effect, UnitName};
 pub use shown::{Shown, ShownList};
 pub use table::{Mastership, Table, TableRow};

@@ -5,7 +5,7 @@ ghost use Rattle.dt_access.specs.Orders.{HasDistinctKeys};
 ghost use Rattle.dt_text.specs.Texts.{IsKey};
 ghost use Rattle.dt_table.specs.Table.{value_of, home_of, counter_of, next_mover, written, moved, apply, opening, shown, shown_at, places_for, MovesUnit, HasPlaceFor};
 
-use crate::effect::Effect;
+use crate::effect::{Effect, UnitName};
 use crate::shown::{Shown, ShownList, add_moved_units, keys_with_value};
 use crate::stored::{StoredMove, StoredUnit, mover_of, next_mover_of, opening_values, put_value};
 use crate::units::{index_homes, opening_home, put_unit, stored_or_fresh, stored_unit};
@@ -224,7 +224,7 @@ impl Table {
     }
 
     // Moves a unit.
-    fn record_move(&mut self, unit: Key, target: u8, by: TxnId)
+    fn record_move(&mut self, unit: UnitName, target: u8, by: TxnId)
         requires room { 0 < self.old.spare }
         requires key { IsKey unit }
         requires unit { IsUnit self.old.state.version unit }

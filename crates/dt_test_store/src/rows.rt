@@ -2,7 +2,7 @@
 ghost use Rattle.std.specs.Prelude.{◌≡◌, IsTrue};
 
 use dt_access::{TxnId, Writes, is_unit};
-use dt_table::{Effect, Table};
+use dt_table::{Effect, Table, UnitName};
 use dt_text::{Key, NoMemory, Value, put_u64, put_value};
 use std::alloc::Global;
 use std::test::Fail;
@@ -56,7 +56,7 @@ fn move_to(table: &mut Table, alloc: Global, key: Key, target: u8, seq: u32) -> 
     table.reserve(1)?;
     table.apply(Effect {
         writes: Writes::new(alloc),
-        moved: Some((key, target, TxnId { seq, region: 0 })),
+        moved: Some((UnitName::of(alloc, &key)?, target, TxnId { seq, region: 0 })),
     });
     Ok(())
 }

@@ -131,8 +131,8 @@ pub fn kept(
     let mut told = Vec::new(alloc);
     for region in 0..cluster.regions {
         told.extend_from_slice(format!(in alloc; "region {region}\n")?.as_bytes())?;
-        for event in world.kept(region) {
-            put_event(alloc, &mut told, event)?;
+        for kept in world.kept(region) {
+            put_event(alloc, &mut told, &kept.event)?;
         }
     }
     Ok(told)

@@ -84,15 +84,6 @@ impl Key {
         self.spelling.bytes()
     }
 
-    /// Gives the bytes of the key. Takes no memory.
-    pub fn into_bytes(self) -> Vec<u8>
-        ensures same { result.items ≡ self }
-        ensures key { IsKey self }
-    {
-        let Key { spelling } = self;
-        spelling.into_bytes()
-    }
-
     /// A key with the same bytes.
     pub fn copy(&self, alloc: Global) -> Result<Self, NoMemory>
         ensures same { IfOk result (λ key. key ≡ self.now) }

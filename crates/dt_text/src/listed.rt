@@ -55,6 +55,14 @@ impl<X> Listed<X> {
         Ok(())
     }
 
+    /// Makes room for just so many more items. Nothing else changes, whatever the answer.
+    pub fn reserve(&mut self, items: usize) -> Result<(), NoMemory>
+        ensures { self.new ≡ self.old }
+    {
+        self.items.reserve_exact(items)?;
+        Ok(())
+    }
+
     /// Takes the last item off; `None` where the list is empty, and only there. Takes no memory.
     pub fn pop(&mut self) -> Option<X>
         ensures taken { self.old ≡ self.new ++ option_to_list result }

@@ -7,6 +7,7 @@ ghost use Rattle.std.specs.Fmt.{decimal, signed_decimal};
 ghost use Rattle.dt_text.specs.Numbers.{ReadsNumber, ReadsSignedNumber};
 
 use crate::no_memory::NoMemory;
+use itoa::Buffer;
 use std::alloc::Global;
 
 /// Reads a number of 32 bits without a sign: `0`, or digits of which the first is not `0`.
@@ -94,21 +95,21 @@ fn with_digit(number: u64, byte: u8) -> Option<u64>
 }
 
 /// Appends the printed form of a number; after `NoMemory` the bytes are as before.
-pub fn put_u64(alloc: Global, out: &mut Vec<u8>, number: u64) -> Result<(), NoMemory>
+pub fn put_u64(_alloc: Global, out: &mut Vec<u8>, number: u64) -> Result<(), NoMemory>
     ensures added { OnOk result (out.new.items ≡ out.old.items ++ decimal number) }
     ensures same { OnErr result (out.new.items ≡ out.old.items) }
 {
-    let text = format!(in alloc; "{number}")?;
-    out.extend_from_slice(text.as_bytes())?;
+    let mut buffer = Buffer::new();
+    out.extend_from_slice(buffer.format(number).as_bytes())?;
     Ok(())
 }
 
 /// Appends the printed form of a number with a sign; after `NoMemory` the bytes are as before.
-pub fn put_i64(alloc: Global, out: &mut Vec<u8>, number: i64) -> Result<(), NoMemory>
+pub fn put_i64(_alloc: Global, out: &mut Vec<u8>, number: i64) -> Result<(), NoMemory>
     ensures added { OnOk result (out.new.items ≡ out.old.items ++ signed_decimal number) }
     ensures same { OnErr result (out.new.items ≡ out.old.items) }
 {
-    let text = format!(in alloc; "{number}")?;
-    out.extend_from_slice(text.as_bytes())?;
+    let mut buffer = Buffer::new();
+    out.extend_from_slice(buffer.format(number).as_bytes())?;
     Ok(())
 }

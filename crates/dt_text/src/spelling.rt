@@ -6,6 +6,7 @@ ghost use Rattle.std.specs.Hash as fed;
 ghost use Rattle.std.proofs.Common.{ap};
 
 use crate::no_memory::NoMemory;
+use smallvec::SmallVec;
 use std::alloc::Global;
 use std::cmp::Ordering;
 use std::hash::{Hash, Hasher};
@@ -14,9 +15,10 @@ use std::marker::Model;
 /// The bytes of a key, a name or a text. Contracts see these bytes.
 ///
 /// Spellings are ordered by their bytes, a proper prefix being less, and hashed as their bytes with one more at the end.
+/// Up to 16 bytes lie in the spelling itself, so that most spellings are made and copied without taking memory.
 #[derive(Debug, Drop)]
 pub(crate) struct Spelling {
-    bytes: Vec<u8>,
+    bytes: SmallVec<u8, 16>,
 }
 
 impl Model for Spelling {
@@ -31,7 +33,7 @@ impl Spelling {
         ensures { result ≡ [] }
     {
         Spelling {
-            bytes: Vec::new(alloc),
+            bytes: SmallVec::new(alloc),
         }
     }
 
@@ -40,7 +42,7 @@ impl Spelling {
         ensures { IfOk result (λ spelling. spelling ≡ bytes.now) }
     {
         Ok(Spelling {
-            bytes: Vec::from_slice(alloc, bytes)?,
+            bytes: SmallVec::from_slice(alloc, bytes)?,
         })
     }
 
@@ -49,14 +51,6 @@ impl Spelling {
         ensures { result.now ≡ self.now }
     {
         self.bytes.as_slice()
-    }
-
-    /// Gives the bytes. Takes no memory.
-    pub(crate) fn into_bytes(self) -> Vec<u8>
-        ensures { result.items ≡ self }
-    {
-        let Spelling { bytes } = self;
-        bytes
     }
 
     /// Adds a byte at the back; after `NoMemory` the spelling is as before.

@@ -10,7 +10,7 @@ use crate::txn::{Body, Txn};
 use dt_access::{Access, TryCopy, Writes, unit_bytes};
 use dt_eval::{Finish, Reads, Values, run_owned};
 use dt_proc::Procs;
-use dt_table::{Effect, Table};
+use dt_table::{Effect, Table, UnitName};
 use dt_text::{Key, NoMemory, Value};
 use std::alloc::Global;
 
@@ -147,7 +147,7 @@ fn result_of(
             Outcome::Gave(Values::new(alloc)),
             Effect {
                 writes: Writes::new(alloc),
-                moved: Some((key.copy(alloc)?, *target, txn.id)),
+                moved: Some((UnitName::of(alloc, key)?, *target, txn.id)),
             },
         )),
     }

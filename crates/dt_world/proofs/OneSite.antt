@@ -6,7 +6,7 @@ use Rattle.dt_access.specs.declared.TxnId.{TxnId}
 use Rattle.dt_events.specs.declared.Event.{Event}
 use Rattle.dt_events.specs.declared.Event.TheVariants.{Insert, Resolve, Execute}
 use Rattle.dt_proc.specs.Tree.{ProcTree}
-use Rattle.dt_region.specs.Region.{RegionView, outcome_of}
+use Rattle.dt_region.specs.Region.{HasStamp, RegionView, latest_stamp, outcome_of}
 use Rattle.dt_region.specs.Conditions.{CanMove, HoldsValid}
 use Rattle.dt_region.specs.Rules.{MakesStep}
 use Rattle.dt_region.specs.Sound.{IsSoundRegion}
@@ -32,6 +32,11 @@ pub put_back_view : (cluster : Cluster) (sessions : WorldSessions) (sites : List
 put_back_view cluster sessions sites steps region p later is same =
     ap (λ l. view_in cluster sessions l steps) (ap (set sites region) (same ∙ is) ∙ set-get_or sites region no_site)
 
+-- a region has a stamp left
+pub stamp_left : {cluster : Cluster} {sessions : WorldSessions} {sites : List SiteView} {steps : ℕ} → IsLawful cluster sessions sites steps → {region : ℕ} → region < cluster.regions
+    → (r : RegionView) → r ≡ (site_at sites region).region → steps < 4294967295 → HasStamp r
+stamp_left k {region} lr r is few = let a = k.stamps region lr in let b = ap latest_stamp is in omega (arith, a, b, few)
+
 -- a step that is refused changes nothing
 pub refused_same : (procs : List ProcTree) (r : RegionView) (event : Event) (on : Bool) (later : RegionView) → on ≡ false → MakesStep procs r event (Ok on) later → later ≡ r
 refused_same procs r event true later e m = cc
@@ -56,6 +61,9 @@ module _ {cluster : Cluster} {sessions : WorldSessions} {sites : List SiteView} 
   pub moves_here : steps < 4294967295 → (id : TxnId) → CanMove r.state id
   moves_here few id =
       subst (λ x. CanMove x.state id) (sym b.region_is) (can_move k.reached lr (k.stands region lr) (let many : length k.reached.events ≡ steps = k.many in omega (arith, many, few)) id)
+
+  pub stamp_here : steps < 4294967295 → HasStamp r
+  stamp_here few = stamp_left k lr r b.region_is few
 
   pub region_here : (home : ℕ) → home < cluster.regions → home < r.state.regions
   region_here home lh = subst (λ x. home < x.state.regions) (sym b.region_is) (a_region k.reached (k.stands region lr) home lh)

@@ -1,5 +1,5 @@
 -- The world before anything happens.
-use Rattle.std.proofs.Common.{◌≡◌, ◌<◌, ◌+◌, ℕ, zero, suc, List, [], ◌∷◌, ◌++◌, length, map, get_or, replicate, refl, sym, ap, ap₂, subst, ◌∙◌, arith}
+use Rattle.std.proofs.Common.{◌≡◌, ◌<◌, ◌≤◌, ◌+◌, ℕ, zero, suc, List, [], ◌∷◌, ◌++◌, length, map, get_or, replicate, refl, sym, ap, ap₂, subst, ◌∙◌, arith}
 use Rattle.std.specs.List.{range_with_len}
 use Rattle.std.proofs.lemmas.List.FromFn.{get_or-map-range_with_len, length-map-range_with_len, map-range_with_len_more}
 use Rattle.dt_lists.specs.Lists.{AllIn}
@@ -9,6 +9,7 @@ use Rattle.dt_session.specs.Sessions.{SessionsView, all_idle}
 use Rattle.dt_site.specs.SessionsStandIn.{SessionsStandIn, no_sessions}
 use Rattle.dt_events.specs.declared.Event.{Event}
 use Rattle.dt_table.specs.Table.{Table}
+use Rattle.dt_region.specs.Region.{latest_stamp}
 use Rattle.dt_region.specs.Sound.{IsSoundRegion}
 use Rattle.dt_cluster.specs.declared.Cluster.{Cluster}
 use Rattle.dt_cluster.specs.Valid.{IsValidCluster}
@@ -19,7 +20,7 @@ use Rattle.dt_site.specs.Site.{SiteView, no_site, node_of, opening_site}
 use Rattle.dt_site.specs.StandsIn.{StandsIn}
 use Rattle.dt_site.proofs.Callers.{opening_node_is, opening_sessions_stand, opening_stands, places_are}
 use Rattle.dt_world.specs.WorldSessions.{WorldSessions, opening_sessions, places_in}
-use Rattle.dt_world.specs.WorldInner.{IsLawful, opening_sites, sessions_of, site_at, view_in, world_of}
+use Rattle.dt_world.specs.WorldInner.{IsLawful, kept_in, opening_sites, sessions_of, site_at, view_in, world_of}
 use Rattle.dt_world.specs.WorldView.{opening_view}
 
 -- one more site is opened
@@ -35,7 +36,7 @@ all_nodes : (regions : ℕ) (t : Table) (a n : ℕ) → map node_of (map (λ num
 all_nodes regions t a zero = refl
 all_nodes regions t a (suc n) = ap₂ (λ (x : Node) l. x ∷ l) (opening_node_is a regions t) (all_nodes regions t (a + 1) n)
 
-no_events : (regions : ℕ) (t : Table) (a n : ℕ) → map (λ (p : SiteView). p.region.events) (map (λ number. opening_site number regions t) (range_with_len a n)) ≡ replicate n []
+no_events : (regions : ℕ) (t : Table) (a n : ℕ) → map kept_in (map (λ number. opening_site number regions t) (range_with_len a n)) ≡ replicate n []
 no_events regions t a zero = refl
 no_events regions t a (suc n) = ap (λ (l : List (List Event)). [] ∷ l) (no_events regions t (a + 1) n)
 
@@ -80,6 +81,10 @@ module _ (cluster : Cluster) (workload : Workload) (fits : IsValidWorkload clust
         subst (λ w. StandsIn cluster.regions w region (site_at (opening_sites cluster) region)) (sym begun)
         (subst (StandsIn cluster.regions (opening_world cluster workload) region) (sym is)
         (opening_stands cluster workload region lr (subst (λ (p : SiteView). IsSoundRegion p.region.state) is s)));
+    stamps = λ region lr.
+        let opened : ℕ → SiteView = λ number. opening_site number cluster.regions (opening_table cluster) in
+        let is : site_at (opening_sites cluster) region ≡ opened region = get_or-map-range_with_len opened 0 cluster.regions region region no_site lr (omega arith) in
+        subst (λ (p : SiteView). latest_stamp p.region ≤ 0) (sym is) (omega arith);
     listed = length-map-range_with_len (λ region. all_idle cluster.tries region workload) 0 cluster.regions;
     attended = λ region lr. subst (λ w. SessionsStandIn cluster workload w region (sessions_of (opening_sessions cluster workload) region)) (sym begun) (opened_at region lr);
   }

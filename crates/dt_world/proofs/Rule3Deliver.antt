@@ -1,5 +1,5 @@
--- Rule 3 in a world: the entries are taken from the home's site, from the delivery's own first place on, and handed to the
--- site of the region.
+-- Rule 3 in a world: of the entries of a delivery, those that the region has not received are taken from the home's site and
+-- handed to the site of the region.
 use Rattle.std.proofs.Common.{◌≡◌, ◌<◌, ◌≤◌, ◌+◌, ℕ, zero, suc, Bool, true, false, List, [], ◌∷◌, ◌++◌, length, map, set, take, drop, slice_get, Ok, Some, refl, sym, ap, subst, ◌∙◌, arith}
 use Rattle.std.proofs.lemmas.List.{length-take-le, map_push, take_more}
 use Rattle.std.proofs.lemmas.Option.{get_or_from_slice_get}
@@ -20,14 +20,16 @@ use Rattle.dt_session.specs.World.{World, log_of, txn_of}
 use Rattle.dt_session.specs.Step.{IsLegal}
 use Rattle.dt_site.specs.declared.Origin.{Origin}
 use Rattle.dt_site.specs.Site.{SiteView}
-use Rattle.dt_site.proofs.Callers.{apart, can_deliver, deliver_legal, deliver_made, deliver_still, has_received, joins, own_log}
+use Rattle.dt_site.proofs.Callers.{apart, can_deliver, deliver_legal, deliver_made, deliver_still, has_received, joins, joins_to, own_log}
 use Rattle.dt_world.specs.WorldSessions.{WorldSessions, places_in}
 use Rattle.dt_world.specs.WorldInner.{IsLawful, site_at, world_of}
 use Rattle.dt_world.proofs.WorldLaws.{IsBehind, IsMade, short, step_made, still_made}
 
--- what the call reads of the sites: how far the home's log reaches, and whether the delivery joins what the region received
-pub record IsDelivery (sites : List SiteView) (region home first last : ℕ) (join : Bool) : Type 0 where
+-- what the call reads of the sites: how far the home's log reaches, how far the region received it, and whether the
+-- delivery joins that
+pub record IsDelivery (sites : List SiteView) (region home first last has : ℕ) (join : Bool) : Type 0 where
   pub reaches : last ≤ length (log_at (site_at sites home).region.state.logs home)
+  pub has_is : has ≡ length (log_at (site_at sites region).region.state.logs home)
   pub joined : joins (length (log_at (site_at sites region).region.state.logs home)) first last ≡ join
 
 -- the entries that it takes from the home's site
@@ -42,9 +44,10 @@ length_is b home n_is log_is = n_is ∙ ap length (log_is ∙ ap (λ (x : Region
 
 module _ {sites : List SiteView} {home region : ℕ} {r r' : RegionView} {origins origins' : List Origin} (source : IsBehind sites home r origins) (here : IsBehind sites region r' origins') where
   pub delivery_is : (first last : ℕ) (join : Bool) {log received : List Part} {n m : ℕ} {test : Bool} → n ≡ length log → log ≡ log_at r.state.logs home → last ≤ n
-      → m ≡ length received → received ≡ log_at r'.state.logs home → test ≡ joins m first last → test ≡ join → IsDelivery sites region home first last join
+      → m ≡ length received → received ≡ log_at r'.state.logs home → test ≡ joins m first last → test ≡ join → IsDelivery sites region home first last m join
   delivery_is first last join n_is log_is within m_is received_is is on = record {
     reaches = subst (λ x. last ≤ x) (length_is source home n_is log_is) within;
+    has_is = length_is here home m_is received_is;
     joined = subst (λ x. joins x first last ≡ join) (length_is here home m_is received_is) (sym is ∙ on);
   }
 
@@ -71,26 +74,29 @@ module _ {cluster : Cluster} {sessions : WorldSessions} {sites : List SiteView} 
 
   -- one that joins, of entries of the home's log
 
-  module _ (on : joins (length (log_at (site_at sites region).region.state.logs home)) first last ≡ true) (entries : List Entry)
-      (parts : map (λ e. e.part) entries ≡ drop first (take last (log_at (site_at sites home).region.state.logs home))) (txns : AllIn (λ e. held (site_at sites home).region.state e.part.id ≡ Some e.txn) entries)
+  module _ (on : joins (length (log_at (site_at sites region).region.state.logs home)) first last ≡ true) (has : ℕ) (has_is : has ≡ length (log_at (site_at sites region).region.state.logs home)) (entries : List Entry)
+      (parts : map (λ e. e.part) entries ≡ drop has (take last (log_at (site_at sites home).region.state.logs home))) (txns : AllIn (λ e. held (site_at sites home).region.state e.part.id ≡ Some e.txn) entries)
       {r : RegionView} {origins : List Origin} (b : IsBehind sites region r origins) where
-    parts_are : map (λ e. e.part) entries ≡ drop first (take last (log_of (world_of sites (places_in sessions)) home))
-    parts_are = parts ∙ ap (λ l. drop first (take last l)) home_log
+    new_ordered : has ≤ last
+    new_ordered = let more = joins_to (length (log_at (site_at sites region).region.state.logs home)) first last on in omega (arith, more, has_is)
+
+    parts_are : map (λ e. e.part) entries ≡ drop has (take last (log_of (world_of sites (places_in sessions)) home))
+    parts_are = parts ∙ ap (λ l. drop has (take last l)) home_log
 
     found : AllIn (λ e. txn_of (world_of sites (places_in sessions)) e.part.id ≡ Some e.txn) entries
     found = all_map _ _ entries (λ e h. (k.stands home lh).known e.part.id e.txn h) txns
 
-    pub can_take : steps < 4294967296 → CanDeliver r.state home first entries
-    can_take few = subst (λ x. CanDeliver x.state home first entries) (sym b.region_is)
-        (can_deliver k.reached lr (k.stands region lr) lh first last ordered within entries parts_are found (apart k.reached lr (k.stands region lr) lh first last ordered within on)
+    pub can_take : steps < 4294967296 → CanDeliver r.state home has entries
+    can_take few = subst (λ x. CanDeliver x.state home has entries) (sym b.region_is)
+        (can_deliver k.reached lr (k.stands region lr) lh has last new_ordered within entries parts_are found (apart k.reached lr (k.stands region lr) lh has last new_ordered within first on)
         (omega (arith, (short k).parts, few)))
 
-    pub deliver_done : (later : RegionView) (t : Taken) → MakesDelivery r home first entries (Ok t) later → IsSoundRegion later.state
+    pub deliver_done : (later : RegionView) (t : Taken) → MakesDelivery r home first has entries (Ok t) later → IsSoundRegion later.state
         → IsMade cluster sessions sites steps (Deliver region home first last) sessions (set sites region (record { region = later; origins = origins }))
     deliver_done later t m sound =
-        let m' = subst (λ x. MakesDelivery x home first entries (Ok t) later) b.region_is m in
+        let m' = subst (λ x. MakesDelivery x home first has entries (Ok t) later) b.region_is m in
         subst (λ q. IsMade cluster sessions sites steps (Deliver region home first last) sessions (set sites region q)) (sym (b.site_is later))
-        (step_made k (Deliver region home first last) lr (deliver_made k.reached lr (k.stands region lr) lh first last ordered within entries parts_are found on later t m' sound) refl
+        (step_made k (Deliver region home first last) lr (deliver_made k.reached lr (k.stands region lr) lh has last new_ordered within entries parts_are found first on (omega (arith, has_is)) later t m' sound) refl
         (subst (λ n. joins n first last ≡ true) (has_received k.reached lr (k.stands region lr) lh) on))
 
 -- the entries of a log, one more at a time

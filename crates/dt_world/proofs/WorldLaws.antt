@@ -6,7 +6,7 @@ use Rattle.dt_lists.specs.Lists.{Either, Has}
 use Rattle.dt_lists.proofs.Callers.{all_get, either_nat, get_of_map}
 use Rattle.dt_events.specs.Events.{region_of}
 use Rattle.dt_events.specs.declared.Event.{Event}
-use Rattle.dt_region.specs.Region.{RegionView}
+use Rattle.dt_region.specs.Region.{RegionView, latest_stamp}
 use Rattle.dt_cluster.specs.declared.Cluster.{Cluster}
 use Rattle.dt_cluster.specs.Valid.{IsValidCluster}
 use Rattle.dt_workload.specs.Valid.{IsValidSession, IsValidWorkload}
@@ -23,7 +23,7 @@ use Rattle.dt_site.specs.StandsIn.{IsReached, StandsIn}
 use Rattle.dt_site.proofs.Callers.{IsShort, Steps, after_more, inv, legal_short, many_here, order, others_stand, places_are, run_more, sessions_stay}
 use Rattle.dt_world.specs.WorldSessions.{WorldSessions, places_in}
 use Rattle.dt_world.specs.SessionReplay.{LedTo}
-use Rattle.dt_world.specs.WorldInner.{IsLawful, sessions_of, site_at, view_in, world_of}
+use Rattle.dt_world.specs.WorldInner.{IsLawful, kept_in, sessions_of, site_at, view_in, world_of}
 use Rattle.dt_world.specs.WorldView.{Makes, WorldView, kept_next, made, takes_effect}
 use Rattle.dt_world.specs.declared.world.StepError.{StepError}
 use Rattle.dt_world.specs.declared.world.StepError.TheVariants.{NoMemory}
@@ -65,13 +65,13 @@ module _ {cluster : Cluster} {sessions : WorldSessions} {sites : List SiteView} 
   pub submitted_few : {region : ℕ} → region < cluster.regions → length (site_at sites region).region.state.submitted ≤ steps
   submitted_few {region} lr = subst (λ n. n ≤ steps) (many_here k.reached (k.stands region lr)) (short.submitted region)
 
-  kept_stays : (event : Event) (region : ℕ) (q : SiteView) → region_of event ≡ region → q.region.events ≡ (site_at sites region).region.events ++ event ∷ [] → takes_effect (world_of sites (places_in sessions)) event ≡ true
-      → map (λ p. p.region.events) (set sites region q) ≡ kept_next (world_of sites (places_in sessions)) (map (λ p. p.region.events) sites) event
+  kept_stays : (event : Event) (region : ℕ) (q : SiteView) → region_of event ≡ region → kept_in q ≡ kept_in (site_at sites region) ++ event ∷ [] → takes_effect (world_of sites (places_in sessions)) event ≡ true
+      → map kept_in (set sites region q) ≡ kept_next (world_of sites (places_in sessions)) (map kept_in sites) event
   kept_stays event region q of kept effect =
-      map-set (λ p. p.region.events) sites region q
-      ∙ ap (set (map (λ p. p.region.events) sites) region) (kept ∙ ap (λ l. l ++ event ∷ []) (sym (get_of_map (λ p. p.region.events) sites region no_site)))
-      ∙ ap (λ r. set (map (λ p. p.region.events) sites) r (get_or (map (λ p. p.region.events) sites) r [] ++ event ∷ [])) (sym of)
-      ∙ sym (ap (λ b. cond b (set (map (λ p. p.region.events) sites) (region_of event) (get_or (map (λ p. p.region.events) sites) (region_of event) [] ++ event ∷ [])) (map (λ p. p.region.events) sites)) effect)
+      map-set kept_in sites region q
+      ∙ ap (set (map kept_in sites) region) (kept ∙ ap (λ l. l ++ event ∷ []) (sym (get_of_map kept_in sites region no_site)))
+      ∙ ap (λ r. set (map kept_in sites) r (get_or (map kept_in sites) r [] ++ event ∷ [])) (sym of)
+      ∙ sym (ap (λ b. cond b (set (map kept_in sites) (region_of event) (get_or (map kept_in sites) (region_of event) [] ++ event ∷ [])) (map kept_in sites)) effect)
 
   -- the session of a name, wherever it is, is of one of the regions
   at_region : (t : Session) → Has sessions.workload.sessions t → t.region < cluster.regions
@@ -94,6 +94,7 @@ module _ {cluster : Cluster} {sessions : WorldSessions} {sites : List SiteView} 
       };
       many = length_push k.reached.events event ∙ ap (λ n. n + 1) k.many;
       stands = λ r lq. subst (λ w. StandsIn cluster.regions w r (site_at (set sites region q) r)) (sym is) (at r lq (either_nat r region));
+      stamps = λ r lq. stamped r lq (either_nat r region);
       listed = many;
       attended = λ r lq. subst (λ w. SessionsStandIn cluster sessions.workload w r (sessions_of later r)) (sym is) (standing r lq);
     };
@@ -105,6 +106,11 @@ module _ {cluster : Cluster} {sessions : WorldSessions} {sites : List SiteView} 
 
       then_reached : IsReached cluster sessions.workload v
       then_reached = record { events = k.reached.events ++ event ∷ []; run = run_more k.reached event s.legal; after = after_more k.reached event }
+
+      stamped : (r : ℕ) → r < cluster.regions → Either (r ≡ region) → latest_stamp (site_at (set sites region q) r).region ≤ steps + 1
+      stamped r lq (inl e) = subst (λ x. latest_stamp (site_at (set sites region q) x).region ≤ steps + 1) (sym e)
+          (subst (λ x. latest_stamp x.region ≤ steps + 1) (sym (get_or-set_same sites region q no_site (a_site lr))) (let a = k.stamps region lr in let b = s.stamp in omega (arith, a, b)))
+      stamped r lq (inr n) = subst (λ x. latest_stamp x.region ≤ steps + 1) (sym (get_or-set_other sites region r q no_site n)) (let a = k.stamps r lq in omega (arith, a))
 
       places_are_v : places_of sessions.workload later ≡ v.places
       places_are_v = places_are k.reached.run.fits.names_once at_region (sym (places_parallel cluster sessions.workload v (order then_reached) (inv then_reached))) later standing
@@ -137,11 +143,12 @@ module _ {cluster : Cluster} {sessions : WorldSessions} {sites : List SiteView} 
       };
       many = length_push k.reached.events event ∙ ap (λ n. n + 1) k.many;
       stands = k.stands;
+      stamps = λ r lq. (let a = k.stamps r lq in omega (arith, a));
       listed = k.listed;
       attended = k.attended;
     };
     is = ap₂ (λ w (l : List (List Event)). record { cluster = cluster; workload = sessions.workload; state = w; kept = l; steps = steps + 1 }) (sym same)
-        (sym (ap (λ b. cond b (set (map (λ p. p.region.events) sites) (region_of event) (get_or (map (λ p. p.region.events) sites) (region_of event) [] ++ event ∷ [])) (map (λ p. p.region.events) sites)) effect));
+        (sym (ap (λ b. cond b (set (map kept_in sites) (region_of event) (get_or (map kept_in sites) (region_of event) [] ++ event ∷ [])) (map kept_in sites)) effect));
   }
 
 -- the events of a report lead to the world

@@ -1,10 +1,13 @@
 -- Only proofs need this file, and the private calls of a world. It says what the type of a world keeps of its own fields:
 -- of the sessions that its regions keep, of the sites of all regions, and of the number of steps (`IsLawful`). And it has
 -- words for what the private calls answer of one session. Read `WorldView` for what callers see.
-use Rattle.std.specs.Prelude.{◌≡◌, ◌<◌, ◌+◌, ℕ, List, length, map, get_or, slice_get, Option, Some, None}
+use Rattle.std.specs.Prelude.{◌≡◌, ◌<◌, ◌≤◌, ◌+◌, ℕ, List, length, map, get_or, slice_get, Option, Some, None}
 use Rattle.std.specs.List.{range_with_len}
 use Rattle.dt_access.specs.Clash.{Bytes}
+use Rattle.dt_events.specs.declared.Event.{Event}
+use Rattle.dt_events.specs.Stamps.{events_of}
 use Rattle.dt_txn.specs.declared.Body.{Body}
+use Rattle.dt_region.specs.Region.{latest_stamp}
 use Rattle.dt_cluster.specs.declared.Cluster.{Cluster}
 use Rattle.dt_workload.specs.declared.Session.{Session}
 use Rattle.dt_workload.specs.declared.Ranked.{Ranked}
@@ -30,21 +33,27 @@ sessions_of all region = get_or all region no_sessions
 abbrev pub world_of : List SiteView → List Place → World
 world_of sites places = record { nodes = map node_of sites; places = places }
 
+-- the events that a site's region keeps, without their stamps
+abbrev pub kept_in : SiteView → List Event
+kept_in p = events_of p.region.events
+
 -- a world of these fields, as callers see it
 abbrev pub view_in : Cluster → WorldSessions → List SiteView → ℕ → WorldView
 view_in cluster sessions sites steps = record {
   cluster = cluster;
   workload = sessions.workload;
   state = world_of sites (places_in sessions);
-  kept = map (λ p. p.region.events) sites;
+  kept = map kept_in sites;
   steps = steps;
 }
 
--- these sessions and sites are a world that so many legal events lead to, and each region's site and sessions stand in it
+-- these sessions and sites are a world that so many legal events lead to, and each region's site and sessions stand in it; a
+-- region knows of no stamp above the number of these events
 pub record IsLawful (cluster : Cluster) (sessions : WorldSessions) (sites : List SiteView) (steps : ℕ) : Type 0 where
   pub reached : IsReached cluster sessions.workload (world_of sites (places_in sessions))
   pub many : length reached.events ≡ steps
   pub stands : (region : ℕ) → region < cluster.regions → StandsIn cluster.regions (world_of sites (places_in sessions)) region (site_at sites region)
+  pub stamps : (region : ℕ) → region < cluster.regions → latest_stamp (site_at sites region).region ≤ steps
   pub listed : length sessions.by_region ≡ cluster.regions
   pub attended : (region : ℕ) → region < cluster.regions →
       SessionsStandIn cluster sessions.workload (world_of sites (places_in sessions)) region (sessions_of sessions.by_region region)

@@ -2,6 +2,7 @@ ghost use Rattle.std.specs.Prelude.{◌≡◌, ◌↔◌, List, ◌&&◌, ◌+�
 ghost use Rattle.dt_lists.specs.Lists.{AllIn, Distinct, Has};
 ghost use Rattle.std.specs.Option.{option_copied};
 ghost use Rattle.dt_access.specs.declared.TxnId.{TxnId};
+ghost use Rattle.dt_events.specs.Stamps.{events_of};
 ghost use Rattle.dt_events.specs.declared.Event.{Event};
 ghost use Rattle.dt_events.specs.declared.Event.TheVariants.{Submit, Append, Deliver, Insert, Resolve, Execute, Answer};
 ghost use Rattle.dt_sched.specs.Views.{log_at};
@@ -27,7 +28,7 @@ ghost use Rattle.dt_world.specs.WorldView.{Makes, kept_next, kept_after, opening
 use crate::session_replay::SessionReplay;
 use dt_access::TxnId;
 use dt_cluster::Cluster;
-use dt_events::Event;
+use dt_events::{Event, Stamped};
 use dt_region::Region;
 use dt_report::{EventList, Ran, Rans, Replies, Reply, Report, Tables};
 use dt_sched::Scheduler;
@@ -141,10 +142,11 @@ impl<S: Scheduler + Drop> World<S> {
         }
     }
 
-    /// The events that a region keeps: of the events that were made, its own that took effect, in their order.
-    pub fn kept(&self, region: u8) -> &[Event]
+    /// The events that a region keeps, each with its stamp: of the events that were made, its own that took effect, in their
+    /// order.
+    pub fn kept(&self, region: u8) -> &[Stamped]
         requires { region < self.now.cluster.regions }
-        ensures { result.now ≡ get_or self.now.kept region [] }
+        ensures { events_of result.now ≡ get_or self.now.kept region [] }
     {
         self.sites[region as usize].region.events()
     }
@@ -225,10 +227,10 @@ impl<S: Scheduler + Drop> World<S> {
             self.steps += 1;
             return Ok(());
         }
-        let entries = entries(alloc, source, home, first, last)?;
+        let entries = entries(alloc, source, home, received, last)?;
         self.sites[region as usize]
             .region
-            .deliver(alloc, home, first, entries)?;
+            .deliver(alloc, home, first, received, entries)?;
         self.steps += 1;
         Ok(())
     }

@@ -7,7 +7,7 @@ use Rattle.dt_region.proofs.region.Region.resolve.Goals as goal
 pub invariant_of-self-2 : goal.invariant_of-self-2
 invariant_of-self-2 g c =
     let can : CanResolve (g.S.Scheduler.seen c.self.inside.scheduler) c.args.ids.now = search rules in
-    resolve_keeps _ _ _ _ (seen_as c.self.view_is c.self.invariant) c.args.ids.now can (g.S.Scheduler.seen c.resolve.new.self) c.in_ok-resolve.ensures.ok
+    resolve_keeps _ _ _ _ _ (seen_as c.self.view_is c.self.invariant) c.args.ids.now can (g.S.Scheduler.seen c.resolve.new.self) c.in_ok-resolve.ensures.ok
 
 pub returns-clause-sound : goal.returns-clause-sound
 returns-clause-sound g c = (invariant_of-self-2 g c).0

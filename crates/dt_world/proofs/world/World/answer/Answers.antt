@@ -2,9 +2,10 @@ use Rattle.std.proofs.lemmas.Grind.{common_steps}
 use Rattle.std.proofs.Common.{◌<◌, length, sym, subst, arith}
 use Rattle.dt_world.specs.WorldInner.{MayBeTold}
 use Rattle.dt_world.specs.WorldView.{WorldView}
-use Rattle.dt_world.proofs.OneSite.{same_lawful}
+use Rattle.dt_world.proofs.OneSite.{same_lawful, stamp_here}
 use Rattle.dt_world.proofs.Rule7Answer.{answers_made, may_end}
 use Rattle.dt_world.proofs.WorldLaws.{a_site, behind, made_before}
+use Rattle.dt_world.proofs.WorldFacts.{steps_few}
 use Rattle.dt_world.proofs.world.World.answer.Goals as goal
 
 pub invariant_of-self : goal.invariant_of-self
@@ -31,3 +32,6 @@ returns g c =
     c.index-2.ensures c.behind-self-2.view_is c.index.result.now c.index.ensures _ c.last_outcome-last.ensures in
     made_before c.self.view_is (answers_made c.self.invariant c.if-region-self.false c.args.name.now may b c.answer.new.self c.in_ok-answer.ensures.makes
     c.index_mut-2.result.now c.index_mut-2.ensures.value c.answer-2.new.self (c.answer-2.ensures.answered (c.answer-2.ensures.legal.1 can)))
+
+pub answer-requires : goal.answer-requires
+answer-requires g c = stamp_here c.self.invariant c.if-region-self.false (behind (a_site c.self.invariant c.if-region-self.false) c.index_mut.ensures.value c.behind-self.view_is) (steps_few c.self.invariant c.self.view_is c.requires)

@@ -4,7 +4,7 @@ use Rattle.dt_region.specs.Region.{RegionView, held}
 use Rattle.dt_events.specs.declared.Event.TheVariants.{Append}
 use Rattle.dt_session.specs.Step.{IsLegal}
 use Rattle.dt_world.specs.WorldView.{WorldView}
-use Rattle.dt_world.proofs.OneSite.{region_here, same_lawful, same_view}
+use Rattle.dt_world.proofs.OneSite.{region_here, same_lawful, same_view, stamp_here}
 use Rattle.dt_world.proofs.Rule2Append.{append_done, append_not, asked_held, asks, can_place, few_asked, id_in, wanted_in}
 use Rattle.dt_world.proofs.WorldLaws.{a_site, behind, made_before, out_of_memory}
 use Rattle.dt_world.proofs.WorldFacts.{steps_few}
@@ -77,3 +77,8 @@ returns-in_err-append_owned g c =
     let home = behind (a_site c.self.invariant c.if-home-self.false) c.index_mut.ensures.value c.behind-self-2.view_is in
     out_of_memory (Append c.args.home c.args.source c.args.number) _ c.from_residual-in_err-append_owned.ensures.1
     (same_view c.self.invariant c.if-home-self.false home c.append_owned.new.self c.in_err-append_owned.ensures.makes ∙ c.self.view_is)
+
+pub append_owned-requires-clause-stamp : goal.append_owned-requires-clause-stamp
+append_owned-requires-clause-stamp g c =
+    let home = behind (a_site c.self.invariant c.if-home-self.false) c.index_mut.ensures.value c.behind-self-2.view_is in
+    stamp_here c.self.invariant c.if-home-self.false home (steps_few c.self.invariant c.self.view_is c.requires)

@@ -4,8 +4,9 @@ use Rattle.dt_sched.specs.Views.{log_at}
 use Rattle.dt_region.specs.Region.{RegionView}
 use Rattle.dt_events.specs.declared.Event.TheVariants.{Deliver}
 use Rattle.dt_session.specs.Step.{IsLegal}
+use Rattle.dt_site.proofs.Callers.{joins_from, joins_to}
 use Rattle.dt_world.specs.WorldView.{WorldView}
-use Rattle.dt_world.proofs.OneSite.{region_here, sound_here, same_lawful, same_view}
+use Rattle.dt_world.proofs.OneSite.{region_here, sound_here, same_lawful, same_view, stamp_here}
 use Rattle.dt_world.proofs.Rule3Deliver.{can_take, deliver_done, deliver_none, delivery_is, entries_are, out_of_order, past_log}
 use Rattle.dt_world.proofs.WorldLaws.{a_site, behind, made_before, out_of_memory}
 use Rattle.dt_world.proofs.WorldFacts.{steps_few}
@@ -46,6 +47,22 @@ entries-requires-clause-home g c =
     let home = behind (a_site c.self.invariant c.if-home-self.false) c.index.ensures c.behind-self.view_is in
     region_here c.self.invariant c.if-home-self.false home c.args.home c.if-home-self.false
 
+pub entries-requires-clause-order : goal.entries-requires-clause-order
+entries-requires-clause-order g c =
+    let home = behind (a_site c.self.invariant c.if-home-self.false) c.index.ensures c.behind-self.view_is in
+    let region = behind (a_site c.self.invariant c.if-region-self.false) c.index-2.ensures c.behind-self-2.view_is in
+    let delivery = delivery_is home region c.args.first c.args.last true c.len.ensures c.log.ensures c.if-last-len.false c.len-received.ensures c.log-2.ensures c.joins.ensures c.if-not-joins.false in
+    let more = joins_to _ c.args.first c.args.last delivery.joined in
+    omega (arith, more, delivery.has_is)
+
+pub deliver-requires-clause-begins : goal.deliver-requires-clause-begins
+deliver-requires-clause-begins g c =
+    let home = behind (a_site c.self.invariant c.if-home-self.false) c.index.ensures c.behind-self.view_is in
+    let region = behind (a_site c.self.invariant c.if-region-self.false) c.index-2.ensures c.behind-self-2.view_is in
+    let delivery = delivery_is home region c.args.first c.args.last true c.len.ensures c.log.ensures c.if-last-len.false c.len-received.ensures c.log-2.ensures c.joins.ensures c.if-not-joins.false in
+    let reach = joins_from _ c.args.first c.args.last delivery.joined in
+    omega (arith, reach, delivery.has_is)
+
 pub deliver-requires-clause-home : goal.deliver-requires-clause-home
 deliver-requires-clause-home g c =
     let here = behind (a_site c.self.invariant c.if-region-self.false) c.index_mut.ensures.value c.behind-self-3.view_is in
@@ -56,19 +73,19 @@ deliver-requires-clause-can g c =
     let home = behind (a_site c.self.invariant c.if-home-self.false) c.index.ensures c.behind-self.view_is in
     let region = behind (a_site c.self.invariant c.if-region-self.false) c.index-2.ensures c.behind-self-2.view_is in
     let delivery = delivery_is home region c.args.first c.args.last true c.len.ensures c.log.ensures c.if-last-len.false c.len-received.ensures c.log-2.ensures c.joins.ensures c.if-not-joins.false in
-    let entries = entries_are home c.args.first c.args.last c.in_ok-entries.entries.items c.in_ok-entries.ensures.parts c.in_ok-entries.ensures.txns in
+    let entries = entries_are home _ c.args.last c.in_ok-entries.entries.items c.in_ok-entries.ensures.parts c.in_ok-entries.ensures.txns in
     let here = behind (a_site c.self.invariant c.if-region-self.false) c.index_mut.ensures.value c.behind-self-3.view_is in
     let few = steps_few c.self.invariant c.self.view_is c.requires in
-    can_take c.self.invariant c.if-region-self.false c.if-home-self.false c.if-first-last.false delivery.reaches delivery.joined c.in_ok-entries.entries.items entries.parts entries.txns here (omega (arith, few))
+    can_take c.self.invariant c.if-region-self.false c.if-home-self.false c.if-first-last.false delivery.reaches delivery.joined _ delivery.has_is c.in_ok-entries.entries.items entries.parts entries.txns here (omega (arith, few))
 
 pub invariant_of-self-2 : goal.invariant_of-self-2
 invariant_of-self-2 g c =
     let home = behind (a_site c.self.invariant c.if-home-self.false) c.index.ensures c.behind-self.view_is in
     let region = behind (a_site c.self.invariant c.if-region-self.false) c.index-2.ensures c.behind-self-2.view_is in
     let delivery = delivery_is home region c.args.first c.args.last true c.len.ensures c.log.ensures c.if-last-len.false c.len-received.ensures c.log-2.ensures c.joins.ensures c.if-not-joins.false in
-    let entries = entries_are home c.args.first c.args.last c.in_ok-entries.entries.items c.in_ok-entries.ensures.parts c.in_ok-entries.ensures.txns in
+    let entries = entries_are home _ c.args.last c.in_ok-entries.entries.items c.in_ok-entries.ensures.parts c.in_ok-entries.ensures.txns in
     let here = behind (a_site c.self.invariant c.if-region-self.false) c.index_mut.ensures.value c.behind-self-3.view_is in
-    (deliver_done c.self.invariant c.if-region-self.false c.if-home-self.false c.if-first-last.false delivery.reaches delivery.joined c.in_ok-entries.entries.items entries.parts entries.txns here
+    (deliver_done c.self.invariant c.if-region-self.false c.if-home-self.false c.if-first-last.false delivery.reaches delivery.joined _ delivery.has_is c.in_ok-entries.entries.items entries.parts entries.txns here
     c.deliver.new.self c.in_ok-deliver.field-0 c.in_ok-deliver.ensures.makes c.deliver.ensures.sound).lawful
 
 pub returns : goal.returns
@@ -76,9 +93,9 @@ returns g c =
     let home = behind (a_site c.self.invariant c.if-home-self.false) c.index.ensures c.behind-self.view_is in
     let region = behind (a_site c.self.invariant c.if-region-self.false) c.index-2.ensures c.behind-self-2.view_is in
     let delivery = delivery_is home region c.args.first c.args.last true c.len.ensures c.log.ensures c.if-last-len.false c.len-received.ensures c.log-2.ensures c.joins.ensures c.if-not-joins.false in
-    let entries = entries_are home c.args.first c.args.last c.in_ok-entries.entries.items c.in_ok-entries.ensures.parts c.in_ok-entries.ensures.txns in
+    let entries = entries_are home _ c.args.last c.in_ok-entries.entries.items c.in_ok-entries.ensures.parts c.in_ok-entries.ensures.txns in
     let here = behind (a_site c.self.invariant c.if-region-self.false) c.index_mut.ensures.value c.behind-self-3.view_is in
-    made_before c.self.view_is (deliver_done c.self.invariant c.if-region-self.false c.if-home-self.false c.if-first-last.false delivery.reaches delivery.joined
+    made_before c.self.view_is (deliver_done c.self.invariant c.if-region-self.false c.if-home-self.false c.if-first-last.false delivery.reaches delivery.joined _ delivery.has_is
     c.in_ok-entries.entries.items entries.parts entries.txns here c.deliver.new.self c.in_ok-deliver.field-0 c.in_ok-deliver.ensures.makes c.deliver.ensures.sound)
 
 pub index-requires : goal.index-requires
@@ -117,3 +134,8 @@ returns-in_err-deliver g c =
     let here = behind (a_site c.self.invariant c.if-region-self.false) c.index_mut.ensures.value c.behind-self-3.view_is in
     out_of_memory (Deliver c.args.region c.args.home c.args.first c.args.last) _ c.from_residual-in_err-deliver.ensures.1
     (same_view c.self.invariant c.if-region-self.false here c.deliver.new.self c.in_err-deliver.ensures.makes ∙ c.self.view_is)
+
+pub deliver-requires-clause-stamp : goal.deliver-requires-clause-stamp
+deliver-requires-clause-stamp g c =
+    let here = behind (a_site c.self.invariant c.if-region-self.false) c.index_mut.ensures.value c.behind-self-3.view_is in
+    stamp_here c.self.invariant c.if-region-self.false here (steps_few c.self.invariant c.self.view_is c.requires)

@@ -4,7 +4,7 @@ use Rattle.dt_events.specs.declared.Event.{Event}
 use Rattle.dt_events.specs.declared.Event.TheVariants.{Execute}
 use Rattle.std.proofs.lemmas.Grind.{common_steps}
 use Rattle.std.proofs.Common.{refl, sym, subst, ◌∙◌, ◌<◌, length, arith}
-use Rattle.dt_world.proofs.OneSite.{execute_done, execute_not, holds_here, moves_here, same_lawful, same_view, refused_same}
+use Rattle.dt_world.proofs.OneSite.{execute_done, execute_not, holds_here, moves_here, refused_same, same_lawful, same_view, stamp_here}
 use Rattle.dt_world.proofs.WorldFacts.{steps_few}
 use Rattle.dt_world.proofs.WorldLaws.{a_site, behind, made_before}
 use Rattle.dt_world.proofs.world.World.execute.Goals as goal
@@ -46,3 +46,7 @@ returns-then-not-branch g c =
           (subst (λ (v : WorldView). IsLegal v.cluster v.workload v.state (Execute c.args.region c.args.id)) (sym c.self.view_is) l),
       same_view c.self.invariant c.if-region-self.false site c.execute.new.self same ∙ c.self.view_is,
     )
+
+pub execute-requires-clause-stamp : goal.execute-requires-clause-stamp
+execute-requires-clause-stamp g c =
+    stamp_here c.self.invariant c.if-region-self.false (behind (a_site c.self.invariant c.if-region-self.false) c.index_mut.ensures.value c.behind-self.view_is) (steps_few c.self.invariant c.self.view_is c.requires)

@@ -3,12 +3,13 @@ use Rattle.dt_world.specs.WorldView.{WorldView}
 use Rattle.dt_events.specs.declared.Event.TheVariants.{Insert}
 use Rattle.std.proofs.lemmas.Grind.{common_steps}
 use Rattle.std.proofs.Common.{refl, sym, subst, ◌∙◌, ◌<◌, length, arith, []}
-use Rattle.dt_world.proofs.OneSite.{insert_done, insert_not, region_here, same_lawful, same_view, refused_same}
+use Rattle.dt_world.proofs.OneSite.{insert_done, insert_not, refused_same, region_here, same_lawful, same_view, stamp_here}
 use Rattle.dt_world.proofs.WorldLaws.{a_site, behind, made_before}
+use Rattle.dt_world.proofs.WorldFacts.{steps_few}
 use Rattle.dt_world.proofs.world.World.insert.Goals as goal
 
-pub insert-requires : goal.insert-requires
-insert-requires g c = region_here c.self.invariant c.if-region-self.false (behind (a_site c.self.invariant c.if-region-self.false) c.index_mut.ensures.value c.behind-self.view_is) c.args.home c.if-home-self.false
+pub insert-requires-clause-home : goal.insert-requires-clause-home
+insert-requires-clause-home g c = region_here c.self.invariant c.if-region-self.false (behind (a_site c.self.invariant c.if-region-self.false) c.index_mut.ensures.value c.behind-self.view_is) c.args.home c.if-home-self.false
 
 pub invariant_of-self-2 : goal.invariant_of-self-2
 invariant_of-self-2 g c = (insert_done c.self.invariant c.if-region-self.false (behind (a_site c.self.invariant c.if-region-self.false) c.index_mut.ensures.value c.behind-self.view_is) c.args.home c.if-home-self.false c.insert.new.self
@@ -38,3 +39,7 @@ returns-then-not-branch g c =
           (subst (λ (v : WorldView). IsLegal v.cluster v.workload v.state (Insert c.args.region c.args.home)) (sym c.self.view_is) l),
       same_view c.self.invariant c.if-region-self.false site c.insert.new.self same ∙ c.self.view_is,
     )
+
+pub insert-requires-clause-stamp : goal.insert-requires-clause-stamp
+insert-requires-clause-stamp g c =
+    stamp_here c.self.invariant c.if-region-self.false (behind (a_site c.self.invariant c.if-region-self.false) c.index_mut.ensures.value c.behind-self.view_is) (steps_few c.self.invariant c.self.view_is c.requires)

@@ -1,9 +1,10 @@
-use Rattle.std.proofs.Common.{◌<◌, List, [], length, get_or, sym, ap, ◌∙◌, arith}
+use Rattle.std.proofs.Common.{◌<◌, [], length, get_or, sym, ap, ◌∙◌, arith}
 use Rattle.std.proofs.lemmas.Grind.{common_steps}
 use Rattle.dt_lists.proofs.Callers.{get_of_map}
-use Rattle.dt_events.specs.declared.Event.{Event}
+use Rattle.dt_events.specs.Stamps.{events_of}
 use Rattle.dt_region.specs.Region.{RegionView}
-use Rattle.dt_site.specs.Site.{SiteView, no_site}
+use Rattle.dt_site.specs.Site.{no_site}
+use Rattle.dt_world.specs.WorldInner.{kept_in}
 use Rattle.dt_world.specs.WorldView.{WorldView}
 use Rattle.dt_world.proofs.WorldLaws.{a_site, behind}
 use Rattle.dt_world.proofs.WorldFacts.{a_number}
@@ -16,6 +17,5 @@ pub returns : goal.returns
 returns g c =
     let lr = a_number c.self.invariant c.self.view_is c.requires in
     let site = behind (a_site c.self.invariant lr) c.index.ensures c.behind-self.view_is in
-    let kept : SiteView → List Event = λ p. p.region.events in
-    c.events.ensures ∙ ap (λ (r : RegionView). r.events) site.region_is
-    ∙ sym (get_of_map kept c.self.inside.sites.items c.args.region no_site) ∙ ap (λ (v : WorldView). get_or v.kept c.args.region []) c.self.view_is
+    ap events_of (c.events.ensures ∙ ap (λ (r : RegionView). r.events) site.region_is)
+    ∙ sym (get_of_map kept_in c.self.inside.sites.items c.args.region no_site) ∙ ap (λ (v : WorldView). get_or v.kept c.args.region []) c.self.view_is

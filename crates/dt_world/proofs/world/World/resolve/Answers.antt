@@ -3,8 +3,9 @@ use Rattle.dt_world.specs.WorldView.{WorldView}
 use Rattle.dt_events.specs.declared.Event.TheVariants.{Resolve}
 use Rattle.std.proofs.lemmas.Grind.{common_steps}
 use Rattle.std.proofs.Common.{refl, sym, subst, ◌∙◌, ◌<◌, length, arith, []}
-use Rattle.dt_world.proofs.OneSite.{resolve_done, resolve_not, same_lawful, same_view, refused_same}
+use Rattle.dt_world.proofs.OneSite.{refused_same, resolve_done, resolve_not, same_lawful, same_view, stamp_here}
 use Rattle.dt_world.proofs.WorldLaws.{a_site, behind, made_before}
+use Rattle.dt_world.proofs.WorldFacts.{steps_few}
 use Rattle.dt_world.proofs.world.World.resolve.Goals as goal
 
 pub invariant_of-self-2 : goal.invariant_of-self-2
@@ -35,3 +36,6 @@ returns-then-not-branch g c =
           (subst (λ (v : WorldView). IsLegal v.cluster v.workload v.state (Resolve c.args.region c.args.ids.now)) (sym c.self.view_is) l),
       same_view c.self.invariant c.if-region-self.false site c.resolve.new.self same ∙ c.self.view_is,
     )
+
+pub resolve-requires : goal.resolve-requires
+resolve-requires g c = stamp_here c.self.invariant c.if-region-self.false (behind (a_site c.self.invariant c.if-region-self.false) c.index_mut.ensures.value c.behind-self.view_is) (steps_few c.self.invariant c.self.view_is c.requires)

@@ -1,10 +1,11 @@
 use Rattle.std.proofs.lemmas.Grind.{common_steps}
-use Rattle.std.proofs.Common.{◌<◌, length, subst, arith}
+use Rattle.std.proofs.Common.{◌<◌, length, ap, subst, arith}
 use Rattle.dt_world.specs.WorldInner.{IsNextOf}
-use Rattle.dt_world.proofs.OneSite.{put_back}
+use Rattle.dt_world.proofs.OneSite.{put_back, stamp_left}
 use Rattle.dt_world.proofs.Rule1Submit.{may_wait, submit_fits, submit_place, submit_rank, submits_at, waits_made}
 use Rattle.dt_world.proofs.WorldFacts.{steps_few}
 use Rattle.dt_world.proofs.WorldLaws.{a_site, made_before, read_at}
+use Rattle.dt_site.specs.Site.{SiteView}
 use Rattle.dt_world.proofs.world.World.submit.Goals as goal
 
 pub index_mut-requires : goal.index_mut-requires
@@ -54,3 +55,8 @@ returns g c =
     let at = submits_at c.self.invariant c.if-region-self.false c.args.name.now c.self.view_is c.index_mut.ensures.value next in
     made_before c.self.view_is (waits_made c.self.invariant c.if-region-self.false c.args.name.now at c.in_ok-id.id c.submit.new.self c.in_ok-id.ensures.makes
     c.index_mut-2.result.now c.index_mut-2.ensures.value c.in_ok-id.ensures.sound c.wait.new.self c.wait.ensures)
+
+pub submit-requires-clause-stamp : goal.submit-requires-clause-stamp
+submit-requires-clause-stamp g c =
+    let site = read_at c.self.inside.sites.items c.args.region c.index_mut.result.now (a_site c.self.invariant c.if-region-self.false) c.index_mut.ensures.value in
+    stamp_left c.self.invariant c.if-region-self.false c.index_mut.result.now.region (ap (λ (p : SiteView). p.region) site) (steps_few c.self.invariant c.self.view_is c.requires)

@@ -1,0 +1,2 @@
+-- What the proofs of crates above may cite of this crate; they cite nothing else of its proofs.
+pub use Rattle.dt_round.proofs.Going.{continues_more, continues_none}

@@ -1,0 +1,80 @@
+ghost use Rattle.std.specs.Prelude.{◌≡◌, List};
+ghost use Rattle.dt_access.specs.declared.TxnId.{TxnId};
+ghost use Rattle.dt_proc.specs.Tree.{ProcTree};
+ghost use Rattle.dt_sched.specs.Sched.{CanExecute};
+ghost use Rattle.dt_region.specs.Conditions.{CanMove, HoldsValid};
+ghost use Rattle.dt_region.specs.Region.{HasStamp, sched_of};
+ghost use Rattle.dt_region.specs.Sound.{IsSoundRegion};
+ghost use Rattle.dt_round.specs.Steps.{InsertsSome, StepsOn};
+
+use crate::rounds::Rounds;
+use dt_proc::Procs;
+use dt_region::Region;
+use dt_sched::Scheduler;
+use dt_text::NoMemory;
+use std::alloc::Global;
+
+/// Makes rounds on the calling thread.
+#[derive(Drop)]
+pub struct Alone;
+
+impl<S: Scheduler> Rounds<Region<S>> for Alone {
+    ghost ready = { λ alone. Unit {0} };
+
+    fn round(&self, alloc: Global, region: &mut Region<S>, procs: &Procs) -> Result<(), NoMemory> {
+        let regions = region.regions();
+        'steps: loop {
+            if !step(alloc, region, regions, procs)? {
+                return Ok(());
+            }
+        }
+    }
+}
+
+// Makes one step of a region, of so many: it inserts, or else executes, or else resolves. False where there is nothing left
+// to do.
+fn step<S: Scheduler>(
+    alloc: Global,
+    region: &mut Region<S>,
+    regions: u8,
+    procs: &Procs,
+) -> Result<bool, NoMemory>
+    requires regions { regions ≡ region.old.state.regions }
+    requires sound { IsSoundRegion region.old.state }
+    requires stamp { HasStamp region.old }
+    requires holds { HoldsValid procs.now region.old.state }
+    requires moves { (id : TxnId) → CanExecute (sched_of region.old.state.logs region.old.state.here) id → CanMove region.old.state id }
+    ensures steps { StepsOn procs.now region.old result region.new }
+    ensures sound { IsSoundRegion region.new.state }
+{
+    if insert_some(alloc, region, regions)? {
+        return Ok(true);
+    }
+    if let Some(id) = region.ready(alloc, &[])? {
+        return region.execute(alloc, id, procs);
+    }
+    if let Some(ids) = region.next_class(alloc)? {
+        return region.resolve(alloc, ids.as_slice());
+    }
+    Ok(false)
+}
+
+// Inserts the next part of the first log of which one is left. False where all that is received is inserted.
+fn insert_some<S: Scheduler>(
+    alloc: Global,
+    region: &mut Region<S>,
+    regions: u8,
+) -> Result<bool, NoMemory>
+    requires regions { regions ≡ region.old.state.regions }
+    requires sound { IsSoundRegion region.old.state }
+    requires stamp { HasStamp region.old }
+    ensures inserts { (procs : List ProcTree) → InsertsSome procs region.old result region.new }
+    ensures sound { IsSoundRegion region.new.state }
+{
+    for home in 0..regions {
+        if region.insert(alloc, home)? {
+            return Ok(true);
+        }
+    }
+    Ok(false)
+}
