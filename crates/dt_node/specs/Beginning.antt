@@ -2,7 +2,7 @@
 -- session submits its first call, and what that asks of the node's own region is placed at once. One learns here what one
 -- submission makes of the node (`HasSubmitted`), and what is so after those of the first sessions (`BeginsSoFar`). Read `Turn`
 -- for what a whole turn makes.
-use Rattle.std.specs.Prelude.{◌≡◌, ◌≤◌, ◌+◌, ◌-◌, ◌==◌, ℕ, zero, suc, List, [], ◌∷◌, ◌++◌, drop, get_or, length, map, slice_get, Bool, true, false, Some, Ok, if◌then◌else◌}
+use Rattle.std.specs.Prelude.{◌≡◌, ◌+◌, ◌-◌, ◌==◌, ℕ, zero, suc, List, [], ◌∷◌, ◌++◌, drop, map, slice_get, Bool, true, false, Some, Ok, if◌then◌else◌}
 use Rattle.std.specs.List.{list_any}
 use Rattle.dt_access.specs.Clash.{Bytes}
 use Rattle.dt_access.specs.declared.TxnId.{TxnId}
@@ -25,7 +25,7 @@ use Rattle.dt_site.specs.Site.{MakesAttempt}
 use Rattle.dt_node.specs.NodeView.{NodeView, new_items, number_of}
 use Rattle.dt_node.specs.Standing.{NodeFits}
 use Rattle.dt_node.specs.Turn.{HasPlacedOwn}
-use Rattle.dt_node.specs.TurnInner.{IsNextAt, KnowsTheSame, MovesOn}
+use Rattle.dt_node.specs.TurnInner.{IsNextAt, MovesOn}
 
 -- some session might have gone on, where one did
 abbrev pub HadOne : (NodeView → Bytes → Type 0) → NodeView → Bool → Type 0
@@ -51,21 +51,14 @@ abbrev pub MakesNext : List ProcTree → NodeView → Origin → ℕ → Body �
 MakesNext procs before origin rank body after =
     (id : TxnId) × MakesAttempt procs before.site rank body origin (Ok id) after.site × (after.sessions ≡ after_wait before.sessions origin.session id)
 
--- what the node asked of its own region was placed up to the request of this number
-pub record IsPlacingOwn (before : NodeView) (number : ℕ) (now : NodeView) : Type 0 where
+-- some of what the node asked of its own region was placed, and nothing else has happened
+pub record IsPlacingOwn (before now : NodeView) : Type 0 where
   pub moved : (procs : List ProcTree) → MovesOn procs [] before now
-  pub knows : KnowsTheSame before now
-  pub sessions : now.sessions ≡ before.sessions
   pub asked : now.site.region.state.here.asked ≡ before.site.region.state.here.asked
   pub table : now.site.region.state.here.table ≡ before.site.region.state.here.table
-  pub taken : taken_from now.site.region.state.here (number_of before) ≡ number
-  pub from : taken_from before.site.region.state.here (number_of before) ≤ number
   pub events : events_of (new_items before now)
-      ≡ own_placings (number_of before) (taken_from before.site.region.state.here (number_of before)) (number - taken_from before.site.region.state.here (number_of before))
-
--- all that the node asked of its own region was placed
-abbrev pub PlacesOwn : NodeView → NodeView → Type 0
-PlacesOwn before after = IsPlacingOwn before (length (get_or before.site.region.state.here.asked (number_of before) [])) after
+      ≡ own_placings (number_of before) (taken_from before.site.region.state.here (number_of before))
+      (taken_from now.site.region.state.here (number_of before) - taken_from before.site.region.state.here (number_of before))
 
 -- the session of this name submitted its next attempt, and what that asked of the node's own region is placed
 pub record HasSubmitted (procs : List ProcTree) (before : NodeView) (name : Bytes) (after : NodeView) : Type 0 where
