@@ -1,6 +1,6 @@
 -- How a turn begins before anything happens anywhere: no session is answered, and one after another submits its first call; so
 -- the events are the first ones of the region, session by session.
-use Rattle.std.proofs.Common.{◌≡◌, ◌<◌, ◌≤◌, ◌+◌, ◌-◌, ◌×◌, ◌||◌, ℕ, zero, suc, Bool, true, false, cond, List, [], ◌∷◌, ◌++◌}
+use Rattle.std.proofs.Common.{◌≡◌, ◌<◌, ◌≤◌, ◌+◌, ◌-◌, ◌||◌, ℕ, zero, suc, Bool, true, false, cond, List, [], ◌∷◌, ◌++◌}
 use Rattle.std.proofs.Common.{length, map, drop, get_or, replicate, slice_get, Some, None, refl, sym, ap, ap₂, subst, ◌∙◌, append-nil, append_assoc, arith}
 use Rattle.std.specs.Prelude.{Option, option_and_then, option_map, slice_index}
 use Rattle.std.specs.Map.{lookup, set_value}
@@ -42,10 +42,10 @@ use Rattle.dt_node.proofs.Seating.{finds_own, opening_seats, set_behind}
 use Rattle.dt_node.proofs.Settling.{begins_more}
 
 -- a session that went on might have, among all of them
-pub had_more : (May : NodeView → Bytes → Type 0) {a b : NodeView} (place : ℕ) (some one : Bool) → EndsSoFar May a place some b → HadOne May a some → HadOne May b one → HadOne May a (some || one)
-had_more May place true one s h k = h
-had_more May place false true s h k = (k.0, subst (λ n. May n k.0) s.0 k.1)
-had_more May place false false s h k = tt
+pub had_more : (May : NodeView → Bytes → Type 0) (a b : NodeView) (place : ℕ) (some one : Bool) → EndsSoFar May a place some b → HadOne May a some → HadOne May b one → HadOne May a (some || one)
+had_more May a b place true one s h k = h
+had_more May a b place false true s h k = (k.0, subst (λ n. May n k.0) s.0 k.1)
+had_more May a b place false false s h k = tt
 
 -- what a list has from a place on
 

@@ -1,6 +1,6 @@
 -- What a submission makes: its own event, and where its region is one of its homes, the placing of it there.
 use Rattle.std.proofs.Common.{◌≡◌, ◌≢◌, ◌<◌, ◌≤◌, ◌+◌, ◌-◌, ◌==◌, ◌||◌, ◌⊎◌, nat_lt, ℕ, zero, suc, Bool, true, false, cond, eqb, eqb-true, eq-eqb, List, [], ◌∷◌, ◌++◌}
-use Rattle.std.proofs.Common.{length, get_or, set, Ok, refl, sym, ap, ap₂, subst, ◌∙◌, inl, inr, arith}
+use Rattle.std.proofs.Common.{length, map, get_or, set, Ok, refl, sym, ap, ap₂, subst, ◌∙◌, inl, inr, arith}
 use Rattle.std.specs.Prelude.{slice_index}
 use Rattle.std.specs.List.{list_any}
 use Rattle.std.proofs.lemmas.Bool.{cases_Bool, cases_order, false_from_ne_true}
@@ -19,7 +19,7 @@ use Rattle.dt_txn.specs.declared.Body.{Body}
 use Rattle.dt_txn.specs.declared.Txn.{Txn}
 use Rattle.dt_txn.specs.Asking.{ask}
 use Rattle.dt_txn.specs.Replica.{taken_from}
-use Rattle.dt_txn.specs.Transaction.{homes_of, set_of, with_number}
+use Rattle.dt_txn.specs.Transaction.{homes_of, set_of, targets_of, with_number}
 use Rattle.dt_txn.proofs.Callers.{with_number_all}
 use Rattle.dt_region.specs.Region.{RegionView}
 use Rattle.dt_region.specs.Rules.{MakesAppend, txn_for}
@@ -165,7 +165,7 @@ module _ {procs : List ProcTree} {a b c : NodeView} (name : Bytes) {origin : Ori
   asked_more : length (get_or b.site.region.state.here.asked me []) ≡ length (get_or a.site.region.state.here.asked me []) + cond own 1 0
   asked_more =
       ap (λ (x : SiteView). length (get_or x.region.state.here.asked me [])) m.1.1
-      ∙ ask_one me (homes_of txn) txn.id a.site.region.state.here.asked there (set_ascending _)
+      ∙ ask_one me (homes_of txn) txn.id a.site.region.state.here.asked there (set_ascending (map (λ x. x.home) txn.access ++ targets_of txn.body))
 
   taken_same : taken_from b.site.region.state.here me ≡ before
   taken_same = ap (λ (x : SiteView). taken_from x.region.state.here me) m.1.1
