@@ -260,7 +260,8 @@ kept_removed k n slot c kept rows there up next changed others used = record {
 
 -- ---- steps of the code
 
-pub none_kept : (k : Kept) → AreRowsLinked k.rows → k.cells.slots ≡ [] → k.reads.items ≡ [] → k.writes.items ≡ [] → k.wholes.items ≡ [] → k.in_use.rows.items ≡ [] → 0 < k.next_number → k.next_number < 2 ^ 64 → AreQueuesKept k
+pub none_kept : (k : Kept) → AreRowsLinked k.rows → k.cells.slots ≡ [] → k.reads.items ≡ [] → k.writes.items ≡ [] → k.wholes.items ≡ []
+    → k.in_use.rows.items ≡ [] → 0 < k.next_number → k.next_number < 2 ^ 64 → AreQueuesKept k
 none_kept k linked slots reads writes wholes used first last = record {
   linked = linked;
   first = first;

@@ -1,15 +1,14 @@
 -- How rows and granules stay tied when one of them is added.
-use Rattle.std.proofs.Common.{◌≡◌, ◌≢◌, ◌⊎◌, ◌↔◌, ℕ, zero, suc, ◌+◌, ◌<◌, Bool, true, false, cond, ◌&&◌, ◌==◌, List, [], ◌∷◌}
-use Rattle.std.proofs.Common.{◌++◌, map, length, get_or, set, slice_get, slice_index_or, Some, None, refl, ap, sym, subst, inl, inr, arith, ◌∙◌, length-append}
+use Rattle.std.proofs.Common.{◌≡◌, ◌⊎◌, ℕ, suc, ◌+◌, ◌<◌, Bool, true, false, cond, ◌&&◌, ◌==◌, List, [], ◌∷◌}
+use Rattle.std.proofs.Common.{◌++◌, length, get_or, slice_get, Some, None, refl, ap, sym, subst, inl, inr, arith, ◌∙◌, length-append}
 use Rattle.std.specs.List.{list_any, position, position_from}
 use Rattle.std.proofs.lemmas.Iterator.Adapters.{position_from-zero}
 use Rattle.std.specs.Cmp.Lexicographic.{bytes_decides}
-use Rattle.std.specs.declared.vec.Vec.{Vec}
 use Rattle.std.proofs.lemmas.Bool.{and_parts}
-use Rattle.std.proofs.lemmas.List.{get_or_append_left, get_or_read, get_or-set_same, get_or-set_other, length-set, length-map, map-set}
+use Rattle.std.proofs.lemmas.List.{get_or_append_left}
 use Rattle.std.proofs.Math.Seq.{get_or-append_seam}
-use Rattle.dt_lists.specs.Lists.{Distinct, Has}
-use Rattle.dt_lists.proofs.Callers.{any_append_left, any_append_right, any_get, any_of_test, distinct_push, either_nat, get_of_map, has_more, place_in_longer, place_within, set_set}
+use Rattle.dt_lists.specs.Lists.{Has}
+use Rattle.dt_lists.proofs.Callers.{any_get, any_of_test, distinct_push, place_in_longer}
 use Rattle.dt_access.specs.Clash.{Bytes, same_key}
 use Rattle.dt_access.proofs.Callers.{same_key_self}
 use Rattle.dt_queue.specs.Rows.{AreTied, granule_name, name_at}

@@ -1,8 +1,9 @@
 -- Sets of rows in a list: what one of them has after a row was put in or taken out, and that the others are as before.
-use Rattle.std.proofs.Common.{◌≡◌, ◌≢◌, ◌⊎◌, ◌↔◌, ℕ, zero, suc, ◌<◌, ◌≤◌, Bool, true, false, cond, nat_eq, List, [], ◌∷◌, ◌++◌, map, length, get_or, set, slice_index_or, Result, Ok, Err, IfOk, IsOk, refl, ap, sym, subst, inl, inr, arith, ◌∙◌}
+use Rattle.std.proofs.Common.{◌≡◌, ◌≢◌, ◌⊎◌, ◌↔◌, ℕ, zero, suc, ◌<◌, ◌≤◌, Bool, true, false, cond, nat_eq, List, []}
+use Rattle.std.proofs.Common.{◌∷◌, ◌++◌, map, length, get_or, set, slice_index_or, Result, Ok, Err, IfOk, IsOk, refl, ap, sym, subst, inl, inr, arith, ◌∙◌}
 use Rattle.std.specs.List.{IsDistinct, list_any}
 use Rattle.std.proofs.lemmas.List.{get_or_read, get_or-set_other, get_or-set_same, length-map, map-set}
-use Rattle.dt_lists.specs.Lists.{AllIn, AnyIn, Distinct, Has}
+use Rattle.dt_lists.specs.Lists.{AllIn, Distinct, Has}
 use Rattle.dt_lists.proofs.Callers.{any_append, any_append_left, any_append_right, any_get, any_of_test, any_put, either_nat, get_of_map, test_of_any}
 
 -- what is told of an item of a list

@@ -4,7 +4,7 @@ use Rattle.std.proofs.Common.{◌+◌, ◌^◌, length, None, Some, refl, ap, sy
 use Rattle.std.specs.List.{filter}
 use Rattle.slab.specs.Slab.{Updates, get}
 use Rattle.dt_lists.specs.Lists.{Has}
-use Rattle.dt_lists.proofs.Callers.{any_append, any_append_left, any_append_right, any_get, any_of_image, either_nat, has_map, has_of_filtered}
+use Rattle.dt_lists.proofs.Callers.{any_append_left, any_append_right, any_get, any_of_image, either_nat, has_map, has_of_filtered}
 use Rattle.dt_access.specs.Clash.{is_whole}
 use Rattle.dt_access.specs.declared.access.Mode.{Mode}
 use Rattle.dt_access.specs.declared.access.Mode.TheVariants.{Read, Write, Whole}

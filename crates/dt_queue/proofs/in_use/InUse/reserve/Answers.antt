@@ -1,9 +1,6 @@
-use Rattle.std.proofs.Common.{◌≡◌, ◌<◌, [], length, get_or, ap, sym, subst, arith, ◌∙◌}
-use Rattle.std.specs.declared.vec.Vec.{Vec}
+use Rattle.std.proofs.Common.{◌<◌, [], length, get_or, ap, sym, subst, arith, ◌∙◌}
 use Rattle.indexmap.specs.IndexSet.{keys, spare}
 use Rattle.dt_lists.proofs.Callers.{map_of_set}
-use Rattle.dt_queue.specs.declared.in_use.InUse.{InUse}
-use Rattle.dt_queue.specs.InUse.{rows_at}
 use Rattle.dt_queue.proofs.RowSets.{empty_behind, told_here}
 use Rattle.dt_queue.proofs.in_use.InUse.reserve.Goals as goal
 

@@ -1,4 +1,4 @@
-use Rattle.std.proofs.Common.{◌≡◌, ◌⊎◌, [], false, true, get_or, length, ◌==◌, not, IsTrue, inl, inr, refl, ap, sym, subst, ◌∙◌}
+use Rattle.std.proofs.Common.{[], get_or, length, not, inl, refl, ap}
 use Rattle.dt_queue.proofs.KeptLanes.{empty_of, some_of}
 use Rattle.dt_queue.proofs.RowsUsed.{used_where}
 use Rattle.dt_queue.proofs.kept.Kept.is_in_use.Goals as goal

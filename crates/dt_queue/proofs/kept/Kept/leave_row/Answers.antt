@@ -1,4 +1,4 @@
-use Rattle.std.proofs.Common.{◌≡◌, true, false, refl, sym, ◌∙◌}
+use Rattle.std.proofs.Common.{◌≡◌, true, false, sym, ◌∙◌}
 use Rattle.dt_queue.specs.Kept.{IsInUse}
 use Rattle.dt_queue.proofs.kept.Kept.leave_row.Goals as goal
 

@@ -7,7 +7,7 @@ use Rattle.dt_queue.specs.declared.in_use.InUse.{InUse}
 use Rattle.dt_queue.specs.declared.kept.Kept.{Kept}
 use Rattle.dt_lists.specs.Lists.{IsFront}
 use Rattle.dt_queue.specs.declared.rows.Rows.{Rows}
-use Rattle.dt_queue.specs.InUse.{UsesRow, room_at, rows_at}
+use Rattle.dt_queue.specs.InUse.{UsesRow, rows_at}
 use Rattle.dt_queue.specs.Rows.{AreRowsLinked, KeepsRows, granule_at, name_at}
 use Rattle.dt_queue.specs.Kept.{place_at}
 use Rattle.dt_queue.proofs.KeptLanes.{all_before, kept_same, same_lanes, to_err}
