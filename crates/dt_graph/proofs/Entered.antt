@@ -1,5 +1,5 @@
 -- Pushing the uses of a part, step by step, and taking the pushed entries back; and what a part adds to what is kept.
-use Rattle.std.proofs.Common.{◌≡◌, ◌≢◌, ◌+◌, ◌<◌, ◌≤◌, ◌⊎◌, ◌∙◌, ◌^◌, ℕ, suc, Bool, true, false, ◌==◌, not, if◌then◌else◌, List, []}
+use Rattle.std.proofs.Common.{◌≡◌, ◌≢◌, ◌+◌, ◌<◌, ◌≤◌, ◌⊎◌, ◌↔◌, ◌∙◌, ◌^◌, ℕ, suc, Bool, true, false, ◌==◌, not, if◌then◌else◌, List, []}
 use Rattle.std.proofs.Common.{◌∷◌, ◌++◌, length, map, filter, get_or, set, None, refl, sym, ap, ap₂, subst, inl, inr, arith}
 use Rattle.std.proofs.lemmas.Bool.{cases_Bool}
 use Rattle.std.proofs.lemmas.List.{append-nil, append_assoc, get_or-set_other, get_or-set_same, length-append, length-set, map-append}
@@ -116,6 +116,10 @@ last_at : {A : Type 0} (xs : List A) (y d : A) → get_or (xs ++ y ∷ []) (leng
 last_at [] y d = refl
 last_at (x ∷ xs) y d = last_at xs y d
 
+-- what was put to a list was put to another that is the same
+more_of : {P : ℕ → Type 0} {was old now : List ℕ} → was ≡ old → ((u : ℕ) → Has now u ↔ Has was u ⊎ P u) → (u : ℕ) → Has now u ↔ Has old u ⊎ P u
+more_of {P} {was} {old} {now} e f = subst (λ l. (u : ℕ) → Has now u ↔ Has l u ⊎ P u) e f
+
 -- a transaction's first part is added, with a vertex of its own
 pub inserts_first : (part : Part) (old : GraphView) (waiting : List Waiting) (slots : List ℕ) (missing count : ℕ) (ready stuck ready_now stuck_now : SubsetView)
     → Distinct old.ids → ¬ (Has old.ids part.id) → length old.vertices ≡ length old.ids → length old.degrees ≡ length old.ids → suc missing ≡ length part.homes
@@ -154,14 +158,8 @@ inserts_first part old waiting slots missing count ready stuck ready_now stuck_n
   is_before = inr (refl, fresh, refl);
   grows = subst (Grows (fresh_vertex part) e.pushed.more) (sym vertex_is) (record { rank = refl; missing = lacking; class = refl; slots = e.pushed.at_slots });
   counted = degree_is ∙ e.counted;
-  ready = λ u. (
-    λ h. elim ((sorts.readied u).0 h) [ inl o ↦ inl (subst (λ l. Has l u) er o) | inr n ↦ inr n ],
-    λ s. (sorts.readied u).1 (elim s [ inl o ↦ inl (subst (λ l. Has l u) (sym er) o) | inr n ↦ inr n ]),
-  );
-  stuck = λ u. (
-    λ h. elim ((sorts.stuck_more u).0 h) [ inl o ↦ inl (subst (λ l. Has l u) es o) | inr n ↦ inr n ],
-    λ s. (sorts.stuck_more u).1 (elim s [ inl o ↦ inl (subst (λ l. Has l u) (sym es) o) | inr n ↦ inr n ]),
-  );
+  ready = more_of er sorts.readied;
+  stuck = more_of es sorts.stuck_more;
   classes = refl;
 }
   where
@@ -215,14 +213,8 @@ inserts_again part v old waiting slots missing count ready stuck ready_now stuck
   is_before = inl (lt, refl);
   grows = subst (Grows (vertex_at old.vertices v) e.pushed.more) (sym vertex_is) (record { rank = refl; missing = lacking; class = refl; slots = e.pushed.at_slots });
   counted = degree_is ∙ e.counted;
-  ready = λ u. (
-    λ h. elim ((sorts.readied u).0 h) [ inl o ↦ inl (subst (λ l. Has l u) er o) | inr n ↦ inr n ],
-    λ s. (sorts.readied u).1 (elim s [ inl o ↦ inl (subst (λ l. Has l u) (sym er) o) | inr n ↦ inr n ]),
-  );
-  stuck = λ u. (
-    λ h. elim ((sorts.stuck_more u).0 h) [ inl o ↦ inl (subst (λ l. Has l u) es o) | inr n ↦ inr n ],
-    λ s. (sorts.stuck_more u).1 (elim s [ inl o ↦ inl (subst (λ l. Has l u) (sym es) o) | inr n ↦ inr n ]),
-  );
+  ready = more_of er sorts.readied;
+  stuck = more_of es sorts.stuck_more;
   classes = refl;
 }
   where

@@ -8,7 +8,7 @@ use Rattle.dt_waits.specs.declared.vertex.Vertex.{Vertex}
 use Rattle.dt_waits.specs.declared.open.Open.{Open}
 use Rattle.dt_graph.specs.declared.waits.Waits.{Waits}
 use Rattle.dt_waits.specs.Waits.{id_at}
-use Rattle.dt_waits.specs.Graph.{vertex_at}
+use Rattle.dt_waits.specs.Graph.{GraphView, vertex_at}
 use Rattle.dt_graph.specs.Held.{kept_of}
 use Rattle.dt_graph.specs.SmallSteps.{Enters, Sorts}
 use Rattle.dt_waits.specs.Steps.{Inserts}
@@ -16,6 +16,19 @@ use Rattle.dt_graph.proofs.Entered.{inserts_again, inserts_first}
 
 module _ (part : Part) (ids : List TxnId) (classes : List Open) (old new : Waits) (once : Distinct ids)
     (vertices : length old.vertices.items ≡ length ids) (degrees : length old.degrees.items ≡ length ids) (slots : List ℕ) (count : ℕ) where
+  -- what is held, with these vertices and degrees
+  abbrev seen : List TxnId → List Vertex → List ℕ → GraphView
+  seen now vs ds = record { ids = now; vertices = vs; degrees = ds; waiting = new.queues; ready = new.ready.items; stuck = new.stuck.items; classes = classes }
+
+  as_sorted : (v : ℕ) (vs : List Vertex) (ds : List ℕ) → new.vertices.items ≡ vs → new.degrees.items ≡ ds
+      → Sorts v new.vertices.items new.degrees.items old.ready old.stuck new.ready new.stuck → Sorts v vs ds old.ready old.stuck new.ready new.stuck
+  as_sorted v vs ds a b s = subst (λ l. Sorts v l ds old.ready old.stuck new.ready new.stuck) a (subst (λ l. Sorts v new.vertices.items l old.ready old.stuck new.ready new.stuck) b s)
+
+  as_held : (now : List TxnId) (v : ℕ) (more : List Waiting) (vs : List Vertex) (ds : List ℕ) → new.vertices.items ≡ vs → new.degrees.items ≡ ds
+      → Inserts part v more (kept_of ids old classes) (seen now vs ds) → Inserts part v more (kept_of ids old classes) (kept_of now new classes)
+  as_held now v more vs ds a b i =
+      subst (λ l. Inserts part v more (kept_of ids old classes) (seen now l new.degrees.items)) (sym a) (subst (λ l. Inserts part v more (kept_of ids old classes) (seen now vs l)) (sym b) i)
+
   -- the first part of a transaction: it has the next number
   abbrev first : ℕ → Vertex
   first missing = record { rank = part.rank; missing = missing; class = None; slots = slots }
@@ -26,30 +39,9 @@ module _ (part : Part) (ids : List TxnId) (classes : List Open) (old new : Waits
       → (more : List Waiting) × Inserts part (length ids) more (kept_of ids old classes) (kept_of (ids ++ part.id ∷ []) new classes)
   added_first v missing is fresh lacking entered vs ds sorted =
       let e : Enters part.home (length ids) part.keys old.queues new.queues [] slots count = subst (λ v. Enters part.home v part.keys old.queues new.queues [] slots count) is entered in
-      let s : Sorts (length ids) (old.vertices.items ++ first missing ∷ []) (old.degrees.items ++ count ∷ []) old.ready old.stuck new.ready new.stuck =
-      subst (λ l. Sorts (length ids) l (old.degrees.items ++ count ∷ []) old.ready old.stuck new.ready new.stuck) vs
-      (subst (λ l. Sorts (length ids) new.vertices.items l old.ready old.stuck new.ready new.stuck) ds
-      (subst (λ v. Sorts v new.vertices.items new.degrees.items old.ready old.stuck new.ready new.stuck) is sorted)) in
-      let i = inserts_first part (kept_of ids old classes) new.queues slots missing count old.ready old.stuck new.ready new.stuck once fresh vertices degrees lacking e refl refl s in (
-        e.pushed.more,
-        subst (λ l. Inserts part (length ids) e.pushed.more (kept_of ids old classes) (record {
-          ids = ids ++ part.id ∷ [];
-          vertices = l;
-          degrees = new.degrees.items;
-          waiting = new.queues;
-          ready = new.ready.items;
-          stuck = new.stuck.items;
-          classes = classes;
-        })) (sym vs) (subst (λ l. Inserts part (length ids) e.pushed.more (kept_of ids old classes) (record {
-          ids = ids ++ part.id ∷ [];
-          vertices = old.vertices.items ++ first missing ∷ [];
-          degrees = l;
-          waiting = new.queues;
-          ready = new.ready.items;
-          stuck = new.stuck.items;
-          classes = classes;
-        })) (sym ds) i),
-      )
+      let s = as_sorted (length ids) (old.vertices.items ++ first missing ∷ []) (old.degrees.items ++ count ∷ []) vs ds (subst (λ v. Sorts v new.vertices.items new.degrees.items old.ready old.stuck new.ready new.stuck) is sorted) in
+      let i = inserts_first part (kept_of ids old classes) new.queues slots missing count old.ready old.stuck new.ready new.stuck once fresh vertices degrees lacking e refl refl s in
+      (e.pushed.more, as_held (ids ++ part.id ∷ []) (length ids) e.pushed.more (old.vertices.items ++ first missing ∷ []) (old.degrees.items ++ count ∷ []) vs ds i)
 
   -- the vertex of a transaction with a part more
   abbrev grown : ℕ → Vertex
@@ -61,28 +53,9 @@ module _ (part : Part) (ids : List TxnId) (classes : List Open) (old new : Waits
       → new.degrees.items ≡ set old.degrees.items v count → Sorts v new.vertices.items new.degrees.items old.ready old.stuck new.ready new.stuck
       → (more : List Waiting) × Inserts part v more (kept_of ids old classes) (kept_of ids new classes)
   added_again v within named lacks e vs ds sorted =
-      let s : Sorts v (set old.vertices.items v (grown v)) (set old.degrees.items v count) old.ready old.stuck new.ready new.stuck =
-      subst (λ l. Sorts v l (set old.degrees.items v count) old.ready old.stuck new.ready new.stuck) vs (subst (λ l. Sorts v new.vertices.items l old.ready old.stuck new.ready new.stuck) ds sorted) in
-      let i = inserts_again part v (kept_of ids old classes) new.queues slots _ count old.ready old.stuck new.ready new.stuck once within named vertices degrees (one_less _ lacks) e refl refl s in (
-        e.pushed.more,
-        subst (λ l. Inserts part v e.pushed.more (kept_of ids old classes) (record {
-          ids = ids;
-          vertices = l;
-          degrees = new.degrees.items;
-          waiting = new.queues;
-          ready = new.ready.items;
-          stuck = new.stuck.items;
-          classes = classes;
-        })) (sym vs) (subst (λ l. Inserts part v e.pushed.more (kept_of ids old classes) (record {
-          ids = ids;
-          vertices = set old.vertices.items v (grown v);
-          degrees = l;
-          waiting = new.queues;
-          ready = new.ready.items;
-          stuck = new.stuck.items;
-          classes = classes;
-        })) (sym ds) i),
-      )
+      let s = as_sorted v (set old.vertices.items v (grown v)) (set old.degrees.items v count) vs ds sorted in
+      let i = inserts_again part v (kept_of ids old classes) new.queues slots _ count old.ready old.stuck new.ready new.stuck once within named vertices degrees (one_less _ lacks) e refl refl s in
+      (e.pushed.more, as_held ids v e.pushed.more (set old.vertices.items v (grown v)) (set old.degrees.items v count) vs ds i)
     where
       one_less : (n : ℕ) → 0 < n → suc (n - 1) ≡ n
       one_less n lt = omega (arith, lt)

@@ -31,6 +31,16 @@ number_of k m c a = ap (λ (x : Mark). x.number) a.is
 pub cell_of : (k : Kept) → AreQueuesKept k → (mode : Mode) (p : ℕ) (m : Mark) → Has (lane k mode p) m → (c : Cell) × IsMarkOf k m c × IsInLane k.rows mode p c
 cell_of k kept mode p m h = let r = ((kept.lanes mode p).members m).0 h in (r.0, record { there = r.1; is = r.3 }, r.2)
 
+-- a read or a write of a row has a cell of the row
+pub cell_in_row : (k : Kept) → AreQueuesKept k → (row : ℕ) (m : Mark) → Has (lane k Read row) m ⊎ Has (lane k Write row) m → (c : Cell) × IsMarkOf k m c × (c.row ≡ row)
+cell_in_row k kept row m (inl h) = let d = cell_of k kept Read row m h in (d.0, d.1, d.2.1)
+cell_in_row k kept row m (inr h) = let d = cell_of k kept Write row m h in (d.0, d.1, d.2.1)
+
+-- of two ways of use one is given, whatever else is known
+pub use_of : {A B P Q R : Type 0} → (A × P) ⊎ (B × Q × R) → A ⊎ B
+use_of (inl h) = inl h.0
+use_of (inr h) = inr h.0
+
 -- and the other way round
 pub in_lane : (k : Kept) → AreQueuesKept k → (m : Mark) (c : Cell) → IsMarkOf k m c → (mode : Mode) (p : ℕ) → IsInLane k.rows mode p c → Has (lane k mode p) m
 in_lane k kept m c a mode p b = ((kept.lanes mode p).members m).1 (c, a.there, b, a.is)

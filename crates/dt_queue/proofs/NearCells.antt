@@ -15,20 +15,11 @@ use Rattle.dt_queue.specs.Kept.{CellsClash, AreQueuesKept, IsNearInMode, IsNearM
 use Rattle.dt_queue.specs.Lanes.{AreMarks, HasRisingNumbers, IsBetween, IsLastBetween, IsNearInRow, is_between, number_or}
 use Rattle.dt_queue.specs.InUse.{rows_at}
 use Rattle.dt_queue.specs.Rows.{granule_at}
-use Rattle.dt_queue.proofs.NearMarks.{IsRow, in_between, near_reads, near_write, row_of, same_mark, trichotomy}
-use Rattle.dt_queue.proofs.CellUses.{InUseOf, IsMarkOf, IsPart, apart_lanes, cell_of, clash_turned, clash_uses, lane_tells}
+use Rattle.dt_queue.proofs.NearMarks.{IsRow, either_between, in_between, near_reads, near_write, row_of, same_mark, trichotomy}
+use Rattle.dt_queue.proofs.CellUses.{InUseOf, IsMarkOf, IsPart, apart_lanes, cell_in_row, cell_of, clash_turned, clash_uses, lane_tells, use_of}
 use Rattle.dt_queue.proofs.CellUses.{number_of, on_one_row, one_cell, one_granule, part_of, reads_agree, taker_of, use_clashes, whole_clashes, write_clashes}
 
 -- ---- a row where no mark is nearest has none
-
-either_between : (low high : ℕ) (m : Mark) → IsBetween low high m ⊎ ¬ (IsBetween low high m)
-either_between low high m = elim (trichotomy low m.number) [
-  | inl a ↦ elim (trichotomy m.number high) [
-    | inl b ↦ inl (a, b)
-    | inr b ↦ inr (λ c. elim b [ inl e ↦ omega (arith, e, c.1) | inr lt ↦ omega (arith, lt, c.1) ])
-  ]
-  | inr a ↦ inr (λ c. elim a [ inl e ↦ omega (arith, e, c.0) | inr lt ↦ omega (arith, lt, c.0) ])
-]
 
 -- a lane has a last mark between two numbers, or none
 pub last_there : (low high : ℕ) (ms : List Mark) → HasRisingNumbers ms → (o : Option Mark) × IsLastBetween low high ms o
@@ -81,16 +72,13 @@ clear_row k kept x row low m c a near j d b used lt le clash = elim near.1 [
   | inr write ↦ elim used [ inl r ↦ write.2 j r (lt, le) | inr w ↦ write.1 j w (lt, le) ]
 ]
 
-use_of_row : (reads writes : List Mark) (low high : ℕ) (m : Mark) → IsNearInRow reads writes low high m → Has reads m ⊎ Has writes m
-use_of_row reads writes low high m near = elim near.1 [ inl r ↦ inl r.0 | inr w ↦ inr w.0 ]
-
 pub near_is_clear : (mode : Mode) (k : Kept) → AreQueuesKept k → (x : Cell) (low : ℕ) (m : Mark) (c : Cell) → IsMarkOf k m c → IsNearOf mode k x.row low x.number m
     → InUseOf mode k x.row m × IsBetween low x.number m × IsClear mode k x m c
 near_is_clear Read k kept x low m c a near = (near.0, near.1, λ j d b used lt le clash. near.2 j used (lt, le))
-near_is_clear Write k kept x low m c a near = (use_of_row _ _ _ _ m near, near.0, λ j d b used lt le clash. clear_row k kept x x.row low m c a near j d b used lt le clash)
+near_is_clear Write k kept x low m c a near = (use_of near.1, near.0, λ j d b used lt le clash. clear_row k kept x x.row low m c a near j d b used lt le clash)
 near_is_clear Whole k kept x low m c a near =
     let r = any_get (λ row. IsNearInRow (lane k Read row) (lane k Write row) low x.number m) (rows_at k.in_use (granule_at k.rows x.row)) near in (
-      any_put (λ row. Has (lane k Read row) m ⊎ Has (lane k Write row) m) (rows_at k.in_use (granule_at k.rows x.row)) r.0 r.1 (use_of_row _ _ _ _ m r.2),
+      any_put (λ row. Has (lane k Read row) m ⊎ Has (lane k Write row) m) (rows_at k.in_use (granule_at k.rows x.row)) r.0 r.1 (use_of r.2.1),
       r.2.0,
       λ j d b used lt le clash. clear r.0 r.2 j d b (any_get (λ row. Has (lane k Read row) j ⊎ Has (lane k Write row) j) (rows_at k.in_use (granule_at k.rows x.row)) used) lt le clash,
     )
@@ -98,7 +86,7 @@ near_is_clear Whole k kept x low m c a near =
     clear : (row : ℕ) → IsNearInRow (lane k Read row) (lane k Write row) low x.number m → (j : Mark) (d : Cell) → IsMarkOf k j d
         → (s : ℕ) × Has (rows_at k.in_use (granule_at k.rows x.row)) s × (Has (lane k Read s) j ⊎ Has (lane k Write s) j) → m.number < j.number → j.number < x.number → ¬ (CellsClash k.rows c d)
     clear row near j d b s lt le clash =
-        let p = part_of k kept row m c a (use_of_row _ _ _ _ m near) in
+        let p = part_of k kept row m c a (use_of near.1) in
         let q = part_of k kept s.0 j d b s.2 in
         let one : s.0 ≡ row = sym q.1 ∙ sym (on_one_row k.rows c d p.0 q.0 clash) ∙ p.1 in
         clear_row k kept x row low m c a near j d b (subst (λ r. Has (lane k Read r) j ⊎ Has (lane k Write r) j) one s.2) lt le clash
@@ -118,13 +106,9 @@ near_in_row k kept x row low m c a (inr w) b clear = (b, inr (w, (λ j h e. meet
   where
     meets : (mode : Mode) (j : Mark) → Has (lane k mode row) j → Has (lane k Read row) j ⊎ Has (lane k Write row) j → IsBetween m.number x.number j → ⊥
     meets mode j h used e =
-        let d = part_cell used in
+        let d = cell_in_row k kept row j used in
         let q = lane_tells k kept Write row m c a w in
         clear j d.0 d.1 used e.0 e.1 (write_clashes k.rows c d.0 q.0 (q.1 ∙ sym d.2))
-      where
-        part_cell : Has (lane k Read row) j ⊎ Has (lane k Write row) j → (d : Cell) × IsMarkOf k j d × (d.row ≡ row)
-        part_cell (inl g) = let d = cell_of k kept Read row j g in (d.0, d.1, d.2.1)
-        part_cell (inr g) = let d = cell_of k kept Write row j g in (d.0, d.1, d.2.1)
 
 pub clear_is_near : (mode : Mode) (k : Kept) → AreQueuesKept k → (x : Cell) (low : ℕ) (m : Mark) (c : Cell) → IsMarkOf k m c → InUseOf mode k x.row m → IsBetween low x.number m → IsClear mode k x m c
     → IsNearOf mode k x.row low x.number m
@@ -223,16 +207,11 @@ module _ (k : Kept) (kept : AreQueuesKept k) (x : Cell) (o : Option Mark) (last 
     where
       near_cell : (mode : Mode) → IsNearOf mode k x.row (number_or o 0) x.number m → (c : Cell) × IsMarkOf k m c
       near_cell Read n = let d = cell_of k kept Write x.row m n.0 in (d.0, d.1)
-      near_cell Write n = in_row x.row (use_of_row _ _ _ _ m n)
-        where
-          in_row : (row : ℕ) → Has (lane k Read row) m ⊎ Has (lane k Write row) m → (c : Cell) × IsMarkOf k m c
-          in_row row (inl h) = let d = cell_of k kept Read row m h in (d.0, d.1)
-          in_row row (inr h) = let d = cell_of k kept Write row m h in (d.0, d.1)
-      near_cell Whole n = let r = any_get (λ row. IsNearInRow (lane k Read row) (lane k Write row) (number_or o 0) x.number m) (rows_at k.in_use (granule_at k.rows x.row)) n in in_row r.0 (use_of_row _ _ _ _ m r.2)
-        where
-          in_row : (row : ℕ) → Has (lane k Read row) m ⊎ Has (lane k Write row) m → (c : Cell) × IsMarkOf k m c
-          in_row row (inl h) = let d = cell_of k kept Read row m h in (d.0, d.1)
-          in_row row (inr h) = let d = cell_of k kept Write row m h in (d.0, d.1)
+      near_cell Write n = let d = cell_in_row k kept x.row m (use_of n.1) in (d.0, d.1)
+      near_cell Whole n =
+          let r = any_get (λ row. IsNearInRow (lane k Read row) (lane k Write row) (number_or o 0) x.number m) (rows_at k.in_use (granule_at k.rows x.row)) n in
+          let d = cell_in_row k kept r.0 m (use_of r.2.1) in
+          (d.0, d.1)
 
       below : (c : Cell) → IsMarkOf k m c → m.number < x.number → c.number < x.number
       below c a lt = omega (arith, lt, number_of k m c a)

@@ -15,6 +15,16 @@ use Rattle.dt_queue.proofs.Marks.{between_true}
 pub trichotomy : (a b : ℕ) → (a < b) ⊎ (a ≡ b) ⊎ (b < a)
 trichotomy a b = grind arith
 
+-- a number lies between two numbers, or not
+pub either_between : (low high : ℕ) (m : Mark) → IsBetween low high m ⊎ ¬ (IsBetween low high m)
+either_between low high m = elim (trichotomy low m.number) [
+  | inl a ↦ elim (trichotomy m.number high) [
+    | inl b ↦ inl (a, b)
+    | inr b ↦ inr (λ c. elim b [ inl e ↦ omega (arith, e, c.1) | inr lt ↦ omega (arith, lt, c.1) ])
+  ]
+  | inr a ↦ inr (λ c. elim a [ inl e ↦ omega (arith, e, c.0) | inr lt ↦ omega (arith, lt, c.0) ])
+]
+
 -- in a lane a number stands once
 pub same_mark : (ms : List Mark) → HasRisingNumbers ms → (m k : Mark) → Has ms m → Has ms k → m.number ≡ k.number → m ≡ k
 same_mark [] num m k h g e = absurd h

@@ -16,21 +16,12 @@ use Rattle.dt_queue.specs.Lanes.{HasRisingNumbers, IsBetween, IsFirstBetween, Is
 use Rattle.dt_queue.specs.Next.{IsFirstAfter, IsKnownNext}
 use Rattle.dt_queue.specs.InUse.{rows_at}
 use Rattle.dt_queue.specs.Rows.{granule_at}
-use Rattle.dt_queue.proofs.NearMarks.{IsRow, next_of_one, next_reads, next_write, row_of, same_mark, trichotomy}
+use Rattle.dt_queue.proofs.NearMarks.{IsRow, either_between, next_of_one, next_reads, next_write, row_of, same_mark, trichotomy}
 use Rattle.dt_queue.proofs.RowsNear.{next_as}
-use Rattle.dt_queue.proofs.CellUses.{InUseOf, IsMarkOf, IsPart, apart_lanes, cell_of, clash_turned, clash_uses, lane_tells}
+use Rattle.dt_queue.proofs.CellUses.{InUseOf, IsMarkOf, IsPart, apart_lanes, cell_in_row, cell_of, clash_turned, clash_uses, lane_tells, use_of}
 use Rattle.dt_queue.proofs.CellUses.{number_of, on_one_row, one_cell, one_granule, part_of, reads_agree, taker_of, use_clashes, whole_clashes, write_clashes}
 
 -- ---- a row where no mark is next has none
-
-either_between : (low high : ℕ) (m : Mark) → IsBetween low high m ⊎ ¬ (IsBetween low high m)
-either_between low high m = elim (trichotomy low m.number) [
-  | inl a ↦ elim (trichotomy m.number high) [
-    | inl b ↦ inl (a, b)
-    | inr b ↦ inr (λ c. elim b [ inl e ↦ omega (arith, e, c.1) | inr lt ↦ omega (arith, lt, c.1) ])
-  ]
-  | inr a ↦ inr (λ c. elim a [ inl e ↦ omega (arith, e, c.0) | inr lt ↦ omega (arith, lt, c.0) ])
-]
 
 -- a lane has a first mark between two numbers, or none
 first_there : (low high : ℕ) (ms : List Mark) → HasRisingNumbers ms → (o : Option Mark) × IsFirstBetween low high ms o
@@ -74,16 +65,13 @@ clear_row k kept x row high m c a near j d b used lt le clash = elim near.1 [
   | inr write ↦ elim used [ inl r ↦ write.2 j r (lt, le) | inr w ↦ write.1 j w (lt, le) ]
 ]
 
-use_of_row : (reads writes : List Mark) (low high : ℕ) (m : Mark) → IsNextInRow reads writes low high m → Has reads m ⊎ Has writes m
-use_of_row reads writes low high m near = elim near.1 [ inl r ↦ inl r.0 | inr w ↦ inr w.0 ]
-
 next_is_clear : (mode : Mode) (k : Kept) → AreQueuesKept k → (x : Cell) (high : ℕ) (m : Mark) (c : Cell) → IsMarkOf k m c → IsNextOfMode mode k x.row x.number high m
     → InUseOf mode k x.row m × IsBetween x.number high m × IsClear mode k x m c
 next_is_clear Read k kept x high m c a near = (near.0, near.1, λ j d b used lt le clash. near.2 j used (lt, le))
-next_is_clear Write k kept x high m c a near = (use_of_row _ _ _ _ m near, near.0, λ j d b used lt le clash. clear_row k kept x x.row high m c a near j d b used lt le clash)
+next_is_clear Write k kept x high m c a near = (use_of near.1, near.0, λ j d b used lt le clash. clear_row k kept x x.row high m c a near j d b used lt le clash)
 next_is_clear Whole k kept x high m c a near =
     let r = any_get (λ row. IsNextInRow (lane k Read row) (lane k Write row) x.number high m) (rows_at k.in_use (granule_at k.rows x.row)) near in (
-      any_put (λ row. Has (lane k Read row) m ⊎ Has (lane k Write row) m) (rows_at k.in_use (granule_at k.rows x.row)) r.0 r.1 (use_of_row _ _ _ _ m r.2),
+      any_put (λ row. Has (lane k Read row) m ⊎ Has (lane k Write row) m) (rows_at k.in_use (granule_at k.rows x.row)) r.0 r.1 (use_of r.2.1),
       r.2.0,
       λ j d b used lt le clash. clear r.0 r.2 j d b (any_get (λ row. Has (lane k Read row) j ⊎ Has (lane k Write row) j) (rows_at k.in_use (granule_at k.rows x.row)) used) lt le clash,
     )
@@ -91,7 +79,7 @@ next_is_clear Whole k kept x high m c a near =
     clear : (row : ℕ) → IsNextInRow (lane k Read row) (lane k Write row) x.number high m → (j : Mark) (d : Cell) → IsMarkOf k j d
         → (s : ℕ) × Has (rows_at k.in_use (granule_at k.rows x.row)) s × (Has (lane k Read s) j ⊎ Has (lane k Write s) j) → x.number < j.number → j.number < m.number → ¬ (CellsClash k.rows d c)
     clear row near j d b s lt le clash =
-        let p = part_of k kept row m c a (use_of_row _ _ _ _ m near) in
+        let p = part_of k kept row m c a (use_of near.1) in
         let q = part_of k kept s.0 j d b s.2 in
         let one : s.0 ≡ row = sym q.1 ∙ on_one_row k.rows d c q.0 p.0 clash ∙ p.1 in
         clear_row k kept x row high m c a near j d b (subst (λ r. Has (lane k Read r) j ⊎ Has (lane k Write r) j) one s.2) lt le clash
@@ -111,13 +99,9 @@ next_in_row k kept x row high m c a (inr w) b clear = (b, inr (w, (λ j h e. mee
   where
     meets : (j : Mark) → Has (lane k Read row) j ⊎ Has (lane k Write row) j → IsBetween x.number m.number j → ⊥
     meets j used e =
-        let d = part_cell used in
+        let d = cell_in_row k kept row j used in
         let q = lane_tells k kept Write row m c a w in
         clear j d.0 d.1 used e.0 e.1 (clash_turned k.rows c d.0 (write_clashes k.rows c d.0 q.0 (q.1 ∙ sym d.2)))
-      where
-        part_cell : Has (lane k Read row) j ⊎ Has (lane k Write row) j → (d : Cell) × IsMarkOf k j d × (d.row ≡ row)
-        part_cell (inl g) = let d = cell_of k kept Read row j g in (d.0, d.1, d.2.1)
-        part_cell (inr g) = let d = cell_of k kept Write row j g in (d.0, d.1, d.2.1)
 
 clear_is_next : (mode : Mode) (k : Kept) → AreQueuesKept k → (x : Cell) (high : ℕ) (m : Mark) (c : Cell) → IsMarkOf k m c → InUseOf mode k x.row m → IsBetween x.number high m → IsClear mode k x m c
     → IsNextOfMode mode k x.row x.number high m
@@ -211,14 +195,13 @@ module _ (k : Kept) (kept : AreQueuesKept k) (x : Cell) (top : ℕ) (within : k.
       let u = use_clashes x.mode k kept x refl m c.0 c.1 b.0 in
       (c.0, c.1.there, c.1.is, above c.0 c.1 b.1.0, clash_turned k.rows c.0 x u.1, λ t d e lt le clash other. free c.0 c.1 b.1.1 b.2 t d e lt le clash other)
     where
-      in_row : (row : ℕ) → Has (lane k Read row) m ⊎ Has (lane k Write row) m → (c : Cell) × IsMarkOf k m c
-      in_row row (inl h) = let d = cell_of k kept Read row m h in (d.0, d.1)
-      in_row row (inr h) = let d = cell_of k kept Write row m h in (d.0, d.1)
-
       near_cell : (mode : Mode) → IsNextOfMode mode k x.row x.number (number_or o top) m → (c : Cell) × IsMarkOf k m c
       near_cell Read n = let d = cell_of k kept Write x.row m n.0 in (d.0, d.1)
-      near_cell Write n = in_row x.row (use_of_row _ _ _ _ m n)
-      near_cell Whole n = let r = any_get (λ row. IsNextInRow (lane k Read row) (lane k Write row) x.number (number_or o top) m) (rows_at k.in_use (granule_at k.rows x.row)) n in in_row r.0 (use_of_row _ _ _ _ m r.2)
+      near_cell Write n = let d = cell_in_row k kept x.row m (use_of n.1) in (d.0, d.1)
+      near_cell Whole n =
+          let r = any_get (λ row. IsNextInRow (lane k Read row) (lane k Write row) x.number (number_or o top) m) (rows_at k.in_use (granule_at k.rows x.row)) n in
+          let d = cell_in_row k kept r.0 m (use_of r.2.1) in
+          (d.0, d.1)
 
       above : (c : Cell) → IsMarkOf k m c → x.number < m.number → x.number < c.number
       above c a lt = omega (arith, lt, number_of k m c a)
