@@ -22,7 +22,8 @@ use Rattle.dt_session.specs.Finished.{AreAnswered}
 use Rattle.dt_agreement.proofs.Callers.{legal_keeps, places_parallel, session_of_test}
 use Rattle.dt_gen.specs.Load.{load_cluster, load_workload}
 use Rattle.dt_gen.proofs.Callers.{load_calls_in, load_cluster_valid, load_workload_valid}
-use Rattle.dt_sum.specs.Laws.{EachCallIsAnsweredOnce, answer_count, is_answer}
+use Rattle.dt_sum.specs.Summary.{answer_count, is_answer}
+use Rattle.dt_sum.specs.Laws.{EachCallIsAnsweredOnce}
 
 -- how many calls are answered in all
 abbrev answered_in : List Place → ℕ
