@@ -3,5 +3,5 @@
 pub use Rattle.dt_sum.proofs.LoadTransactions.{loads_keep}
 pub use Rattle.dt_sum.proofs.LoadWorlds.{each_end, each_region, each_report, opening_holds}
 pub use Rattle.dt_sum.proofs.ShownTotals.{shown_sum}
-pub use Rattle.dt_sum.proofs.CountedAnswers.{each_answered}
+pub use Rattle.dt_sum.proofs.CountedAnswers.{each_answered, each_reply}
 pub use Rattle.dt_sum.proofs.KnownSummary.{each_summary}

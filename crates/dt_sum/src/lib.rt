@@ -8,7 +8,8 @@ mod laws;
 mod summaries;
 
 pub use laws::{
-    each_attempt_ends_plainly, each_call_is_answered_once, each_region_holds_accounts,
-    each_report_shows_the_total, each_summary_is_known, load_keeps_total, shown_sum_is_total,
+    each_attempt_ends_plainly, each_call_has_a_reply, each_call_is_answered_once,
+    each_region_holds_accounts, each_report_shows_the_total, each_summary_is_known,
+    load_keeps_total, shown_sum_is_total,
 };
 pub use summaries::{answer_count, row_sum, summary};
