@@ -1,4 +1,4 @@
-//! Tests of what a run begins with: the files of clusters and workloads, and generated loads; and of what is told of a load.
+//! Tests of what a run begins with: the files of clusters and workloads, and generated loads.
 //! Each is a table of outside values with one loop and one assertion; there is no other code here.
 #![tactic(auto)]
 
@@ -6,7 +6,5 @@
 mod clusters;
 #[cfg(test)]
 mod loads;
-#[cfg(test)]
-mod summaries;
 #[cfg(test)]
 mod workloads;
