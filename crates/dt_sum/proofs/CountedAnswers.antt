@@ -1,7 +1,7 @@
 -- How many answers there are among legal events: each makes one call more of a session answered, and no other event does. So once
 -- all calls are answered, there are as many as calls.
-use Rattle.std.proofs.Common.{◌≡◌, ℕ, ◌+◌, ◌==◌, ◌&&◌, Bool, true, false, cond, List, [], ◌∷◌, length, map, nat_le, nat_lt, Option, Some, None, slice_get, refl, sym, ap, ◌∙◌, subst, arith}
-use Rattle.std.specs.List.{sum_by}
+use Rattle.std.proofs.Common.{◌≡◌, ℕ, ◌+◌, ◌==◌, ◌&&◌, Bool, true, false, cond, List, [], ◌∷◌, length, map, nat_le, nat_lt, Option, Some, None, slice_get, is_some, refl, sym, ap, ◌∙◌, subst, arith}
+use Rattle.std.specs.List.{cons_option, filter_map, sum_by}
 use Rattle.std.specs.Option.{option_and_then}
 use Rattle.std.proofs.lemmas.List.Sums.{sum_by-cons}
 use Rattle.std.proofs.lemmas.Option.{some_pair_parts}
@@ -22,7 +22,8 @@ use Rattle.dt_session.specs.Finished.{AreAnswered}
 use Rattle.dt_agreement.proofs.Callers.{legal_keeps, places_parallel, session_of_test}
 use Rattle.dt_gen.specs.Load.{load_cluster, load_workload}
 use Rattle.dt_gen.proofs.Callers.{load_calls_in, load_cluster_valid, load_workload_valid}
-use Rattle.dt_sum.specs.Laws.{EachCallIsAnsweredOnce, answer_count, is_answer}
+use Rattle.dt_sum.specs.Summary.{answer_count, is_answer}
+use Rattle.dt_sum.specs.Laws.{EachCallHasAReply, EachCallIsAnsweredOnce}
 
 -- how many calls are answered in all
 abbrev answered_in : List Place → ℕ
@@ -141,3 +142,25 @@ each_answered calls events few legal finished =
     let counted = events_count load_cluster workload events (opening_world load_cluster workload) legal in
     let done = all_answered workload.sessions now.places long finished.answered in
     omega (arith, counted, done, none_answered workload.sessions, load_calls_in calls)
+
+-- what a test counts
+abbrev counted : Bool → ℕ
+counted test = cond test 1 0
+
+-- a list that has an item for each answer has as many as there are answers
+answers_told : (item_of : Event → Option Bytes) → ((event : Event) → is_some (item_of event) ≡ is_answer event) → (events : List Event) → length (filter_map item_of events) ≡ answer_count events
+answers_told item_of same [] = refl
+answers_told item_of same (event ∷ events) = by (item_of event) (same event) (answers_told item_of same events)
+  where
+    by : (item : Option Bytes) → is_some item ≡ is_answer event → length (filter_map item_of events) ≡ answer_count events → length (cons_option item (filter_map item_of events)) ≡ answer_count (event ∷ events)
+    by None e rest =
+        let first : counted (is_answer event) ≡ 0 = ap counted (sym e) in
+        let all = sum_by-cons (λ (x : Event). counted (is_answer x)) event events in
+        omega (arith, first, rest, all)
+    by (Some item) e rest =
+        let first : counted (is_answer event) ≡ 1 = ap counted (sym e) in
+        let all = sum_by-cons (λ (x : Event). counted (is_answer x)) event events in
+        omega (arith, first, rest, all)
+
+pub each_reply : EachCallHasAReply
+each_reply calls events item_of few legal finished same = answers_told item_of same events ∙ each_answered calls events few legal finished

@@ -5,4 +5,6 @@ pub mod LoadTransactions
 pub mod LoadWorlds
 pub mod ShownTotals
 pub mod CountedAnswers
+pub mod KnownSummary
+pub mod RowSums
 pub mod Callers

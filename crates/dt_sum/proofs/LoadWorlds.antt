@@ -26,7 +26,8 @@ use Rattle.dt_agreement.specs.Invariant.{Inv, IsSubmissionOf}
 use Rattle.dt_agreement.proofs.Callers.{home_region, legal_agree, legal_keeps, transaction_valid, txn_there}
 use Rattle.dt_gen.specs.Load.{account, account_numbers, account_row, load_call, load_cluster, load_session, load_workload, session_numbers}
 use Rattle.dt_gen.proofs.Callers.{load_cluster_valid, load_workload_valid}
-use Rattle.dt_sum.specs.Balances.{HoldsAccounts, row_sum, amount_of, balance}
+use Rattle.dt_sum.specs.Balances.{HoldsAccounts, amount_of, balance}
+use Rattle.dt_sum.specs.Summary.{row_sum}
 use Rattle.dt_sum.specs.Laws.{EachAttemptEndsPlainly, EachRegionHoldsAccounts, EachReportShowsTheTotal, IsLoadOutcome, IsOfLoad}
 use Rattle.dt_sum.proofs.Holding.{account_in, account_within, holding}
 use Rattle.dt_sum.proofs.LoadTransactions.{loads_end, loads_keep}

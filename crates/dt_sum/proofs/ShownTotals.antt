@@ -22,7 +22,8 @@ use Rattle.dt_table.specs.declared.Shown.{Shown}
 use Rattle.dt_table.specs.Table.{Table, counter_of, is_shown, set_of_keys, shown_at, value_of}
 use Rattle.dt_gen.specs.Load.{account, account_numbers}
 use Rattle.dt_gen.proofs.Callers.{accounts_apart, sum_by-image}
-use Rattle.dt_sum.specs.Balances.{HoldsAccounts, amount_of, balance, number_of_row, total_of}
+use Rattle.dt_sum.specs.Balances.{HoldsAccounts, amount_of, balance, total_of}
+use Rattle.dt_sum.specs.Summary.{number_of_row}
 use Rattle.dt_sum.specs.Laws.{ShownSumIsTotal}
 use Rattle.dt_sum.proofs.Holding.{account_in, account_within}
 use Rattle.dt_sum.proofs.Totals.{same_sums}

@@ -1,12 +1,11 @@
 -- What the accounts of the generated load have in a table: each its balance, and all together a total. A table holds the
--- accounts where it has no rows but theirs, each with a number that is not negative, and a known total. Read next: Laws,
--- which say that this is so of every region at every moment.
-use Rattle.std.specs.Prelude.{◌≡◌, ◌<◌, ℕ, ℤ, pos, ◌+ℤ◌, List, Option, Some, None}
-use Rattle.std.specs.List.{fold, sum_by}
+-- accounts where it has no rows but theirs, each with a number that is not negative, and a known total. Read next: Summary,
+-- for what is told of a run; then Laws, which say that every region holds the accounts at every moment.
+use Rattle.std.specs.Prelude.{◌≡◌, ◌<◌, ℕ, pos, Option, Some, None}
+use Rattle.std.specs.List.{sum_by}
 use Rattle.dt_text.specs.Texts.{Bytes}
 use Rattle.dt_text.specs.declared.Value.{Value}
 use Rattle.dt_text.specs.declared.Value.TheVariants.{Int}
-use Rattle.dt_table.specs.declared.Shown.{Shown}
 use Rattle.dt_table.specs.Table.{Table, value_of}
 use Rattle.dt_gen.specs.Load.{account, account_numbers}
 
@@ -29,12 +28,3 @@ pub record HoldsAccounts (total : ℕ) (t : Table) : Type 0 where
   pub accounts : (q : ℕ) → q < 100 → value_of t (account q) ≡ Some (Int (pos (balance t q)))
   pub others : (key : Bytes) → ((q : ℕ) → q < 100 → ¬ (key ≡ account q)) → value_of t key ≡ None
   pub together : total_of t ≡ total
-
--- the number that a row has, which may be negative; 0 where it has none
-abbrev pub number_of_row : Option Value → ℤ
-number_of_row (Some (Int z)) = z
-number_of_row _ = pos 0
-
--- the sum of the numbers of rows that a report shows
-abbrev pub row_sum : List Shown → ℤ
-row_sum rows = fold (λ sum row. sum +ℤ number_of_row row.value) (pos 0) rows

@@ -1,9 +1,9 @@
 -- The laws of the generated load: no transfer and no move makes or loses money, whatever became of it, so neither does any run
 -- of the load. They speak of each region at each moment, and not only of the end. Read next: src/laws.rt.
-use Rattle.std.specs.Prelude.{◌≡◌, ◌<◌, ◌≤◌, ℕ, pos, Bool, true, false, List, count_by, codes}
+use Rattle.std.specs.Prelude.{◌≡◌, ◌<◌, ◌≤◌, ℕ, pos, List, length, filter_map, codes, Option, is_some}
 use Rattle.dt_lists.specs.Lists.{AllIn}
+use Rattle.dt_text.specs.Texts.{Bytes}
 use Rattle.dt_events.specs.declared.Event.{Event}
-use Rattle.dt_events.specs.declared.Event.TheVariants.{Answer}
 use Rattle.dt_proc.specs.Builtin.{builtin_procs}
 use Rattle.dt_table.specs.Table.{Table, shown}
 use Rattle.dt_eval.specs.declared.finish.Cause.TheVariants as cause
@@ -17,7 +17,8 @@ use Rattle.dt_session.specs.Step.{body_of}
 use Rattle.dt_session.specs.Run.{AreLegal, region_table, world_after}
 use Rattle.dt_session.specs.Finished.{IsFinished}
 use Rattle.dt_gen.specs.Load.{load_call, load_cluster, load_workload}
-use Rattle.dt_sum.specs.Balances.{HoldsAccounts, row_sum}
+use Rattle.dt_sum.specs.Balances.{HoldsAccounts}
+use Rattle.dt_sum.specs.Summary.{answer_count, big_text, is_answer, row_sum, summary_text}
 
 -- a valid transaction that does what some call of the load asks for
 pub record IsOfLoad (txn : Txn) : Type 0 where
@@ -58,16 +59,20 @@ EachReportShowsTheTotal =
     (calls : ℕ) (events : List Event) (region : ℕ) → calls ≤ 20000 → AreLegal load_cluster (load_workload calls) events → region < 4 →
     row_sum (shown (region_table load_cluster (load_workload calls) events region)) ≡ pos 100000
 
--- whether an event answers a session
-abbrev pub is_answer : Event → Bool
-is_answer (Answer region session) = true
-is_answer event = false
-
--- how many of the events answer a session
-abbrev pub answer_count : List Event → ℕ
-answer_count events = count_by is_answer events
-
 -- once a run of the load is finished, it has as many answers as calls
 abbrev pub EachCallIsAnsweredOnce : Type 0
 EachCallIsAnsweredOnce =
     (calls : ℕ) (events : List Event) → calls ≤ 20000 → AreLegal load_cluster (load_workload calls) events → IsFinished load_cluster (load_workload calls) events → answer_count events ≡ calls
+
+-- so a list that has an item for each answer and for no other event, as the replies of a report do, has as many items as there are
+-- calls
+abbrev pub EachCallHasAReply : Type 0
+EachCallHasAReply =
+    (calls : ℕ) (events : List Event) (item_of : Event → Option Bytes) → calls ≤ 20000 → AreLegal load_cluster (load_workload calls) events
+    → IsFinished load_cluster (load_workload calls) events → ((event : Event) → is_some (item_of event) ≡ is_answer event) → length (filter_map item_of events) ≡ calls
+
+-- so what is told of a finished run, by its events and by the rows that its report shows of region 0, is known before
+abbrev pub EachSummaryIsKnown : Type 0
+EachSummaryIsKnown =
+    (calls : ℕ) (events : List Event) → calls ≤ 20000 → AreLegal load_cluster (load_workload calls) events → IsFinished load_cluster (load_workload calls) events →
+    summary_text calls (answer_count events) (row_sum (shown (region_table load_cluster (load_workload calls) events 0))) ≡ big_text calls

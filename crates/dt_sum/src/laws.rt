@@ -1,5 +1,5 @@
 //! The laws of the generated load. Each is the contract of a function that does nothing.
-ghost use Rattle.dt_sum.specs.Laws.{EachAttemptEndsPlainly, EachCallIsAnsweredOnce, EachRegionHoldsAccounts, EachReportShowsTheTotal, LoadKeepsTotal, ShownSumIsTotal};
+ghost use Rattle.dt_sum.specs.Laws.{EachAttemptEndsPlainly, EachCallHasAReply, EachCallIsAnsweredOnce, EachRegionHoldsAccounts, EachReportShowsTheTotal, EachSummaryIsKnown, LoadKeepsTotal, ShownSumIsTotal};
 
 /// What the accounts have together is the same after any transactions of the load, in whatever order they run: a transfer takes
 /// from one account what it gives to another, or changes nothing, and a move writes nothing.
@@ -32,4 +32,15 @@ pub fn each_report_shows_the_total()
 /// A finished run of the load has as many answers as calls.
 pub fn each_call_is_answered_once()
     ensures { EachCallIsAnsweredOnce }
+{}
+
+/// A list that has an item for each answer of a finished run of the load, as the replies of its report do, has as many as there are
+/// calls.
+pub fn each_call_has_a_reply()
+    ensures { EachCallHasAReply }
+{}
+
+/// What is told of a finished run of the load of so many calls is known before: as many answers as calls, and the sum 100,000.
+pub fn each_summary_is_known()
+    ensures { EachSummaryIsKnown }
 {}
