@@ -58,7 +58,7 @@ module _ {a : NodeView} (source number : ℕ) (txn : Txn) (c : CanTake (asking_p
         from_source = refl;
         from = omega arith;
         to = omega arith;
-        earlier = omega arith;  -- stamps
+        earlier = omega arith;
       }))
   place_ends {procs} (Ok false) r m sound =
       subst (λ (x : RegionView). MovesOn procs (asking_packet a source number (txn ∷ []) ∷ []) a (record a { site = in_region a.site x })) (sym m.1) (made_nothing a)
@@ -97,7 +97,7 @@ module _ {a : NodeView} (source first : ℕ) (entries : List Entry) (c : CanTake
         from = refl;
         to = refl;
         some = let low : first ≤ length (log_at a.site.region.state.logs source) = m.0 in let high : length (log_at a.site.region.state.logs source) < first + length entries = m.1 in omega (arith, low, high);
-        earlier = omega arith;  -- stamps
+        earlier = omega arith;
       }))
   receive_ends {procs} (Ok Old) r m sound =
       subst (λ (x : RegionView). MovesOn procs (logging_packet a source first entries ∷ []) a (record a { site = in_region a.site x })) (sym m.2) (made_nothing a)

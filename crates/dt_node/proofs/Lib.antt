@@ -20,3 +20,6 @@ pub mod Pieces
 pub mod Taking
 pub mod Few
 pub mod Ready
+pub mod Seating
+pub mod OwnPlacing
+pub mod Beginning

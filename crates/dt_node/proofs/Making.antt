@@ -44,7 +44,7 @@ pub answer_moves : {procs : List ProcTree} {a : NodeView} (name : Bytes) (r : Re
     → MovesOn procs [] a (record a { site = in_region a.site r; sessions = after_answer a.sessions name })
 answer_moves {procs} {a} name r is may = made_some {procs = procs} {packets = []} {a = a} {b = record a { site = in_region a.site r; sessions = after_answer a.sessions name }} (Answer (number_of a) name ∷ [])
     (ap (λ (x : RegionView). x.events) is)
-    (ap (λ (x : RegionView). x.heard) is)  -- stamps
+    (ap (λ (x : RegionView). x.heard) is)
     (refl, tt) (λ cluster workload events p f _. answer_goes f name r is may)
     (record {
       number = ap (λ (x : RegionView). x.state.number) is;
@@ -59,7 +59,7 @@ pub submit_moves : {procs : List ProcTree} {a : NodeView} (name : Bytes) {origin
     → MakesAttempt procs a.site rank body origin (Ok id) q → IsSoundRegion q.region.state → MovesOn procs [] a (record a { site = q; sessions = after_wait a.sessions name id })
 submit_moves {procs} {a} name {origin} {rank} {body} t id q made sound = made_some {procs = procs} {packets = []} {a = a} {b = record a { site = q; sessions = after_wait a.sessions name id }} (Submit (number_of a) name ∷ [])
     (ap (λ (x : SiteView). x.region.events) made.1 ∙ ap (λ n. a.site.region.events ++ stamped_from (latest_stamp a.site.region + 1) (Submit (number_of a) n ∷ [])) t.session)
-    (ap (λ (x : SiteView). x.region.heard) made.1)  -- stamps
+    (ap (λ (x : SiteView). x.region.heard) made.1)
     (refl, tt) (λ cluster workload events p f _. submit_goes f name t id q (subst (λ l. MakesAttempt l a.site rank body origin (Ok id) q) p made) sound)
     (record {
       number = ap (λ (x : SiteView). x.region.state.number) made.1;
@@ -101,7 +101,7 @@ module _ {a : NodeView} (source number : ℕ) (txn : Txn) (r : RegionView) (made
       → AreTold cluster workload events packets a → GoesAfter cluster workload events (Append (number_of a) source number ∷ []) (record a { site = in_region a.site r }))
       → IsBroughtBy packets (latest_stamp a.site.region + 1) (Append (number_of a) source number) → MovesOn procs packets a (record a { site = in_region a.site r })
   place_moves {procs} packets goes brought = made_some {procs = procs} {packets = packets} {a = a} {b = record a { site = in_region a.site r }} (Append (number_of a) source number ∷ []) (ap (λ (x : RegionView). x.events) made.1)
-      (ap (λ (x : RegionView). x.heard) made.1)  -- stamps
+      (ap (λ (x : RegionView). x.heard) made.1)
       (refl, tt) goes place_beside (brought, tt)
 
 -- entries were received
@@ -121,7 +121,7 @@ module _ {a : NodeView} (home first : ℕ) (entries : List Entry) (n : ℕ) (r :
       → IsBroughtBy packets (latest_stamp a.site.region + 1) (Deliver (number_of a) home first (first + length entries)) → MovesOn procs packets a (record a { site = in_region a.site r })
   receive_moves {procs} packets goes brought = made_some {procs = procs} {packets = packets} {a = a} {b = record a { site = in_region a.site r }}
       (Deliver (number_of a) home first (first + length entries) ∷ []) (ap (λ (x : RegionView). x.events) made.3)
-      (ap (λ (x : RegionView). x.heard) made.3)  -- stamps
+      (ap (λ (x : RegionView). x.heard) made.3)
       (refl, tt) goes receive_beside (brought, tt)
 
 -- a round was made
@@ -165,7 +165,7 @@ taken_in_steps procs found here (event ∷ events) = taken_in_steps procs found 
 
 pub round_moves : {procs : List ProcTree} {a : NodeView} (r : RegionView) → Continues procs a.site.region r → IsSoundRegion r.state → MovesOn procs [] a (record a { site = in_region a.site r })
 round_moves {procs} {a} r c sound = made_some {procs = procs} {packets = []} {a = a} {b = record a { site = in_region a.site r }} c.events c.kept
-    c.heard  -- stamps
+    c.heard
     (round_mine procs (held a.site.region.state) (number_of a) a.site.region.state.logs c.events a.site.region.state.here c.legal)
     (λ cluster workload before p f _. round_goes f c.events r
     (subst (λ l. IsContinuation l (held a.site.region.state) (number_of a) a.site.region.state.logs a.site.region.state.here c.events) p c.legal)

@@ -23,7 +23,7 @@ use Rattle.dt_node.specs.TurnInner.{MovesOn}
 use Rattle.dt_node.proofs.Going.{goes_more, goes_none}
 use Rattle.dt_node.proofs.Telling.{told_along, told_first, told_rest}
 use Rattle.dt_node.proofs.Greatest.{above_greatest}
-use Rattle.dt_node.proofs.Stamping.{rise_by, rise_more, rise_none}  -- stamps
+use Rattle.dt_node.proofs.Stamping.{rise_by, rise_more, rise_none}
 
 -- what comes behind a list
 pub behind : {A : Type 0} (xs ys : List A) → drop (length xs) (xs ++ ys) ≡ ys
@@ -100,7 +100,7 @@ moves_more {procs} {xs} {ys} {a} {b} {c} g h =
         each = subst (AllIn (λ x. IsBroughtBy (xs ++ ys) x.stamp x.event)) (sym joined) (all_append _ (new_items a b) (new_items b c)
             (all_map _ _ (new_items a b) (λ x f. more_left xs ys x.stamp x.event f) g.brought.each) (all_map _ _ (new_items b c) (λ x f. more_right xs ys x.stamp x.event f) h.brought.each));
       };
-      stamps = rise_more joined g.stamps h.stamps;  -- stamps
+      stamps = rise_more joined g.stamps h.stamps;
     }
 
 -- the same with no packets more, on either side
@@ -131,7 +131,7 @@ pub record StaysBeside (a b : NodeView) : Type 0 where
   pub logs : (home : ℕ) → length (log_at a.site.region.state.logs home) ≤ length (log_at b.site.region.state.logs home)
 
 module _ {procs : List ProcTree} {packets : List Packet} {a b : NodeView} (events : List Event) (kept : b.site.region.events ≡ a.site.region.events ++ stamped_from (latest_stamp a.site.region + 1) events)
-    (heard : b.site.region.heard ≡ a.site.region.heard)  -- stamps
+    (heard : b.site.region.heard ≡ a.site.region.heard)
     (mine : AllIn (λ e. region_of e ≡ number_of a) events)
     (goes : (cluster : Cluster) (workload : Workload) (before : List Event) → procs ≡ cluster.procs → NodeFits cluster workload before a
     → AreTold cluster workload before packets a → GoesAfter cluster workload before events b)
@@ -150,12 +150,12 @@ module _ {procs : List ProcTree} {packets : List Packet} {a b : NodeView} (event
       logs = beside.logs;
     };
     brought = record { each = subst (AllIn (λ x. IsBroughtBy packets x.stamp x.event)) (sym are) brought };
-    stamps = rise_by events kept heard are (many_stamped (latest_stamp a.site.region + 1) events);  -- stamps
+    stamps = rise_by events kept heard are (many_stamped (latest_stamp a.site.region + 1) events);
   }
 
 -- no event was made
 module _ {procs : List ProcTree} {packets : List Packet} {a b : NodeView} (same : b.site.region.events ≡ a.site.region.events)
-    (up : latest_stamp a.site.region ≤ latest_stamp b.site.region) (low : latest_stamp b.site.region ≤ greatest (latest_stamp a.site.region) (map (λ p. p.stamp) packets))  -- stamps
+    (up : latest_stamp a.site.region ≤ latest_stamp b.site.region) (low : latest_stamp b.site.region ≤ greatest (latest_stamp a.site.region) (map (λ p. p.stamp) packets))
     (fits : (cluster : Cluster) (workload : Workload) (events : List Event) → NodeFits cluster workload events a → AreTold cluster workload events packets a
     → NodeFits cluster workload events b) (beside : StaysBeside a b) where
   pub made_none : MovesOn procs packets a b
@@ -171,13 +171,13 @@ module _ {procs : List ProcTree} {packets : List Packet} {a b : NodeView} (same 
       logs = beside.logs;
     };
     brought = record { each = subst (AllIn (λ x. IsBroughtBy packets x.stamp x.event)) (sym none) tt };
-    stamps = rise_none none up low;  -- stamps
+    stamps = rise_none none up low;
   }
 
 -- nothing has changed
 pub made_nothing : {procs : List ProcTree} {packets : List Packet} (a : NodeView) → MovesOn procs packets a a
 made_nothing {procs} {packets} a = made_none {procs = procs} {packets = packets} {a = a} {b = a} refl
-    (omega arith) (above_greatest (latest_stamp a.site.region) (map (λ p. p.stamp) packets))  -- stamps
+    (omega arith) (above_greatest (latest_stamp a.site.region) (map (λ p. p.stamp) packets))
     (λ cluster workload events f t. f) (record {
       number = refl;
       regions = refl;

@@ -45,7 +45,7 @@ heard_fits stamp f = record {
 
 pub heard_moves : {procs : List ProcTree} (p : Packet) (a : NodeView) → MovesOn procs (p ∷ []) a (heard_by a p.stamp)
 heard_moves {procs} p a = made_none {procs = procs} {packets = p ∷ []} {a = a} {b = heard_by a p.stamp} refl
-    (omega arith) (omega arith)  -- stamps
+    (omega arith) (omega arith)
     (λ cluster workload events f t. heard_fits p.stamp f) (record {
       number = refl;
       regions = refl;
@@ -99,7 +99,7 @@ module _ {cluster : Cluster} {workload : Workload} {events : List Event} {n : No
 
 pub noted_moves : {procs : List ProcTree} (p : Packet) (a : NodeView) → MovesOn procs (p ∷ []) a (noted a p.source p.took p.received)
 noted_moves {procs} p a = made_none {procs = procs} {packets = p ∷ []} {a = a} {b = noted a p.source p.took p.received} refl
-    (omega arith) (omega arith)  -- stamps
+    (omega arith) (omega arith)
     (λ cluster workload events f t. noted_fits f p t) (record {
       number = refl;
       regions = refl;

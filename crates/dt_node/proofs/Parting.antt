@@ -16,7 +16,7 @@ use Rattle.dt_workload.specs.declared.Workload.{Workload}
 use Rattle.dt_session.specs.World.{World, asked_of, log_of}
 use Rattle.dt_session.specs.Run.{world_after}
 use Rattle.dt_node.proofs.Moving.{moves_more}
-use Rattle.dt_node.proofs.Stamping.{rise_same, rise_with}  -- stamps
+use Rattle.dt_node.proofs.Stamping.{rise_same, rise_with}
 use Rattle.dt_node.specs.NodeView.{NodeView, new_items, number_of}
 use Rattle.dt_node.specs.Packets.{IsToldOf}
 use Rattle.dt_node.specs.Standing.{AreTold, IsFor}
@@ -79,8 +79,8 @@ module _ (n : NodeView) (p : Packet) (here : p.target ≡ number_of n) where
       fits = c.can.fits;
       told = asks_are_told c.can.told;
       begins = (record { asked = c.can.begins.0.asked; entries = omega arith }, tt);
-      packet_stamps = (omega arith, tt);  -- stamps
-      low = c.can.low;  -- stamps
+      packet_stamps = (omega arith, tt);
+      low = c.can.low;
     };
   }
 
@@ -95,8 +95,8 @@ module _ (n : NodeView) (p : Packet) (here : p.target ≡ number_of n) where
       fits = c.can.fits;
       told = logs_are_told c.can.told;
       begins = (record { asked = omega arith; entries = c.can.begins.0.entries }, tt);
-      packet_stamps = (omega arith, tt);  -- stamps
-      low = c.can.low;  -- stamps
+      packet_stamps = (omega arith, tt);
+      low = c.can.low;
     };
   }
 
@@ -111,7 +111,7 @@ module _ (n : NodeView) (p : Packet) (here : p.target ≡ number_of n) where
         from_source = b.from_source;
         from = b.from;
         to = b.to;
-        earlier = lt;  -- stamps
+        earlier = lt;
       })
       brings (inr b) = absurd b
   from_asks stamp lt (Deliver region home first last) f = λ apart. brings (f apart)
@@ -140,7 +140,7 @@ module _ (n : NodeView) (p : Packet) (here : p.target ≡ number_of n) where
         from = b.from;
         to = b.to;
         some = b.some;
-        earlier = lt;  -- stamps
+        earlier = lt;
       })
       brings (inr b) = absurd b
   from_logs stamp lt (Submit region name) f = tt
@@ -180,7 +180,7 @@ moves_same {procs} {xs} {a} {b} {c} g h =
     record {
       gone = gone_by (xs ++ xs) xs (λ cluster workload events t. record { addressed = all_append _ xs xs t.addressed t.addressed; told = all_append _ xs xs t.told t.told }) m.gone;
       brought = record { each = all_map _ _ (new_items a c) (λ x f. brought_once xs x.stamp x.event f) m.brought.each };
-      stamps = rise_same m.stamps;  -- stamps
+      stamps = rise_same m.stamps;
     }
 
 module _ {procs : List ProcTree} {a b : NodeView} (p : Packet) (here : p.target ≡ number_of a) (heard : p.stamp ≤ latest_stamp a.site.region) where
@@ -188,18 +188,18 @@ module _ {procs : List ProcTree} {a b : NodeView} (p : Packet) (here : p.target 
   moves_by_asking m = record {
     gone = gone_by (asking_packet a p.source p.asked_at p.asked ∷ []) (p ∷ []) (λ cluster workload events t. asks_are_told a p here t) m.gone;
     brought = record { each = all_put _ (new_items a b) (λ x h. from_asks a p here x.stamp (later x h) x.event (all_get _ (new_items a b) m.brought.each x h)) };
-    stamps = rise_with p refl m.stamps;  -- stamps
+    stamps = rise_with p refl m.stamps;
   }
-    where  -- stamps
-      later : (x : Stamped) → Has (new_items a b) x → p.stamp < x.stamp  -- stamps
-      later x h = let above = all_get _ (new_items a b) m.stamps.above x h in omega (arith, heard, above)  -- stamps
+    where
+      later : (x : Stamped) → Has (new_items a b) x → p.stamp < x.stamp
+      later x h = let above = all_get _ (new_items a b) m.stamps.above x h in omega (arith, heard, above)
 
   pub moves_by_logging : MovesOn procs (logging_packet a p.source p.log_at p.entries ∷ []) a b → MovesOn procs (p ∷ []) a b
   moves_by_logging m = record {
     gone = gone_by (logging_packet a p.source p.log_at p.entries ∷ []) (p ∷ []) (λ cluster workload events t. logs_are_told a p here t) m.gone;
     brought = record { each = all_put _ (new_items a b) (λ x h. from_logs a p here x.stamp (later x h) x.event (all_get _ (new_items a b) m.brought.each x h)) };
-    stamps = rise_with p refl m.stamps;  -- stamps
+    stamps = rise_with p refl m.stamps;
   }
-    where  -- stamps
-      later : (x : Stamped) → Has (new_items a b) x → p.stamp < x.stamp  -- stamps
-      later x h = let above = all_get _ (new_items a b) m.stamps.above x h in omega (arith, heard, above)  -- stamps
+    where
+      later : (x : Stamped) → Has (new_items a b) x → p.stamp < x.stamp
+      later x h = let above = all_get _ (new_items a b) m.stamps.above x h in omega (arith, heard, above)

@@ -108,7 +108,7 @@ module _ (a n : NodeView) (same : number_of n ≡ number_of a) (source first num
             from_source = b.from_source;
             from = omega (arith, low, begin);
             to = omega (arith, high, begin, end);
-            earlier = b.earlier;  -- stamps
+            earlier = b.earlier;
           })
       brings (inr b) = absurd b
   by_all stamp (Deliver region home begin last) f = λ apart. brings (f apart)
@@ -153,8 +153,8 @@ module _ {a : NodeView} {source first : ℕ} {asked : List Txn} (c : CanTake (as
         fits = still.can.fits;
         told = piece_told a n same source first number p.done x left asked p.is p.next still.can.told;
         begins = (record { asked = p.taken; entries = omega arith }, tt);
-        packet_stamps = (omega arith, tt);  -- stamps
-        low = still.can.low;  -- stamps
+        packet_stamps = (omega arith, tt);
+        low = still.can.low;
       };
     }
 
@@ -172,7 +172,7 @@ module _ {a : NodeView} {source first : ℕ} {asked : List Txn} (c : CanTake (as
       gone = gone_by (asking_packet n source number (x ∷ []) ∷ []) (asking_packet a source first asked ∷ [])
           (λ cluster workload events t. piece_told a n same source first number p.done x left asked p.is p.next t) g.gone;
       brought = record { each = all_map _ _ (new_items n m) (λ y f. by_all a n same source first number asked x low high y.stamp y.event f) g.brought.each };
-      stamps = record { rising = g.stamps.rising; above = g.stamps.above; below = g.stamps.below; up = g.stamps.up; low = g.stamps.low };  -- stamps
+      stamps = record { rising = g.stamps.rising; above = g.stamps.above; below = g.stamps.below; up = g.stamps.up; low = g.stamps.low };
     }
 
     pub placing_breaks : {m : NodeView} → ((procs : List ProcTree) → MovesOn procs (asking_packet n source number (x ∷ []) ∷ []) n m) → (procs : List ProcTree) → MovesOn procs (asking_packet a source first asked ∷ []) a m

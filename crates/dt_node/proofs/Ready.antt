@@ -10,7 +10,7 @@ use Rattle.dt_table.specs.Table.{counter_of}
 use Rattle.dt_txn.specs.Replica.{fronts}
 use Rattle.dt_region.proofs.Callers.{fronts_few}
 use Rattle.dt_region.specs.Conditions.{HoldsValid}
-use Rattle.dt_region.specs.Region.{HasStamp, latest_stamp}  -- stamps
+use Rattle.dt_region.specs.Region.{HasStamp, latest_stamp}
 use Rattle.dt_round.specs.Rounds.{CanRound}
 use Rattle.dt_packet.specs.declared.packet.Packet.{Packet}
 use Rattle.dt_session.specs.World.{World, logs_of, received_lengths}
@@ -25,14 +25,14 @@ module _ {procs : List ProcTree} {packets : List Packet} {n : NodeView} (c : Can
   pub few : length (events_of c.all) ≤ 24640000
   few = few_events c.fits
 
-  top : latest_stamp n.site.region < 2 ^ 61  -- stamps
-  top =  -- stamps
-      let low : latest_stamp n.site.region ≤ 2 ^ 60 + length c.all = c.low in  -- stamps
-      let many : length (events_of c.all) ≡ length c.all = length-map c.all (λ x. x.event) in  -- stamps
-      omega (arith, low, many, few)  -- stamps
+  top : latest_stamp n.site.region < 2 ^ 61
+  top =
+      let low : latest_stamp n.site.region ≤ 2 ^ 60 + length c.all = c.low in
+      let many : length (events_of c.all) ≡ length c.all = length-map c.all (λ x. x.event) in
+      omega (arith, low, many, few)
 
-  pub has_stamp : HasStamp n.site.region  -- stamps
-  has_stamp = omega (arith, top)  -- stamps
+  pub has_stamp : HasStamp n.site.region
+  has_stamp = omega (arith, top)
 
   pub one_more : length (events_of c.all) + 1 < 4294967296
   one_more = omega (arith, few)
@@ -48,5 +48,5 @@ module _ {procs : List ProcTree} {packets : List Packet} {n : NodeView} (c : Can
   can_round = record {
     holds = subst (λ l. HoldsValid l n.site.region.state) (sym c.procs_are) (holds_valid (reached c.fits) c.fits.number c.fits.site);
     moves = λ key. let moved : counter_of n.site.region.state.here.table key ≤ length (events_of c.all) = counter_few (reached c.fits) c.fits.number c.fits.site key in omega (arith, moved, parts_few, few);
-    stamps = top;  -- stamps
+    stamps = top;
   }

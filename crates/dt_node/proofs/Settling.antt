@@ -90,7 +90,7 @@ sent_fits f = record {
 
 pub sent_moves : {procs : List ProcTree} (a : NodeView) → MovesOn procs [] a (record a { turns = a.turns + 1 })
 sent_moves {procs} a = made_none {procs = procs} {packets = []} {a = a} {b = record a { turns = a.turns + 1 }} refl
-    (omega arith) (omega arith)  -- stamps
+    (omega arith) (omega arith)
     (λ cluster workload events f t. sent_fits f) (record {
       number = refl;
       regions = refl;

@@ -95,8 +95,8 @@ module _ {procs : List ProcTree} {packets : List Packet} {n : NodeView} (s : Nod
     fits = s.fits;
     told = record { addressed = s.addressed; told = all_map _ _ packets (λ p t. t.told s.all [] (sym (append-nil s.all)) tt) s.true_packets };
     begins = all_put _ packets (λ p h. begins_within p (all_get _ packets s.addressed p h) (all_get _ packets s.true_packets p h));
-    packet_stamps = s.packet_stamps;  -- stamps
-    low = let h : latest_stamp n.site.region < 2 ^ 60 = s.heard in omega (arith, h);  -- stamps
+    packet_stamps = s.packet_stamps;
+    low = let h : latest_stamp n.site.region < 2 ^ 60 = s.heard in omega (arith, h);
   }
 
 -- and goes on where it may, with what is left of the packets
@@ -133,19 +133,19 @@ module _ {procs : List ProcTree} (xs ys : List Packet) {a b : NodeView} (c : Can
     fits = subst (λ l. NodeFits c.cluster c.workload l b) (sym all_events) goes.fits;
     told = subst (λ l. AreTold c.cluster c.workload l ys b) (sym all_events) (told_along new_events c.fits goes.legal own_events m.gone.number (told_rest xs ys c.told));
     begins = all_map _ _ ys still_within (all_append_right _ xs ys c.begins);
-    packet_stamps = all_append_right _ xs ys c.packet_stamps;  -- stamps
-    low = low_then;  -- stamps
+    packet_stamps = all_append_right _ xs ys c.packet_stamps;
+    low = low_then;
   }
-    where  -- stamps
-      low_then : latest_stamp b.site.region ≤ 2 ^ 60 + length (c.all ++ new_items a b)  -- stamps
-      low_then =  -- stamps
-          let before : latest_stamp a.site.region ≤ 2 ^ 60 + length c.all = c.low in  -- stamps
-          let all : AllIn (λ x. x ≤ 2 ^ 60 + length c.all) (map (λ p. p.stamp) xs) =  -- stamps
-          all_image _ (λ p. p.stamp) xs (all_map _ _ xs (λ p lt. omega (arith, lt)) (all_append_left _ xs ys c.packet_stamps)) in  -- stamps
-          let below : greatest (latest_stamp a.site.region) (map (λ p. p.stamp) xs) ≤ 2 ^ 60 + length c.all =  -- stamps
-          greatest_below (latest_stamp a.site.region) (2 ^ 60 + length c.all) (map (λ p. p.stamp) xs) before all in  -- stamps
-          let up : latest_stamp b.site.region ≤ greatest (latest_stamp a.site.region) (map (λ p. p.stamp) xs) + length (new_items a b) = m.stamps.low in  -- stamps
-          omega (arith, up, below, length-append c.all (new_items a b))  -- stamps
+    where
+      low_then : latest_stamp b.site.region ≤ 2 ^ 60 + length (c.all ++ new_items a b)
+      low_then =
+          let before : latest_stamp a.site.region ≤ 2 ^ 60 + length c.all = c.low in
+          let all : AllIn (λ x. x ≤ 2 ^ 60 + length c.all) (map (λ p. p.stamp) xs) =
+          all_image _ (λ p. p.stamp) xs (all_map _ _ xs (λ p lt. omega (arith, lt)) (all_append_left _ xs ys c.packet_stamps)) in
+          let below : greatest (latest_stamp a.site.region) (map (λ p. p.stamp) xs) ≤ 2 ^ 60 + length c.all =
+          greatest_below (latest_stamp a.site.region) (2 ^ 60 + length c.all) (map (λ p. p.stamp) xs) before all in
+          let up : latest_stamp b.site.region ≤ greatest (latest_stamp a.site.region) (map (λ p. p.stamp) xs) + length (new_items a b) = m.stamps.low in
+          omega (arith, up, below, length-append c.all (new_items a b))
 
 pub take_on : (xs ys : List Packet) {a b : NodeView} → CanTake (xs ++ ys) a → ((procs : List ProcTree) → MovesOn procs xs a b) → CanTake ys b
 take_on xs ys c m = record { procs = c.procs; can = can_on xs ys c.can (m c.procs) }
@@ -159,8 +159,8 @@ can_twice xs c = record {
   fits = c.fits;
   told = record { addressed = all_append _ xs xs c.told.addressed c.told.addressed; told = all_append _ xs xs c.told.told c.told.told };
   begins = all_append _ xs xs c.begins c.begins;
-  packet_stamps = all_append _ xs xs c.packet_stamps c.packet_stamps;  -- stamps
-  low = c.low;  -- stamps
+  packet_stamps = all_append _ xs xs c.packet_stamps c.packet_stamps;
+  low = c.low;
 }
 
 -- the packets that were used may be used again

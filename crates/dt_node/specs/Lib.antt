@@ -5,6 +5,7 @@ pub mod Turn
 pub mod Sending
 pub mod Measure
 pub mod TurnInner
+pub mod Beginning
 pub mod NodeCode
 pub use Rattle.dt_session.specs.World
 pub use Rattle.dt_session.specs.Step

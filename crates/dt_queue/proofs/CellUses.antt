@@ -13,7 +13,8 @@ use Rattle.dt_queue.specs.declared.kept.Kept.{Kept}
 use Rattle.dt_queue.specs.declared.rows.Rows.{Rows}
 use Rattle.dt_queue.specs.Kept.{CellsClash, IsInLane, AreQueuesKept, lane, mark_of, place_at}
 use Rattle.dt_queue.specs.Lanes.{AreApart}
-use Rattle.dt_queue.specs.Rows.{granule_at, rows_at}
+use Rattle.dt_queue.specs.InUse.{rows_at}
+use Rattle.dt_queue.specs.Rows.{granule_at}
 
 some_same : (c d : Cell) → Some c ≡ Some d → c ≡ d
 some_same c d e = cc
@@ -83,7 +84,7 @@ apart_lanes k kept = record {
 abbrev pub InUseOf : Mode → Kept → ℕ → Mark → Type 0
 InUseOf Read k row m = Has (lane k Write row) m
 InUseOf Write k row m = Has (lane k Read row) m ⊎ Has (lane k Write row) m
-InUseOf Whole k row m = AnyIn (λ r. Has (lane k Read r) m ⊎ Has (lane k Write r) m) (rows_at k.rows (granule_at k.rows row))
+InUseOf Whole k row m = AnyIn (λ r. Has (lane k Read r) m ⊎ Has (lane k Write r) m) (rows_at k.in_use (granule_at k.rows row))
 
 pub clash_turned : (r : Rows) (c d : Cell) → CellsClash r c d → CellsClash r d c
 clash_turned r c d (inl b) = inl (sym b.0, elim b.1 [ inl e ↦ inr e | inr e ↦ inl e ])
@@ -128,18 +129,23 @@ pub part_of : (k : Kept) → AreQueuesKept k → (row : ℕ) (m : Mark) (c : Cel
 part_of k kept row m c a (inl h) = let b = lane_tells k kept Read row m c a h in (ap is_whole b.0, b.1)
 part_of k kept row m c a (inr h) = let b = lane_tells k kept Write row m c a h in (ap is_whole b.0, b.1)
 
-pub row_in_granule : (k : Kept) → AreQueuesKept k → (g row : ℕ) → Has (rows_at k.rows g) row → granule_at k.rows row ≡ g
-row_in_granule k kept g row h = ((kept.linked.rows g row).0 h).1
+pub row_in_granule : (k : Kept) → AreQueuesKept k → (g row : ℕ) → Has (rows_at k.in_use g) row → granule_at k.rows row ≡ g
+row_in_granule k kept g row h = ((kept.in_use g row).0 h).0
 
 -- a cell that is in use clashes with the use
 pub use_clashes : (mode : Mode) (k : Kept) → AreQueuesKept k → (x : Cell) → x.mode ≡ mode → (m : Mark) (c : Cell) → IsMarkOf k m c → InUseOf mode k x.row m → IsPart c.mode × CellsClash k.rows c x
 use_clashes Read k kept x e m c a h = let b = lane_tells k kept Write x.row m c a h in (ap is_whole b.0, write_clashes k.rows c x b.0 b.1)
 use_clashes Write k kept x e m c a h = let b = part_of k kept x.row m c a h in (b.0, clash_turned k.rows x c (write_clashes k.rows x c e (sym b.1)))
 use_clashes Whole k kept x e m c a h =
-    let r = any_get (λ row. Has (lane k Read row) m ⊎ Has (lane k Write row) m) (rows_at k.rows (granule_at k.rows x.row)) h in
+    let r = any_get (λ row. Has (lane k Read row) m ⊎ Has (lane k Write row) m) (rows_at k.in_use (granule_at k.rows x.row)) h in
     let b = part_of k kept r.0 m c a r.2 in
     let g : granule_at k.rows c.row ≡ granule_at k.rows x.row = ap (granule_at k.rows) b.1 ∙ row_in_granule k kept (granule_at k.rows x.row) r.0 r.1 in
     (b.0, clash_turned k.rows x c (whole_clashes k.rows x c e (sym g)))
+
+-- a read or a write of a granule is in a row of it that is in use
+in_own_row : (k : Kept) → AreQueuesKept k → (x : Cell) (m : Mark) (c : Cell) → CellsClash k.rows c x → Has (lane k Read c.row) m ⊎ Has (lane k Write c.row) m → InUseOf Whole k x.row m
+in_own_row k kept x m c clash h = any_put (λ r. Has (lane k Read r) m ⊎ Has (lane k Write r) m)
+    (rows_at k.in_use (granule_at k.rows x.row)) c.row ((kept.in_use (granule_at k.rows x.row) c.row).1 (one_granule k.rows c x clash, (m, h))) h
 
 -- a read or a write that clashes with the use is in use
 pub clash_uses : (mode : Mode) (k : Kept) → AreQueuesKept k → (x : Cell) → x.mode ≡ mode → (m : Mark) (c : Cell) → IsMarkOf k m c → CellsClash k.rows c x → (own : Mode) → c.mode ≡ own
@@ -149,16 +155,8 @@ clash_uses Read k kept x e m c a clash Read f = absurd (reads_agree k.rows c x f
 clash_uses Read k kept x e m c a clash Write f = inr (in_lane k kept m c a Write x.row (f, on_one_row k.rows c x (ap is_whole f) (ap is_whole e) clash))
 clash_uses Write k kept x e m c a clash Read f = inr (inl (in_lane k kept m c a Read x.row (f, on_one_row k.rows c x (ap is_whole f) (ap is_whole e) clash)))
 clash_uses Write k kept x e m c a clash Write f = inr (inr (in_lane k kept m c a Write x.row (f, on_one_row k.rows c x (ap is_whole f) (ap is_whole e) clash)))
-clash_uses Whole k kept x e m c a clash Read f = inr
-    (any_put (λ r. Has (lane k Read r) m ⊎ Has (lane k Write r) m) (rows_at k.rows (granule_at k.rows x.row)) c.row (own_row k kept x m c a clash) (inl (in_lane k kept m c a Read c.row (f, refl))))
-  where
-    own_row : (k : Kept) → AreQueuesKept k → (x : Cell) (m : Mark) (c : Cell) → IsMarkOf k m c → CellsClash k.rows c x → Has (rows_at k.rows (granule_at k.rows x.row)) c.row
-    own_row k kept x m c a clash = (kept.linked.rows (granule_at k.rows x.row) c.row).1 (kept.known m.slot c a.there, one_granule k.rows c x clash)
-clash_uses Whole k kept x e m c a clash Write f = inr
-    (any_put (λ r. Has (lane k Read r) m ⊎ Has (lane k Write r) m) (rows_at k.rows (granule_at k.rows x.row)) c.row (own_row k kept x m c a clash) (inr (in_lane k kept m c a Write c.row (f, refl))))
-  where
-    own_row : (k : Kept) → AreQueuesKept k → (x : Cell) (m : Mark) (c : Cell) → IsMarkOf k m c → CellsClash k.rows c x → Has (rows_at k.rows (granule_at k.rows x.row)) c.row
-    own_row k kept x m c a clash = (kept.linked.rows (granule_at k.rows x.row) c.row).1 (kept.known m.slot c a.there, one_granule k.rows c x clash)
+clash_uses Whole k kept x e m c a clash Read f = inr (in_own_row k kept x m c clash (inl (in_lane k kept m c a Read c.row (f, refl))))
+clash_uses Whole k kept x e m c a clash Write f = inr (in_own_row k kept x m c clash (inr (in_lane k kept m c a Write c.row (f, refl))))
 
 -- the cell of a mark that takes the granule of a use as a whole
 pub taker_of : (k : Kept) → AreQueuesKept k → (x : Cell) (m : Mark) (c : Cell) → IsMarkOf k m c → Has (lane k Whole (granule_at k.rows x.row)) m → (c.mode ≡ Whole) × (granule_at k.rows c.row ≡ granule_at k.rows x.row)

@@ -3,6 +3,8 @@ pub mod NearMarks
 pub mod RowsNear
 pub mod InOrder
 pub mod RowLists
+pub mod RowsUsed
+pub mod RowSets
 pub mod KeptLanes
 pub mod CellUses
 pub mod NearCells

@@ -1,58 +1,40 @@
 -- How rows and granules stay tied when one of them is added.
-use Rattle.std.proofs.Common.{◌≡◌, ◌≢◌, ◌⊎◌, ◌↔◌, ℕ, zero, suc, ◌+◌, ◌<◌, Bool, true, false, cond, ◌&&◌, ◌==◌, List, [], ◌∷◌}
-use Rattle.std.proofs.Common.{◌++◌, map, length, get_or, set, slice_get, slice_index_or, Some, None, refl, ap, sym, subst, inl, inr, arith, ◌∙◌, length-append}
+use Rattle.std.proofs.Common.{◌≡◌, ◌⊎◌, ℕ, suc, ◌+◌, ◌<◌, Bool, true, false, cond, ◌&&◌, ◌==◌, List, [], ◌∷◌}
+use Rattle.std.proofs.Common.{◌++◌, length, get_or, slice_get, Some, None, refl, ap, sym, subst, inl, inr, arith, ◌∙◌, length-append}
 use Rattle.std.specs.List.{list_any, position, position_from}
 use Rattle.std.proofs.lemmas.Iterator.Adapters.{position_from-zero}
 use Rattle.std.specs.Cmp.Lexicographic.{bytes_decides}
-use Rattle.std.specs.declared.vec.Vec.{Vec}
 use Rattle.std.proofs.lemmas.Bool.{and_parts}
-use Rattle.std.proofs.lemmas.List.{get_or_append_left, get_or_read, get_or-set_same, get_or-set_other, length-set, length-map, map-set}
+use Rattle.std.proofs.lemmas.List.{get_or_append_left}
 use Rattle.std.proofs.Math.Seq.{get_or-append_seam}
-use Rattle.dt_lists.specs.Lists.{Distinct, Has}
-use Rattle.dt_lists.proofs.Callers.{any_append_left, any_append_right, any_get, any_of_test, distinct_push, either_nat, get_of_map, has_more, place_in_longer, place_within, set_set}
+use Rattle.dt_lists.specs.Lists.{Has}
+use Rattle.dt_lists.proofs.Callers.{any_get, any_of_test, distinct_push, place_in_longer}
 use Rattle.dt_access.specs.Clash.{Bytes, same_key}
 use Rattle.dt_access.proofs.Callers.{same_key_self}
 use Rattle.dt_queue.specs.Rows.{AreTied, granule_name, name_at}
-
--- an empty list behind lists does not show
-empty_behind : (xs : List (List ℕ)) (g : ℕ) → get_or (xs ++ [] ∷ []) g [] ≡ get_or xs g []
-empty_behind [] zero = refl
-empty_behind [] (suc g) = refl
-empty_behind (x ∷ xs) zero = refl
-empty_behind (x ∷ xs) (suc g) = empty_behind xs g
 
 one_more : {A : Type 0} (xs : List A) (x : A) → length (xs ++ x ∷ []) ≡ length xs + 1
 one_more xs x = length-append xs (x ∷ [])
 
 -- a granule was added
-pub tied_granule : (names granules : List (ℕ × Bytes)) (gof : List ℕ) (rof : List (List ℕ)) (name : ℕ × Bytes) → AreTied names granules gof rof → ¬ (Has granules name)
-    → AreTied names (granules ++ name ∷ []) gof (rof ++ [] ∷ [])
-tied_granule names granules gof rof name t fresh = record {
+pub tied_granule : (names granules : List (ℕ × Bytes)) (gof : List ℕ) (name : ℕ × Bytes) → AreTied names granules gof → ¬ (Has granules name) → AreTied names (granules ++ name ∷ []) gof
+tied_granule names granules gof name t fresh = record {
   names_once = t.names_once;
   granules_once = distinct_push granules name t.granules_once fresh;
   each_row = t.each_row;
-  each_granule = one_more rof [] ∙ ap (λ n. n + 1) t.each_granule ∙ sym (one_more granules name);
   granule = λ row lt. place_in_longer granules (name ∷ []) _ _ (t.granule row lt);
-  rows = λ g row. subst (λ l. Has l row ↔ ((row < length names) × (get_or gof row 0 ≡ g))) (sym (empty_behind rof g)) (t.rows g row);
-  rows_once = λ g. subst Distinct (sym (empty_behind rof g)) (t.rows_once g);
 }
 
 -- a row was added
-pub tied_row : (names granules : List (ℕ × Bytes)) (gof : List ℕ) (rof : List (List ℕ)) (name : ℕ × Bytes) (g : ℕ) → AreTied names granules gof rof → ¬ (Has names name)
-    → slice_get granules g ≡ Some (granule_name name) → AreTied (names ++ name ∷ []) granules (gof ++ g ∷ []) (set rof g (get_or rof g [] ++ length gof ∷ []))
-tied_row names granules gof rof name g t fresh there = record {
+pub tied_row : (names granules : List (ℕ × Bytes)) (gof : List ℕ) (name : ℕ × Bytes) (g : ℕ) → AreTied names granules gof → ¬ (Has names name)
+    → slice_get granules g ≡ Some (granule_name name) → AreTied (names ++ name ∷ []) granules (gof ++ g ∷ [])
+tied_row names granules gof name g t fresh there = record {
   names_once = distinct_push names name t.names_once fresh;
   granules_once = t.granules_once;
   each_row = one_more gof g ∙ ap (λ n. n + 1) t.each_row ∙ sym (one_more names name);
-  each_granule = length-set rof g _ ∙ t.each_granule;
   granule = λ row lt. granule row (sides row lt);
-  rows = λ h row. rows h row;
-  rows_once = λ h. once h (either_nat h g);
 }
   where
-    in_granules : g < length rof
-    in_granules = let lt : g < length granules = place_within granules g (granule_name name) there in omega (arith, lt, t.each_granule)
-
     sides : (row : ℕ) → row < length (names ++ name ∷ []) → (row < length names) ⊎ (row ≡ length names)
     sides row lt = grind (arith, lt, one_more names name)
 
@@ -69,51 +51,7 @@ tied_row names granules gof rof name g t fresh there = record {
         ap (λ n. slice_get granules (get_or (gof ++ g ∷ []) n 0)) e ∙ ap (slice_get granules) new_granule ∙ there
         ∙ ap (λ n. Some (granule_name n)) (sym (ap (λ n. get_or (names ++ name ∷ []) n (0, [])) e ∙ get_or-append_seam names name [] (0, [])))
 
-    last : length names < length (names ++ name ∷ [])
-    last = let e : length (names ++ name ∷ []) ≡ length names + 1 = one_more names name in omega (arith, e)
-
-    longer : (row : ℕ) → row < length names → row < length (names ++ name ∷ [])
-    longer row lt = let e : length (names ++ name ∷ []) ≡ length names + 1 = one_more names name in omega (arith, lt, e)
-
-    same : (h : ℕ) → h ≢ g → get_or (set rof g (get_or rof g [] ++ length gof ∷ [])) h [] ≡ get_or rof h []
-    same h ne = get_or-set_other rof g h (get_or rof g [] ++ length gof ∷ []) [] ne
-
-    here : get_or (set rof g (get_or rof g [] ++ length gof ∷ [])) g [] ≡ get_or rof g [] ++ length gof ∷ []
-    here = get_or-set_same rof g (get_or rof g [] ++ length gof ∷ []) [] in_granules
-
-    rows : (h row : ℕ) → Has (get_or (set rof g (get_or rof g [] ++ length gof ∷ [])) h []) row ↔ ((row < length (names ++ name ∷ [])) × (get_or (gof ++ g ∷ []) row 0 ≡ h))
-    rows h row = elim (either_nat h g) [
-      | inr ne ↦ subst (λ l. Has l row ↔ ((row < length (names ++ name ∷ [])) × (get_or (gof ++ g ∷ []) row 0 ≡ h))) (sym (same h ne)) (
-        (λ k. let b = (t.rows h row).0 k in (longer row b.0, old_granule row b.0 ∙ b.1)),
-        (λ b. elim (sides row b.0) [
-          | inl lt ↦ (t.rows h row).1 (lt, sym (old_granule row lt) ∙ b.1)
-          | inr e ↦ absurd (ne (sym b.1 ∙ ap (λ n. get_or (gof ++ g ∷ []) n 0) e ∙ new_granule))
-        ]),
-      )
-      | inl s ↦ subst (λ i. Has (get_or (set rof g (get_or rof g [] ++ length gof ∷ [])) i []) row ↔ ((row < length (names ++ name ∷ [])) × (get_or (gof ++ g ∷ []) row 0 ≡ i))) (sym s)
-          (subst (λ l. Has l row ↔ ((row < length (names ++ name ∷ [])) × (get_or (gof ++ g ∷ []) row 0 ≡ g))) (sym here) (
-            (λ k. elim (has_more (get_or rof g []) (length gof) row k) [
-              | inl old ↦ let b = (t.rows g row).0 old in (longer row b.0, old_granule row b.0 ∙ b.1)
-              | inr e ↦ is_last row (sym e ∙ t.each_row)
-            ]),
-            (λ b. elim (sides row b.0) [
-              | inl lt ↦ any_append_left _ (get_or rof g []) (length gof ∷ []) ((t.rows g row).1 (lt, sym (old_granule row lt) ∙ b.1))
-              | inr e ↦ any_append_right _ (get_or rof g []) (length gof ∷ []) (inl (t.each_row ∙ sym e))
-            ]),
-          ))
-    ]
-      where
-        is_last : (row : ℕ) → row ≡ length names → (row < length (names ++ name ∷ [])) × (get_or (gof ++ g ∷ []) row 0 ≡ g)
-        is_last row e = (subst (λ n. n < length (names ++ name ∷ [])) (sym e) last, ap (λ n. get_or (gof ++ g ∷ []) n 0) e ∙ new_granule)
-
-    not_there : ¬ (Has (get_or rof g []) (length gof))
-    not_there h = let b = (t.rows g (length gof)).0 h in omega (arith, b.0, t.each_row)
-
-    once : (h : ℕ) → (h ≡ g) ⊎ (h ≢ g) → Distinct (get_or (set rof g (get_or rof g [] ++ length gof ∷ [])) h [])
-    once h (inr ne) = subst Distinct (sym (same h ne)) (t.rows_once h)
-    once h (inl s) = subst (λ i. Distinct (get_or (set rof g (get_or rof g [] ++ length gof ∷ [])) i [])) (sym s) (subst Distinct (sym here) (distinct_push (get_or rof g []) (length gof) (t.rows_once g) not_there))
-
--- ---- names in a set, and lists of rows in a vector
+-- ---- names in a set
 
 -- whether two names are the same
 abbrev pub same_name : ℕ × Bytes → ℕ × Bytes → Bool
@@ -172,17 +110,3 @@ added_name name xs fresh = by (list_any (same_name name) xs) refl
     by : (t : Bool) → list_any (same_name name) xs ≡ t → cond t xs (xs ++ name ∷ []) ≡ xs ++ name ∷ []
     by true e = let r = any_get (λ y. same_name name y ≡ true) xs (any_of_test (same_name name) xs e) in absurd (fresh (subst (Has xs) (sym (same_of_test name r.0 r.2)) r.1))
     by false e = refl
-
--- one list of rows got one more
-pub rows_after : {Z : Type 0} (xs : List (Vec ℕ Z)) (g n : ℕ) (d0 v1 d2 v2 : Vec ℕ Z) → g < length xs
-    → d0 ≡ slice_index_or xs g d0 → v1.items ≡ d0.items → d2 ≡ slice_index_or (set xs g v1) g d2 → v2.items ≡ d2.items ++ n ∷ []
-    → map (λ (v : Vec ℕ Z). v.items) (set (set xs g v1) g v2) ≡ set (map (λ (v : Vec ℕ Z). v.items) xs) g (get_or (map (λ (v : Vec ℕ Z). v.items) xs) g [] ++ n ∷ [])
-rows_after {Z} xs g n d0 v1 d2 v2 lt e0 e1 e2 e3 =
-    let one : d2 ≡ v1 = e2 ∙ get_or-set_same xs g v1 d2 lt in
-    let there : g < length (map (λ (v : Vec ℕ Z). v.items) xs) = rw (length-map xs (λ (v : Vec ℕ Z). v.items)) lt in
-    let had : d0.items ≡ get_or (map (λ (v : Vec ℕ Z). v.items) xs) g [] =
-    get_or_read (map (λ (v : Vec ℕ Z). v.items) xs) g d0.items there (ap (λ (v : Vec ℕ Z). v.items) e0 ∙ sym (get_of_map (λ (v : Vec ℕ Z). v.items) xs g d0)) [] in
-    map-set (λ (v : Vec ℕ Z). v.items) (set xs g v1) g v2
-    ∙ ap (λ l. set l g v2.items) (map-set (λ (v : Vec ℕ Z). v.items) xs g v1)
-    ∙ set_set (map (λ (v : Vec ℕ Z). v.items) xs) g v1.items v2.items
-    ∙ ap (λ l. set (map (λ (v : Vec ℕ Z). v.items) xs) g l) (e3 ∙ ap (λ (v : Vec ℕ Z). v.items ++ n ∷ []) one ∙ ap (λ l. l ++ n ∷ []) (e1 ∙ had))

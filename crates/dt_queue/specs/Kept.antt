@@ -9,7 +9,8 @@ use Rattle.dt_access.specs.declared.access.Mode.{Mode}
 use Rattle.dt_access.specs.declared.access.Mode.TheVariants.{Read, Write, Whole}
 use Rattle.dt_queue.specs.Queues.{Waiting}
 use Rattle.dt_queue.specs.Lanes.{HasRisingNumbers, IsFirstIn, IsLastIn, IsNearInRow, IsNextInRow}
-use Rattle.dt_queue.specs.Rows.{AreRowsLinked, granule_at, name_at, rows_at}
+use Rattle.dt_queue.specs.Rows.{AreRowsLinked, granule_at, name_at}
+use Rattle.dt_queue.specs.InUse.{rows_at}
 use Rattle.dt_queue.specs.declared.cell.Cell.{Cell}
 use Rattle.dt_queue.specs.declared.mark.Mark.{Mark}
 use Rattle.dt_queue.specs.declared.rows.Rows.{Rows}
@@ -58,7 +59,20 @@ pub record IsLane (cells : Slab Cell) (P : Cell → Type 0) (marks : List Mark) 
   pub numbered : HasRisingNumbers marks
   pub members : (m : Mark) → Has marks m ↔ ((c : Cell) × (get cells m.slot ≡ Some c) × P c × (m ≡ mark_of m.slot c))
 
--- what all queues keep: a cell has a number that was given, no other has it, and its row is known; and its mark is in its lane
+-- something waits to read or write the row
+abbrev pub IsInUse : Kept → ℕ → Type 0
+IsInUse k row = (m : Mark) × (Has (lane k Read row) m ⊎ Has (lane k Write row) m)
+
+-- of each granule just those rows are kept that are in use
+abbrev pub AreRowsInUse : Kept → Type 0
+AreRowsInUse k = (g row : ℕ) → Has (rows_at k.in_use g) row ↔ (granule_at k.rows row ≡ g) × IsInUse k row
+
+-- a row was taken out of those in use, where nothing waits to read or write it
+abbrev pub LeavesRow : ℕ → Kept → Kept → Type 0
+LeavesRow row old new = (g r : ℕ) → Has (rows_at new.in_use g) r ↔ Has (rows_at old.in_use g) r × ¬ ((g ≡ granule_at old.rows row) × (r ≡ row) × ¬ (IsInUse old row))
+
+-- what all queues keep: a cell has a number that was given, no other has it, and its row is known; its mark is in its lane; and
+-- the rows in use are known
 pub record AreQueuesKept (k : Kept) : Type 0 where
   pub linked : AreRowsLinked k.rows
   pub first : 0 < k.next_number
@@ -67,12 +81,14 @@ pub record AreQueuesKept (k : Kept) : Type 0 where
   pub alone : (s t : ℕ) (c d : Cell) → get k.cells s ≡ Some c → get k.cells t ≡ Some d → c.number ≡ d.number → s ≡ t
   pub known : (slot : ℕ) (c : Cell) → get k.cells slot ≡ Some c → c.row < length k.rows.names.keys
   pub lanes : (mode : Mode) (place : ℕ) → IsLane k.cells (IsInLane k.rows mode place) (lane k mode place)
+  pub in_use : AreRowsInUse k
 
 -- one lane has become another, and all other lanes and all else are as before
 pub record ChangesLaneOf (old : Kept) (mode : Mode) (place : ℕ) (marks : List Mark) (new : Kept) : Type 0 where
   pub changed : lane new mode place ≡ marks
   pub others : (m : Mode) (p : ℕ) → ¬ ((m ≡ mode) × (p ≡ place)) → lane new m p ≡ lane old m p
   pub rows : new.rows ≡ old.rows
+  pub in_use : new.in_use ≡ old.in_use
   pub cells : new.cells ≡ old.cells
   pub number : new.next_number ≡ old.next_number
 
@@ -80,6 +96,7 @@ pub record ChangesLaneOf (old : Kept) (mode : Mode) (place : ℕ) (marks : List 
 pub record KeepsLanes (old new : Kept) : Type 0 where
   pub lanes : (m : Mode) (p : ℕ) → lane new m p ≡ lane old m p
   pub rows : new.rows ≡ old.rows
+  pub in_use : new.in_use ≡ old.in_use
   pub cells : new.cells ≡ old.cells
   pub number : new.next_number ≡ old.next_number
 
@@ -97,7 +114,7 @@ pub record AddsCell (old new : Kept) (slot : ℕ) (row_name : ℕ × Bytes) (mod
 abbrev pub IsNearOf : Mode → Kept → ℕ → ℕ → ℕ → Mark → Type 0
 IsNearOf Read k row low high m = IsLastIn (lane k Write row) low high m
 IsNearOf Write k row low high m = IsNearInRow (lane k Read row) (lane k Write row) low high m
-IsNearOf Whole k row low high m = AnyIn (λ r. IsNearInRow (lane k Read r) (lane k Write r) low high m) (rows_at k.rows (granule_at k.rows row))
+IsNearOf Whole k row low high m = AnyIn (λ r. IsNearInRow (lane k Read r) (lane k Write r) low high m) (rows_at k.in_use (granule_at k.rows row))
 
 abbrev pub IsNearInMode : Kept → Cell → ℕ → Mark → Type 0
 IsNearInMode k x low m = IsNearOf x.mode k x.row low x.number m
@@ -106,7 +123,7 @@ IsNearInMode k x low m = IsNearOf x.mode k x.row low x.number m
 abbrev pub IsNextOfMode : Mode → Kept → ℕ → ℕ → ℕ → Mark → Type 0
 IsNextOfMode Read k row low high m = IsFirstIn (lane k Write row) low high m
 IsNextOfMode Write k row low high m = IsNextInRow (lane k Read row) (lane k Write row) low high m
-IsNextOfMode Whole k row low high m = AnyIn (λ r. IsNextInRow (lane k Read r) (lane k Write r) low high m) (rows_at k.rows (granule_at k.rows row))
+IsNextOfMode Whole k row low high m = AnyIn (λ r. IsNextInRow (lane k Read r) (lane k Write r) low high m) (rows_at k.in_use (granule_at k.rows row))
 
 abbrev pub IsNextInMode : Kept → Cell → ℕ → Mark → Type 0
 IsNextInMode k x high m = IsNextOfMode x.mode k x.row x.number high m

@@ -1,7 +1,7 @@
 -- Rows and granules, by numbers. A row is a key at a home; its granule is the granule of the key at that home. Both are numbered
 -- in the order of their first use, so that what is kept of them is found by number, and names are looked up once at a push.
-use Rattle.std.specs.Prelude.{◌≡◌, ℕ, ◌<◌, ◌↔◌, List, [], map, get_or, slice_get, length, Some}
-use Rattle.dt_lists.specs.Lists.{Has, Distinct, IsFront}
+use Rattle.std.specs.Prelude.{◌≡◌, ℕ, ◌<◌, List, [], get_or, slice_get, length, Some}
+use Rattle.dt_lists.specs.Lists.{Distinct, IsFront}
 use Rattle.dt_access.specs.Granules.{granule_of}
 use Rattle.dt_access.specs.Clash.{Bytes}
 use Rattle.dt_queue.specs.declared.rows.Rows.{Rows}
@@ -18,23 +18,16 @@ granule_name name = (name.0, granule_of name.1)
 abbrev pub granule_at : Rows → ℕ → ℕ
 granule_at r row = get_or r.granule_of.items row 0
 
--- the rows of a granule
-abbrev pub rows_at : Rows → ℕ → List ℕ
-rows_at r g = get_or (map (λ v. v.items) r.rows_of.items) g []
-
--- names of rows and granules, the granule of each row and the rows of each granule belong together
-pub record AreTied (names granules : List (ℕ × Bytes)) (granule_of : List ℕ) (rows_of : List (List ℕ)) : Type 0 where
+-- names of rows and granules, and the granule of each row, belong together
+pub record AreTied (names granules : List (ℕ × Bytes)) (granule_of : List ℕ) : Type 0 where
   pub names_once : Distinct names
   pub granules_once : Distinct granules
   pub each_row : length granule_of ≡ length names
-  pub each_granule : length rows_of ≡ length granules
   pub granule : (row : ℕ) → row < length names → slice_get granules (get_or granule_of row 0) ≡ Some (granule_name (name_at names row))
-  pub rows : (g row : ℕ) → Has (get_or rows_of g []) row ↔ ((row < length names) × (get_or granule_of row 0 ≡ g))
-  pub rows_once : (g : ℕ) → Distinct (get_or rows_of g [])
 
--- each row knows its granule, and each granule its rows
+-- each row knows its granule
 abbrev pub AreRowsLinked : Rows → Type 0
-AreRowsLinked r = AreTied r.names.keys r.granules.keys r.granule_of.items (map (λ v. v.items) r.rows_of.items)
+AreRowsLinked r = AreTied r.names.keys r.granules.keys r.granule_of.items
 
 -- rows may have been added, and all others have their numbers and granules as before
 pub record KeepsRows (old new : Rows) : Type 0 where

@@ -1,4 +1,4 @@
-ghost use Rattle.std.specs.Prelude.{◌≡◌, ◌<◌, ◌==◌, ◌-◌, ◌^◌, [], ◌∷◌, ◌++◌, length, not, None, IfOk, OnOk, OnErr};
+ghost use Rattle.std.specs.Prelude.{◌≡◌, ◌<◌, ◌↔◌, ◌==◌, ◌-◌, ◌^◌, [], ◌∷◌, ◌++◌, length, not, IsTrue, None, IfOk, OnOk, OnErr};
 ghost use Rattle.std.specs.List.{filter};
 ghost use Rattle.slab.specs.Slab.{ContainsKey, Updates};
 ghost use Rattle.dt_lists.specs.Lists.{AllIn, IsFront};
@@ -6,8 +6,9 @@ ghost use Rattle.dt_queue.specs.Lanes.{AreMarks};
 ghost use Rattle.dt_queue.specs.Next.{IsFirstAfter, IsKnownNext};
 
 use crate::cell::Cell;
+use crate::in_use::InUse;
 use crate::lane::Lane;
-use crate::lanes::{first_between, last_between, push_mark, remove_mark};
+use crate::lanes::{first_between, is_empty, last_between, push_mark, remove_mark};
 use crate::mark::Mark;
 use crate::nearest::{near_row, near_rows, near_write, number_or, only};
 use crate::next::Next;
@@ -23,6 +24,7 @@ use std::alloc::Global;
 pub struct Kept {
     pub cells: Slab<Cell>,
     pub rows: Rows,
+    pub in_use: InUse,
     pub reads: Vec<Lane>,
     pub writes: Vec<Lane>,
     pub wholes: Vec<Lane>,
@@ -30,7 +32,7 @@ pub struct Kept {
 }
 
 impl Kept {
-    ghost use Rattle.dt_queue.specs.Kept.{AddsCell, ChangesLaneOf, AreQueuesKept, IsNearInMode, IsNearMark, IsNextInMode, IsNextMark, KeepsLanes, lane, place_at};
+    ghost use Rattle.dt_queue.specs.Kept.{AddsCell, ChangesLaneOf, AreQueuesKept, IsNearInMode, IsNearMark, IsNextInMode, IsInUse, IsNextMark, KeepsLanes, LeavesRow, lane, place_at};
 
     /// No entry waits. Takes no memory.
     pub fn new(alloc: Global) -> Self
@@ -40,6 +42,7 @@ impl Kept {
         Kept {
             cells: Slab::new(alloc),
             rows: Rows::new(alloc),
+            in_use: InUse::new(alloc),
             reads: Vec::new(alloc),
             writes: Vec::new(alloc),
             wholes: Vec::new(alloc),
@@ -65,6 +68,8 @@ impl Kept {
     {
         let number = self.next_number;
         let row = self.rows.row(alloc, home, key)?;
+        let granule = self.rows.granule_of(row);
+        self.in_use.reserve(alloc, granule)?;
         self.cells.reserve(1)?;
         let slot = self.cells.vacant_key();
         self.add_mark(
@@ -77,6 +82,7 @@ impl Kept {
                 vertex,
             },
         )?;
+        self.in_use.add_in_mode(granule, row, mode);
         self.next_number = number + 1;
         Ok(
             self.cells.insert_reserved(Cell {
@@ -98,6 +104,7 @@ impl Kept {
     {
         let cell = self.cells.remove(slot);
         self.remove_mark(cell.row, cell.mode, cell.number);
+        self.leave_row(cell.row);
     }
 
     /// The marks of the neighbours of an entry, in the order of their pushes.
@@ -163,6 +170,24 @@ impl Kept {
         }
     }
 
+    /// Takes a row out of those in use, where nothing waits to read or write it. Takes no memory.
+    fn leave_row(&mut self, row: usize)
+        requires row_in { row < length self.old.rows.granule_of.items }
+        ensures left { LeavesRow row self.old self.new }
+        ensures same { self.new ≡ record self.old { in_use = self.new.in_use } }
+    {
+        if !self.is_in_use(row) {
+            self.in_use.remove(self.rows.granule_of(row), row);
+        }
+    }
+
+    /// Whether something waits to read or write a row.
+    fn is_in_use(&self, row: usize) -> bool
+        ensures { IsTrue result ↔ IsInUse self.now row }
+    {
+        !is_empty(self.reads.as_slice(), row) || !is_empty(self.writes.as_slice(), row)
+    }
+
     /// Of the marks of reads and writes above a number those of neighbours of an entry.
     fn near_in_rows(&self, alloc: Global, cell: Cell, low: u64) -> Result<Vec<Mark>, NoMemory>
         requires kept { AreQueuesKept self.now }
@@ -171,7 +196,7 @@ impl Kept {
     {
         let reads = self.reads.as_slice();
         let writes = self.writes.as_slice();
-        let rows = self.rows.rows_of(self.rows.granule_of(cell.row));
+        let rows = self.in_use.of_granule(self.rows.granule_of(cell.row));
         match cell.mode {
             Mode::Read => near_write(alloc, writes, cell.row, low, cell.number),
             Mode::Write => near_row(alloc, reads, writes, cell.row, low, cell.number),
@@ -187,7 +212,7 @@ impl Kept {
     {
         let reads = self.reads.as_slice();
         let writes = self.writes.as_slice();
-        let rows = self.rows.rows_of(self.rows.granule_of(cell.row));
+        let rows = self.in_use.of_granule(self.rows.granule_of(cell.row));
         match cell.mode {
             Mode::Read => Next::in_lane(writes, cell.row, cell.number, high, after),
             Mode::Write => Next::in_row(reads, writes, cell.row, cell.number, high, after),

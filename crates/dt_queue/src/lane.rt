@@ -1,4 +1,4 @@
-ghost use Rattle.std.specs.Prelude.{◌≡◌, ◌<◌, ◌≤◌, ◌==◌, [], ◌∷◌, ◌++◌, map, not, OnOk, OnErr};
+ghost use Rattle.std.specs.Prelude.{◌≡◌, ◌<◌, ◌≤◌, ◌==◌, [], ◌∷◌, ◌++◌, length, map, not, OnOk, OnErr};
 ghost use Rattle.std.specs.List.{filter};
 ghost use Rattle.dt_lists.specs.Lists.{AllIn};
 ghost use Rattle.dt_queue.specs.Lanes.{EndsBelow, IsFirstBetween, IsLastBetween, is_between};
@@ -36,6 +36,13 @@ impl Lane {
         Lane {
             marks: VecDeque::new(alloc),
         }
+    }
+
+    /// Whether there is no mark.
+    pub fn is_empty(&self) -> bool
+        ensures { result ≡ (length self.now == 0) }
+    {
+        self.marks.is_empty()
     }
 
     /// Adds a mark at the back; after `NoMemory` the lane is as before.

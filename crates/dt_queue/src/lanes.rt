@@ -1,4 +1,4 @@
-ghost use Rattle.std.specs.Prelude.{◌≡◌, ◌<◌, ◌≤◌, ◌==◌, [], ◌∷◌, ◌++◌, get_or, map, not, OnOk, OnErr};
+ghost use Rattle.std.specs.Prelude.{◌≡◌, ◌<◌, ◌≤◌, ◌==◌, [], ◌∷◌, ◌++◌, get_or, length, map, not, OnOk, OnErr};
 ghost use Rattle.std.specs.List.{filter};
 ghost use Rattle.dt_lists.specs.Lists.{AllIn};
 ghost use Rattle.dt_queue.specs.Lanes.{ChangesLane, IsFirstBetween, IsLastBetween, SameLanes, is_between};
@@ -8,6 +8,16 @@ use crate::lane::Lane;
 use crate::mark::Mark;
 use dt_text::NoMemory;
 use std::alloc::Global;
+
+/// Whether the lane at a place has no mark.
+pub fn is_empty(lanes: &[Lane], place: usize) -> bool
+    ensures { result ≡ (length (get_or lanes.now place []) == 0) }
+{
+    match lanes.get(place) {
+        Some(lane) => lane.is_empty(),
+        None => true,
+    }
+}
 
 /// Adds a mark at the back of the lane at a place; after `NoMemory` each lane has the marks that it had.
 pub fn push_mark(

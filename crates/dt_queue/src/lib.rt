@@ -8,6 +8,7 @@
 
 mod cell;
 mod follower;
+mod in_use;
 mod kept;
 mod lane;
 mod lanes;

@@ -13,11 +13,10 @@ pub struct Rows {
     pub names: IndexSet<(u8, Key)>,
     pub granules: IndexSet<(u8, Key)>,
     pub granule_of: Vec<usize>,
-    pub rows_of: Vec<Vec<usize>>,
 }
 
 impl Rows {
-    ghost use Rattle.dt_queue.specs.Rows.{AreRowsLinked, KeepsRows, granule_at, rows_at};
+    ghost use Rattle.dt_queue.specs.Rows.{AreRowsLinked, KeepsRows, granule_at};
 
     /// No row was waited for. Takes no memory.
     pub fn new(alloc: Global) -> Self
@@ -28,7 +27,6 @@ impl Rows {
             names: IndexSet::new(alloc),
             granules: IndexSet::new(alloc),
             granule_of: Vec::new(alloc),
-            rows_of: Vec::new(alloc),
         }
     }
 
@@ -54,18 +52,16 @@ impl Rows {
         ensures kept { KeepsRows self.old self.new }
         ensures found { IfOk result (λ row. slice_get self.new.names.keys row ≡ Some name) }
     {
-        let granule = self.granule(alloc, (name.0, granule(alloc, &name.1)?))?;
+        let granule = self.granule((name.0, granule(alloc, &name.1)?))?;
         let row = self.granule_of.len();
         self.granule_of.reserve(1)?;
-        self.rows_of[granule].reserve(1)?;
         self.names.insert(name)?;
         self.granule_of.push_reserved(granule);
-        self.rows_of[granule].push_reserved(row);
         Ok(row)
     }
 
     /// The granule of this name, which is added where it is new.
-    fn granule(&mut self, alloc: Global, name: (u8, Key)) -> Result<usize, NoMemory>
+    fn granule(&mut self, name: (u8, Key)) -> Result<usize, NoMemory>
         requires { AreRowsLinked self.old }
         ensures linked { AreRowsLinked self.new }
         ensures names { self.new.names.keys ≡ self.old.names.keys }
@@ -75,10 +71,8 @@ impl Rows {
         if let Some(granule) = self.granules.get_index_of(&name) {
             return Ok(granule);
         }
-        let granule = self.rows_of.len();
-        self.rows_of.reserve(1)?;
+        let granule = self.granules.len();
         self.granules.insert(name)?;
-        self.rows_of.push_reserved(Vec::new(alloc));
         Ok(granule)
     }
 
@@ -88,13 +82,5 @@ impl Rows {
         ensures { result ≡ granule_at self.now row }
     {
         self.granule_of[row]
-    }
-
-    /// The rows of a granule. Takes no memory.
-    pub fn rows_of(&self, granule: usize) -> &[usize]
-        requires { granule < vec_len self.now.rows_of }
-        ensures { result.now ≡ rows_at self.now granule }
-    {
-        self.rows_of[granule].as_slice()
     }
 }

@@ -7,7 +7,7 @@ ghost use Rattle.dt_txn.specs.Transaction.{CanRun, HasItsUses};
 use crate::rows::key_of;
 use dt_access::{Mode, Part, TxnId, Writes, is_unit, put_id};
 use dt_proc::{Procs, builtin_procs};
-use dt_table::{Effect, Table};
+use dt_table::{Effect, Table, UnitName};
 use dt_text::{Key, NoMemory, Value, put_u64, put_value};
 use dt_txn::{Body, Outcome, Txn, annotate, execute, execute_seen, homes, part_at, parts, see};
 use std::alloc::Global;
@@ -35,7 +35,7 @@ fn moved(alloc: Global, version: u8) -> Result<Table, Fail> {
     table.reserve(1)?;
     table.apply(Effect {
         writes: Writes::new(alloc),
-        moved: Some((key, 1, MOVER)),
+        moved: Some((UnitName::of(alloc, &key)?, 1, MOVER)),
     });
     Ok(table)
 }

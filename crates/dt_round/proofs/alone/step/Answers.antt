@@ -51,7 +51,8 @@ pub returns-in-Some-clause-steps : goal.returns-in-Some-clause-steps
 returns-in-Some-clause-steps g c =
     let sched = sched_of c.insert_some.new.region.state.logs c.insert_some.new.region.state.here in
     let next : IsNextReady sched [] (Some c.in-Some.id) = subst (IsNextReady sched []) c.in-Some.is c.in_ok-id.ensures in
-    executes c.args.procs.now c.args.region.now c.insert_some.new.region (none_inserted c.args.procs.now _ _ _ c.if-branch.false (c.in_ok-insert_some.ensures.inserts c.args.procs.now)).1 c.in-Some.id next.0 c.execute.result c.execute.new.self c.execute.ensures.makes
+    executes c.args.procs.now c.args.region.now c.insert_some.new.region
+    (none_inserted c.args.procs.now _ _ _ c.if-branch.false (c.in_ok-insert_some.ensures.inserts c.args.procs.now)).1 c.in-Some.id next.0 c.execute.result c.execute.new.self c.execute.ensures.makes
 
 pub returns-in_err-ids-clause-steps : goal.returns-in_err-ids-clause-steps
 returns-in_err-ids-clause-steps g c = stopped c.args.procs.now _ _ _ c.from_residual-in_err-ids.ensures.0 (none_inserted c.args.procs.now _ _ _ c.if-branch.false (c.in_ok-insert_some.ensures.inserts c.args.procs.now)).1
@@ -60,7 +61,8 @@ pub returns-in-Some-2-clause-steps : goal.returns-in-Some-2-clause-steps
 returns-in-Some-2-clause-steps g c =
     let sched = sched_of c.insert_some.new.region.state.logs c.insert_some.new.region.state.here in
     let next : IsNextClass sched (Some c.in-Some-2.ids) = subst (IsNextClass sched) c.in-Some-2.is c.in_ok-ids.ensures in
-    resolves c.args.procs.now c.args.region.now c.insert_some.new.region (none_inserted c.args.procs.now _ _ _ c.if-branch.false (c.in_ok-insert_some.ensures.inserts c.args.procs.now)).1 _ (subst (CanResolve sched) (sym c.as_slice.ensures) next) c.resolve.result c.resolve.new.self c.resolve.ensures.makes
+    resolves c.args.procs.now c.args.region.now c.insert_some.new.region
+    (none_inserted c.args.procs.now _ _ _ c.if-branch.false (c.in_ok-insert_some.ensures.inserts c.args.procs.now)).1 _ (subst (CanResolve sched) (sym c.as_slice.ensures) next) c.resolve.result c.resolve.new.self c.resolve.ensures.makes
 
 pub resolve-requires : goal.resolve-requires
 resolve-requires g c = record { stamp = subst HasStamp (sym (none_inserted c.args.procs.now _ _ _ c.if-branch.false (c.in_ok-insert_some.ensures.inserts c.args.procs.now)).1) c.requires.stamp }
@@ -68,5 +70,7 @@ resolve-requires g c = record { stamp = subst HasStamp (sym (none_inserted c.arg
 pub returns-clause-steps : goal.returns-clause-steps
 returns-clause-steps g c =
     let sched = sched_of c.insert_some.new.region.state.logs c.insert_some.new.region.state.here in
-    stops c.args.procs.now c.args.region.now c.insert_some.new.region (none_inserted c.args.procs.now _ _ _ c.if-branch.false (c.in_ok-insert_some.ensures.inserts c.args.procs.now)).1 (none_inserted c.args.procs.now _ _ _ c.if-branch.false (c.in_ok-insert_some.ensures.inserts c.args.procs.now)).0
+    stops c.args.procs.now c.args.region.now c.insert_some.new.region
+    (none_inserted c.args.procs.now _ _ _ c.if-branch.false (c.in_ok-insert_some.ensures.inserts c.args.procs.now)).1
+    (none_inserted c.args.procs.now _ _ _ c.if-branch.false (c.in_ok-insert_some.ensures.inserts c.args.procs.now)).0
     (subst (IsNextReady sched []) c.in_default.is c.in_ok-id.ensures) (subst (IsNextClass sched) c.in_default-2.is c.in_ok-ids.ensures)

@@ -1,14 +1,10 @@
 use Rattle.std.proofs.Common.{arith}
 use Rattle.dt_queue.proofs.CellUses.{apart_lanes}
-use Rattle.dt_queue.proofs.KeptLanes.{granule_in}
 use Rattle.dt_access.specs.declared.access.Mode.TheVariants.{Write}
 use Rattle.dt_queue.proofs.kept.Kept.near_in_rows.Goals as goal
 
 pub granule_of-requires : goal.granule_of-requires
 granule_of-requires c = let k = c.args.self.now in omega (arith, c.requires.row_in, c.requires.kept.linked.each_row, k.rows.granule_of.ok.0)
-
-pub rows_of-rows-requires : goal.rows_of-rows-requires
-rows_of-rows-requires c = let k = c.args.self.now in omega (arith, granule_in k.rows c.requires.kept.linked c.args.cell.row c.requires.row_in, c.granule_of.ensures, k.rows.rows_of.ok.0)
 
 pub near_write-requires : goal.near_write-requires
 near_write-requires c = rw c.as_slice-writes.ensures.value (c.requires.kept.lanes Write c.args.cell.row).numbered
@@ -19,7 +15,7 @@ near_row-requires c = rw (c.as_slice-reads.ensures.value, c.as_slice-writes.ensu
 pub near_rows-requires : goal.near_rows-requires
 near_rows-requires c = record {
   apart = rw (c.as_slice-reads.ensures.value, c.as_slice-writes.ensures.value) (apart_lanes c.args.self.now c.requires.kept);
-  once = rw c.rows_of-rows.ensures (c.requires.kept.linked.rows_once c.granule_of.result);
+  once = c.of_granule-rows.ensures.once;
 }
 
 pub returns-in-Read : goal.returns-in-Read
@@ -29,4 +25,4 @@ pub returns-in-Write : goal.returns-in-Write
 returns-in-Write c = rw c.in-Write.is (rw (c.as_slice-reads.ensures.value, c.as_slice-writes.ensures.value) at c.near_row.ensures)
 
 pub returns-in-Whole : goal.returns-in-Whole
-returns-in-Whole c = rw c.in-Whole.is (rw (c.as_slice-reads.ensures.value, c.as_slice-writes.ensures.value, c.rows_of-rows.ensures, c.granule_of.ensures) at c.near_rows.ensures)
+returns-in-Whole c = rw c.in-Whole.is (rw (c.as_slice-reads.ensures.value, c.as_slice-writes.ensures.value, c.of_granule-rows.ensures.rows, c.granule_of.ensures) at c.near_rows.ensures)

@@ -16,11 +16,11 @@ pub renumber_mark-requires-in-Whole-clause-gap : goal.renumber_mark-requires-in-
 renumber_mark-requires-in-Whole-clause-gap c = rw c.granule_of.ensures (rw c.in-Whole.is at c.requires.gap)
 
 pub returns-in-Read : goal.returns-in-Read
-returns-in-Read c = changed_read c.args.self.now _ (map (renumbered c.args.number c.args.new)) c.args.mode c.args.row c.in-Read.is c.renumber_mark.ensures refl refl refl refl refl
+returns-in-Read c = changed_read c.args.self.now _ (map (renumbered c.args.number c.args.new)) c.args.mode c.args.row c.in-Read.is c.renumber_mark.ensures refl refl refl refl refl refl
 
 pub returns-in-Write : goal.returns-in-Write
-returns-in-Write c = changed_write c.args.self.now _ (map (renumbered c.args.number c.args.new)) c.args.mode c.args.row c.in-Write.is c.renumber_mark-in-Write.ensures refl refl refl refl refl
+returns-in-Write c = changed_write c.args.self.now _ (map (renumbered c.args.number c.args.new)) c.args.mode c.args.row c.in-Write.is c.renumber_mark-in-Write.ensures refl refl refl refl refl refl
 
 pub returns-in-Whole : goal.returns-in-Whole
 returns-in-Whole c =
-    changed_whole c.args.self.now _ (map (renumbered c.args.number c.args.new)) c.args.mode c.args.row c.granule_of.result c.in-Whole.is c.granule_of.ensures c.renumber_mark-in-Whole.ensures refl refl refl refl refl
+    changed_whole c.args.self.now _ (map (renumbered c.args.number c.args.new)) c.args.mode c.args.row c.granule_of.result c.in-Whole.is c.granule_of.ensures c.renumber_mark-in-Whole.ensures refl refl refl refl refl refl

@@ -1,5 +1,4 @@
-use Rattle.std.proofs.Common.{◌≡◌, ◌++◌, ◌∷◌, [], map, length, ap, ◌∙◌, arith}
-use Rattle.std.proofs.lemmas.List.{length-map, map-append}
+use Rattle.std.proofs.Common.{◌≡◌, [], length, ◌∙◌}
 use Rattle.dt_lists.proofs.Callers.{get_seam}
 use Rattle.dt_queue.proofs.RowLists.{added_name, named_at, tied_granule, unnamed}
 use Rattle.dt_queue.proofs.rows.Rows.granule.Goals as goal
@@ -11,15 +10,12 @@ pub returns-clause-linked : goal.returns-clause-linked
 returns-clause-linked c =
     let r = c.args.self.now in
     let fresh = unnamed c.args.name r.granules.keys c.in_default.ensures.index in
-    let keys = c.in_ok-insert.ensures.keys ∙ added_name c.args.name r.granules.keys fresh in
-    let rows = ap (map (λ v. v.items)) (c.push_reserved.ensures.items ∙ ap (λ l. l ++ c.new.result ∷ []) c.in_ok-reserve.ensures.items) ∙ map-append (λ v. v.items) r.rows_of.items (c.new.result ∷ [])
-    ∙ ap (λ l. map (λ v. v.items) r.rows_of.items ++ l ∷ []) c.new.ensures.items in
-    rw (keys, rows) (tied_granule r.names.keys r.granules.keys r.granule_of.items (map (λ v. v.items) r.rows_of.items) c.args.name c.requires fresh)
+    rw (c.in_ok-insert.ensures.keys ∙ added_name c.args.name r.granules.keys fresh) (tied_granule r.names.keys r.granules.keys r.granule_of.items c.args.name c.requires fresh)
 
 pub returns-clause-found : goal.returns-clause-found
 returns-clause-found c =
     let r = c.args.self.now in
     let fresh = unnamed c.args.name r.granules.keys c.in_default.ensures.index in
     let keys = c.in_ok-insert.ensures.keys ∙ added_name c.args.name r.granules.keys fresh in
-    let place : c.len-granule.result ≡ length r.granules.keys = omega (arith, c.len-granule.ensures, r.rows_of.ok.0, length-map r.rows_of.items (λ v. v.items), c.requires.each_granule) in
+    let place : c.len-granule.result ≡ length r.granules.keys = c.len-granule.ensures.len in
     rw (keys, place) (get_seam r.granules.keys c.args.name [])

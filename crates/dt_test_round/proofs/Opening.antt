@@ -1,0 +1,39 @@
+-- A region before anything happens, and one that was fed a few parts: it may make a round.
+use Rattle.std.proofs.Common.{◌≡◌, ◌<◌, ◌+◌, ◌^◌, ℕ, List, [], ◌∷◌, length, refl, sym, ap, subst, ◌∙◌, arith}
+use Rattle.std.proofs.lemmas.Option.{none-some}
+use Rattle.dt_lists.specs.Lists.{AllIn}
+use Rattle.dt_access.specs.Clash.{Bytes}
+use Rattle.dt_sched.specs.Sched.{parts_in}
+use Rattle.dt_proc.specs.Tree.{ProcTree}
+use Rattle.dt_table.specs.Table.{Table, counter_of, opening}
+use Rattle.dt_table.proofs.Callers.{moves_of-opening}
+use Rattle.dt_region.specs.Conditions.{IsTableFor}
+use Rattle.dt_region.specs.Region.{RegionView}
+use Rattle.dt_region.specs.Rules.{opening_state}
+use Rattle.dt_round.specs.Rounds.{CanRound}
+use Rattle.dt_test_round.specs.Fed.{IsFed}
+
+-- the table without rows is one for four regions
+pub no_rows_fit : IsTableFor 4 (opening 1 4 [] [])
+no_rows_fit = record {
+  sized = refl;
+  homes = tt;
+  moves = λ key. subst (AllIn (λ moved. moved.target < 4)) (sym (moves_of-opening 1 4 [] [] key)) tt;
+}
+
+-- a region that has done nothing was fed nothing
+pub fed_none : (procs : List ProcTree) (r : RegionView) (table : Table) → table ≡ opening 1 4 [] [] → r ≡ record { state = opening_state 3 4 table; events = []; heard = 0 } → IsFed procs 0 r
+fed_none procs r table opened is = subst (IsFed procs 0) (sym is) (record {
+  holds = λ id txn e. absurd (none-some txn e);
+  unmoved = λ key. subst (λ t. counter_of t key ≡ 0) (sym opened) (ap length (moves_of-opening 1 4 [] [] key));
+  parts = refl;
+  stamp = refl;
+})
+
+-- one that was fed a few parts may make a round
+pub can_round : (procs : List ProcTree) (count : ℕ) (r : RegionView) → count < 1000 → IsFed procs count r → CanRound procs r
+can_round procs count r few fed = record {
+  holds = fed.holds;
+  moves = λ key. let a = fed.unmoved key in let b = fed.parts in omega (arith, few, a, b);
+  stamps = let a = fed.stamp in omega (arith, few, a);
+}

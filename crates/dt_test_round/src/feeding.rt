@@ -1,0 +1,150 @@
+//! Deliveries to a region, one part after another.
+ghost use Rattle.std.specs.Prelude.{◌≡◌, ◌+◌, ◌<◌, ◌↔◌, false, length, IsTrue, IfOk, OnOk};
+ghost use Rattle.dt_lists.specs.Lists.{AllIn, Has};
+ghost use Rattle.dt_sched.specs.Views.{HasPart};
+ghost use Rattle.dt_txn.specs.Transaction.{IsValid};
+ghost use Rattle.dt_region.specs.Conditions.{Agrees, HoldsValid};
+ghost use Rattle.dt_test_round.specs.Fed.{IsFed};
+
+use crate::calls::call_of;
+use dt_access::TxnId;
+use dt_log::{Log, Taken};
+use dt_proc::Procs;
+use dt_region::Region;
+use dt_sched::Scheduler;
+use dt_txn::{Body, Entry, Txn, annotate, homes, part_at};
+use std::alloc::Global;
+use std::test::Fail;
+
+/// A part: its home, the sequence number and the region of its transaction, and the procedure that this calls, with the words
+/// of its arguments.
+pub type Row<'a> = (u8, u32, u8, &'a [u8], &'a [&'a [u8]]);
+
+fn are_below(homes: &[u8], count: u8) -> bool
+    ensures { IsTrue result ↔ AllIn (λ home. home < count) homes.now }
+{
+    for home in homes {
+        if *home >= count {
+            return false;
+        }
+    }
+    true
+}
+
+fn has_home(homes: &[u8], home: u8) -> bool
+    ensures { IsTrue result ↔ Has homes.now home }
+{
+    for other in homes {
+        if *other == home {
+            return true;
+        }
+    }
+    false
+}
+
+fn has_part(log: &Log, id: TxnId) -> bool
+    ensures { result ≡ false → ¬ (HasPart log.now id) }
+{
+    for place in 0..log.len() {
+        if let Some(part) = log.get(place) {
+            if part.id == id {
+                return true;
+            }
+        }
+    }
+    false
+}
+
+/// The transaction of an id that makes a call, by the region's table.
+fn txn_of<S: Scheduler>(
+    alloc: Global,
+    region: &Region<S>,
+    procs: &Procs,
+    row: &Row,
+) -> Result<Txn, Fail>
+    ensures valid { IfOk result (IsValid procs.now region.now.state.here.table.version region.now.state.regions) }
+    ensures id { IfOk result (λ txn. txn.id ≡ record { seq = row.now.1; region = row.now.2 }) }
+{
+    let (_, seq, by, name, words) = *row;
+    let (number, arguments) = call_of(alloc, procs, name, words)?;
+    let body = Body::Call(number, arguments);
+    let txn = annotate(alloc, TxnId { seq, region: by }, 5, body, procs, region.table())?;
+    if !are_below(homes(alloc, &txn)?.as_slice(), region.regions()) {
+        return Err(Fail::from("the homes are regions"));
+    }
+    Ok(txn)
+}
+
+/// The transaction of a part, which is of another region: the one that the region holds, or else a new one.
+fn held_or_new<S: Scheduler>(
+    alloc: Global,
+    region: &Region<S>,
+    procs: &Procs,
+    row: &Row,
+) -> Result<Txn, Fail>
+    requires { HoldsValid procs.now region.now.state }
+    ensures valid { IfOk result (IsValid procs.now region.now.state.here.table.version region.now.state.regions) }
+    ensures agrees { IfOk result (Agrees region.now.state) }
+{
+    let (_, seq, by, _, _) = *row;
+    if by == region.number() {
+        return Err(Fail::from("the transaction is another region's"));
+    }
+    match region.txn(TxnId { seq, region: by }) {
+        Some(txn) => Ok(txn.copy(alloc)?),
+        None => txn_of(alloc, region, procs, row),
+    }
+}
+
+/// Delivers a part to a region, which was fed so many before.
+fn feed<S: Scheduler>(
+    alloc: Global,
+    region: &mut Region<S>,
+    procs: &Procs,
+    count: usize,
+    row: &Row,
+) -> Result<(), Fail>
+    requires few { count < 1000 }
+    requires fed { IsFed procs.now count region.old }
+    ensures { OnOk result (IsFed procs.now (count + 1) region.new) }
+{
+    let (home, _, _, _, _) = *row;
+    if home == region.number() || home >= region.regions() {
+        return Err(Fail::from("the home is another region"));
+    }
+    let txn = held_or_new(alloc, region, procs, row)?;
+    if !has_home(homes(alloc, &txn)?.as_slice(), home) {
+        return Err(Fail::from("the part is at a home"));
+    }
+    let log = region.log(home);
+    if has_part(log, txn.id) {
+        return Err(Fail::from("a part comes once"));
+    }
+    let place = log.len();
+    let part = part_at(alloc, &txn, home)?;
+    let entries = vec![in alloc; Entry { part, txn }]?;
+    match region.deliver(alloc, home, place, place, entries)? {
+        Taken::New(_) => Ok(()),
+        _ => Err(Fail::from("the part is new")),
+    }
+}
+
+/// Delivers parts to a region that has done nothing.
+pub fn feed_all<S: Scheduler>(
+    alloc: Global,
+    region: &mut Region<S>,
+    procs: &Procs,
+    rows: &[Row],
+) -> Result<(), Fail>
+    requires { IsFed procs.now 0 region.old }
+    ensures few { OnOk result (length rows.now < 1000) }
+    ensures fed { OnOk result (IsFed procs.now (length rows.now) region.new) }
+{
+    if rows.len() >= 1000 {
+        return Err(Fail::from("a test has few parts"));
+    }
+    for (count, row) in rows.iter().enumerate() {
+        feed(alloc, region, procs, count, row)?;
+    }
+    Ok(())
+}

@@ -1,0 +1,111 @@
+//! Rounds of a region, to which parts of others were delivered.
+use crate::feeding::{Row, feed_all};
+use dt_events::put_event;
+use dt_graph::QueueSched;
+use dt_plain::PlainSched;
+use dt_proc::builtin_procs;
+use dt_region::Region;
+use dt_round::{Alone, Rounds};
+use dt_sched::Scheduler;
+use dt_table::Table;
+use std::alloc::Global;
+use std::test::Fail;
+
+/// Region 3 of four is fed these parts and makes a round: its events from then on, each behind its stamp, and at last whether
+/// it is drained.
+fn told<S: Scheduler + Drop>(alloc: Global, rows: &[Row]) -> Result<Vec<u8>, Fail> {
+    let procs = builtin_procs(alloc)?;
+    let table = Table::new(alloc, 1, 4, &[], &[])?;
+    let mut region: Region<S> = Region::new(alloc, 3, 4, table)?;
+    feed_all(alloc, &mut region, &procs, rows)?;
+    Alone.round(alloc, &mut region, &procs)?;
+    let mut told = Vec::new(alloc);
+    for kept in region.events().iter().skip(rows.len()) {
+        told.extend_from_slice(format!(in alloc; "{} ", kept.stamp)?.as_bytes())?;
+        put_event(alloc, &mut told, &kept.event)?;
+    }
+    let drained = region.drained(alloc)?;
+    told.extend_from_slice(format!(in alloc; "{drained}")?.as_bytes())?;
+    Ok(told)
+}
+
+/// A call of a built-in procedure.
+type Call<'a> = (&'a [u8], &'a [&'a [u8]]);
+
+/// In a cluster of four the home of `d` is region 0, that of `a` region 1 and that of `b` region 2.
+const DA: Call<'static> = (b"xfer", &[b"d", b"a", b"3"]);
+
+const AD: Call<'static> = (b"xfer", &[b"a", b"d", b"4"]);
+
+const AB: Call<'static> = (b"xfer", &[b"a", b"b", b"1"]);
+
+const BD: Call<'static> = (b"xfer", &[b"b", b"d", b"1"]);
+
+const PUT: Call<'static> = (b"put", &[b"d", b"20"]);
+
+const GET: Call<'static> = (b"get", &[b"d"]);
+
+/// Parts, and what a round makes of them: one of two texts, where two transactions may run in either order.
+const ROUNDS: [(&[Row<'static>], &[u8], &[u8]); 4] = [
+    // Two that wait for each other run once they are resolved, in the order of their ids.
+    (
+        &[
+            (0, 1, 0, DA.0, DA.1),
+            (0, 1, 1, AD.0, AD.1),
+            (1, 1, 1, AD.0, AD.1),
+            (1, 1, 0, DA.0, DA.1),
+        ],
+        b"5 insert 3 0\n6 insert 3 0\n7 insert 3 1\n8 insert 3 1\n9 resolve 3 1.0 1.1\n10 execute 3 1.0\n11 execute 3 1.1\ntrue",
+        b"",
+    ),
+    // A group of three waits for what reaches it from outside.
+    (
+        &[
+            (0, 1, 0, PUT.0, PUT.1),
+            (0, 2, 0, DA.0, DA.1),
+            (0, 1, 2, BD.0, BD.1),
+            (1, 1, 1, AB.0, AB.1),
+            (1, 2, 0, DA.0, DA.1),
+            (2, 1, 2, BD.0, BD.1),
+            (2, 1, 1, AB.0, AB.1),
+        ],
+        b"8 insert 3 0\n9 insert 3 0\n10 insert 3 0\n11 insert 3 1\n12 insert 3 1\n13 insert 3 2\n14 insert 3 2\n15 execute 3 1.0\n16 resolve 3 1.1 1.2 2.0\n17 execute 3 1.1\n18 execute 3 1.2\n19 execute 3 2.0\ntrue",
+        b"",
+    ),
+    // Reads run in any order, and a write after both.
+    (
+        &[
+            (0, 1, 0, GET.0, GET.1),
+            (0, 2, 0, GET.0, GET.1),
+            (0, 3, 0, PUT.0, PUT.1),
+        ],
+        b"4 insert 3 0\n5 insert 3 0\n6 insert 3 0\n7 execute 3 1.0\n8 execute 3 2.0\n9 execute 3 3.0\ntrue",
+        b"4 insert 3 0\n5 insert 3 0\n6 insert 3 0\n7 execute 3 2.0\n8 execute 3 1.0\n9 execute 3 3.0\ntrue",
+    ),
+    // Nothing runs while a home lacks its part.
+    (
+        &[(0, 1, 0, DA.0, DA.1), (0, 1, 1, AD.0, AD.1)],
+        b"3 insert 3 0\n4 insert 3 0\ntrue",
+        b"",
+    ),
+];
+
+#[test]
+fn a_region_with_the_plain_scheduler_goes_on_alone_until_nothing_is_left(
+    rt: HostRuntime,
+) -> Result<(), Fail> {
+    for (rows, want, other) in ROUNDS {
+        let told = told::<PlainSched>(rt.alloc(), rows)?;
+        assert!(rt; told.as_slice() == want || told.as_slice() == other);
+    }
+    Ok(())
+}
+
+#[test]
+fn a_region_with_queues_goes_on_alone_until_nothing_is_left(rt: HostRuntime) -> Result<(), Fail> {
+    for (rows, want, other) in ROUNDS {
+        let told = told::<QueueSched>(rt.alloc(), rows)?;
+        assert!(rt; told.as_slice() == want || told.as_slice() == other);
+    }
+    Ok(())
+}
