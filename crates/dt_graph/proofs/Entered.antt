@@ -117,8 +117,8 @@ last_at [] y d = refl
 last_at (x ∷ xs) y d = last_at xs y d
 
 -- what was put to a list was put to another that is the same
-more_of : {P : ℕ → Type 0} {was old now : List ℕ} → was ≡ old → ((u : ℕ) → Has now u ↔ Has was u ⊎ P u) → (u : ℕ) → Has now u ↔ Has old u ⊎ P u
-more_of {P} {was} {old} {now} e f = subst (λ l. (u : ℕ) → Has now u ↔ Has l u ⊎ P u) e f
+more_of : (now : List ℕ) {P : ℕ → Type 0} {was old : List ℕ} → was ≡ old → ((u : ℕ) → Has now u ↔ Has was u ⊎ P u) → (u : ℕ) → Has now u ↔ Has old u ⊎ P u
+more_of now {P} {was} {old} e f = subst (λ l. (u : ℕ) → Has now u ↔ Has l u ⊎ P u) e f
 
 -- a transaction's first part is added, with a vertex of its own
 pub inserts_first : (part : Part) (old : GraphView) (waiting : List Waiting) (slots : List ℕ) (missing count : ℕ) (ready stuck ready_now stuck_now : SubsetView)
@@ -158,8 +158,8 @@ inserts_first part old waiting slots missing count ready stuck ready_now stuck_n
   is_before = inr (refl, fresh, refl);
   grows = subst (Grows (fresh_vertex part) e.pushed.more) (sym vertex_is) (record { rank = refl; missing = lacking; class = refl; slots = e.pushed.at_slots });
   counted = degree_is ∙ e.counted;
-  ready = more_of er sorts.readied;
-  stuck = more_of es sorts.stuck_more;
+  ready = more_of ready_now.items er sorts.readied;
+  stuck = more_of stuck_now.items es sorts.stuck_more;
   classes = refl;
 }
   where
@@ -213,8 +213,8 @@ inserts_again part v old waiting slots missing count ready stuck ready_now stuck
   is_before = inl (lt, refl);
   grows = subst (Grows (vertex_at old.vertices v) e.pushed.more) (sym vertex_is) (record { rank = refl; missing = lacking; class = refl; slots = e.pushed.at_slots });
   counted = degree_is ∙ e.counted;
-  ready = more_of er sorts.readied;
-  stuck = more_of es sorts.stuck_more;
+  ready = more_of ready_now.items er sorts.readied;
+  stuck = more_of stuck_now.items es sorts.stuck_more;
   classes = refl;
 }
   where
