@@ -132,7 +132,7 @@ fn wide_part(alloc: Global, wide: &Wide) -> Result<Part, Fail> {
 }
 
 /// Whether both tell alike of each id, and of those that differ from it in the region, whether it is executable.
-fn same_executable(
+pub fn same_executable(
     alloc: Global,
     plain: &PlainSched,
     queue: &QueueSched,
@@ -166,7 +166,7 @@ fn same_class(alloc: Global, plain: &PlainSched, queue: &QueueSched) -> Result<b
 }
 
 /// Whether both tell alike of some ids whether they are a class that may be resolved.
-fn same_resolvable(
+pub fn same_resolvable(
     alloc: Global,
     plain: &PlainSched,
     queue: &QueueSched,
@@ -241,7 +241,7 @@ fn resolve<S: Scheduler + Drop>(alloc: Global, sched: &mut S, ids: &[TxnId]) -> 
 }
 
 /// Executes an id, which has to be executable.
-fn execute<S: Scheduler + Drop>(alloc: Global, sched: &mut S, id: TxnId) -> Result<(), Fail>
+pub fn execute<S: Scheduler + Drop>(alloc: Global, sched: &mut S, id: TxnId) -> Result<(), Fail>
     ensures { (S.seen sched.new).logs ≡ (S.seen sched.old).logs }
 {
     if !sched.executable(alloc, id)? {
@@ -253,7 +253,11 @@ fn execute<S: Scheduler + Drop>(alloc: Global, sched: &mut S, id: TxnId) -> Resu
 }
 
 /// Resolves at both the class that the one with queues chooses, if there is one.
-fn resolve_some(alloc: Global, plain: &mut PlainSched, queue: &mut QueueSched) -> Result<(), Fail>
+pub fn resolve_some(
+    alloc: Global,
+    plain: &mut PlainSched,
+    queue: &mut QueueSched,
+) -> Result<(), Fail>
     ensures plain { plain.new.seen.logs ≡ plain.old.seen.logs }
     ensures queue { queue.new.seen.logs ≡ queue.old.seen.logs }
 {
@@ -322,7 +326,7 @@ fn steps(
 }
 
 /// Inserts a part at both, and keeps it in the logs, where it has to fit.
-fn insert(
+pub fn insert(
     alloc: Global,
     logs: &mut Vec<Listed<Part>>,
     plain: &mut PlainSched,

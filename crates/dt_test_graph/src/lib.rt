@@ -13,3 +13,5 @@ mod fitting;
 mod queues;
 #[cfg(test)]
 mod schedulers;
+#[cfg(test)]
+mod worked;

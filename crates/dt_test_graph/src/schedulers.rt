@@ -83,7 +83,12 @@ pub fn ready<S: Scheduler + Drop>(alloc: Global, sched: &S) -> Result<Vec<TxnId>
 }
 
 /// Adds a word and ids.
-fn put_ids(alloc: Global, out: &mut Vec<u8>, word: &[u8], ids: &[TxnId]) -> Result<(), NoMemory> {
+pub fn put_ids(
+    alloc: Global,
+    out: &mut Vec<u8>,
+    word: &[u8],
+    ids: &[TxnId],
+) -> Result<(), NoMemory> {
     out.extend_from_slice(word)?;
     for id in ids {
         out.push(b' ')?;
