@@ -1,4 +1,5 @@
 //! Rounds of a region, to which parts of others were delivered.
+use crate::calls::Call;
 use crate::feeding::{Row, feed_all};
 use dt_events::put_event;
 use dt_graph::QueueSched;
@@ -29,9 +30,6 @@ fn told<S: Scheduler + Drop>(alloc: Global, rows: &[Row]) -> Result<Vec<u8>, Fai
     Ok(told)
 }
 
-/// A call of a built-in procedure.
-type Call<'a> = (&'a [u8], &'a [&'a [u8]]);
-
 /// In a cluster of four the home of `d` is region 0, that of `a` region 1 and that of `b` region 2.
 const DA: Call<'static> = (b"xfer", &[b"d", b"a", b"3"]);
 
@@ -49,42 +47,33 @@ const GET: Call<'static> = (b"get", &[b"d"]);
 const ROUNDS: [(&[Row<'static>], &[u8], &[u8]); 4] = [
     // Two that wait for each other run once they are resolved, in the order of their ids.
     (
-        &[
-            (0, 1, 0, DA.0, DA.1),
-            (0, 1, 1, AD.0, AD.1),
-            (1, 1, 1, AD.0, AD.1),
-            (1, 1, 0, DA.0, DA.1),
-        ],
+        &[(0, 1, 0, DA), (0, 1, 1, AD), (1, 1, 1, AD), (1, 1, 0, DA)],
         b"5 insert 3 0\n6 insert 3 0\n7 insert 3 1\n8 insert 3 1\n9 resolve 3 1.0 1.1\n10 execute 3 1.0\n11 execute 3 1.1\ntrue",
         b"",
     ),
     // A group of three waits for what reaches it from outside.
     (
         &[
-            (0, 1, 0, PUT.0, PUT.1),
-            (0, 2, 0, DA.0, DA.1),
-            (0, 1, 2, BD.0, BD.1),
-            (1, 1, 1, AB.0, AB.1),
-            (1, 2, 0, DA.0, DA.1),
-            (2, 1, 2, BD.0, BD.1),
-            (2, 1, 1, AB.0, AB.1),
+            (0, 1, 0, PUT),
+            (0, 2, 0, DA),
+            (0, 1, 2, BD),
+            (1, 1, 1, AB),
+            (1, 2, 0, DA),
+            (2, 1, 2, BD),
+            (2, 1, 1, AB),
         ],
         b"8 insert 3 0\n9 insert 3 0\n10 insert 3 0\n11 insert 3 1\n12 insert 3 1\n13 insert 3 2\n14 insert 3 2\n15 execute 3 1.0\n16 resolve 3 1.1 1.2 2.0\n17 execute 3 1.1\n18 execute 3 1.2\n19 execute 3 2.0\ntrue",
         b"",
     ),
     // Reads run in any order, and a write after both.
     (
-        &[
-            (0, 1, 0, GET.0, GET.1),
-            (0, 2, 0, GET.0, GET.1),
-            (0, 3, 0, PUT.0, PUT.1),
-        ],
+        &[(0, 1, 0, GET), (0, 2, 0, GET), (0, 3, 0, PUT)],
         b"4 insert 3 0\n5 insert 3 0\n6 insert 3 0\n7 execute 3 1.0\n8 execute 3 2.0\n9 execute 3 3.0\ntrue",
         b"4 insert 3 0\n5 insert 3 0\n6 insert 3 0\n7 execute 3 2.0\n8 execute 3 1.0\n9 execute 3 3.0\ntrue",
     ),
     // Nothing runs while a home lacks its part.
     (
-        &[(0, 1, 0, DA.0, DA.1), (0, 1, 1, AD.0, AD.1)],
+        &[(0, 1, 0, DA), (0, 1, 1, AD)],
         b"3 insert 3 0\n4 insert 3 0\ntrue",
         b"",
     ),

@@ -30,6 +30,12 @@ none_next (p ∷ log) zero part id e other none (inr h) = h
 none_next (p ∷ log) (suc n) part id e other none (inl same) = none (inl same)
 none_next (p ∷ log) (suc n) part id e other none (inr h) = none_next log n part id e other (λ k. none (inr k)) h
 
+pub none_past : (log : List Part) (n : ℕ) (id : TxnId) → slice_get log n ≡ None → ¬ (HasPart (take n log) id) → ¬ (HasPart (take (suc n) log) id)
+none_past [] n id e none h = h
+none_past (p ∷ log) zero id e none h = cc
+none_past (p ∷ log) (suc n) id e none (inl same) = none (inl same)
+none_past (p ∷ log) (suc n) id e none (inr h) = none_past log n id e (λ k. none (inr k)) h
+
 -- what a region holds after one transaction more came
 
 found_last : (txns : List Txn) (txn x : Txn) (id : TxnId) → find_txn (txns ++ txn ∷ []) id ≡ Some x → (find_txn txns id ≡ Some x) ⊎ (x ≡ txn)
@@ -78,7 +84,7 @@ module _ (s : RegionState) (home place : ℕ) (part : Part) (txn : Txn) (there :
 
   -- the entry stands past the end of the log
   news : past_end log place entries ≡ entries
-  news = ap (λ n. drop n entries) (omega (arith, at))
+  news = let none : length log - place ≡ 0 = omega (arith, at) in ap (λ n. drop n entries) none
 
   longer : with_entries log place entries ≡ log ++ part ∷ []
   longer = ap (λ (es : List Entry). log ++ map (λ e. e.part) es) news
