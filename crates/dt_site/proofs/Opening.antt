@@ -1,19 +1,19 @@
 -- A site before anything happens stands in the opening world.
-use Rattle.std.proofs.Common.{◌≡◌, ◌<◌, ◌+◌, ℕ, zero, suc, List, [], ◌∷◌, length, map, get_or, set, replicate, Some, refl, sym, ap, ap₂, subst, ◌∙◌, arith}
+use Rattle.std.proofs.Common.{◌≡◌, ◌<◌, ℕ, zero, suc, List, [], ◌∷◌, length, map, get_or, set, replicate, refl, sym, ap, ap₂, subst, ◌∙◌, arith}
 use Rattle.dt_lists.specs.Lists.{AllIn}
 use Rattle.dt_access.specs.declared.Part.{Part}
 use Rattle.dt_sched.specs.Views.{View, log_at}
 use Rattle.dt_table.specs.Table.{Table}
-use Rattle.dt_txn.specs.Replica.{fronts, opening_replica}
+use Rattle.dt_txn.specs.Replica.{fronts}
 use Rattle.dt_region.specs.Conditions.{IsTableFor}
 use Rattle.dt_region.specs.Rules.{opening_state}
 use Rattle.dt_region.specs.Sound.{IsSoundRegion}
 use Rattle.dt_cluster.specs.declared.Cluster.{Cluster}
 use Rattle.dt_cluster.specs.Valid.{IsValidCluster}
 use Rattle.dt_workload.specs.declared.Workload.{Workload}
-use Rattle.dt_session.specs.World.{Node, no_node, node_at, opening_node, opening_table, opening_world, received_logs}
+use Rattle.dt_session.specs.World.{Node, no_node, opening_node, opening_table, opening_world}
 use Rattle.dt_agreement.proofs.Callers.{unmoved_at_first}
-use Rattle.dt_site.specs.Site.{SiteView, node_of, opening_site}
+use Rattle.dt_site.specs.Site.{node_of, opening_site}
 use Rattle.dt_site.specs.StandsIn.{StandsIn}
 
 pub opening_is_for : (cluster : Cluster) → IsValidCluster cluster → IsTableFor cluster.regions (opening_table cluster)

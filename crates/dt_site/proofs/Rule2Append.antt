@@ -1,8 +1,8 @@
 -- Rule 2: a home places a request of a region. The transaction is that which the world asks for there, wherever it comes
 -- from: another site, or a packet.
-use Rattle.std.proofs.Common.{eq-eqb, eqb-true, ◌≡◌, ◌≢◌, ◌<◌, ◌≤◌, ◌+◌, ℕ, Bool, true, false, cond, eqb, List, [], ◌∷◌, ◌++◌, length, map, get_or, set, take, slice_get, Ok}
-use Rattle.std.proofs.Common.{Some, refl, sym, ap, ap₂, subst, subst₂, ◌∙◌, inl, inr, arith}
-use Rattle.std.specs.Prelude.{slice_index, option_and_then}
+use Rattle.std.proofs.Common.{eq-eqb, eqb-true, ◌≡◌, ◌≢◌, ◌<◌, ◌≤◌, ◌+◌, ℕ, true, false, cond, eqb, List, [], ◌∷◌, ◌++◌, length, map, set, take, slice_get, Ok}
+use Rattle.std.proofs.Common.{Some, refl, sym, ap, ap₂, subst, ◌∙◌, inl, inr, arith}
+use Rattle.std.specs.Prelude.{option_and_then}
 use Rattle.std.proofs.lemmas.Bool.{false_from_ne_true}
 use Rattle.std.proofs.lemmas.List.{map-set, map_push, get_or-set_same, get_or-set_other, set-get_or}
 use Rattle.std.proofs.Math.Seq.{take-length}

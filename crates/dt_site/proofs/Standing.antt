@@ -1,5 +1,5 @@
 -- Sites that stand in a world that legal events lead to: what follows, and what a legal event leaves as it is.
-use Rattle.std.proofs.Common.{◌≡◌, ◌≢◌, ◌<◌, ◌≤◌, ◌+◌, ℕ, List, [], ◌∷◌, ◌++◌, length, map, get_or, set, Some, refl, sym, ap, subst, ◌∙◌}
+use Rattle.std.proofs.Common.{◌≡◌, ◌≢◌, ◌<◌, ◌+◌, ℕ, List, [], ◌∷◌, ◌++◌, length, map, get_or, set, Some, sym, ap, subst, ◌∙◌}
 use Rattle.std.proofs.lemmas.List.{get_or-set_same, get_or-set_other}
 use Rattle.dt_lists.specs.Lists.{Has}
 use Rattle.dt_lists.proofs.Callers.{any_at, all_any, any_front, front_take, field_of_set, map_of_set}
@@ -10,20 +10,20 @@ use Rattle.dt_sched.proofs.Callers.{complete_of_closed, present_of_complete}
 use Rattle.dt_events.specs.declared.Event.{Event}
 use Rattle.dt_events.specs.Stamps.{events_of}
 use Rattle.dt_txn.specs.declared.Txn.{Txn}
-use Rattle.dt_txn.specs.Replica.{Replica, fronts, view_of}
+use Rattle.dt_txn.specs.Replica.{fronts, view_of}
 use Rattle.dt_txn.specs.Transaction.{IsValid}
 use Rattle.dt_region.specs.Region.{RegionState, held, latest_stamp, outcome_of}
 use Rattle.dt_region.specs.Sound.{IsSoundRegion, IsHeldPart}
 use Rattle.dt_cluster.specs.declared.Cluster.{Cluster}
 use Rattle.dt_workload.specs.declared.Workload.{Workload}
-use Rattle.dt_session.specs.World.{World, Node, Place, Submission, log_of, no_node, node_at, outcome_at, outcome_in, received_logs, received_of, submissions, txn_of}
+use Rattle.dt_session.specs.World.{World, Node, Place, Submission, log_of, no_node, node_at, outcome_at, outcome_in, received_logs, submissions, txn_of}
 use Rattle.dt_session.specs.Step.{IsLegal, next}
 use Rattle.dt_session.specs.Run.{order_of, world_after}
 use Rattle.dt_agreement.specs.Invariant.{Inv}
 use Rattle.dt_agreement.specs.LegalRun.{IsLegalRun}
 use Rattle.dt_txn.proofs.Callers.{fronts_at}
 use Rattle.dt_agreement.proofs.Callers.{transaction_valid, next_txns, legal_keeps, world_after_more, more_legal, home_region, txn_there}
-use Rattle.dt_site.specs.Site.{SiteView, node_of, attempts}
+use Rattle.dt_site.specs.Site.{SiteView, node_of}
 use Rattle.dt_site.specs.StandsIn.{IsReached, StandsIn}
 use Rattle.dt_site.proofs.Lists.{attempts_have, attempts_length}
 

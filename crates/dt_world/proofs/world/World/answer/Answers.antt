@@ -34,4 +34,6 @@ returns g c =
     c.index_mut-2.result.now c.index_mut-2.ensures.value c.answer-2.new.self (c.answer-2.ensures.answered (c.answer-2.ensures.legal.1 can)))
 
 pub answer-requires : goal.answer-requires
-answer-requires g c = stamp_here c.self.invariant c.if-region-self.false (behind (a_site c.self.invariant c.if-region-self.false) c.index_mut.ensures.value c.behind-self.view_is) (steps_few c.self.invariant c.self.view_is c.requires)
+answer-requires g c =
+    let here = behind (a_site c.self.invariant c.if-region-self.false) c.index_mut.ensures.value c.behind-self.view_is in
+    record { stamp = stamp_here c.self.invariant c.if-region-self.false here (steps_few c.self.invariant c.self.view_is c.requires) }

@@ -38,4 +38,6 @@ returns-then-not-branch g c =
     )
 
 pub resolve-requires : goal.resolve-requires
-resolve-requires g c = stamp_here c.self.invariant c.if-region-self.false (behind (a_site c.self.invariant c.if-region-self.false) c.index_mut.ensures.value c.behind-self.view_is) (steps_few c.self.invariant c.self.view_is c.requires)
+resolve-requires g c =
+    let here = behind (a_site c.self.invariant c.if-region-self.false) c.index_mut.ensures.value c.behind-self.view_is in
+    record { stamp = stamp_here c.self.invariant c.if-region-self.false here (steps_few c.self.invariant c.self.view_is c.requires) }
