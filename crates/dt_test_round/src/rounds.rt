@@ -1,10 +1,12 @@
 //! Rounds of a region, to which parts of others were delivered.
+ghost use Rattle.dt_test_round.specs.Fed.{IsFed};
+
 use crate::calls::Call;
 use crate::feeding::{Row, feed_all};
 use dt_events::put_event;
 use dt_graph::QueueSched;
 use dt_plain::PlainSched;
-use dt_proc::builtin_procs;
+use dt_proc::{Procs, builtin_procs};
 use dt_region::Region;
 use dt_round::{Alone, Rounds};
 use dt_sched::Scheduler;
@@ -12,22 +14,42 @@ use dt_table::Table;
 use std::alloc::Global;
 use std::test::Fail;
 
-/// Region 3 of four is fed these parts and makes a round: its events from then on, each behind its stamp, and at last whether
-/// it is drained.
-fn told<S: Scheduler + Drop>(alloc: Global, rows: &[Row]) -> Result<Vec<u8>, Fail> {
-    let procs = builtin_procs(alloc)?;
-    let table = Table::new(alloc, 1, 4, &[], &[])?;
-    let mut region: Region<S> = Region::new(alloc, 3, 4, table)?;
-    feed_all(alloc, &mut region, &procs, rows)?;
-    Alone.round(alloc, &mut region, &procs)?;
+/// The events of a region from a place on, each behind its stamp, and at last whether it is drained.
+fn events_from<S: Scheduler>(
+    alloc: Global,
+    region: &Region<S>,
+    place: usize,
+) -> Result<Vec<u8>, Fail> {
     let mut told = Vec::new(alloc);
-    for kept in region.events().iter().skip(rows.len()) {
+    for kept in region.events().iter().skip(place) {
         told.extend_from_slice(format!(in alloc; "{} ", kept.stamp)?.as_bytes())?;
         put_event(alloc, &mut told, &kept.event)?;
     }
     let drained = region.drained(alloc)?;
     told.extend_from_slice(format!(in alloc; "{drained}")?.as_bytes())?;
     Ok(told)
+}
+
+/// A region is fed these parts and makes a round: its events from then on.
+fn go_on<S: Scheduler>(
+    alloc: Global,
+    region: &mut Region<S>,
+    procs: &Procs,
+    rows: &[Row],
+) -> Result<Vec<u8>, Fail>
+    requires { IsFed procs.now 0 region.old }
+{
+    feed_all(alloc, region, procs, rows)?;
+    Alone.round(alloc, region, procs)?;
+    events_from(alloc, region, rows.len())
+}
+
+/// What region 3 of four makes of these parts.
+fn told<S: Scheduler + Drop>(alloc: Global, rows: &[Row]) -> Result<Vec<u8>, Fail> {
+    let procs = builtin_procs(alloc)?;
+    let table = Table::new(alloc, 1, 4, &[], &[])?;
+    let mut region: Region<S> = Region::new(alloc, 3, 4, table)?;
+    go_on(alloc, &mut region, &procs, rows)
 }
 
 /// In a cluster of four the home of `d` is region 0, that of `a` region 1 and that of `b` region 2.
