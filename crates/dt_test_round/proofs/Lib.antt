@@ -1,2 +1,2 @@
-mod Feeding
+mod Delivered
 mod Opening

@@ -11,7 +11,7 @@ use Rattle.dt_region.specs.Conditions.{IsTableFor}
 use Rattle.dt_region.specs.Region.{RegionView}
 use Rattle.dt_region.specs.Rules.{opening_state}
 use Rattle.dt_round.specs.Rounds.{CanRound}
-use Rattle.dt_test_round.specs.Fed.{IsFed}
+use Rattle.dt_test_round.specs.Fed.{WasFed}
 
 -- the table without rows is one for four regions
 pub no_rows_fit : IsTableFor 4 (opening 1 4 [] [])
@@ -22,8 +22,8 @@ no_rows_fit = record {
 }
 
 -- a region that has done nothing was fed nothing
-pub fed_none : (procs : List ProcTree) (r : RegionView) (table : Table) → table ≡ opening 1 4 [] [] → r ≡ record { state = opening_state 3 4 table; events = []; heard = 0 } → IsFed procs 0 r
-fed_none procs r table opened is = subst (IsFed procs 0) (sym is) (record {
+pub fed_none : (procs : List ProcTree) (r : RegionView) (table : Table) → table ≡ opening 1 4 [] [] → r ≡ record { state = opening_state 3 4 table; events = []; heard = 0 } → WasFed procs 0 r
+fed_none procs r table opened is = subst (WasFed procs 0) (sym is) (record {
   holds = λ id txn e. absurd (none-some txn e);
   unmoved = λ key. subst (λ t. counter_of t key ≡ 0) (sym opened) (ap length (moves_of-opening 1 4 [] [] key));
   parts = refl;
@@ -31,7 +31,7 @@ fed_none procs r table opened is = subst (IsFed procs 0) (sym is) (record {
 })
 
 -- one that was fed a few parts may make a round
-pub can_round : (procs : List ProcTree) (count : ℕ) (r : RegionView) → count < 1000 → IsFed procs count r → CanRound procs r
+pub can_round : (procs : List ProcTree) (count : ℕ) (r : RegionView) → count < 1000 → WasFed procs count r → CanRound procs r
 can_round procs count r few fed = record {
   holds = fed.holds;
   moves = λ key. let a = fed.unmoved key in let b = fed.parts in omega (arith, few, a, b);

@@ -9,7 +9,7 @@ use Rattle.dt_region.specs.Region.{RegionView, latest_stamp}
 use Rattle.dt_region.specs.Conditions.{HoldsValid}
 
 -- the region was fed so many parts, of calls of these procedures, and has done nothing else
-pub record IsFed (procs : List ProcTree) (count : ℕ) (r : RegionView) : Type 0 where
+pub record WasFed (procs : List ProcTree) (count : ℕ) (r : RegionView) : Type 0 where
   -- each transaction that it holds is valid for them
   pub holds : HoldsValid procs r.state
   -- no unit was moved

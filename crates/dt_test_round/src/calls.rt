@@ -8,6 +8,9 @@ use dt_text::{Str, Value, read_i64};
 use std::alloc::Global;
 use std::test::Fail;
 
+/// A call: the name of a procedure, and the words of its arguments.
+pub type Call<'a> = (&'a [u8], &'a [&'a [u8]]);
+
 /// The arguments that words stand for: a number, or else the text of its bytes.
 fn arguments(alloc: Global, words: &[&[u8]]) -> Result<Args, Fail> {
     let mut arguments = Args::new(alloc);
@@ -23,15 +26,11 @@ fn arguments(alloc: Global, words: &[&[u8]]) -> Result<Args, Fail> {
     Ok(arguments)
 }
 
-/// The number of the procedure of a name, and the arguments, which have to fit it.
-pub fn call_of(
-    alloc: Global,
-    procs: &Procs,
-    name: &[u8],
-    words: &[&[u8]],
-) -> Result<(u32, Args), Fail>
+/// The number of a call's procedure, and its arguments, which have to fit.
+pub fn call_of(alloc: Global, procs: &Procs, call: Call) -> Result<(u32, Args), Fail>
     ensures { IfOk result (λ call. CallFits procs.now call.0 call.1) }
 {
+    let (name, words) = call;
     let Some(number) = procs.find(name) else {
         return Err(Fail::from("the procedure is there"));
     };

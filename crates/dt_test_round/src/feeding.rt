@@ -4,10 +4,10 @@ ghost use Rattle.dt_lists.specs.Lists.{AllIn, Has};
 ghost use Rattle.dt_sched.specs.Views.{HasPart};
 ghost use Rattle.dt_txn.specs.Transaction.{IsValid};
 ghost use Rattle.dt_region.specs.Conditions.{Agrees, HoldsValid};
-ghost use Rattle.dt_test_round.specs.Fed.{IsFed};
+ghost use Rattle.dt_test_round.specs.Fed.{WasFed};
 
-use crate::calls::call_of;
-use dt_access::TxnId;
+use crate::calls::{Call, call_of};
+use dt_access::{Part, TxnId};
 use dt_log::{Log, Taken};
 use dt_proc::Procs;
 use dt_region::Region;
@@ -16,9 +16,8 @@ use dt_txn::{Body, Entry, Txn, annotate, homes, part_at};
 use std::alloc::Global;
 use std::test::Fail;
 
-/// A part: its home, the sequence number and the region of its transaction, and the procedure that this calls, with the words
-/// of its arguments.
-pub type Row<'a> = (u8, u32, u8, &'a [u8], &'a [&'a [u8]]);
+/// A part: its home, the sequence number and the region of its transaction, and the call that this makes.
+pub type Row<'a> = (u8, u32, u8, Call<'a>);
 
 fn are_below(homes: &[u8], count: u8) -> bool
     ensures { IsTrue result ↔ AllIn (λ home. home < count) homes.now }
@@ -42,12 +41,18 @@ fn has_home(homes: &[u8], home: u8) -> bool
     false
 }
 
+fn is_of(part: &Part, id: TxnId) -> bool
+    ensures { IsTrue result ↔ (part.now.id ≡ id) }
+{
+    part.id == id
+}
+
 fn has_part(log: &Log, id: TxnId) -> bool
     ensures { result ≡ false → ¬ (HasPart log.now id) }
 {
     for place in 0..log.len() {
         if let Some(part) = log.get(place) {
-            if part.id == id {
+            if is_of(part, id) {
                 return true;
             }
         }
@@ -65,10 +70,17 @@ fn txn_of<S: Scheduler>(
     ensures valid { IfOk result (IsValid procs.now region.now.state.here.table.version region.now.state.regions) }
     ensures id { IfOk result (λ txn. txn.id ≡ record { seq = row.now.1; region = row.now.2 }) }
 {
-    let (_, seq, by, name, words) = *row;
-    let (number, arguments) = call_of(alloc, procs, name, words)?;
+    let (_, seq, by, call) = *row;
+    let (number, arguments) = call_of(alloc, procs, call)?;
     let body = Body::Call(number, arguments);
-    let txn = annotate(alloc, TxnId { seq, region: by }, 5, body, procs, region.table())?;
+    let txn = annotate(
+        alloc,
+        TxnId { seq, region: by },
+        5,
+        body,
+        procs,
+        region.table(),
+    )?;
     if !are_below(homes(alloc, &txn)?.as_slice(), region.regions()) {
         return Err(Fail::from("the homes are regions"));
     }
@@ -86,7 +98,7 @@ fn held_or_new<S: Scheduler>(
     ensures valid { IfOk result (IsValid procs.now region.now.state.here.table.version region.now.state.regions) }
     ensures agrees { IfOk result (Agrees region.now.state) }
 {
-    let (_, seq, by, _, _) = *row;
+    let (_, seq, by, _) = *row;
     if by == region.number() {
         return Err(Fail::from("the transaction is another region's"));
     }
@@ -105,10 +117,10 @@ fn feed<S: Scheduler>(
     row: &Row,
 ) -> Result<(), Fail>
     requires few { count < 1000 }
-    requires fed { IsFed procs.now count region.old }
-    ensures { OnOk result (IsFed procs.now (count + 1) region.new) }
+    requires fed { WasFed procs.now count region.old }
+    ensures { OnOk result (WasFed procs.now (count + 1) region.new) }
 {
-    let (home, _, _, _, _) = *row;
+    let (home, _, _, _) = *row;
     if home == region.number() || home >= region.regions() {
         return Err(Fail::from("the home is another region"));
     }
@@ -136,9 +148,9 @@ pub fn feed_all<S: Scheduler>(
     procs: &Procs,
     rows: &[Row],
 ) -> Result<(), Fail>
-    requires { IsFed procs.now 0 region.old }
+    requires { WasFed procs.now 0 region.old }
     ensures few { OnOk result (length rows.now < 1000) }
-    ensures fed { OnOk result (IsFed procs.now (length rows.now) region.new) }
+    ensures fed { OnOk result (WasFed procs.now (length rows.now) region.new) }
 {
     if rows.len() >= 1000 {
         return Err(Fail::from("a test has few parts"));

@@ -1,5 +1,6 @@
 -- A region is fed one part more: it may be given it, and is fed so afterwards.
-use Rattle.std.proofs.Common.{◌≡◌, ◌≢◌, ◌⊎◌, ◌<◌, ◌≤◌, ◌+◌, ◌-◌, ◌^◌, ℕ, zero, suc, Bool, true, false, cond, List, [], ◌∷◌, ◌++◌, map, length, set, take, drop, slice_get, Option, Some, None, is_some, refl, sym, ap, subst, ◌∙◌, inl, inr, arith}
+use Rattle.std.proofs.Common.{◌≡◌, ◌≢◌, ◌⊎◌, ◌<◌, ◌≤◌, ◌+◌, ◌-◌, ◌^◌, ℕ, zero, suc, Bool, true, false, cond, List, [], ◌∷◌}
+use Rattle.std.proofs.Common.{◌++◌, map, length, set, take, drop, slice_get, Option, Some, None, is_some, refl, sym, ap, subst, ◌∙◌, inl, inr, arith}
 use Rattle.std.proofs.lemmas.List.{append_assoc, drop_all, length-append, map-append}
 use Rattle.std.proofs.lemmas.List.Sums.{sum_by-set}
 use Rattle.std.proofs.lemmas.Option.{none-some}
@@ -19,7 +20,7 @@ use Rattle.dt_region.specs.Conditions.{Agrees, AreFew, CanDeliver, HasHomesIn, I
 use Rattle.dt_region.specs.Region.{RegionState, RegionView, find_txn, held}
 use Rattle.dt_region.specs.Rules.{after_deliver, hold, keep_all, past_end, with_entries, with_event}
 use Rattle.dt_region.proofs.Callers.{held_id, latest_more}
-use Rattle.dt_test_round.specs.Fed.{IsFed}
+use Rattle.dt_test_round.specs.Fed.{WasFed}
 
 -- what is looked for in a log: nothing so far, and the next part is not it
 
@@ -29,6 +30,12 @@ none_next (p ∷ log) zero part id e other none (inl same) = let is : p ≡ part
 none_next (p ∷ log) zero part id e other none (inr h) = h
 none_next (p ∷ log) (suc n) part id e other none (inl same) = none (inl same)
 none_next (p ∷ log) (suc n) part id e other none (inr h) = none_next log n part id e other (λ k. none (inr k)) h
+
+pub none_past : (log : List Part) (n : ℕ) (id : TxnId) → slice_get log n ≡ None → ¬ (HasPart (take n log) id) → ¬ (HasPart (take (suc n) log) id)
+none_past [] n id e none h = h
+none_past (p ∷ log) zero id e none h = cc
+none_past (p ∷ log) (suc n) id e none (inl same) = none (inl same)
+none_past (p ∷ log) (suc n) id e none (inr h) = none_past log n id e (λ k. none (inr k)) h
 
 -- what a region holds after one transaction more came
 
@@ -78,7 +85,7 @@ module _ (s : RegionState) (home place : ℕ) (part : Part) (txn : Txn) (there :
 
   -- the entry stands past the end of the log
   news : past_end log place entries ≡ entries
-  news = ap (λ n. drop n entries) (omega (arith, at))
+  news = let none : length log - place ≡ 0 = omega (arith, at) in ap (λ n. drop n entries) none
 
   longer : with_entries log place entries ≡ log ++ part ∷ []
   longer = ap (λ (es : List Entry). log ++ map (λ e. e.part) es) news
@@ -108,10 +115,10 @@ module _ (s : RegionState) (home place : ℕ) (part : Part) (txn : Txn) (there :
   held_then id x e = held_more s txn x id (ap (λ (es : List Entry). find_txn (s.submitted ++ keep_all s.submitted s.foreign (map (λ f. f.txn) es)) id) (sym news) ∙ e)
 
 -- a region that was fed one part more
-pub fed_more : (procs : List ProcTree) (count : ℕ) (r after : RegionView) (home place : ℕ) (part : Part) (txn : Txn) (event : Event) → IsFed procs count r
+pub fed_more : (procs : List ProcTree) (count : ℕ) (r after : RegionView) (home place : ℕ) (part : Part) (txn : Txn) (event : Event) → WasFed procs count r
     → home < length r.state.logs → place ≡ length (log_at r.state.logs home) → IsValid procs r.state.here.table.version r.state.regions txn
-    → after ≡ with_event r (after_deliver r.state home place (record { part = part; txn = txn } ∷ [])) event → IsFed procs (count + 1) after
-fed_more procs count r after home place part txn event fed there at valid is = subst (IsFed procs (count + 1)) (sym is) (record {
+    → after ≡ with_event r (after_deliver r.state home place (record { part = part; txn = txn } ∷ [])) event → WasFed procs (count + 1) after
+fed_more procs count r after home place part txn event fed there at valid is = subst (WasFed procs (count + 1)) (sym is) (record {
   holds = λ id x e. elim (held_then r.state home place part txn there at id x e) [
     | inl before ↦ fed.holds id x before
     | inr same ↦ subst (IsValid procs r.state.here.table.version r.state.regions) (sym same) valid
