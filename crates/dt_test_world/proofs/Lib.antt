@@ -1,2 +1,1 @@
 mod Played
-mod Requests
