@@ -1,21 +1,122 @@
 //! One region by itself: what no world asks of it.
-ghost use Rattle.std.specs.Prelude.{◌≡◌};
+ghost use Rattle.std.specs.Prelude.{◌≡◌, ◌≢◌, [], ◌∷◌, IfOk, OnOk};
+ghost use Rattle.dt_table.specs.Table.{opening};
+ghost use Rattle.dt_txn.specs.Transaction.{homes_of};
+ghost use Rattle.dt_region.specs.Rules.{opening_state};
 
+use dt_access::{Access, Mode, TxnId};
+use dt_events::put_event;
 use dt_plain::PlainSched;
 use dt_region::Region;
 use dt_table::Table;
+use dt_text::Key;
+use dt_txn::{Accesses, Body, Txn};
 use std::alloc::Global;
 use std::test::Fail;
 
+/// Region 0 of two before anything happens, without rows.
+fn first_of_two(alloc: Global) -> Result<Region<PlainSched>, Fail>
+    ensures { IfOk result (λ region. region ≡ record { state = opening_state 0 2 (opening 1 2 [] []); events = []; heard = 0 }) }
+{
+    let table = Table::new(alloc, 1, 2, &[], &[])?;
+    Ok(Region::new(alloc, 0, 2, table)?)
+}
+
 /// Whether a region of two that has done nothing has nothing to resolve, and keeps no event.
 fn has_nothing_to_do(alloc: Global) -> Result<bool, Fail> {
-    let table = Table::new(alloc, 1, 2, &[], &[])?;
-    let region: Region<PlainSched> = Region::new(alloc, 0, 2, table)?;
+    let region = first_of_two(alloc)?;
     Ok(region.next_class(alloc)?.is_none() && region.events().is_empty())
 }
 
 #[test]
 fn a_new_region_has_nothing_to_do(rt: HostRuntime) -> Result<(), Fail> {
     assert!(rt; has_nothing_to_do(rt.alloc())?);
+    Ok(())
+}
+
+/// The first transaction of region 1: it moves the key `b` from region 0 to region 1.
+fn a_move(alloc: Global) -> Result<Txn, Fail>
+    ensures homes { IfOk result (λ txn. homes_of txn ≡ 0 ∷ 1 ∷ []) }
+    ensures other { IfOk result (λ txn. txn.id.region ≢ 0) }
+{
+    let mut access = Accesses::new(alloc);
+    access.push(Access {
+        key: Key::read(alloc, b"b")?,
+        mode: Mode::Write,
+        home: 0,
+        counter: 0,
+    })?;
+    Ok(Txn {
+        id: TxnId { seq: 1, region: 1 },
+        rank: 3,
+        body: Body::Move(Key::read(alloc, b"b")?, 1),
+        access,
+    })
+}
+
+/// Whether region 0 of two, which hears of a stamp before, places it as the request of this number of region 1.
+fn places(
+    alloc: Global,
+    region: &mut Region<PlainSched>,
+    number: u32,
+    heard: u32,
+) -> Result<bool, Fail>
+    requires { region.old ≡ record { state = opening_state 0 2 (opening 1 2 [] []); events = []; heard = 0 } }
+    ensures { OnOk result (region.new.state.regions ≡ 2) }
+{
+    let txn = a_move(alloc)?;
+    region.hear(u64::from(heard));
+    Ok(region.append(alloc, 1, number, &txn)?)
+}
+
+/// What is seen of region 0 of two: how many requests of region 1 it has placed, how many parts its log has, whether it holds the
+/// first transaction of region 1, the stamp of its last event, whether it is drained, and its events, each behind its stamp.
+fn seen_of(alloc: Global, region: &Region<PlainSched>) -> Result<Vec<u8>, Fail>
+    requires { region.now.state.regions ≡ 2 }
+{
+    let taken = region.taken(1);
+    let parts = region.log(0).len();
+    let held = region.txn(TxnId { seq: 1, region: 1 }).is_some();
+    let stamp = region.stamp();
+    let drained = region.drained(alloc)?;
+    let mut seen = format!(in alloc; "{taken} {parts} {held} {stamp} {drained}\n")?.into_bytes();
+    for kept in region.events() {
+        seen.extend_from_slice(format!(in alloc; "{} ", kept.stamp)?.as_bytes())?;
+        put_event(alloc, &mut seen, &kept.event)?;
+    }
+    Ok(seen)
+}
+
+/// Region 0 of two hears of a stamp, and is asked to place the move as the request of this number of region 1: whether it does so,
+/// and what is seen of it then.
+fn asked_to_place(alloc: Global, number: u32, heard: u32) -> Result<(bool, Vec<u8>), Fail> {
+    let mut region = first_of_two(alloc)?;
+    let placed = places(alloc, &mut region, number, heard)?;
+    Ok((placed, seen_of(alloc, &region)?))
+}
+
+/// The number of a request, the stamp that is heard before it, whether it is placed, and what is seen then.
+const REQUESTS: [(u32, u32, bool, &[u8]); 5] = [
+    (0, 0, true, b"1 1 true 1 false\n1 append 0 1 0\n"),
+    (0, 41, true, b"1 1 true 42 false\n42 append 0 1 0\n"),
+    (
+        0,
+        4294967295,
+        true,
+        b"1 1 true 4294967296 false\n4294967296 append 0 1 0\n",
+    ),
+    (1, 41, false, b"0 0 false 0 true\n"),
+    (4294967295, 0, false, b"0 0 false 0 true\n"),
+];
+
+#[test]
+fn a_request_is_placed_in_its_turn_under_the_next_stamp_and_else_changes_nothing(
+    rt: HostRuntime,
+) -> Result<(), Fail> {
+    for (number, heard, wanted, want) in REQUESTS {
+        let (placed, seen) = asked_to_place(rt.alloc(), number, heard)?;
+        assert_eq!(rt; placed, wanted);
+        assert_eq!(rt; seen.as_slice(), want);
+    }
     Ok(())
 }
