@@ -11,5 +11,6 @@ pub mod MergeLists
 pub mod Chronicles
 pub mod Weighing
 pub mod Bound
+pub mod Few
 pub mod MergesExist
 pub mod Callers

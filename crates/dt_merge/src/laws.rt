@@ -68,7 +68,8 @@ pub fn side_by_side()
 {}
 
 /// A legal event leaves the world as it is, or raises the weight of its region. So a list of legal events that all change
-/// something is no longer than the weight by which they raise that of the world, and the weight of a world is bounded.
+/// something is no longer than the weight by which they raise that of the world, and the weight of a world is bounded: by
+/// 24,640,000 for the greatest cluster with the greatest workload, so 32 bits count them.
 pub fn weights()
     ensures rises { (cluster : Cluster) (workload : Workload) → IsValidCluster cluster → (w : World) (event : Event) →
         HasInvariant cluster workload w → IsLegal cluster workload w event → (next cluster workload w event ≡ w)
@@ -82,6 +83,8 @@ pub fn weights()
     ensures few { (cluster : Cluster) (workload : Workload) → IsValidCluster cluster → IsValidWorkload cluster workload →
         (w : World) (events : List Event) → HasInvariant cluster workload w → AreLegalFrom cluster workload w events →
         AllChange cluster workload w events → length events ≤ most_events cluster workload }
+    ensures number { (cluster : Cluster) (workload : Workload) → IsValidCluster cluster → IsValidWorkload cluster workload →
+        most_events cluster workload ≤ 24640000 }
 {}
 
 /// A list of legal events may be put into another order which leaves the order of each region, and in which each event finds

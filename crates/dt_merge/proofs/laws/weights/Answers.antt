@@ -1,4 +1,5 @@
 use Rattle.dt_merge.proofs.Bound.{weight_bounded, events_few}
+use Rattle.dt_merge.proofs.Few.{most_few}
 use Rattle.dt_merge.proofs.Weighing.{events_weighed, rises}
 use Rattle.dt_merge.proofs.laws.weights.Goals as goal
 
@@ -13,3 +14,6 @@ returns-clause-bounded c cluster workload ok w good = weight_bounded ok good
 
 pub returns-clause-few : goal.returns-clause-few
 returns-clause-few c cluster workload ok fits w events good legal changing = events_few cluster ok workload fits w events good legal changing
+
+pub returns-clause-number : goal.returns-clause-number
+returns-clause-number c cluster workload ok fits = most_few cluster ok workload fits
