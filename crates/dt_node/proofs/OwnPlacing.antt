@@ -1,0 +1,217 @@
+-- What a submission makes: its own event, and where its region is one of its homes, the placing of it there.
+use Rattle.std.proofs.Common.{◌≡◌, ◌≢◌, ◌<◌, ◌≤◌, ◌+◌, ◌-◌, ◌==◌, ◌||◌, ◌⊎◌, nat_lt, ℕ, zero, suc, Bool, true, false, cond, eqb, eqb-true, eq-eqb, List, [], ◌∷◌, ◌++◌}
+use Rattle.std.proofs.Common.{length, map, get_or, set, Ok, refl, sym, ap, ap₂, subst, ◌∙◌, inl, inr, arith}
+use Rattle.std.specs.Prelude.{slice_index}
+use Rattle.std.specs.List.{list_any}
+use Rattle.std.proofs.lemmas.Bool.{cases_Bool, cases_order, false_from_ne_true}
+use Rattle.std.proofs.lemmas.Bool.Decides.{nat_tests}
+use Rattle.std.proofs.lemmas.List.{get_or-set_same, get_or-set_other, length_push, length-set, map-append}
+use Rattle.dt_lists.specs.Lists.{AllIn, EachThen}
+use Rattle.dt_lists.proofs.Callers.{all_map}
+use Rattle.dt_access.specs.Clash.{Bytes}
+use Rattle.dt_access.specs.Orders.{AreAscendingHomes}
+use Rattle.dt_access.specs.declared.TxnId.{TxnId}
+use Rattle.dt_events.specs.declared.Event.{Event}
+use Rattle.dt_events.specs.declared.Event.TheVariants.{Append, Submit}
+use Rattle.dt_events.specs.Stamps.{events_of}
+use Rattle.dt_proc.specs.Tree.{ProcTree}
+use Rattle.dt_txn.specs.declared.Body.{Body}
+use Rattle.dt_txn.specs.declared.Txn.{Txn}
+use Rattle.dt_txn.specs.Asking.{ask}
+use Rattle.dt_txn.specs.Replica.{taken_from}
+use Rattle.dt_txn.specs.Transaction.{homes_of, set_of, targets_of, with_number}
+use Rattle.dt_txn.proofs.Callers.{with_number_all}
+use Rattle.dt_region.specs.Region.{RegionView}
+use Rattle.dt_region.specs.Rules.{MakesAppend, txn_for}
+use Rattle.dt_session.specs.Sessions.{after_wait}
+use Rattle.dt_site.specs.declared.Origin.{Origin}
+use Rattle.dt_site.specs.Site.{SiteView, MakesAttempt, in_region}
+use Rattle.dt_node.specs.NodeView.{NodeView, new_items, number_of}
+use Rattle.dt_node.specs.Turn.{HasGone, HasPlacedOwn}
+use Rattle.dt_node.specs.TurnInner.{IsNextAt, MovesOn}
+use Rattle.dt_node.specs.Beginning.{HasSubmitted, IsPlacingOwn, MakesNext, is_own, own_placings, submission_events}
+use Rattle.dt_node.proofs.Moving.{made_nothing, moves_on, new_are, new_joined, new_none}
+
+-- the homes of a transaction ascend
+
+number_in_front : (n m : ℕ) (ms : List ℕ) → n < m → with_number n (m ∷ ms) ≡ n ∷ m ∷ ms
+number_in_front n m ms h = grind (arith, nat_tests)
+
+number_there : (n m : ℕ) (ms : List ℕ) → n ≡ m → with_number n (m ∷ ms) ≡ m ∷ ms
+number_there n m ms h = grind (arith, nat_tests)
+
+number_behind : (n m : ℕ) (ms : List ℕ) → m < n → with_number n (m ∷ ms) ≡ m ∷ with_number n ms
+number_behind n m ms h = grind (arith, nat_tests)
+
+number_ascending : (n : ℕ) (ms : List ℕ) → AreAscendingHomes ms → AreAscendingHomes (with_number n ms)
+number_ascending n [] each = (tt, tt)
+number_ascending n (m ∷ ms) each = elim (cases_order n m) [
+  | inl equal ↦ rw (number_there n m ms equal) each
+  | inr (inl less) ↦ rw (number_in_front n m ms less) ((less, all_map (λ k. m < k) (λ k. n < k) ms (λ k h. omega arith) each.0), each)
+  | inr (inr more) ↦ rw (number_behind n m ms more) (with_number_all (λ k. m < k) n ms more each.0, number_ascending n ms each.1)
+]
+
+set_ascending : (ns : List ℕ) → AreAscendingHomes (set_of ns)
+set_ascending [] = tt
+set_ascending (n ∷ ns) = number_ascending n (set_of ns) (set_ascending ns)
+
+-- asking the homes of a transaction: a region among them is asked once more, and any other one is not
+
+ask_apart : (me : ℕ) (homes : List ℕ) (id : TxnId) (asked : List (List TxnId)) → AllIn (λ home. me ≢ home) homes → get_or (ask homes id asked) me [] ≡ get_or asked me []
+ask_apart me [] id asked a = refl
+ask_apart me (home ∷ homes) id asked a =
+    ask_apart me homes id (set asked home (get_or asked home [] ++ id ∷ [])) a.1 ∙ get_or-set_other asked home me (get_or asked home [] ++ id ∷ []) [] a.0
+
+abbrev id_more : List (List TxnId) → ℕ → TxnId → List TxnId
+id_more asked home id = get_or asked home [] ++ id ∷ []
+
+ask_one : (me : ℕ) (homes : List ℕ) (id : TxnId) (asked : List (List TxnId)) → me < length asked → AreAscendingHomes homes
+    → length (get_or (ask homes id asked) me []) ≡ length (get_or asked me []) + cond (list_any (λ home. home == me) homes) 1 0
+ask_one me [] id asked there each = omega arith
+ask_one me (home ∷ homes) id asked there each =
+    go (cases_Bool (home == me)) (ask_one me homes id (set asked home (id_more asked home id)) (subst (λ m. me < m) (sym (length-set asked home (id_more asked home id))) there) each.1)
+  where
+    go : ((home == me) ≡ true) ⊎ ((home == me) ≡ false)
+        → length (get_or (ask homes id (set asked home (id_more asked home id))) me []) ≡ length (get_or (set asked home (id_more asked home id)) me []) + cond (list_any (λ other. other == me) homes) 1 0
+        → length (get_or (ask homes id (set asked home (id_more asked home id))) me []) ≡ length (get_or asked me []) + cond ((home == me) || list_any (λ other. other == me) homes) 1 0
+    go (inl y) rest =
+        let same : home ≡ me = eqb-true home me y in
+        let apart : AllIn (λ other. me ≢ other) homes = all_map (λ other. home < other) (λ other. me ≢ other) homes (λ other lt is. absurd (omega (arith, lt, is, same))) each.0 in
+        let later : get_or (ask homes id (set asked home (id_more asked home id))) me [] ≡ get_or (set asked home (id_more asked home id)) me [] = ask_apart me homes id (set asked home (id_more asked home id)) apart in
+        let here : get_or (set asked home (id_more asked home id)) me [] ≡ get_or asked me [] ++ id ∷ [] =
+        subst (λ m. get_or (set asked home (id_more asked home id)) m [] ≡ get_or asked m [] ++ id ∷ []) same (get_or-set_same asked home (id_more asked home id) [] (omega (arith, there, same))) in
+        let long : length (get_or asked me [] ++ id ∷ []) ≡ length (get_or asked me []) + 1 = length_push (get_or asked me []) id in
+        ap length (later ∙ here) ∙ long ∙ ap (λ b. length (get_or asked me []) + cond (b || list_any (λ other. other == me) homes) 1 0) (sym y)
+    go (inr n) rest =
+        let apart : me ≢ home = λ is. (let y : (home == me) ≡ true = eq-eqb home me (sym is) in let no : ◌≡◌ {A = Bool} true false = sym y ∙ n in cc) in
+        let here : get_or (set asked home (id_more asked home id)) me [] ≡ get_or asked me [] = get_or-set_other asked home me (id_more asked home id) [] apart in
+        rest ∙ ap (λ l. length l + cond (list_any (λ other. other == me) homes) 1 0) here
+        ∙ ap (λ b. length (get_or asked me []) + cond (b || list_any (λ other. other == me) homes) 1 0) (sym n)
+
+-- placings, and others after them
+placings_joined : (me first n m : ℕ) → own_placings me first n ++ own_placings me (first + n) m ≡ own_placings me first (n + m)
+placings_joined me first zero m = ap₂ (own_placings me) (let e : first + 0 ≡ first = omega arith in e) (let e : m ≡ 0 + m = omega arith in e)
+placings_joined me first (suc n) m =
+    let place : first + suc n ≡ first + 1 + n = omega arith in
+    let many : suc (n + m) ≡ suc n + m = omega arith in
+    ap (λ k. Append me me first ∷ (own_placings me (first + 1) n ++ own_placings me k m)) place
+    ∙ ap (λ l. Append me me first ∷ l) (placings_joined me (first + 1) n m)
+    ∙ ap (own_placings me first) many
+
+-- nothing was placed
+pub placing_none : (a : NodeView) → IsPlacingOwn a a
+placing_none a = record {
+  moved = λ procs. made_nothing a;
+  asked = refl;
+  table = refl;
+  events = ap events_of (new_none a a refl)
+      ∙ ap (own_placings (number_of a) (taken_from a.site.region.state.here (number_of a)))
+      (let e : 0 ≡ taken_from a.site.region.state.here (number_of a) - taken_from a.site.region.state.here (number_of a) = omega arith in e);
+}
+
+-- the next request was placed
+module _ {a : NodeView} (number : ℕ) (txn : Txn) (r : RegionView) (made : MakesAppend a.site.region (number_of a) number txn (Ok true) r)
+    (moved : (procs : List ProcTree) → MovesOn procs [] a (record a { site = in_region a.site r })) (there : number_of a < length a.site.region.state.here.taken) where
+  pub placing_one : IsPlacingOwn a (record a { site = in_region a.site r })
+  placing_one =
+      let first : ℕ = taken_from a.site.region.state.here (number_of a) in
+      let taken : taken_from r.state.here (number_of a) ≡ first + 1 =
+      ap (λ (x : RegionView). taken_from x.state.here (number_of a)) made.1 ∙ get_or-set_same a.site.region.state.here.taken (number_of a) (first + 1) 0 there in
+      let one : 1 ≡ taken_from r.state.here (number_of a) - first = omega (arith, taken) in
+      record {
+        moved = moved;
+        asked = ap (λ (x : RegionView). x.state.here.asked) made.1;
+        table = ap (λ (x : RegionView). x.state.here.table) made.1;
+        events = ap events_of (new_are a (record a { site = in_region a.site r }) (ap (λ (x : RegionView). x.events) made.1))
+            ∙ ap (λ n. Append (number_of a) (number_of a) n ∷ []) made.0 ∙ ap (own_placings (number_of a) first) one;
+      }
+
+-- some were placed, and then some more
+pub placing_on : {a b c : NodeView} → IsPlacingOwn a b → IsPlacingOwn b c → IsPlacingOwn a c
+placing_on {a} {b} {c} g h =
+    let me : number_of b ≡ number_of a = (g.moved []).gone.number in
+    let zeroth : ℕ = taken_from a.site.region.state.here (number_of a) in
+    let first : ℕ = taken_from b.site.region.state.here (number_of a) in
+    let low : zeroth ≤ first = (g.moved []).gone.taken (number_of a) in
+    let high : first ≤ taken_from c.site.region.state.here (number_of a) = (h.moved []).gone.taken (number_of a) in
+    let then : events_of (new_items b c) ≡ own_placings (number_of a) first (taken_from c.site.region.state.here (number_of a) - first) =
+    subst (λ n. events_of (new_items b c) ≡ own_placings n (taken_from b.site.region.state.here n) (taken_from c.site.region.state.here n - taken_from b.site.region.state.here n)) me h.events in
+    let place : first ≡ zeroth + (first - zeroth) = omega (arith, low) in
+    let many : (first - zeroth) + (taken_from c.site.region.state.here (number_of a) - first) ≡ taken_from c.site.region.state.here (number_of a) - zeroth = omega (arith, low, high) in
+    record {
+      moved = λ procs. moves_on (g.moved procs) (h.moved procs);
+      asked = h.asked ∙ g.asked;
+      table = h.table ∙ g.table;
+      events = ap events_of (new_joined (g.moved []).gone (h.moved []).gone) ∙ map-append (λ x. x.event) (new_items a b) (new_items b c)
+          ∙ ap₂ (λ (xs ys : List Event). xs ++ ys) g.events (then ∙ ap (λ n. own_placings (number_of a) n (taken_from c.site.region.state.here (number_of a) - first)) place)
+          ∙ placings_joined (number_of a) zeroth (first - zeroth) (taken_from c.site.region.state.here (number_of a) - first) ∙ ap (own_placings (number_of a) zeroth) many;
+    }
+
+-- a submission, and the placing of what it asked of its own region
+module _ {procs : List ProcTree} {a b c : NodeView} (name : Bytes) {origin : Origin} {rank : ℕ} {body : Body} (t : IsNextAt a name origin rank body) (m : MakesNext procs a origin rank body b)
+    (g : HasGone procs [] a b) (k : IsPlacingOwn b c) (sessions : c.sessions ≡ b.sessions) (all : HasPlacedOwn c) (there : number_of a < length a.site.region.state.here.asked) where
+  abbrev me : ℕ
+  me = number_of a
+
+  abbrev own : Bool
+  own = is_own procs (number_of a) a.site.region.state.here.table rank body
+
+  abbrev before : ℕ
+  before = taken_from a.site.region.state.here (number_of a)
+
+  abbrev txn : Txn
+  txn = txn_for procs a.site.region.state rank body
+
+  asked_more : length (get_or b.site.region.state.here.asked me []) ≡ length (get_or a.site.region.state.here.asked me []) + cond own 1 0
+  asked_more =
+      ap (λ (x : SiteView). length (get_or x.region.state.here.asked me [])) m.1.1
+      ∙ ask_one me (homes_of txn) txn.id a.site.region.state.here.asked there (set_ascending (map (λ x. x.home) txn.access ++ targets_of txn.body))
+
+  taken_same : taken_from b.site.region.state.here me ≡ before
+  taken_same = ap (λ (x : SiteView). taken_from x.region.state.here me) m.1.1
+
+  first_event : events_of (new_items a b) ≡ Submit me name ∷ []
+  first_event = ap events_of (new_are a b (ap (λ (x : SiteView). x.region.events) m.1.1)) ∙ ap (λ n. Submit me n ∷ []) t.session
+
+  joined : events_of (new_items a c) ≡ Submit me name ∷ events_of (new_items b c)
+  joined =
+      ap events_of (new_joined g (k.moved procs).gone) ∙ map-append (λ x. x.event) (new_items a b) (new_items b c)
+      ∙ ap (λ l. l ++ events_of (new_items b c)) first_event
+
+  -- all is placed then
+  taken_all : taken_from c.site.region.state.here me ≡ length (get_or b.site.region.state.here.asked me [])
+  taken_all =
+      let number : number_of c ≡ me = (k.moved procs).gone.number ∙ g.number in
+      sym (subst (λ n. length (get_or c.site.region.state.here.asked n []) ≡ taken_from c.site.region.state.here n) number all) ∙ ap (λ (l : List (List TxnId)). length (get_or l me [])) k.asked
+
+  taken_then : HasPlacedOwn a → taken_from c.site.region.state.here me ≡ before + cond own 1 0
+  taken_then placed =
+      let now : taken_from c.site.region.state.here me ≡ length (get_or b.site.region.state.here.asked me []) = taken_all in
+      let same : length (get_or a.site.region.state.here.asked me []) ≡ before = placed in
+      let more : length (get_or b.site.region.state.here.asked me []) ≡ length (get_or a.site.region.state.here.asked me []) + cond own 1 0 = asked_more in
+      omega (arith, now, same, more)
+
+  placings : HasPlacedOwn a → events_of (new_items b c) ≡ own_placings me before (cond own 1 0)
+  placings placed =
+      let then : taken_from c.site.region.state.here me ≡ before + cond own 1 0 = taken_then placed in
+      let from : taken_from b.site.region.state.here me ≡ before = taken_same in
+      let many : taken_from c.site.region.state.here me - taken_from b.site.region.state.here me ≡ cond own 1 0 = omega (arith, then, from) in
+      subst (λ n. events_of (new_items b c) ≡ own_placings n (taken_from b.site.region.state.here n) (taken_from c.site.region.state.here n - taken_from b.site.region.state.here n)) g.number k.events
+      ∙ ap₂ (own_placings me) from many
+
+  as_said : (b : Bool) (n : ℕ) → Submit me name ∷ own_placings me n (cond b 1 0) ≡ submission_events me name b n
+  as_said true n = refl
+  as_said false n = refl
+
+  pub has_submitted : HasSubmitted procs a name c
+  has_submitted = record {
+    origin = origin;
+    rank = rank;
+    body = body;
+    next = t;
+    id = m.0;
+    sessions = sessions ∙ m.2 ∙ ap (λ n. after_wait a.sessions n m.0) t.session;
+    table = k.table ∙ ap (λ (x : SiteView). x.region.state.here.table) m.1.1;
+    events = λ placed. joined ∙ ap (λ l. Submit me name ∷ l) (placings placed) ∙ as_said own before;
+    taken = taken_then;
+  }

@@ -1,0 +1,78 @@
+-- A whole packet: its stamp is heard, its requests are placed, its entries received, and what it tells of its source is noted.
+use Rattle.std.proofs.Common.{◌≡◌, ◌<◌, ◌≤◌, ◌+◌, ℕ, List, [], ◌∷◌, length, max, get_or, set, refl, sym, ap, subst, ◌∙◌, arith}
+use Rattle.std.proofs.lemmas.List.{length-set}
+use Rattle.dt_sched.specs.Views.{log_at}
+use Rattle.dt_proc.specs.Tree.{ProcTree}
+use Rattle.dt_txn.specs.Replica.{taken_from}
+use Rattle.dt_region.specs.Region.{latest_stamp}
+use Rattle.dt_packet.specs.declared.packet.Packet.{Packet}
+use Rattle.dt_node.specs.NodeView.{NodeView, heard_by, number_of}
+use Rattle.dt_node.specs.Turn.{HasTaken}
+use Rattle.dt_node.specs.TurnInner.{CanTake, KnowsTheSame, MovesOn, asking_packet, logging_packet, noted}
+use Rattle.dt_node.proofs.Moving.{moves_by_more}
+use Rattle.dt_node.proofs.Noting.{heard_moves, noted_heard, noted_moves}
+use Rattle.dt_node.proofs.Parting.{can_ask, can_log, moves_by_asking, moves_by_logging, moves_same}
+use Rattle.dt_node.proofs.Telling.{can_again}
+
+module _ (p : Packet) (a : NodeView) (c : CanTake (p ∷ []) a) where
+  here : p.target ≡ number_of a
+  here = c.can.told.addressed.0.target
+
+  abbrev hearing : NodeView
+  hearing = heard_by a p.stamp
+
+  -- after its stamp is heard, its requests may be placed
+
+  pub can_hear : CanTake (p ∷ []) hearing
+  can_hear = can_again (p ∷ []) c (λ procs. heard_moves p a)
+
+  pub may_ask : CanTake (asking_packet hearing p.source p.asked_at p.asked ∷ []) hearing
+  may_ask = can_ask hearing p here can_hear
+
+  module _ (b : NodeView) (asked : (procs : List ProcTree) → MovesOn procs (asking_packet hearing p.source p.asked_at p.asked ∷ []) hearing b) where
+    stamp_heard : p.stamp ≤ latest_stamp hearing.site.region
+    stamp_heard = omega arith
+
+    pub asked_so_far : (procs : List ProcTree) → MovesOn procs (p ∷ []) a b
+    asked_so_far procs = moves_same (heard_moves p a) (moves_by_asking p here stamp_heard (asked procs))
+
+    -- then its entries may be received
+
+    here_still : p.target ≡ number_of b
+    here_still = here ∙ sym (asked []).gone.number
+
+    can_go_on : CanTake (p ∷ []) b
+    can_go_on = can_again (p ∷ []) c asked_so_far
+
+    pub may_log : CanTake (logging_packet b p.source p.log_at p.entries ∷ []) b
+    may_log = can_log b p here_still can_go_on
+
+    module _ (d : NodeView) (logged : (procs : List ProcTree) → MovesOn procs (logging_packet b p.source p.log_at p.entries ∷ []) b d) where
+      still_heard : p.stamp ≤ latest_stamp b.site.region
+      still_heard = let up : latest_stamp hearing.site.region ≤ latest_stamp b.site.region = (asked []).stamps.up in omega (arith, stamp_heard, up)
+
+      pub logged_so_far : (procs : List ProcTree) → MovesOn procs (p ∷ []) a d
+      logged_so_far procs = moves_same (asked_so_far procs) (moves_by_logging p here_still still_heard (logged procs))
+
+      -- and last what it tells is noted
+
+      pub counts_there : (p.source < length d.took) × (p.source < length d.received)
+      counts_there =
+          let last : CanTake (p ∷ []) d = can_again (p ∷ []) c logged_so_far in
+          (subst (λ n. p.source < n) (sym last.can.fits.took) last.can.told.addressed.0.source, subst (λ n. p.source < n) (sym last.can.fits.received) last.can.told.addressed.0.source)
+
+      pub all_moved : (procs : List ProcTree) → MovesOn procs (p ∷ []) a (noted d p.source p.took p.received)
+      all_moved procs = moves_same (logged_so_far procs) (noted_moves p d)
+
+      pub all_taken : KnowsTheSame hearing b → KnowsTheSame b d → p.asked_at + length p.asked ≤ taken_from b.site.region.state.here p.source
+          → p.log_at + length p.entries ≤ length (log_at d.site.region.state.logs p.source) → HasTaken (p ∷ []) a (noted d p.source p.took p.received)
+      all_taken k l asks logs =
+          let took : d.took ≡ a.took = l.took ∙ k.took in
+          let received : d.received ≡ a.received = l.received ∙ k.received in
+          let more : taken_from b.site.region.state.here p.source ≤ taken_from d.site.region.state.here p.source = (logged []).gone.taken p.source in
+          record {
+            each = (record { asked = omega (arith, asks, more); entries = logs }, tt);
+            many_took = length-set d.took p.source (max (get_or d.took p.source 0) p.took) ∙ ap length took;
+            many_received = length-set d.received p.source (max (get_or d.received p.source 0) p.received) ∙ ap length received;
+            heard = noted_heard p a (noted d p.source p.took p.received) (ap (λ l. set l p.source (max (get_or l p.source 0) p.took)) took) (ap (λ l. set l p.source (max (get_or l p.source 0) p.received)) received);
+          }

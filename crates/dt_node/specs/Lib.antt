@@ -1,0 +1,14 @@
+pub mod NodeView
+pub mod Packets
+pub mod Standing
+pub mod Turn
+pub mod Sending
+pub mod Measure
+pub mod TurnInner
+pub mod Beginning
+pub mod NodeCode
+pub use Rattle.dt_session.specs.World
+pub use Rattle.dt_session.specs.Step
+pub use Rattle.dt_session.specs.Run
+pub use Rattle.dt_packet.specs.Loss
+pub use Rattle.dt_packet.specs.Links

@@ -1,0 +1,60 @@
+-- What a turn sends. Each other region is sent one packet, the same number on all links, and the plan says of that number
+-- whether the packet is put once, twice or not at all. One learns here what stands on the outlets then. Read next: src/lib.rt.
+use Rattle.std.specs.Prelude.{◌≡◌, ◌<◌, ◌+◌, ◌-◌, ℕ, List, [], ◌∷◌, ◌++◌, length, map, get_or}
+use Rattle.std.specs.List.{range_with_len}
+use Rattle.dt_packet.specs.declared.packet.Packet.{Packet}
+use Rattle.dt_packet.specs.declared.loss.LossPlan.{LossPlan}
+use Rattle.dt_packet.specs.declared.loss.Verdict.{Verdict}
+use Rattle.dt_packet.specs.declared.loss.Verdict.TheVariants.{Pass, Lost, Twice}
+use Rattle.dt_packet.specs.Links.{OutletView}
+use Rattle.dt_packet.specs.Loss.{IsVerdict}
+use Rattle.dt_node.specs.NodeView.{NodeView, number_of, other_at, packet_for}
+
+-- as often as a verdict says a packet is put, one right after the other
+abbrev pub copies_of : Verdict → Packet → List Packet
+copies_of Lost packet = []
+copies_of Pass packet = packet ∷ []
+copies_of Twice packet = packet ∷ packet ∷ []
+
+-- stands for an outlet that there is not
+abbrev pub no_outlet : OutletView
+no_outlet = record { put = []; free = 0 }
+
+-- an outlet with packets put on it, one after another
+pub record ArePut (packets : List Packet) (before after : OutletView) : Type 0 where
+  pub put : after.put ≡ before.put ++ packets
+  pub free : before.free ≡ after.free + length packets
+
+-- a packet of this number was put on an outlet as often as the plan says
+pub record IsSentBy (plan : LossPlan) (number : ℕ) (packet : Packet) (before after : OutletView) : Type 0 where
+  pub verdict : Verdict
+  pub is : IsVerdict plan number verdict
+  pub put : ArePut (copies_of verdict packet) before after
+
+-- a turn has sent its packets, each as the node is now: one turn more is made, whose number is that of the packets
+pub record HasSent (before now : NodeView) (outs_before outs_now : List OutletView) : Type 0 where
+  pub turns : now.turns ≡ before.turns + 1
+  pub many : length outs_now ≡ length outs_before
+  pub each : (link : ℕ) → link < length outs_before
+      → IsSentBy now.plan now.turns (packet_for now (other_at (number_of now) link)) (get_or outs_before link no_outlet) (get_or outs_now link no_outlet)
+
+-- From here on words that only proofs need, and the private calls of sending.
+
+-- a node that knows something of each region, so that it can send
+pub record IsReady (n : NodeView) : Type 0 where
+  pub took : length n.took ≡ n.site.region.state.regions
+  pub received : length n.received ≡ n.site.region.state.regions
+
+-- the packets for the other regions of so many links
+abbrev pub packets_for : NodeView → ℕ → List Packet
+packets_for n links = map (λ link. packet_for n (other_at (number_of n) link)) (range_with_len 0 links)
+
+-- an outlet after a packet was put on it
+abbrev pub put_one : OutletView → Packet → OutletView
+put_one out packet = record { put = out.put ++ packet ∷ []; free = out.free - 1 }
+
+-- outlets after one packet was put on each of them
+abbrev pub put_at : List OutletView → List Packet → List OutletView
+put_at [] packets = []
+put_at (out ∷ outs) [] = out ∷ outs
+put_at (out ∷ outs) (packet ∷ packets) = put_one out packet ∷ put_at outs packets

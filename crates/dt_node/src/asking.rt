@@ -1,0 +1,193 @@
+ghost use Rattle.std.specs.Prelude.{◌≡◌, ◌<◌, ◌≤◌, ◌+◌, [], List, IfOk, OnOk, get_or, length, option_and_then};
+ghost use Rattle.std.specs.Option.{option_copied};
+ghost use Rattle.dt_proc.specs.Tree.{ProcTree};
+ghost use Rattle.dt_txn.specs.Replica.{taken_from};
+ghost use Rattle.dt_region.specs.Region.{outcome_of};
+ghost use Rattle.dt_session.specs.Sessions.{waits_of};
+ghost use Rattle.dt_node.specs.Measure.{left_for};
+ghost use Rattle.dt_node.specs.NodeView.{number_of};
+ghost use Rattle.dt_node.specs.Turn.{HasPlacedOwn};
+ghost use Rattle.dt_node.specs.TurnInner.{CanGo, CanTake, EndsAll, EndsOne, IsNextAt, IsNextOfNode, KnowsTheSame, MayAnswerAt, MaySubmitAt, MovesOn};
+
+use crate::node::Node;
+use dt_proc::Procs;
+use dt_region::Region;
+use dt_sched::Scheduler;
+use dt_session::Sessions;
+use dt_site::Origin;
+use dt_text::{Name, NoMemory};
+use dt_txn::{Body, Outcome};
+use std::alloc::Global;
+
+impl<S: Scheduler + Drop> Node<S> {
+    /// Answers each session whose attempt has ended, in byte order of names. Says whether there was one.
+    pub(crate) fn answer_all(&mut self, alloc: Global) -> Result<bool, NoMemory>
+        requires can { CanTake [] self.old }
+        ensures moved { (procs : List ProcTree) → MovesOn procs [] self.old self.new }
+        ensures knows { KnowsTheSame self.old self.new }
+        ensures seats { length self.new.sessions.seats ≡ length self.old.sessions.seats }
+        ensures ends { IfOk result (λ some. EndsAll MayAnswerAt self.old some self.new) }
+    {
+        let mut some = false;
+        let mut index = 0;
+        while self.sessions.name(index).is_some() {
+            some |= self.answer_one(alloc, index)?;
+            index += 1;
+        }
+        Ok(some)
+    }
+
+    /// Answers the session at this place, if its attempt has ended. Says whether it did. The event is kept first, which may
+    /// take memory; the session goes on after that, which takes none.
+    fn answer_one(&mut self, alloc: Global, index: u32) -> Result<bool, NoMemory>
+        requires can { CanTake [] self.old }
+        ensures moved { (procs : List ProcTree) → MovesOn procs [] self.old self.new }
+        ensures knows { KnowsTheSame self.old self.new }
+        ensures seats { length self.new.sessions.seats ≡ length self.old.sessions.seats }
+        ensures ends { IfOk result (λ some. EndsOne MayAnswerAt self.old index some self.new) }
+    {
+        let Some(name) = self.sessions.name(index) else {
+            return Ok(false);
+        };
+        let last = last_outcome(&self.sessions, &self.site.region, name);
+        if !self.sessions.may_answer(name, last) {
+            return Ok(false);
+        }
+        let name = name.copy(alloc)?;
+        self.site.region.answer(alloc, &name)?;
+        let last = last_outcome(&self.sessions, &self.site.region, &name);
+        self.sessions.answer(&name, last);
+        Ok(true)
+    }
+
+    /// Lets each session submit its next attempt, if it may, in byte order of names; what an attempt asks of this region
+    /// itself is placed at once. Says whether there was one.
+    pub(crate) fn submit_all(&mut self, alloc: Global, procs: &Procs) -> Result<bool, NoMemory>
+        requires can { CanGo procs.now [] self.old }
+        ensures moved { MovesOn procs.now [] self.old self.new }
+        ensures knows { KnowsTheSame self.old self.new }
+        ensures seats { length self.new.sessions.seats ≡ length self.old.sessions.seats }
+        ensures ends { IfOk result (λ some. EndsAll MaySubmitAt self.old some self.new) }
+    {
+        let mut some = false;
+        let mut index = 0;
+        while self.sessions.name(index).is_some() {
+            some |= self.submit_one(alloc, procs, index)?;
+            index += 1;
+        }
+        Ok(some)
+    }
+
+    /// Lets the session at this place submit its next attempt, if it may, and places what that asks of this region itself.
+    /// Says whether it did.
+    fn submit_one(&mut self, alloc: Global, procs: &Procs, index: u32) -> Result<bool, NoMemory>
+        requires can { CanGo procs.now [] self.old }
+        ensures moved { MovesOn procs.now [] self.old self.new }
+        ensures knows { KnowsTheSame self.old self.new }
+        ensures seats { length self.new.sessions.seats ≡ length self.old.sessions.seats }
+        ensures ends { IfOk result (λ some. EndsOne MaySubmitAt self.old index some self.new) }
+    {
+        let Some(name) = self.sessions.name(index) else {
+            return Ok(false);
+        };
+        let Some((origin, rank, body)) = self.next_attempt(alloc, name)? else {
+            return Ok(false);
+        };
+        self.submit(alloc, procs, origin, rank, body)?;
+        self.place_own(alloc)?;
+        Ok(true)
+    }
+
+    /// What a session may submit next, with its rank, and whose it is. `None` exactly where it may submit nothing.
+    fn next_attempt(
+        &self,
+        alloc: Global,
+        name: &Name,
+    ) -> Result<Option<(Origin, u8, Body)>, NoMemory>
+        requires can { CanTake [] self.now }
+        ensures { IfOk result (IsNextOfNode self.now name.now) }
+    {
+        let last = last_outcome(&self.sessions, &self.site.region, name);
+        let Some((call, attempt)) = self.sessions.next(name, last) else {
+            return Ok(None);
+        };
+        let (rank, body) = self.sessions.body(alloc, name, call)?;
+        let origin = Origin {
+            session: name.copy(alloc)?,
+            call,
+            attempt,
+        };
+        Ok(Some((origin, rank, body)))
+    }
+
+    /// Submits an attempt, for which its session waits from then on.
+    fn submit(
+        &mut self,
+        alloc: Global,
+        procs: &Procs,
+        origin: Origin,
+        rank: u8,
+        body: Body,
+    ) -> Result<(), NoMemory>
+        requires can { CanGo procs.now [] self.old }
+        requires next { IsNextAt self.old origin.session origin rank body }
+        ensures moved { MovesOn procs.now [] self.old self.new }
+        ensures knows { KnowsTheSame self.old self.new }
+        ensures seats { length self.new.sessions.seats ≡ length self.old.sessions.seats }
+        ensures less { OnOk result (left_for self.new.sessions < left_for self.old.sessions) }
+        ensures some { OnOk result (length self.new.site.region.events ≡ length self.old.site.region.events + 1) }
+    {
+        let name = origin.session.copy(alloc)?;
+        let id = self.site.submit(alloc, rank, body, procs, origin)?;
+        let last = last_outcome(&self.sessions, &self.site.region, &name);
+        self.sessions.wait(&name, id, last);
+        Ok(())
+    }
+
+    /// Places what this region asked of itself, as far as it isn't placed.
+    fn place_own(&mut self, alloc: Global) -> Result<(), NoMemory>
+        requires can { CanTake [] self.old }
+        ensures moved { (procs : List ProcTree) → MovesOn procs [] self.old self.new }
+        ensures knows { KnowsTheSame self.old self.new }
+        ensures sessions { self.new.sessions ≡ self.old.sessions }
+        ensures placed { OnOk result (HasPlacedOwn self.new) }
+    {
+        let me = self.site.region.number();
+        for number in self.site.region.taken(me)..self.site.region.asked(me).len() as u32 {
+            self.place_request(alloc, me, number)?;
+        }
+        Ok(())
+    }
+
+    /// Places the request of this number that this region asked of itself, which is the next one.
+    fn place_request(&mut self, alloc: Global, me: u8, number: u32) -> Result<(), NoMemory>
+        requires can { CanTake [] self.old }
+        requires me { me ≡ number_of self.old }
+        requires next { number ≡ taken_from self.old.site.region.state.here me }
+        requires asked { number < length (get_or self.old.site.region.state.here.asked me []) }
+        ensures moved { (procs : List ProcTree) → MovesOn procs [] self.old self.new }
+        ensures knows { KnowsTheSame self.old self.new }
+        ensures sessions { self.new.sessions ≡ self.old.sessions }
+        ensures asked { self.new.site.region.state.here.asked ≡ self.old.site.region.state.here.asked }
+        ensures placed { OnOk result (taken_from self.new.site.region.state.here me ≡ number + 1) }
+    {
+        let region = &self.site.region;
+        let Some(txn) = region.txn(region.asked(me)[number as usize]) else {
+            unreachable!()
+        };
+        let txn = txn.copy(alloc)?;
+        self.site.region.append_owned(alloc, me, number, txn)?;
+        Ok(())
+    }
+}
+
+/// The outcome at its region of the attempt that a session waits for, if there are both.
+fn last_outcome<'a, S: Scheduler>(
+    sessions: &Sessions,
+    region: &'a Region<S>,
+    name: &Name,
+) -> Option<&'a Outcome>
+    ensures { option_copied result ≡ option_and_then (outcome_of region.now.state) (waits_of sessions.now name.now) }
+{
+    region.outcome(sessions.waits(name)?)
+}

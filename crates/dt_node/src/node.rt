@@ -1,0 +1,211 @@
+ghost use Rattle.std.specs.Prelude.{◌≡◌, ◌<◌, ◌≤◌, ◌+◌, ◌^◌, List, [], flat_map, length, map, replicate, IfOk, OnOk};
+ghost use Rattle.dt_lists.specs.Lists.{AllIn, Pairwise};
+ghost use Rattle.dt_txn.specs.Replica.{IsDrained};
+ghost use Rattle.dt_cluster.specs.Valid.{IsValidCluster};
+ghost use Rattle.dt_workload.specs.Valid.{IsValidWorkload};
+ghost use Rattle.dt_node.specs.NodeView.{heard_by, new_items, opening_node_of};
+ghost use Rattle.dt_node.specs.Sending.{HasSent};
+ghost use Rattle.dt_node.specs.Standing.{NodeStands};
+ghost use Rattle.dt_node.specs.Turn.{AreBrought, BeginsEagerly, HasGone, HasTaken, IsSettled, StampsRise};
+ghost use Rattle.dt_node.specs.TurnInner.{CanGo, KnowsTheSame, MovesOn, PassesOnce};
+
+use dt_cluster::Cluster;
+use dt_packet::{Inlet, LossPlan, Outlet};
+use dt_proc::Procs;
+use dt_region::Region;
+use dt_round::Rounds;
+use dt_sched::Scheduler;
+use dt_session::Sessions;
+use dt_site::Site;
+use dt_table::Table;
+use dt_text::NoMemory;
+use dt_workload::Workload;
+use std::alloc::Global;
+use std::marker::Model;
+
+/// A region of a cluster that runs by itself, with the sessions that stand at it.
+#[derive(Drop)]
+pub struct Node<S: Scheduler> {
+    pub(crate) site: Site<S>,
+    pub(crate) sessions: Sessions,
+    /// Of each other region, how many of this one's requests to it that one is known to have placed.
+    pub(crate) took: Vec<u32>,
+    /// Of each other region, how much of this one's log that one is known to have received.
+    pub(crate) received: Vec<u32>,
+    pub(crate) plan: LossPlan,
+    /// How many turns it has made.
+    pub(crate) turns: u64,
+}
+
+impl<S: Scheduler> Model for Node<S> {
+    ghost use Rattle.dt_node.specs.NodeView.{NodeView};
+    ghost use Rattle.dt_node.specs.NodeCode.{running_node_code};
+
+    ghost Value = { NodeView };
+
+    ghost coded = { running_node_code };
+
+    ghost view = { λ n. record { site = n.site; sessions = n.sessions; took = n.took.items; received = n.received.items; plan = n.plan; turns = n.turns } };
+}
+
+impl<S: Scheduler + Drop> Node<S> {
+    /// The node of this region of a cluster before anything happens.
+    pub fn new(
+        alloc: Global,
+        cluster: &Cluster,
+        workload: &Workload,
+        region: u8,
+    ) -> Result<Self, NoMemory>
+        requires cluster { IsValidCluster cluster.now }
+        requires workload { IsValidWorkload cluster.now workload.now }
+        requires region { region < cluster.now.regions }
+        ensures { IfOk result (λ node. node ≡ opening_node_of cluster.now workload.now region) }
+    {
+        let table = Table::new(
+            alloc,
+            cluster.version,
+            cluster.regions,
+            cluster.homes.as_slice(),
+            cluster.rows.as_slice(),
+        )?;
+        Ok(Node {
+            site: Site::new(alloc, region, cluster.regions, table)?,
+            sessions: Sessions::new(alloc, workload, region, cluster.tries)?,
+            took: zeros(alloc, cluster.regions)?,
+            received: zeros(alloc, cluster.regions)?,
+            plan: LossPlan {
+                drop: cluster.drop,
+                repeat: cluster.repeat,
+            },
+            turns: 0,
+        })
+    }
+
+    /// Its region. Takes no memory.
+    pub fn region(&self) -> &Region<S>
+        ensures { result.now ≡ self.now.site.region }
+    {
+        &self.site.region
+    }
+
+    /// Its region, and whose the submissions of that are. Takes no memory.
+    pub fn site(&self) -> &Site<S>
+        ensures { result.now ≡ self.now.site }
+    {
+        &self.site
+    }
+
+    /// The sessions that stand at it. Takes no memory.
+    pub fn sessions(&self) -> &Sessions
+        ensures { result.now ≡ self.now.sessions }
+    {
+        &self.sessions
+    }
+
+    /// Hears of a stamp: all its later events have greater ones. Takes no memory.
+    pub fn hear(&mut self, stamp: u64)
+        ensures { self.new ≡ heard_by self.old stamp }
+    {
+        self.site.region.hear(stamp);
+    }
+
+    /// Makes a turn. `ins` and `outs` have one end for each other region, in ascending order of regions. What waits at the
+    /// inlets has to be true in a world in which the node stands, and each outlet needs two free places. It fails only for
+    /// want of memory; then packets and the number of turns are given up, and what the node kept goes on from what there was.
+    pub fn turn<D: Rounds<Region<S>>, I: Inlet, O: Outlet>(
+        &mut self,
+        alloc: Global,
+        procs: &Procs,
+        rounds: &D,
+        ins: &mut [I],
+        outs: &mut [O],
+    ) -> Result<(), NoMemory>
+        requires ready { D.ready rounds.now }
+        requires stands { NodeStands procs.now (flat_map I.waits ins.old) self.old }
+        requires ends { length outs.old + 1 ≡ self.old.site.region.state.regions }
+        requires places { AllIn (λ out. 2 ≤ (O.seen out).free) outs.old }
+        requires turns { self.old.turns + 1 < 2 ^ 64 }
+        ensures gone { HasGone procs.now (flat_map I.waits ins.old) self.old self.new }
+        ensures brought { AreBrought (flat_map I.waits ins.old) (new_items self.old self.new) }
+        ensures stamps { StampsRise (flat_map I.waits ins.old) self.old self.new }
+        ensures emptied { OnOk result (flat_map I.waits ins.new ≡ []) }
+        ensures taken { OnOk result (HasTaken (flat_map I.waits ins.old) self.old self.new) }
+        ensures settled { OnOk result (IsSettled self.old self.new) }
+        ensures begins { OnOk result (flat_map I.waits ins.old ≡ [] → BeginsEagerly procs.now self.old self.new) }
+        ensures sent { OnOk result (HasSent self.old self.new (map O.seen outs.old) (map O.seen outs.new)) }
+        ensures same_ins { (first : List I) → Pairwise I.same first ins.old → Pairwise I.same first ins.new }
+        ensures same_outs { (first : List O) → Pairwise O.same first outs.old → Pairwise O.same first outs.new }
+    {
+        self.receive_all(alloc, ins)?;
+        self.go_on(alloc, procs, rounds)?;
+        self.send(alloc, outs)
+    }
+
+    /// The second to the fourth step: lets the sessions go on and makes a round, until the sessions stand still.
+    fn go_on<D: Rounds<Region<S>>>(
+        &mut self,
+        alloc: Global,
+        procs: &Procs,
+        rounds: &D,
+    ) -> Result<(), NoMemory>
+        requires ready { D.ready rounds.now }
+        requires can { CanGo procs.now [] self.old }
+        ensures moved { MovesOn procs.now [] self.old self.new }
+        ensures knows { KnowsTheSame self.old self.new }
+        ensures settled { OnOk result (IsSettled self.old self.new) }
+        ensures begins { OnOk result (BeginsEagerly procs.now self.old self.new) }
+    {
+        while self.pass(alloc, procs, rounds)? {}
+        Ok(())
+    }
+
+    /// Lets the sessions go on once, and makes a round. Says whether some session went on.
+    fn pass<D: Rounds<Region<S>>>(
+        &mut self,
+        alloc: Global,
+        procs: &Procs,
+        rounds: &D,
+    ) -> Result<bool, NoMemory>
+        requires ready { D.ready rounds.now }
+        requires can { CanGo procs.now [] self.old }
+        ensures moved { MovesOn procs.now [] self.old self.new }
+        ensures knows { KnowsTheSame self.old self.new }
+        ensures drained { OnOk result (IsDrained self.new.site.region.state.logs self.new.site.region.state.here) }
+        ensures passed { IfOk result (λ some. PassesOnce self.old some self.new) }
+        ensures begins { OnOk result (BeginsEagerly procs.now self.old self.new) }
+    {
+        let answered = self.answer_all(alloc)?;
+        let submitted = self.submit_all(alloc, procs)?;
+        self.round(alloc, procs, rounds)?;
+        Ok(answered | submitted)
+    }
+
+    /// The third step: makes a round.
+    fn round<D: Rounds<Region<S>>>(
+        &mut self,
+        alloc: Global,
+        procs: &Procs,
+        rounds: &D,
+    ) -> Result<(), NoMemory>
+        requires ready { D.ready rounds.now }
+        requires can { CanGo procs.now [] self.old }
+        ensures moved { MovesOn procs.now [] self.old self.new }
+        ensures knows { KnowsTheSame self.old self.new }
+        ensures sessions { self.new.sessions ≡ self.old.sessions }
+        ensures asked { self.new.site.region.state.here.asked ≡ self.old.site.region.state.here.asked }
+        ensures taken { self.new.site.region.state.here.taken ≡ self.old.site.region.state.here.taken }
+        ensures drained { OnOk result (IsDrained self.new.site.region.state.logs self.new.site.region.state.here) }
+    {
+        rounds.round(alloc, &mut self.site.region, procs)?;
+        // Names the region, so that the proof has what its type keeps.
+        let _number = self.site.region.number();
+        Ok(())
+    }
+}
+
+/// A zero for each of so many regions.
+fn zeros(alloc: Global, regions: u8) -> Result<Vec<u32>, NoMemory>
+    ensures { IfOk result (λ counts. counts.items ≡ replicate regions 0) }
+{
+    Ok(vec![in alloc; 0; regions as usize]?)
+}

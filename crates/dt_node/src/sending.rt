@@ -1,0 +1,167 @@
+ghost use Rattle.std.specs.Prelude.{◌≡◌, ◌<◌, ◌≤◌, ◌+◌, ◌^◌, List, [], filter_map, get_or, length, map, min, vec_len, IfOk, OnOk};
+ghost use Rattle.dt_lists.specs.Lists.{AllIn, Pairwise};
+ghost use Rattle.dt_sched.specs.Views.{log_at};
+ghost use Rattle.dt_region.specs.Region.{held};
+ghost use Rattle.dt_node.specs.NodeView.{entry_held, most_items, other_at, packet_for, stretch_from};
+ghost use Rattle.dt_node.specs.Sending.{HasSent, IsReady, packets_for, put_at, put_one};
+
+use crate::node::Node;
+use dt_packet::{Outlet, Packet, Verdict};
+use dt_region::Region;
+use dt_sched::Scheduler;
+use dt_text::NoMemory;
+use dt_txn::{Entries, Entry, Txns};
+use std::alloc::Global;
+
+/// So many requests, and so many entries, a packet has at most.
+const MOST_ITEMS: usize = 256;
+
+impl<S: Scheduler + Drop> Node<S> {
+    /// The last step of a turn: sends one packet to each other region, as often as the plan says. All packets are made before
+    /// the first is put.
+    pub(crate) fn send<O: Outlet>(&mut self, alloc: Global, outs: &mut [O]) -> Result<(), NoMemory>
+        requires ready { IsReady self.old }
+        requires ends { length outs.old + 1 ≡ self.old.site.region.state.regions }
+        requires places { AllIn (λ out. 2 ≤ (O.seen out).free) outs.old }
+        requires turns { self.old.turns + 1 < 2 ^ 64 }
+        ensures still { self.new ≡ record self.old { turns = self.old.turns + 1 } }
+        ensures sent { OnOk result (HasSent self.old self.new (map O.seen outs.old) (map O.seen outs.new)) }
+        ensures same { (first : List O) → Pairwise O.same first outs.old → Pairwise O.same first outs.new }
+    {
+        self.turns += 1;
+        match self.plan.verdict(self.turns) {
+            Verdict::Lost => Ok(()),
+            Verdict::Pass => {
+                let packets = self.packets(alloc, outs.len())?;
+                put_all(outs, packets);
+                Ok(())
+            }
+            Verdict::Twice => {
+                let packets = self.packets(alloc, outs.len())?;
+                let again = self.packets(alloc, outs.len())?;
+                put_all(outs, packets);
+                put_all(outs, again);
+                Ok(())
+            }
+        }
+    }
+
+    /// The packet for the other region of each of the links.
+    fn packets(&self, alloc: Global, links: usize) -> Result<Vec<Packet>, NoMemory>
+        requires ready { IsReady self.now }
+        requires links { links + 1 ≡ self.now.site.region.state.regions }
+        ensures { IfOk result (λ packets. packets.items ≡ packets_for self.now links) }
+    {
+        let me = self.site.region.number();
+        let mut packets = Vec::with_capacity(alloc, links)?;
+        for link in 0..links {
+            packets.push(self.packet(alloc, other_region(me, link as u8))?)?;
+        }
+        Ok(packets)
+    }
+
+    /// The packet for another region: all that this one is not known to have, as far as there is room.
+    fn packet(&self, alloc: Global, target: u8) -> Result<Packet, NoMemory>
+        requires ready { IsReady self.now }
+        requires target { target < self.now.site.region.state.regions }
+        ensures { IfOk result (λ packet. packet ≡ packet_for self.now target) }
+    {
+        let region = &self.site.region;
+        let asked_at = self.took[target as usize];
+        let log_at = self.received[target as usize];
+        Ok(Packet {
+            source: region.number(),
+            target,
+            stamp: region.stamp(),
+            asked_at,
+            asked: requests(alloc, region, target, asked_at)?,
+            log_at,
+            entries: entries(alloc, region, log_at)?,
+            took: region.taken(target),
+            received: region.log(target).len(),
+        })
+    }
+}
+
+/// The region at the other end of a link: the links are to all other regions, in ascending order.
+fn other_region(me: u8, link: u8) -> u8
+    requires { link < 255 }
+    ensures { result ≡ other_at me link }
+{
+    if link < me { link } else { link + 1 }
+}
+
+/// What a region asked another one to place, from its request of this number on, as far as a packet has room.
+fn requests<S: Scheduler>(
+    alloc: Global,
+    region: &Region<S>,
+    target: u8,
+    first: u32,
+) -> Result<Txns, NoMemory>
+    requires { target < region.now.state.regions }
+    ensures { IfOk result (λ txns. txns ≡ filter_map (held region.now.state) (stretch_from first (get_or region.now.state.here.asked target []))) }
+{
+    let asked = region.asked(target);
+    let mut txns = Txns::new(alloc);
+    for place in first as usize..end_from(first, asked.len()) {
+        let Some(txn) = region.txn(asked[place]) else {
+            continue;
+        };
+        txns.push(txn.copy(alloc)?)?;
+    }
+    Ok(txns)
+}
+
+/// The entries of a region's own log, from this place on, as far as a packet has room.
+fn entries<S: Scheduler>(alloc: Global, region: &Region<S>, first: u32) -> Result<Entries, NoMemory>
+    ensures { IfOk result (λ entries. entries ≡ filter_map (entry_held region.now.state) (stretch_from first (log_at region.now.state.logs region.now.state.number))) }
+{
+    let log = region.log(region.number());
+    let mut entries = Entries::new(alloc);
+    for place in first as usize..end_from(first, log.len() as usize) {
+        let Some(part) = log.get(place as u32) else {
+            unreachable!()
+        };
+        let Some(txn) = region.txn(part.id) else {
+            continue;
+        };
+        entries.push(Entry {
+            part: part.copy(alloc)?,
+            txn: txn.copy(alloc)?,
+        })?;
+    }
+    Ok(entries)
+}
+
+/// Where a packet that begins at this place of a list of this length ends.
+fn end_from(first: u32, length: usize) -> usize
+    ensures { result ≡ min length (first + most_items) }
+{
+    length.min(first as usize + MOST_ITEMS)
+}
+
+/// Puts one packet on each outlet.
+fn put_all<O: Outlet>(outs: &mut [O], packets: Vec<Packet>)
+    requires many { vec_len packets ≡ length outs.old }
+    requires places { AllIn (λ out. 1 ≤ (O.seen out).free) outs.old }
+    ensures put { map O.seen outs.new ≡ put_at (map O.seen outs.old) packets.items }
+    ensures same { (first : List O) → Pairwise O.same first outs.old → Pairwise O.same first outs.new }
+{
+    let mut link = 0;
+    for packet in packets {
+        put(&mut outs[link], packet);
+        link += 1;
+    }
+}
+
+/// Puts a packet on an outlet.
+fn put<O: Outlet>(out: &mut O, packet: Packet)
+    requires { 1 ≤ (O.seen out.old).free }
+    ensures put { O.seen out.new ≡ put_one (O.seen out.old) packet }
+    ensures same { (first : O) → O.same first out.old → O.same first out.new }
+{
+    match out.put(packet) {
+        Ok(()) => (),
+        Err(_) => unreachable!(),
+    }
+}
