@@ -1,5 +1,5 @@
 -- A session is answered: the node's region keeps the event, and its sessions go on.
-use Rattle.std.proofs.Common.{◌≡◌, ◌≢◌, ◌<◌, ◌+◌, ℕ, List, [], ◌∷◌, length, Ok, Some, None, refl, sym, ap, subst, ◌∙◌, cond, arith}
+use Rattle.std.proofs.Common.{◌≡◌, ◌≢◌, ◌+◌, List, [], ◌∷◌, length, Some, None, refl, sym, ap, subst, ◌∙◌, cond, arith}
 use Rattle.std.specs.Prelude.{Option, option_and_then, option_map}
 use Rattle.std.specs.Cmp.Lexicographic.{bytes_decides, texts_ties}
 use Rattle.std.proofs.lemmas.Map.{length-set_value}
@@ -7,7 +7,6 @@ use Rattle.dt_access.specs.Clash.{Bytes}
 use Rattle.dt_access.specs.declared.TxnId.{TxnId}
 use Rattle.dt_events.specs.declared.Event.{Event}
 use Rattle.dt_events.specs.declared.Event.TheVariants.{Answer}
-use Rattle.dt_txn.specs.declared.Outcome.{Outcome}
 use Rattle.dt_region.specs.Region.{RegionView, outcome_of}
 use Rattle.dt_region.specs.Rules.{with_event}
 use Rattle.dt_cluster.specs.declared.Cluster.{Cluster}
@@ -21,9 +20,8 @@ use Rattle.dt_session.specs.Run.{world_after}
 use Rattle.dt_agreement.proofs.Callers.{session_found}
 use Rattle.dt_agreement.specs.Invariant.{IsPlaceOf}
 use Rattle.dt_site.specs.SessionsStandIn.{SessionsStandIn, seat_in}
-use Rattle.dt_site.specs.StandsIn.{IsReached, StandsIn}
 use Rattle.dt_site.specs.Site.{in_region}
-use Rattle.dt_site.proofs.Callers.{answer_legal, answer_made, answered_places, inv, kept_here, last_in, may_answer, may_be_answered, may_go, may_submit, outcome_here, seat_changed, sessions_changed}
+use Rattle.dt_site.proofs.Callers.{answer_legal, answer_made, answered_places, inv, kept_here, last_in, may_answer, may_go, may_submit, outcome_here, seat_changed, sessions_changed}
 use Rattle.dt_node.specs.NodeView.{NodeView, number_of}
 use Rattle.dt_node.specs.Standing.{NodeFits}
 use Rattle.dt_node.specs.Turn.{GoesAfter, last_at}

@@ -19,7 +19,6 @@ use Rattle.dt_events.specs.Stamps.{events_of}
 use Rattle.dt_proc.specs.Tree.{ProcTree}
 use Rattle.dt_table.specs.Table.{Table}
 use Rattle.dt_txn.specs.declared.Body.{Body}
-use Rattle.dt_txn.specs.declared.Outcome.{Outcome}
 use Rattle.dt_txn.specs.Replica.{Replica, opening_replica, taken_from}
 use Rattle.dt_packet.specs.declared.packet.Packet.{Packet}
 use Rattle.dt_cluster.specs.declared.Cluster.{Cluster}
@@ -28,9 +27,9 @@ use Rattle.dt_workload.specs.declared.Session.{Session}
 use Rattle.dt_workload.specs.declared.Workload.{Workload}
 use Rattle.dt_session.specs.declared.sessions.Seat.{Seat}
 use Rattle.dt_session.specs.Eager.{first_calls, first_events, is_home, sessions_at, with_first_call}
-use Rattle.dt_session.specs.Sessions.{MayBeAnswered, MaySeatEnd, MaySeatTry, all_idle, idle_seat, is_named, numbers_next, seat_of, waiting, wanted_of, with_changed}
-use Rattle.dt_session.specs.Tries.{MayEnd, body_of, ranked_body}
-use Rattle.dt_session.specs.World.{no_node, opening_node, opening_table, opening_world}
+use Rattle.dt_session.specs.Sessions.{MaySeatEnd, MaySeatTry, all_idle, idle_seat, is_named, numbers_next, seat_of, waiting, wanted_of, with_changed}
+use Rattle.dt_session.specs.Tries.{MayEnd, ranked_body}
+use Rattle.dt_session.specs.World.{no_node, opening_node, opening_table}
 use Rattle.dt_site.proofs.Callers.{opening_sessions_stand}
 use Rattle.dt_node.specs.NodeView.{NodeView, new_items, number_of}
 use Rattle.dt_node.specs.Standing.{NodeFits}

@@ -1,10 +1,8 @@
 -- A request that a packet brought is placed, and entries that it brought are received: what the calls ask for, and how they end.
-use Rattle.std.proofs.Common.{◌≡◌, ◌≢◌, ◌<◌, ◌≤◌, ◌+◌, ◌-◌, ℕ, Bool, true, false, List, [], ◌∷◌, length, map, drop}
-use Rattle.std.proofs.Common.{take, get_or, set, slice_get, Result, Ok, Err, Some, refl, sym, ap, subst, ◌∙◌, inl, inr, arith}
+use Rattle.std.proofs.Common.{◌≡◌, ◌≢◌, ◌<◌, ◌≤◌, ◌+◌, ◌-◌, ℕ, Bool, true, false, List, [], ◌∷◌, length, map}
+use Rattle.std.proofs.Common.{slice_get, Result, Ok, Err, Some, refl, sym, ap, subst, ◌∙◌, inl, arith}
 use Rattle.std.proofs.lemmas.List.{get_or-set_same, length-map, length-append, length-drop}
 use Rattle.dt_text.specs.declared.NoMemory.{NoMemory}
-use Rattle.dt_lists.specs.Lists.{AllIn, Either}
-use Rattle.dt_lists.proofs.Callers.{either_nat}
 use Rattle.dt_log.specs.declared.Taken.{Taken}
 use Rattle.dt_log.specs.declared.Taken.TheVariants.{New, Old, Gap}
 use Rattle.dt_events.specs.declared.Event.{Event}
@@ -17,7 +15,6 @@ use Rattle.dt_region.specs.Region.{RegionView}
 use Rattle.dt_region.specs.Conditions.{CanAppend, CanDeliver}
 use Rattle.dt_region.specs.Rules.{MakesAppend, MakesDelivery, past_end, with_entries}
 use Rattle.dt_region.specs.Sound.{IsSoundRegion}
-use Rattle.dt_packet.specs.declared.packet.Packet.{Packet}
 use Rattle.dt_cluster.specs.declared.Cluster.{Cluster}
 use Rattle.dt_workload.specs.declared.Workload.{Workload}
 use Rattle.dt_session.specs.World.{asked_of}

@@ -1,11 +1,10 @@
 -- The node's region receives entries of another region's log, as a packet brought them.
-use Rattle.std.proofs.Common.{◌≡◌, ◌≢◌, ◌<◌, ◌≤◌, ◌+◌, ◌-◌, ℕ, Bool, true, List, [], ◌∷◌, ◌++◌, length, map}
-use Rattle.std.proofs.Common.{drop, get_or, set, take, Ok, Some, refl, sym, ap, subst, ◌∙◌, arith, leb, ltb, ◌&&◌}
+use Rattle.std.proofs.Common.{◌≡◌, ◌≢◌, ◌<◌, ◌≤◌, ◌+◌, ◌-◌, ℕ, true, List, [], ◌∷◌, ◌++◌, length, map}
+use Rattle.std.proofs.Common.{drop, take, Ok, Some, refl, sym, ap, subst, ◌∙◌, arith}
 use Rattle.std.proofs.lemmas.Bool.Decides.{nat_tests}
 use Rattle.std.proofs.lemmas.List.{get_or-set_same, length-map, length-append, length-drop}
 use Rattle.dt_lists.specs.Lists.{AllIn}
-use Rattle.dt_log.specs.declared.Taken.{Taken}
-use Rattle.dt_log.specs.declared.Taken.TheVariants.{New, Old, Gap}
+use Rattle.dt_log.specs.declared.Taken.TheVariants.{New}
 use Rattle.dt_events.specs.declared.Event.{Event}
 use Rattle.dt_events.specs.declared.Event.TheVariants.{Deliver}
 use Rattle.dt_sched.specs.Views.{log_at}
@@ -19,7 +18,7 @@ use Rattle.dt_workload.specs.declared.Workload.{Workload}
 use Rattle.dt_session.specs.World.{World, log_of, received_of, txn_of}
 use Rattle.dt_session.specs.Step.{next}
 use Rattle.dt_session.specs.Run.{world_after}
-use Rattle.dt_site.specs.Site.{SiteView, in_region}
+use Rattle.dt_site.specs.Site.{in_region}
 use Rattle.dt_site.specs.StandsIn.{IsReached}
 use Rattle.dt_site.proofs.Callers.{IsShort, Steps, after_more, can_deliver, deliver_made, has_received, joins, legal_short, run_more, sessions_stay}
 use Rattle.dt_node.specs.NodeView.{NodeView, number_of}

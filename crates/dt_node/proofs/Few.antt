@@ -1,30 +1,15 @@
 -- How many events there can be: each changes something, so there are no more than calls, tries and regions allow.
-use Rattle.std.proofs.Common.{◌≡◌, ◌<◌, ◌≤◌, ◌+◌, ◌*◌, ℕ, List, [], length, arith}
-use Rattle.std.proofs.Math.Nat.{mul-le-mul_left, mul-le-mul_right}
+use Rattle.std.proofs.Common.{◌≤◌, List, [], length, arith}
 use Rattle.dt_events.specs.declared.Event.{Event}
 use Rattle.dt_cluster.specs.declared.Cluster.{Cluster}
-use Rattle.dt_cluster.specs.Valid.{IsValidCluster}
 use Rattle.dt_workload.specs.declared.Workload.{Workload}
-use Rattle.dt_workload.specs.Valid.{IsValidWorkload, calls_in}
 use Rattle.dt_session.specs.World.{opening_world}
 use Rattle.dt_agreement.proofs.Callers.{legal_keeps}
 use Rattle.dt_merge.specs.Weight.{most_events}
 use Rattle.dt_merge.specs.WorldRegions.{HasInvariant}
-use Rattle.dt_merge.proofs.Callers.{events_few}
+use Rattle.dt_merge.proofs.Callers.{events_few, most_few}
 use Rattle.dt_node.specs.NodeView.{NodeView}
 use Rattle.dt_node.specs.Standing.{NodeFits}
-
-mul_both : (a b c d : ℕ) → a ≤ b → c ≤ d → a * c ≤ b * d
-mul_both a b c d l m = let x : a * c ≤ b * c = mul-le-mul_right c l in let y : b * c ≤ b * d = mul-le-mul_left b m in omega (arith, x, y)
-
-most_few : (cluster : Cluster) → IsValidCluster cluster → (workload : Workload) → IsValidWorkload cluster workload → most_events cluster workload ≤ 24640000
-most_few cluster ok workload fits =
-    let regions : cluster.regions ≤ 8 = ok.few in
-    let calls : calls_in workload.sessions * cluster.tries ≤ 20000 * 8 = mul_both (calls_in workload.sessions) 20000 cluster.tries 8 fits.few_calls ok.few_tries in
-    let square : cluster.regions * (2 * cluster.regions + 2) ≤ 8 * 18 = mul_both cluster.regions 8 (2 * cluster.regions + 2) 18 regions (omega (arith, regions)) in
-    let all : calls_in workload.sessions * cluster.tries * (2 + cluster.regions + cluster.regions * (2 * cluster.regions + 2)) ≤ 20000 * 8 * 154 =
-    mul_both (calls_in workload.sessions * cluster.tries) (20000 * 8) (2 + cluster.regions + cluster.regions * (2 * cluster.regions + 2)) 154 calls (omega (arith, regions, square)) in
-    all
 
 -- the events after which a node stands in the world
 pub few_events : {cluster : Cluster} {workload : Workload} {events : List Event} {n : NodeView} → NodeFits cluster workload events n → length events ≤ 24640000

@@ -1,23 +1,20 @@
 -- The events of a node's turn go on from those that there were, one after another; and what packets tell stays so meanwhile.
-use Rattle.std.proofs.Common.{◌≡◌, ◌≢◌, ◌<◌, ◌≤◌, ◌^◌, ℕ, List, [], ◌∷◌, ◌++◌, length, get_or, set, Some, refl, sym, ap, subst, ◌∙◌, append-nil, append_assoc}
+use Rattle.std.proofs.Common.{◌≡◌, ◌≢◌, ◌<◌, ◌≤◌, ◌^◌, ℕ, List, [], ◌∷◌, ◌++◌, length, get_or, set, refl, sym, ap, subst, ◌∙◌, append-nil, append_assoc}
 use Rattle.std.proofs.lemmas.List.{get_or-set_other}
-use Rattle.dt_lists.specs.Lists.{AllIn}
-use Rattle.dt_lists.proofs.Callers.{all_map}
-use Rattle.dt_access.specs.declared.TxnId.{TxnId}
 use Rattle.dt_events.specs.declared.Event.{Event}
 use Rattle.dt_txn.specs.Replica.{taken_from}
 use Rattle.std.specs.Prelude.{slice_index}
 use Rattle.dt_cluster.specs.declared.Cluster.{Cluster}
 use Rattle.dt_workload.specs.declared.Workload.{Workload}
-use Rattle.dt_session.specs.World.{World, Node, Place, no_node, opening_world, node_at, received_of, taken_of, txn_of}
-use Rattle.dt_session.specs.Step.{IsLegal, next}
+use Rattle.dt_session.specs.World.{World, Node, Place, no_node, opening_world, node_at, received_of, taken_of}
+use Rattle.dt_session.specs.Step.{next}
 use Rattle.dt_session.specs.Run.{AreLegalFrom, world_after, world_from}
 use Rattle.dt_session.specs.Eager.{AllChange}
 use Rattle.dt_agreement.proofs.Callers.{append_legal, world_from_append}
 use Rattle.dt_site.specs.SessionsStandIn.{SessionsStandIn}
 use Rattle.dt_site.specs.Site.{SiteView, node_of}
 use Rattle.dt_site.specs.StandsIn.{IsReached, StandsIn}
-use Rattle.dt_site.proofs.Callers.{Steps, after_more, run_more, txns_stay}
+use Rattle.dt_site.proofs.Callers.{Steps, after_more, run_more}
 use Rattle.dt_node.specs.NodeView.{NodeView, number_of}
 use Rattle.dt_node.specs.Standing.{KnowsNoMore, NodeFits}
 use Rattle.dt_node.specs.Turn.{GoesAfter}

@@ -20,6 +20,14 @@ pub mod Pieces
 pub mod Taking
 pub mod Few
 pub mod Ready
+pub mod Owning
+pub mod SessionsOn
+pub mod Stepping
+pub mod Inlets
+pub mod Keeping
+pub mod Stretches
+pub mod Opened
+pub mod Putting
 pub mod Seating
 pub mod OwnPlacing
 pub mod Beginning

@@ -1,10 +1,9 @@
 -- What each call on the node's region and sessions makes of the node: `MovesOn`, from what the call says by itself.
-use Rattle.std.proofs.Common.{◌≡◌, ◌≢◌, ◌<◌, ◌≤◌, ◌+◌, ◌-◌, ℕ, zero, suc, true, List, [], ◌∷◌, ◌++◌, length}
-use Rattle.std.proofs.Common.{map, max, drop, take, get_or, set, slice_get, Ok, None, Some, refl, sym, ap, subst, ◌∙◌, inl, arith}
+use Rattle.std.proofs.Common.{◌≡◌, ◌≤◌, ◌+◌, ℕ, zero, suc, true, List, [], ◌∷◌, ◌++◌, length}
+use Rattle.std.proofs.Common.{map, get_or, set, Ok, None, Some, refl, sym, ap, subst, ◌∙◌, arith}
 use Rattle.std.specs.Prelude.{Option, slice_index}
-use Rattle.std.proofs.lemmas.List.{get_or-set_same, get_or-set_other, length-append}
-use Rattle.dt_lists.specs.Lists.{AllIn, Either}
-use Rattle.dt_lists.proofs.Callers.{all_map, either_nat}
+use Rattle.std.proofs.lemmas.List.{length-append}
+use Rattle.dt_lists.specs.Lists.{AllIn}
 use Rattle.dt_access.specs.Clash.{Bytes}
 use Rattle.dt_access.specs.declared.TxnId.{TxnId}
 use Rattle.dt_log.specs.declared.Taken.TheVariants.{New}
@@ -20,19 +19,17 @@ use Rattle.dt_txn.specs.declared.Txn.{Txn}
 use Rattle.dt_txn.specs.Replica.{IsContinuation, MayStep, Replica, executed, stepped, taken_from}
 use Rattle.dt_round.specs.Rounds.{Continues, after_steps}
 use Rattle.dt_region.specs.Region.{RegionState, RegionView, held, latest_stamp}
-use Rattle.dt_region.specs.Rules.{MakesAppend, MakesDelivery, past_end, with_entries, with_event}
+use Rattle.dt_region.specs.Rules.{MakesAppend, MakesDelivery, past_end, with_event}
 use Rattle.dt_region.specs.Sound.{IsSoundRegion}
 use Rattle.dt_packet.specs.declared.packet.Packet.{Packet}
 use Rattle.dt_cluster.specs.declared.Cluster.{Cluster}
 use Rattle.dt_workload.specs.declared.Workload.{Workload}
 use Rattle.dt_session.specs.Sessions.{after_answer, after_wait}
-use Rattle.dt_session.specs.World.{World, asked_of, txn_of}
-use Rattle.dt_session.specs.Run.{world_after}
 use Rattle.dt_site.specs.declared.Origin.{Origin}
 use Rattle.dt_site.specs.Site.{SiteView, MakesAttempt, in_region}
 use Rattle.dt_node.specs.NodeView.{NodeView, number_of}
 use Rattle.dt_node.specs.Standing.{AreTold, NodeFits}
-use Rattle.dt_node.specs.Turn.{BringsRequest, GoesAfter, IsBroughtBy}
+use Rattle.dt_node.specs.Turn.{GoesAfter, IsBroughtBy}
 use Rattle.dt_node.specs.TurnInner.{IsNextAt, MayAnswerAt, MovesOn}
 use Rattle.dt_node.proofs.Answering.{answer_goes}
 use Rattle.dt_node.proofs.Moving.{StaysBeside, made_some}

@@ -1,6 +1,6 @@
 -- What calls of a turn make, put together: one call after another, a call that makes no event, and a call that makes some.
-use Rattle.std.proofs.Common.{◌≡◌, ◌≢◌, ◌<◌, ◌≤◌, ◌+◌, ◌^◌, ℕ, List, [], ◌∷◌, ◌++◌, length, map, drop, refl, sym, ap, subst, ◌∙◌, append-nil, append_assoc, arith}
-use Rattle.std.proofs.lemmas.List.{map-append, length-append}
+use Rattle.std.proofs.Common.{◌≡◌, ◌≤◌, ◌+◌, ℕ, List, [], ◌∷◌, ◌++◌, length, map, drop, refl, sym, ap, subst, ◌∙◌, append-nil, append_assoc, arith}
+use Rattle.std.proofs.lemmas.List.{map-append}
 use Rattle.dt_lists.specs.Lists.{AllIn}
 use Rattle.dt_lists.proofs.Callers.{all_append, all_image, all_map, any_append_left, any_append_right}
 use Rattle.dt_events.specs.declared.Event.{Event}
@@ -18,7 +18,7 @@ use Rattle.dt_workload.specs.declared.Workload.{Workload}
 use Rattle.dt_merge.specs.Merge.{region_at}
 use Rattle.dt_node.specs.NodeView.{NodeView, new_items, number_of}
 use Rattle.dt_node.specs.Standing.{AreTold, NodeFits}
-use Rattle.dt_node.specs.Turn.{AreBrought, GoesAfter, HasGone, IsBroughtBy, greatest}
+use Rattle.dt_node.specs.Turn.{GoesAfter, HasGone, IsBroughtBy, greatest}
 use Rattle.dt_node.specs.TurnInner.{MovesOn}
 use Rattle.dt_node.proofs.Going.{goes_more, goes_none}
 use Rattle.dt_node.proofs.Telling.{told_along, told_first, told_rest}

@@ -1,14 +1,12 @@
 -- A node hears of a stamp, and notes how far another region has come: no event is made, and it stands where it stood.
-use Rattle.std.proofs.Common.{◌≡◌, ◌≢◌, ◌<◌, ◌≤◌, ◌+◌, ℕ, Bool, true, false, cond, eqb, eqb-true, eq-eqb, List, []}
-use Rattle.std.proofs.Common.{◌∷◌, length, map, max, get_or, set, refl, sym, ap, subst, ◌∙◌, inl, inr, ◌⊎◌, arith}
-use Rattle.std.proofs.lemmas.Bool.{cases_Bool, false_from_ne_true}
+use Rattle.std.proofs.Common.{◌≡◌, ◌≢◌, ◌<◌, ◌≤◌, ℕ, Bool, true, false, eqb, eqb-true, eq-eqb, List, []}
+use Rattle.std.proofs.Common.{◌∷◌, length, max, get_or, set, refl, sym, ap, subst, ◌∙◌, inl, inr, ◌⊎◌, arith}
+use Rattle.std.proofs.lemmas.Bool.{cases_Bool}
 use Rattle.std.proofs.lemmas.List.{get_or-set_same, get_or-set_other, length-set}
-use Rattle.dt_lists.specs.Lists.{AllIn, Either}
+use Rattle.dt_lists.specs.Lists.{Either}
 use Rattle.dt_lists.proofs.Callers.{either_nat}
 use Rattle.dt_events.specs.declared.Event.{Event}
-use Rattle.dt_events.specs.Stamps.{last_stamp}
 use Rattle.dt_proc.specs.Tree.{ProcTree}
-use Rattle.dt_region.specs.Region.{latest_stamp}
 use Rattle.dt_packet.specs.declared.packet.Packet.{Packet}
 use Rattle.dt_cluster.specs.declared.Cluster.{Cluster}
 use Rattle.dt_workload.specs.declared.Workload.{Workload}
@@ -16,7 +14,7 @@ use Rattle.dt_session.specs.World.{World, received_of, taken_of}
 use Rattle.dt_session.specs.Run.{world_after}
 use Rattle.dt_node.specs.NodeView.{NodeView, heard_by, number_of}
 use Rattle.dt_node.specs.Standing.{AreTold, KnowsNoMore, NodeFits}
-use Rattle.dt_node.specs.Turn.{HasHeard, HasTaken, IsTaken, those_from}
+use Rattle.dt_node.specs.Turn.{HasHeard}
 use Rattle.dt_node.specs.TurnInner.{MovesOn, noted}
 use Rattle.dt_node.proofs.Moving.{made_none}
 

@@ -1,12 +1,11 @@
 -- What a submission makes: its own event, and where its region is one of its homes, the placing of it there.
-use Rattle.std.proofs.Common.{◌≡◌, ◌≢◌, ◌<◌, ◌≤◌, ◌+◌, ◌-◌, ◌==◌, ◌||◌, ◌⊎◌, nat_lt, ℕ, zero, suc, Bool, true, false, cond, eqb, eqb-true, eq-eqb, List, [], ◌∷◌, ◌++◌}
+use Rattle.std.proofs.Common.{◌≡◌, ◌≢◌, ◌<◌, ◌≤◌, ◌+◌, ◌-◌, ◌==◌, ◌||◌, ◌⊎◌, ℕ, zero, suc, Bool, true, false, cond, eqb-true, eq-eqb, List, [], ◌∷◌, ◌++◌}
 use Rattle.std.proofs.Common.{length, map, get_or, set, Ok, refl, sym, ap, ap₂, subst, ◌∙◌, inl, inr, arith}
-use Rattle.std.specs.Prelude.{slice_index}
 use Rattle.std.specs.List.{list_any}
-use Rattle.std.proofs.lemmas.Bool.{cases_Bool, cases_order, false_from_ne_true}
+use Rattle.std.proofs.lemmas.Bool.{cases_Bool, cases_order}
 use Rattle.std.proofs.lemmas.Bool.Decides.{nat_tests}
 use Rattle.std.proofs.lemmas.List.{get_or-set_same, get_or-set_other, length_push, length-set, map-append}
-use Rattle.dt_lists.specs.Lists.{AllIn, EachThen}
+use Rattle.dt_lists.specs.Lists.{AllIn}
 use Rattle.dt_lists.proofs.Callers.{all_map}
 use Rattle.dt_access.specs.Clash.{Bytes}
 use Rattle.dt_access.specs.Orders.{AreAscendingHomes}
@@ -25,7 +24,7 @@ use Rattle.dt_region.specs.Region.{RegionView}
 use Rattle.dt_region.specs.Rules.{MakesAppend, txn_for}
 use Rattle.dt_session.specs.Sessions.{after_wait}
 use Rattle.dt_site.specs.declared.Origin.{Origin}
-use Rattle.dt_site.specs.Site.{SiteView, MakesAttempt, in_region}
+use Rattle.dt_site.specs.Site.{SiteView, in_region}
 use Rattle.dt_node.specs.NodeView.{NodeView, new_items, number_of}
 use Rattle.dt_node.specs.Turn.{HasGone, HasPlacedOwn}
 use Rattle.dt_node.specs.TurnInner.{IsNextAt, MovesOn}

@@ -1,27 +1,24 @@
 -- A packet by its parts: first its requests are used and then its entries, and each of these as if a packet had brought it alone.
-use Rattle.std.proofs.Common.{◌≡◌, ◌≢◌, ◌<◌, ◌≤◌, ◌+◌, ◌^◌, ℕ, List, [], ◌∷◌, ◌++◌, length, map, max, drop, take, get_or, refl, sym, ap, subst, ◌∙◌, inl, inr, arith}
-use Rattle.dt_lists.specs.Lists.{AllIn, AnyIn, Has}
+use Rattle.std.proofs.Common.{◌≡◌, ◌<◌, ◌≤◌, ◌+◌, ℕ, List, [], ◌∷◌, ◌++◌, length, map, drop, take, refl, subst, ◌∙◌, inl, inr, arith}
+use Rattle.dt_lists.specs.Lists.{AnyIn, Has}
 use Rattle.dt_lists.proofs.Callers.{all_append, all_get, all_map, all_put, any_append}
 use Rattle.dt_events.specs.declared.Event.{Event}
 use Rattle.dt_events.specs.declared.Event.TheVariants.{Submit, Append, Deliver, Insert, Resolve, Execute, Answer}
 use Rattle.dt_events.specs.declared.Stamped.{Stamped}
-use Rattle.dt_events.specs.Stamps.{events_of}
 use Rattle.dt_proc.specs.Tree.{ProcTree}
-use Rattle.dt_txn.specs.declared.Entry.{Entry}
-use Rattle.dt_txn.specs.declared.Txn.{Txn}
 use Rattle.dt_region.specs.Region.{latest_stamp}
 use Rattle.dt_packet.specs.declared.packet.Packet.{Packet}
 use Rattle.dt_cluster.specs.declared.Cluster.{Cluster}
 use Rattle.dt_workload.specs.declared.Workload.{Workload}
-use Rattle.dt_session.specs.World.{World, asked_of, log_of}
+use Rattle.dt_session.specs.World.{World, asked_of}
 use Rattle.dt_session.specs.Run.{world_after}
 use Rattle.dt_node.proofs.Moving.{moves_more}
 use Rattle.dt_node.proofs.Stamping.{rise_same, rise_with}
 use Rattle.dt_node.specs.NodeView.{NodeView, new_items, number_of}
 use Rattle.dt_node.specs.Packets.{IsToldOf}
-use Rattle.dt_node.specs.Standing.{AreTold, IsFor}
+use Rattle.dt_node.specs.Standing.{AreTold}
 use Rattle.dt_node.specs.Turn.{BringsEntries, BringsRequest, HasGone, IsBroughtBy}
-use Rattle.dt_node.specs.TurnInner.{BeginsWithin, CanGo, CanTake, MovesOn, asking_packet, logging_packet}
+use Rattle.dt_node.specs.TurnInner.{CanTake, MovesOn, asking_packet, logging_packet}
 
 module _ (n : NodeView) (p : Packet) (here : p.target ≡ number_of n) where
   abbrev asks : Packet

@@ -1,5 +1,5 @@
 -- The sessions go on one after another, by their places: what is so of each is so of all.
-use Rattle.std.proofs.Common.{◌≡◌, ◌≢◌, ◌<◌, ◌≤◌, ◌+◌, ◌⊎◌, ℕ, zero, suc, Bool, true, false, cond, ◌||◌, List}
+use Rattle.std.proofs.Common.{◌≡◌, ◌<◌, ◌≤◌, ◌+◌, ◌⊎◌, ℕ, suc, Bool, true, false, ◌||◌, List}
 use Rattle.std.proofs.Common.{[], ◌∷◌, length, map, slice_get, Some, None, refl, sym, ap, subst, ◌∙◌, inl, inr, arith}
 use Rattle.std.specs.Prelude.{Option}
 use Rattle.std.specs.Map.{lookup}
@@ -7,9 +7,8 @@ use Rattle.std.proofs.lemmas.Bool.{cases_Bool}
 use Rattle.dt_lists.specs.Lists.{Either}
 use Rattle.dt_lists.proofs.Callers.{either_nat}
 use Rattle.dt_access.specs.Clash.{Bytes}
-use Rattle.dt_txn.specs.declared.Outcome.{Outcome}
 use Rattle.dt_session.specs.declared.sessions.Seat.{Seat}
-use Rattle.dt_session.specs.Sessions.{MayBeAnswered, MayGo, MaySeatEnd, MaySeatTry, SessionsView, is_named, seat_of}
+use Rattle.dt_session.specs.Sessions.{MaySeatEnd, MaySeatTry, is_named, seat_of}
 use Rattle.dt_session.proofs.Callers.{same_name}
 use Rattle.dt_node.specs.NodeView.{NodeView}
 use Rattle.dt_node.specs.Turn.{last_at}

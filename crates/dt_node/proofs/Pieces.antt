@@ -3,13 +3,11 @@ use Rattle.std.proofs.Common.{◌≡◌, ◌<◌, ◌≤◌, ◌+◌, ℕ, zero,
 use Rattle.std.proofs.lemmas.List.{length-append, length-map, length_push, map-append}
 use Rattle.dt_lists.specs.Lists.{AllIn, AnyIn}
 use Rattle.dt_lists.proofs.Callers.{all_append_right, all_map}
-use Rattle.dt_access.specs.declared.TxnId.{TxnId}
 use Rattle.dt_events.specs.declared.Event.{Event}
 use Rattle.dt_events.specs.declared.Event.TheVariants.{Submit, Append, Deliver, Insert, Resolve, Execute, Answer}
 use Rattle.dt_proc.specs.Tree.{ProcTree}
 use Rattle.dt_txn.specs.declared.Txn.{Txn}
 use Rattle.dt_txn.specs.Replica.{taken_from}
-use Rattle.dt_packet.specs.declared.packet.Packet.{Packet}
 use Rattle.dt_cluster.specs.declared.Cluster.{Cluster}
 use Rattle.dt_workload.specs.declared.Workload.{Workload}
 use Rattle.dt_session.specs.World.{World, asked_of}
@@ -131,6 +129,7 @@ module _ {a : NodeView} {source first : ℕ} {asked : List Txn} (c : CanTake (as
     moved = λ procs. made_nothing a;
     taken = c.can.begins.0.asked;
     knows = record { took = refl; received = refl; turns = refl };
+    sessions = refl;
     placed = λ own. own;
   }
 
@@ -179,14 +178,15 @@ module _ {a : NodeView} {source first : ℕ} {asked : List Txn} (c : CanTake (as
     placing_breaks moved procs = moves_same (p.moved procs) (as_all (moved procs))
 
     pub placing_goes : {m : NodeView} → ((procs : List ProcTree) → MovesOn procs (asking_packet n source number (x ∷ []) ∷ []) n m) → number + 1 ≤ taken_from m.site.region.state.here source → KnowsTheSame n m
-        → (HasPlacedOwn n → HasPlacedOwn m) → IsPlacing a source first asked left (number + 1) m
-    placing_goes {m} moved taken knows placed = record {
+        → m.sessions ≡ n.sessions → (HasPlacedOwn n → HasPlacedOwn m) → IsPlacing a source first asked left (number + 1) m
+    placing_goes {m} moved taken knows sessions placed = record {
       done = p.done ++ x ∷ [];
       is = p.is ∙ sym (append_assoc p.done (x ∷ []) left);
       next = let e = p.next in let long : length (p.done ++ x ∷ []) ≡ length p.done + 1 = length_push p.done x in omega (arith, e, long);
       moved = placing_breaks moved;
       taken = taken;
       knows = record { took = knows.took ∙ p.knows.took; received = knows.received ∙ p.knows.received; turns = knows.turns ∙ p.knows.turns };
+      sessions = sessions ∙ p.sessions;
       placed = λ own. placed (p.placed own);
     }
 

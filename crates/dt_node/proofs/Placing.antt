@@ -1,6 +1,5 @@
 -- The node's region places a request: of another region as a packet brought it, or of its own.
-use Rattle.std.proofs.Common.{◌≡◌, ◌≢◌, ◌<◌, ◌≤◌, ◌+◌, ℕ, zero, suc, true, List, [], ◌∷◌, length, drop, get_or, set, take, slice_get, Ok, Some, refl, sym, ap, subst, ◌∙◌, arith}
-use Rattle.std.specs.Prelude.{slice_index}
+use Rattle.std.proofs.Common.{◌≡◌, ◌≢◌, ◌<◌, ◌+◌, ℕ, zero, suc, true, List, [], ◌∷◌, length, drop, take, slice_get, Ok, Some, refl, sym, ap, subst, ◌∙◌, arith}
 use Rattle.std.proofs.lemmas.List.{get_or-set_same}
 use Rattle.dt_events.specs.declared.Event.{Event}
 use Rattle.dt_events.specs.declared.Event.TheVariants.{Append}
@@ -12,11 +11,10 @@ use Rattle.dt_region.specs.Rules.{MakesAppend}
 use Rattle.dt_region.specs.Sound.{IsSoundRegion}
 use Rattle.dt_cluster.specs.declared.Cluster.{Cluster}
 use Rattle.dt_workload.specs.declared.Workload.{Workload}
-use Rattle.dt_session.specs.World.{World, asked_of, node_at, taken_of, txn_of}
+use Rattle.dt_session.specs.World.{asked_of, node_at, txn_of}
 use Rattle.dt_session.specs.Step.{next}
 use Rattle.dt_session.specs.Run.{world_after}
-use Rattle.dt_site.specs.Site.{SiteView, in_region}
-use Rattle.dt_site.specs.StandsIn.{StandsIn}
+use Rattle.dt_site.specs.Site.{in_region}
 use Rattle.dt_site.proofs.Callers.{IsShort, Steps, append_made, can_append, legal_short, sessions_stay}
 use Rattle.dt_node.specs.NodeView.{NodeView, number_of}
 use Rattle.dt_node.specs.Standing.{NodeFits}

@@ -1,8 +1,6 @@
 -- What the calls of a region ask for, where a turn may go on: stamps and places are left, since there are so few events.
-use Rattle.std.proofs.Common.{◌≡◌, ◌<◌, ◌≤◌, ◌+◌, ◌^◌, ℕ, List, [], ◌∷◌, length, map, refl, sym, ap, subst, ◌∙◌, arith}
+use Rattle.std.proofs.Common.{◌≡◌, ◌<◌, ◌≤◌, ◌+◌, ◌^◌, List, length, sym, subst, arith}
 use Rattle.std.proofs.lemmas.List.{length-map}
-use Rattle.dt_lists.specs.Lists.{AllIn}
-use Rattle.dt_access.specs.Clash.{Bytes}
 use Rattle.dt_events.specs.Stamps.{events_of}
 use Rattle.dt_sched.specs.Sched.{parts_in}
 use Rattle.dt_proc.specs.Tree.{ProcTree}

@@ -1,10 +1,9 @@
 -- A round of the node's region: insertions, resolutions and executions, one after another, in the world. A round tells them
 -- as steps by the region's own account, and they are those of the world, since what the region holds is the world's.
 use Rattle.std.proofs.Common.{◌≡◌, ◌≢◌, ◌<◌, ◌≤◌, ◌+◌, ℕ, zero, suc, List, [], ◌∷◌, ◌++◌, length}
-use Rattle.std.proofs.Common.{get_or, set, Some, None, refl, sym, ap, ap₂, subst, subst₂, ◌∙◌, arith, append-nil, append_assoc}
-use Rattle.std.specs.Prelude.{Option, slice_index}
-use Rattle.std.proofs.lemmas.List.{get_or-set_same, get_or-set_other, length_push, set-get_or}
-use Rattle.dt_lists.specs.Lists.{Has}
+use Rattle.std.proofs.Common.{get_or, set, Some, refl, sym, ap, subst, subst₂, ◌∙◌, arith}
+use Rattle.std.specs.Prelude.{slice_index}
+use Rattle.std.proofs.lemmas.List.{get_or-set_same, get_or-set_other, length_push}
 use Rattle.dt_lists.proofs.Callers.{any_at, any_front, front_take}
 use Rattle.dt_access.specs.declared.TxnId.{TxnId}
 use Rattle.dt_sched.specs.Views.{View, HasPart, IsClosed, log_at}
@@ -12,7 +11,6 @@ use Rattle.dt_sched.proofs.Callers.{complete_of_closed, present_of_complete}
 use Rattle.dt_events.specs.declared.Event.{Event}
 use Rattle.dt_events.specs.declared.Event.TheVariants.{Submit, Append, Deliver, Insert, Resolve, Execute, Answer}
 use Rattle.dt_events.specs.Events.{region_of}
-use Rattle.dt_proc.specs.Tree.{ProcTree}
 use Rattle.dt_txn.specs.declared.Txn.{Txn}
 use Rattle.dt_txn.specs.Replica.{IsContinuation, MayStep, Replica, executed, stepped, taken_from, view_of}
 use Rattle.dt_txn.proofs.Callers.{fronts_at}

@@ -1,11 +1,9 @@
 -- When a turn may stop: a pass over the sessions after which none went on, and a round that left nothing to do.
-use Rattle.std.proofs.Common.{◌≡◌, ◌<◌, ◌≤◌, ◌+◌, ℕ, false, List, [], ◌∷◌, ◌++◌, length, Some, None, refl, sym, ap, ap₂, subst, subst₂, ◌∙◌, append-nil, append_assoc, arith}
+use Rattle.std.proofs.Common.{◌≡◌, ◌+◌, ◌⊎◌, inl, inr, false, List, [], ◌∷◌, ◌++◌, refl, sym, ap, subst, subst₂, ◌∙◌, append-nil, append_assoc, arith}
 use Rattle.std.specs.Prelude.{Option, option_and_then}
 use Rattle.std.proofs.lemmas.List.{map-append}
 use Rattle.dt_access.specs.Clash.{Bytes}
-use Rattle.dt_access.specs.declared.TxnId.{TxnId}
 use Rattle.dt_events.specs.declared.Event.{Event}
-use Rattle.dt_events.specs.declared.Stamped.{Stamped}
 use Rattle.dt_events.specs.Stamps.{events_of}
 use Rattle.dt_proc.specs.Tree.{ProcTree}
 use Rattle.dt_txn.specs.declared.Outcome.{Outcome}
@@ -19,9 +17,9 @@ use Rattle.dt_session.specs.World.{World, node_at, outcome_in}
 use Rattle.dt_session.specs.Run.{world_after}
 use Rattle.dt_node.specs.NodeView.{NodeView, new_items, number_of}
 use Rattle.dt_node.specs.Standing.{NodeFits}
-use Rattle.dt_node.specs.Turn.{BeginsEagerly, GoesAfter, HasGone, HasPlacedOwn, IsSettled, IsStill, last_at}
+use Rattle.dt_node.specs.Turn.{BeginsEagerly, GoesAfter, HasGone, HasPlacedOwn, IsSettled, IsStill, MadeNoneOrWent, last_at}
 use Rattle.dt_node.specs.TurnInner.{CanGo, MayAnswerAt, MaySubmitAt, MovesOn, PassesOnce}
-use Rattle.dt_node.proofs.Moving.{made_none, new_joined}
+use Rattle.dt_node.proofs.Moving.{made_none, new_joined, new_none}
 
 -- where two lists together are empty, both are
 none_both : {A : Type 0} (xs ys : List A) → xs ++ ys ≡ [] → (xs ≡ []) × (ys ≡ [])
@@ -53,13 +51,22 @@ module _ {procs : List ProcTree} {n b : NodeView} (c : CanGo procs [] n) (m : Mo
     unanswered = λ may. (none_can name).0 (subst₂ (λ (s : SessionsView) (o : Option Outcome). MayBeAnswered s name o) sessions (last_same sessions name) may);
   }
 
+-- the passes before the last one did nothing at all, or left nothing to do for a round
+abbrev pub RestsSoFar : NodeView → NodeView → Type 0
+RestsSoFar a n = (n ≡ a) ⊎ IsDrained n.site.region.state.logs n.site.region.state.here
+
+-- so the last one made no event, where a session went on before it
+last_makes_none : {procs : List ProcTree} {a n b : NodeView} → MovesOn procs [] a n → MovesOn procs [] n b → PassesOnce n false b → RestsSoFar a n → MadeNoneOrWent a b → new_items n b ≡ []
+last_makes_none {procs} {a} {n} {b} g m last (inr drained) why = new_none n b (last.3 drained)
+last_makes_none {procs} {a} {n} {b} g m last (inl same) (inl none) = (none_both (new_items a n) (new_items n b) (sym (new_joined g.gone m.gone) ∙ none)).1
+last_makes_none {procs} {a} {n} {b} g m last (inl same) (inr went) = absurd (went (last.0 ∙ ap (λ (x : NodeView). x.sessions) same))
+
 -- the last pass of a turn
-pub settles : {procs : List ProcTree} {a n b : NodeView} → CanGo procs [] n → MovesOn procs [] a n → MovesOn procs [] n b → (HasPlacedOwn a → HasPlacedOwn n) → PassesOnce n false b
+pub settles : {procs : List ProcTree} {a n b : NodeView} → CanGo procs [] n → MovesOn procs [] a n → MovesOn procs [] n b → (HasPlacedOwn a → HasPlacedOwn n) → RestsSoFar a n → PassesOnce n false b
     → IsDrained b.site.region.state.logs b.site.region.state.here → IsSettled a b
-settles {procs} {a} {n} {b} c g m placed last drained = record {
+settles {procs} {a} {n} {b} c g m placed rests last drained = record {
   drained = drained;
-  still = λ none name.
-      let both = none_both (new_items a n) (new_items n b) (sym (new_joined g.gone m.gone) ∙ none) in still_then c m both.1 last.0 last.1 name;
+  still = λ why name. still_then c m (last_makes_none g m last rests why) last.0 last.1 name;
   placed = λ own. last.2 (placed own);
 }
 
@@ -100,10 +107,14 @@ sent_moves {procs} a = made_none {procs = procs} {packets = []} {a = a} {b = rec
     })
 
 -- what is settled stays so where nothing but the number of turns has changed, and a longer way leaves no session that can go on
-pub settled_on : {procs : List ProcTree} {xs : List Packet} {a b c : NodeView} → HasGone procs xs a b → HasGone procs [] b c → (HasPlacedOwn a → HasPlacedOwn b) → IsSettled b c → IsSettled a (record c { turns = c.turns + 1 })
-settled_on {procs} {xs} {a} {b} {c} g h placed s = record {
+pub settled_on : {procs : List ProcTree} {xs : List Packet} {a b c : NodeView} → HasGone procs xs a b → HasGone procs [] b c → (HasPlacedOwn a → HasPlacedOwn b) → b.sessions ≡ a.sessions → IsSettled b c
+    → IsSettled a (record c { turns = c.turns + 1 })
+settled_on {procs} {xs} {a} {b} {c} g h placed sessions s = record {
   drained = s.drained;
-  still = λ none name.
-      let both = none_both (new_items a b) (new_items b c) (sym (new_joined g h) ∙ none) in let t = s.still both.1 name in record { waits = t.waits; unanswered = t.unanswered };
+  still = λ why name. let t = s.still (later why) name in record { waits = t.waits; unanswered = t.unanswered };
   placed = λ own. s.placed (placed own);
 }
+  where
+    later : MadeNoneOrWent a (record c { turns = c.turns + 1 }) → MadeNoneOrWent b c
+    later (inl none) = inl (none_both (new_items a b) (new_items b c) (sym (new_joined g h) ∙ none)).1
+    later (inr went) = inr (λ same. went (same ∙ sessions))

@@ -6,8 +6,8 @@ use Rattle.dt_lists.specs.Lists.{AllIn, EachThen}
 use Rattle.dt_lists.proofs.Callers.{all_append, all_map, each_append}
 use Rattle.dt_events.specs.declared.Event.{Event}
 use Rattle.dt_events.specs.declared.Stamped.{Stamped}
-use Rattle.dt_events.specs.Stamps.{events_of, last_stamp, stamped_from}
-use Rattle.dt_region.specs.Region.{RegionView, latest_stamp}
+use Rattle.dt_events.specs.Stamps.{last_stamp, stamped_from}
+use Rattle.dt_region.specs.Region.{latest_stamp}
 use Rattle.dt_packet.specs.declared.packet.Packet.{Packet}
 use Rattle.dt_merge.specs.Merge.{HasLowerStamp}
 use Rattle.dt_node.specs.NodeView.{NodeView, new_items}

@@ -2,7 +2,6 @@
 use Rattle.std.proofs.Common.{◌≡◌, ◌≢◌, ◌<◌, ◌≤◌, ◌+◌, ◌-◌, ℕ, List, [], ◌∷◌, ◌++◌, length, slice_get, Ok, Some, None, refl, sym, ap, subst, ◌∙◌, arith}
 use Rattle.std.specs.Prelude.{Option, IsSome, option_and_then, option_map}
 use Rattle.std.proofs.lemmas.List.{length_push}
-use Rattle.dt_lists.specs.Lists.{Has}
 use Rattle.dt_lists.proofs.Callers.{all_get, has_place}
 use Rattle.dt_access.specs.Clash.{Bytes}
 use Rattle.dt_access.specs.declared.TxnId.{TxnId}
@@ -12,12 +11,10 @@ use Rattle.dt_txn.specs.declared.Body.{Body}
 use Rattle.dt_txn.specs.Transaction.{BodyFits}
 use Rattle.dt_region.specs.Sound.{IsSoundRegion}
 use Rattle.dt_cluster.specs.declared.Cluster.{Cluster}
-use Rattle.dt_workload.specs.declared.Session.{Session}
-use Rattle.dt_workload.specs.declared.Ranked.{Ranked}
 use Rattle.dt_workload.specs.declared.Workload.{Workload}
 use Rattle.dt_workload.specs.Valid.{IsValidSession, RankedFits}
 use Rattle.dt_session.specs.declared.sessions.Seat.{Seat}
-use Rattle.dt_session.specs.Sessions.{MayGo, after_wait, attempt_next, numbers_next, seat_of, waiting, wanted_of, with_changed}
+use Rattle.dt_session.specs.Sessions.{MayGo, after_wait, attempt_next, numbers_next, seat_of, waiting, wanted_of}
 use Rattle.dt_session.specs.World.{World, Place, node_at, with_place}
 use Rattle.dt_session.specs.Step.{IsLegal, MaySubmit, MayTry, awaited_at, body_of, next, next_attempt, ranked_body, upcoming_id}
 use Rattle.dt_session.specs.Run.{world_after}

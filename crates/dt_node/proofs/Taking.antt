@@ -1,8 +1,7 @@
 -- Packets are taken one after another: what was taken of the first ones stays, and of what they tell the greatest is known.
-use Rattle.std.proofs.Common.{◌≡◌, ◌<◌, ◌≤◌, ◌+◌, ℕ, Bool, List, [], ◌∷◌, ◌++◌, length, map, filter, max, get_or, set, eqb, refl, sym, ap, ap₂, subst, ◌∙◌, append-nil, append_assoc, arith}
+use Rattle.std.proofs.Common.{◌≡◌, ◌<◌, ◌≤◌, ℕ, List, [], ◌++◌, length, map, get_or, eqb, refl, sym, ap, subst, ◌∙◌, append-nil, append_assoc, arith}
 use Rattle.std.proofs.lemmas.List.{map-append}
 use Rattle.std.proofs.lemmas.List.Elements.{filter-append}
-use Rattle.dt_lists.specs.Lists.{AllIn}
 use Rattle.dt_lists.proofs.Callers.{all_append, all_map}
 use Rattle.dt_sched.specs.Views.{log_at}
 use Rattle.dt_proc.specs.Tree.{ProcTree}
@@ -66,16 +65,17 @@ taken_on {xs} {a} {b} {c} t took received taken logs = subst (λ l. HasTaken l a
 -- some packets of these were taken
 
 pub taking_starts : (packets : List Packet) (a : NodeView) → IsTaking a packets packets a
-taking_starts packets a = record { done = []; is = refl; moved = λ procs. made_nothing a; taken = taken_none {a = a} {b = a} refl refl; turns = refl; placed = λ own. own }
+taking_starts packets a = record { done = []; is = refl; moved = λ procs. made_nothing a; taken = taken_none {a = a} {b = a} refl refl; turns = refl; sessions = refl; placed = λ own. own }
 
 pub taking_goes : {a b c : NodeView} {packets xs : List Packet} (left : List Packet) → IsTaking a packets (xs ++ left) b → ((procs : List ProcTree) → MovesOn procs xs b c) → HasTaken xs b c → c.turns ≡ b.turns
-    → (HasPlacedOwn b → HasPlacedOwn c) → IsTaking a packets left c
-taking_goes {a} {b} {c} {packets} {xs} left t moved taken turns placed = record {
+    → c.sessions ≡ b.sessions → (HasPlacedOwn b → HasPlacedOwn c) → IsTaking a packets left c
+taking_goes {a} {b} {c} {packets} {xs} left t moved taken turns sessions placed = record {
   done = t.done ++ xs;
   is = t.is ∙ sym (append_assoc t.done xs left);
   moved = λ procs. moves_more (t.moved procs) (moved procs);
   taken = taken_more t.taken taken (moved []).gone.taken (moved []).gone.logs;
   turns = turns ∙ t.turns;
+  sessions = sessions ∙ t.sessions;
   placed = λ own. placed (t.placed own);
 }
 

@@ -1,12 +1,11 @@
 -- What packets tell stays so while the node that they wait for makes events, and so does all that a turn's calls rest on.
-use Rattle.std.proofs.Common.{◌≡◌, ◌≢◌, ◌<◌, ◌≤◌, ◌+◌, ◌^◌, ℕ, List, [], ◌∷◌, ◌++◌, length, map, max, drop, take, get_or, set, Some, refl, sym, ap, subst, ◌∙◌, append-nil, arith}
+use Rattle.std.proofs.Common.{◌≡◌, ◌≢◌, ◌<◌, ◌≤◌, ◌+◌, ◌^◌, ℕ, List, [], ◌∷◌, ◌++◌, length, map, drop, take, get_or, set, Some, sym, ap, subst, ◌∙◌, append-nil, arith}
 use Rattle.std.specs.Prelude.{slice_index}
 use Rattle.std.proofs.lemmas.List.{map-append, length-append}
 use Rattle.dt_lists.specs.Lists.{AllIn}
 use Rattle.dt_lists.proofs.Callers.{all_append, all_append_left, all_append_right, all_get, all_image, all_map, all_put}
 use Rattle.dt_access.specs.declared.TxnId.{TxnId}
 use Rattle.dt_events.specs.declared.Event.{Event}
-use Rattle.dt_events.specs.declared.Stamped.{Stamped}
 use Rattle.dt_events.specs.Events.{region_of}
 use Rattle.dt_events.specs.Stamps.{events_of}
 use Rattle.dt_sched.specs.Views.{log_at}
@@ -17,11 +16,9 @@ use Rattle.dt_region.specs.Region.{latest_stamp}
 use Rattle.dt_packet.specs.declared.packet.Packet.{Packet}
 use Rattle.dt_cluster.specs.declared.Cluster.{Cluster}
 use Rattle.dt_workload.specs.declared.Workload.{Workload}
-use Rattle.dt_session.specs.World.{World, Node, asked_of, log_of, node_at, opening_world, received_of, taken_of, txn_of}
-use Rattle.dt_session.specs.Step.{IsLegal, next}
+use Rattle.dt_session.specs.World.{World, Node, node_at, opening_world, received_of, taken_of, txn_of}
 use Rattle.dt_session.specs.Run.{AreLegalFrom, world_after, world_from}
 use Rattle.dt_agreement.proofs.Callers.{world_from_append}
-use Rattle.dt_merge.specs.Merge.{region_at}
 use Rattle.dt_merge.proofs.Callers.{frame}
 use Rattle.dt_site.specs.StandsIn.{IsReached}
 use Rattle.dt_site.proofs.Callers.{after_more, has_received, run_more, txns_stay}

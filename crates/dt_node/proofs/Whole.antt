@@ -1,5 +1,5 @@
 -- A whole packet: its stamp is heard, its requests are placed, its entries received, and what it tells of its source is noted.
-use Rattle.std.proofs.Common.{◌≡◌, ◌<◌, ◌≤◌, ◌+◌, ℕ, List, [], ◌∷◌, length, max, get_or, set, refl, sym, ap, subst, ◌∙◌, arith}
+use Rattle.std.proofs.Common.{◌≡◌, ◌<◌, ◌≤◌, ◌+◌, List, [], ◌∷◌, length, max, get_or, set, sym, ap, subst, ◌∙◌, arith}
 use Rattle.std.proofs.lemmas.List.{length-set}
 use Rattle.dt_sched.specs.Views.{log_at}
 use Rattle.dt_proc.specs.Tree.{ProcTree}
@@ -9,7 +9,6 @@ use Rattle.dt_packet.specs.declared.packet.Packet.{Packet}
 use Rattle.dt_node.specs.NodeView.{NodeView, heard_by, number_of}
 use Rattle.dt_node.specs.Turn.{HasTaken}
 use Rattle.dt_node.specs.TurnInner.{CanTake, KnowsTheSame, MovesOn, asking_packet, logging_packet, noted}
-use Rattle.dt_node.proofs.Moving.{moves_by_more}
 use Rattle.dt_node.proofs.Noting.{heard_moves, noted_heard, noted_moves}
 use Rattle.dt_node.proofs.Parting.{can_ask, can_log, moves_by_asking, moves_by_logging, moves_same}
 use Rattle.dt_node.proofs.Telling.{can_again}

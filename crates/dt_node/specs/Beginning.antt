@@ -15,7 +15,6 @@ use Rattle.dt_txn.specs.declared.Body.{Body}
 use Rattle.dt_txn.specs.Replica.{next_id, taken_from}
 use Rattle.dt_txn.specs.Transaction.{annotate, homes_of}
 use Rattle.dt_cluster.specs.declared.Cluster.{Cluster}
-use Rattle.dt_workload.specs.declared.Session.{Session}
 use Rattle.dt_workload.specs.declared.Workload.{Workload}
 use Rattle.dt_session.specs.Eager.{first_calls, first_events, sessions_at}
 use Rattle.dt_session.specs.Sessions.{after_wait, idle_seat}

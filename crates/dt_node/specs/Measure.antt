@@ -1,7 +1,6 @@
 -- Why a turn ends. Sessions go on again and again in a turn, but each time one submits or is answered, less is left for it. One
 -- learns here how much that is, as one number (`left_for`), which only proofs need. Read `Turn` for what a turn makes.
 use Rattle.std.specs.Prelude.{◌+◌, ◌-◌, ◌*◌, ℕ, length, sum_by, Option, Some, None}
-use Rattle.dt_session.specs.declared.sessions.Seat.{Seat}
 use Rattle.dt_session.specs.declared.sessions.Waiting.{Waiting}
 use Rattle.dt_session.specs.Sessions.{SessionsView}
 

@@ -5,7 +5,6 @@
 -- this one is not known to have, as far as a packet holds it. Read next: `Packets`, for what makes a packet true.
 use Rattle.std.specs.Prelude.{ℕ, ◌+◌, List, [], length, drop, filter_map, get_or, max, take, replicate, nat_lt, Option, option_map, if◌then◌else◌}
 use Rattle.dt_access.specs.declared.Part.{Part}
-use Rattle.dt_access.specs.declared.TxnId.{TxnId}
 use Rattle.dt_events.specs.declared.Stamped.{Stamped}
 use Rattle.dt_sched.specs.Views.{log_at}
 use Rattle.dt_txn.specs.declared.Entry.{Entry}

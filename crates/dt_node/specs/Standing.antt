@@ -3,7 +3,7 @@
 -- sessions are those of its region there; and what it knows of the other regions is not above what is so. A turn may be made
 -- where there is such a world in which all packets that wait are true (`NodeStands`). Nobody has this world in hand. Read
 -- next: `Turn`, for what a turn makes of it.
-use Rattle.std.specs.Prelude.{◌≡◌, ◌≢◌, ◌<◌, ◌≤◌, ◌+◌, ◌^◌, ℕ, List, length, get_or}
+use Rattle.std.specs.Prelude.{◌≡◌, ◌≢◌, ◌<◌, ◌≤◌, ◌^◌, ℕ, List, length, get_or}
 use Rattle.dt_lists.specs.Lists.{AllIn}
 use Rattle.dt_events.specs.declared.Event.{Event}
 use Rattle.dt_events.specs.declared.Stamped.{Stamped}

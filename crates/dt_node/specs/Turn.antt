@@ -4,7 +4,7 @@
 -- by packets (`AreBrought`); its stamps rise (`StampsRise`); it took all of every packet, and knows the greatest counts that
 -- it was told (`HasTaken`); in the end nothing is left to do by itself (`IsSettled`); and its first turn begins with the first
 -- calls of its sessions (`BeginsEagerly`). Read next: `Sending`, for the packets that it sends.
-use Rattle.std.specs.Prelude.{◌≡◌, ◌≢◌, ◌<◌, ◌≤◌, ◌+◌, ◌==◌, ℕ, List, [], ◌∷◌, ◌++◌, length, map, filter, max, get_or, Option, option_and_then}
+use Rattle.std.specs.Prelude.{◌≡◌, ◌≢◌, ◌<◌, ◌≤◌, ◌+◌, ◌==◌, ◌⊎◌, ℕ, List, [], ◌∷◌, ◌++◌, length, map, filter, max, get_or, Option, option_and_then}
 use Rattle.dt_lists.specs.Lists.{AllIn, AnyIn, EachThen, IsFront}
 use Rattle.dt_access.specs.Clash.{Bytes}
 use Rattle.dt_events.specs.declared.Event.{Event}
@@ -124,11 +124,15 @@ pub record IsStill (n : NodeView) (name : Bytes) : Type 0 where
 abbrev pub HasPlacedOwn : NodeView → Type 0
 HasPlacedOwn n = length (get_or n.site.region.state.here.asked (number_of n) []) ≡ taken_from n.site.region.state.here (number_of n)
 
--- a turn leaves nothing to do by itself: nothing is left to insert, to resolve or to execute; a turn that made no event leaves
--- no session that can go on; and the region's own requests are placed, if they were before
+-- a turn made no event, or some session went on in it
+abbrev pub MadeNoneOrWent : NodeView → NodeView → Type 0
+MadeNoneOrWent before after = (new_items before after ≡ []) ⊎ (after.sessions ≢ before.sessions)
+
+-- a turn leaves nothing to do by itself: nothing is left to insert, to resolve or to execute; a turn that made no event, or in
+-- which some session went on, leaves no session that can go on; and the region's own requests are placed, if they were before
 pub record IsSettled (before after : NodeView) : Type 0 where
   pub drained : IsDrained after.site.region.state.logs after.site.region.state.here
-  pub still : new_items before after ≡ [] → (name : Bytes) → IsStill after name
+  pub still : MadeNoneOrWent before after → (name : Bytes) → IsStill after name
   pub placed : HasPlacedOwn before → HasPlacedOwn after
 
 -- a turn of a node before anything happened anywhere begins with the first call of each of its sessions

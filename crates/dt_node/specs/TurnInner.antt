@@ -1,7 +1,7 @@
 -- Only proofs need this file, and the private calls of a turn. A turn makes its way in many small calls, and of each of them
 -- the same is said: what it makes of the node (`MovesOn`), and what has to be so before it (`CanGo`). Read `Turn` for what a
 -- whole turn makes.
-use Rattle.std.specs.Prelude.{◌≡◌, ◌<◌, ◌≤◌, ◌+◌, ◌^◌, ℕ, List, [], ◌∷◌, ◌++◌, length, get_or, map, max, set, slice_get, Bool, true, false, Option, Some, None, option_map}
+use Rattle.std.specs.Prelude.{◌≡◌, ◌<◌, ◌≤◌, ◌+◌, ◌-◌, ◌^◌, ℕ, List, [], ◌∷◌, ◌++◌, length, get_or, map, max, set, slice_get, Bool, true, false, Option, Some, None, option_map}
 use Rattle.dt_lists.specs.Lists.{AllIn}
 use Rattle.dt_access.specs.Clash.{Bytes}
 use Rattle.dt_events.specs.declared.Stamped.{Stamped}
@@ -11,7 +11,7 @@ use Rattle.dt_sched.specs.Views.{log_at}
 use Rattle.dt_txn.specs.declared.Body.{Body}
 use Rattle.dt_txn.specs.declared.Entry.{Entry}
 use Rattle.dt_txn.specs.declared.Txn.{Txn}
-use Rattle.dt_txn.specs.Replica.{taken_from}
+use Rattle.dt_txn.specs.Replica.{IsDrained, taken_from}
 use Rattle.dt_region.specs.Region.{RegionView, latest_stamp}
 use Rattle.dt_packet.specs.declared.packet.Packet.{Packet}
 use Rattle.dt_cluster.specs.declared.Cluster.{Cluster}
@@ -105,6 +105,7 @@ pub record IsTaking (before : NodeView) (packets left : List Packet) (now : Node
   pub moved : (procs : List ProcTree) → MovesOn procs done before now
   pub taken : HasTaken done before now
   pub turns : now.turns ≡ before.turns
+  pub sessions : now.sessions ≡ before.sessions
   pub placed : HasPlacedOwn before → HasPlacedOwn now
 
 -- some of these requests were placed, of which the first has this number, and these are left, of which the first has that one
@@ -115,6 +116,7 @@ pub record IsPlacing (before : NodeView) (source first : ℕ) (asked left : List
   pub moved : (procs : List ProcTree) → MovesOn procs (asking_packet before source first asked ∷ []) before now
   pub taken : number ≤ taken_from now.site.region.state.here source
   pub knows : KnowsTheSame before now
+  pub sessions : now.sessions ≡ before.sessions
   pub placed : HasPlacedOwn before → HasPlacedOwn now
 
 -- what a session submits next, at this node: the next try of its next call, with the rank of that
@@ -159,7 +161,24 @@ MayAnswerAt n name = MayBeAnswered n.sessions name (last_at n name)
 abbrev pub MaySubmitAt : NodeView → Bytes → Type 0
 MaySubmitAt n name = MayGo n.sessions name (last_at n name)
 
--- how one pass over the sessions and a round end: some session went on; or none could, and only the round made events
+-- where nothing is left to insert, to resolve or to execute, no event was made
+abbrev pub RestsWhereDrained : NodeView → NodeView → Type 0
+RestsWhereDrained before after = IsDrained before.site.region.state.logs before.site.region.state.here → after.site.region.events ≡ before.site.region.events
+
+-- how one pass over the sessions and a round end: some session went on; or none could, and only the round made events, if
+-- something was left for it
 abbrev pub PassesOnce : NodeView → Bool → NodeView → Type 0
 PassesOnce before true after = HasGoneOn before after
-PassesOnce before false after = (after.sessions ≡ before.sessions) × ((name : Bytes) → ¬ (MayAnswerAt before name) × ¬ (MaySubmitAt before name)) × (HasPlacedOwn before → HasPlacedOwn after)
+PassesOnce before false after =
+    (after.sessions ≡ before.sessions)
+    × ((name : Bytes) → ¬ (MayAnswerAt before name) × ¬ (MaySubmitAt before name))
+    × (HasPlacedOwn before → HasPlacedOwn after) × RestsWhereDrained before after
+
+-- how many of the requests that a node asked of its own region are not placed
+abbrev pub own_left : NodeView → ℕ
+own_left n = length (get_or n.site.region.state.here.asked (number_of n) []) - taken_from n.site.region.state.here (number_of n)
+
+-- how the placing of the next such request ends: it was placed, or all are
+abbrev pub EndsPlacing : NodeView → Bool → NodeView → Type 0
+EndsPlacing before true after = own_left after < own_left before
+EndsPlacing before false after = HasPlacedOwn after

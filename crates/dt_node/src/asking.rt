@@ -1,13 +1,12 @@
-ghost use Rattle.std.specs.Prelude.{◌≡◌, ◌<◌, ◌≤◌, ◌+◌, [], List, IfOk, OnOk, get_or, length, option_and_then};
+ghost use Rattle.std.specs.Prelude.{◌≡◌, ◌<◌, ◌≤◌, ◌+◌, [], List, IfOk, OnOk, length, option_and_then};
 ghost use Rattle.std.specs.Option.{option_copied};
 ghost use Rattle.dt_proc.specs.Tree.{ProcTree};
-ghost use Rattle.dt_txn.specs.Replica.{taken_from};
 ghost use Rattle.dt_region.specs.Region.{outcome_of};
 ghost use Rattle.dt_session.specs.Sessions.{waits_of};
 ghost use Rattle.dt_node.specs.Measure.{left_for};
-ghost use Rattle.dt_node.specs.NodeView.{number_of};
-ghost use Rattle.dt_node.specs.Turn.{HasPlacedOwn};
-ghost use Rattle.dt_node.specs.TurnInner.{CanGo, CanTake, EndsAll, EndsOne, IsNextAt, IsNextOfNode, KnowsTheSame, MayAnswerAt, MaySubmitAt, MovesOn};
+ghost use Rattle.dt_node.specs.Beginning.{HadOne, IsPlacingOwn, MakesNext, SubmitsOne};
+ghost use Rattle.dt_node.specs.Turn.{BeginsEagerly, HasPlacedOwn};
+ghost use Rattle.dt_node.specs.TurnInner.{CanGo, CanTake, EndsAll, EndsOne, EndsPlacing, IsNextAt, IsNextOfNode, KnowsTheSame, MayAnswerAt, MaySubmitAt, MovesOn};
 
 use crate::node::Node;
 use dt_proc::Procs;
@@ -27,10 +26,11 @@ impl<S: Scheduler + Drop> Node<S> {
         ensures knows { KnowsTheSame self.old self.new }
         ensures seats { length self.new.sessions.seats ≡ length self.old.sessions.seats }
         ensures ends { IfOk result (λ some. EndsAll MayAnswerAt self.old some self.new) }
+        ensures one { IfOk result (HadOne MayAnswerAt self.old) }
     {
         let mut some = false;
         let mut index = 0;
-        while self.sessions.name(index).is_some() {
+        'sessions: while self.sessions.name(index).is_some() {
             some |= self.answer_one(alloc, index)?;
             index += 1;
         }
@@ -45,6 +45,7 @@ impl<S: Scheduler + Drop> Node<S> {
         ensures knows { KnowsTheSame self.old self.new }
         ensures seats { length self.new.sessions.seats ≡ length self.old.sessions.seats }
         ensures ends { IfOk result (λ some. EndsOne MayAnswerAt self.old index some self.new) }
+        ensures one { IfOk result (HadOne MayAnswerAt self.old) }
     {
         let Some(name) = self.sessions.name(index) else {
             return Ok(false);
@@ -68,10 +69,13 @@ impl<S: Scheduler + Drop> Node<S> {
         ensures knows { KnowsTheSame self.old self.new }
         ensures seats { length self.new.sessions.seats ≡ length self.old.sessions.seats }
         ensures ends { IfOk result (λ some. EndsAll MaySubmitAt self.old some self.new) }
+        ensures begins { OnOk result (BeginsEagerly procs.now self.old self.new) }
     {
+        // Asks for a name, so that the proof has the order of names that the type keeps.
+        let _first = self.sessions.name(0);
         let mut some = false;
         let mut index = 0;
-        while self.sessions.name(index).is_some() {
+        'sessions: while self.sessions.name(index).is_some() {
             some |= self.submit_one(alloc, procs, index)?;
             index += 1;
         }
@@ -86,6 +90,7 @@ impl<S: Scheduler + Drop> Node<S> {
         ensures knows { KnowsTheSame self.old self.new }
         ensures seats { length self.new.sessions.seats ≡ length self.old.sessions.seats }
         ensures ends { IfOk result (λ some. EndsOne MaySubmitAt self.old index some self.new) }
+        ensures one { IfOk result (λ some. SubmitsOne procs.now self.old index some self.new) }
     {
         let Some(name) = self.sessions.name(index) else {
             return Ok(false);
@@ -136,6 +141,7 @@ impl<S: Scheduler + Drop> Node<S> {
         ensures seats { length self.new.sessions.seats ≡ length self.old.sessions.seats }
         ensures less { OnOk result (left_for self.new.sessions < left_for self.old.sessions) }
         ensures some { OnOk result (length self.new.site.region.events ≡ length self.old.site.region.events + 1) }
+        ensures made { OnOk result (MakesNext procs.now self.old origin rank body self.new) }
     {
         let name = origin.session.copy(alloc)?;
         let id = self.site.submit(alloc, rank, body, procs, origin)?;
@@ -151,33 +157,34 @@ impl<S: Scheduler + Drop> Node<S> {
         ensures knows { KnowsTheSame self.old self.new }
         ensures sessions { self.new.sessions ≡ self.old.sessions }
         ensures placed { OnOk result (HasPlacedOwn self.new) }
+        ensures own { IsPlacingOwn self.old self.new }
     {
-        let me = self.site.region.number();
-        for number in self.site.region.taken(me)..self.site.region.asked(me).len() as u32 {
-            self.place_request(alloc, me, number)?;
-        }
+        while self.place_next(alloc)? {}
         Ok(())
     }
 
-    /// Places the request of this number that this region asked of itself, which is the next one.
-    fn place_request(&mut self, alloc: Global, me: u8, number: u32) -> Result<(), NoMemory>
+    /// Places the next request that this region asked of itself. Says whether there was one.
+    fn place_next(&mut self, alloc: Global) -> Result<bool, NoMemory>
         requires can { CanTake [] self.old }
-        requires me { me ≡ number_of self.old }
-        requires next { number ≡ taken_from self.old.site.region.state.here me }
-        requires asked { number < length (get_or self.old.site.region.state.here.asked me []) }
         ensures moved { (procs : List ProcTree) → MovesOn procs [] self.old self.new }
         ensures knows { KnowsTheSame self.old self.new }
         ensures sessions { self.new.sessions ≡ self.old.sessions }
-        ensures asked { self.new.site.region.state.here.asked ≡ self.old.site.region.state.here.asked }
-        ensures placed { OnOk result (taken_from self.new.site.region.state.here me ≡ number + 1) }
+        ensures ends { IfOk result (λ some. EndsPlacing self.old some self.new) }
+        ensures own { IsPlacingOwn self.old self.new }
     {
         let region = &self.site.region;
-        let Some(txn) = region.txn(region.asked(me)[number as usize]) else {
+        let me = region.number();
+        let number = region.taken(me);
+        let asked = region.asked(me);
+        if number as usize >= asked.len() {
+            return Ok(false);
+        }
+        let Some(txn) = region.txn(asked[number as usize]) else {
             unreachable!()
         };
         let txn = txn.copy(alloc)?;
         self.site.region.append_owned(alloc, me, number, txn)?;
-        Ok(())
+        Ok(true)
     }
 }
 

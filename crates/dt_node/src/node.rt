@@ -7,7 +7,7 @@ ghost use Rattle.dt_node.specs.NodeView.{heard_by, new_items, opening_node_of};
 ghost use Rattle.dt_node.specs.Sending.{HasSent};
 ghost use Rattle.dt_node.specs.Standing.{NodeStands};
 ghost use Rattle.dt_node.specs.Turn.{AreBrought, BeginsEagerly, HasGone, HasTaken, IsSettled, StampsRise};
-ghost use Rattle.dt_node.specs.TurnInner.{CanGo, KnowsTheSame, MovesOn, PassesOnce};
+ghost use Rattle.dt_node.specs.TurnInner.{CanGo, KnowsTheSame, MovesOn, PassesOnce, RestsWhereDrained};
 
 use dt_cluster::Cluster;
 use dt_packet::{Inlet, LossPlan, Outlet};
@@ -195,11 +195,12 @@ impl<S: Scheduler + Drop> Node<S> {
         ensures asked { self.new.site.region.state.here.asked ≡ self.old.site.region.state.here.asked }
         ensures taken { self.new.site.region.state.here.taken ≡ self.old.site.region.state.here.taken }
         ensures drained { OnOk result (IsDrained self.new.site.region.state.logs self.new.site.region.state.here) }
+        ensures rests { RestsWhereDrained self.old self.new }
     {
-        rounds.round(alloc, &mut self.site.region, procs)?;
+        let made = rounds.round(alloc, &mut self.site.region, procs);
         // Names the region, so that the proof has what its type keeps.
         let _number = self.site.region.number();
-        Ok(())
+        made
     }
 }
 

@@ -25,9 +25,13 @@ impl<S: Scheduler + Drop> Node<S> {
         ensures emptied { OnOk result (flat_map I.waits ins.new ≡ []) }
         ensures taken { OnOk result (HasTaken (flat_map I.waits ins.old) self.old self.new) }
         ensures turns { self.new.turns ≡ self.old.turns }
+        ensures sessions { self.new.sessions ≡ self.old.sessions }
         ensures placed { HasPlacedOwn self.old → HasPlacedOwn self.new }
         ensures many { length ins.new ≡ length ins.old }
         ensures same { (first : List I) → Pairwise I.same first ins.old → Pairwise I.same first ins.new }
+
+        // Where no packet waits, nothing changes.
+        ensures still { flat_map I.waits ins.old ≡ [] → self.new ≡ self.old }
     {
         for link in 0..ins.len() {
             self.receive_from(alloc, &mut ins[link])?;
@@ -42,8 +46,10 @@ impl<S: Scheduler + Drop> Node<S> {
         ensures emptied { OnOk result (I.waits inlet.new ≡ []) }
         ensures taken { OnOk result (HasTaken (I.waits inlet.old) self.old self.new) }
         ensures turns { self.new.turns ≡ self.old.turns }
+        ensures sessions { self.new.sessions ≡ self.old.sessions }
         ensures placed { HasPlacedOwn self.old → HasPlacedOwn self.new }
         ensures same { (first : I) → I.same first inlet.old → I.same first inlet.new }
+        ensures still { I.waits inlet.old ≡ [] → self.new ≡ self.old }
     {
         while let Some(packet) = inlet.take() {
             self.receive(alloc, packet)?;
@@ -57,6 +63,7 @@ impl<S: Scheduler + Drop> Node<S> {
         ensures moved { (procs : List ProcTree) → MovesOn procs (packet ∷ []) self.old self.new }
         ensures taken { OnOk result (HasTaken (packet ∷ []) self.old self.new) }
         ensures turns { self.new.turns ≡ self.old.turns }
+        ensures sessions { self.new.sessions ≡ self.old.sessions }
         ensures placed { HasPlacedOwn self.old → HasPlacedOwn self.new }
     {
         let Packet {
@@ -89,6 +96,7 @@ impl<S: Scheduler + Drop> Node<S> {
         ensures moved { (procs : List ProcTree) → MovesOn procs (asking_packet self.old source first asked ∷ []) self.old self.new }
         ensures taken { OnOk result (first + length asked ≤ taken_from self.new.site.region.state.here source) }
         ensures knows { KnowsTheSame self.old self.new }
+        ensures sessions { self.new.sessions ≡ self.old.sessions }
         ensures placed { HasPlacedOwn self.old → HasPlacedOwn self.new }
     {
         let mut number = first;
@@ -111,6 +119,7 @@ impl<S: Scheduler + Drop> Node<S> {
         ensures moved { (procs : List ProcTree) → MovesOn procs (asking_packet self.old source number (txn ∷ []) ∷ []) self.old self.new }
         ensures taken { OnOk result (number + 1 ≤ taken_from self.new.site.region.state.here source) }
         ensures knows { KnowsTheSame self.old self.new }
+        ensures sessions { self.new.sessions ≡ self.old.sessions }
         ensures placed { HasPlacedOwn self.old → HasPlacedOwn self.new }
     {
         self.site.region.append_owned(alloc, source, number, txn)?;
@@ -130,6 +139,7 @@ impl<S: Scheduler + Drop> Node<S> {
         ensures moved { (procs : List ProcTree) → MovesOn procs (logging_packet self.old source first entries ∷ []) self.old self.new }
         ensures taken { OnOk result (first + length entries ≤ length (log_at self.new.site.region.state.logs source)) }
         ensures knows { KnowsTheSame self.old self.new }
+        ensures sessions { self.new.sessions ≡ self.old.sessions }
         ensures placed { HasPlacedOwn self.old → HasPlacedOwn self.new }
     {
         self.site

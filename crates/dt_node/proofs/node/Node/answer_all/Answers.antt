@@ -1,0 +1,63 @@
+use Rattle.std.proofs.Common.{◌≤◌, ◌<◌, [], length, refl, subst, ◌∙◌, arith}
+use Rattle.dt_node.specs.NodeView.{NodeView}
+use Rattle.dt_node.specs.TurnInner.{MayAnswerAt}
+use Rattle.dt_node.proofs.Beginning.{had_more}
+use Rattle.dt_node.proofs.Keeping.{session_here, sessions_past}
+use Rattle.dt_node.proofs.Moving.{made_nothing, moves_more}
+use Rattle.dt_node.proofs.Passing.{all_answered, ends_more, ends_none}
+use Rattle.dt_node.proofs.Stepping.{knows_more}
+use Rattle.dt_node.proofs.Telling.{take_on}
+use Rattle.dt_node.proofs.node.Node.answer_all.Goals as goal
+
+pub sessions-init : goal.sessions-init
+sessions-init g c = record {
+  moved = λ procs. made_nothing c.args.self.now;
+  knows = record { took = refl; received = refl; turns = refl };
+  seats = refl;
+  within = omega arith;
+  ends = ends_none MayAnswerAt c.args.self.now;
+  one = tt;
+}
+
+pub answer_one-requires : goal.answer_one-requires
+answer_one-requires g c = record { can = take_on [] [] c.requires.can c.sessions.invariant.moved }
+
+pub returns-in_err-some-clause-moved : goal.returns-in_err-some-clause-moved
+returns-in_err-some-clause-moved g c = λ procs. moves_more (c.sessions.invariant.moved procs) (c.answer_one.ensures.moved procs)
+
+pub returns-in_err-some-clause-knows : goal.returns-in_err-some-clause-knows
+returns-in_err-some-clause-knows g c = knows_more c.sessions.invariant.knows c.answer_one.ensures.knows
+
+pub returns-in_err-some-clause-seats : goal.returns-in_err-some-clause-seats
+returns-in_err-some-clause-seats g c = c.answer_one.ensures.seats ∙ c.sessions.invariant.seats
+
+pub overflow_add-index : goal.overflow_add-index
+overflow_add-index g c =
+    let at : c.sessions.index < length c.sessions.self.sessions.seats =
+    session_here c.self.view_is c.sessions.index c.name.result c.is_some.result c.name.ensures.place c.is_some.ensures c.sessions-test.true in
+    omega (arith, at, c.sessions.invariant.seats, c.requires.can.can.fits.few)
+
+pub sessions-preserved : goal.sessions-preserved
+sessions-preserved g c =
+    let at : c.sessions.index < length c.sessions.self.sessions.seats =
+    session_here c.self.view_is c.sessions.index c.name.result c.is_some.result c.name.ensures.place c.is_some.ensures c.sessions-test.true in
+    record {
+      moved = λ procs. moves_more (c.sessions.invariant.moved procs) (c.answer_one.ensures.moved procs);
+      knows = knows_more c.sessions.invariant.knows c.answer_one.ensures.knows;
+      seats = c.answer_one.ensures.seats ∙ c.sessions.invariant.seats;
+      within = omega (arith, at, c.sessions.invariant.seats);
+      ends = ends_more MayAnswerAt c.args.self.now c.sessions.self c.answer_one.new.self c.sessions.index c.sessions.some c.in_ok-some.field-0 c.sessions.invariant.ends c.in_ok-some.ensures.ends;
+      one = had_more MayAnswerAt c.args.self.now c.sessions.self c.sessions.index c.sessions.some c.in_ok-some.field-0 c.sessions.invariant.ends c.sessions.invariant.one c.in_ok-some.ensures.one;
+    }
+
+pub sessions-smaller : goal.sessions-smaller
+sessions-smaller g c =
+    let at : c.sessions.index < length c.sessions.self.sessions.seats =
+    session_here c.self.view_is c.sessions.index c.name.result c.is_some.result c.name.ensures.place c.is_some.ensures c.sessions-test.true in
+    omega (arith, at, c.sessions.invariant.seats)
+
+pub returns-clause-ends : goal.returns-clause-ends
+returns-clause-ends g c =
+    let past : length c.sessions.self.sessions.seats ≤ c.sessions.index =
+    sessions_past c.self.view_is c.sessions.index c.name.result c.is_some.result c.name.ensures.place c.is_some.ensures c.sessions-test.false in
+    all_answered c.args.self.now c.sessions.self c.sessions.index c.sessions.some (omega (arith, past, c.sessions.invariant.seats)) c.sessions.invariant.ends

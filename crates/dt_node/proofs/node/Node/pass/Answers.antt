@@ -1,0 +1,34 @@
+use Rattle.std.proofs.Common.{[]}
+use Rattle.dt_node.proofs.Beginning.{first_pass}
+use Rattle.dt_node.proofs.Moving.{moves_more}
+use Rattle.dt_node.proofs.Stepping.{own_stay, passes}
+use Rattle.dt_node.proofs.Telling.{can_on}
+use Rattle.dt_node.proofs.node.Node.pass.Goals as goal
+
+pub returns-in_err-answered-clause-moved : goal.returns-in_err-answered-clause-moved
+returns-in_err-answered-clause-moved g c = c.answer_all.ensures.moved c.args.procs.now
+
+pub submit_all-requires : goal.submit_all-requires
+submit_all-requires g c = record { can = can_on [] [] c.requires.can (c.answer_all.ensures.moved c.args.procs.now) }
+
+pub returns-in_err-submitted-clause-moved : goal.returns-in_err-submitted-clause-moved
+returns-in_err-submitted-clause-moved g c = moves_more (c.answer_all.ensures.moved c.args.procs.now) c.submit_all.ensures.moved
+
+pub round-requires-clause-can : goal.round-requires-clause-can
+round-requires-clause-can g c = can_on [] [] c.requires.can (moves_more (c.answer_all.ensures.moved c.args.procs.now) c.submit_all.ensures.moved)
+
+pub returns-in_err-round-clause-moved : goal.returns-in_err-round-clause-moved
+returns-in_err-round-clause-moved g c = moves_more (moves_more (c.answer_all.ensures.moved c.args.procs.now) c.submit_all.ensures.moved) c.round.ensures.moved
+
+pub returns-clause-moved : goal.returns-clause-moved
+returns-clause-moved g c = moves_more (moves_more (c.answer_all.ensures.moved c.args.procs.now) c.submit_all.ensures.moved) c.round.ensures.moved
+
+pub returns-clause-passed : goal.returns-clause-passed
+returns-clause-passed g c =
+    passes c.args.self.now c.answer_all.new.self c.in_ok-answered.answered c.in_ok-submitted.submitted c.in_ok-answered.ensures.ends c.in_ok-submitted.ensures.ends c.round.ensures.moved
+    c.round.ensures.sessions (own_stay c.submit_all.new.self c.round.new.self c.round.ensures.moved.gone.number c.round.ensures.asked c.round.ensures.taken) c.round.ensures.rests
+
+pub returns-clause-begins : goal.returns-clause-begins
+returns-clause-begins g c =
+    first_pass c.in_ok-answered.answered c.in_ok-answered.ensures.ends c.in_ok-answered.ensures.one (c.answer_all.ensures.moved c.args.procs.now).gone c.submit_all.ensures.moved.gone
+    c.round.ensures.moved.gone c.in_ok-submitted.ensures.begins

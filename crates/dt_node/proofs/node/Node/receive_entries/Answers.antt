@@ -1,0 +1,33 @@
+use Rattle.std.proofs.Common.{Ok, subst}
+use Rattle.dt_region.specs.Rules.{MakesDelivery}
+use Rattle.dt_node.proofs.Bringing.{may_receive, receive_ends, receive_taken}
+use Rattle.dt_node.proofs.Opened.{opened, same_moves}
+use Rattle.dt_node.proofs.Ready.{has_stamp}
+use Rattle.dt_node.proofs.node.Node.receive_entries.Goals as goal
+
+pub deliver-requires-clause-stamp : goal.deliver-requires-clause-stamp
+deliver-requires-clause-stamp g c = rw (← c.self.view_is, ← c.self-inside.view_is) at (has_stamp c.requires.can.can)
+
+pub deliver-requires-clause-can : goal.deliver-requires-clause-can
+deliver-requires-clause-can g c =
+    let can = rw (← c.self.view_is, ← c.self-inside.view_is) at c.requires.can in
+    let may = may_receive c.args.source c.args.first c.args.entries can in
+    rw (c.into_vec.ensures) may
+
+pub returns-in_err-deliver-clause-moved : goal.returns-in_err-deliver-clause-moved
+returns-in_err-deliver-clause-moved g c = rw (← c.self.view_is, ← c.self-inside.view_is) (λ procs. same_moves _ c.deliver.new.self c.in_err-deliver.ensures.makes)
+
+pub returns-clause-moved : goal.returns-clause-moved
+returns-clause-moved g c =
+    let can = rw (← c.self.view_is, ← c.self-inside.view_is) at c.requires.can in
+    let is = rw (← c.self-inside.view_is) at c.self.view_is in
+    let makes = subst (λ l. MakesDelivery (opened is).site.region c.args.source c.args.first c.args.first l (Ok c.in_ok-deliver.field-0) c.deliver.new.self) c.into_vec.ensures c.in_ok-deliver.ensures.makes in
+    rw (← c.self.view_is, ← c.self-inside.view_is)
+    (λ procs. receive_ends c.args.source c.args.first c.args.entries can (Ok c.in_ok-deliver.field-0) c.deliver.new.self makes c.deliver.ensures.sound)
+
+pub returns-clause-taken : goal.returns-clause-taken
+returns-clause-taken g c =
+    let can = rw (← c.self.view_is, ← c.self-inside.view_is) at c.requires.can in
+    let is = rw (← c.self-inside.view_is) at c.self.view_is in
+    let makes = subst (λ l. MakesDelivery (opened is).site.region c.args.source c.args.first c.args.first l (Ok c.in_ok-deliver.field-0) c.deliver.new.self) c.into_vec.ensures c.in_ok-deliver.ensures.makes in
+    receive_taken c.args.source c.args.first c.args.entries can c.in_ok-deliver.field-0 c.deliver.new.self makes

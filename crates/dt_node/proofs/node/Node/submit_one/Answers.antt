@@ -1,0 +1,31 @@
+use Rattle.std.proofs.Common.{◌<◌, [], length, map, slice_get, sym, ap, subst, ◌∙◌}
+use Rattle.dt_node.specs.NodeView.{NodeView, number_of}
+use Rattle.dt_node.specs.TurnInner.{IsNextOfNode}
+use Rattle.dt_node.proofs.Moving.{moves_more}
+use Rattle.dt_node.proofs.OwnPlacing.{has_submitted}
+use Rattle.dt_node.proofs.SessionsOn.{submitted_on}
+use Rattle.dt_node.proofs.Telling.{can_on}
+use Rattle.dt_node.proofs.node.Node.submit_one.Goals as goal
+
+pub place_own-requires : goal.place_own-requires
+place_own-requires g c = record { can = record { procs = c.args.procs.now; can = can_on [] [] c.requires.can c.submit.ensures.moved } }
+
+pub returns-in_err-place_own-clause-moved : goal.returns-in_err-place_own-clause-moved
+returns-in_err-place_own-clause-moved g c = moves_more c.submit.ensures.moved (c.place_own.ensures.moved c.args.procs.now)
+
+pub returns-clause-moved : goal.returns-clause-moved
+returns-clause-moved g c = moves_more c.submit.ensures.moved (c.place_own.ensures.moved c.args.procs.now)
+
+pub returns-clause-ends : goal.returns-clause-ends
+returns-clause-ends g c =
+    submitted_on {b = c.submit.new.self} c.in_ok-submit.ensures.less c.in_ok-submit.ensures.some (c.place_own.ensures.moved c.args.procs.now) c.place_own.ensures.sessions c.in_ok-place_own.ensures.placed
+
+pub returns-clause-one : goal.returns-clause-one
+returns-clause-one g c =
+    let t = subst (IsNextOfNode c.args.self.now c.in-Some.name.now) c.in-Some-2.is c.in_ok-origin.ensures in
+    let sound = c.requires.can.fits.site.sound in
+    let there : number_of c.args.self.now < length c.args.self.now.site.region.state.here.asked = subst (λ n. number_of c.args.self.now < n) (sym sound.asked) sound.number in (
+      c.in-Some.name.now,
+      ap (λ (n : NodeView). slice_get (map (λ p. p.0) n.sessions.seats) c.args.index) (sym c.self.view_is) ∙ sym c.in-Some.ensures.place,
+      has_submitted c.in-Some.name.now t c.in_ok-submit.ensures.made c.submit.ensures.moved.gone c.place_own.ensures.own c.place_own.ensures.sessions c.in_ok-place_own.ensures.placed there,
+    )

@@ -1,0 +1,72 @@
+use Rattle.std.proofs.Common.{[], flat_map, sym, subst, ◌∙◌}
+use Rattle.dt_node.specs.NodeView.{NodeView, new_items}
+use Rattle.dt_node.specs.Turn.{AreBrought, BeginsEagerly, HasGone, HasTaken, IsSettled, StampsRise}
+use Rattle.dt_node.proofs.Moving.{moves_on}
+use Rattle.dt_node.proofs.Stepping.{on_ok, turn_begins, turn_can, turn_moves, turn_ready, turn_settles, turn_takes}
+use Rattle.dt_node.proofs.Telling.{can_on, may_begin}
+use Rattle.dt_node.proofs.node.Node.turn.Goals as goal
+
+pub receive_all-requires : goal.receive_all-requires
+receive_all-requires g c = record { can = record { procs = c.args.procs.now; can = may_begin c.requires.stands } }
+
+pub returns-in_err-receive_all-clause-gone : goal.returns-in_err-receive_all-clause-gone
+returns-in_err-receive_all-clause-gone g c =
+    (c.receive_all.ensures.moved c.args.procs.now).gone
+
+pub returns-in_err-receive_all-clause-brought : goal.returns-in_err-receive_all-clause-brought
+returns-in_err-receive_all-clause-brought g c =
+    (c.receive_all.ensures.moved c.args.procs.now).brought
+
+pub returns-in_err-receive_all-clause-stamps : goal.returns-in_err-receive_all-clause-stamps
+returns-in_err-receive_all-clause-stamps g c =
+    (c.receive_all.ensures.moved c.args.procs.now).stamps
+
+pub go_on-requires-clause-can : goal.go_on-requires-clause-can
+go_on-requires-clause-can g c =
+    turn_can c.requires.stands (c.receive_all.ensures.moved c.args.procs.now)
+
+pub returns-in_err-go_on-clause-gone : goal.returns-in_err-go_on-clause-gone
+returns-in_err-go_on-clause-gone g c =
+    (moves_on (c.receive_all.ensures.moved c.args.procs.now) c.go_on.ensures.moved).gone
+
+pub returns-in_err-go_on-clause-brought : goal.returns-in_err-go_on-clause-brought
+returns-in_err-go_on-clause-brought g c =
+    (moves_on (c.receive_all.ensures.moved c.args.procs.now) c.go_on.ensures.moved).brought
+
+pub returns-in_err-go_on-clause-stamps : goal.returns-in_err-go_on-clause-stamps
+returns-in_err-go_on-clause-stamps g c =
+    (moves_on (c.receive_all.ensures.moved c.args.procs.now) c.go_on.ensures.moved).stamps
+
+pub send-requires-clause-ready : goal.send-requires-clause-ready
+send-requires-clause-ready g c =
+    turn_ready (can_on [] [] (turn_can c.requires.stands (c.receive_all.ensures.moved c.args.procs.now)) c.go_on.ensures.moved)
+
+pub send-requires-clause-ends : goal.send-requires-clause-ends
+send-requires-clause-ends g c =
+    c.requires.ends ∙ sym (moves_on (c.receive_all.ensures.moved c.args.procs.now) c.go_on.ensures.moved).gone.regions
+
+pub returns-clause-gone : goal.returns-clause-gone
+returns-clause-gone g c =
+    subst (λ n. HasGone c.args.procs.now (flat_map g.I.Inlet.waits c.args.ins.now) c.args.self.now n) (sym c.send.ensures.still) (turn_moves (c.receive_all.ensures.moved c.args.procs.now) c.go_on.ensures.moved).gone
+
+pub returns-clause-brought : goal.returns-clause-brought
+returns-clause-brought g c =
+    subst (λ n. AreBrought (flat_map g.I.Inlet.waits c.args.ins.now) (new_items c.args.self.now n)) (sym c.send.ensures.still) (turn_moves (c.receive_all.ensures.moved c.args.procs.now) c.go_on.ensures.moved).brought
+
+pub returns-clause-stamps : goal.returns-clause-stamps
+returns-clause-stamps g c =
+    subst (λ n. StampsRise (flat_map g.I.Inlet.waits c.args.ins.now) c.args.self.now n) (sym c.send.ensures.still) (turn_moves (c.receive_all.ensures.moved c.args.procs.now) c.go_on.ensures.moved).stamps
+
+pub returns-clause-taken : goal.returns-clause-taken
+returns-clause-taken g c =
+    on_ok c.send.result (subst (λ n. HasTaken (flat_map g.I.Inlet.waits c.args.ins.now) c.args.self.now n) (sym c.send.ensures.still)
+    (turn_takes (c.receive_all.ensures.moved c.args.procs.now) c.go_on.ensures.moved c.in_ok-receive_all.ensures.taken c.go_on.ensures.knows))
+
+pub returns-clause-settled : goal.returns-clause-settled
+returns-clause-settled g c =
+    on_ok c.send.result (subst (λ n. IsSettled c.args.self.now n) (sym c.send.ensures.still)
+    (turn_settles (c.receive_all.ensures.moved c.args.procs.now) c.go_on.ensures.moved c.receive_all.ensures.placed c.receive_all.ensures.sessions c.in_ok-go_on.ensures.settled))
+
+pub returns-clause-begins : goal.returns-clause-begins
+returns-clause-begins g c =
+    on_ok c.send.result (λ none. subst (λ n. BeginsEagerly c.args.procs.now c.args.self.now n) (sym c.send.ensures.still) (turn_begins (c.receive_all.ensures.still none) c.go_on.ensures.moved c.in_ok-go_on.ensures.begins))
