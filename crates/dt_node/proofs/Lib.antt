@@ -31,3 +31,4 @@ pub mod Putting
 pub mod Seating
 pub mod OwnPlacing
 pub mod Beginning
+pub mod Callers

@@ -35,8 +35,9 @@ use std::marker::Model;
 /// One region of a cluster. What it may execute and resolve is decided by its scheduler `S`.
 ///
 /// Contracts see its `state`, as `events` the events that it made, in order, each with its stamp, and as `heard` the
-/// greatest stamp that it heard of. Its type keeps what `IsSoundRegion` says: in each log every id stands once, every part is that of the transaction which the region holds under its id,
-/// all logs together have at most 4,294,967,295 parts, and what is resolved and done could be resolved and done.
+/// greatest stamp that it heard of. Its type keeps what `IsSoundRegion` says: in each log every id stands once, every part is
+/// that of the transaction which the region holds under its id, all logs together have at most 4,294,967,295 parts, and what
+/// is resolved and done could be resolved and done.
 #[derive(Drop)]
 pub struct Region<S: Scheduler> {
     number: u8,

@@ -1,7 +1,7 @@
 -- Lists of events that waste nothing. One learns here what an eager list is: each event changes the world, and each
 -- region begins by submitting the first call of each of its sessions, in the order of their names. A cluster that runs by
--- itself is to make such a list; so far none does, and only the order of the sessions (`sessions_at`) is used. What is
--- left undone at the end is no matter here. Read next: `Finished`, for when all is done.
+-- itself makes such a list. So it can't keep deadlocks from arising by letting one call run at a time. What is left undone at
+-- the end is no matter here. Read next: `Finished`, for when all is done.
 use Rattle.std.specs.Prelude.{◌≢◌, ◌<◌, ◌+◌, ◌==◌, ℕ, List, [], ◌∷◌, flat_map, filter, Bool, if◌then◌else◌}
 use Rattle.std.specs.Ordering.{nat_cmp, is_lt}
 use Rattle.std.specs.Cmp.Lexicographic.{slice_cmp}

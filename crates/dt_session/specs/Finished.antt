@@ -1,6 +1,6 @@
 -- When nothing is left to do: every call of every session is answered, and every region has executed every attempt. Then
--- all regions have the same rows, since the table of each is that of what it executed (`Agree`, part `tables`). Read
--- `Agreement` before; nothing stands on this file.
+-- all regions have the same rows, since the table of each is that of what it executed (`Agree`, part `tables`). A cluster that
+-- runs by itself runs until then. Read `Agreement` before, and `Eager` for what else holds of such a run.
 use Rattle.std.specs.Prelude.{◌≡◌, ◌<◌, ℕ, List, [], ◌∷◌, length}
 use Rattle.dt_lists.specs.Lists.{AllIn, Has}
 use Rattle.dt_events.specs.declared.Event.{Event}

@@ -1,0 +1,140 @@
+-- The merged events of nodes that are done are a legal run, eager and finished.
+use Rattle.std.proofs.Common.{◌≡◌, ◌≢◌, ◌<◌, ◌≤◌, ◌+◌, ◌⊎◌, ℕ, true, false, eqb, List, [], ◌∷◌, length, map, filter, Some, refl, sym, ap, subst, ◌∙◌, inl, inr, arith, eq-eqb}
+use Rattle.std.proofs.lemmas.Bool.{cases_Bool, false_from_ne_true}
+use Rattle.std.specs.Map.{lookup}
+use Rattle.dt_lists.specs.Lists.{AllIn, Distinct, Has, IsFront}
+use Rattle.dt_lists.proofs.Callers.{all_get, all_put, get_of_map, has_map}
+use Rattle.dt_access.specs.Clash.{Bytes}
+use Rattle.dt_events.specs.declared.Event.{Event}
+use Rattle.dt_events.specs.declared.Stamped.{Stamped}
+use Rattle.dt_events.specs.Events.{region_of}
+use Rattle.dt_events.specs.Stamps.{events_of}
+use Rattle.dt_txn.specs.declared.Txn.{Txn}
+use Rattle.dt_txn.specs.Replica.{done_ids}
+use Rattle.dt_workload.specs.declared.Session.{Session}
+use Rattle.dt_session.specs.declared.sessions.Seat.{Seat}
+use Rattle.dt_session.specs.Eager.{AllChange, first_calls, first_events, sessions_at}
+use Rattle.dt_session.specs.Finished.{AreAnswered}
+use Rattle.dt_session.specs.Run.{AreLegal, world_after}
+use Rattle.dt_session.specs.Sessions.{is_named}
+use Rattle.dt_session.specs.World.{World, Node, Place, is_session, node_at, opening_table, opening_world, session_at}
+use Rattle.dt_agreement.proofs.Callers.{places_parallel, session_of_test, test_of_key}
+use Rattle.dt_merge.specs.Merge.{region_at, those_at}
+use Rattle.dt_merge.specs.WorldRegions.{HasInvariant}
+use Rattle.dt_site.specs.SessionsStandIn.{SessionsStandIn}
+use Rattle.dt_site.specs.Site.{node_of}
+use Rattle.dt_site.proofs.Callers.{attempts_have, kept_here}
+use Rattle.dt_node.specs.NodeView.{NodeView}
+use Rattle.dt_node.specs.Standing.{NodeFits}
+use Rattle.dt_run.specs.Done.{AreDone}
+use Rattle.dt_run.specs.Marks.{kept_of}
+use Rattle.dt_run.specs.NodesStand.{AreInStep, AreNodes, BeganEagerly, StandsAmong}
+use Rattle.dt_run.specs.NodesView.{NodesView, kept_by, marks_at, no_running_node, node_in}
+use Rattle.dt_run.specs.Run.{AreMerged, IsRun}
+use Rattle.dt_run.proofs.Laws.{are_kept, merge_changes, merge_keeps, merge_legal, merge_world}
+use Rattle.dt_run.proofs.Phasing.{good_world}
+
+-- the events of a region, with or without their stamps
+events_at_region : (region : ℕ) (items : List Stamped) → filter (λ event. eqb (region_of event) region) (events_of items) ≡ events_of (those_at region items)
+events_at_region region [] = refl
+events_at_region region (x ∷ items) = go (cases_Bool (eqb (region_at x) region)) (events_at_region region items)
+  where
+    go : (eqb (region_at x) region ≡ true) ⊎ (eqb (region_at x) region ≡ false) → filter (λ event. eqb (region_of event) region) (events_of items) ≡ events_of (those_at region items)
+        → filter (λ event. eqb (region_of event) region) (events_of (x ∷ items)) ≡ events_of (those_at region (x ∷ items))
+    go (inl t) e = rw t (ap (λ l. x.event ∷ l) e)
+    go (inr n) e = rw n e
+
+-- what a name finds is among all
+found_has : (P : Seat → Type 0) (name : Bytes) (es : List (Bytes × Seat)) (seat : Seat) → lookup (is_named name) es ≡ Some seat → AllIn (λ p. P p.1) es → P seat
+found_has P name [] seat e a = cc
+found_has P name (x ∷ es) seat e a = go (cases_Bool (is_named name x.0)) (λ f. found_has P name es seat f a.1)
+  where
+    go : (is_named name x.0 ≡ true) ⊎ (is_named name x.0 ≡ false) → (lookup (is_named name) es ≡ Some seat → P seat) → P seat
+    go (inl t) later = let is : Some x.1 ≡ Some seat = rw t at e in let same : x.1 ≡ seat = cc in subst P same a.0
+    go (inr n) later = later (rw n at e)
+
+-- every call is answered where each session says so
+own_answered : (sessions : List Session) (places : List Place) → length places ≡ length sessions → Distinct (map (λ s. s.name) sessions)
+    → ((t : Session) → Has sessions t → (p : Place) → session_at sessions places t.region t.name ≡ Some (t, p) → p.answered ≡ length t.calls) → AreAnswered sessions places
+own_answered [] places same once g = tt
+own_answered (s ∷ sessions) [] same once g = absurd (omega (arith, same))
+own_answered (s ∷ sessions) (p ∷ places) same once g = (g s (inl refl) p (rw own refl), own_answered sessions places (omega (arith, same)) once.1 (λ t h q e. g t (inr h) q (rw (away t h) e)))
+  where
+    own : is_session s.region s.name s ≡ true
+    own = rw (test_of_key s.name s.name refl) (eq-eqb s.region s.region refl)
+
+    away : (t : Session) → Has sessions t → is_session t.region t.name s ≡ false
+    away t h = false_from_ne_true (is_session t.region t.name s)
+        (λ e. all_get _ (map (λ u. u.name) sessions) once.0 t.name (has_map (λ u. u.name) sessions t h) (session_of_test t.region t.name s e).0)
+
+module _ {v : NodesView} (n : AreNodes v) (sound : v.broken ≡ false) (some : 1 ≤ length (marks_at v 0)) (d : AreDone v) {events : List Event} (m : AreMerged (kept_by v.nodes) events) where
+  abbrev whole : World
+  whole = world_after v.cluster v.workload (events_of n.all)
+
+  one : 0 < v.cluster.regions
+  one = let s = n.cluster.some in omega (arith, s)
+
+  first : NodeFits v.cluster v.workload (events_of n.all) (node_in v 0)
+  first = (n.stand 0 one).fits
+
+  good : HasInvariant v.cluster v.workload whole
+  good = good_world first
+
+  legal : AreLegal v.cluster v.workload events
+  legal = subst (AreLegal v.cluster v.workload) (sym m.events_are) (merge_legal n.chronicle m.merged m.is n.cluster n.workload)
+
+  changing : AllChange v.cluster v.workload (opening_world v.cluster v.workload) events
+  changing = subst (AllChange v.cluster v.workload (opening_world v.cluster v.workload)) (sym m.events_are) (merge_changes n.chronicle m.merged m.is n.cluster n.workload)
+
+  same_world : world_after v.cluster v.workload events ≡ whole
+  same_world = ap (world_after v.cluster v.workload) m.events_are ∙ merge_world n.chronicle m.merged m.is n.cluster n.workload
+
+  begins : (region : ℕ) → region < v.cluster.regions
+      → IsFront (first_events v.cluster region (opening_table v.cluster) (first_calls (sessions_at region v.workload.sessions)) 0) (filter (λ event. eqb (region_of event) region) events)
+  begins region lr = subst (IsFront (first_events v.cluster region (opening_table v.cluster) (first_calls (sessions_at region v.workload.sessions)) 0)) (sym own) begun
+    where
+      step : AreInStep v
+      step = n.in_step sound
+
+      own : filter (λ event. eqb (region_of event) region) events ≡ events_of (kept_of v region)
+      own =
+          ap (filter (λ event. eqb (region_of event) region)) m.events_are ∙ events_at_region region m.merged
+          ∙ ap events_of (merge_keeps (kept_by v.nodes) (are_kept n.chronicle) m.merged m.is region ∙ get_of_map (λ (x : NodeView). x.site.region.events) v.nodes region no_running_node)
+
+      phases : step.made ≢ 0
+      phases e = let k : length (marks_at v 0) ≡ step.made = (step.each 0 one).marks.many in absurd (omega (arith, k, e, some))
+
+      begun : BeganEagerly v.cluster v.workload region (kept_of v region)
+      begun = (step.each region lr).begun phases
+
+  answered : AreAnswered v.workload.sessions whole.places
+  answered = own_answered v.workload.sessions whole.places (sym (places_parallel v.cluster v.workload whole good.order good.inv)) n.workload.names_once each
+    where
+      each : (t : Session) → Has v.workload.sessions t → (p : Place) → session_at v.workload.sessions whole.places t.region t.name ≡ Some (t, p) → p.answered ≡ length t.calls
+      each t h p e =
+          let lr : t.region < v.cluster.regions = (all_get _ v.workload.sessions n.workload.sessions t h).region in
+          let f : StandsAmong v n.all t.region = n.stand t.region lr in
+          let k = subst (λ r. SessionsStandIn v.cluster v.workload whole r (node_in v t.region).sessions) f.number f.fits.sessions in
+          found_has (λ seat. seat.answered ≡ length seat.calls) t.name (node_in v t.region).sessions.seats _ (kept_here k t.name e) (d.answered t.region lr)
+
+  executed : (region source : ℕ) → region < v.cluster.regions → source < v.cluster.regions → AllIn (λ s. Has (done_ids (node_at whole region).here) s.txn.id) (node_at whole source).submitted
+  executed region source lr ls =
+      let f : StandsAmong v n.all region = n.stand region lr in
+      let g : StandsAmong v n.all source = n.stand source ls in
+      let fn : node_of (node_in v region).site ≡ node_at whole region = subst (λ r. node_of (node_in v region).site ≡ node_at whole r) f.number f.fits.site.node in
+      let gn : node_of (node_in v source).site ≡ node_at whole source = subst (λ r. node_of (node_in v source).site ≡ node_at whole r) g.number g.fits.site.node in
+      subst (λ (x : Node). AllIn (λ s. Has (done_ids x.here) s.txn.id) (node_at whole source).submitted) fn
+      (subst (λ (x : Node). AllIn (λ s. Has (done_ids (node_in v region).site.region.state.here) s.txn.id) x.submitted) gn
+      (all_put _ _ (λ s h. all_get (λ (t : Txn). Has (done_ids (node_in v region).site.region.state.here) t.id) (node_in v source).site.region.state.submitted (d.executed region source lr ls) s.txn
+      (attempts_have (node_in v source).site.region.state.submitted (node_in v source).site.origins s h))))
+
+  pub merged_run : IsRun v events
+  merged_run = record {
+    merged = m;
+    legal = legal;
+    eager = record { changing = changing; begins = begins };
+    finished = record {
+      answered = subst (λ (w : World). AreAnswered v.workload.sessions w.places) (sym same_world) answered;
+      executed = λ region source lr ls. subst (λ (w : World). AllIn (λ s. Has (done_ids (node_at w region).here) s.txn.id) (node_at w source).submitted) (sym same_world) (executed region source lr ls);
+    };
+  }

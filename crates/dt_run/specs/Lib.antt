@@ -1,0 +1,10 @@
+pub mod NodesView
+pub mod Marks
+pub mod NodesStand
+pub mod Phase
+pub mod Done
+pub mod Run
+pub mod SeatsInner
+pub mod LinksInner
+pub mod MergingInner
+pub mod NodesCode

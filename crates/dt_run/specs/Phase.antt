@@ -1,0 +1,40 @@
+-- What a phase makes of all nodes. One learns here that every node makes one turn, by what waited for it and by nothing of this
+-- phase (`TurnsOnce`), and that, unless it fails for want of memory, one mark is added for each region, and on each link waits what
+-- its source sent (`EndsInStep`). Read next: `Done`, for when no phase is left to make.
+use Rattle.std.specs.Prelude.{◌≡◌, ◌≢◌, ◌<◌, ◌+◌, ◌++◌, ◌∷◌, ℕ, List, [], length}
+use Rattle.dt_packet.specs.declared.packet.Packet.{Packet}
+use Rattle.dt_proc.specs.Tree.{ProcTree}
+use Rattle.dt_node.specs.NodeView.{NodeView, new_items, packet_for}
+use Rattle.dt_node.specs.Turn.{AreBrought, HasGone, HasTaken, IsSettled, StampsRise}
+use Rattle.dt_run.specs.Marks.{kept_of}
+use Rattle.dt_run.specs.NodesStand.{IsWaiting}
+use Rattle.dt_run.specs.NodesView.{NodesView, marks_at, node_in, waiting_at, waiting_between}
+
+-- a node made a turn, or a part of one: what it kept goes on from what there was, and whatever it used of other regions
+-- was in these packets
+pub record TurnsOnce (procs : List ProcTree) (packets : List Packet) (before after : NodeView) : Type 0 where
+  pub gone : HasGone procs packets before after
+  pub brought : AreBrought packets (new_items before after)
+  pub stamps : StampsRise packets before after
+
+-- what every phase makes, also one that fails: each node made a turn by what waited for it
+pub record IsPhase (before after : NodesView) : Type 0 where
+  pub cluster : after.cluster ≡ before.cluster
+  pub workload : after.workload ≡ before.workload
+  pub many : length after.nodes ≡ length before.nodes
+  pub turns : (region : ℕ) → region < before.cluster.regions → TurnsOnce before.cluster.procs (waiting_at before region) (node_in before region) (node_in after region)
+
+-- the node of a region made a whole turn: it took all that waited and left nothing to do by itself, and its mark is added
+pub record TurnsWhole (before after : NodesView) (region : ℕ) : Type 0 where
+  pub turns : (node_in after region).turns ≡ (node_in before region).turns + 1
+  pub taken : HasTaken (waiting_at before region) (node_in before region) (node_in after region)
+  pub settled : IsSettled (node_in before region) (node_in after region)
+  pub marks : marks_at after region ≡ marks_at before region ++ length (kept_of after region) ∷ []
+
+-- what a phase leaves that did not fail
+pub record EndsInStep (before after : NodesView) : Type 0 where
+  pub broken : after.broken ≡ before.broken
+  pub each : (region : ℕ) → region < before.cluster.regions → TurnsWhole before after region
+  -- what one node sent another in this phase waits now, as often as the plan says, and nothing else
+  pub links : (source target : ℕ) → source < before.cluster.regions → target < before.cluster.regions → source ≢ target
+      → IsWaiting after.cluster (node_in after source).turns (packet_for (node_in after source) target) (waiting_between after source target)

@@ -1,0 +1,27 @@
+//! All nodes of a cluster at once: they run in phases over links that lose packets, until every call is answered.
+//!
+//! In a phase every node makes one turn, each in a thread of its own where one can be made ([`Nodes::phase`]). A node knows
+//! nothing of what the others do meanwhile: what it sends waits on a link, and becomes known between two phases, when the ends
+//! of each link are brought beside each other (`links.rt`). [`run`] makes phases until all is done.
+//!
+//! Nobody has the events of all regions as one list while they are made. In the end they are told in the order of their stamps
+//! (`merging.rt`), and the report is that of this list: it is legal, and it leads to the world in which all nodes are, by the
+//! laws of `dt_merge`. So whatever is proved of a list of events holds of what ran.
+//!
+//! The type of [`Nodes`] keeps what makes this so (`specs/NodesStand`): some list has the events of all nodes in the order in
+//! which they were made, each node stands in the world after it, and each packet that waits is what its source would send
+//! now. One turn of each node, told one after another, makes the list longer, since a turn's events go on from whatever
+//! events there were (`HasGone` of `dt_node`).
+//!
+//! Read next: `specs/NodesView`, `specs/Marks`, `specs/NodesStand`, `specs/Phase`, `specs/Done`, `specs/Run`; then `nodes.rt`.
+#![tactic(auto)]
+
+mod doing;
+mod links;
+mod merging;
+mod nodes;
+mod reporting;
+mod seat;
+
+pub use nodes::Nodes;
+pub use reporting::run;

@@ -1,0 +1,183 @@
+ghost use Rattle.std.specs.List.{range_with_len};
+ghost use Rattle.std.specs.Prelude.{◌≡◌, ◌↔◌, ◌≤◌, length, map, All, IfOk, OnErr, OnOk, IsTrue, IsFalse, false, true};
+ghost use Rattle.dt_lists.specs.Lists.{AllIn};
+ghost use Rattle.dt_region.specs.Sound.{IsSoundRegion};
+ghost use Rattle.dt_node.specs.NodeView.{opening_node_of};
+ghost use Rattle.dt_cluster.specs.Valid.{IsValidCluster};
+ghost use Rattle.dt_workload.specs.Valid.{IsValidWorkload};
+ghost use Rattle.dt_run.specs.Done.{AreDone};
+ghost use Rattle.dt_run.specs.NodesStand.{AreNodes};
+ghost use Rattle.dt_run.specs.NodesView.{kept_by, marks_at, opening_nodes};
+ghost use Rattle.dt_run.specs.Phase.{EndsInStep, IsPhase};
+ghost use Rattle.dt_run.specs.Run.{AreMerged, IsRunReport};
+ghost use Rattle.dt_run.specs.SeatsInner.{EachGoes, SeatCan, SeatGoes, new_seat};
+
+use crate::doing::{are_answered, have_done_all};
+use crate::links::{beside_all, link_all};
+use crate::merging::merged;
+use crate::reporting::report_of;
+use crate::seat::Seat;
+use dt_cluster::Cluster;
+use dt_events::Event;
+use dt_node::Node;
+use dt_proc::Procs;
+use dt_report::Report;
+use dt_sched::Scheduler;
+use dt_text::NoMemory;
+use dt_workload::Workload;
+use std::alloc::Global;
+use std::marker::Model;
+use std::sync::Wait;
+use std::thread;
+use std::thread::Threads;
+
+/// All nodes of a cluster, and the links between them, with the cluster and the workload.
+///
+/// Contracts see each node, as `waiting` the packets that wait on each link between two phases, as `marks` of each region how
+/// many events it had kept after each phase, and as `broken` whether a phase has failed for want of memory.
+#[derive(Drop)]
+pub struct Nodes<S: Scheduler + Drop> {
+    cluster: Cluster,
+    workload: Workload,
+    /// The seat of each region's node, by its number.
+    seats: Vec<Seat<S>>,
+    broken: bool,
+}
+
+impl<S: Scheduler + Drop> Model for Nodes<S> {
+    ghost use Rattle.dt_run.specs.NodesView.{NodesView};
+    ghost use Rattle.dt_run.specs.NodesCode.{nodes_code};
+    ghost use Rattle.dt_run.specs.SeatsInner.{AreSeated, nodes_view};
+
+    ghost Value = { NodesView };
+
+    ghost coded = { nodes_code };
+
+    ghost view = { λ n. nodes_view n.cluster n.workload n.seats.items n.broken };
+
+    ghost invariant = { λ n. AreSeated n.cluster n.workload n.seats.items n.broken };
+}
+
+impl<S: Scheduler + Drop> Nodes<S> {
+    /// The nodes of a cluster with a workload before anything happens.
+    pub fn new(alloc: Global, cluster: &Cluster, workload: &Workload) -> Result<Self, NoMemory>
+        requires cluster { IsValidCluster cluster.now }
+        requires workload { IsValidWorkload cluster.now workload.now }
+        ensures opening { IfOk result (λ nodes. nodes ≡ opening_nodes cluster.now workload.now) }
+        ensures nodes { IfOk result AreNodes }
+    {
+        let mut seats = seats(alloc, cluster, workload)?;
+        link_all(alloc, seats.as_mut_slice())?;
+        Ok(Nodes {
+            cluster: cluster.copy(alloc)?,
+            workload: workload.copy(alloc)?,
+            seats,
+            broken: false,
+        })
+    }
+
+    /// Whether every call of every session is answered, and every region has executed every attempt. Takes no memory.
+    pub fn finished(&self) -> bool
+        ensures { IsTrue result ↔ AreDone self.now }
+    {
+        are_answered(self.seats.as_slice()) && have_done_all(self.seats.as_slice())
+    }
+
+    /// The report of the events that all nodes have kept, in the order of their stamps.
+    pub fn report(&self, alloc: Global) -> Result<Report, NoMemory>
+        requires phases { 1 ≤ length (marks_at self.now 0) }
+        requires sound { self.now.broken ≡ false }
+        requires done { AreDone self.now }
+        ensures { IfOk result (IsRunReport self.now) }
+    {
+        let events = self.merged(alloc)?;
+        report_of::<S>(alloc, &self.cluster, &self.workload, events)
+    }
+
+    /// The events that all nodes have kept, in ascending order of their stamps, and of their regions where these are equal.
+    fn merged(&self, alloc: Global) -> Result<Vec<Event>, NoMemory>
+        ensures { IfOk result (λ events. AreMerged (kept_by self.now.nodes) events.items) }
+    {
+        let mut kept = Vec::with_capacity(alloc, self.seats.len())?;
+        for seat in self.seats.as_slice() {
+            kept.push(seat.node.region().events())?;
+        }
+        merged(alloc, kept)
+    }
+}
+
+impl<S: Scheduler + Drop + Send> Nodes<S> {
+    /// Runs one turn of every node, by a parallel call over the list of nodes. It fails only for want of memory; then some turns
+    /// may be made in part, and links and marks are given up.
+    pub fn phase<R: Threads + Wait + Sync>(&mut self, rt: &R, alloc: Global) -> Result<(), NoMemory>
+        requires { self.old.broken ≡ false }
+        ensures phase { IsPhase self.old self.new }
+        ensures in_step { OnOk result (EndsInStep self.old self.new) }
+        ensures broken { OnErr result (self.new.broken ≡ true) }
+        ensures nodes { AreNodes self.new }
+    {
+        turn_all(rt, alloc, self.seats.as_mut_slice(), &self.cluster.procs);
+        if some_failed(self.seats.as_slice()) {
+            self.broken = true;
+            return Err(NoMemory);
+        }
+        beside_all(alloc, self.seats.as_mut_slice());
+        Ok(())
+    }
+}
+
+/// One turn at every seat, each in a thread of its own where one can be made.
+fn turn_all<S: Scheduler + Drop + Send, R: Threads + Wait + Sync>(
+    rt: &R,
+    alloc: Global,
+    seats: &mut [Seat<S>],
+    procs: &Procs,
+)
+    requires { All (SeatCan procs.now) seats.old }
+    ensures { EachGoes procs.now seats.old seats.new }
+{
+    thread::for_each_mut(
+        rt,
+        seats,
+        8,
+        &|_, seat: &mut Seat<S>|
+            requires { SeatCan procs.now seat.now }
+            ensures { SeatGoes procs.entry.now seat.entry.now seat.exit.now }
+        {
+            seat.turn(alloc, procs);
+        },
+    );
+}
+
+/// Whether the last turn at some seat failed.
+fn some_failed<S: Scheduler>(seats: &[Seat<S>]) -> bool
+    ensures { IsFalse result ↔ AllIn (λ s. s.failed ≡ false) seats.now }
+{
+    for seat in seats {
+        if seat.failed {
+            return true;
+        }
+    }
+    false
+}
+
+/// A seat for the node of each region of a cluster, by its number, before anything happens.
+fn seats<S: Scheduler + Drop>(
+    alloc: Global,
+    cluster: &Cluster,
+    workload: &Workload,
+) -> Result<Vec<Seat<S>>, NoMemory>
+    requires cluster { IsValidCluster cluster.now }
+    requires workload { IsValidWorkload cluster.now workload.now }
+    ensures sound { IfOk result (λ seats. AllIn (λ s. IsSoundRegion s.node.site.region.state) seats.items) }
+    ensures opening { IfOk result (λ seats. seats.items ≡ map (λ region. new_seat (opening_node_of cluster.now workload.now region)) (range_with_len 0 cluster.now.regions)) }
+{
+    let mut seats = Vec::with_capacity(alloc, cluster.regions as usize)?;
+    for region in 0..cluster.regions {
+        let node: Node<S> = Node::new(alloc, cluster, workload, region)?;
+        // Names the region, so that the proof has what its type keeps.
+        let _number = node.region().number();
+        seats.push(Seat::new(alloc, node))?;
+    }
+    Ok(seats)
+}

@@ -1,0 +1,86 @@
+ghost use Rattle.std.specs.Prelude.{◌≡◌, ◌++◌, ◌∷◌, [], flat_map, length, map, OnOk};
+ghost use Rattle.dt_lists.specs.Lists.{Pairwise};
+ghost use Rattle.dt_ring.specs.Rings.{SameIn, SameOut};
+ghost use Rattle.dt_node.specs.Sending.{HasSent};
+ghost use Rattle.dt_node.specs.Turn.{BeginsEagerly, HasTaken, IsSettled};
+ghost use Rattle.dt_run.specs.Phase.{TurnsOnce};
+ghost use Rattle.dt_run.specs.SeatsInner.{SeatCan, SeatGoes, SeatTurned, new_seat, seen_out, waits_in};
+
+use dt_node::Node;
+use dt_proc::Procs;
+use dt_ring::{RingIn, RingOut};
+use dt_round::Alone;
+use dt_sched::Scheduler;
+use dt_text::NoMemory;
+use std::alloc::Global;
+use std::marker::Model;
+
+/// A node with its ends of all links: what goes to a thread in a phase.
+#[derive(Drop)]
+pub struct Seat<S: Scheduler> {
+    pub(crate) node: Node<S>,
+    /// The links from the other regions, in ascending order of these.
+    pub(crate) ins: Vec<RingIn>,
+    /// The links to the other regions, in ascending order of these.
+    pub(crate) outs: Vec<RingOut>,
+    /// How many events the region had kept after each phase.
+    pub(crate) marks: Vec<usize>,
+    /// Whether its last turn failed.
+    pub(crate) failed: bool,
+}
+
+impl<S: Scheduler> Model for Seat<S> {
+    ghost use Rattle.dt_run.specs.NodesCode.{seat_code};
+    ghost use Rattle.dt_run.specs.SeatsInner.{SeatView};
+
+    ghost Value = { SeatView };
+
+    ghost coded = { seat_code };
+
+    ghost view = { λ s. record { node = s.node; ins = s.ins.items; outs = s.outs.items; marks = s.marks.items; failed = s.failed } };
+}
+
+impl<S: Scheduler + Drop> Seat<S> {
+    /// A seat for a node, before its links are made. Takes no memory.
+    pub fn new(alloc: Global, node: Node<S>) -> Self
+        ensures { result ≡ new_seat node }
+    {
+        Seat {
+            node,
+            ins: Vec::new(alloc),
+            outs: Vec::new(alloc),
+            marks: Vec::new(alloc),
+            failed: false,
+        }
+    }
+
+    /// Makes a turn, and notes whether it failed.
+    pub fn turn(&mut self, alloc: Global, procs: &Procs)
+        requires { SeatCan procs.now self.old }
+        ensures { SeatGoes procs.now self.old self.new }
+    {
+        let failed = self.make_turn(alloc, procs).is_err();
+        self.failed = failed;
+    }
+
+    /// Makes a turn, and adds a mark. It fails only for want of memory.
+    fn make_turn(&mut self, alloc: Global, procs: &Procs) -> Result<(), NoMemory>
+        requires { SeatCan procs.now self.old }
+        ensures once { TurnsOnce procs.now (flat_map waits_in self.old.ins) self.old.node self.new.node }
+        ensures ins { Pairwise SameIn self.old.ins self.new.ins }
+        ensures outs { Pairwise SameOut self.old.outs self.new.outs }
+        ensures whole { OnOk result (SeatTurned procs.now self.old self.new) }
+    {
+        self.marks.reserve(1)?;
+        self.node.turn(
+            alloc,
+            procs,
+            &Alone,
+            self.ins.as_mut_slice(),
+            self.outs.as_mut_slice(),
+        )?;
+        let kept = self.node.region().events().len();
+        self.marks.push(kept)?;
+        Ok(())
+    }
+}
