@@ -85,10 +85,10 @@ module _ {a : NodeView} (source number : ℕ) (txn : Txn) (c : CanTake (asking_p
   place_there = subst (λ n. source < n) (sym c.can.fits.site.sound.taken) source_there
 
   pub place_append : (on : Bool) (r : RegionView) → MakesAppend a.site.region source number txn (Ok on) r → HasPlaced source a (record a { site = in_region a.site r })
-  place_append on r m = has_placed_if source number txn r place_there on m
+  place_append on r m = has_placed_if a source number txn r place_there on m
 
   pub place_count : (on : Bool) (r : RegionView) → MakesAppend a.site.region source number txn (Ok on) r → IsPlacedTo source (number + 1) a (record a { site = in_region a.site r })
-  place_count on r m = placed_to_if source number txn r place_there on c.can.begins.0.asked m
+  place_count on r m = placed_to_if a source number txn r place_there on c.can.begins.0.asked m
 
 -- whether a stretch of a log is received
 

@@ -1,5 +1,5 @@
 -- Requests of a region are placed, one after another: which events that makes, and what it leaves as it was.
-use Rattle.std.proofs.Common.{◌≡◌, ◌≢◌, ◌<◌, ◌≤◌, ◌+◌, ◌-◌, ℕ, zero, suc, Bool, true, false, List, [], ◌∷◌, ◌++◌, Ok, refl, sym, ap, ap₂, subst, ◌∙◌, arith}
+use Rattle.std.proofs.Common.{◌≡◌, ◌≢◌, ◌<◌, ◌≤◌, ◌+◌, ◌-◌, ℕ, zero, suc, Bool, true, false, List, [], ◌∷◌, ◌++◌, length, Ok, refl, sym, ap, ap₂, subst, ◌∙◌, arith}
 use Rattle.std.proofs.lemmas.List.{get_or-set_same, get_or-set_other, map-append}
 use Rattle.dt_events.specs.declared.Event.{Event}
 use Rattle.dt_events.specs.declared.Event.TheVariants.{Append}
@@ -43,7 +43,7 @@ has_placed_none source a = record {
 }
 
 -- the next request was placed
-module _ {a : NodeView} (source number : ℕ) (txn : Txn) (r : RegionView) (made : MakesAppend a.site.region source number txn (Ok true) r) (there : source < length a.site.region.state.here.taken) where
+module _ (a : NodeView) (source number : ℕ) (txn : Txn) (r : RegionView) (made : MakesAppend a.site.region source number txn (Ok true) r) (there : source < length a.site.region.state.here.taken) where
   abbrev first : ℕ
   first = taken_from a.site.region.state.here source
 
@@ -66,14 +66,14 @@ module _ {a : NodeView} (source number : ℕ) (txn : Txn) (r : RegionView) (made
       }
 
 -- a request was placed, if it was the next one, and else nothing has happened
-module _ {a : NodeView} (source number : ℕ) (txn : Txn) (r : RegionView) (there : source < length a.site.region.state.here.taken) where
+module _ (a : NodeView) (source number : ℕ) (txn : Txn) (r : RegionView) (there : source < length a.site.region.state.here.taken) where
   pub has_placed_if : (on : Bool) → MakesAppend a.site.region source number txn (Ok on) r → HasPlaced source a (record a { site = in_region a.site r })
-  has_placed_if true made = has_placed_one source number txn r made there
+  has_placed_if true made = has_placed_one a source number txn r made there
   has_placed_if false made = subst (λ (x : RegionView). HasPlaced source a (record a { site = in_region a.site x })) (sym made.1) (has_placed_none source a)
 
   pub placed_to_if : (on : Bool) → number ≤ taken_from a.site.region.state.here source → MakesAppend a.site.region source number txn (Ok on) r → IsPlacedTo source (number + 1) a (record a { site = in_region a.site r })
   placed_to_if true le made =
-      let up : taken_from r.state.here source ≡ taken_from a.site.region.state.here source + 1 = taken source number txn r made there in
+      let up : taken_from r.state.here source ≡ taken_from a.site.region.state.here source + 1 = taken a source number txn r made there in
       let next : number ≡ taken_from a.site.region.state.here source = made.0 in
       omega (arith, up, next)
   placed_to_if false le made =

@@ -47,11 +47,11 @@ module _ {A : Type 0} (P : A → Type 0) where
   -- what is picked is in the list, and has P
   picked_has : (xs picked : List A) → ArePicked P xs picked → (y : A) → Has picked y → Has xs y × P y
   picked_has [] picked a y h = absurd (subst (λ l. Has l y) a h)
-  picked_has (x ∷ xs) picked (inl r) y h = go (subst (λ l. Has l y) r.2 h)
+  picked_has (x ∷ xs) picked (inl r) y h = go (picked_has xs r.0 r.3 y) (subst (λ l. Has l y) r.2 h)
     where
-      go : Has (x ∷ r.0) y → Has (x ∷ xs) y × P y
-      go (inl e) = (inl e, subst P e r.1)
-      go (inr k) = let t = picked_has xs r.0 r.3 y k in (inr t.0, t.1)
+      go : (Has r.0 y → Has xs y × P y) → Has (x ∷ r.0) y → Has (x ∷ xs) y × P y
+      go later (inl e) = (inl e, subst P e r.1)
+      go later (inr k) = let t = later k in (inr t.0, t.1)
   picked_has (x ∷ xs) picked (inr r) y h = let t = picked_has xs picked r.1 y h in (inr t.0, t.1)
 
   -- what is in the list and has P is picked
@@ -94,29 +94,30 @@ item_at (suc n) (x ∷ xs) lt = item_at n xs (omega (arith, lt))
 
 -- steps, one after another
 
-pub one_more_step : (Step : NodeView → Bytes → NodeView → Type 0) (names : List Bytes) (name : Bytes) {a b c : NodeView} → OneByOne Step names a b → Step b name c → OneByOne Step (names ++ name ∷ []) a c
-one_more_step Step [] name {a} {b} {c} same s = (c, subst (λ x. Step x name c) same s, refl)
-one_more_step Step (n ∷ names) name steps s = (steps.0, steps.1, one_more_step Step names name steps.2 s)
+one_more_step : (Step : NodeView → Bytes → NodeView → Type 0) (names : List Bytes) (name : Bytes) (a b c : NodeView) → OneByOne Step names a b → Step b name c → OneByOne Step (names ++ name ∷ []) a c
+one_more_step Step [] name a b c same s = (c, subst (λ x. Step x name c) same s, refl)
+one_more_step Step (n ∷ names) name a b c steps s = (steps.0, steps.1, one_more_step Step names name steps.0 b c steps.2 s)
 
 -- the same steps, said otherwise
-other_steps : {Step Other : NodeView → Bytes → NodeView → Type 0} → ((a : NodeView) (name : Bytes) (b : NodeView) → Step a name b → Other a name b) → (names : List Bytes) {a b : NodeView} → OneByOne Step names a b → OneByOne Other names a b
-other_steps as_other [] same = same
-other_steps as_other (name ∷ names) {a} steps = (steps.0, as_other a name steps.0 steps.1, other_steps as_other names steps.2)
+pub other_steps : {Step Other : NodeView → Bytes → NodeView → Type 0} → ((a : NodeView) (name : Bytes) (b : NodeView) → Step a name b → Other a name b) → (names : List Bytes) (a b : NodeView)
+    → OneByOne Step names a b → OneByOne Other names a b
+other_steps as_other [] a b same = same
+other_steps as_other (name ∷ names) a b steps = (steps.0, as_other a name steps.0 steps.1, other_steps as_other names steps.0 b steps.2)
 
-pub said_otherwise : {May : NodeView → Bytes → Type 0} {Step Other : NodeView → Bytes → NodeView → Type 0} {a b : NodeView} → ((c : NodeView) (name : Bytes) (d : NodeView) → Step c name d → Other c name d) → (all : AllWhoMight May Step a b)
+abbrev pub said_otherwise : {May : NodeView → Bytes → Type 0} {Step Other : NodeView → Bytes → NodeView → Type 0} {a b : NodeView} → ((c : NodeView) (name : Bytes) (d : NodeView) → Step c name d → Other c name d) → (all : AllWhoMight May Step a b)
     → AllWhoMight May Other a b
-said_otherwise as_other all = record { names = all.names; are = all.are; ascending = all.ascending; each = other_steps as_other all.names all.each }
+said_otherwise {a = a} {b = b} as_other all = record { names = all.names; are = all.are; ascending = all.ascending; each = other_steps as_other all.names a b all.each }
 
 -- what a step leaves to the others
 
 left_none : (a : NodeView) → LeavesOthers [] a a
-left_none a = record { tries = refl; same_names = refl; seats = λ other no. refl; done = refl }
+left_none a = record { tries = refl; same_names = refl; seats = λ other apart. refl; done = refl }
 
 left_more : (names : List Bytes) (name : Bytes) {a b c : NodeView} → LeavesOthers names a b → LeavesOthers (name ∷ []) b c → LeavesOthers (names ++ name ∷ []) a c
 left_more names name l m = record {
   tries = m.tries ∙ l.tries;
   same_names = m.same_names ∙ l.same_names;
-  seats = λ other no. m.seats other (λ h. no (any_append_right _ names (name ∷ []) h)) ∙ l.seats other (λ h. no (any_append_left _ names (name ∷ []) h));
+  seats = λ other apart. m.seats other (λ h. apart (any_append_right _ names (name ∷ []) h)) ∙ l.seats other (λ h. apart (any_append_left _ names (name ∷ []) h));
   done = m.done ∙ l.done;
 }
 
@@ -127,7 +128,7 @@ module _ {a b : NodeView} (change : Seat → Seat) (name : Bytes) (sessions : b.
   left_by = record {
     tries = ap (λ (s : SessionsView). s.tries) sessions ∙ same_tries (seat_of a.sessions name);
     same_names = ap (λ (s : SessionsView). map (λ p. p.0) s.seats) sessions ∙ same_keys (seat_of a.sessions name);
-    seats = λ other no. ap (λ (s : SessionsView). seat_of s other) sessions ∙ same_seat other (λ e. no (inl e)) (seat_of a.sessions name) refl;
+    seats = λ other apart. ap (λ (s : SessionsView). seat_of s other) sessions ∙ same_seat other (λ e. apart (inl e)) (seat_of a.sessions name) refl;
     done = done;
   }
     where
@@ -140,11 +141,11 @@ module _ {a b : NodeView} (change : Seat → Seat) (name : Bytes) (sessions : b.
       same_keys (Some seat) = keys-set_value (is_named name) a.sessions.seats (change seat)
 
       same_seat : (other : Bytes) → ¬ (name ≡ other) → (o : Option Seat) → seat_of a.sessions name ≡ o → seat_of (with_changed change a.sessions name o) other ≡ seat_of a.sessions other
-      same_seat other no None e = refl
-      same_seat other no (Some seat) e = seat_changed change a.sessions name seat e other ∙ go (cases_Bool (is_named name other))
+      same_seat other apart None e = refl
+      same_seat other apart (Some seat) e = seat_changed change a.sessions name seat e other ∙ go (cases_Bool (is_named name other))
         where
           go : (is_named name other ≡ true) ⊎ (is_named name other ≡ false) → cond (is_named name other) (Some (change seat)) (seat_of a.sessions other) ≡ seat_of a.sessions other
-          go (inl y) = absurd (no (same_name name other y))
+          go (inl y) = absurd (apart (same_name name other y))
           go (inr n) = rw n refl
 
 pub left_by_answer : (a : NodeView) (name : Bytes) (b : NodeView) → IsAnswering a name b → LeavesOthers (name ∷ []) a b
@@ -166,15 +167,15 @@ abbrev Stays : (NodeView → Bytes → Type 0) → Type 0
 Stays May = (names : List Bytes) (a b : NodeView) → LeavesOthers names a b → (name : Bytes) → ¬ (Has names name) → (May a name → May b name) × (May b name → May a name)
 
 answer_stays : Stays MayAnswerAt
-answer_stays names a b l name no = (
-  by_same (λ tries seat done. MaySeatEnd tries seat (last_by seat done)) (sym l.tries) (sym (l.seats name no)) (sym l.done),
-  by_same (λ tries seat done. MaySeatEnd tries seat (last_by seat done)) l.tries (l.seats name no) l.done,
+answer_stays names a b l name apart = (
+  by_same (λ tries seat done. MaySeatEnd tries seat (last_by seat done)) (sym l.tries) (sym (l.seats name apart)) (sym l.done),
+  by_same (λ tries seat done. MaySeatEnd tries seat (last_by seat done)) l.tries (l.seats name apart) l.done,
 )
 
 submit_stays : Stays MaySubmitAt
-submit_stays names a b l name no = (
-  by_same (λ tries seat done. MaySeatTry tries seat (last_by seat done)) (sym l.tries) (sym (l.seats name no)) (sym l.done),
-  by_same (λ tries seat done. MaySeatTry tries seat (last_by seat done)) l.tries (l.seats name no) l.done,
+submit_stays names a b l name apart = (
+  by_same (λ tries seat done. MaySeatTry tries seat (last_by seat done)) (sym l.tries) (sym (l.seats name apart)) (sym l.done),
+  by_same (λ tries seat done. MaySeatTry tries seat (last_by seat done)) l.tries (l.seats name apart) l.done,
 )
 
 -- the names are in order in the beginning, since they are now
@@ -210,15 +211,15 @@ module _ (May : NodeView → Bytes → Type 0) (Step : NodeView → Bytes → No
         names = h.names ++ name ∷ [];
         picked = subst (λ l. ArePicked (May a) l (h.names ++ name ∷ [])) (sym up)
             (picked_more (May a) (take place (names_of a)) h.names name h.picked ((stays h.names a b h.leaves name is_new).1 (may b name c s)));
-        each = one_more_step Step h.names name h.each s;
+        each = one_more_step Step h.names name a b c h.each s;
         leaves = left_more h.names name h.leaves (leaves b name c s);
       }
 
       stepped_not : (c : NodeView) → c ≡ b → ¬ (May b name) → HaveStepped May Step a (place + 1) c
-      stepped_not c same no = subst (HaveStepped May Step a (place + 1)) (sym same) (record {
+      stepped_not c same apart = subst (HaveStepped May Step a (place + 1)) (sym same) (record {
         names = h.names;
         picked = subst (λ l. ArePicked (May a) l h.names) (sym up)
-            (picked_same (May a) (take place (names_of a)) h.names name h.picked (λ m. no ((stays h.names a b h.leaves name is_new).0 m)));
+            (picked_same (May a) (take place (names_of a)) h.names name h.picked (λ m. apart ((stays h.names a b h.leaves name is_new).0 m)));
         each = h.each;
         leaves = h.leaves;
       })
@@ -275,20 +276,20 @@ module _ {procs : List ProcTree} where
 
 -- whether some session made a step
 
-none_changes : (Step : NodeView → Bytes → NodeView → Type 0) (names : List Bytes) {a b : NodeView} → OneByOne Step names a b → HasGoneOn a b → has_some names ≡ true
-none_changes Step [] {a} same o = let less = subst (λ (x : NodeView). HasGoneOn a x) same o in let lt = less.less in absurd (omega (arith, lt))
-none_changes Step (name ∷ names) steps o = refl
+none_changes : (Step : NodeView → Bytes → NodeView → Type 0) (names : List Bytes) (a b : NodeView) → OneByOne Step names a b → HasGoneOn a b → has_some names ≡ true
+none_changes Step [] a b same o = let less = subst (λ (x : NodeView). HasGoneOn a x) same o in let lt = less.less in absurd (omega (arith, lt))
+none_changes Step (name ∷ names) a b steps o = refl
 
 -- some session might
 pub someone : {May : NodeView → Bytes → Type 0} {Step : NodeView → Bytes → NodeView → Type 0} {a b : NodeView} → HasGoneOn a b → AllWhoMight May Step a b → (name : Bytes) × May a name
-someone {May} {Step} {a} {b} o all = go all.names (λ name h. (all.are name).0 h) (none_changes Step all.names all.each o)
+someone {May} {Step} {a} {b} o all = go all.names (λ name h. (all.are name).0 h) (none_changes Step all.names a b all.each o)
   where
     go : (names : List Bytes) → ((name : Bytes) → Has names name → May a name) → has_some names ≡ true → (name : Bytes) × May a name
     go [] are e = cc
     go (name ∷ names) are e = (name, are name (inl refl))
 
 pub some_stepped : {May : NodeView → Bytes → Type 0} {Step : NodeView → Bytes → NodeView → Type 0} {a b : NodeView} (some : Bool) → EndsAll May a some b → (all : AllWhoMight May Step a b) → has_some all.names ≡ some
-some_stepped {May} {Step} {a} {b} true o all = none_changes Step all.names all.each o
+some_stepped {May} {Step} {a} {b} true o all = none_changes Step all.names a b all.each o
 some_stepped {May} {Step} {a} {b} false o all = go all.names (λ name h. (all.are name).0 h)
   where
     go : (names : List Bytes) → ((name : Bytes) → Has names name → May a name) → has_some names ≡ false

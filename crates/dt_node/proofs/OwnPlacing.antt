@@ -96,7 +96,7 @@ placing_none a = record { moved = λ procs. made_nothing a; placed = has_placed_
 -- the next request was placed
 pub placing_one : {a : NodeView} (number : ℕ) (txn : Txn) (r : RegionView) → MakesAppend a.site.region (number_of a) number txn (Ok true) r
     → ((procs : List ProcTree) → MovesOn procs [] a (record a { site = in_region a.site r })) → number_of a < length a.site.region.state.here.taken → IsPlacingOwn a (record a { site = in_region a.site r })
-placing_one {a} number txn r made moved there = record { moved = moved; placed = has_placed_one (number_of a) number txn r made there }
+placing_one {a} number txn r made moved there = record { moved = moved; placed = has_placed_one a (number_of a) number txn r made there }
 
 -- some were placed, and then some more
 pub placing_on : {a b c : NodeView} → IsPlacingOwn a b → IsPlacingOwn b c → IsPlacingOwn a c

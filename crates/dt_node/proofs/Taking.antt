@@ -64,9 +64,9 @@ pub taken_on : {xs : List Packet} {a b c : NodeView} → HasTaken xs a b → c.t
 taken_on {xs} {a} {b} {c} t took received taken logs = subst (λ l. HasTaken l a c) (append-nil xs) (taken_more t (taken_none {a = b} {b = c} took received) taken logs)
 
 -- packets were taken, and then others
-each_more : {procs : List ProcTree} (xs ys : List Packet) {a b c : NodeView} → HasTakenEach procs xs a b → HasTakenEach procs ys b c → HasTakenEach procs (xs ++ ys) a c
-each_more {procs} [] ys {a} {b} {c} same then = subst (λ n. HasTakenEach procs ys n c) same then
-each_more (x ∷ xs) ys first then = (first.0, first.1, each_more xs ys first.2 then)
+each_more : (procs : List ProcTree) (xs ys : List Packet) (a b c : NodeView) → HasTakenEach procs xs a b → HasTakenEach procs ys b c → HasTakenEach procs (xs ++ ys) a c
+each_more procs [] ys a b c same then = subst (λ n. HasTakenEach procs ys n c) same then
+each_more procs (x ∷ xs) ys a b c first then = (first.0, first.1, each_more procs xs ys first.0 b c first.2 then)
 
 -- some packets of these were taken
 
@@ -81,7 +81,7 @@ taking_goes {a} {b} {c} {packets} {xs} left t moved taken each turns sessions pl
   is = t.is ∙ sym (append_assoc t.done xs left);
   moved = λ procs. moves_more (t.moved procs) (moved procs);
   taken = taken_more t.taken taken (moved []).gone.taken (moved []).gone.logs;
-  each = λ procs. each_more t.done xs (t.each procs) (each procs);
+  each = λ procs. each_more procs t.done xs a b c (t.each procs) (each procs);
   turns = turns ∙ t.turns;
   sessions = sessions ∙ t.sessions;
   placed = λ own. placed (t.placed own);
