@@ -33,18 +33,15 @@ use Rattle.dt_session.specs.World.{no_node, opening_node, opening_table}
 use Rattle.dt_site.proofs.Callers.{opening_sessions_stand}
 use Rattle.dt_node.specs.NodeView.{NodeView, new_items, number_of}
 use Rattle.dt_node.specs.Standing.{NodeFits}
-use Rattle.dt_node.specs.Turn.{BeginsEagerly, HasGone, HasPlacedOwn, last_at}
-use Rattle.dt_node.specs.TurnInner.{EndsAll, EndsOne, EndsSoFar, HasGoneOn, MayAnswerAt, MaySubmitAt}
-use Rattle.dt_node.specs.Beginning.{BeginsSoFar, HadOne, HasBegun, HasSubmitted, SubmitsOne, is_own, submission_events}
+use Rattle.dt_node.specs.Turn.{BeginsEagerly, HasGone, HasPlacedOwn, MayAnswerAt, MaySubmitAt, last_at}
+use Rattle.dt_node.specs.Steps.{AllWhoMight, is_own, own_to_place, placings}
+use Rattle.dt_node.specs.StepsInner.{IsAnswering, IsSubmission, StepsAt}
+use Rattle.dt_node.specs.TurnInner.{EndsAll, EndsOne, HasGoneOn}
+use Rattle.dt_node.specs.Beginning.{BeginsSoFar, HasBegun}
+use Rattle.dt_node.proofs.HavingStepped.{someone}
 use Rattle.dt_node.proofs.Moving.{gone_more, new_joined, new_none}
 use Rattle.dt_node.proofs.Seating.{finds_own, opening_seats, set_behind}
 use Rattle.dt_node.proofs.Settling.{begins_more}
-
--- a session that went on might have, among all of them
-pub had_more : (May : NodeView → Bytes → Type 0) (a b : NodeView) (place : ℕ) (some one : Bool) → EndsSoFar May a place some b → HadOne May a some → HadOne May b one → HadOne May a (some || one)
-had_more May a b place true one s h k = h
-had_more May a b place false true s h k = (k.0, subst (λ n. May n k.0) s.0 k.1)
-had_more May a b place false false s h k = tt
 
 -- what a list has from a place on
 
@@ -153,7 +150,7 @@ module _ {procs : List ProcTree} {a b c : NodeView} (place : ℕ) (ascending : H
   stays o x = subst (HasBegun cluster workload a (place + 1)) (sym o.0) x
 
   -- no session is there
-  none_there : drop place all ≡ [] → (some : Bool) → EndsOne MaySubmitAt b place some c → SubmitsOne procs b place some c → HasBegun cluster workload a (place + 1) c
+  none_there : drop place all ≡ [] → (some : Bool) → EndsOne MaySubmitAt b place some c → StepsAt (IsSubmission procs) b place some c → HasBegun cluster workload a (place + 1) c
   none_there e true o s =
       let seats : drop place b.sessions.seats ≡ [] = h.seats ∙ ap (map idle_seat) e in
       let none : slice_get (map (λ q. q.0) b.sessions.seats) place ≡ None = (none_at place (map (λ q. q.0) b.sessions.seats) (drop-map (λ q. q.0) place b.sessions.seats ∙ ap (map (λ q. q.0)) seats)).0 in
@@ -192,56 +189,62 @@ module _ {procs : List ProcTree} {a b c : NodeView} (place : ℕ) (ascending : H
     same_one name is = let both : ◌≡◌ {A = Option Bytes} (Some name) (Some s.name) = sym is ∙ named in cc
 
     -- it has no call
-    no_call : s.calls ≡ [] → (some : Bool) → EndsOne MaySubmitAt b place some c → SubmitsOne procs b place some c → HasBegun cluster workload a (place + 1) c
+    no_call : s.calls ≡ [] → (some : Bool) → EndsOne MaySubmitAt b place some c → StepsAt (IsSubmission procs) b place some c → HasBegun cluster workload a (place + 1) c
     no_call none true o x =
-        let lt : 0 < length s.calls = one_may (subst (MaySubmitAt b) (same_one x.0 x.1) x.2.next.may) in
+        let lt : 0 < length s.calls = one_may (subst (MaySubmitAt b) (same_one x.0 x.1) x.2.step.next.may) in
         let no : length s.calls ≡ 0 = ap length none in
         absurd (omega (arith, lt, no))
     no_call none false o x =
         stays o (passed_by (ap first_calls later ∙ sym (ap first_calls e ∙ ap (λ cs. with_first_call s cs ++ first_calls sessions) none)) behind)
 
     -- it submitted its first call
-    module _ (call : Ranked) (calls : List Ranked) (is : s.calls ≡ call ∷ calls) (x : HasSubmitted procs b s.name c) (o : HasGoneOn b c) where
+    module _ (call : Ranked) (calls : List Ranked) (is : s.calls ≡ call ∷ calls) (x : IsSubmission procs b s.name c) (o : HasGoneOn b c) where
       abbrev placed : ℕ
       placed = taken_from b.site.region.state.here (number_of a)
 
       abbrev home : Bool
       home = is_home cluster (number_of a) (opening_table cluster) call
 
-      number_one : x.origin.call ≡ 1
+      number_one : x.step.origin.call ≡ 1
       number_one =
-          let numbers : ◌≡◌ {A = Option (ℕ × ℕ)} (Some (x.origin.call, x.origin.attempt)) (Some (numbers_next (idle_seat s).1)) = sym x.next.numbers ∙ ap (option_map numbers_next) found in
-          let pair : ◌≡◌ {A = ℕ × ℕ} (x.origin.call, x.origin.attempt) (numbers_next (idle_seat s).1) = cc in
+          let numbers : ◌≡◌ {A = Option (ℕ × ℕ)} (Some (x.step.origin.call, x.step.origin.attempt)) (Some (numbers_next (idle_seat s).1)) = sym x.step.next.numbers ∙ ap (option_map numbers_next) found in
+          let pair : ◌≡◌ {A = ℕ × ℕ} (x.step.origin.call, x.step.origin.attempt) (numbers_next (idle_seat s).1) = cc in
           ap (λ n. n.0) pair
 
-      wanted : wanted_of b.sessions s.name x.origin.call ≡ Some call
+      wanted : wanted_of b.sessions s.name x.step.origin.call ≡ Some call
       wanted =
-          ap (option_and_then (λ (seat : Seat). slice_get seat.calls (x.origin.call - 1))) found
+          ap (option_and_then (λ (seat : Seat). slice_get seat.calls (x.step.origin.call - 1))) found
           ∙ ap (λ n. slice_get s.calls (n - 1)) number_one ∙ ap (λ l. slice_get l 0) is
 
-      ranked : ◌≡◌ {A = ℕ × Body} (x.rank, x.body) (ranked_body call)
-      ranked = let both : ◌≡◌ {A = Option (ℕ × Body)} (Some (x.rank, x.body)) (Some (ranked_body call)) = sym x.next.wanted ∙ ap (option_map ranked_body) wanted in cc
+      ranked : ◌≡◌ {A = ℕ × Body} (x.step.rank, x.step.body) (ranked_body call)
+      ranked = let both : ◌≡◌ {A = Option (ℕ × Body)} (Some (x.step.rank, x.step.body)) (Some (ranked_body call)) = sym x.step.next.wanted ∙ ap (option_map ranked_body) wanted in cc
 
-      own_is : is_own procs (number_of b) b.site.region.state.here.table x.rank x.body ≡ home
+      own_is : is_own procs (number_of b) b.site.region.state.here.table x.step.rank x.step.body ≡ home
       own_is =
-          ap (λ l. is_own l (number_of b) b.site.region.state.here.table x.rank x.body) p
-          ∙ ap (λ n. is_own cluster.procs n b.site.region.state.here.table x.rank x.body) g.number
-          ∙ ap (λ (t : Table). is_own cluster.procs (number_of a) t x.rank x.body) h.table
+          ap (λ l. is_own l (number_of b) b.site.region.state.here.table x.step.rank x.step.body) p
+          ∙ ap (λ n. is_own cluster.procs n b.site.region.state.here.table x.step.rank x.step.body) g.number
+          ∙ ap (λ (t : Table). is_own cluster.procs (number_of a) t x.step.rank x.step.body) h.table
           ∙ ap (λ (r : ℕ × Body). is_own cluster.procs (number_of a) (opening_table cluster) r.0 r.1) ranked
 
-      made : events_of (new_items b c) ≡ submission_events me s.name home placed
+      to_place : own_to_place procs b x.step.rank x.step.body ≡ cond home 1 0
+      to_place =
+          let all_placed : length (get_or b.site.region.state.here.asked (number_of b) []) ≡ taken_from b.site.region.state.here (number_of b) = h.placed in
+          let own : own_to_place procs b x.step.rank x.step.body ≡ cond (is_own procs (number_of b) b.site.region.state.here.table x.step.rank x.step.body) 1 0 = omega (arith, all_placed) in
+          own ∙ ap (λ w. cond w 1 0) own_is
+
+      made : events_of (new_items b c) ≡ Submit me s.name ∷ placings me me placed (cond home 1 0)
       made =
-          x.events h.placed
-          ∙ ap (λ w. submission_events (number_of b) s.name w (taken_from b.site.region.state.here (number_of b))) own_is
-          ∙ ap (λ n. submission_events n s.name home (taken_from b.site.region.state.here n)) g.number
+          x.step.goes.made
+          ∙ ap (λ k. Submit (number_of b) s.name ∷ placings (number_of b) (number_of b) (taken_from b.site.region.state.here (number_of b)) k) to_place
+          ∙ ap (λ n. Submit n s.name ∷ placings n n (taken_from b.site.region.state.here n) (cond home 1 0)) g.number
 
       placed_then : taken_from c.site.region.state.here me ≡ placed + cond home 1 0
       placed_then =
           subst (λ n. taken_from c.site.region.state.here n ≡ taken_from b.site.region.state.here n + cond home 1 0) g.number
-          (x.taken h.placed ∙ ap (λ w. taken_from b.site.region.state.here (number_of b) + cond w 1 0) own_is)
+          (x.taken ∙ ap (λ k. taken_from b.site.region.state.here (number_of b) + k) to_place)
 
       as_first : (w : Bool) → home ≡ w → (n now : ℕ) → now ≡ n + cond w 1 0
-          → submission_events me s.name w n ++ first sessions now ≡ first_events cluster me (opening_table cluster) ((s, call) ∷ first_calls sessions) n
+          → (Submit me s.name ∷ placings me me n (cond w 1 0)) ++ first sessions now ≡ first_events cluster me (opening_table cluster) ((s, call) ∷ first_calls sessions) n
       as_first true y n now up = rw y (ap (λ m. Submit me s.name ∷ Append me me n ∷ first sessions m) up)
       as_first false y n now up = rw y (ap (λ m. Submit me s.name ∷ first sessions m) (let same : now ≡ n = omega (arith, up) in same))
 
@@ -251,10 +254,11 @@ module _ {procs : List ProcTree} {a b c : NodeView} (place : ℕ) (ascending : H
       events_then : events_of (new_items a c) ++ first (drop (place + 1) all) (taken_from c.site.region.state.here me) ≡ first all 0
       events_then =
           let before : List Event = events_of (new_items a b) in
-          let joined : events_of (new_items a c) ≡ before ++ submission_events me s.name home placed =
+          let some : List Event = Submit me s.name ∷ placings me me placed (cond home 1 0) in
+          let joined : events_of (new_items a c) ≡ before ++ some =
           ap events_of (new_joined g k) ∙ map-append (λ y. y.event) (new_items a b) (new_items b c) ∙ ap (λ l. before ++ l) made in
           ap₂ (λ (l : List Event) (ss : List Session). l ++ first ss (taken_from c.site.region.state.here me)) joined later
-          ∙ append_assoc before (submission_events me s.name home placed) (first sessions (taken_from c.site.region.state.here me))
+          ∙ append_assoc before some (first sessions (taken_from c.site.region.state.here me))
           ∙ ap (λ l. before ++ l) (as_first home refl placed (taken_from c.site.region.state.here me) placed_then)
           ∙ ap (λ l. before ++ first_events cluster me (opening_table cluster) l placed) (sym split) ∙ h.events
 
@@ -271,20 +275,20 @@ module _ {procs : List ProcTree} {a b c : NodeView} (place : ℕ) (ascending : H
         placed = o.placed h.placed;
       }
 
-    a_call : (call : Ranked) (calls : List Ranked) → s.calls ≡ call ∷ calls → (some : Bool) → EndsOne MaySubmitAt b place some c → SubmitsOne procs b place some c → HasBegun cluster workload a (place + 1) c
-    a_call call calls is true o x = has_call call calls is (subst (λ n. HasSubmitted procs b n c) (same_one x.0 x.1) x.2) o
+    a_call : (call : Ranked) (calls : List Ranked) → s.calls ≡ call ∷ calls → (some : Bool) → EndsOne MaySubmitAt b place some c → StepsAt (IsSubmission procs) b place some c → HasBegun cluster workload a (place + 1) c
+    a_call call calls is true o x = has_call call calls is (subst (λ n. IsSubmission procs b n c) (same_one x.0 x.1) x.2) o
     a_call call calls is false o x =
         let many : length s.calls ≡ suc (length calls) = ap length is in
         absurd (o.1 s.name named (may_one (omega (arith, many))))
 
-    one_there : (some : Bool) → EndsOne MaySubmitAt b place some c → SubmitsOne procs b place some c → HasBegun cluster workload a (place + 1) c
+    one_there : (some : Bool) → EndsOne MaySubmitAt b place some c → StepsAt (IsSubmission procs) b place some c → HasBegun cluster workload a (place + 1) c
     one_there some o x = go s.calls refl
       where
         go : (calls : List Ranked) → s.calls ≡ calls → HasBegun cluster workload a (place + 1) c
         go [] is = no_call is some o x
         go (call ∷ calls) is = a_call call calls is some o x
 
-  begun_one : (some : Bool) → EndsOne MaySubmitAt b place some c → SubmitsOne procs b place some c → HasBegun cluster workload a (place + 1) c
+  begun_one : (some : Bool) → EndsOne MaySubmitAt b place some c → StepsAt (IsSubmission procs) b place some c → HasBegun cluster workload a (place + 1) c
   begun_one some o x = go (drop place all) refl
     where
       go : (left : List Session) → drop place all ≡ left → HasBegun cluster workload a (place + 1) c
@@ -292,7 +296,7 @@ module _ {procs : List ProcTree} {a b c : NodeView} (place : ℕ) (ascending : H
       go (s ∷ sessions) e = one_there s sessions e some o x
 
 pub begun_more : {procs : List ProcTree} {a b c : NodeView} (place : ℕ) (some : Bool) → HasAscendingKeys a.sessions.seats → HasGone procs [] a b → HasGone procs [] b c → BeginsSoFar procs a place b
-    → EndsOne MaySubmitAt b place some c → SubmitsOne procs b place some c → BeginsSoFar procs a (place + 1) c
+    → EndsOne MaySubmitAt b place some c → StepsAt (IsSubmission procs) b place some c → BeginsSoFar procs a (place + 1) c
 begun_more place some ascending g k h o x cluster workload p f = begun_one place ascending g k p (h cluster workload p f) some o x
 
 -- all sessions have submitted
@@ -311,10 +315,10 @@ begun_all {procs} {a} {b} place le h = record {
     no_idle (s ∷ sessions) e = cc
 
 -- the first pass: no session is answered, all submit, and what a round adds comes behind
-pub first_pass : {procs : List ProcTree} {xs ys zs : List Packet} {a b c d : NodeView} (answered : Bool) → EndsAll MayAnswerAt a answered b → HadOne MayAnswerAt a answered
+pub first_pass : {procs : List ProcTree} {xs ys zs : List Packet} {a b c d : NodeView} (answered : Bool) → EndsAll MayAnswerAt a answered b → AllWhoMight MayAnswerAt IsAnswering a b
     → HasGone procs xs a b → HasGone procs ys b c → HasGone procs zs c d → BeginsEagerly procs b c → BeginsEagerly procs a d
-first_pass {procs} {xs} {ys} {zs} {a} {b} {c} {d} answered ends had g h k e = begins_more (gone_more g h) k (go answered ends had)
+first_pass {procs} {xs} {ys} {zs} {a} {b} {c} {d} answered ends all g h k e = begins_more (gone_more g h) k (go answered ends)
   where
-    go : (some : Bool) → EndsAll MayAnswerAt a some b → HadOne MayAnswerAt a some → BeginsEagerly procs a c
-    go true o one = record { begins = λ cluster workload p f. absurd (none_answered f one.0 one.1) }
-    go false o one = subst (λ x. BeginsEagerly procs x c) o.0 e
+    go : (some : Bool) → EndsAll MayAnswerAt a some b → BeginsEagerly procs a c
+    go true o = let one = someone o all in record { begins = λ cluster workload p f. absurd (none_answered f one.0 one.1) }
+    go false o = subst (λ x. BeginsEagerly procs x c) o.0 e

@@ -1,11 +1,14 @@
 -- A request that a packet brought is placed, and entries that it brought are received: what the calls ask for, and how they end.
 use Rattle.std.proofs.Common.{◌≡◌, ◌≢◌, ◌<◌, ◌≤◌, ◌+◌, ◌-◌, ℕ, Bool, true, false, List, [], ◌∷◌, length, map}
 use Rattle.std.proofs.Common.{slice_get, Result, Ok, Err, Some, refl, sym, ap, subst, ◌∙◌, inl, arith}
+use Rattle.std.proofs.lemmas.Bool.Decides.{nat_tests}
 use Rattle.std.proofs.lemmas.List.{get_or-set_same, length-map, length-append, length-drop}
 use Rattle.dt_text.specs.declared.NoMemory.{NoMemory}
 use Rattle.dt_log.specs.declared.Taken.{Taken}
 use Rattle.dt_log.specs.declared.Taken.TheVariants.{New, Old, Gap}
 use Rattle.dt_events.specs.declared.Event.{Event}
+use Rattle.dt_events.specs.declared.Event.TheVariants.{Deliver}
+use Rattle.dt_events.specs.Stamps.{events_of}
 use Rattle.dt_sched.specs.Views.{log_at}
 use Rattle.dt_proc.specs.Tree.{ProcTree}
 use Rattle.dt_txn.specs.declared.Entry.{Entry}
@@ -22,10 +25,13 @@ use Rattle.dt_session.specs.Run.{world_after}
 use Rattle.dt_site.specs.Site.{in_region}
 use Rattle.dt_node.specs.NodeView.{NodeView, number_of}
 use Rattle.dt_node.specs.Standing.{AreTold}
+use Rattle.dt_node.specs.Steps.{receipt}
+use Rattle.dt_node.specs.StepsInner.{HasPlaced, HasReceived, IsPlacedTo}
 use Rattle.dt_node.specs.TurnInner.{CanTake, MovesOn, asking_packet, logging_packet}
 use Rattle.dt_node.proofs.Delivering.{can_receive, receive_goes}
+use Rattle.dt_node.proofs.HavingPlaced.{has_placed_if, placed_to_if}
 use Rattle.dt_node.proofs.Making.{place_moves, receive_moves}
-use Rattle.dt_node.proofs.Moving.{made_nothing}
+use Rattle.dt_node.proofs.Moving.{made_nothing, new_are, new_none}
 use Rattle.dt_node.proofs.Placing.{can_place, first_of_rest, place_goes}
 use Rattle.dt_node.proofs.Ready.{one_more}
 
@@ -75,6 +81,23 @@ module _ {a : NodeView} (source number : ℕ) (txn : Txn) (c : CanTake (asking_p
       let same : taken_from r.state.here source ≡ taken_from a.site.region.state.here source = ap (λ (x : RegionView). taken_from x.state.here source) m.1 in
       omega (arith, begins, other, same)
 
+  place_there : source < length a.site.region.state.here.taken
+  place_there = subst (λ n. source < n) (sym c.can.fits.site.sound.taken) source_there
+
+  pub place_append : (on : Bool) (r : RegionView) → MakesAppend a.site.region source number txn (Ok on) r → HasPlaced source a (record a { site = in_region a.site r })
+  place_append on r m = has_placed_if a source number txn r place_there on m
+
+  pub place_count : (on : Bool) (r : RegionView) → MakesAppend a.site.region source number txn (Ok on) r → IsPlacedTo source (number + 1) a (record a { site = in_region a.site r })
+  place_count on r m = placed_to_if a source number txn r place_there on c.can.begins.0.asked m
+
+-- whether a stretch of a log is received
+
+receipt_some : (region home has first last : ℕ) → has < last → Deliver region home first last ∷ [] ≡ receipt region home has first last
+receipt_some region home has first last h = grind (arith, nat_tests)
+
+receipt_none : (region home has first last : ℕ) → last ≤ has → [] ≡ receipt region home has first last
+receipt_none region home has first last h = grind (arith, nat_tests)
+
 module _ {a : NodeView} (source first : ℕ) (entries : List Entry) (c : CanTake (logging_packet a source first entries ∷ []) a) where
   pub log_there : source < a.site.region.state.regions
   log_there = subst (λ n. source < n) (sym c.can.fits.site.many) c.can.told.addressed.0.source
@@ -123,6 +146,22 @@ module _ {a : NodeView} (source first : ℕ) (entries : List Entry) (c : CanTake
       let same : length (log_at r.state.logs source) ≡ length (log_at a.site.region.state.logs source) = ap (λ (x : RegionView). length (log_at x.state.logs source)) m.2 in
       omega (arith, old, same)
   receive_taken Gap r m =
+      let begins : first ≤ length (log_at a.site.region.state.logs source) = c.can.begins.0.entries in
+      let gap : length (log_at a.site.region.state.logs source) < first = m.0 in
+      absurd (omega (arith, begins, gap))
+
+  pub receive_step : (taken : Taken) (r : RegionView) → MakesDelivery a.site.region source first first entries (Ok taken) r → HasReceived source first (first + length entries) a (record a { site = in_region a.site r })
+  receive_step (New n) r m = record {
+    made = ap events_of (new_are a (record a { site = in_region a.site r }) (ap (λ (x : RegionView). x.events) m.3))
+        ∙ receipt_some (number_of a) source (length (log_at a.site.region.state.logs source)) first (first + length entries) m.1;
+    heard = ap (λ (x : RegionView). x.heard) m.3;
+  }
+  receive_step Old r m = record {
+    made = ap events_of (new_none a (record a { site = in_region a.site r }) (ap (λ (x : RegionView). x.events) m.2))
+        ∙ receipt_none (number_of a) source (length (log_at a.site.region.state.logs source)) first (first + length entries) m.1;
+    heard = ap (λ (x : RegionView). x.heard) m.2;
+  }
+  receive_step Gap r m =
       let begins : first ≤ length (log_at a.site.region.state.logs source) = c.can.begins.0.entries in
       let gap : length (log_at a.site.region.state.logs source) < first = m.0 in
       absurd (omega (arith, begins, gap))

@@ -30,5 +30,7 @@ pub mod Opened
 pub mod Putting
 pub mod Seating
 pub mod OwnPlacing
+pub mod HavingPlaced
+pub mod HavingStepped
 pub mod Beginning
 pub mod Callers

@@ -29,8 +29,9 @@ use Rattle.dt_site.specs.declared.Origin.{Origin}
 use Rattle.dt_site.specs.Site.{SiteView, MakesAttempt, in_region}
 use Rattle.dt_node.specs.NodeView.{NodeView, number_of}
 use Rattle.dt_node.specs.Standing.{AreTold, NodeFits}
-use Rattle.dt_node.specs.Turn.{GoesAfter, IsBroughtBy}
-use Rattle.dt_node.specs.TurnInner.{IsNextAt, MayAnswerAt, MovesOn}
+use Rattle.dt_node.specs.Turn.{GoesAfter, IsBroughtBy, MayAnswerAt}
+use Rattle.dt_node.specs.Steps.{IsNextAt}
+use Rattle.dt_node.specs.TurnInner.{MovesOn}
 use Rattle.dt_node.proofs.Answering.{answer_goes}
 use Rattle.dt_node.proofs.Moving.{StaysBeside, made_some}
 use Rattle.dt_node.proofs.Rounding.{round_goes}

@@ -7,6 +7,7 @@ use Rattle.dt_text.specs.declared.NoMemory.{NoMemory}
 use Rattle.dt_access.specs.Clash.{Bytes}
 use Rattle.dt_access.specs.declared.TxnId.{TxnId}
 use Rattle.dt_events.specs.declared.Event.TheVariants.{Answer}
+use Rattle.dt_events.specs.Stamps.{events_of}
 use Rattle.dt_sched.specs.Views.{log_at}
 use Rattle.dt_proc.specs.Tree.{ProcTree}
 use Rattle.dt_txn.specs.declared.Body.{Body}
@@ -23,15 +24,17 @@ use Rattle.dt_site.specs.declared.Origin.{Origin}
 use Rattle.dt_site.specs.Site.{SiteView, MakesAttempt, in_region}
 use Rattle.dt_node.specs.Measure.{left_for}
 use Rattle.dt_node.specs.NodeView.{NodeView, heard_by, number_of}
-use Rattle.dt_node.specs.Turn.{HasPlacedOwn, HasTaken, last_at}
-use Rattle.dt_node.specs.TurnInner.{CanTake, HasGoneOn, IsNextAt, KnowsTheSame, MayAnswerAt, MovesOn, asking_packet, logging_packet, noted}
+use Rattle.dt_node.specs.Turn.{HasPlacedOwn, HasTaken, MayAnswerAt, last_at}
+use Rattle.dt_node.specs.Steps.{HasTakenOne, IsNextAt}
+use Rattle.dt_node.specs.StepsInner.{HasPlaced, HasReceived, IsAnswering, IsPlacedTo}
+use Rattle.dt_node.specs.TurnInner.{CanTake, HasGoneOn, KnowsTheSame, MovesOn, asking_packet, logging_packet, noted}
 use Rattle.dt_node.specs.Beginning.{IsPlacingOwn}
-use Rattle.dt_node.proofs.Moving.{made_nothing}
+use Rattle.dt_node.proofs.Moving.{made_nothing, new_are}
 use Rattle.dt_node.proofs.OwnPlacing.{placing_none, placing_one}
 use Rattle.dt_node.proofs.Owning.{may_place_own, own_ends, own_held, own_placed}
 use Rattle.dt_node.proofs.SessionsOn.{answered_moves, answered_on, answered_seats, may_still, submitted_less, submitted_moves, submitted_seats}
 use Rattle.dt_node.proofs.Submitting.{call_is_there}
-use Rattle.dt_node.proofs.Whole.{all_moved, all_taken, asked_so_far, logged_so_far, may_ask, may_log}
+use Rattle.dt_node.proofs.Whole.{all_moved, all_steps, all_taken, asked_so_far, logged_so_far, may_ask, may_log}
 
 -- the value that an equation begins with
 abbrev pub opened : {A : Type 0} {x y : A} → x ≡ y → A
@@ -62,6 +65,14 @@ module _ (a : NodeView) {name copied : Bytes} (same : copied ≡ name) {last : O
 
   pub call_on : HasGoneOn a (record a { site = in_region a.site r; sessions = s })
   call_on = answered_on a copied may r is s then_is
+
+  pub call_step : IsAnswering a name (record a { site = in_region a.site r; sessions = s })
+  call_step = subst (λ n. IsAnswering a n (record a { site = in_region a.site r; sessions = s })) same (record {
+    may = may;
+    step = λ procs. record { gone = (call_moves procs).gone; made = ap events_of (new_are a (record a { site = in_region a.site r; sessions = s }) (ap (λ (x : RegionView). x.events) is)) };
+    sessions = then_is;
+    done = ap (λ (x : RegionView). x.state.here.done) is;
+  })
 
 -- the next of the requests that the region asked of itself
 module _ {a : NodeView} (c : CanTake [] a) {me number : ℕ} {asked : List TxnId} (mine : me ≡ number_of a) (next : number ≡ taken_from a.site.region.state.here me)
@@ -141,6 +152,12 @@ module _ (p : Packet) {a : NodeView} (c : CanTake (p ∷ []) a) (r : RegionView)
         pub whole_taken : KnowsTheSame h b → KnowsTheSame b d → p.asked_at + length p.asked ≤ taken_from b.site.region.state.here p.source
             → p.log_at + length p.entries ≤ length (log_at d.site.region.state.logs p.source) → HasTaken (p ∷ []) a e
         whole_taken k l asked_all logged_all = subst (HasTaken (p ∷ []) a) (sym notes) (all_taken p a c b asks d logged (subst (λ n. KnowsTheSame n b) hears k) l asked_all logged_all)
+
+        pub whole_step : HasPlaced p.source h b → IsPlacedTo p.source (p.asked_at + length p.asked) h b → HasReceived p.source p.log_at (p.log_at + length p.entries) b d → e.sessions ≡ a.sessions
+            → (procs : List ProcTree) → HasTakenOne procs p a e
+        whole_step placed count entries sessions procs = subst (HasTakenOne procs p a) (sym notes)
+            (all_steps p a c b asks d logged (subst (λ n. HasPlaced p.source n b) hears placed) (subst (λ n. IsPlacedTo p.source (p.asked_at + length p.asked) n b) hears count) entries
+            (ap (λ (n : NodeView). n.sessions) (sym notes) ∙ sessions) procs)
 
 -- the call that a session may submit next is there
 pub next_call : {a : NodeView} → CanTake [] a → (name : Bytes) {last : Option Outcome} → last ≡ last_at a name → (call attempt : ℕ) → IsNext a.sessions name last (Some (call, attempt))

@@ -10,8 +10,7 @@ use Rattle.dt_lists.proofs.Callers.{all_map}
 use Rattle.dt_access.specs.Clash.{Bytes}
 use Rattle.dt_access.specs.Orders.{AreAscendingHomes}
 use Rattle.dt_access.specs.declared.TxnId.{TxnId}
-use Rattle.dt_events.specs.declared.Event.{Event}
-use Rattle.dt_events.specs.declared.Event.TheVariants.{Append, Submit}
+use Rattle.dt_events.specs.declared.Event.TheVariants.{Submit}
 use Rattle.dt_events.specs.Stamps.{events_of}
 use Rattle.dt_proc.specs.Tree.{ProcTree}
 use Rattle.dt_txn.specs.declared.Body.{Body}
@@ -27,9 +26,12 @@ use Rattle.dt_site.specs.declared.Origin.{Origin}
 use Rattle.dt_site.specs.Site.{SiteView, in_region}
 use Rattle.dt_node.specs.NodeView.{NodeView, new_items, number_of}
 use Rattle.dt_node.specs.Turn.{HasGone, HasPlacedOwn}
-use Rattle.dt_node.specs.TurnInner.{IsNextAt, MovesOn}
-use Rattle.dt_node.specs.Beginning.{HasSubmitted, IsPlacingOwn, MakesNext, is_own, own_placings, submission_events}
-use Rattle.dt_node.proofs.Moving.{made_nothing, moves_on, new_are, new_joined, new_none}
+use Rattle.dt_node.specs.Steps.{IsNextAt, is_own, own_to_place, placings}
+use Rattle.dt_node.specs.StepsInner.{HasPlaced, IsSubmission}
+use Rattle.dt_node.specs.TurnInner.{MovesOn}
+use Rattle.dt_node.specs.Beginning.{IsPlacingOwn, MakesNext}
+use Rattle.dt_node.proofs.HavingPlaced.{has_placed_none, has_placed_on, has_placed_one}
+use Rattle.dt_node.proofs.Moving.{gone_more, made_nothing, moves_on, new_are, new_joined}
 
 -- the homes of a transaction ascend
 
@@ -87,68 +89,26 @@ ask_one me (home ∷ homes) id asked there each =
         rest ∙ ap (λ l. length l + cond (list_any (λ other. other == me) homes) 1 0) here
         ∙ ap (λ b. length (get_or asked me []) + cond (b || list_any (λ other. other == me) homes) 1 0) (sym n)
 
--- placings, and others after them
-placings_joined : (me first n m : ℕ) → own_placings me first n ++ own_placings me (first + n) m ≡ own_placings me first (n + m)
-placings_joined me first zero m = ap₂ (own_placings me) (let e : first + 0 ≡ first = omega arith in e) (let e : m ≡ 0 + m = omega arith in e)
-placings_joined me first (suc n) m =
-    let place : first + suc n ≡ first + 1 + n = omega arith in
-    let many : suc (n + m) ≡ suc n + m = omega arith in
-    ap (λ k. Append me me first ∷ (own_placings me (first + 1) n ++ own_placings me k m)) place
-    ∙ ap (λ l. Append me me first ∷ l) (placings_joined me (first + 1) n m)
-    ∙ ap (own_placings me first) many
-
 -- nothing was placed
 pub placing_none : (a : NodeView) → IsPlacingOwn a a
-placing_none a = record {
-  moved = λ procs. made_nothing a;
-  asked = refl;
-  table = refl;
-  events = ap events_of (new_none a a refl)
-      ∙ ap (own_placings (number_of a) (taken_from a.site.region.state.here (number_of a)))
-      (let e : 0 ≡ taken_from a.site.region.state.here (number_of a) - taken_from a.site.region.state.here (number_of a) = omega arith in e);
-}
+placing_none a = record { moved = λ procs. made_nothing a; placed = has_placed_none (number_of a) a }
 
 -- the next request was placed
-module _ {a : NodeView} (number : ℕ) (txn : Txn) (r : RegionView) (made : MakesAppend a.site.region (number_of a) number txn (Ok true) r)
-    (moved : (procs : List ProcTree) → MovesOn procs [] a (record a { site = in_region a.site r })) (there : number_of a < length a.site.region.state.here.taken) where
-  pub placing_one : IsPlacingOwn a (record a { site = in_region a.site r })
-  placing_one =
-      let first : ℕ = taken_from a.site.region.state.here (number_of a) in
-      let taken : taken_from r.state.here (number_of a) ≡ first + 1 =
-      ap (λ (x : RegionView). taken_from x.state.here (number_of a)) made.1 ∙ get_or-set_same a.site.region.state.here.taken (number_of a) (first + 1) 0 there in
-      let one : 1 ≡ taken_from r.state.here (number_of a) - first = omega (arith, taken) in
-      record {
-        moved = moved;
-        asked = ap (λ (x : RegionView). x.state.here.asked) made.1;
-        table = ap (λ (x : RegionView). x.state.here.table) made.1;
-        events = ap events_of (new_are a (record a { site = in_region a.site r }) (ap (λ (x : RegionView). x.events) made.1))
-            ∙ ap (λ n. Append (number_of a) (number_of a) n ∷ []) made.0 ∙ ap (own_placings (number_of a) first) one;
-      }
+pub placing_one : {a : NodeView} (number : ℕ) (txn : Txn) (r : RegionView) → MakesAppend a.site.region (number_of a) number txn (Ok true) r
+    → ((procs : List ProcTree) → MovesOn procs [] a (record a { site = in_region a.site r })) → number_of a < length a.site.region.state.here.taken → IsPlacingOwn a (record a { site = in_region a.site r })
+placing_one {a} number txn r made moved there = record { moved = moved; placed = has_placed_one a (number_of a) number txn r made there }
 
 -- some were placed, and then some more
 pub placing_on : {a b c : NodeView} → IsPlacingOwn a b → IsPlacingOwn b c → IsPlacingOwn a c
-placing_on {a} {b} {c} g h =
-    let me : number_of b ≡ number_of a = (g.moved []).gone.number in
-    let zeroth : ℕ = taken_from a.site.region.state.here (number_of a) in
-    let first : ℕ = taken_from b.site.region.state.here (number_of a) in
-    let low : zeroth ≤ first = (g.moved []).gone.taken (number_of a) in
-    let high : first ≤ taken_from c.site.region.state.here (number_of a) = (h.moved []).gone.taken (number_of a) in
-    let then : events_of (new_items b c) ≡ own_placings (number_of a) first (taken_from c.site.region.state.here (number_of a) - first) =
-    subst (λ n. events_of (new_items b c) ≡ own_placings n (taken_from b.site.region.state.here n) (taken_from c.site.region.state.here n - taken_from b.site.region.state.here n)) me h.events in
-    let place : first ≡ zeroth + (first - zeroth) = omega (arith, low) in
-    let many : (first - zeroth) + (taken_from c.site.region.state.here (number_of a) - first) ≡ taken_from c.site.region.state.here (number_of a) - zeroth = omega (arith, low, high) in
-    record {
-      moved = λ procs. moves_on (g.moved procs) (h.moved procs);
-      asked = h.asked ∙ g.asked;
-      table = h.table ∙ g.table;
-      events = ap events_of (new_joined (g.moved []).gone (h.moved []).gone) ∙ map-append (λ x. x.event) (new_items a b) (new_items b c)
-          ∙ ap₂ (λ (xs ys : List Event). xs ++ ys) g.events (then ∙ ap (λ n. own_placings (number_of a) n (taken_from c.site.region.state.here (number_of a) - first)) place)
-          ∙ placings_joined (number_of a) zeroth (first - zeroth) (taken_from c.site.region.state.here (number_of a) - first) ∙ ap (own_placings (number_of a) zeroth) many;
-    }
+placing_on {a} {b} {c} g h = record {
+  moved = λ procs. moves_on (g.moved procs) (h.moved procs);
+  placed = has_placed_on (number_of a) (g.moved []).gone (h.moved []).gone g.placed (subst (λ n. HasPlaced n b c) (g.moved []).gone.number h.placed);
+}
 
 -- a submission, and the placing of what it asked of its own region
 module _ {procs : List ProcTree} {a b c : NodeView} (name : Bytes) {origin : Origin} {rank : ℕ} {body : Body} (t : IsNextAt a name origin rank body) (m : MakesNext procs a origin rank body b)
-    (g : HasGone procs [] a b) (k : IsPlacingOwn b c) (sessions : c.sessions ≡ b.sessions) (all : HasPlacedOwn c) (there : number_of a < length a.site.region.state.here.asked) where
+    (g : HasGone procs [] a b) (k : IsPlacingOwn b c) (sessions : c.sessions ≡ b.sessions) (all : HasPlacedOwn c) (there : number_of a < length a.site.region.state.here.asked)
+    (within : taken_from a.site.region.state.here (number_of a) ≤ length (get_or a.site.region.state.here.asked (number_of a) [])) where
   abbrev me : ℕ
   me = number_of a
 
@@ -157,6 +117,9 @@ module _ {procs : List ProcTree} {a b c : NodeView} (name : Bytes) {origin : Ori
 
   abbrev before : ℕ
   before = taken_from a.site.region.state.here (number_of a)
+
+  abbrev now : ℕ
+  now = taken_from c.site.region.state.here (number_of a)
 
   abbrev txn : Txn
   txn = txn_for procs a.site.region.state rank body
@@ -178,39 +141,38 @@ module _ {procs : List ProcTree} {a b c : NodeView} (name : Bytes) {origin : Ori
       ∙ ap (λ l. l ++ events_of (new_items b c)) first_event
 
   -- all is placed then
-  taken_all : taken_from c.site.region.state.here me ≡ length (get_or b.site.region.state.here.asked me [])
+  taken_all : now ≡ length (get_or b.site.region.state.here.asked me [])
   taken_all =
       let number : number_of c ≡ me = (k.moved procs).gone.number ∙ g.number in
-      sym (subst (λ n. length (get_or c.site.region.state.here.asked n []) ≡ taken_from c.site.region.state.here n) number all) ∙ ap (λ (l : List (List TxnId)). length (get_or l me [])) k.asked
+      sym (subst (λ n. length (get_or c.site.region.state.here.asked n []) ≡ taken_from c.site.region.state.here n) number all) ∙ ap (λ (l : List (List TxnId)). length (get_or l me [])) k.placed.asked
 
-  taken_then : HasPlacedOwn a → taken_from c.site.region.state.here me ≡ before + cond own 1 0
-  taken_then placed =
-      let now : taken_from c.site.region.state.here me ≡ length (get_or b.site.region.state.here.asked me []) = taken_all in
-      let same : length (get_or a.site.region.state.here.asked me []) ≡ before = placed in
+  taken_then : now ≡ before + own_to_place procs a rank body
+  taken_then =
+      let last : now ≡ length (get_or b.site.region.state.here.asked me []) = taken_all in
       let more : length (get_or b.site.region.state.here.asked me []) ≡ length (get_or a.site.region.state.here.asked me []) + cond own 1 0 = asked_more in
-      omega (arith, now, same, more)
+      omega (arith, last, more, within)
 
-  placings : HasPlacedOwn a → events_of (new_items b c) ≡ own_placings me before (cond own 1 0)
-  placings placed =
-      let then : taken_from c.site.region.state.here me ≡ before + cond own 1 0 = taken_then placed in
+  placed_then : events_of (new_items b c) ≡ placings me me before (own_to_place procs a rank body)
+  placed_then =
+      let then : now ≡ before + own_to_place procs a rank body = taken_then in
       let from : taken_from b.site.region.state.here me ≡ before = taken_same in
-      let many : taken_from c.site.region.state.here me - taken_from b.site.region.state.here me ≡ cond own 1 0 = omega (arith, then, from) in
-      subst (λ n. events_of (new_items b c) ≡ own_placings n (taken_from b.site.region.state.here n) (taken_from c.site.region.state.here n - taken_from b.site.region.state.here n)) g.number k.events
-      ∙ ap₂ (own_placings me) from many
+      let many : now - taken_from b.site.region.state.here me ≡ own_to_place procs a rank body = omega (arith, then, from) in
+      subst (λ n. events_of (new_items b c) ≡ placings n n (taken_from b.site.region.state.here n) (taken_from c.site.region.state.here n - taken_from b.site.region.state.here n)) g.number k.placed.events
+      ∙ ap₂ (placings me me) from many
 
-  as_said : (b : Bool) (n : ℕ) → Submit me name ∷ own_placings me n (cond b 1 0) ≡ submission_events me name b n
-  as_said true n = refl
-  as_said false n = refl
-
-  pub has_submitted : HasSubmitted procs a name c
+  pub has_submitted : IsSubmission procs a name c
   has_submitted = record {
-    origin = origin;
-    rank = rank;
-    body = body;
-    next = t;
+    step = record {
+      origin = origin;
+      rank = rank;
+      body = body;
+      next = t;
+      goes = record { gone = gone_more g (k.moved procs).gone; made = joined ∙ ap (λ l. Submit me name ∷ l) placed_then };
+      placed = all;
+    };
     id = m.0;
     sessions = sessions ∙ m.2 ∙ ap (λ n. after_wait a.sessions n m.0) t.session;
-    table = k.table ∙ ap (λ (x : SiteView). x.region.state.here.table) m.1.1;
-    events = λ placed. joined ∙ ap (λ l. Submit me name ∷ l) (placings placed) ∙ as_said own before;
     taken = taken_then;
+    table = k.placed.table ∙ ap (λ (x : SiteView). x.region.state.here.table) m.1.1;
+    done = k.placed.done ∙ ap (λ (x : SiteView). x.region.state.here.done) m.1.1;
   }

@@ -24,7 +24,8 @@ use Rattle.dt_site.proofs.Callers.{attempts_have, find_some, inv, order}
 use Rattle.dt_node.specs.NodeView.{NodeView, number_of}
 use Rattle.dt_node.specs.Standing.{NodeFits}
 use Rattle.dt_node.specs.Turn.{HasPlacedOwn}
-use Rattle.dt_node.specs.TurnInner.{CanTake, MovesOn, own_left}
+use Rattle.dt_node.specs.Steps.{own_left}
+use Rattle.dt_node.specs.TurnInner.{CanTake, MovesOn}
 use Rattle.dt_node.proofs.Going.{reached}
 use Rattle.dt_node.proofs.Making.{place_moves}
 use Rattle.dt_node.proofs.Moving.{made_nothing}

@@ -11,8 +11,8 @@ use Rattle.dt_session.specs.declared.sessions.Seat.{Seat}
 use Rattle.dt_session.specs.Sessions.{MaySeatEnd, MaySeatTry, is_named, seat_of}
 use Rattle.dt_session.proofs.Callers.{same_name}
 use Rattle.dt_node.specs.NodeView.{NodeView}
-use Rattle.dt_node.specs.Turn.{last_at}
-use Rattle.dt_node.specs.TurnInner.{EndsAll, EndsOne, EndsSoFar, HasGoneOn, MayAnswerAt, MaySubmitAt}
+use Rattle.dt_node.specs.Turn.{MayAnswerAt, MaySubmitAt, last_at}
+use Rattle.dt_node.specs.TurnInner.{EndsAll, EndsOne, EndsSoFar, HasGoneOn}
 
 -- one way and then another
 pub gone_on_more : {a b c : NodeView} → HasGoneOn a b → HasGoneOn b c → HasGoneOn a c
@@ -38,7 +38,7 @@ ends_more May a b c index false false s o = (o.0 ∙ s.0, λ place name lt found
     go place name lt found (inr n) = s.1 place name (omega (arith, lt, n)) found
 
 -- a session that a name finds stands at some place
-place_of_name : (name : Bytes) (seats : List (Bytes × Seat)) (seat : Seat) → lookup (is_named name) seats ≡ Some seat → (place : ℕ) × (place < length seats) × (slice_get (map (λ p. p.0) seats) place ≡ Some name)
+pub place_of_name : (name : Bytes) (seats : List (Bytes × Seat)) (seat : Seat) → lookup (is_named name) seats ≡ Some seat → (place : ℕ) × (place < length seats) × (slice_get (map (λ p. p.0) seats) place ≡ Some name)
 place_of_name name [] seat e = cc
 place_of_name name (x ∷ seats) seat e = go (cases_Bool (is_named name x.0)) (place_of_name name seats seat)
   where
@@ -58,14 +58,14 @@ module _ (May : NodeView → Bytes → Type 0) (found : (n : NodeView) (name : B
         let lt : p.0 < length a.sessions.seats = p.1 in s.1 p.0 name (omega (arith, lt, le)) p.2 may,
   )
 
-answer_found : (n : NodeView) (name : Bytes) → MayAnswerAt n name → (seat : Seat) × (seat_of n.sessions name ≡ Some seat)
+pub answer_found : (n : NodeView) (name : Bytes) → MayAnswerAt n name → (seat : Seat) × (seat_of n.sessions name ≡ Some seat)
 answer_found n name may = go (seat_of n.sessions name) refl may
   where
     go : (o : Option Seat) → seat_of n.sessions name ≡ o → MaySeatEnd n.sessions.tries o (last_at n name) → (seat : Seat) × (seat_of n.sessions name ≡ Some seat)
     go None e m = absurd m
     go (Some seat) e m = (seat, e)
 
-submit_found : (n : NodeView) (name : Bytes) → MaySubmitAt n name → (seat : Seat) × (seat_of n.sessions name ≡ Some seat)
+pub submit_found : (n : NodeView) (name : Bytes) → MaySubmitAt n name → (seat : Seat) × (seat_of n.sessions name ≡ Some seat)
 submit_found n name may = go (seat_of n.sessions name) refl may
   where
     go : (o : Option Seat) → seat_of n.sessions name ≡ o → MaySeatTry n.sessions.tries o (last_at n name) → (seat : Seat) × (seat_of n.sessions name ≡ Some seat)

@@ -16,7 +16,9 @@ use Rattle.dt_node.specs.NodeView.{NodeView, new_items, number_of}
 use Rattle.dt_node.specs.Packets.{IsToldOf}
 use Rattle.dt_node.specs.Standing.{AreTold}
 use Rattle.dt_node.specs.Turn.{BringsEntries, BringsRequest, HasPlacedOwn, IsBroughtBy}
+use Rattle.dt_node.specs.StepsInner.{HasPlaced, IsPlacedTo}
 use Rattle.dt_node.specs.TurnInner.{CanTake, IsPlacing, KnowsTheSame, MovesOn, asking_packet}
+use Rattle.dt_node.proofs.HavingPlaced.{has_placed_none, has_placed_on, placed_to_more}
 use Rattle.dt_node.proofs.Moving.{made_nothing}
 use Rattle.dt_node.proofs.Parting.{gone_by, moves_same}
 use Rattle.dt_node.proofs.Telling.{can_again}
@@ -128,6 +130,8 @@ module _ {a : NodeView} {source first : ℕ} {asked : List Txn} (c : CanTake (as
     next = omega arith;
     moved = λ procs. made_nothing a;
     taken = c.can.begins.0.asked;
+    append = has_placed_none source a;
+    count = let low : first ≤ taken_from a.site.region.state.here source = c.can.begins.0.asked in omega (arith, low);
     knows = record { took = refl; received = refl; turns = refl };
     sessions = refl;
     placed = λ own. own;
@@ -177,14 +181,16 @@ module _ {a : NodeView} {source first : ℕ} {asked : List Txn} (c : CanTake (as
     pub placing_breaks : {m : NodeView} → ((procs : List ProcTree) → MovesOn procs (asking_packet n source number (x ∷ []) ∷ []) n m) → (procs : List ProcTree) → MovesOn procs (asking_packet a source first asked ∷ []) a m
     placing_breaks moved procs = moves_same (p.moved procs) (as_all (moved procs))
 
-    pub placing_goes : {m : NodeView} → ((procs : List ProcTree) → MovesOn procs (asking_packet n source number (x ∷ []) ∷ []) n m) → number + 1 ≤ taken_from m.site.region.state.here source → KnowsTheSame n m
-        → m.sessions ≡ n.sessions → (HasPlacedOwn n → HasPlacedOwn m) → IsPlacing a source first asked left (number + 1) m
-    placing_goes {m} moved taken knows sessions placed = record {
+    pub placing_goes : {m : NodeView} → ((procs : List ProcTree) → MovesOn procs (asking_packet n source number (x ∷ []) ∷ []) n m) → number + 1 ≤ taken_from m.site.region.state.here source → HasPlaced source n m
+        → IsPlacedTo source (number + 1) n m → KnowsTheSame n m → m.sessions ≡ n.sessions → (HasPlacedOwn n → HasPlacedOwn m) → IsPlacing a source first asked left (number + 1) m
+    placing_goes {m} moved taken append count knows sessions placed = record {
       done = p.done ++ x ∷ [];
       is = p.is ∙ sym (append_assoc p.done (x ∷ []) left);
       next = let e = p.next in let long : length (p.done ++ x ∷ []) ≡ length p.done + 1 = length_push p.done x in omega (arith, e, long);
       moved = placing_breaks moved;
       taken = taken;
+      append = has_placed_on source (p.moved []).gone (moved []).gone p.append append;
+      count = placed_to_more source (p.moved []).gone (moved []).gone p.append append number p.count count;
       knows = record { took = knows.took ∙ p.knows.took; received = knows.received ∙ p.knows.received; turns = knows.turns ∙ p.knows.turns };
       sessions = sessions ∙ p.sessions;
       placed = λ own. placed (p.placed own);
@@ -196,3 +202,10 @@ placing_ends {a} {n} {source} {first} {number} {asked} p =
     let e = p.next in let t = p.taken in
     let all : length asked ≡ length p.done = ap length (p.is ∙ append-nil p.done) in
     omega (arith, e, t, all)
+
+pub placing_counts : {a n : NodeView} {source first number : ℕ} {asked : List Txn} → IsPlacing a source first asked [] number n → IsPlacedTo source (first + length asked) a n
+placing_counts {a} {n} {source} {first} {number} {asked} p =
+    let e = p.next in
+    let all : length asked ≡ length p.done = ap length (p.is ∙ append-nil p.done) in
+    let last : number ≡ first + length asked = omega (arith, e, all) in
+    subst (λ k. IsPlacedTo source k a n) last p.count

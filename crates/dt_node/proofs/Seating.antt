@@ -27,7 +27,7 @@ use Rattle.dt_node.specs.NodeView.{NodeView, number_of}
 use Rattle.dt_node.specs.Standing.{NodeFits}
 
 -- a name is not before itself
-not_before : (name : Bytes) → ¬ (KeyBefore name name)
+pub not_before : (name : Bytes) → ¬ (KeyBefore name name)
 not_before name h = let no : ◌≡◌ {A = Bool} true false = sym (same_key_self name) ∙ same_key_after name name h in cc
 
 -- a name is not one that stands before it

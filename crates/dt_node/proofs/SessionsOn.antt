@@ -17,8 +17,9 @@ use Rattle.dt_site.specs.declared.Origin.{Origin}
 use Rattle.dt_site.specs.Site.{SiteView, MakesAttempt, after_attempt, in_region}
 use Rattle.dt_node.specs.Measure.{left_for}
 use Rattle.dt_node.specs.NodeView.{NodeView, new_items, number_of}
-use Rattle.dt_node.specs.Turn.{HasPlacedOwn, last_at}
-use Rattle.dt_node.specs.TurnInner.{EndsOne, HasGoneOn, IsNextAt, MayAnswerAt, MaySubmitAt, MovesOn}
+use Rattle.dt_node.specs.Turn.{HasPlacedOwn, MayAnswerAt, last_at}
+use Rattle.dt_node.specs.Steps.{IsNextAt}
+use Rattle.dt_node.specs.TurnInner.{EndsOne, HasGoneOn, MovesOn}
 use Rattle.dt_node.proofs.Answering.{seats_kept}
 use Rattle.dt_node.proofs.Falling.{answer_falls, wait_falls}
 use Rattle.dt_node.proofs.Making.{answer_moves, submit_moves}

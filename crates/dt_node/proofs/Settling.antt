@@ -17,8 +17,8 @@ use Rattle.dt_session.specs.World.{World, node_at, outcome_in}
 use Rattle.dt_session.specs.Run.{world_after}
 use Rattle.dt_node.specs.NodeView.{NodeView, new_items, number_of}
 use Rattle.dt_node.specs.Standing.{NodeFits}
-use Rattle.dt_node.specs.Turn.{BeginsEagerly, GoesAfter, HasGone, HasPlacedOwn, IsSettled, IsStill, MadeNoneOrWent, last_at}
-use Rattle.dt_node.specs.TurnInner.{CanGo, MayAnswerAt, MaySubmitAt, MovesOn, PassesOnce}
+use Rattle.dt_node.specs.Turn.{BeginsEagerly, GoesAfter, HasGone, HasPlacedOwn, IsSettled, IsStill, MadeNoneOrWent, MayAnswerAt, MaySubmitAt, last_at}
+use Rattle.dt_node.specs.TurnInner.{CanGo, MovesOn, PassesOnce}
 use Rattle.dt_node.proofs.Moving.{made_none, new_joined, new_none}
 
 -- where two lists together are empty, both are
@@ -47,7 +47,7 @@ module _ {procs : List ProcTree} {n b : NodeView} (c : CanGo procs [] n) (m : Mo
 
   pub still_then : b.sessions ≡ n.sessions → ((name : Bytes) → ¬ (MayAnswerAt n name) × ¬ (MaySubmitAt n name)) → (name : Bytes) → IsStill b name
   still_then sessions none_can name = record {
-    waits = λ may. (none_can name).1 (subst₂ (λ (s : SessionsView) (o : Option Outcome). MayGo s name o) sessions (last_same sessions name) may);
+    no_submission = λ may. (none_can name).1 (subst₂ (λ (s : SessionsView) (o : Option Outcome). MayGo s name o) sessions (last_same sessions name) may);
     unanswered = λ may. (none_can name).0 (subst₂ (λ (s : SessionsView) (o : Option Outcome). MayBeAnswered s name o) sessions (last_same sessions name) may);
   }
 
@@ -111,7 +111,7 @@ pub settled_on : {procs : List ProcTree} {xs : List Packet} {a b c : NodeView} �
     → IsSettled a (record c { turns = c.turns + 1 })
 settled_on {procs} {xs} {a} {b} {c} g h placed sessions s = record {
   drained = s.drained;
-  still = λ why name. let t = s.still (later why) name in record { waits = t.waits; unanswered = t.unanswered };
+  still = λ why name. let t = s.still (later why) name in record { no_submission = t.no_submission; unanswered = t.unanswered };
   placed = λ own. s.placed (placed own);
 }
   where

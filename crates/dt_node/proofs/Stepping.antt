@@ -1,6 +1,6 @@
 -- The steps of a turn one after another: a pass over the sessions with its round, passes until the sessions stand still, and
 -- last the sending.
-use Rattle.std.proofs.Common.{◌≡◌, inl, inr, ◌<◌, ◌≤◌, ◌+◌, ◌||◌, ℕ, Bool, true, false, List, [], ◌∷◌, ◌++◌, length, get_or, refl, sym, ap, subst, ◌∙◌, arith, append-nil}
+use Rattle.std.proofs.Common.{◌≡◌, inl, inr, ◌<◌, ◌≤◌, ◌+◌, ◌||◌, ℕ, Bool, true, false, List, [], ◌∷◌, ◌++◌, length, get_or, refl, sym, ap, ap₂, subst, ◌∙◌, arith, append-nil}
 use Rattle.std.specs.Prelude.{Option, Some, None, Result, Ok, Err, OnOk, slice_index}
 use Rattle.std.proofs.lemmas.List.{length-append}
 use Rattle.dt_access.specs.Clash.{Bytes}
@@ -19,8 +19,11 @@ use Rattle.dt_node.specs.Measure.{left_for}
 use Rattle.dt_node.specs.NodeView.{NodeView, new_items, number_of}
 use Rattle.dt_node.specs.Sending.{IsReady}
 use Rattle.dt_node.specs.Standing.{NodeStands}
-use Rattle.dt_node.specs.Turn.{BeginsEagerly, HasGone, HasPlacedOwn, HasTaken, IsSettled}
-use Rattle.dt_node.specs.TurnInner.{CanGo, EndsAll, HasGoneOn, KnowsTheSame, MayAnswerAt, MaySubmitAt, MovesOn, PassesOnce, RestsWhereDrained}
+use Rattle.dt_node.specs.Turn.{BeginsEagerly, HasGone, HasPlacedOwn, HasTaken, IsSettled, MayAnswerAt, MaySubmitAt}
+use Rattle.dt_node.specs.Steps.{AllWhoMight, HasMadePasses, HasMadeRound, HasTakenEach, HasTurned, IsPass, has_some}
+use Rattle.dt_node.specs.StepsInner.{IsAnswering, IsSubmission}
+use Rattle.dt_node.specs.TurnInner.{CanGo, EndsAll, HasGoneOn, KnowsTheSame, MovesOn, PassesOnce, RestsWhereDrained}
+use Rattle.dt_node.proofs.HavingStepped.{said_otherwise, some_of_both, some_stepped}
 use Rattle.dt_node.proofs.Moving.{made_nothing, moves_more, moves_on, new_are}
 use Rattle.dt_node.proofs.Passing.{gone_on_more}
 use Rattle.dt_node.proofs.Settling.{RestsSoFar, begins_more, sent_moves, settled_on, settles}
@@ -101,6 +104,18 @@ passes {procs} a b {c} {d} false false s t m same placed rests = (
   subst (λ (x : NodeView). RestsWhereDrained x d) (t.0 ∙ s.0) rests,
 )
 
+-- the same pass by its steps
+pub pass_steps : {procs : List ProcTree} {a b c d : NodeView} (answered submitted : Bool) → EndsAll MayAnswerAt a answered b → EndsAll MaySubmitAt b submitted c → AllWhoMight MayAnswerAt IsAnswering a b
+    → AllWhoMight MaySubmitAt (IsSubmission procs) b c → HasMadeRound procs c d → IsPass procs (answered || submitted) a d
+pass_steps {procs} {a} {b} {c} {d} answered submitted s t answers submits round = record {
+  answered = b;
+  answers = said_otherwise (λ x name y k. k.step procs) answers;
+  submitted = c;
+  submits = said_otherwise (λ x name y k. k.step) submits;
+  round = round;
+  is = sym (some_of_both answers.names submits.names ∙ ap₂ (λ x y. x || y) (some_stepped answered s answers) (some_stepped submitted t submits));
+}
+
 -- the passes of a turn, as far as they have come
 pub record HasPassed (procs : List ProcTree) (before now : NodeView) : Type 0 where
   pub moved : MovesOn procs [] before now
@@ -109,6 +124,8 @@ pub record HasPassed (procs : List ProcTree) (before now : NodeView) : Type 0 wh
   -- where the next pass begins as a first turn has to, so do all passes
   pub begins : (after : NodeView) → MovesOn procs [] now after → BeginsEagerly procs now after → BeginsEagerly procs before after
   pub rests : RestsSoFar before now
+  -- what passes lead to from now on, they lead to from the beginning on
+  pub passes : (after : NodeView) → HasMadePasses procs now after → HasMadePasses procs before after
 
 -- none yet
 pub passed_none : {procs : List ProcTree} (a : NodeView) → HasPassed procs a a
@@ -118,6 +135,7 @@ passed_none a = record {
   placed = λ own. own;
   begins = λ after later eager. eager;
   rests = inl refl;
+  passes = λ after p. p;
 }
 
 pub knows_more : {a b c : NodeView} → KnowsTheSame a b → KnowsTheSame b c → KnowsTheSame a c
@@ -125,18 +143,22 @@ knows_more k l = record { took = l.took ∙ k.took; received = l.received ∙ k.
 
 -- one pass more, after which some session went on
 pub passed_more : {procs : List ProcTree} {a b c : NodeView} → HasPassed procs a b → MovesOn procs [] b c → KnowsTheSame b c → PassesOnce b true c → BeginsEagerly procs b c
-    → IsDrained c.site.region.state.logs c.site.region.state.here → HasPassed procs a c
-passed_more {procs} {a} {b} {c} p m k pass eager drained = record {
+    → IsDrained c.site.region.state.logs c.site.region.state.here → IsPass procs true b c → HasPassed procs a c
+passed_more {procs} {a} {b} {c} p m k pass eager drained step = record {
   moved = moves_more p.moved m;
   knows = knows_more p.knows k;
   placed = λ own. pass.placed (p.placed own);
   begins = λ after later first. p.begins after (moves_more m later) (begins_more m.gone later.gone eager);
   rests = inr drained;
+  passes = λ after l. p.passes after (record { between = c ∷ l.between; each = (step, l.each) });
 }
 
 -- the last one
 pub passed_last : {procs : List ProcTree} {a b c : NodeView} → CanGo procs [] a → HasPassed procs a b → MovesOn procs [] b c → PassesOnce b false c → IsDrained c.site.region.state.logs c.site.region.state.here → IsSettled a c
 passed_last c p m pass drained = settles (can_on [] [] c p.moved) p.moved m p.placed p.rests pass drained
+
+pub passes_end : {procs : List ProcTree} {a b c : NodeView} → HasPassed procs a b → IsPass procs false b c → HasMadePasses procs a c
+passes_end {procs} {a} {b} {c} p step = p.passes c (record { between = []; each = step })
 
 -- what a turn asks of its parts
 
@@ -164,6 +186,10 @@ module _ {procs : List ProcTree} {xs : List Packet} {a b c : NodeView} (received
 
   pub turn_settles : (HasPlacedOwn a → HasPlacedOwn b) → b.sessions ≡ a.sessions → IsSettled b c → IsSettled a (record c { turns = c.turns + 1 })
   turn_settles placed sessions s = settled_on received.gone went.gone placed sessions s
+
+-- its steps
+pub turn_steps : {procs : List ProcTree} {xs : List Packet} {a b c d : NodeView} → HasTakenEach procs xs a b → HasMadePasses procs b c → d ≡ record c { turns = c.turns + 1 } → HasTurned procs xs a d
+turn_steps {procs} {xs} {a} {b} {c} {d} takes passes sends = record { received = b; takes = takes; rested = c; passes = passes; sends = sends }
 
 -- the first turn
 pub turn_begins : {procs : List ProcTree} {a b c : NodeView} → b ≡ a → MovesOn procs [] b c → BeginsEagerly procs b c → BeginsEagerly procs a (record c { turns = c.turns + 1 })

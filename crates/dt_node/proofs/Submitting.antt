@@ -28,7 +28,7 @@ use Rattle.dt_site.proofs.Callers.{many_here, numbers_are, order, origin_for, pl
 use Rattle.dt_node.specs.NodeView.{NodeView, number_of}
 use Rattle.dt_node.specs.Standing.{NodeFits}
 use Rattle.dt_node.specs.Turn.{GoesAfter, last_at}
-use Rattle.dt_node.specs.TurnInner.{IsNextAt}
+use Rattle.dt_node.specs.Steps.{IsNextAt}
 use Rattle.dt_node.proofs.Answering.{go_submit, seats_kept}
 use Rattle.dt_node.proofs.Going.{one_goes, reached}
 

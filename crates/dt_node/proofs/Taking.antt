@@ -1,5 +1,5 @@
 -- Packets are taken one after another: what was taken of the first ones stays, and of what they tell the greatest is known.
-use Rattle.std.proofs.Common.{◌≡◌, ◌<◌, ◌≤◌, ℕ, List, [], ◌++◌, length, map, get_or, eqb, refl, sym, ap, subst, ◌∙◌, append-nil, append_assoc, arith}
+use Rattle.std.proofs.Common.{◌≡◌, ◌<◌, ◌≤◌, ℕ, List, [], ◌∷◌, ◌++◌, length, map, get_or, eqb, refl, sym, ap, subst, ◌∙◌, append-nil, append_assoc, arith}
 use Rattle.std.proofs.lemmas.List.{map-append}
 use Rattle.std.proofs.lemmas.List.Elements.{filter-append}
 use Rattle.dt_lists.proofs.Callers.{all_append, all_map}
@@ -9,6 +9,7 @@ use Rattle.dt_txn.specs.Replica.{taken_from}
 use Rattle.dt_packet.specs.declared.packet.Packet.{Packet}
 use Rattle.dt_node.specs.NodeView.{NodeView}
 use Rattle.dt_node.specs.Turn.{HasHeard, HasPlacedOwn, HasTaken, IsTaken, greatest, those_from}
+use Rattle.dt_node.specs.Steps.{HasTakenEach}
 use Rattle.dt_node.specs.TurnInner.{IsTaking, MovesOn}
 use Rattle.dt_node.proofs.Greatest.{greatest_append}
 use Rattle.dt_node.proofs.Moving.{made_nothing, moves_by_more, moves_more}
@@ -62,26 +63,38 @@ pub taken_on : {xs : List Packet} {a b c : NodeView} → HasTaken xs a b → c.t
     → ((home : ℕ) → length (log_at b.site.region.state.logs home) ≤ length (log_at c.site.region.state.logs home)) → HasTaken xs a c
 taken_on {xs} {a} {b} {c} t took received taken logs = subst (λ l. HasTaken l a c) (append-nil xs) (taken_more t (taken_none {a = b} {b = c} took received) taken logs)
 
+-- packets were taken, and then others
+each_more : (procs : List ProcTree) (xs ys : List Packet) (a b c : NodeView) → HasTakenEach procs xs a b → HasTakenEach procs ys b c → HasTakenEach procs (xs ++ ys) a c
+each_more procs [] ys a b c same then = subst (λ n. HasTakenEach procs ys n c) same then
+each_more procs (x ∷ xs) ys a b c first then = (first.0, first.1, each_more procs xs ys first.0 b c first.2 then)
+
 -- some packets of these were taken
 
 pub taking_starts : (packets : List Packet) (a : NodeView) → IsTaking a packets packets a
-taking_starts packets a = record { done = []; is = refl; moved = λ procs. made_nothing a; taken = taken_none {a = a} {b = a} refl refl; turns = refl; sessions = refl; placed = λ own. own }
+taking_starts packets a = record { done = []; is = refl; moved = λ procs. made_nothing a; taken = taken_none {a = a} {b = a} refl refl; each = λ procs. refl; turns = refl; sessions = refl; placed = λ own. own }
 
-pub taking_goes : {a b c : NodeView} {packets xs : List Packet} (left : List Packet) → IsTaking a packets (xs ++ left) b → ((procs : List ProcTree) → MovesOn procs xs b c) → HasTaken xs b c → c.turns ≡ b.turns
+pub taking_goes : {a b c : NodeView} {packets xs : List Packet} (left : List Packet) → IsTaking a packets (xs ++ left) b → ((procs : List ProcTree) → MovesOn procs xs b c) → HasTaken xs b c
+    → ((procs : List ProcTree) → HasTakenEach procs xs b c) → c.turns ≡ b.turns
     → c.sessions ≡ b.sessions → (HasPlacedOwn b → HasPlacedOwn c) → IsTaking a packets left c
-taking_goes {a} {b} {c} {packets} {xs} left t moved taken turns sessions placed = record {
+taking_goes {a} {b} {c} {packets} {xs} left t moved taken each turns sessions placed = record {
   done = t.done ++ xs;
   is = t.is ∙ sym (append_assoc t.done xs left);
   moved = λ procs. moves_more (t.moved procs) (moved procs);
   taken = taken_more t.taken taken (moved []).gone.taken (moved []).gone.logs;
+  each = λ procs. each_more procs t.done xs a b c (t.each procs) (each procs);
   turns = turns ∙ t.turns;
   sessions = sessions ∙ t.sessions;
   placed = λ own. placed (t.placed own);
 }
 
-pub taking_ends : {a b : NodeView} {packets : List Packet} → IsTaking a packets [] b → ((procs : List ProcTree) → MovesOn procs packets a b) × HasTaken packets a b
+pub taking_ends : {a b : NodeView} {packets : List Packet} → IsTaking a packets [] b
+    → ((procs : List ProcTree) → MovesOn procs packets a b) × HasTaken packets a b × ((procs : List ProcTree) → HasTakenEach procs packets a b)
 taking_ends {a} {b} {packets} t =
-    let all : t.done ≡ packets = sym (t.is ∙ append-nil t.done) in (λ procs. subst (λ l. MovesOn procs l a b) all (t.moved procs), subst (λ l. HasTaken l a b) all t.taken)
+    let all : t.done ≡ packets = sym (t.is ∙ append-nil t.done) in (
+      λ procs. subst (λ l. MovesOn procs l a b) all (t.moved procs),
+      subst (λ l. HasTaken l a b) all t.taken,
+      λ procs. subst (λ l. HasTakenEach procs l a b) all (t.each procs),
+    )
 
 -- where the taking broke off, what was made is still by these packets
 pub taking_breaks : {a b c : NodeView} {packets xs : List Packet} (left : List Packet) → IsTaking a packets (xs ++ left) b → ((procs : List ProcTree) → MovesOn procs xs b c) → (procs : List ProcTree) → MovesOn procs packets a c

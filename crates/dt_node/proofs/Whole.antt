@@ -1,14 +1,18 @@
 -- A whole packet: its stamp is heard, its requests are placed, its entries received, and what it tells of its source is noted.
-use Rattle.std.proofs.Common.{◌≡◌, ◌<◌, ◌≤◌, ◌+◌, List, [], ◌∷◌, length, max, get_or, set, sym, ap, subst, ◌∙◌, arith}
-use Rattle.std.proofs.lemmas.List.{length-set}
+use Rattle.std.proofs.Common.{◌≡◌, ◌<◌, ◌≤◌, ◌+◌, ◌-◌, ℕ, List, [], ◌∷◌, ◌++◌, length, max, get_or, set, sym, ap, ap₂, subst, ◌∙◌, arith}
+use Rattle.std.proofs.lemmas.List.{length-set, map-append}
+use Rattle.dt_events.specs.Stamps.{events_of}
 use Rattle.dt_sched.specs.Views.{log_at}
 use Rattle.dt_proc.specs.Tree.{ProcTree}
 use Rattle.dt_txn.specs.Replica.{taken_from}
 use Rattle.dt_region.specs.Region.{latest_stamp}
 use Rattle.dt_packet.specs.declared.packet.Packet.{Packet}
-use Rattle.dt_node.specs.NodeView.{NodeView, heard_by, number_of}
+use Rattle.dt_node.specs.NodeView.{NodeView, heard_by, new_items, number_of}
 use Rattle.dt_node.specs.Turn.{HasTaken}
+use Rattle.dt_node.specs.Steps.{HasTakenOne, placings, receipt}
+use Rattle.dt_node.specs.StepsInner.{HasPlaced, HasReceived, IsPlacedTo}
 use Rattle.dt_node.specs.TurnInner.{CanTake, KnowsTheSame, MovesOn, asking_packet, logging_packet, noted}
+use Rattle.dt_node.proofs.Moving.{new_joined}
 use Rattle.dt_node.proofs.Noting.{heard_moves, noted_heard, noted_moves}
 use Rattle.dt_node.proofs.Parting.{can_ask, can_log, moves_by_asking, moves_by_logging, moves_same}
 use Rattle.dt_node.proofs.Telling.{can_again}
@@ -75,3 +79,30 @@ module _ (p : Packet) (a : NodeView) (c : CanTake (p ∷ []) a) where
             many_received = length-set d.received p.source (max (get_or d.received p.source 0) p.received) ∙ ap length received;
             heard = noted_heard p a (noted d p.source p.took p.received) (ap (λ l. set l p.source (max (get_or l p.source 0) p.took)) took) (ap (λ l. set l p.source (max (get_or l p.source 0) p.received)) received);
           }
+
+      -- and which events that makes
+      module _ (placed : HasPlaced p.source hearing b) (count : IsPlacedTo p.source (p.asked_at + length p.asked) hearing b) (entries : HasReceived p.source p.log_at (p.log_at + length p.entries) b d) where
+        abbrev many : ℕ
+        many = p.asked_at + length p.asked - taken_from a.site.region.state.here p.source
+
+        requests_made : events_of (new_items hearing b) ≡ placings (number_of a) p.source (taken_from a.site.region.state.here p.source) many
+        requests_made =
+            let to : taken_from b.site.region.state.here p.source ≡ taken_from a.site.region.state.here p.source + many = count in
+            let so_many : taken_from b.site.region.state.here p.source - taken_from a.site.region.state.here p.source ≡ many = omega (arith, to) in
+            placed.events ∙ ap (placings (number_of a) p.source (taken_from a.site.region.state.here p.source)) so_many
+
+        entries_made : events_of (new_items b d) ≡ receipt (number_of a) p.source (length (log_at a.site.region.state.logs p.source)) p.log_at (p.log_at + length p.entries)
+        entries_made =
+            entries.made
+            ∙ ap (λ n. receipt n p.source (length (log_at b.site.region.state.logs p.source)) p.log_at (p.log_at + length p.entries)) (asked []).gone.number
+            ∙ ap (λ l. receipt (number_of a) p.source (length l) p.log_at (p.log_at + length p.entries)) (placed.logs p.source c.can.told.addressed.0.other)
+
+        pub all_steps : d.sessions ≡ a.sessions → (procs : List ProcTree) → HasTakenOne procs p a (noted d p.source p.took p.received)
+        all_steps sessions procs = record {
+          goes = record {
+            gone = (all_moved procs).gone;
+            made = ap events_of (new_joined (asked []).gone (logged []).gone) ∙ map-append (λ x. x.event) (new_items hearing b) (new_items b d) ∙ ap₂ (λ xs ys. xs ++ ys) requests_made entries_made;
+          };
+          heard = entries.heard ∙ placed.heard;
+          sessions = sessions;
+        }

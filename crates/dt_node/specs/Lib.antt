@@ -2,8 +2,10 @@ pub mod NodeView
 pub mod Packets
 pub mod Standing
 pub mod Turn
+pub mod Steps
 pub mod Sending
 pub mod Measure
+pub mod StepsInner
 pub mod TurnInner
 pub mod Beginning
 pub mod NodeCode

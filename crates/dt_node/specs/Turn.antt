@@ -3,7 +3,7 @@
 -- of every world in which the node stood, and it stands in the world after them (`GoesAfter`); what it used of other regions came
 -- by packets (`AreBrought`); its stamps rise (`StampsRise`); it took all of every packet, and knows the greatest counts that
 -- it was told (`HasTaken`); in the end nothing is left to do by itself (`IsSettled`); and its first turn begins with the first
--- calls of its sessions (`BeginsEagerly`). Read next: `Sending`, for the packets that it sends.
+-- calls of its sessions (`BeginsEagerly`). Read next: `Steps`, for the order in which all this is done.
 use Rattle.std.specs.Prelude.{◌≡◌, ◌≢◌, ◌<◌, ◌≤◌, ◌+◌, ◌==◌, ◌⊎◌, ℕ, List, [], ◌∷◌, ◌++◌, length, map, filter, max, get_or, Option, option_and_then}
 use Rattle.dt_lists.specs.Lists.{AllIn, AnyIn, EachThen, IsFront}
 use Rattle.dt_access.specs.Clash.{Bytes}
@@ -115,10 +115,18 @@ pub record HasTaken (packets : List Packet) (before after : NodeView) : Type 0 w
 abbrev pub last_at : NodeView → Bytes → Option Outcome
 last_at n name = option_and_then (outcome_of n.site.region.state) (waits_of n.sessions name)
 
+-- a session of the node may be answered
+abbrev pub MayAnswerAt : NodeView → Bytes → Type 0
+MayAnswerAt n name = MayBeAnswered n.sessions name (last_at n name)
+
+-- a session of the node may submit an attempt
+abbrev pub MaySubmitAt : NodeView → Bytes → Type 0
+MaySubmitAt n name = MayGo n.sessions name (last_at n name)
+
 -- a session can't go on: it may neither submit an attempt nor be answered
 pub record IsStill (n : NodeView) (name : Bytes) : Type 0 where
-  pub waits : ¬ (MayGo n.sessions name (last_at n name))
-  pub unanswered : ¬ (MayBeAnswered n.sessions name (last_at n name))
+  pub no_submission : ¬ (MaySubmitAt n name)
+  pub unanswered : ¬ (MayAnswerAt n name)
 
 -- all that a node asked of its own region is placed
 abbrev pub HasPlacedOwn : NodeView → Type 0

@@ -1,7 +1,7 @@
 -- Only proofs need this file, and the private calls of a turn. A turn makes its way in many small calls, and of each of them
 -- the same is said: what it makes of the node (`MovesOn`), and what has to be so before it (`CanGo`). Read `Turn` for what a
 -- whole turn makes.
-use Rattle.std.specs.Prelude.{◌≡◌, ◌<◌, ◌≤◌, ◌+◌, ◌-◌, ◌^◌, ℕ, List, [], ◌∷◌, ◌++◌, length, get_or, map, max, set, slice_get, Bool, true, false, Option, Some, None, option_map}
+use Rattle.std.specs.Prelude.{◌≡◌, ◌<◌, ◌≤◌, ◌+◌, ◌-◌, ◌^◌, ℕ, List, [], ◌∷◌, ◌++◌, length, get_or, map, max, set, slice_get, Bool, true, false, Option, Some, None}
 use Rattle.dt_lists.specs.Lists.{AllIn}
 use Rattle.dt_access.specs.Clash.{Bytes}
 use Rattle.dt_events.specs.declared.Stamped.{Stamped}
@@ -16,13 +16,14 @@ use Rattle.dt_region.specs.Region.{RegionView, latest_stamp}
 use Rattle.dt_packet.specs.declared.packet.Packet.{Packet}
 use Rattle.dt_cluster.specs.declared.Cluster.{Cluster}
 use Rattle.dt_workload.specs.declared.Workload.{Workload}
-use Rattle.dt_session.specs.Step.{ranked_body}
-use Rattle.dt_session.specs.Sessions.{SessionsView, MayBeAnswered, MayGo, numbers_next, seat_of, wanted_of}
+use Rattle.dt_session.specs.Sessions.{SessionsView}
 use Rattle.dt_site.specs.declared.Origin.{Origin}
 use Rattle.dt_node.specs.Measure.{left_for}
 use Rattle.dt_node.specs.NodeView.{NodeView, new_items, number_of}
 use Rattle.dt_node.specs.Standing.{AreTold, NodeFits}
-use Rattle.dt_node.specs.Turn.{AreBrought, HasGone, HasPlacedOwn, HasTaken, StampsRise, last_at}
+use Rattle.dt_node.specs.Turn.{AreBrought, HasGone, HasPlacedOwn, HasTaken, MayAnswerAt, MaySubmitAt, StampsRise}
+use Rattle.dt_node.specs.Steps.{HasTakenEach, IsNextAt, own_left}
+use Rattle.dt_node.specs.StepsInner.{HasPlaced, IsPlacedTo}
 
 -- what a call of a turn makes of the node; these are the packets that it has used
 pub record MovesOn (procs : List ProcTree) (packets : List Packet) (before after : NodeView) : Type 0 where
@@ -104,6 +105,7 @@ pub record IsTaking (before : NodeView) (packets left : List Packet) (now : Node
   pub is : packets ≡ done ++ left
   pub moved : (procs : List ProcTree) → MovesOn procs done before now
   pub taken : HasTaken done before now
+  pub each : (procs : List ProcTree) → HasTakenEach procs done before now
   pub turns : now.turns ≡ before.turns
   pub sessions : now.sessions ≡ before.sessions
   pub placed : HasPlacedOwn before → HasPlacedOwn now
@@ -115,20 +117,15 @@ pub record IsPlacing (before : NodeView) (source first : ℕ) (asked left : List
   pub next : number ≡ first + length done
   pub moved : (procs : List ProcTree) → MovesOn procs (asking_packet before source first asked ∷ []) before now
   pub taken : number ≤ taken_from now.site.region.state.here source
+  pub append : HasPlaced source before now
+  pub count : IsPlacedTo source number before now
   pub knows : KnowsTheSame before now
   pub sessions : now.sessions ≡ before.sessions
   pub placed : HasPlacedOwn before → HasPlacedOwn now
 
--- what a session submits next, at this node: the next try of its next call, with the rank of that
-pub record IsNextAt (n : NodeView) (name : Bytes) (origin : Origin) (rank : ℕ) (body : Body) : Type 0 where
-  pub may : MayGo n.sessions name (last_at n name)
-  pub session : origin.session ≡ name
-  pub numbers : option_map numbers_next (seat_of n.sessions name) ≡ Some (origin.call, origin.attempt)
-  pub wanted : option_map ranked_body (wanted_of n.sessions name origin.call) ≡ Some (rank, body)
-
 -- what the session may submit next; none exactly where it may submit nothing
 abbrev pub IsNextOfNode : NodeView → Bytes → Option (Origin × ℕ × Body) → Type 0
-IsNextOfNode n name None = ¬ (MayGo n.sessions name (last_at n name))
+IsNextOfNode n name None = ¬ (MaySubmitAt n name)
 IsNextOfNode n name (Some (origin, rank, body)) = IsNextAt n name origin rank body
 
 -- a session went on, so that less is left for all of them, and some event was made; and the region's own requests are placed,
@@ -154,13 +151,6 @@ abbrev pub EndsAll : (NodeView → Bytes → Type 0) → NodeView → Bool → N
 EndsAll May before true after = HasGoneOn before after
 EndsAll May before false after = (after ≡ before) × ((name : Bytes) → ¬ (May before name))
 
--- a session of the node may be answered, or may submit
-abbrev pub MayAnswerAt : NodeView → Bytes → Type 0
-MayAnswerAt n name = MayBeAnswered n.sessions name (last_at n name)
-
-abbrev pub MaySubmitAt : NodeView → Bytes → Type 0
-MaySubmitAt n name = MayGo n.sessions name (last_at n name)
-
 -- where nothing is left to insert, to resolve or to execute, no event was made
 abbrev pub RestsWhereDrained : NodeView → NodeView → Type 0
 RestsWhereDrained before after = IsDrained before.site.region.state.logs before.site.region.state.here → after.site.region.events ≡ before.site.region.events
@@ -173,10 +163,6 @@ PassesOnce before false after =
     (after.sessions ≡ before.sessions)
     × ((name : Bytes) → ¬ (MayAnswerAt before name) × ¬ (MaySubmitAt before name))
     × (HasPlacedOwn before → HasPlacedOwn after) × RestsWhereDrained before after
-
--- how many of the requests that a node asked of its own region are not placed
-abbrev pub own_left : NodeView → ℕ
-own_left n = length (get_or n.site.region.state.here.asked (number_of n) []) - taken_from n.site.region.state.here (number_of n)
 
 -- how the placing of the next such request ends: it was placed, or all are
 abbrev pub EndsPlacing : NodeView → Bool → NodeView → Type 0

@@ -4,9 +4,11 @@ ghost use Rattle.dt_proc.specs.Tree.{ProcTree};
 ghost use Rattle.dt_region.specs.Region.{outcome_of};
 ghost use Rattle.dt_session.specs.Sessions.{waits_of};
 ghost use Rattle.dt_node.specs.Measure.{left_for};
-ghost use Rattle.dt_node.specs.Beginning.{HadOne, IsPlacingOwn, MakesNext, SubmitsOne};
-ghost use Rattle.dt_node.specs.Turn.{BeginsEagerly, HasPlacedOwn};
-ghost use Rattle.dt_node.specs.TurnInner.{CanGo, CanTake, EndsAll, EndsOne, EndsPlacing, IsNextAt, IsNextOfNode, KnowsTheSame, MayAnswerAt, MaySubmitAt, MovesOn};
+ghost use Rattle.dt_node.specs.Beginning.{IsPlacingOwn, MakesNext};
+ghost use Rattle.dt_node.specs.Steps.{AllWhoMight, IsNextAt};
+ghost use Rattle.dt_node.specs.StepsInner.{IsAnswering, IsSubmission, StepsAt};
+ghost use Rattle.dt_node.specs.Turn.{BeginsEagerly, HasPlacedOwn, MayAnswerAt, MaySubmitAt};
+ghost use Rattle.dt_node.specs.TurnInner.{CanGo, CanTake, EndsAll, EndsOne, EndsPlacing, IsNextOfNode, KnowsTheSame, MovesOn};
 
 use crate::node::Node;
 use dt_proc::Procs;
@@ -26,7 +28,7 @@ impl<S: Scheduler + Drop> Node<S> {
         ensures knows { KnowsTheSame self.old self.new }
         ensures seats { length self.new.sessions.seats ≡ length self.old.sessions.seats }
         ensures ends { IfOk result (λ some. EndsAll MayAnswerAt self.old some self.new) }
-        ensures one { IfOk result (HadOne MayAnswerAt self.old) }
+        ensures all { OnOk result (AllWhoMight MayAnswerAt IsAnswering self.old self.new) }
     {
         let mut some = false;
         let mut index = 0;
@@ -45,7 +47,7 @@ impl<S: Scheduler + Drop> Node<S> {
         ensures knows { KnowsTheSame self.old self.new }
         ensures seats { length self.new.sessions.seats ≡ length self.old.sessions.seats }
         ensures ends { IfOk result (λ some. EndsOne MayAnswerAt self.old index some self.new) }
-        ensures one { IfOk result (HadOne MayAnswerAt self.old) }
+        ensures one { IfOk result (λ some. StepsAt IsAnswering self.old index some self.new) }
     {
         let Some(name) = self.sessions.name(index) else {
             return Ok(false);
@@ -69,6 +71,7 @@ impl<S: Scheduler + Drop> Node<S> {
         ensures knows { KnowsTheSame self.old self.new }
         ensures seats { length self.new.sessions.seats ≡ length self.old.sessions.seats }
         ensures ends { IfOk result (λ some. EndsAll MaySubmitAt self.old some self.new) }
+        ensures all { OnOk result (AllWhoMight MaySubmitAt (IsSubmission procs.now) self.old self.new) }
         ensures begins { OnOk result (BeginsEagerly procs.now self.old self.new) }
     {
         // Asks for a name, so that the proof has the order of names that the type keeps.
@@ -90,7 +93,7 @@ impl<S: Scheduler + Drop> Node<S> {
         ensures knows { KnowsTheSame self.old self.new }
         ensures seats { length self.new.sessions.seats ≡ length self.old.sessions.seats }
         ensures ends { IfOk result (λ some. EndsOne MaySubmitAt self.old index some self.new) }
-        ensures one { IfOk result (λ some. SubmitsOne procs.now self.old index some self.new) }
+        ensures one { IfOk result (λ some. StepsAt (IsSubmission procs.now) self.old index some self.new) }
     {
         let Some(name) = self.sessions.name(index) else {
             return Ok(false);

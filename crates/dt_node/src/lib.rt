@@ -19,7 +19,8 @@
 //! knows none of these worlds, and whoever holds all nodes knows one. After `NoMemory` too, what a node kept goes on from what
 //! there was.
 //!
-//! Read next: `specs/NodeView`, `specs/Packets`, `specs/Standing`, `specs/Turn`, `specs/Sending`; then `node.rt`, the turn.
+//! Read next: `specs/NodeView`, `specs/Packets`, `specs/Standing`, `specs/Turn`, `specs/Steps`, `specs/Sending`; then `node.rt`,
+//! the turn.
 #![tactic(auto)]
 
 mod asking;

@@ -1,11 +1,13 @@
 ghost use Rattle.std.specs.Prelude.{◌≡◌, ◌<◌, ◌≤◌, ◌+◌, ◌^◌, List, [], flat_map, length, map, replicate, IfOk, OnOk};
 ghost use Rattle.dt_lists.specs.Lists.{AllIn, Pairwise};
 ghost use Rattle.dt_txn.specs.Replica.{IsDrained};
+ghost use Rattle.dt_round.specs.Rounds.{Continues};
 ghost use Rattle.dt_cluster.specs.Valid.{IsValidCluster};
 ghost use Rattle.dt_workload.specs.Valid.{IsValidWorkload};
 ghost use Rattle.dt_node.specs.NodeView.{heard_by, new_items, opening_node_of};
 ghost use Rattle.dt_node.specs.Sending.{HasSent};
 ghost use Rattle.dt_node.specs.Standing.{NodeStands};
+ghost use Rattle.dt_node.specs.Steps.{HasMadePasses, HasTurned, IsPass};
 ghost use Rattle.dt_node.specs.Turn.{AreBrought, BeginsEagerly, HasGone, HasTaken, IsSettled, StampsRise};
 ghost use Rattle.dt_node.specs.TurnInner.{CanGo, KnowsTheSame, MovesOn, PassesOnce, RestsWhereDrained};
 
@@ -131,6 +133,7 @@ impl<S: Scheduler + Drop> Node<S> {
         ensures emptied { OnOk result (flat_map I.waits ins.new ≡ []) }
         ensures taken { OnOk result (HasTaken (flat_map I.waits ins.old) self.old self.new) }
         ensures settled { OnOk result (IsSettled self.old self.new) }
+        ensures steps { OnOk result (HasTurned procs.now (flat_map I.waits ins.old) self.old self.new) }
         ensures begins { OnOk result (flat_map I.waits ins.old ≡ [] → BeginsEagerly procs.now self.old self.new) }
         ensures sent { OnOk result (HasSent self.old self.new (map O.seen outs.old) (map O.seen outs.new)) }
         ensures same_ins { (first : List I) → Pairwise I.same first ins.old → Pairwise I.same first ins.new }
@@ -153,6 +156,7 @@ impl<S: Scheduler + Drop> Node<S> {
         ensures moved { MovesOn procs.now [] self.old self.new }
         ensures knows { KnowsTheSame self.old self.new }
         ensures settled { OnOk result (IsSettled self.old self.new) }
+        ensures passes { OnOk result (HasMadePasses procs.now self.old self.new) }
         ensures begins { OnOk result (BeginsEagerly procs.now self.old self.new) }
     {
         while self.pass(alloc, procs, rounds)? {}
@@ -172,6 +176,7 @@ impl<S: Scheduler + Drop> Node<S> {
         ensures knows { KnowsTheSame self.old self.new }
         ensures drained { OnOk result (IsDrained self.new.site.region.state.logs self.new.site.region.state.here) }
         ensures passed { IfOk result (λ some. PassesOnce self.old some self.new) }
+        ensures steps { IfOk result (λ some. IsPass procs.now some self.old self.new) }
         ensures begins { OnOk result (BeginsEagerly procs.now self.old self.new) }
     {
         let answered = self.answer_all(alloc)?;
@@ -196,6 +201,7 @@ impl<S: Scheduler + Drop> Node<S> {
         ensures taken { self.new.site.region.state.here.taken ≡ self.old.site.region.state.here.taken }
         ensures drained { OnOk result (IsDrained self.new.site.region.state.logs self.new.site.region.state.here) }
         ensures rests { RestsWhereDrained self.old self.new }
+        ensures continues { Continues procs.now self.old.site.region self.new.site.region }
     {
         let made = rounds.round(alloc, &mut self.site.region, procs);
         // Names the region, so that the proof has what its type keeps.

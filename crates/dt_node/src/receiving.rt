@@ -3,6 +3,8 @@ ghost use Rattle.dt_lists.specs.Lists.{Pairwise};
 ghost use Rattle.dt_proc.specs.Tree.{ProcTree};
 ghost use Rattle.dt_txn.specs.Replica.{taken_from};
 ghost use Rattle.dt_node.specs.Turn.{HasPlacedOwn, HasTaken};
+ghost use Rattle.dt_node.specs.Steps.{HasTakenEach, HasTakenOne};
+ghost use Rattle.dt_node.specs.StepsInner.{HasPlaced, HasReceived, IsPlacedTo};
 ghost use Rattle.dt_sched.specs.Views.{log_at};
 ghost use Rattle.dt_node.specs.TurnInner.{CanTake, KnowsTheSame, MovesOn, asking_packet, logging_packet, noted};
 
@@ -24,6 +26,7 @@ impl<S: Scheduler + Drop> Node<S> {
         ensures moved { (procs : List ProcTree) → MovesOn procs (flat_map I.waits ins.old) self.old self.new }
         ensures emptied { OnOk result (flat_map I.waits ins.new ≡ []) }
         ensures taken { OnOk result (HasTaken (flat_map I.waits ins.old) self.old self.new) }
+        ensures each { OnOk result ((procs : List ProcTree) → HasTakenEach procs (flat_map I.waits ins.old) self.old self.new) }
         ensures turns { self.new.turns ≡ self.old.turns }
         ensures sessions { self.new.sessions ≡ self.old.sessions }
         ensures placed { HasPlacedOwn self.old → HasPlacedOwn self.new }
@@ -45,6 +48,7 @@ impl<S: Scheduler + Drop> Node<S> {
         ensures moved { (procs : List ProcTree) → MovesOn procs (I.waits inlet.old) self.old self.new }
         ensures emptied { OnOk result (I.waits inlet.new ≡ []) }
         ensures taken { OnOk result (HasTaken (I.waits inlet.old) self.old self.new) }
+        ensures each { OnOk result ((procs : List ProcTree) → HasTakenEach procs (I.waits inlet.old) self.old self.new) }
         ensures turns { self.new.turns ≡ self.old.turns }
         ensures sessions { self.new.sessions ≡ self.old.sessions }
         ensures placed { HasPlacedOwn self.old → HasPlacedOwn self.new }
@@ -62,6 +66,7 @@ impl<S: Scheduler + Drop> Node<S> {
         requires can { CanTake (packet ∷ []) self.old }
         ensures moved { (procs : List ProcTree) → MovesOn procs (packet ∷ []) self.old self.new }
         ensures taken { OnOk result (HasTaken (packet ∷ []) self.old self.new) }
+        ensures one { OnOk result ((procs : List ProcTree) → HasTakenOne procs packet self.old self.new) }
         ensures turns { self.new.turns ≡ self.old.turns }
         ensures sessions { self.new.sessions ≡ self.old.sessions }
         ensures placed { HasPlacedOwn self.old → HasPlacedOwn self.new }
@@ -95,6 +100,8 @@ impl<S: Scheduler + Drop> Node<S> {
         requires can { CanTake (asking_packet self.old source first asked ∷ []) self.old }
         ensures moved { (procs : List ProcTree) → MovesOn procs (asking_packet self.old source first asked ∷ []) self.old self.new }
         ensures taken { OnOk result (first + length asked ≤ taken_from self.new.site.region.state.here source) }
+        ensures append { OnOk result (HasPlaced source self.old self.new) }
+        ensures count { OnOk result (IsPlacedTo source (first + length asked) self.old self.new) }
         ensures knows { KnowsTheSame self.old self.new }
         ensures sessions { self.new.sessions ≡ self.old.sessions }
         ensures placed { HasPlacedOwn self.old → HasPlacedOwn self.new }
@@ -118,6 +125,8 @@ impl<S: Scheduler + Drop> Node<S> {
         requires can { CanTake (asking_packet self.old source number (txn ∷ []) ∷ []) self.old }
         ensures moved { (procs : List ProcTree) → MovesOn procs (asking_packet self.old source number (txn ∷ []) ∷ []) self.old self.new }
         ensures taken { OnOk result (number + 1 ≤ taken_from self.new.site.region.state.here source) }
+        ensures append { OnOk result (HasPlaced source self.old self.new) }
+        ensures count { OnOk result (IsPlacedTo source (number + 1) self.old self.new) }
         ensures knows { KnowsTheSame self.old self.new }
         ensures sessions { self.new.sessions ≡ self.old.sessions }
         ensures placed { HasPlacedOwn self.old → HasPlacedOwn self.new }
@@ -138,6 +147,7 @@ impl<S: Scheduler + Drop> Node<S> {
         requires can { CanTake (logging_packet self.old source first entries ∷ []) self.old }
         ensures moved { (procs : List ProcTree) → MovesOn procs (logging_packet self.old source first entries ∷ []) self.old self.new }
         ensures taken { OnOk result (first + length entries ≤ length (log_at self.new.site.region.state.logs source)) }
+        ensures receives { OnOk result (HasReceived source first (first + length entries) self.old self.new) }
         ensures knows { KnowsTheSame self.old self.new }
         ensures sessions { self.new.sessions ≡ self.old.sessions }
         ensures placed { HasPlacedOwn self.old → HasPlacedOwn self.new }

@@ -1,7 +1,7 @@
 use Rattle.std.proofs.Common.{◌≤◌, ◌<◌, [], length, refl, subst, ◌∙◌, arith}
 use Rattle.dt_node.specs.NodeView.{NodeView}
-use Rattle.dt_node.specs.TurnInner.{MayAnswerAt}
-use Rattle.dt_node.proofs.Beginning.{had_more}
+use Rattle.dt_node.specs.Turn.{MayAnswerAt}
+use Rattle.dt_node.proofs.HavingStepped.{answered_all, answered_more, answered_none, ordered}
 use Rattle.dt_node.proofs.Keeping.{session_here, sessions_past}
 use Rattle.dt_node.proofs.Moving.{made_nothing, moves_more}
 use Rattle.dt_node.proofs.Passing.{all_answered, ends_more, ends_none}
@@ -16,7 +16,7 @@ sessions-init g c = record {
   seats = refl;
   within = omega arith;
   ends = ends_none MayAnswerAt c.args.self.now;
-  one = tt;
+  stepped = answered_none c.args.self.now;
 }
 
 pub answer_one-requires : goal.answer_one-requires
@@ -47,7 +47,7 @@ sessions-preserved g c =
       seats = c.answer_one.ensures.seats ∙ c.sessions.invariant.seats;
       within = omega (arith, at, c.sessions.invariant.seats);
       ends = ends_more MayAnswerAt c.args.self.now c.sessions.self c.answer_one.new.self c.sessions.index c.sessions.some c.in_ok-some.field-0 c.sessions.invariant.ends c.in_ok-some.ensures.ends;
-      one = had_more MayAnswerAt c.args.self.now c.sessions.self c.sessions.index c.sessions.some c.in_ok-some.field-0 c.sessions.invariant.ends c.sessions.invariant.one c.in_ok-some.ensures.one;
+      stepped = answered_more c.sessions.index (ordered c.self.view_is c.name.ensures.ascending c.sessions.invariant.stepped) c.sessions.invariant.stepped c.answer_one.new.self c.in_ok-some.field-0 at c.in_ok-some.ensures.ends c.in_ok-some.ensures.one;
     }
 
 pub sessions-smaller : goal.sessions-smaller
@@ -61,3 +61,9 @@ returns-clause-ends g c =
     let past : length c.sessions.self.sessions.seats ≤ c.sessions.index =
     sessions_past c.self.view_is c.sessions.index c.name.result c.is_some.result c.name.ensures.place c.is_some.ensures c.sessions-test.false in
     all_answered c.args.self.now c.sessions.self c.sessions.index c.sessions.some (omega (arith, past, c.sessions.invariant.seats)) c.sessions.invariant.ends
+
+pub returns-clause-all : goal.returns-clause-all
+returns-clause-all g c =
+    let past : length c.sessions.self.sessions.seats ≤ c.sessions.index =
+    sessions_past c.self.view_is c.sessions.index c.name.result c.is_some.result c.name.ensures.place c.is_some.ensures c.sessions-test.false in
+    answered_all c.sessions.index (ordered c.self.view_is c.name.ensures.ascending c.sessions.invariant.stepped) c.sessions.invariant.stepped (omega (arith, past, c.sessions.invariant.seats))

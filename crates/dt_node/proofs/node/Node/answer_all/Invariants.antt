@@ -1,7 +1,8 @@
 use Rattle.std.proofs.Common.{◌≡◌, ◌≤◌, ◌-◌, [], List, length}
 use Rattle.dt_proc.specs.Tree.{ProcTree}
-use Rattle.dt_node.specs.Beginning.{HadOne}
-use Rattle.dt_node.specs.TurnInner.{EndsSoFar, KnowsTheSame, MayAnswerAt, MovesOn}
+use Rattle.dt_node.specs.Turn.{MayAnswerAt}
+use Rattle.dt_node.specs.StepsInner.{HaveStepped, IsAnswering}
+use Rattle.dt_node.specs.TurnInner.{EndsSoFar, KnowsTheSame, MovesOn}
 use Rattle.dt_node.proofs.node.Node.answer_all.Given as goal
 
 abbrev pub invariant-sessions : goal.invariant-sessions
@@ -11,7 +12,7 @@ invariant-sessions g l = record {
   seats : length l.self.sessions.seats ≡ length l.fn.self.sessions.seats;
   within : l.index ≤ length l.fn.self.sessions.seats;
   ends : EndsSoFar MayAnswerAt l.fn.self l.index l.some l.self;
-  one : HadOne MayAnswerAt l.fn.self l.some;
+  stepped : HaveStepped MayAnswerAt IsAnswering l.fn.self l.index l.self;
 }
 
 abbrev pub decreases-sessions : goal.decreases-sessions

@@ -1,7 +1,8 @@
 use Rattle.std.proofs.Common.{[], subst}
+use Rattle.dt_node.specs.Steps.{IsPass}
 use Rattle.dt_node.specs.TurnInner.{PassesOnce}
 use Rattle.dt_node.proofs.Moving.{moves_more}
-use Rattle.dt_node.proofs.Stepping.{passed_last, passed_more, passed_none}
+use Rattle.dt_node.proofs.Stepping.{passed_last, passed_more, passed_none, passes_end}
 use Rattle.dt_node.proofs.Telling.{can_on}
 use Rattle.dt_node.proofs.node.Node.go_on.Goals as goal
 
@@ -17,7 +18,7 @@ returns-in_err-pass-clause-moved g c = moves_more c.loop.invariant.moved c.pass.
 pub loop-preserved : goal.loop-preserved
 loop-preserved g c =
     passed_more c.loop.invariant c.pass.ensures.moved c.pass.ensures.knows (subst (λ some. PassesOnce c.loop.self some c.pass.new.self) c.if-branch.true c.in_ok-pass.ensures.passed) c.in_ok-pass.ensures.begins
-    c.in_ok-pass.ensures.drained
+    c.in_ok-pass.ensures.drained (subst (λ some. IsPass c.args.procs.now some c.loop.self c.pass.new.self) c.if-branch.true c.in_ok-pass.ensures.steps)
 
 pub returns-clause-moved : goal.returns-clause-moved
 returns-clause-moved g c = moves_more c.loop.invariant.moved c.pass.ensures.moved
@@ -25,3 +26,6 @@ returns-clause-moved g c = moves_more c.loop.invariant.moved c.pass.ensures.move
 pub returns-clause-settled : goal.returns-clause-settled
 returns-clause-settled g c =
     passed_last c.requires.can c.loop.invariant c.pass.ensures.moved (subst (λ some. PassesOnce c.loop.self some c.pass.new.self) c.if-branch.false c.in_ok-pass.ensures.passed) c.in_ok-pass.ensures.drained
+
+pub returns-clause-passes : goal.returns-clause-passes
+returns-clause-passes g c = passes_end c.loop.invariant (subst (λ some. IsPass c.args.procs.now some c.loop.self c.pass.new.self) c.if-branch.false c.in_ok-pass.ensures.steps)

@@ -1,7 +1,7 @@
 use Rattle.std.proofs.Common.{[]}
 use Rattle.dt_node.proofs.Beginning.{first_pass}
 use Rattle.dt_node.proofs.Moving.{moves_more}
-use Rattle.dt_node.proofs.Stepping.{own_stay, passes}
+use Rattle.dt_node.proofs.Stepping.{own_stay, pass_steps, passes}
 use Rattle.dt_node.proofs.Telling.{can_on}
 use Rattle.dt_node.proofs.node.Node.pass.Goals as goal
 
@@ -30,5 +30,10 @@ returns-clause-passed g c =
 
 pub returns-clause-begins : goal.returns-clause-begins
 returns-clause-begins g c =
-    first_pass c.in_ok-answered.answered c.in_ok-answered.ensures.ends c.in_ok-answered.ensures.one (c.answer_all.ensures.moved c.args.procs.now).gone c.submit_all.ensures.moved.gone
+    first_pass c.in_ok-answered.answered c.in_ok-answered.ensures.ends c.in_ok-answered.ensures.all (c.answer_all.ensures.moved c.args.procs.now).gone c.submit_all.ensures.moved.gone
     c.round.ensures.moved.gone c.in_ok-submitted.ensures.begins
+
+pub returns-clause-steps : goal.returns-clause-steps
+returns-clause-steps g c =
+    pass_steps c.in_ok-answered.answered c.in_ok-submitted.submitted c.in_ok-answered.ensures.ends c.in_ok-submitted.ensures.ends c.in_ok-answered.ensures.all c.in_ok-submitted.ensures.all
+    (record { gone = c.round.ensures.moved.gone; continues = c.round.ensures.continues; sessions = c.round.ensures.sessions; drained = c.in_ok-round.ensures.drained })

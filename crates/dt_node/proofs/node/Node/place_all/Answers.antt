@@ -34,4 +34,4 @@ overflow_add-number g c =
 pub loop-txn-preserved : goal.loop-txn-preserved
 loop-txn-preserved g c =
     let p = subst (λ l. IsPlacing c.args.self.now c.args.source c.args.first c.args.asked l c.loop-txn.number c.loop-txn.self) c.in-Some.ensures.steps.0 c.loop-txn.invariant in
-    placing_goes c.requires.can p c.place_one.ensures.moved c.in_ok-place_one.ensures.taken c.place_one.ensures.knows c.place_one.ensures.sessions c.place_one.ensures.placed
+    placing_goes c.requires.can p c.place_one.ensures.moved c.in_ok-place_one.ensures.taken c.in_ok-place_one.ensures.append c.in_ok-place_one.ensures.count c.place_one.ensures.knows c.place_one.ensures.sessions c.place_one.ensures.placed

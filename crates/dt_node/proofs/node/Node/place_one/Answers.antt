@@ -1,5 +1,5 @@
 use Rattle.std.proofs.Common.{Ok}
-use Rattle.dt_node.proofs.Bringing.{may_place, place_ends}
+use Rattle.dt_node.proofs.Bringing.{may_place, place_append, place_count, place_ends}
 use Rattle.dt_node.proofs.Opened.{same_moves}
 use Rattle.dt_node.proofs.Ready.{has_stamp}
 use Rattle.dt_node.proofs.node.Node.place_one.Goals as goal
@@ -20,3 +20,13 @@ returns-clause-moved g c =
     let can = rw (← c.self.view_is, ← c.self-inside.view_is) at c.requires.can in
     rw (← c.self.view_is, ← c.self-inside.view_is)
     (λ procs. place_ends c.args.source c.args.number c.args.txn can (Ok c.in_ok-append_owned.field-0) c.append_owned.new.self c.in_ok-append_owned.ensures.makes c.append_owned.ensures.sound)
+
+pub returns-clause-append : goal.returns-clause-append
+returns-clause-append g c =
+    let can = rw (← c.self.view_is, ← c.self-inside.view_is) at c.requires.can in
+    rw (← c.self.view_is, ← c.self-inside.view_is) (place_append c.args.source c.args.number c.args.txn can c.in_ok-append_owned.field-0 c.append_owned.new.self c.in_ok-append_owned.ensures.makes)
+
+pub returns-clause-count : goal.returns-clause-count
+returns-clause-count g c =
+    let can = rw (← c.self.view_is, ← c.self-inside.view_is) at c.requires.can in
+    rw (← c.self.view_is, ← c.self-inside.view_is) (place_count c.args.source c.args.number c.args.txn can c.in_ok-append_owned.field-0 c.append_owned.new.self c.in_ok-append_owned.ensures.makes)

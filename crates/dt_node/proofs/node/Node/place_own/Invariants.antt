@@ -1,7 +1,8 @@
 use Rattle.std.proofs.Common.{◌≡◌, [], List}
 use Rattle.dt_proc.specs.Tree.{ProcTree}
 use Rattle.dt_node.specs.Beginning.{IsPlacingOwn}
-use Rattle.dt_node.specs.TurnInner.{KnowsTheSame, MovesOn, own_left}
+use Rattle.dt_node.specs.Steps.{own_left}
+use Rattle.dt_node.specs.TurnInner.{KnowsTheSame, MovesOn}
 use Rattle.dt_node.proofs.node.Node.place_own.Given as goal
 
 abbrev pub invariant-loop : goal.invariant-loop

@@ -1,5 +1,6 @@
-use Rattle.std.proofs.Common.{[]}
-use Rattle.dt_node.proofs.Opened.{placed_so_far, received_so_far, then_ask, then_log, whole_moved, whole_taken}
+use Rattle.std.proofs.Common.{[], ap, ◌∙◌}
+use Rattle.dt_node.specs.NodeView.{NodeView}
+use Rattle.dt_node.proofs.Opened.{placed_so_far, received_so_far, then_ask, then_log, whole_moved, whole_step, whole_taken}
 use Rattle.dt_node.proofs.node.Node.receive.Goals as goal
 
 pub place_all-requires : goal.place_all-requires
@@ -35,3 +36,11 @@ returns-clause-taken g c =
     rw (← c.self.view_is, ← c.self-inside.view_is)
     (whole_taken c.args.packet can c.hear.new.self c.hear.ensures c.place_all.new.self c.place_all.ensures.moved c.receive_entries.new.self c.receive_entries.ensures.moved c.note.new.self c.note.ensures
     c.place_all.ensures.knows c.receive_entries.ensures.knows c.in_ok-place_all.ensures.taken c.in_ok-receive_entries.ensures.taken)
+
+pub returns-clause-one : goal.returns-clause-one
+returns-clause-one g c =
+    let can = rw (← c.self.view_is, ← c.self-inside.view_is) at c.requires.can in
+    rw (← c.self.view_is, ← c.self-inside.view_is)
+    (whole_step c.args.packet can c.hear.new.self c.hear.ensures c.place_all.new.self c.place_all.ensures.moved c.receive_entries.new.self c.receive_entries.ensures.moved c.note.new.self c.note.ensures
+    c.in_ok-place_all.ensures.append c.in_ok-place_all.ensures.count c.in_ok-receive_entries.ensures.receives
+    (ap (λ (n : NodeView). n.sessions) c.note.ensures ∙ c.receive_entries.ensures.sessions ∙ c.place_all.ensures.sessions))

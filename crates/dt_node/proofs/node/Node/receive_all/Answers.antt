@@ -52,7 +52,7 @@ loop-link-preserved g c =
     let taking = subst (λ l. IsTaking c.args.self.now (flat_map waits c.args.ins.now) l c.loop-link.self) (waits_here waits ins link x lt (ap (get_or ins link) c.index-ins-link.is)) c.loop-link.invariant.taking in
     record {
       taking = subst (λ l. IsTaking c.args.self.now (flat_map waits c.args.ins.now) l c.receive_from.new.self) (sym (waits_behind waits ins link c.receive_from.new.inlet))
-          (taking_goes {xs = waits x} rest taking c.receive_from.ensures.moved c.in_ok-receive_from.ensures.taken c.receive_from.ensures.turns c.receive_from.ensures.sessions c.receive_from.ensures.placed);
+          (taking_goes {xs = waits x} rest taking c.receive_from.ensures.moved c.in_ok-receive_from.ensures.taken c.in_ok-receive_from.ensures.each c.receive_from.ensures.turns c.receive_from.ensures.sessions c.receive_from.ensures.placed);
       emptied = emptied_here waits ins link c.receive_from.new.inlet c.loop-link.invariant.emptied c.in_ok-receive_from.ensures.emptied;
       many = length-set ins link c.receive_from.new.inlet ∙ c.loop-link.invariant.many;
       same = λ first s. same_set g.I.Inlet.same first ins link x c.receive_from.new.inlet (ap (get_or ins link) c.index-ins-link.is) c.receive_from.ensures.same (c.loop-link.invariant.same first s);
@@ -64,3 +64,9 @@ returns-clause-moved g c =
     let waits = g.I.Inlet.waits in let ins = c.loop-link.ins in let link = c.loop-link.link in
     let le : length ins ≤ link = omega (arith, c.loop-link-test.false, c.loop-link.auto.ins) in
     (taking_ends (subst (λ l. IsTaking c.args.self.now (flat_map waits c.args.ins.now) l c.loop-link.self) (ap (flat_map waits) (drop_of_length-le ins le)) c.loop-link.invariant.taking)).0
+
+pub returns-clause-each : goal.returns-clause-each
+returns-clause-each g c =
+    let waits = g.I.Inlet.waits in let ins = c.loop-link.ins in let link = c.loop-link.link in
+    let le : length ins ≤ link = omega (arith, c.loop-link-test.false, c.loop-link.auto.ins) in
+    (taking_ends (subst (λ l. IsTaking c.args.self.now (flat_map waits c.args.ins.now) l c.loop-link.self) (ap (flat_map waits) (drop_of_length-le ins le)) c.loop-link.invariant.taking)).2

@@ -1,6 +1,6 @@
 use Rattle.std.proofs.Common.{Ok, subst}
 use Rattle.dt_region.specs.Rules.{MakesDelivery}
-use Rattle.dt_node.proofs.Bringing.{may_receive, receive_ends, receive_taken}
+use Rattle.dt_node.proofs.Bringing.{may_receive, receive_ends, receive_step, receive_taken}
 use Rattle.dt_node.proofs.Opened.{opened, same_moves}
 use Rattle.dt_node.proofs.Ready.{has_stamp}
 use Rattle.dt_node.proofs.node.Node.receive_entries.Goals as goal
@@ -31,3 +31,10 @@ returns-clause-taken g c =
     let is = rw (← c.self-inside.view_is) at c.self.view_is in
     let makes = subst (λ l. MakesDelivery (opened is).site.region c.args.source c.args.first c.args.first l (Ok c.in_ok-deliver.field-0) c.deliver.new.self) c.into_vec.ensures c.in_ok-deliver.ensures.makes in
     receive_taken c.args.source c.args.first c.args.entries can c.in_ok-deliver.field-0 c.deliver.new.self makes
+
+pub returns-clause-receives : goal.returns-clause-receives
+returns-clause-receives g c =
+    let can = rw (← c.self.view_is, ← c.self-inside.view_is) at c.requires.can in
+    let is = rw (← c.self-inside.view_is) at c.self.view_is in
+    let makes = subst (λ l. MakesDelivery (opened is).site.region c.args.source c.args.first c.args.first l (Ok c.in_ok-deliver.field-0) c.deliver.new.self) c.into_vec.ensures c.in_ok-deliver.ensures.makes in
+    rw (← c.self.view_is, ← c.self-inside.view_is) (receive_step c.args.source c.args.first c.args.entries can c.in_ok-deliver.field-0 c.deliver.new.self makes)

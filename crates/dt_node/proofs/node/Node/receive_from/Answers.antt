@@ -20,7 +20,8 @@ pub loop-packet-preserved : goal.loop-packet-preserved
 loop-packet-preserved g c =
     let taking = subst (λ l. IsTaking c.args.self.now (g.I.Inlet.waits c.args.inlet.now) l c.loop-packet.self) c.in-Some.ensures.takes c.loop-packet.invariant.taking in
     record {
-      taking = taking_goes {xs = c.in-Some.packet ∷ []} (g.I.Inlet.waits c.take.new.self) taking c.receive.ensures.moved c.in_ok-receive.ensures.taken c.receive.ensures.turns c.receive.ensures.sessions c.receive.ensures.placed;
+      taking = taking_goes {xs = c.in-Some.packet ∷ []} (g.I.Inlet.waits c.take.new.self) taking c.receive.ensures.moved c.in_ok-receive.ensures.taken
+          (λ procs. (c.receive.new.self, c.in_ok-receive.ensures.one procs, refl)) c.receive.ensures.turns c.receive.ensures.sessions c.receive.ensures.placed;
       same = λ first s. c.take.ensures.same first (c.loop-packet.invariant.same first s);
       still = λ none. absurd (none_left c.in-Some.packet none taking);
     }
@@ -38,3 +39,7 @@ returns-in_err-receive-clause-still g c =
 pub returns-clause-moved : goal.returns-clause-moved
 returns-clause-moved g c =
     (taking_ends (subst (λ l. IsTaking c.args.self.now (g.I.Inlet.waits c.args.inlet.now) l c.loop-packet.self) c.in_default.ensures.takes.0 c.loop-packet.invariant.taking)).0
+
+pub returns-clause-each : goal.returns-clause-each
+returns-clause-each g c =
+    (taking_ends (subst (λ l. IsTaking c.args.self.now (g.I.Inlet.waits c.args.inlet.now) l c.loop-packet.self) c.in_default.ensures.takes.0 c.loop-packet.invariant.taking)).2

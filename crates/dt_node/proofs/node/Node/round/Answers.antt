@@ -22,3 +22,6 @@ returns-clause-taken g c = rw (← c.self.view_is, ← c.self-inside.view_is) (r
 
 pub returns-clause-rests : goal.returns-clause-rests
 returns-clause-rests g c = rw (← c.self.view_is, ← c.self-inside.view_is) (round_rests c.round-made.ensures.continues)
+
+pub returns-clause-continues : goal.returns-clause-continues
+returns-clause-continues g c = rw (← c.self.view_is, ← c.self-inside.view_is) c.round-made.ensures.continues

@@ -1,8 +1,9 @@
 use Rattle.std.proofs.Common.{◌≤◌, ◌<◌, [], length, refl, subst, ◌∙◌, arith}
 use Rattle.dt_access.specs.Orders.{HasAscendingKeys}
 use Rattle.dt_node.specs.NodeView.{NodeView}
-use Rattle.dt_node.specs.TurnInner.{MaySubmitAt}
+use Rattle.dt_node.specs.Turn.{MaySubmitAt}
 use Rattle.dt_node.proofs.Beginning.{begun_all, begun_more, begun_none}
+use Rattle.dt_node.proofs.HavingStepped.{submitted_all, submitted_more, submitted_none}
 use Rattle.dt_node.proofs.Keeping.{session_here, sessions_past}
 use Rattle.dt_node.proofs.Moving.{made_nothing, moves_more}
 use Rattle.dt_node.proofs.Passing.{all_submitted, ends_more, ends_none}
@@ -17,6 +18,7 @@ sessions-init g c = record {
   seats = refl;
   within = omega arith;
   ends = ends_none MaySubmitAt c.args.self.now;
+  stepped = submitted_none c.args.self.now;
   begins = begun_none c.args.self.now (subst (λ (n : NodeView). HasAscendingKeys n.sessions.seats) c.self.view_is c.name-first.ensures.ascending);
 }
 
@@ -48,6 +50,8 @@ sessions-preserved g c =
       seats = c.submit_one.ensures.seats ∙ c.sessions.invariant.seats;
       within = omega (arith, at, c.sessions.invariant.seats);
       ends = ends_more MaySubmitAt c.args.self.now c.sessions.self c.submit_one.new.self c.sessions.index c.sessions.some c.in_ok-some.field-0 c.sessions.invariant.ends c.in_ok-some.ensures.ends;
+      stepped = submitted_more c.sessions.index (subst (λ (n : NodeView). HasAscendingKeys n.sessions.seats) c.self.view_is c.name-first.ensures.ascending) c.sessions.invariant.stepped c.submit_one.new.self
+          c.in_ok-some.field-0 at c.in_ok-some.ensures.ends c.in_ok-some.ensures.one;
       begins = begun_more c.sessions.index c.in_ok-some.field-0 (subst (λ (n : NodeView). HasAscendingKeys n.sessions.seats) c.self.view_is c.name-first.ensures.ascending)
           c.sessions.invariant.moved.gone c.submit_one.ensures.moved.gone c.sessions.invariant.begins c.in_ok-some.ensures.ends c.in_ok-some.ensures.one;
     }
@@ -69,3 +73,9 @@ returns-clause-begins g c =
     let past : length c.sessions.self.sessions.seats ≤ c.sessions.index =
     sessions_past c.self-in-sessions.view_is c.sessions.index c.name.result c.is_some.result c.name.ensures.place c.is_some.ensures c.sessions-test.false in
     begun_all c.sessions.index past c.sessions.invariant.begins
+
+pub returns-clause-all : goal.returns-clause-all
+returns-clause-all g c =
+    let past : length c.sessions.self.sessions.seats ≤ c.sessions.index =
+    sessions_past c.self-in-sessions.view_is c.sessions.index c.name.result c.is_some.result c.name.ensures.place c.is_some.ensures c.sessions-test.false in
+    submitted_all c.sessions.index (subst (λ (n : NodeView). HasAscendingKeys n.sessions.seats) c.self.view_is c.name-first.ensures.ascending) c.sessions.invariant.stepped (omega (arith, past, c.sessions.invariant.seats))

@@ -1,6 +1,8 @@
 use Rattle.std.proofs.Common.{◌≡◌, ◌≤◌, ◌-◌, [], length}
 use Rattle.dt_node.specs.Beginning.{BeginsSoFar}
-use Rattle.dt_node.specs.TurnInner.{EndsSoFar, KnowsTheSame, MaySubmitAt, MovesOn}
+use Rattle.dt_node.specs.Turn.{MaySubmitAt}
+use Rattle.dt_node.specs.StepsInner.{HaveStepped, IsSubmission}
+use Rattle.dt_node.specs.TurnInner.{EndsSoFar, KnowsTheSame, MovesOn}
 use Rattle.dt_node.proofs.node.Node.submit_all.Given as goal
 
 abbrev pub invariant-sessions : goal.invariant-sessions
@@ -10,6 +12,7 @@ invariant-sessions g l = record {
   seats : length l.self.sessions.seats ≡ length l.fn.self.sessions.seats;
   within : l.index ≤ length l.fn.self.sessions.seats;
   ends : EndsSoFar MaySubmitAt l.fn.self l.index l.some l.self;
+  stepped : HaveStepped MaySubmitAt (IsSubmission l.procs) l.fn.self l.index l.self;
   begins : BeginsSoFar l.procs l.fn.self l.index l.self;
 }
 

@@ -3,6 +3,7 @@ use Rattle.dt_node.specs.NodeView.{NodeView, number_of}
 use Rattle.dt_node.specs.TurnInner.{IsNextOfNode}
 use Rattle.dt_node.proofs.Moving.{moves_more}
 use Rattle.dt_node.proofs.OwnPlacing.{has_submitted}
+use Rattle.dt_node.proofs.Owning.{own_within}
 use Rattle.dt_node.proofs.SessionsOn.{submitted_on}
 use Rattle.dt_node.proofs.Telling.{can_on}
 use Rattle.dt_node.proofs.node.Node.submit_one.Goals as goal
@@ -27,5 +28,6 @@ returns-clause-one g c =
     let there : number_of c.args.self.now < length c.args.self.now.site.region.state.here.asked = subst (λ n. number_of c.args.self.now < n) (sym sound.asked) sound.number in (
       c.in-Some.name.now,
       ap (λ (n : NodeView). slice_get (map (λ p. p.0) n.sessions.seats) c.args.index) (sym c.self.view_is) ∙ sym c.in-Some.ensures.place,
-      has_submitted c.in-Some.name.now t c.in_ok-submit.ensures.made c.submit.ensures.moved.gone c.place_own.ensures.own c.place_own.ensures.sessions c.in_ok-place_own.ensures.placed there,
+      has_submitted c.in-Some.name.now t c.in_ok-submit.ensures.made c.submit.ensures.moved.gone c.place_own.ensures.own c.place_own.ensures.sessions c.in_ok-place_own.ensures.placed there
+      (own_within c.requires.can.fits),
     )

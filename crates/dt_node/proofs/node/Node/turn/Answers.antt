@@ -2,7 +2,7 @@ use Rattle.std.proofs.Common.{[], flat_map, sym, subst, ◌∙◌}
 use Rattle.dt_node.specs.NodeView.{NodeView, new_items}
 use Rattle.dt_node.specs.Turn.{AreBrought, BeginsEagerly, HasGone, HasTaken, IsSettled, StampsRise}
 use Rattle.dt_node.proofs.Moving.{moves_on}
-use Rattle.dt_node.proofs.Stepping.{on_ok, turn_begins, turn_can, turn_moves, turn_ready, turn_settles, turn_takes}
+use Rattle.dt_node.proofs.Stepping.{on_ok, turn_begins, turn_can, turn_moves, turn_ready, turn_settles, turn_steps, turn_takes}
 use Rattle.dt_node.proofs.Telling.{can_on, may_begin}
 use Rattle.dt_node.proofs.node.Node.turn.Goals as goal
 
@@ -70,3 +70,6 @@ returns-clause-settled g c =
 pub returns-clause-begins : goal.returns-clause-begins
 returns-clause-begins g c =
     on_ok c.send.result (λ none. subst (λ n. BeginsEagerly c.args.procs.now c.args.self.now n) (sym c.send.ensures.still) (turn_begins (c.receive_all.ensures.still none) c.go_on.ensures.moved c.in_ok-go_on.ensures.begins))
+
+pub returns-clause-steps : goal.returns-clause-steps
+returns-clause-steps g c = on_ok c.send.result (turn_steps (c.in_ok-receive_all.ensures.each c.args.procs.now) c.in_ok-go_on.ensures.passes c.send.ensures.still)
