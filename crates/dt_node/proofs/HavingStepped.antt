@@ -5,7 +5,6 @@ use Rattle.std.proofs.Common.{cond, refl, sym, ap, subst, ◌∙◌, inl, inr, a
 use Rattle.std.specs.Prelude.{Option, option_and_then, option_map}
 use Rattle.std.specs.Map.{lookup}
 use Rattle.std.proofs.lemmas.Bool.{cases_Bool}
-use Rattle.std.proofs.lemmas.Cmp.{nat_list_cmp_total}
 use Rattle.std.proofs.lemmas.List.{length-map}
 use Rattle.std.proofs.lemmas.Map.{keys-set_value}
 use Rattle.dt_lists.specs.Lists.{EachThen, Has}
@@ -23,7 +22,7 @@ use Rattle.dt_session.proofs.Callers.{same_name}
 use Rattle.dt_site.proofs.Callers.{seat_changed}
 use Rattle.dt_node.specs.NodeView.{NodeView}
 use Rattle.dt_node.specs.Turn.{MayAnswerAt, MaySubmitAt}
-use Rattle.dt_node.specs.Steps.{AllWhoMight, HasAnswered, HasSubmitted, OneByOne, has_some}
+use Rattle.dt_node.specs.Steps.{AllWhoMight, OneByOne, has_some}
 use Rattle.dt_node.specs.StepsInner.{ArePicked, HaveStepped, IsAnswering, IsSubmission, LeavesOthers, StepsAt, names_of}
 use Rattle.dt_node.specs.TurnInner.{EndsAll, EndsOne, HasGoneOn}
 use Rattle.dt_node.proofs.Passing.{answer_found, place_of_name, submit_found}

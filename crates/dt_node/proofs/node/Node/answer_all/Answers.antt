@@ -1,5 +1,4 @@
-use Rattle.std.proofs.Common.{◌≤◌, ◌<◌, [], length, refl, subst, ◌∙◌, arith}
-use Rattle.dt_node.specs.NodeView.{NodeView}
+use Rattle.std.proofs.Common.{◌≤◌, ◌<◌, [], length, refl, ◌∙◌, arith}
 use Rattle.dt_node.specs.Turn.{MayAnswerAt}
 use Rattle.dt_node.proofs.HavingStepped.{answered_all, answered_more, answered_none, ordered}
 use Rattle.dt_node.proofs.Keeping.{session_here, sessions_past}
