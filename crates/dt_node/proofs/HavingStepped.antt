@@ -103,8 +103,8 @@ pub other_steps : {Step Other : NodeView → Bytes → NodeView → Type 0} → 
 other_steps as_other [] a b same = same
 other_steps as_other (name ∷ names) a b steps = (steps.0, as_other a name steps.0 steps.1, other_steps as_other names steps.0 b steps.2)
 
-abbrev pub said_otherwise : {May : NodeView → Bytes → Type 0} {Step Other : NodeView → Bytes → NodeView → Type 0} {a b : NodeView} → ((c : NodeView) (name : Bytes) (d : NodeView) → Step c name d → Other c name d) → (all : AllWhoMight May Step a b)
-    → AllWhoMight May Other a b
+abbrev pub said_otherwise : {May : NodeView → Bytes → Type 0} {Step Other : NodeView → Bytes → NodeView → Type 0} {a b : NodeView}
+    → ((c : NodeView) (name : Bytes) (d : NodeView) → Step c name d → Other c name d) → (all : AllWhoMight May Step a b) → AllWhoMight May Other a b
 said_otherwise {a = a} {b = b} as_other all = record { names = all.names; are = all.are; ascending = all.ascending; each = other_steps as_other all.names a b all.each }
 
 -- what a step leaves to the others
@@ -178,7 +178,8 @@ submit_stays names a b l name apart = (
 )
 
 -- the names are in order in the beginning, since they are now
-pub ordered : {May : NodeView → Bytes → Type 0} {Step : NodeView → Bytes → NodeView → Type 0} {a b c : NodeView} {place : ℕ} → c ≡ b → HasAscendingKeys c.sessions.seats → HaveStepped May Step a place b → HasAscendingKeys a.sessions.seats
+pub ordered : {May : NodeView → Bytes → Type 0} {Step : NodeView → Bytes → NodeView → Type 0} {a b c : NodeView} {place : ℕ} → c ≡ b
+    → HasAscendingKeys c.sessions.seats → HaveStepped May Step a place b → HasAscendingKeys a.sessions.seats
 ordered {a = a} {b = b} same ascending h =
     each_of_image KeyBefore (λ q. q.0) a.sessions.seats
     (subst (EachThen KeyBefore) h.leaves.same_names (each_image KeyBefore (λ q. q.0) b.sessions.seats (subst (λ (n : NodeView). HasAscendingKeys n.sessions.seats) same ascending)))
