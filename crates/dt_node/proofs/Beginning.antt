@@ -1,6 +1,6 @@
 -- How a turn begins before anything happens anywhere: no session is answered, and one after another submits its first call; so
 -- the events are the first ones of the region, session by session.
-use Rattle.std.proofs.Common.{◌≡◌, ◌<◌, ◌≤◌, ◌+◌, ◌-◌, ◌||◌, ℕ, zero, suc, Bool, true, false, cond, List, [], ◌∷◌, ◌++◌}
+use Rattle.std.proofs.Common.{◌≡◌, ◌<◌, ◌≤◌, ◌+◌, ◌-◌, ℕ, zero, suc, Bool, true, false, cond, List, [], ◌∷◌, ◌++◌}
 use Rattle.std.proofs.Common.{length, map, drop, get_or, replicate, slice_get, Some, None, refl, sym, ap, ap₂, subst, ◌∙◌, append-nil, append_assoc, arith}
 use Rattle.std.specs.Prelude.{Option, option_and_then, option_map, slice_index}
 use Rattle.std.specs.Map.{lookup, set_value}

@@ -5,7 +5,6 @@ use Rattle.std.proofs.Common.{cond, refl, sym, ap, subst, ◌∙◌, inl, inr, a
 use Rattle.std.specs.Prelude.{Option, option_and_then, option_map}
 use Rattle.std.specs.Map.{lookup}
 use Rattle.std.proofs.lemmas.Bool.{cases_Bool}
-use Rattle.std.proofs.lemmas.Cmp.{nat_list_cmp_total}
 use Rattle.std.proofs.lemmas.List.{length-map}
 use Rattle.std.proofs.lemmas.Map.{keys-set_value}
 use Rattle.dt_lists.specs.Lists.{EachThen, Has}
@@ -23,7 +22,7 @@ use Rattle.dt_session.proofs.Callers.{same_name}
 use Rattle.dt_site.proofs.Callers.{seat_changed}
 use Rattle.dt_node.specs.NodeView.{NodeView}
 use Rattle.dt_node.specs.Turn.{MayAnswerAt, MaySubmitAt}
-use Rattle.dt_node.specs.Steps.{AllWhoMight, HasAnswered, HasSubmitted, OneByOne, has_some}
+use Rattle.dt_node.specs.Steps.{AllWhoMight, OneByOne, has_some}
 use Rattle.dt_node.specs.StepsInner.{ArePicked, HaveStepped, IsAnswering, IsSubmission, LeavesOthers, StepsAt, names_of}
 use Rattle.dt_node.specs.TurnInner.{EndsAll, EndsOne, HasGoneOn}
 use Rattle.dt_node.proofs.Passing.{answer_found, place_of_name, submit_found}
@@ -104,8 +103,8 @@ pub other_steps : {Step Other : NodeView → Bytes → NodeView → Type 0} → 
 other_steps as_other [] a b same = same
 other_steps as_other (name ∷ names) a b steps = (steps.0, as_other a name steps.0 steps.1, other_steps as_other names steps.0 b steps.2)
 
-abbrev pub said_otherwise : {May : NodeView → Bytes → Type 0} {Step Other : NodeView → Bytes → NodeView → Type 0} {a b : NodeView} → ((c : NodeView) (name : Bytes) (d : NodeView) → Step c name d → Other c name d) → (all : AllWhoMight May Step a b)
-    → AllWhoMight May Other a b
+abbrev pub said_otherwise : {May : NodeView → Bytes → Type 0} {Step Other : NodeView → Bytes → NodeView → Type 0} {a b : NodeView}
+    → ((c : NodeView) (name : Bytes) (d : NodeView) → Step c name d → Other c name d) → (all : AllWhoMight May Step a b) → AllWhoMight May Other a b
 said_otherwise {a = a} {b = b} as_other all = record { names = all.names; are = all.are; ascending = all.ascending; each = other_steps as_other all.names a b all.each }
 
 -- what a step leaves to the others
@@ -179,7 +178,8 @@ submit_stays names a b l name apart = (
 )
 
 -- the names are in order in the beginning, since they are now
-pub ordered : {May : NodeView → Bytes → Type 0} {Step : NodeView → Bytes → NodeView → Type 0} {a b c : NodeView} {place : ℕ} → c ≡ b → HasAscendingKeys c.sessions.seats → HaveStepped May Step a place b → HasAscendingKeys a.sessions.seats
+pub ordered : {May : NodeView → Bytes → Type 0} {Step : NodeView → Bytes → NodeView → Type 0} {a b c : NodeView} {place : ℕ} → c ≡ b
+    → HasAscendingKeys c.sessions.seats → HaveStepped May Step a place b → HasAscendingKeys a.sessions.seats
 ordered {a = a} {b = b} same ascending h =
     each_of_image KeyBefore (λ q. q.0) a.sessions.seats
     (subst (EachThen KeyBefore) h.leaves.same_names (each_image KeyBefore (λ q. q.0) b.sessions.seats (subst (λ (n : NodeView). HasAscendingKeys n.sessions.seats) same ascending)))

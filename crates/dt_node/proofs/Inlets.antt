@@ -1,8 +1,7 @@
 -- The packets of one link and then those of the next: what waits at the inlets, and that each is taken as if it came alone.
-use Rattle.std.proofs.Common.{◌≡◌, ◌<◌, ◌≤◌, ◌+◌, ℕ, zero, suc, List, [], ◌∷◌, ◌++◌, length, drop, take, set, get_or, flat_map, refl, sym, ap, ap₂, subst, ◌∙◌, arith, append-nil}
+use Rattle.std.proofs.Common.{◌≡◌, ◌<◌, ◌+◌, ℕ, zero, suc, List, [], ◌∷◌, ◌++◌, length, drop, take, set, get_or, flat_map, refl, sym, ap, ap₂, subst, ◌∙◌, arith}
 use Rattle.dt_lists.specs.Lists.{Pairwise}
 use Rattle.dt_lists.proofs.Callers.{all_append_left}
-use Rattle.dt_proc.specs.Tree.{ProcTree}
 use Rattle.dt_packet.specs.declared.packet.Packet.{Packet}
 use Rattle.dt_node.specs.NodeView.{NodeView}
 use Rattle.dt_node.specs.TurnInner.{CanTake, IsTaking}

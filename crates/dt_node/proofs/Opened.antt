@@ -1,9 +1,8 @@
 -- What a call on the region or the sessions inside a node makes of the node: the call tells it of the part, and this is what it
 -- is of the whole.
-use Rattle.std.proofs.Common.{◌≡◌, ◌<◌, ◌≤◌, ◌+◌, ℕ, Bool, true, false, List, [], ◌∷◌, length, max, get_or, set, slice_get, Result, Ok, Err, Some, refl, sym, ap, subst, ◌∙◌, arith}
+use Rattle.std.proofs.Common.{◌≡◌, ◌<◌, ◌≤◌, ◌+◌, ℕ, Bool, true, false, List, [], ◌∷◌, length, max, get_or, slice_get, Ok, Some, sym, ap, subst, ◌∙◌}
 use Rattle.std.specs.Prelude.{Option, IsSome, option_and_then}
 use Rattle.std.proofs.lemmas.Option.{slice_get-get_or}
-use Rattle.dt_text.specs.declared.NoMemory.{NoMemory}
 use Rattle.dt_access.specs.Clash.{Bytes}
 use Rattle.dt_access.specs.declared.TxnId.{TxnId}
 use Rattle.dt_events.specs.declared.Event.TheVariants.{Answer}

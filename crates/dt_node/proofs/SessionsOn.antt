@@ -1,5 +1,5 @@
 -- What the calls that answer a session or submit for one ask for, and how they end.
-use Rattle.std.proofs.Common.{◌≡◌, ◌≢◌, ◌<◌, ◌≤◌, ◌+◌, ℕ, Bool, true, false, List, [], ◌∷◌, length, map, get_or, slice_get, Ok, Some, None, refl, sym, ap, subst, ◌∙◌, arith}
+use Rattle.std.proofs.Common.{◌≡◌, ◌<◌, ◌+◌, ℕ, false, List, [], length, map, get_or, slice_get, Ok, Some, None, refl, sym, ap, subst, ◌∙◌, arith}
 use Rattle.std.specs.Prelude.{Option, option_and_then}
 use Rattle.std.proofs.lemmas.List.{length-append, length_push}
 use Rattle.dt_access.specs.Clash.{Bytes}
@@ -14,7 +14,7 @@ use Rattle.dt_region.specs.Rules.{with_event}
 use Rattle.dt_region.specs.Sound.{IsSoundRegion}
 use Rattle.dt_session.specs.Sessions.{MayBeAnswered, MayGo, SessionsView, after_answer, after_wait, answered_seat, seat_of, waiting, waits_of}
 use Rattle.dt_site.specs.declared.Origin.{Origin}
-use Rattle.dt_site.specs.Site.{SiteView, MakesAttempt, after_attempt, in_region}
+use Rattle.dt_site.specs.Site.{SiteView, MakesAttempt, in_region}
 use Rattle.dt_node.specs.Measure.{left_for}
 use Rattle.dt_node.specs.NodeView.{NodeView, new_items, number_of}
 use Rattle.dt_node.specs.Turn.{HasPlacedOwn, MayAnswerAt, last_at}

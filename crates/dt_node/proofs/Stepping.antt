@@ -1,9 +1,8 @@
 -- The steps of a turn one after another: a pass over the sessions with its round, passes until the sessions stand still, and
 -- last the sending.
-use Rattle.std.proofs.Common.{◌≡◌, inl, inr, ◌<◌, ◌≤◌, ◌+◌, ◌||◌, ℕ, Bool, true, false, List, [], ◌∷◌, ◌++◌, length, get_or, refl, sym, ap, ap₂, subst, ◌∙◌, arith, append-nil}
+use Rattle.std.proofs.Common.{◌≡◌, inl, inr, ◌<◌, ◌+◌, ◌||◌, Bool, true, false, List, [], ◌∷◌, ◌++◌, length, get_or, refl, sym, ap, ap₂, subst, ◌∙◌, arith, append-nil}
 use Rattle.std.specs.Prelude.{Option, Some, None, Result, Ok, Err, OnOk, slice_index}
 use Rattle.std.proofs.lemmas.List.{length-append}
-use Rattle.dt_access.specs.Clash.{Bytes}
 use Rattle.dt_access.specs.declared.TxnId.{TxnId}
 use Rattle.dt_events.specs.declared.Event.{Event}
 use Rattle.dt_events.specs.declared.Event.TheVariants.{Submit, Append, Deliver, Insert, Resolve, Execute, Answer}
@@ -19,12 +18,12 @@ use Rattle.dt_node.specs.Measure.{left_for}
 use Rattle.dt_node.specs.NodeView.{NodeView, new_items, number_of}
 use Rattle.dt_node.specs.Sending.{IsReady}
 use Rattle.dt_node.specs.Standing.{NodeStands}
-use Rattle.dt_node.specs.Turn.{BeginsEagerly, HasGone, HasPlacedOwn, HasTaken, IsSettled, MayAnswerAt, MaySubmitAt}
-use Rattle.dt_node.specs.Steps.{AllWhoMight, HasMadePasses, HasMadeRound, HasTakenEach, HasTurned, IsPass, has_some}
+use Rattle.dt_node.specs.Turn.{BeginsEagerly, HasPlacedOwn, HasTaken, IsSettled, MayAnswerAt, MaySubmitAt}
+use Rattle.dt_node.specs.Steps.{AllWhoMight, HasMadePasses, HasMadeRound, HasTakenEach, HasTurned, IsPass}
 use Rattle.dt_node.specs.StepsInner.{IsAnswering, IsSubmission}
 use Rattle.dt_node.specs.TurnInner.{CanGo, EndsAll, HasGoneOn, KnowsTheSame, MovesOn, PassesOnce, RestsWhereDrained}
 use Rattle.dt_node.proofs.HavingStepped.{said_otherwise, some_of_both, some_stepped}
-use Rattle.dt_node.proofs.Moving.{made_nothing, moves_more, moves_on, new_are}
+use Rattle.dt_node.proofs.Moving.{made_nothing, moves_more, moves_on}
 use Rattle.dt_node.proofs.Passing.{gone_on_more}
 use Rattle.dt_node.proofs.Settling.{RestsSoFar, begins_more, sent_moves, settled_on, settles}
 use Rattle.dt_node.proofs.Taking.{taken_on}

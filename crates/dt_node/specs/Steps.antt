@@ -25,7 +25,7 @@ use Rattle.dt_session.specs.Step.{ranked_body}
 use Rattle.dt_session.specs.Sessions.{numbers_next, seat_of, wanted_of}
 use Rattle.dt_site.specs.declared.Origin.{Origin}
 use Rattle.dt_node.specs.NodeView.{NodeView, new_items, number_of}
-use Rattle.dt_node.specs.Turn.{HasGone, HasPlacedOwn, MayAnswerAt, MaySubmitAt, last_at}
+use Rattle.dt_node.specs.Turn.{HasGone, HasPlacedOwn, MayAnswerAt, MaySubmitAt}
 
 -- a node has made its way from one state to another by these events, in this order, and by no others; what it used of other
 -- regions these packets told

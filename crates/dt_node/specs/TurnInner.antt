@@ -1,7 +1,7 @@
 -- Only proofs need this file, and the private calls of a turn. A turn makes its way in many small calls, and of each of them
 -- the same is said: what it makes of the node (`MovesOn`), and what has to be so before it (`CanGo`). Read `Turn` for what a
 -- whole turn makes.
-use Rattle.std.specs.Prelude.{◌≡◌, ◌<◌, ◌≤◌, ◌+◌, ◌-◌, ◌^◌, ℕ, List, [], ◌∷◌, ◌++◌, length, get_or, map, max, set, slice_get, Bool, true, false, Option, Some, None}
+use Rattle.std.specs.Prelude.{◌≡◌, ◌<◌, ◌≤◌, ◌+◌, ◌^◌, ℕ, List, [], ◌∷◌, ◌++◌, length, get_or, map, max, set, slice_get, Bool, true, false, Option, Some, None}
 use Rattle.dt_lists.specs.Lists.{AllIn}
 use Rattle.dt_access.specs.Clash.{Bytes}
 use Rattle.dt_events.specs.declared.Stamped.{Stamped}
@@ -16,7 +16,6 @@ use Rattle.dt_region.specs.Region.{RegionView, latest_stamp}
 use Rattle.dt_packet.specs.declared.packet.Packet.{Packet}
 use Rattle.dt_cluster.specs.declared.Cluster.{Cluster}
 use Rattle.dt_workload.specs.declared.Workload.{Workload}
-use Rattle.dt_session.specs.Sessions.{SessionsView}
 use Rattle.dt_site.specs.declared.Origin.{Origin}
 use Rattle.dt_node.specs.Measure.{left_for}
 use Rattle.dt_node.specs.NodeView.{NodeView, new_items, number_of}

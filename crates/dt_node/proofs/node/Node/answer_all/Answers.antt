@@ -1,5 +1,4 @@
-use Rattle.std.proofs.Common.{◌≤◌, ◌<◌, [], length, refl, subst, ◌∙◌, arith}
-use Rattle.dt_node.specs.NodeView.{NodeView}
+use Rattle.std.proofs.Common.{◌≤◌, ◌<◌, [], length, refl, ◌∙◌, arith}
 use Rattle.dt_node.specs.Turn.{MayAnswerAt}
 use Rattle.dt_node.proofs.HavingStepped.{answered_all, answered_more, answered_none, ordered}
 use Rattle.dt_node.proofs.Keeping.{session_here, sessions_past}
@@ -47,7 +46,8 @@ sessions-preserved g c =
       seats = c.answer_one.ensures.seats ∙ c.sessions.invariant.seats;
       within = omega (arith, at, c.sessions.invariant.seats);
       ends = ends_more MayAnswerAt c.args.self.now c.sessions.self c.answer_one.new.self c.sessions.index c.sessions.some c.in_ok-some.field-0 c.sessions.invariant.ends c.in_ok-some.ensures.ends;
-      stepped = answered_more c.sessions.index (ordered c.self.view_is c.name.ensures.ascending c.sessions.invariant.stepped) c.sessions.invariant.stepped c.answer_one.new.self c.in_ok-some.field-0 at c.in_ok-some.ensures.ends c.in_ok-some.ensures.one;
+      stepped = answered_more c.sessions.index (ordered c.self.view_is c.name.ensures.ascending c.sessions.invariant.stepped) c.sessions.invariant.stepped
+          c.answer_one.new.self c.in_ok-some.field-0 at c.in_ok-some.ensures.ends c.in_ok-some.ensures.one;
     }
 
 pub sessions-smaller : goal.sessions-smaller

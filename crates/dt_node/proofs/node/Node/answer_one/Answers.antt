@@ -1,4 +1,4 @@
-use Rattle.std.proofs.Common.{[], sym}
+use Rattle.std.proofs.Common.{sym}
 use Rattle.dt_node.proofs.Opened.{call_moves, call_on, call_seats, call_step, opened, same_moves}
 use Rattle.dt_node.proofs.Ready.{has_stamp}
 use Rattle.dt_node.proofs.node.Node.answer_one.Goals as goal
@@ -37,5 +37,5 @@ returns-clause-one g c =
       c.in-Some.name.now,
       sym c.in-Some.ensures.place,
       call_step (opened is) c.in_ok-name.ensures.same c.last_outcome-last.ensures (c.may_answer.ensures.0 c.if-not-may_answer.false) c.answer.new.self c.in_ok-answer.ensures.makes c.last_outcome-last-2.ensures
-      c.answer-2.new.self (λ m. c.answer-2.ensures.answered (c.answer-2.ensures.legal.1 m)),
+          c.answer-2.new.self (λ m. c.answer-2.ensures.answered (c.answer-2.ensures.legal.1 m)),
     )

@@ -1,4 +1,3 @@
-use Rattle.std.proofs.Common.{Some}
 use Rattle.dt_node.proofs.Opened.{next_call}
 use Rattle.dt_node.proofs.node.Node.next_attempt.Goals as goal
 

@@ -1,4 +1,3 @@
-use Rattle.std.proofs.Common.{[]}
 use Rattle.dt_node.proofs.Moving.{made_nothing}
 use Rattle.dt_node.proofs.Opened.{all_placed, is_there, it_moves, it_own, may_place_it, same_moves, same_own}
 use Rattle.dt_node.proofs.OwnPlacing.{placing_none}

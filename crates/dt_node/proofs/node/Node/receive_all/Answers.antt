@@ -1,4 +1,4 @@
-use Rattle.std.proofs.Common.{◌<◌, ◌≤◌, ◌≡◌, ◌+◌, [], drop, flat_map, get_or, length, refl, sym, ap, subst, ◌∙◌, arith}
+use Rattle.std.proofs.Common.{◌<◌, ◌≤◌, ◌+◌, drop, flat_map, get_or, length, refl, sym, ap, subst, ◌∙◌, arith}
 use Rattle.std.proofs.Math.ListN.{drop_of_length-le, length-set}
 use Rattle.dt_node.specs.TurnInner.{IsTaking}
 use Rattle.dt_node.proofs.Inlets.{can_next, emptied_here, same_set, waits_behind, waits_here}

@@ -1,4 +1,3 @@
-use Rattle.std.proofs.Common.{[]}
 use Rattle.dt_node.proofs.Making.{round_moves}
 use Rattle.dt_node.proofs.Ready.{can_round}
 use Rattle.dt_node.proofs.Stepping.{round_asked, round_rests, round_taken}

@@ -29,5 +29,5 @@ returns-clause-one g c =
       c.in-Some.name.now,
       ap (λ (n : NodeView). slice_get (map (λ p. p.0) n.sessions.seats) c.args.index) (sym c.self.view_is) ∙ sym c.in-Some.ensures.place,
       has_submitted c.in-Some.name.now t c.in_ok-submit.ensures.made c.submit.ensures.moved.gone c.place_own.ensures.own c.place_own.ensures.sessions c.in_ok-place_own.ensures.placed there
-      (own_within c.requires.can.fits),
+          (own_within c.requires.can.fits),
     )

@@ -1,5 +1,5 @@
 use Rattle.std.proofs.Common.{[], flat_map, sym, subst, ◌∙◌}
-use Rattle.dt_node.specs.NodeView.{NodeView, new_items}
+use Rattle.dt_node.specs.NodeView.{new_items}
 use Rattle.dt_node.specs.Turn.{AreBrought, BeginsEagerly, HasGone, HasTaken, IsSettled, StampsRise}
 use Rattle.dt_node.proofs.Moving.{moves_on}
 use Rattle.dt_node.proofs.Stepping.{on_ok, turn_begins, turn_can, turn_moves, turn_ready, turn_settles, turn_steps, turn_takes}
