@@ -11,6 +11,7 @@ pub mod Snapshots
 pub mod Waiting
 pub mod Keeping
 pub mod RowBeside
+pub mod Linking
 pub mod Finishing
 pub mod MakingAgain
 pub mod RunLaws
