@@ -10,6 +10,7 @@ pub mod Turning
 pub mod Snapshots
 pub mod Waiting
 pub mod Keeping
+pub mod Lent
 pub mod RowBeside
 pub mod Linking
 pub mod Finishing

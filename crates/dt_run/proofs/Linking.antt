@@ -4,18 +4,25 @@ use Rattle.std.proofs.lemmas.List.{get_or-set_same, get_or-set_other, get_or_app
 use Rattle.std.proofs.Math.Seq.{get_or-append_seam}
 use Rattle.dt_lists.specs.Lists.{AllIn, Either}
 use Rattle.dt_lists.proofs.Callers.{either_nat, map_of_set}
-use Rattle.dt_ring.specs.Rings.{RingInView, RingOutView}
+use Rattle.dt_ring.specs.Rings.{AreEnds, RingInView, RingOutView}
 use Rattle.dt_run.specs.LinksInner.{AreFresh, HasEnds, IsJoined, LinkAdded, LinkedSoFar, in_at, out_at, without_links}
 use Rattle.dt_run.specs.NodesView.{link_to}
-use Rattle.dt_run.specs.SeatsInner.{AreBeside, AreLinked, AreNew, HaveEnds, SeatView, new_seat, no_seat, seat_at}
+use Rattle.dt_run.specs.SeatsInner.{AreBeside, AreLinked, AreNew, HaveEnds, SeatView, new_seat, no_seat, places_of_link, seat_at}
 use Rattle.dt_run.proofs.Alls.{all_by_place}
 use Rattle.dt_run.proofs.LinkNumbers.{LinkOf, link_above, link_below, link_of, link_within, links_apart}
 use Rattle.dt_run.proofs.RowBeside.{any_default}
 
+-- the two ends of a ring that was just made are those of a new link
+pub made_fresh : {out : RingOutView} {inlet : RingInView} → AreEnds out inlet → (out.put ≡ []) × (inlet.waits ≡ []) → (out.places ≡ 8) × (out.free ≡ 8) → AreFresh out inlet
+unfolding places_of_link
+made_fresh {out} {inlet} ends none places =
+    let n : length inlet.waits ≡ 0 = ap length none.1 in
+    record { beside = record { ends = ends; put = none.0; places = places.0; free = let p : out.places ≡ 8 = places.0 in let f : out.free ≡ 8 = places.1 in omega (arith, n, p, f) }; empty = none.1 }
+
 -- the ends of one link are put at two seats
 module _ (seats : List SeatView) {source target : ℕ} (ls : source < length seats) (lt : target < length seats) {out : RingOutView} {inlet : RingInView} (fresh : AreFresh out inlet)
-    (a a' b b' : SeatView) (a_is : a ≡ get_or seats source a) (a_goes : a' ≡ record a { outs = a.outs ++ out ∷ [] }) (b_is : b ≡ get_or (set seats source a') target b)
-    (b_goes : b' ≡ record b { ins = b.ins ++ inlet ∷ [] }) where
+    (a a' b b' : SeatView) (a_goes : a' ≡ record (get_or seats source a) { outs = (get_or seats source a).outs ++ out ∷ [] })
+    (b_goes : b' ≡ record (get_or (set seats source a') target b) { ins = (get_or (set seats source a') target b).ins ++ inlet ∷ [] }) where
   abbrev mid : List SeatView
   mid = set seats source a'
 
@@ -25,14 +32,14 @@ module _ (seats : List SeatView) {source target : ℕ} (ls : source < length sea
   many_mid : length mid ≡ length seats
   many_mid = length-set seats source a'
 
-  first : a ≡ seat_at seats source
-  first = a_is ∙ any_default seats source a no_seat ls
+  first : get_or seats source a ≡ seat_at seats source
+  first = any_default seats source a no_seat ls
 
   target_mid : target < length mid
   target_mid = subst (λ n. target < n) (sym many_mid) lt
 
-  second : b ≡ seat_at mid target
-  second = b_is ∙ any_default mid target b no_seat target_mid
+  second : get_or mid target b ≡ seat_at mid target
+  second = any_default mid target b no_seat target_mid
 
   mid_here : seat_at mid source ≡ a'
   mid_here = get_or-set_same seats source a' no_seat ls

@@ -299,7 +299,7 @@ module _ {source : ℕ} {seats : List SeatView} (a : RowApart source (seat_at se
             let m : length all_outs + 1 ≡ length seats = a.many in
             omega (arith, l, m)
 
-    links_go : LinksGo source seats seats3
+    pub links_go : LinksGo source seats seats3
     links_go = record {
       many = length-set seats2 source filled ∙ many2;
       same = λ region lt. seat_goes region lt (either_nat region source);
@@ -308,11 +308,29 @@ module _ {source : ℕ} {seats : List SeatView} (a : RowApart source (seat_at se
       ins_left = λ other target e n apart lt. in_still other target e n apart lt (either_nat target source);
     }
 
-    pub links_went : (seat later : SeatView) → seat ≡ get_or seats2 source seat → later ≡ record seat { outs = row' } → LinksGo source seats (set seats2 source later)
-    links_went seat later is goes =
-        let there : source < length seats2 = subst (λ n. source < n) (sym many2) a.within in
-        let s : seat ≡ seat_at seats2 source = is ∙ any_default seats2 source seat no_seat there in
-        subst (λ q. LinksGo source seats (set seats2 source q)) (sym (goes ∙ ap (λ (q : SeatView). record q { outs = row' }) s)) links_go
+-- the same, with the seat that was found
+module _ {source : ℕ} {seats : List SeatView} (a : RowApart source (seat_at seats source).outs seats) (seat : SeatView) {taken : SeatView} (taken_is : taken ≡ record (get_or seats source seat) { outs = [] })
+    (row : List RingOutView) (row_is : row ≡ (get_or seats source seat).outs) where
+  found : get_or seats source seat ≡ seat_at seats source
+  found = any_default seats source seat no_seat a.within
+
+  without : taken ≡ record (seat_at seats source) { outs = [] }
+  without = taken_is ∙ ap (λ (q : SeatView). record q { outs = [] }) found
+
+  found_row : row ≡ (seat_at seats source).outs
+  found_row = row_is ∙ ap (λ (q : SeatView). q.outs) found
+
+  pub row_taken : RowApart source row (set seats source taken)
+  row_taken = subst (λ l. RowApart source l (set seats source taken)) (sym found_row) (subst (λ q. RowApart source (seat_at seats source).outs (set seats source q)) (sym without) (row_apart a))
+
+  pub row_put : (row' outs' : List RingOutView) (seats' : List SeatView) (seat' full : SeatView) → outs' ≡ row' → RowSoFar source (length row) row (set seats source taken) row' seats'
+      → full ≡ record (get_or seats' source seat') { outs = outs' } → LinksGo source seats (set seats' source full)
+  row_put row' outs' seats' seat' full outs_are r full_is =
+      let r1 : RowSoFar source (length (seat_at seats source).outs) (seat_at seats source).outs (set seats source (record (seat_at seats source) { outs = [] })) row' seats' =
+          subst (λ q. RowSoFar source (length (seat_at seats source).outs) (seat_at seats source).outs (set seats source q) row' seats') without
+          (subst (λ l. RowSoFar source (length l) l (set seats source taken) row' seats') found_row r) in
+      let there : source < length seats' = let m : length seats' ≡ length (set seats source taken) = r.many in subst (λ n. source < n) (sym (m ∙ length-set seats source taken)) a.within in
+      subst (λ q. LinksGo source seats (set seats' source q)) (sym (full_is ∙ ap (λ l. record (get_or seats' source seat') { outs = l }) outs_are ∙ ap (λ (q : SeatView). record q { outs = row' }) (any_default seats' source seat' no_seat there))) (links_go a r1)
 
 -- one seat after another
 
@@ -364,3 +382,6 @@ module _ {source : ℕ} {before now : List SeatView} (b : BesideSoFar source bef
       ins_left = λ s target e le ls lt n.
           let m : s ≢ source = λ i. absurd (omega (arith, i, le)) in g.ins_left s target e m n (in_now target lt) ∙ b.ins_left s target e (omega (arith, le)) ls lt n;
     }
+
+pub beside_ends : {source : ℕ} {before now : List SeatView} → BesideSoFar source before now → length now ≤ source → source ≤ length now → BesideSoFar (length before) before now
+beside_ends {source} {before} {now} b all within = let m : length now ≡ length before = b.many in subst (λ n. BesideSoFar n before now) (omega (arith, m, all, within)) b

@@ -47,7 +47,8 @@ fn link<S: Scheduler + Drop>(
 {
     let (out, inlet) = ring(alloc, PLACES)?;
     seats[source].add_outlet(out)?;
-    seats[target].add_inlet(inlet)
+    seats[target].add_inlet(inlet)?;
+    Ok(())
 }
 
 /// Brings the two ends of each link beside each other: what was put since becomes known to wait. Takes no memory.
