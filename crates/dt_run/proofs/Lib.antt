@@ -13,6 +13,8 @@ pub mod Keeping
 pub mod Lent
 pub mod RowBeside
 pub mod Linking
+pub mod SeatTurning
+pub mod SeatMaking
 pub mod Finishing
 pub mod MakingAgain
 pub mod RunLaws
