@@ -9,7 +9,7 @@ use Rattle.dt_region.specs.Sound.{IsSoundRegion}
 use Rattle.dt_node.specs.NodeView.{NodeView}
 use Rattle.dt_run.specs.SeatsInner.{SeatView, new_seat}
 
-module _ {seats seats' : List SeatView} {seat : SeatView} {node : NodeView} (more : seats' ≡ seats ++ seat ∷ []) (seat_is : seat ≡ new_seat node) where
+module _ (seats seats' : List SeatView) (seat : SeatView) (node : NodeView) (more : seats' ≡ seats ++ seat ∷ []) (seat_is : seat ≡ new_seat node) where
   pub seats_more : (opening : ℕ → NodeView) (region : ℕ) → seats ≡ map (λ r. new_seat (opening r)) (range_with_len 0 region) → node ≡ opening region
       → seats' ≡ map (λ r. new_seat (opening r)) (range_with_len 0 (region + 1))
   seats_more opening region all is =

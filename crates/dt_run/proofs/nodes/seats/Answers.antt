@@ -9,9 +9,13 @@ pub loop-region-preserved : goal.loop-region-preserved
 loop-region-preserved g c =
     let more = c.in_ok-push.ensures.items in
     let made = c.new-in-loop-region.ensures in
+    let seats = c.loop-region.seats.items in
+    let seats' = c.push.new.self.items in
+    let seat = c.new-in-loop-region.result in
+    let node = c.in_ok-node.node in
     record {
-      opening = seats_more more made (opening_node_of c.args.cluster.now c.args.workload.now) c.loop-region.region c.loop-region.invariant.opening c.in_ok-node.ensures;
-      sound = sound_more more made c.region.ensures c.number-number.ensures.sound c.loop-region.invariant.sound;
+      opening = seats_more seats seats' seat node more made (opening_node_of c.args.cluster.now c.args.workload.now) c.loop-region.region c.loop-region.invariant.opening c.in_ok-node.ensures;
+      sound = sound_more seats seats' seat node more made c.region.ensures c.number-number.ensures.sound c.loop-region.invariant.sound;
     }
 
 pub returns-clause-opening : goal.returns-clause-opening

@@ -1,9 +1,10 @@
+use denote.Param.Send.{sendable}
 use Rattle.std.proofs.Common.{sym, subst}
 use Rattle.dt_run.specs.SeatsInner.{SeatCan, SeatGoes, no_seat, seat_at}
 use Rattle.dt_run.proofs.nodes.turn_all.Goals as goal
 
 pub for_each_mut-requires-sync-F : goal.for_each_mut-requires-sync-F
-for_each_mut-requires-sync-F g c κs within = let h = c.type_bounds in ?
+for_each_mut-requires-sync-F g c κs within = search sendable depth 20
 
 pub for_each_mut-requires-clause-accepts : goal.for_each_mut-requires-clause-accepts
 for_each_mut-requires-clause-accepts g c κs within = λ i p lt is. subst (SeatCan c.args.procs.now) (sym is) (c.requires i p.now lt)
