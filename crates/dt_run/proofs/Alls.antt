@@ -1,5 +1,5 @@
 -- Asking of each item of a list, one after another, whether it has something.
-use Rattle.std.proofs.Common.{◌≡◌, ◌<◌, ◌≤◌, ◌+◌, ◌↔◌, ℕ, zero, suc, List, [], ◌∷◌, length, take, get_or, sym, subst, ◌∙◌, arith}
+use Rattle.std.proofs.Common.{◌≡◌, ◌<◌, ◌≤◌, ◌+◌, ◌↔◌, ℕ, zero, suc, List, [], ◌∷◌, length, take, get_or, sym, refl, subst, ◌∙◌, arith}
 use Rattle.dt_lists.specs.Lists.{AllIn}
 
 pub all_next : {A : Type 0} (P : A → Type 0) (xs : List A) (i : ℕ) (x : A) → x ≡ get_or xs i x → i < length xs → AllIn P (take i xs) → P x → AllIn P (take (i + 1) xs)
@@ -24,3 +24,7 @@ pub all_one : {A : Type 0} (P : A → Type 0) (xs : List A) (i : ℕ) (x : A) �
 all_one P [] i x is lt a = absurd (omega (arith, lt))
 all_one P (y ∷ xs) zero x is lt a = subst P (sym is) a.0
 all_one P (y ∷ xs) (suc i) x is lt a = all_one P xs i x is (omega (arith, lt)) a.1
+
+pub all_by_place : {A : Type 0} (P : A → Type 0) (xs : List A) → ((i : ℕ) (x : A) → i < length xs → x ≡ get_or xs i x → P x) → AllIn P xs
+all_by_place P [] f = tt
+all_by_place P (x ∷ xs) f = (f zero x (omega arith) refl, all_by_place P xs (λ i y lt e. f (suc i) y (omega (arith, lt)) e))

@@ -10,7 +10,11 @@ pub mod Turning
 pub mod Snapshots
 pub mod Waiting
 pub mod Keeping
+pub mod Lent
 pub mod RowBeside
+pub mod Linking
+pub mod SeatTurning
+pub mod SeatMaking
 pub mod Finishing
 pub mod MakingAgain
 pub mod RunLaws

@@ -1,5 +1,5 @@
 -- The numbers of links: at each region its links are in ascending order of the other regions.
-use Rattle.std.proofs.Common.{◌≡◌, ◌≢◌, ◌<◌, ◌≤◌, ◌+◌, ◌-◌, ℕ, suc, refl, sym, ap, ◌∙◌, inl, inr, arith}
+use Rattle.std.proofs.Common.{◌≡◌, ◌≢◌, ◌<◌, ◌≤◌, ◌+◌, ◌-◌, ℕ, suc, refl, sym, ap, subst, ◌∙◌, inl, inr, arith}
 use Rattle.std.proofs.lemmas.Bool.{le-ltb, lt-ltb}
 use Rattle.dt_lists.specs.Lists.{Either}
 use Rattle.dt_lists.proofs.Callers.{either_le}
@@ -58,6 +58,18 @@ link_of regions me link lm ll = by (either_le (suc link) me)
       apart = λ e. absurd (omega (arith, e, n));
       is = let e : link_to me (link + 1) ≡ (link + 1) - 1 = link_above me (link + 1) (omega (arith, n)) in omega (arith, e);
     }
+
+-- the link of a number is that to this region
+pub record LinkOfNumber (regions me link other : ℕ) : Type 0 where
+  pub there : other < regions
+  pub apart : other ≢ me
+  pub is : link_to me other ≡ link
+
+pub link_of_number : (regions me link : ℕ) → me < regions → link + 1 < regions → LinkOfNumber regions me link (other_at me link)
+link_of_number regions me link lm ll =
+    let l : LinkOf regions me link = link_of regions me link lm ll in
+    let e : l.other ≡ other_at me link = sym (other_of_link me l.other l.apart) ∙ ap (other_at me) l.is in
+    subst (LinkOfNumber regions me link) e (record { there = l.there; apart = l.apart; is = l.is })
 
 -- two regions have two links
 pub links_apart : (me a b : ℕ) → a ≢ me → b ≢ me → a ≢ b → link_to me a ≢ link_to me b

@@ -1,7 +1,8 @@
-ghost use Rattle.std.specs.Prelude.{◌≡◌, ◌++◌, ◌∷◌, [], flat_map, length, map, OnOk};
-ghost use Rattle.dt_lists.specs.Lists.{Pairwise};
+ghost use Rattle.std.specs.Prelude.{◌≡◌, ◌<◌, ◌≤◌, ◌+◌, ◌^◌, ◌++◌, ◌∷◌, [], flat_map, length, map, OnOk};
+ghost use Rattle.dt_lists.specs.Lists.{AllIn, Pairwise};
 ghost use Rattle.dt_ring.specs.Rings.{SameIn, SameOut};
 ghost use Rattle.dt_node.specs.Sending.{HasSent};
+ghost use Rattle.dt_node.specs.Standing.{NodeStands};
 ghost use Rattle.dt_node.specs.Turn.{BeginsEagerly, HasTaken, IsSettled};
 ghost use Rattle.dt_run.specs.Phase.{TurnsOnce};
 ghost use Rattle.dt_run.specs.SeatsInner.{SeatCan, SeatGoes, SeatTurned, new_seat, seen_out, waits_in};
@@ -14,6 +15,7 @@ use dt_sched::Scheduler;
 use dt_text::NoMemory;
 use std::alloc::Global;
 use std::marker::Model;
+use std::mem;
 
 /// A node with its ends of all links: what goes to a thread in a phase.
 #[derive(Drop)]
@@ -54,6 +56,37 @@ impl<S: Scheduler + Drop> Seat<S> {
         }
     }
 
+    /// Puts the outlet of a new link behind those that it has.
+    pub fn add_outlet(&mut self, out: RingOut) -> Result<(), NoMemory>
+        ensures { OnOk result (self.new ≡ record self.old { outs = self.old.outs ++ out ∷ [] }) }
+    {
+        self.outs.push(out)?;
+        Ok(())
+    }
+
+    /// Puts the inlet of a new link behind those that it has.
+    pub fn add_inlet(&mut self, inlet: RingIn) -> Result<(), NoMemory>
+        ensures { OnOk result (self.new ≡ record self.old { ins = self.old.ins ++ inlet ∷ [] }) }
+    {
+        self.ins.push(inlet)?;
+        Ok(())
+    }
+
+    /// Takes all outlets out, until they are put back. Takes no memory.
+    pub fn take_outlets(&mut self, alloc: Global) -> Vec<RingOut>
+        ensures outlets { result.items ≡ self.old.outs }
+        ensures seat { self.new ≡ record self.old { outs = [] } }
+    {
+        mem::replace(&mut self.outs, Vec::new(alloc))
+    }
+
+    /// Puts the outlets back that were taken out.
+    pub fn put_outlets(&mut self, outs: Vec<RingOut>)
+        ensures { self.new ≡ record self.old { outs = outs.items } }
+    {
+        self.outs = outs;
+    }
+
     /// Makes a turn, and notes whether it failed.
     pub fn turn(&mut self, alloc: Global, procs: &Procs)
         requires { SeatCan procs.now self.old }
@@ -71,11 +104,10 @@ impl<S: Scheduler + Drop> Seat<S> {
         ensures outs { Pairwise SameOut self.old.outs self.new.outs }
         ensures whole { OnOk result (SeatTurned procs.now self.old self.new) }
     {
-        self.marks.reserve(1)?;
-        self.node.turn(
+        turn_node(
+            &mut self.node,
             alloc,
             procs,
-            &Alone,
             self.ins.as_mut_slice(),
             self.outs.as_mut_slice(),
         )?;
@@ -83,4 +115,28 @@ impl<S: Scheduler + Drop> Seat<S> {
         self.marks.push(kept)?;
         Ok(())
     }
+}
+
+/// Makes a turn of a node over the ends of its links. It fails only for want of memory.
+fn turn_node<S: Scheduler + Drop>(
+    node: &mut Node<S>,
+    alloc: Global,
+    procs: &Procs,
+    ins: &mut [RingIn],
+    outs: &mut [RingOut],
+) -> Result<(), NoMemory>
+    requires stands { NodeStands procs.now (flat_map waits_in ins.old) node.old }
+    requires ends { length outs.old + 1 ≡ node.old.site.region.state.regions }
+    requires free { AllIn (λ out. 2 ≤ out.free) outs.old }
+    requires turns { node.old.turns + 1 < 2 ^ 64 }
+    ensures once { TurnsOnce procs.now (flat_map waits_in ins.old) node.old node.new }
+    ensures ins { Pairwise SameIn ins.old ins.new }
+    ensures outs { Pairwise SameOut outs.old outs.new }
+    ensures emptied { OnOk result (flat_map waits_in ins.new ≡ []) }
+    ensures taken { OnOk result (HasTaken (flat_map waits_in ins.old) node.old node.new) }
+    ensures settled { OnOk result (IsSettled node.old node.new) }
+    ensures begins { OnOk result (flat_map waits_in ins.old ≡ [] → BeginsEagerly procs.now node.old node.new) }
+    ensures sent { OnOk result (HasSent node.old node.new (map seen_out outs.old) (map seen_out outs.new)) }
+{
+    node.turn(alloc, procs, &Alone, ins, outs)
 }

@@ -1,0 +1,16 @@
+use Rattle.std.proofs.Common.{◌∙◌, drop, length, sym}
+use Rattle.dt_run.proofs.Lent.{written_back}
+use Rattle.dt_run.proofs.RowBeside.{row_put, row_taken}
+use Rattle.dt_run.proofs.links.beside_from.Goals as goal
+
+pub beside_row-requires : goal.beside_row-requires
+beside_row-requires g c =
+    row_taken c.requires c.index-seats-source.result c.take_outlets-row.ensures.seat c.as_mut_slice.result.now (c.as_mut_slice.ensures.value ∙ c.take_outlets-row.ensures.outlets)
+
+pub returns : goal.returns
+returns g c =
+    let row = c.beside_row.new.row in
+    let old = c.take_outlets-row.result in
+    row_put c.requires c.index-seats-source.result c.take_outlets-row.ensures.seat c.as_mut_slice.result.now (c.as_mut_slice.ensures.value ∙ c.take_outlets-row.ensures.outlets) row _
+    c.beside_row.new.seats c.index-seats-source-2.result c.put_outlets.new.self
+    (written_back old.len row (drop (length row) old.items) (sym c.as_mut_slice.ensures.len ∙ sym c.beside_row.ensures.many_outs)) c.beside_row.ensures c.put_outlets.ensures
