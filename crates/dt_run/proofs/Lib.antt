@@ -20,3 +20,5 @@ pub mod Planning
 pub mod InStep
 pub mod Together
 pub mod Assembled
+pub mod OpeningSeats
+pub mod PhaseMade
