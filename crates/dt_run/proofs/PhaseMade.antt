@@ -1,5 +1,6 @@
 -- What a phase makes of all nodes, whether it failed or not, from the turns at their seats.
-use Rattle.std.proofs.Common.{◌≡◌, ◌<◌, ℕ, true, false, Bool, List, All, length, sym, subst}
+use Rattle.std.proofs.Common.{◌≡◌, ◌<◌, ◌++◌, ℕ, true, false, Bool, List, All, length, drop, take, sym, ap, subst, ◌∙◌}
+use Rattle.std.proofs.Math.Seq.{take-append_seam}
 use Rattle.std.proofs.lemmas.List.Elements.{All-from_get_or}
 use Rattle.dt_lists.specs.Lists.{AllIn}
 use Rattle.dt_cluster.specs.declared.Cluster.{Cluster}
@@ -45,3 +46,48 @@ module _ {cluster : Cluster} {workload : Workload} {seats : List SeatView} {brok
 
       pub made_in_step : EndsInStep (nodes_view cluster workload seats broken) (nodes_view cluster workload seats'' broken)
       made_in_step = subst (λ later. EndsInStep (nodes_view cluster workload seats broken) (nodes_view cluster workload seats'' later)) (sym sound) (ends_in_step a sound g whole b)
+
+-- what was lent as a slice is back in its vector
+abbrev pub put_back : {A : Type 0} → ℕ → List A → List A → List A
+put_back len items now = take len (now ++ drop (length now) items)
+
+put_back_is : {A : Type 0} (len : ℕ) (items now : List A) → len ≡ length items → length now ≡ length items → put_back len items now ≡ now
+put_back_is len items now full same = ap (λ n. take n (now ++ drop (length now) items)) (full ∙ sym same) ∙ take-append_seam now (drop (length now) items)
+
+-- the same of seats in their vector
+module _ {cluster : Cluster} {workload : Workload} {seats : List SeatView} {broken : Bool} (a : AreSeated cluster workload seats broken) (sound : broken ≡ false) (len : ℕ) (full : len ≡ length seats)
+    {lent turned : List SeatView} (lent_is : lent ≡ seats) (goes : EachGoes cluster.procs lent turned) where
+  g : EachGoes cluster.procs seats turned
+  g = subst (λ l. EachGoes cluster.procs l turned) lent_is goes
+
+  turned_is : put_back len seats turned ≡ turned
+  turned_is = put_back_is len seats turned full g.many
+
+  pub failed_seats : AreSeated cluster workload (put_back len seats turned) true
+  failed_seats = subst (λ l. AreSeated cluster workload l true) (sym turned_is) (failed_seated a sound g)
+
+  pub phase_failed : IsPhase (nodes_view cluster workload seats broken) (nodes_view cluster workload (put_back len seats turned) true)
+  phase_failed = subst (λ l. IsPhase (nodes_view cluster workload seats broken) (nodes_view cluster workload l true)) (sym turned_is) (failed_phase a sound g)
+
+  module _ {lent2 : List SeatView} (lent2_is : lent2 ≡ put_back len seats turned) where
+    pub ends_apart : AreLinked AreApart lent2
+    ends_apart = subst (AreLinked AreApart) (sym (lent2_is ∙ turned_is)) (links_apart a sound g)
+
+    module _ {asked : List SeatView} (asked_is : asked ≡ put_back len seats turned) (none : AllIn (λ s. s.failed ≡ false) asked) {beside : List SeatView} (so_far : BesideSoFar (length lent2) lent2 beside) where
+      n : AllIn (λ s. s.failed ≡ false) turned
+      n = subst (AllIn (λ s. s.failed ≡ false)) (asked_is ∙ turned_is) none
+
+      b : BesideSoFar (length turned) turned beside
+      b = subst (λ l. BesideSoFar (length l) l beside) (lent2_is ∙ turned_is) so_far
+
+      beside_is : put_back len (put_back len seats turned) beside ≡ beside
+      beside_is = put_back_is len (put_back len seats turned) beside (full ∙ sym g.many ∙ ap length (sym turned_is)) (b.many ∙ ap length (sym turned_is))
+
+      pub seats_made : AreSeated cluster workload (put_back len (put_back len seats turned) beside) broken
+      seats_made = subst (λ l. AreSeated cluster workload l broken) (sym beside_is) (made_seated a sound g n b)
+
+      pub phase_made : IsPhase (nodes_view cluster workload seats broken) (nodes_view cluster workload (put_back len (put_back len seats turned) beside) broken)
+      phase_made = subst (λ l. IsPhase (nodes_view cluster workload seats broken) (nodes_view cluster workload l broken)) (sym beside_is) (made_phase a sound g n b)
+
+      pub in_step_made : EndsInStep (nodes_view cluster workload seats broken) (nodes_view cluster workload (put_back len (put_back len seats turned) beside) broken)
+      in_step_made = subst (λ l. EndsInStep (nodes_view cluster workload seats broken) (nodes_view cluster workload l broken)) (sym beside_is) (made_in_step a sound g n b)
