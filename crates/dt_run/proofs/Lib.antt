@@ -20,5 +20,6 @@ pub mod Planning
 pub mod InStep
 pub mod Together
 pub mod Assembled
-pub mod OpeningSeats
+pub mod KeptLists
 pub mod PhaseMade
+pub mod OpeningSeats

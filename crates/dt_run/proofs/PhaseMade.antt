@@ -51,7 +51,7 @@ module _ {cluster : Cluster} {workload : Workload} {seats : List SeatView} {brok
 abbrev pub put_back : {A : Type 0} → ℕ → List A → List A → List A
 put_back len items now = take len (now ++ drop (length now) items)
 
-put_back_is : {A : Type 0} (len : ℕ) (items now : List A) → len ≡ length items → length now ≡ length items → put_back len items now ≡ now
+pub put_back_is : {A : Type 0} (len : ℕ) (items now : List A) → len ≡ length items → length now ≡ length items → put_back len items now ≡ now
 put_back_is len items now full same = ap (λ n. take n (now ++ drop (length now) items)) (full ∙ sym same) ∙ take-append_seam now (drop (length now) items)
 
 -- the same of seats in their vector

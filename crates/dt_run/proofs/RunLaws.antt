@@ -1,10 +1,12 @@
 -- The merged events of nodes that are done are a legal run, eager and finished.
 use Rattle.std.proofs.Common.{◌≡◌, ◌≢◌, ◌<◌, ◌≤◌, ◌+◌, ◌⊎◌, ℕ, true, false, eqb, List, [], ◌∷◌, length, map, filter, Some, refl, sym, ap, subst, ◌∙◌, inl, inr, arith, eq-eqb}
+use Rattle.std.proofs.Common.{Result, Ok, Err, IfOk}
 use Rattle.std.proofs.lemmas.Bool.{cases_Bool, false_from_ne_true}
 use Rattle.std.specs.Map.{lookup}
 use Rattle.dt_lists.specs.Lists.{AllIn, Distinct, Has, IsFront}
 use Rattle.dt_lists.proofs.Callers.{all_get, all_put, get_of_map, has_map}
 use Rattle.dt_access.specs.Clash.{Bytes}
+use Rattle.dt_text.specs.declared.NoMemory.{NoMemory}
 use Rattle.dt_events.specs.declared.Event.{Event}
 use Rattle.dt_events.specs.declared.Stamped.{Stamped}
 use Rattle.dt_events.specs.Events.{region_of}
@@ -154,3 +156,7 @@ module _ {v : NodesView} (n : AreNodes v) (sound : v.broken ≡ false) (some : 1
   run_report report is =
       let same : report.events ≡ events = ap (λ (r : Report). r.events) is in
       record { run = subst (IsRun v) (sym same) merged_run; report_is = is ∙ ap (report_of v.cluster v.workload) (sym same) }
+
+  pub report_told : (answer : Result Report NoMemory) → IfOk answer (λ report. report ≡ report_of v.cluster v.workload events) → IfOk answer (IsRunReport v)
+  report_told (Ok report) is = run_report report is
+  report_told (Err e) is = tt

@@ -1,0 +1,17 @@
+use Rattle.std.proofs.Common.{◌≡◌, Bor, IfOk, List, ap, map, subst, sym, ◌∙◌}
+use Rattle.dt_events.specs.declared.Stamped.{Stamped}
+use Rattle.dt_merge.specs.Merge.{AreKept}
+use Rattle.dt_run.specs.NodesView.{NodesView, kept_by}
+use Rattle.dt_run.specs.Run.{AreMerged}
+use Rattle.dt_run.proofs.KeptLists.{all_kept}
+use Rattle.dt_run.proofs.Laws.{are_kept}
+use Rattle.dt_run.proofs.nodes.Nodes.merged.Goals as goal
+
+pub merged-requires : goal.merged-requires
+merged-requires g c =
+    subst AreKept (sym (all_kept c.loop-seat.seat-index c.loop-seat.invariant c.as_slice-seat-items.ensures.value c.loop-seat-test.false)) (are_kept c.self.invariant.nodes.chronicle)
+
+pub returns : goal.returns
+returns g c =
+    subst (λ k. IfOk c.merged.result (λ events. AreMerged k events.items))
+    (all_kept c.loop-seat.seat-index c.loop-seat.invariant c.as_slice-seat-items.ensures.value c.loop-seat-test.false ∙ ap (λ (v : NodesView). kept_by v.nodes) c.self.view_is) c.merged.ensures
