@@ -197,11 +197,13 @@ module _ {cluster : Cluster} (ok : IsValidCluster cluster) {workload : Workload}
     back : put_back len given seats ≡ seats
     back = put_back_is len given seats full (sym (length-map seats unlinked) ∙ ap length (bare ∙ lent_is))
 
-    pub opened_is : nodes_view cluster workload (put_back len given seats) false ≡ opening_nodes cluster workload
-    opened_is = ap (λ l. nodes_view cluster workload l false) back ∙ opening_is ok fits sound_at nodes_same unmarked linked empty
+    -- with copies of the cluster and the workload
+    module _ {copy : Cluster} {copied : Workload} (copy_is : copy ≡ cluster) (copied_is : copied ≡ workload) where
+      pub opened_is : nodes_view copy copied (put_back len given seats) false ≡ opening_nodes cluster workload
+      opened_is = (λ i. nodes_view (copy_is i) (copied_is i) (back i) false) ∙ opening_is ok fits sound_at nodes_same unmarked linked empty
 
-    pub opened_seated : AreSeated cluster workload (put_back len given seats) false
-    opened_seated = subst (λ l. AreSeated cluster workload l false) (sym back) (opening_seated ok fits sound_at nodes_same unmarked linked empty)
-
-    pub opened_nodes : AreNodes (nodes_view cluster workload (put_back len given seats) false)
-    opened_nodes = subst AreNodes (sym opened_is) (opening_are_nodes ok fits sound_at)
+      pub opened_seated : AreSeated copy copied (put_back len given seats) false
+      opened_seated =
+          subst (λ (k : Cluster). AreSeated k copied (put_back len given seats) false) (sym copy_is)
+          (subst (λ (w : Workload). AreSeated cluster w (put_back len given seats) false) (sym copied_is)
+          (subst (λ l. AreSeated cluster workload l false) (sym back) (opening_seated ok fits sound_at nodes_same unmarked linked empty)))
