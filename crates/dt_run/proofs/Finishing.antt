@@ -67,8 +67,8 @@ module _ {cluster : Cluster} {workload : Workload} {seats : List SeatView} {brok
   )
 
   pub not_done_if : {asked : List SeatView} → asked ≡ seats → (b : Bool) → (IsTrue b ↔ AllIn (λ s. AreAllAnswered s.node.sessions) asked) → b ≡ false → IsTrue b ↔ AreDone v
-  not_done_if asked_is b answered no = (
-    λ t. absurd (false≢true (sym no ∙ t)),
+  not_done_if asked_is b answered fails = (
+    λ t. absurd (false≢true (sym fails ∙ t)),
     λ d. answered.1 (subst (AllIn (λ s. AreAllAnswered s.node.sessions)) (sym asked_is) (all_answered d.answered)),
   )
 
