@@ -66,8 +66,10 @@ module _ {cluster : Cluster} {workload : Workload} {seats : List SeatView} {brok
   pub failed_seats : AreSeated cluster workload (put_back len seats turned) true
   failed_seats = subst (λ l. AreSeated cluster workload l true) (sym turned_is) (failed_seated a sound g)
 
-  pub phase_failed : IsPhase (nodes_view cluster workload seats broken) (nodes_view cluster workload (put_back len seats turned) true)
-  phase_failed = subst (λ l. IsPhase (nodes_view cluster workload seats broken) (nodes_view cluster workload l true)) (sym turned_is) (failed_phase a sound g)
+  pub phase_failed : {before : NodesView} → nodes_view cluster workload seats broken ≡ before → IsPhase before (nodes_view cluster workload (put_back len seats turned) true)
+  phase_failed is =
+      subst (λ v. IsPhase v (nodes_view cluster workload (put_back len seats turned) true)) is
+      (subst (λ l. IsPhase (nodes_view cluster workload seats broken) (nodes_view cluster workload l true)) (sym turned_is) (failed_phase a sound g))
 
   module _ {lent2 : List SeatView} (lent2_is : lent2 ≡ put_back len seats turned) where
     pub ends_apart : AreLinked AreApart lent2
@@ -86,8 +88,12 @@ module _ {cluster : Cluster} {workload : Workload} {seats : List SeatView} {brok
       pub seats_made : AreSeated cluster workload (put_back len (put_back len seats turned) beside) broken
       seats_made = subst (λ l. AreSeated cluster workload l broken) (sym beside_is) (made_seated a sound g n b)
 
-      pub phase_made : IsPhase (nodes_view cluster workload seats broken) (nodes_view cluster workload (put_back len (put_back len seats turned) beside) broken)
-      phase_made = subst (λ l. IsPhase (nodes_view cluster workload seats broken) (nodes_view cluster workload l broken)) (sym beside_is) (made_phase a sound g n b)
+      pub phase_made : {before : NodesView} → nodes_view cluster workload seats broken ≡ before → IsPhase before (nodes_view cluster workload (put_back len (put_back len seats turned) beside) broken)
+      phase_made is =
+          subst (λ v. IsPhase v (nodes_view cluster workload (put_back len (put_back len seats turned) beside) broken)) is
+          (subst (λ l. IsPhase (nodes_view cluster workload seats broken) (nodes_view cluster workload l broken)) (sym beside_is) (made_phase a sound g n b))
 
-      pub in_step_made : EndsInStep (nodes_view cluster workload seats broken) (nodes_view cluster workload (put_back len (put_back len seats turned) beside) broken)
-      in_step_made = subst (λ l. EndsInStep (nodes_view cluster workload seats broken) (nodes_view cluster workload l broken)) (sym beside_is) (made_in_step a sound g n b)
+      pub in_step_made : {before : NodesView} → nodes_view cluster workload seats broken ≡ before → EndsInStep before (nodes_view cluster workload (put_back len (put_back len seats turned) beside) broken)
+      in_step_made is =
+          subst (λ v. EndsInStep v (nodes_view cluster workload (put_back len (put_back len seats turned) beside) broken)) is
+          (subst (λ l. EndsInStep (nodes_view cluster workload seats broken) (nodes_view cluster workload l broken)) (sym beside_is) (made_in_step a sound g n b))

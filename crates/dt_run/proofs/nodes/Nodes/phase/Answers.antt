@@ -1,6 +1,5 @@
-use Rattle.std.proofs.Common.{◌≡◌, false, All, ap, refl, subst, sym, ◌∙◌}
+use Rattle.std.proofs.Common.{◌≡◌, false, All, ap, subst, sym, ◌∙◌}
 use Rattle.dt_run.specs.NodesView.{NodesView}
-use Rattle.dt_run.specs.Phase.{EndsInStep, IsPhase}
 use Rattle.dt_run.specs.SeatsInner.{SeatCan}
 use Rattle.dt_run.proofs.PhaseMade.{ends_apart, failed_seats, in_step_made, phase_failed, phase_made, seats_can, seats_made}
 use Rattle.dt_run.proofs.nodes.Nodes.phase.Goals as goal
@@ -18,7 +17,7 @@ invariant_of-self g c =
 pub returns-then-some_failed-clause-phase : goal.returns-then-some_failed-clause-phase
 returns-then-some_failed-clause-phase g c =
     let sound : c.self.inside.broken ≡ false = ap (λ (v : NodesView). v.broken) c.self.view_is ∙ c.requires in
-    subst (λ v. IsPhase v _) c.self.view_is (phase_failed c.self.invariant sound c.self.inside.seats.len c.self.inside.seats.ok.0 c.as_mut_slice.ensures.value c.turn_all.ensures)
+    phase_failed c.self.invariant sound c.self.inside.seats.len c.self.inside.seats.ok.0 c.as_mut_slice.ensures.value c.turn_all.ensures c.self.view_is
 
 pub returns-then-some_failed-clause-nodes : goal.returns-then-some_failed-clause-nodes
 returns-then-some_failed-clause-nodes g c =
@@ -39,16 +38,14 @@ invariant_of-self-2 g c =
 pub returns-clause-phase : goal.returns-clause-phase
 returns-clause-phase g c =
     let sound : c.self.inside.broken ≡ false = ap (λ (v : NodesView). v.broken) c.self.view_is ∙ c.requires in
-    subst (λ v. IsPhase v _) c.self.view_is
-    (phase_made c.self.invariant sound c.self.inside.seats.len c.self.inside.seats.ok.0 c.as_mut_slice.ensures.value c.turn_all.ensures c.as_mut_slice-2.ensures.value
-    c.as_slice.ensures.value (c.some_failed.ensures.0 c.if-some_failed.false) c.beside_all.ensures)
+    phase_made c.self.invariant sound c.self.inside.seats.len c.self.inside.seats.ok.0 c.as_mut_slice.ensures.value c.turn_all.ensures c.as_mut_slice-2.ensures.value
+    c.as_slice.ensures.value (c.some_failed.ensures.0 c.if-some_failed.false) c.beside_all.ensures c.self.view_is
 
 pub returns-clause-in_step : goal.returns-clause-in_step
 returns-clause-in_step g c =
     let sound : c.self.inside.broken ≡ false = ap (λ (v : NodesView). v.broken) c.self.view_is ∙ c.requires in
-    subst (λ v. EndsInStep v _) c.self.view_is
-    (in_step_made c.self.invariant sound c.self.inside.seats.len c.self.inside.seats.ok.0 c.as_mut_slice.ensures.value c.turn_all.ensures c.as_mut_slice-2.ensures.value
-    c.as_slice.ensures.value (c.some_failed.ensures.0 c.if-some_failed.false) c.beside_all.ensures)
+    in_step_made c.self.invariant sound c.self.inside.seats.len c.self.inside.seats.ok.0 c.as_mut_slice.ensures.value c.turn_all.ensures c.as_mut_slice-2.ensures.value
+    c.as_slice.ensures.value (c.some_failed.ensures.0 c.if-some_failed.false) c.beside_all.ensures c.self.view_is
 
 pub returns-clause-nodes : goal.returns-clause-nodes
 returns-clause-nodes g c =
