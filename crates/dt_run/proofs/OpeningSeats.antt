@@ -175,7 +175,7 @@ module _ {cluster : Cluster} (ok : IsValidCluster cluster) {workload : Workload}
   pub lent_new : AreNew lent
   lent_new = subst AreNew (sym (lent_is ∙ given_is)) (new_seats (opening_node_of cluster workload) (range_with_len 0 cluster.regions))
 
-  opened_seats : ℕ → SeatView
+  abbrev opened_seats : ℕ → SeatView
   opened_seats region = new_seat (opening_node_of cluster workload region)
 
   sound_at : (region : ℕ) → region < cluster.regions → IsSoundRegion (opening_state region cluster.regions (opening_table cluster))
