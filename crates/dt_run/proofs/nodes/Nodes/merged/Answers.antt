@@ -1,5 +1,4 @@
-use Rattle.std.proofs.Common.{◌≡◌, Bor, IfOk, List, ap, map, subst, sym, ◌∙◌}
-use Rattle.dt_events.specs.declared.Stamped.{Stamped}
+use Rattle.std.proofs.Common.{◌≡◌, IfOk, ap, subst, sym, ◌∙◌}
 use Rattle.dt_merge.specs.Merge.{AreKept}
 use Rattle.dt_region.specs.Region.{RegionView}
 use Rattle.dt_run.specs.NodesView.{NodesView, kept_by}

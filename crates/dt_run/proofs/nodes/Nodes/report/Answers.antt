@@ -1,8 +1,7 @@
 use Rattle.std.proofs.Common.{◌≡◌, ◌≤◌, false, IfOk, length, subst, sym}
 use Rattle.dt_run.specs.Done.{AreDone}
 use Rattle.dt_run.specs.NodesView.{NodesView, kept_by, marks_at}
-use Rattle.dt_run.specs.Run.{AreMerged, IsRun, IsRunReport}
-use Rattle.dt_run.specs.SeatsInner.{nodes_view}
+use Rattle.dt_run.specs.Run.{AreMerged, IsRunReport}
 use Rattle.dt_run.proofs.RunLaws.{merged_few, merged_run, report_told}
 use Rattle.dt_run.proofs.nodes.Nodes.report.Goals as goal
 
