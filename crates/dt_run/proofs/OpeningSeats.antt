@@ -1,16 +1,13 @@
 -- The seats of a cluster's nodes, when their links are made, are as the type of the nodes keeps them.
-use Rattle.std.proofs.Common.{◌≡◌, ◌<◌, ◌≤◌, ◌+◌, ◌-◌, ◌^◌, ℕ, zero, suc, true, false, Bool, List, [], ◌∷◌, length, map, filter, get_or, replicate, cond, eqb, refl, sym, ap, ap₂, subst, ◌∙◌, arith}
+use Rattle.std.proofs.Common.{◌≡◌, ◌<◌, ◌≤◌, ◌+◌, ◌-◌, ◌^◌, ℕ, zero, suc, true, false, Bool, List, [], ◌∷◌, length, map, filter, get_or, replicate}
+use Rattle.std.proofs.Common.{cond, eqb, refl, sym, ap, ap₂, subst, ◌∙◌, arith}
 use Rattle.std.specs.List.{range_with_len}
 use Rattle.std.specs.Ordering.{nat_cmp, is_lt}
 use Rattle.std.specs.Cmp.Lexicographic.{slice_cmp}
-use Rattle.std.proofs.lemmas.List.{get_or-replicate, length-map, length-replicate}
+use Rattle.std.proofs.lemmas.List.{length-map, length-replicate}
 use Rattle.std.proofs.lemmas.List.FromFn.{get_or-map-range_with_len, length-map-range_with_len}
 use Rattle.std.proofs.lemmas.List.Sums.{length-filter}
 use Rattle.dt_lists.specs.Lists.{AllIn}
-use Rattle.dt_lists.proofs.Callers.{all_get}
-use Rattle.dt_events.specs.declared.Stamped.{Stamped}
-use Rattle.dt_packet.specs.declared.packet.Packet.{Packet}
-use Rattle.dt_ring.specs.Rings.{RingInView}
 use Rattle.dt_region.specs.Sound.{IsSoundRegion}
 use Rattle.dt_region.specs.Rules.{opening_state}
 use Rattle.dt_cluster.specs.Valid.{IsValidCluster}
@@ -19,14 +16,14 @@ use Rattle.dt_workload.specs.Valid.{IsValidWorkload, session_count_at}
 use Rattle.dt_workload.specs.declared.Session.{Session}
 use Rattle.dt_workload.specs.declared.Workload.{Workload}
 use Rattle.dt_session.specs.Eager.{sessions_at, with_session}
-use Rattle.dt_session.specs.Sessions.{all_idle, idle_seat}
-use Rattle.dt_session.specs.World.{World, opening_table, opening_world, received_of, taken_of}
+use Rattle.dt_session.specs.Sessions.{idle_seat}
+use Rattle.dt_session.specs.World.{opening_table, opening_world}
 use Rattle.dt_site.proofs.Callers.{opening_sessions_stand, opening_stands}
 use Rattle.dt_merge.specs.Merge.{kept_at}
 use Rattle.dt_node.specs.NodeView.{NodeView, opening_node_of}
 use Rattle.dt_node.specs.Standing.{KnowsNoMore, NodeFits}
 use Rattle.dt_run.specs.NodesStand.{AreNodes}
-use Rattle.dt_run.specs.NodesView.{NodesView, kept_by, marks_at, no_running_node, node_in, opening_nodes, waiting_between}
+use Rattle.dt_run.specs.NodesView.{kept_by, no_running_node, opening_nodes}
 use Rattle.dt_run.specs.SeatsInner.{AreBeside, AreLinked, AreNew, AreSeated, SeatView, new_seat, no_seat, nodes_view, seat_at, unlinked, waits_in}
 use Rattle.dt_run.proofs.Finishing.{all_seats, each_seat}
 use Rattle.dt_run.proofs.PhaseMade.{put_back, put_back_is}
