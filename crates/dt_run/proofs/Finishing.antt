@@ -1,5 +1,6 @@
 -- All is done where all seats say so; and then the events of the nodes are a finished list.
-use Rattle.std.proofs.Common.{◌≡◌, ◌<◌, ◌≤◌, ◌+◌, ◌↔◌, ℕ, zero, suc, Bool, List, [], ◌∷◌, length, sym, subst, ◌∙◌, arith}
+use Rattle.std.proofs.Common.{◌≡◌, ◌<◌, ◌≤◌, ◌+◌, ◌↔◌, ℕ, zero, suc, false, Bool, IsTrue, List, [], ◌∷◌, length, sym, subst, ◌∙◌, arith}
+use Rattle.std.proofs.lemmas.Bool.{false≢true}
 use Rattle.std.proofs.lemmas.List.{length-map}
 use Rattle.dt_lists.specs.Lists.{AllIn}
 use Rattle.dt_events.specs.Stamps.{events_of}
@@ -56,6 +57,20 @@ module _ {cluster : Cluster} {workload : Workload} {seats : List SeatView} {brok
 
   pub are_done : AllIn (λ s. AreAllAnswered s.node.sessions) seats → AllIn (λ source. AllIn (λ s. HasDone s.node source.node) seats) seats → AreDone v
   are_done answered executed = record { answered = answered_all answered; executed = done_each executed }
+
+  -- whether all is done, as it is asked of seats in turn
+  pub done_if : {asked told : List SeatView} → asked ≡ seats → told ≡ seats → AllIn (λ s. AreAllAnswered s.node.sessions) asked
+      → (b : Bool) → (IsTrue b ↔ AllIn (λ source. AllIn (λ s. HasDone s.node source.node) told) told) → IsTrue b ↔ AreDone v
+  done_if {asked} {told} asked_is told_is answered b executed = (
+    λ t. are_done (subst (AllIn (λ s. AreAllAnswered s.node.sessions)) asked_is answered) (subst (λ l. AllIn (λ source. AllIn (λ s. HasDone s.node source.node) l) l) told_is (executed.0 t)),
+    λ d. executed.1 (subst (λ l. AllIn (λ source. AllIn (λ s. HasDone s.node source.node) l) l) (sym told_is) (each_done d.executed)),
+  )
+
+  pub not_done_if : {asked : List SeatView} → asked ≡ seats → (b : Bool) → (IsTrue b ↔ AllIn (λ s. AreAllAnswered s.node.sessions) asked) → b ≡ false → IsTrue b ↔ AreDone v
+  not_done_if asked_is b answered fails = (
+    λ t. absurd (false≢true (sym fails ∙ t)),
+    λ d. answered.1 (subst (AllIn (λ s. AreAllAnswered s.node.sessions)) (sym asked_is) (all_answered d.answered)),
+  )
 
   -- submissions are counted by 32 bits
   pub few_submitted : AllIn HasFewSubmitted seats

@@ -24,3 +24,6 @@ pub mod Planning
 pub mod InStep
 pub mod Together
 pub mod Assembled
+pub mod KeptLists
+pub mod PhaseMade
+pub mod OpeningSeats

@@ -1,7 +1,7 @@
 -- The merge of what regions keep is made by taking the least head off, again and again.
 use Rattle.std.proofs.Common.{◌≡◌, ◌≢◌, ◌<◌, ◌≤◌, ◌⊎◌, ◌+◌, ℕ, List, [], ◌∷◌, ◌++◌, length, map, get_or, slice_get, set, sum_by, zero, suc, Option, None, Some}
 use Rattle.std.proofs.Common.{refl, sym, ap, subst, ◌∙◌, inl, inr, arith, append-nil, append_assoc}
-use Rattle.std.proofs.lemmas.List.{get_or-set_same, get_or-set_other, map-append}
+use Rattle.std.proofs.lemmas.List.{get_or-set_same, get_or-set_other, length-map, map-append, map-set}
 use Rattle.std.proofs.lemmas.List.Sums.{sum_by-set}
 use Rattle.dt_lists.specs.Lists.{AllIn, EachThen, Has, Either}
 use Rattle.dt_lists.proofs.Callers.{either_nat}
@@ -71,6 +71,33 @@ module _ {kept left : List (List Stamped)} {events : List Event} (g : IsMerging 
       let sums : left_in (set left region l.rest) + length (kept_at left region) ≡ left_in left + length l.rest = sum_by-set length left region l.rest [] there in
       let long : length (kept_at left region) ≡ length (x ∷ l.rest) = ap length l.is in
       omega (arith, sums, long)
+
+-- what stands at a place of lists that are seen through something
+pub head_at : {X : Type 0} (f : X → List Stamped) (xs : List X) (i : ℕ) (x : X) → x ≡ get_or xs i x → i < length xs → kept_at (map f xs) i ≡ f x
+head_at f [] i x is lt = absurd (omega (arith, lt))
+head_at f (y ∷ xs) zero x is lt = ap f (sym is)
+head_at f (y ∷ xs) (suc i) x is lt = head_at f xs i x is (omega (arith, lt))
+
+-- the same of lists that are seen through something
+module _ {X : Type 0} (f : X → List Stamped) {kept : List (List Stamped)} {events : List Event} (left : List X) (g : IsMerging kept (map f left) events) {region stamp : ℕ}
+    (l : IsLeastOf (map f left) (length (map f left)) region stamp) (all rest : X) (first : Stamped) (all_is : all ≡ get_or left region all) (cut : f all ≡ first ∷ f rest) where
+  within : region < length left
+  within = let lt = l.within in omega (arith, lt, length-map left f)
+
+  same : l.first ∷ l.rest ≡ first ∷ f rest
+  same = sym l.is ∙ head_at f left region all all_is within ∙ cut
+
+  now_is : set (map f left) region l.rest ≡ map f (set left region rest)
+  now_is = let e : l.rest ≡ f rest = (let both = same in cc) in ap (set (map f left) region) e ∙ sym (map-set f left region rest)
+
+  pub taken_off : (event : Event) (events' : List Event) → event ≡ first.event → events' ≡ events ++ event ∷ [] → IsMerging kept (map f (set left region rest)) events'
+  taken_off event events' is put =
+      let head : l.first ≡ first = (let both = same in cc) in
+      subst (IsMerging kept (map f (set left region rest))) (sym (put ∙ ap (λ e. events ++ e ∷ []) (is ∙ sym (ap (λ (x : Stamped). x.event) head))))
+      (subst (λ n. IsMerging kept n (events ++ l.first.event ∷ [])) now_is (merging_goes g l))
+
+  pub less_left : left_in (map f (set left region rest)) < left_in (map f left)
+  less_left = subst (λ n. left_in n < left_in (map f left)) now_is (merging_falls g l)
 
 -- nothing is left
 pub merging_ends : {kept left : List (List Stamped)} {events : List Event} → IsMerging kept left events → ((region : ℕ) → kept_at left region ≡ []) → AreMerged kept events
@@ -166,12 +193,6 @@ pub none_beyond : (kept : List (List Stamped)) → IsFoundIn kept (length kept) 
 none_beyond [] f region = refl
 none_beyond (k ∷ kept) f zero = f 0 (omega arith)
 none_beyond (k ∷ kept) f (suc region) = none_beyond kept (λ q lt. f (suc q) (omega (arith, lt))) region
-
--- what stands at a place of lists that are seen through something
-pub head_at : {X : Type 0} (f : X → List Stamped) (xs : List X) (i : ℕ) (x : X) → x ≡ get_or xs i x → i < length xs → kept_at (map f xs) i ≡ f x
-head_at f [] i x is lt = absurd (omega (arith, lt))
-head_at f (y ∷ xs) zero x is lt = ap f (sym is)
-head_at f (y ∷ xs) (suc i) x is lt = head_at f xs i x is (omega (arith, lt))
 
 pub no_head : (xs : List Stamped) → None ≡ slice_get xs 0 → xs ≡ []
 no_head [] e = refl

@@ -1,10 +1,12 @@
 -- The merged events of nodes that are done are a legal run, eager and finished.
 use Rattle.std.proofs.Common.{◌≡◌, ◌≢◌, ◌<◌, ◌≤◌, ◌+◌, ◌⊎◌, ℕ, true, false, eqb, List, [], ◌∷◌, length, map, filter, Some, refl, sym, ap, subst, ◌∙◌, inl, inr, arith, eq-eqb}
+use Rattle.std.proofs.Common.{Result, Ok, Err, IfOk}
 use Rattle.std.proofs.lemmas.Bool.{cases_Bool, false_from_ne_true}
 use Rattle.std.specs.Map.{lookup}
 use Rattle.dt_lists.specs.Lists.{AllIn, Distinct, Has, IsFront}
 use Rattle.dt_lists.proofs.Callers.{all_get, all_put, get_of_map, has_map}
 use Rattle.dt_access.specs.Clash.{Bytes}
+use Rattle.dt_text.specs.declared.NoMemory.{NoMemory}
 use Rattle.dt_events.specs.declared.Event.{Event}
 use Rattle.dt_events.specs.declared.Stamped.{Stamped}
 use Rattle.dt_events.specs.Events.{region_of}
@@ -18,20 +20,23 @@ use Rattle.dt_session.specs.Finished.{AreAnswered}
 use Rattle.dt_session.specs.Run.{AreLegal, world_after}
 use Rattle.dt_session.specs.Sessions.{is_named}
 use Rattle.dt_session.specs.World.{World, Node, Place, is_session, node_at, opening_table, opening_world, session_at}
-use Rattle.dt_agreement.proofs.Callers.{places_parallel, session_of_test, test_of_key}
+use Rattle.dt_report.specs.declared.Report.{Report}
+use Rattle.dt_agreement.proofs.Callers.{legal_keeps, places_parallel, session_of_test, test_of_key}
 use Rattle.dt_merge.specs.Merge.{region_at, those_at}
+use Rattle.dt_merge.specs.Weight.{most_events}
 use Rattle.dt_merge.specs.WorldRegions.{HasInvariant}
 use Rattle.dt_site.specs.SessionsStandIn.{SessionsStandIn}
 use Rattle.dt_site.specs.Site.{node_of}
 use Rattle.dt_site.proofs.Callers.{attempts_have, kept_here}
+use Rattle.dt_world.specs.WorldReport.{report_of}
 use Rattle.dt_node.specs.NodeView.{NodeView}
 use Rattle.dt_node.specs.Standing.{NodeFits}
 use Rattle.dt_run.specs.Done.{AreDone}
 use Rattle.dt_run.specs.Marks.{kept_of}
 use Rattle.dt_run.specs.NodesStand.{AreInStep, AreNodes, BeganEagerly, StandsAmong}
 use Rattle.dt_run.specs.NodesView.{NodesView, kept_by, marks_at, no_running_node, node_in}
-use Rattle.dt_run.specs.Run.{AreMerged, IsRun}
-use Rattle.dt_run.proofs.Laws.{are_kept, merge_changes, merge_keeps, merge_legal, merge_world}
+use Rattle.dt_run.specs.Run.{AreMerged, IsRun, IsRunReport}
+use Rattle.dt_run.proofs.Laws.{are_kept, events_few, merge_changes, merge_keeps, merge_legal, merge_world, most_few}
 use Rattle.dt_run.proofs.Phasing.{good_world}
 
 -- the events of a region, with or without their stamps
@@ -138,3 +143,20 @@ module _ {v : NodesView} (n : AreNodes v) (sound : v.broken ≡ false) (some : 1
       executed = λ region source lr ls. subst (λ (w : World). AllIn (λ s. Has (done_ids (node_at w region).here) s.txn.id) (node_at w source).submitted) (sym same_world) (executed region source lr ls);
     };
   }
+
+  -- they are counted by 32 bits
+  pub merged_few : length events < 4294967295
+  merged_few =
+      let opening : HasInvariant v.cluster v.workload (opening_world v.cluster v.workload) = record { order = []; inv = legal_keeps v.cluster n.cluster v.workload n.workload [] tt } in
+      let few : length events ≤ most_events v.cluster v.workload = events_few v.cluster n.cluster v.workload n.workload (opening_world v.cluster v.workload) events opening legal changing in
+      omega (arith, few, most_few v.cluster n.cluster v.workload n.workload)
+
+  -- their report is that of a run
+  pub run_report : (report : Report) → report ≡ report_of v.cluster v.workload events → IsRunReport v report
+  run_report report is =
+      let same : report.events ≡ events = ap (λ (r : Report). r.events) is in
+      record { run = subst (IsRun v) (sym same) merged_run; report_is = is ∙ ap (report_of v.cluster v.workload) (sym same) }
+
+  pub report_told : (answer : Result Report NoMemory) → IfOk answer (λ report. report ≡ report_of v.cluster v.workload events) → IfOk answer (IsRunReport v)
+  report_told (Ok report) is = run_report report is
+  report_told (Err e) is = tt

@@ -1,4 +1,4 @@
-use Rattle.std.proofs.Common.{◌≡◌, ◌<◌, length, subst, arith}
+use Rattle.std.proofs.Common.{◌<◌, length, subst, arith}
 use Rattle.dt_session.specs.Sessions.{AreAllAnswered}
 use Rattle.dt_run.specs.SeatsInner.{SeatView}
 use Rattle.dt_run.proofs.Alls.{all_next}

@@ -1,0 +1,206 @@
+-- The seats of a cluster's nodes, when their links are made, are as the type of the nodes keeps them.
+use Rattle.std.proofs.Common.{◌≡◌, ◌<◌, ◌≤◌, ◌+◌, ◌-◌, ◌^◌, ℕ, zero, suc, true, false, Bool, List, [], ◌∷◌, length, map, filter, get_or, replicate}
+use Rattle.std.proofs.Common.{cond, eqb, refl, sym, ap, ap₂, subst, ◌∙◌, arith}
+use Rattle.std.specs.List.{range_with_len}
+use Rattle.std.specs.Ordering.{nat_cmp, is_lt}
+use Rattle.std.specs.Cmp.Lexicographic.{slice_cmp}
+use Rattle.std.proofs.lemmas.List.{length-map, length-replicate}
+use Rattle.std.proofs.lemmas.List.FromFn.{get_or-map-range_with_len, length-map-range_with_len}
+use Rattle.std.proofs.lemmas.List.Sums.{length-filter}
+use Rattle.dt_lists.specs.Lists.{AllIn}
+use Rattle.dt_region.specs.Sound.{IsSoundRegion}
+use Rattle.dt_region.specs.Rules.{opening_state}
+use Rattle.dt_cluster.specs.Valid.{IsValidCluster}
+use Rattle.dt_cluster.specs.declared.Cluster.{Cluster}
+use Rattle.dt_workload.specs.Valid.{IsValidWorkload, session_count_at}
+use Rattle.dt_workload.specs.declared.Session.{Session}
+use Rattle.dt_workload.specs.declared.Workload.{Workload}
+use Rattle.dt_session.specs.Eager.{sessions_at, with_session}
+use Rattle.dt_session.specs.Sessions.{idle_seat}
+use Rattle.dt_session.specs.World.{opening_table, opening_world}
+use Rattle.dt_site.proofs.Callers.{opening_sessions_stand, opening_stands}
+use Rattle.dt_merge.specs.Merge.{kept_at}
+use Rattle.dt_node.specs.NodeView.{NodeView, opening_node_of}
+use Rattle.dt_node.specs.Standing.{KnowsNoMore, NodeFits}
+use Rattle.dt_run.specs.NodesStand.{AreNodes}
+use Rattle.dt_run.specs.NodesView.{kept_by, no_running_node, opening_nodes}
+use Rattle.dt_run.specs.SeatsInner.{AreBeside, AreLinked, AreNew, AreSeated, SeatView, new_seat, no_seat, nodes_view, seat_at, unlinked, waits_in}
+use Rattle.dt_run.proofs.Finishing.{all_seats, each_seat}
+use Rattle.dt_run.proofs.PhaseMade.{put_back, put_back_is}
+use Rattle.dt_run.proofs.OpeningNodes.{AreOpening, opening_nodes_stand}
+
+-- sessions at a region are few
+
+with_one : (s : Session) (sessions : List Session) → length (with_session s sessions) ≡ length sessions + 1
+with_one s [] = refl
+with_one s (t ∷ sessions) = go (is_lt (slice_cmp nat_cmp s.name t.name)) (with_one s sessions)
+  where
+    go : (b : Bool) → length (with_session s sessions) ≡ length sessions + 1 → length (cond b (s ∷ t ∷ sessions) (t ∷ with_session s sessions)) ≡ length (t ∷ sessions) + 1
+    go true e = omega arith
+    go false e = omega (arith, e)
+
+many_at : (region : ℕ) (sessions : List Session) → length (sessions_at region sessions) ≡ length (filter (λ (s : Session). eqb s.region region) sessions)
+many_at region [] = refl
+many_at region (s ∷ sessions) = go (eqb s.region region) (many_at region sessions)
+  where
+    go : (b : Bool) → length (sessions_at region sessions) ≡ length (filter (λ (t : Session). eqb t.region region) sessions)
+        → length (cond b (with_session s (sessions_at region sessions)) (sessions_at region sessions))
+        ≡ length (cond b (s ∷ filter (λ (t : Session). eqb t.region region) sessions) (filter (λ (t : Session). eqb t.region region) sessions))
+    go true e = let one : length (with_session s (sessions_at region sessions)) ≡ length (sessions_at region sessions) + 1 = with_one s (sessions_at region sessions) in omega (arith, one, e)
+    go false e = e
+
+-- lists of the same
+
+same_each : {A B : Type 0} (f : A → B) (y : B) (xs : List A) → AllIn (λ x. f x ≡ y) xs → map f xs ≡ replicate (length xs) y
+same_each f y [] a = refl
+same_each f y (x ∷ xs) a = ap₂ ◌∷◌ a.0 (same_each f y xs a.1)
+
+none_of_none : {A : Type 0} (n k : ℕ) → ◌≡◌ {A = List A} (get_or (replicate n []) k []) []
+none_of_none zero k = refl
+none_of_none (suc n) zero = refl
+none_of_none (suc n) (suc k) = none_of_none n k
+
+none_at_all : {A : Type 0} (n m k i : ℕ) → ◌≡◌ {A = List A} (get_or (get_or (replicate n (replicate m [])) k []) i []) []
+none_at_all zero m k i = refl
+none_at_all (suc n) m zero i = none_of_none m i
+none_at_all (suc n) m (suc k) i = none_at_all n m k i
+
+no_count : (n k : ℕ) → ◌≡◌ {A = ℕ} (get_or (replicate n 0) k 0) 0
+no_count zero k = refl
+no_count (suc n) zero = refl
+no_count (suc n) (suc k) = no_count n k
+
+module _ {cluster : Cluster} (ok : IsValidCluster cluster) {workload : Workload} (fits : IsValidWorkload cluster workload)
+    (sound : (region : ℕ) → region < cluster.regions → IsSoundRegion (opening_state region cluster.regions (opening_table cluster))) where
+  abbrev opened : ℕ → NodeView
+  opened = opening_node_of cluster workload
+
+  few : (region : ℕ) → length (opened region).sessions.seats < 2 ^ 32
+  few region =
+      let a : length (map idle_seat (sessions_at region workload.sessions)) ≡ length (sessions_at region workload.sessions) = length-map (sessions_at region workload.sessions) idle_seat in
+      let b : length (sessions_at region workload.sessions) ≡ session_count_at region workload.sessions = many_at region workload.sessions ∙ length-filter (λ (s : Session). eqb s.region region) workload.sessions in
+      let c : session_count_at region workload.sessions ≤ 64 = fits.few_sessions region in
+      omega (arith, a, b, c)
+
+  knows : (region other : ℕ) → KnowsNoMore (opening_world cluster workload) (opened region) other
+  knows region other = record {
+    took = let z : get_or (replicate cluster.regions 0) other 0 ≡ 0 = no_count cluster.regions other in omega (arith, z);
+    received = let z : get_or (replicate cluster.regions 0) other 0 ≡ 0 = no_count cluster.regions other in omega (arith, z);
+  }
+
+  opening_fits : (region : ℕ) → region < cluster.regions → NodeFits cluster workload [] (opened region)
+  opening_fits region lr = record {
+    run = record { sound = ok; fits = fits; legal = tt };
+    changing = tt;
+    number = lr;
+    site = opening_stands cluster workload region lr (sound region lr);
+    sessions = opening_sessions_stand cluster workload region fits.names_once;
+    few = few region;
+    took = length-replicate cluster.regions 0;
+    received = length-replicate cluster.regions 0;
+    knows = λ other n. knows region other;
+  }
+
+  none_kept : (a n region : ℕ) → kept_at (kept_by (map opened (range_with_len a n))) region ≡ []
+  none_kept a zero region = refl
+  none_kept a (suc n) zero = refl
+  none_kept a (suc n) (suc region) = none_kept (a + 1) n region
+
+  opening : AreOpening (opening_nodes cluster workload)
+  opening = record {
+    cluster = ok;
+    workload = fits;
+    many = length-map-range_with_len opened 0 cluster.regions;
+    kept = none_kept 0 cluster.regions;
+    nodes = λ region lr. get_or-map-range_with_len opened 0 cluster.regions region region no_running_node lr (omega arith);
+    stand = opening_fits;
+    waiting = λ source target. none_at_all cluster.regions (cluster.regions - 1) target _;
+    marks = none_of_none cluster.regions;
+  }
+
+  pub opening_are_nodes : AreNodes (opening_nodes cluster workload)
+  opening_are_nodes = opening_nodes_stand opening
+
+  -- nodes at their seats, on whose links nothing waits
+  module _ {seats : List SeatView} (nodes_are : map (λ (s : SeatView). s.node) seats ≡ map opened (range_with_len 0 cluster.regions)) (unmarked : AllIn (λ s. s.marks ≡ []) seats)
+      (linked : AreLinked AreBeside seats) (empty : AllIn (λ s. AllIn (λ inlet. inlet.waits ≡ []) s.ins) seats) where
+    many : length seats ≡ cluster.regions
+    many = sym (length-map seats (λ (s : SeatView). s.node)) ∙ ap length nodes_are ∙ length-map-range_with_len opened 0 cluster.regions
+
+    marks_are : map (λ (s : SeatView). s.marks) seats ≡ replicate cluster.regions []
+    marks_are = same_each (λ (s : SeatView). s.marks) [] seats unmarked ∙ ap (λ n. replicate n []) many
+
+    no_waits : (region : ℕ) → region < length seats → map waits_in (seat_at seats region).ins ≡ replicate (cluster.regions - 1) []
+    no_waits region lt =
+        let ends : length (seat_at seats region).ins + 1 ≡ length seats = linked.ends.ins region lt in
+        let links : length (seat_at seats region).ins ≡ cluster.regions - 1 = omega (arith, ends, many) in
+        same_each waits_in [] (seat_at seats region).ins (each_seat (λ s. AllIn (λ inlet. inlet.waits ≡ []) s.ins) seats empty region lt) ∙ ap (λ n. replicate n []) links
+
+    waits_are : map (λ (s : SeatView). map waits_in s.ins) seats ≡ replicate cluster.regions (replicate (cluster.regions - 1) [])
+    waits_are =
+        same_each (λ (s : SeatView). map waits_in s.ins) (replicate (cluster.regions - 1) []) seats
+        (all_seats (λ s. map waits_in s.ins ≡ replicate (cluster.regions - 1) []) seats no_waits)
+        ∙ ap (λ n. replicate n (replicate (cluster.regions - 1) [])) many
+
+    pub opening_is : nodes_view cluster workload seats false ≡ opening_nodes cluster workload
+    opening_is = λ j. record { cluster = cluster; workload = workload; nodes = nodes_are j; waiting = waits_are j; marks = marks_are j; broken = false }
+
+    pub opening_seated : AreSeated cluster workload seats false
+    opening_seated = record { nodes = subst AreNodes (sym opening_is) opening_are_nodes; linked = λ e. linked }
+
+-- seats before their links are made, and those of them when they are
+
+pub new_seats : (f : ℕ → NodeView) (xs : List ℕ) → AreNew (map (λ x. new_seat (f x)) xs)
+new_seats f [] = tt
+new_seats f (x ∷ xs) = (refl, new_seats f xs)
+
+same_nodes : (seats : List SeatView) → map (λ (s : SeatView). s.node) (map unlinked seats) ≡ map (λ (s : SeatView). s.node) seats
+same_nodes [] = refl
+same_nodes (s ∷ seats) = ap (λ l. s.node ∷ l) (same_nodes seats)
+
+nodes_of_new : (f : ℕ → NodeView) (xs : List ℕ) → map (λ (s : SeatView). s.node) (map (λ x. new_seat (f x)) xs) ≡ map f xs
+nodes_of_new f [] = refl
+nodes_of_new f (x ∷ xs) = ap (λ l. f x ∷ l) (nodes_of_new f xs)
+
+no_marks : (seats : List SeatView) → AreNew (map unlinked seats) → AllIn (λ s. s.marks ≡ []) seats
+no_marks [] new = tt
+no_marks (s ∷ seats) new = (ap (λ (t : SeatView). t.marks) new.0, no_marks seats new.1)
+
+module _ {cluster : Cluster} (ok : IsValidCluster cluster) {workload : Workload} (fits : IsValidWorkload cluster workload) {given : List SeatView}
+    (given_is : given ≡ map (λ region. new_seat (opening_node_of cluster workload region)) (range_with_len 0 cluster.regions)) (sound : AllIn (λ s. IsSoundRegion s.node.site.region.state) given)
+    (len : ℕ) (full : len ≡ length given) {lent : List SeatView} (lent_is : lent ≡ given) where
+  pub lent_new : AreNew lent
+  lent_new = subst AreNew (sym (lent_is ∙ given_is)) (new_seats (opening_node_of cluster workload) (range_with_len 0 cluster.regions))
+
+  abbrev opened_seats : ℕ → SeatView
+  opened_seats region = new_seat (opening_node_of cluster workload region)
+
+  sound_at : (region : ℕ) → region < cluster.regions → IsSoundRegion (opening_state region cluster.regions (opening_table cluster))
+  sound_at region lr =
+      let all : AllIn (λ s. IsSoundRegion s.node.site.region.state) (map opened_seats (range_with_len 0 cluster.regions)) = subst (AllIn (λ s. IsSoundRegion s.node.site.region.state)) given_is sound in
+      let within : region < length (map opened_seats (range_with_len 0 cluster.regions)) = subst (λ m. region < m) (sym (length-map-range_with_len opened_seats 0 cluster.regions)) lr in
+      subst (λ (s : SeatView). IsSoundRegion s.node.site.region.state) (get_or-map-range_with_len opened_seats 0 cluster.regions region region no_seat lr (omega arith))
+      (each_seat (λ s. IsSoundRegion s.node.site.region.state) (map opened_seats (range_with_len 0 cluster.regions)) all region within)
+
+  module _ {seats : List SeatView} (bare : map unlinked seats ≡ lent) (linked : AreLinked AreBeside seats) (empty : AllIn (λ s. AllIn (λ inlet. inlet.waits ≡ []) s.ins) seats) where
+    nodes_same : map (λ (s : SeatView). s.node) seats ≡ map (opening_node_of cluster workload) (range_with_len 0 cluster.regions)
+    nodes_same =
+        sym (same_nodes seats) ∙ ap (map (λ (s : SeatView). s.node)) (bare ∙ lent_is ∙ given_is)
+        ∙ nodes_of_new (opening_node_of cluster workload) (range_with_len 0 cluster.regions)
+
+    unmarked : AllIn (λ s. s.marks ≡ []) seats
+    unmarked = no_marks seats (subst AreNew (sym bare) lent_new)
+
+    back : put_back len given seats ≡ seats
+    back = put_back_is len given seats full (sym (length-map seats unlinked) ∙ ap length (bare ∙ lent_is))
+
+    -- with copies of the cluster and the workload
+    module _ {copy : Cluster} {copied : Workload} (copy_is : copy ≡ cluster) (copied_is : copied ≡ workload) where
+      pub opened_is : nodes_view copy copied (put_back len given seats) false ≡ opening_nodes cluster workload
+      opened_is = (λ i. nodes_view (copy_is i) (copied_is i) (back i) false) ∙ opening_is ok fits sound_at nodes_same unmarked linked empty
+
+      pub opened_seated : AreSeated copy copied (put_back len given seats) false
+      opened_seated =
+          subst (λ (k : Cluster). AreSeated k copied (put_back len given seats) false) (sym copy_is)
+          (subst (λ (w : Workload). AreSeated cluster w (put_back len given seats) false) (sym copied_is)
+          (subst (λ l. AreSeated cluster workload l false) (sym back) (opening_seated ok fits sound_at nodes_same unmarked linked empty)))

@@ -1,0 +1,98 @@
+-- What a phase makes of all nodes, whether it failed or not, from the turns at their seats.
+use Rattle.std.proofs.Common.{◌≡◌, ◌<◌, ◌++◌, ℕ, true, false, Bool, List, All, length, drop, take, sym, ap, subst, ◌∙◌}
+use Rattle.std.proofs.Math.Seq.{take-append_seam}
+use Rattle.std.proofs.lemmas.List.Elements.{All-from_get_or}
+use Rattle.dt_lists.specs.Lists.{AllIn}
+use Rattle.dt_cluster.specs.declared.Cluster.{Cluster}
+use Rattle.dt_workload.specs.declared.Workload.{Workload}
+use Rattle.dt_run.specs.LinksInner.{BesideSoFar}
+use Rattle.dt_run.specs.NodesView.{NodesView}
+use Rattle.dt_run.specs.Phase.{EndsInStep, IsPhase}
+use Rattle.dt_run.specs.SeatsInner.{AreApart, AreLinked, AreSeated, EachGoes, SeatCan, SeatTurned, SeatView, no_seat, nodes_view, seat_at}
+use Rattle.dt_run.proofs.Assembled.{phase_seated}
+use Rattle.dt_run.proofs.Finishing.{each_seat}
+use Rattle.dt_run.proofs.Keeping.{broken_seated, phase_is, turns_of}
+use Rattle.dt_run.proofs.Together.{apart_now, ends_in_step, turns_now}
+use Rattle.dt_run.proofs.Waiting as waiting
+
+module _ {cluster : Cluster} {workload : Workload} {seats : List SeatView} {broken : Bool} (a : AreSeated cluster workload seats broken) (sound : broken ≡ false) where
+  -- a turn may be made at each seat
+  pub seats_can : All (SeatCan cluster.procs) seats
+  seats_can = All-from_get_or (SeatCan cluster.procs) seats no_seat (λ region lt. waiting.seat_can a sound (subst (λ m. region < m) (waiting.many a sound) lt))
+
+  -- a turn was made at each
+  module _ {seats' : List SeatView} (g : EachGoes cluster.procs seats seats') where
+    -- some turn failed
+    pub failed_seated : AreSeated cluster workload seats' true
+    failed_seated = broken_seated a sound g
+
+    pub failed_phase : IsPhase (nodes_view cluster workload seats broken) (nodes_view cluster workload seats' true)
+    failed_phase = phase_is a sound (turns_of g) true
+
+    pub links_apart : AreLinked AreApart seats'
+    links_apart = apart_now (a.linked sound) g
+
+    -- none failed, and the ends of all links were brought beside each other
+    module _ (none : AllIn (λ s. s.failed ≡ false) seats') {seats'' : List SeatView} (b : BesideSoFar (length seats') seats' seats'') where
+      whole : (region : ℕ) → region < length seats → SeatTurned cluster.procs (seat_at seats region) (seat_at seats' region)
+      whole region lt = (g.each region lt).whole (each_seat (λ s. s.failed ≡ false) seats' none region (subst (λ m. region < m) (sym g.many) lt))
+
+      pub made_seated : AreSeated cluster workload seats'' broken
+      made_seated = subst (AreSeated cluster workload seats'') (sym sound) (phase_seated a sound g whole b)
+
+      pub made_phase : IsPhase (nodes_view cluster workload seats broken) (nodes_view cluster workload seats'' broken)
+      made_phase = phase_is a sound (turns_now a sound g whole b) broken
+
+      pub made_in_step : EndsInStep (nodes_view cluster workload seats broken) (nodes_view cluster workload seats'' broken)
+      made_in_step = subst (λ later. EndsInStep (nodes_view cluster workload seats broken) (nodes_view cluster workload seats'' later)) (sym sound) (ends_in_step a sound g whole b)
+
+-- what was lent as a slice is back in its vector
+abbrev pub put_back : {A : Type 0} → ℕ → List A → List A → List A
+put_back len items now = take len (now ++ drop (length now) items)
+
+pub put_back_is : {A : Type 0} (len : ℕ) (items now : List A) → len ≡ length items → length now ≡ length items → put_back len items now ≡ now
+put_back_is len items now full same = ap (λ n. take n (now ++ drop (length now) items)) (full ∙ sym same) ∙ take-append_seam now (drop (length now) items)
+
+-- the same of seats in their vector
+module _ {cluster : Cluster} {workload : Workload} {seats : List SeatView} {broken : Bool} (a : AreSeated cluster workload seats broken) (sound : broken ≡ false) (len : ℕ) (full : len ≡ length seats)
+    {lent turned : List SeatView} (lent_is : lent ≡ seats) (goes : EachGoes cluster.procs lent turned) where
+  g : EachGoes cluster.procs seats turned
+  g = subst (λ l. EachGoes cluster.procs l turned) lent_is goes
+
+  turned_is : put_back len seats turned ≡ turned
+  turned_is = put_back_is len seats turned full g.many
+
+  pub failed_seats : AreSeated cluster workload (put_back len seats turned) true
+  failed_seats = subst (λ l. AreSeated cluster workload l true) (sym turned_is) (failed_seated a sound g)
+
+  pub phase_failed : {before : NodesView} → nodes_view cluster workload seats broken ≡ before → IsPhase before (nodes_view cluster workload (put_back len seats turned) true)
+  phase_failed is =
+      subst (λ v. IsPhase v (nodes_view cluster workload (put_back len seats turned) true)) is
+      (subst (λ l. IsPhase (nodes_view cluster workload seats broken) (nodes_view cluster workload l true)) (sym turned_is) (failed_phase a sound g))
+
+  module _ {lent2 : List SeatView} (lent2_is : lent2 ≡ put_back len seats turned) where
+    pub ends_apart : AreLinked AreApart lent2
+    ends_apart = subst (AreLinked AreApart) (sym (lent2_is ∙ turned_is)) (links_apart a sound g)
+
+    module _ {asked : List SeatView} (asked_is : asked ≡ put_back len seats turned) (none : AllIn (λ s. s.failed ≡ false) asked) {beside : List SeatView} (so_far : BesideSoFar (length lent2) lent2 beside) where
+      n : AllIn (λ s. s.failed ≡ false) turned
+      n = subst (AllIn (λ s. s.failed ≡ false)) (asked_is ∙ turned_is) none
+
+      b : BesideSoFar (length turned) turned beside
+      b = subst (λ l. BesideSoFar (length l) l beside) (lent2_is ∙ turned_is) so_far
+
+      beside_is : put_back len (put_back len seats turned) beside ≡ beside
+      beside_is = put_back_is len (put_back len seats turned) beside (full ∙ sym g.many ∙ ap length (sym turned_is)) (b.many ∙ ap length (sym turned_is))
+
+      pub seats_made : AreSeated cluster workload (put_back len (put_back len seats turned) beside) broken
+      seats_made = subst (λ l. AreSeated cluster workload l broken) (sym beside_is) (made_seated a sound g n b)
+
+      pub phase_made : {before : NodesView} → nodes_view cluster workload seats broken ≡ before → IsPhase before (nodes_view cluster workload (put_back len (put_back len seats turned) beside) broken)
+      phase_made is =
+          subst (λ v. IsPhase v (nodes_view cluster workload (put_back len (put_back len seats turned) beside) broken)) is
+          (subst (λ l. IsPhase (nodes_view cluster workload seats broken) (nodes_view cluster workload l broken)) (sym beside_is) (made_phase a sound g n b))
+
+      pub in_step_made : {before : NodesView} → nodes_view cluster workload seats broken ≡ before → EndsInStep before (nodes_view cluster workload (put_back len (put_back len seats turned) beside) broken)
+      in_step_made is =
+          subst (λ v. EndsInStep v (nodes_view cluster workload (put_back len (put_back len seats turned) beside) broken)) is
+          (subst (λ l. EndsInStep (nodes_view cluster workload seats broken) (nodes_view cluster workload l broken)) (sym beside_is) (made_in_step a sound g n b))

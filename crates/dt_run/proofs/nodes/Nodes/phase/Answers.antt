@@ -1,0 +1,54 @@
+use Rattle.std.proofs.Common.{◌≡◌, false, All, ap, subst, sym, ◌∙◌}
+use Rattle.dt_run.specs.NodesView.{NodesView}
+use Rattle.dt_run.specs.SeatsInner.{SeatCan}
+use Rattle.dt_run.proofs.PhaseMade.{ends_apart, failed_seats, in_step_made, phase_failed, phase_made, seats_can, seats_made}
+use Rattle.dt_run.proofs.nodes.Nodes.phase.Goals as goal
+
+pub turn_all-requires-after_bounds : goal.turn_all-requires-after_bounds
+turn_all-requires-after_bounds g c κs within =
+    let sound : c.self.inside.broken ≡ false = ap (λ (v : NodesView). v.broken) c.self.view_is ∙ c.requires in
+    subst (All (SeatCan c.self.inside.cluster.procs)) (sym c.as_mut_slice.ensures.value) (seats_can c.self.invariant sound)
+
+pub invariant_of-self : goal.invariant_of-self
+invariant_of-self g c =
+    let sound : c.self.inside.broken ≡ false = ap (λ (v : NodesView). v.broken) c.self.view_is ∙ c.requires in
+    failed_seats c.self.invariant sound c.self.inside.seats.len c.self.inside.seats.ok.0 c.as_mut_slice.ensures.value c.turn_all.ensures
+
+pub returns-then-some_failed-clause-phase : goal.returns-then-some_failed-clause-phase
+returns-then-some_failed-clause-phase g c =
+    let sound : c.self.inside.broken ≡ false = ap (λ (v : NodesView). v.broken) c.self.view_is ∙ c.requires in
+    phase_failed c.self.invariant sound c.self.inside.seats.len c.self.inside.seats.ok.0 c.as_mut_slice.ensures.value c.turn_all.ensures c.self.view_is
+
+pub returns-then-some_failed-clause-nodes : goal.returns-then-some_failed-clause-nodes
+returns-then-some_failed-clause-nodes g c =
+    let sound : c.self.inside.broken ≡ false = ap (λ (v : NodesView). v.broken) c.self.view_is ∙ c.requires in
+    (failed_seats c.self.invariant sound c.self.inside.seats.len c.self.inside.seats.ok.0 c.as_mut_slice.ensures.value c.turn_all.ensures).nodes
+
+pub beside_all-requires : goal.beside_all-requires
+beside_all-requires g c =
+    let sound : c.self.inside.broken ≡ false = ap (λ (v : NodesView). v.broken) c.self.view_is ∙ c.requires in
+    ends_apart c.self.invariant sound c.self.inside.seats.len c.self.inside.seats.ok.0 c.as_mut_slice.ensures.value c.turn_all.ensures c.as_mut_slice-2.ensures.value
+
+pub invariant_of-self-2 : goal.invariant_of-self-2
+invariant_of-self-2 g c =
+    let sound : c.self.inside.broken ≡ false = ap (λ (v : NodesView). v.broken) c.self.view_is ∙ c.requires in
+    seats_made c.self.invariant sound c.self.inside.seats.len c.self.inside.seats.ok.0 c.as_mut_slice.ensures.value c.turn_all.ensures c.as_mut_slice-2.ensures.value
+    c.as_slice.ensures.value (c.some_failed.ensures.0 c.if-some_failed.false) c.beside_all.ensures
+
+pub returns-clause-phase : goal.returns-clause-phase
+returns-clause-phase g c =
+    let sound : c.self.inside.broken ≡ false = ap (λ (v : NodesView). v.broken) c.self.view_is ∙ c.requires in
+    phase_made c.self.invariant sound c.self.inside.seats.len c.self.inside.seats.ok.0 c.as_mut_slice.ensures.value c.turn_all.ensures c.as_mut_slice-2.ensures.value
+    c.as_slice.ensures.value (c.some_failed.ensures.0 c.if-some_failed.false) c.beside_all.ensures c.self.view_is
+
+pub returns-clause-in_step : goal.returns-clause-in_step
+returns-clause-in_step g c =
+    let sound : c.self.inside.broken ≡ false = ap (λ (v : NodesView). v.broken) c.self.view_is ∙ c.requires in
+    in_step_made c.self.invariant sound c.self.inside.seats.len c.self.inside.seats.ok.0 c.as_mut_slice.ensures.value c.turn_all.ensures c.as_mut_slice-2.ensures.value
+    c.as_slice.ensures.value (c.some_failed.ensures.0 c.if-some_failed.false) c.beside_all.ensures c.self.view_is
+
+pub returns-clause-nodes : goal.returns-clause-nodes
+returns-clause-nodes g c =
+    let sound : c.self.inside.broken ≡ false = ap (λ (v : NodesView). v.broken) c.self.view_is ∙ c.requires in
+    (seats_made c.self.invariant sound c.self.inside.seats.len c.self.inside.seats.ok.0 c.as_mut_slice.ensures.value c.turn_all.ensures c.as_mut_slice-2.ensures.value
+    c.as_slice.ensures.value (c.some_failed.ensures.0 c.if-some_failed.false) c.beside_all.ensures).nodes
