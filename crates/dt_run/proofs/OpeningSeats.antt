@@ -24,7 +24,7 @@ use Rattle.dt_node.specs.NodeView.{NodeView, opening_node_of}
 use Rattle.dt_node.specs.Standing.{KnowsNoMore, NodeFits}
 use Rattle.dt_run.specs.NodesStand.{AreNodes}
 use Rattle.dt_run.specs.NodesView.{kept_by, no_running_node, opening_nodes}
-use Rattle.dt_run.specs.SeatsInner.{AreBeside, AreLinked, AreNew, AreSeated, SeatView, new_seat, no_seat, nodes_view, seat_at, unlinked, waits_in}
+use Rattle.dt_run.specs.SeatsInner.{AreBeside, AreLinked, AreNew, AreSeated, SeatView, new_seat, no_seat, nodes_view, seat_at, waits_in}
 use Rattle.dt_run.proofs.Finishing.{all_seats, each_seat}
 use Rattle.dt_run.proofs.PhaseMade.{put_back, put_back_is}
 use Rattle.dt_run.proofs.OpeningNodes.{AreOpening, opening_nodes_stand}
@@ -154,17 +154,13 @@ pub new_seats : (f : ℕ → NodeView) (xs : List ℕ) → AreNew (map (λ x. ne
 new_seats f [] = tt
 new_seats f (x ∷ xs) = (refl, new_seats f xs)
 
-same_nodes : (seats : List SeatView) → map (λ (s : SeatView). s.node) (map unlinked seats) ≡ map (λ (s : SeatView). s.node) seats
+same_nodes : (seats : List SeatView) → map (λ (s : SeatView). s.node) (map (λ (s : SeatView). new_seat s.node) seats) ≡ map (λ (s : SeatView). s.node) seats
 same_nodes [] = refl
 same_nodes (s ∷ seats) = ap (λ l. s.node ∷ l) (same_nodes seats)
 
 nodes_of_new : (f : ℕ → NodeView) (xs : List ℕ) → map (λ (s : SeatView). s.node) (map (λ x. new_seat (f x)) xs) ≡ map f xs
 nodes_of_new f [] = refl
 nodes_of_new f (x ∷ xs) = ap (λ l. f x ∷ l) (nodes_of_new f xs)
-
-no_marks : (seats : List SeatView) → AreNew (map unlinked seats) → AllIn (λ s. s.marks ≡ []) seats
-no_marks [] new = tt
-no_marks (s ∷ seats) new = (ap (λ (t : SeatView). t.marks) new.0, no_marks seats new.1)
 
 module _ {cluster : Cluster} (ok : IsValidCluster cluster) {workload : Workload} (fits : IsValidWorkload cluster workload) {given : List SeatView}
     (given_is : given ≡ map (λ region. new_seat (opening_node_of cluster workload region)) (range_with_len 0 cluster.regions)) (sound : AllIn (λ s. IsSoundRegion s.node.site.region.state) given)
@@ -182,17 +178,15 @@ module _ {cluster : Cluster} (ok : IsValidCluster cluster) {workload : Workload}
       subst (λ (s : SeatView). IsSoundRegion s.node.site.region.state) (get_or-map-range_with_len opened_seats 0 cluster.regions region region no_seat lr (omega arith))
       (each_seat (λ s. IsSoundRegion s.node.site.region.state) (map opened_seats (range_with_len 0 cluster.regions)) all region within)
 
-  module _ {seats : List SeatView} (bare : map unlinked seats ≡ lent) (linked : AreLinked AreBeside seats) (empty : AllIn (λ s. AllIn (λ inlet. inlet.waits ≡ []) s.ins) seats) where
+  module _ {seats : List SeatView} (bare : map (λ (s : SeatView). new_seat s.node) seats ≡ lent) (unmarked : AllIn (λ s. s.marks ≡ []) seats) (linked : AreLinked AreBeside seats)
+      (empty : AllIn (λ s. AllIn (λ inlet. inlet.waits ≡ []) s.ins) seats) where
     nodes_same : map (λ (s : SeatView). s.node) seats ≡ map (opening_node_of cluster workload) (range_with_len 0 cluster.regions)
     nodes_same =
         sym (same_nodes seats) ∙ ap (map (λ (s : SeatView). s.node)) (bare ∙ lent_is ∙ given_is)
         ∙ nodes_of_new (opening_node_of cluster workload) (range_with_len 0 cluster.regions)
 
-    unmarked : AllIn (λ s. s.marks ≡ []) seats
-    unmarked = no_marks seats (subst AreNew (sym bare) lent_new)
-
     back : put_back len given seats ≡ seats
-    back = put_back_is len given seats full (sym (length-map seats unlinked) ∙ ap length (bare ∙ lent_is))
+    back = put_back_is len given seats full (sym (length-map seats (λ (s : SeatView). new_seat s.node)) ∙ ap length (bare ∙ lent_is))
 
     -- with copies of the cluster and the workload
     module _ {copy : Cluster} {copied : Workload} (copy_is : copy ≡ cluster) (copied_is : copied ≡ workload) where

@@ -37,10 +37,6 @@ seat_at seats region = get_or seats region no_seat
 abbrev pub new_seat : NodeView → SeatView
 new_seat node = record { node = node; ins = []; outs = []; marks = []; failed = false }
 
--- a seat without its links
-abbrev pub unlinked : SeatView → SeatView
-unlinked s = record s { ins = []; outs = [] }
-
 -- seats before their links are made
 abbrev pub AreNew : List SeatView → Type 0
 AreNew seats = AllIn (λ s. s ≡ new_seat s.node) seats
