@@ -27,3 +27,4 @@ pub mod Assembled
 pub mod KeptLists
 pub mod PhaseMade
 pub mod OpeningSeats
+mod TurningAll
