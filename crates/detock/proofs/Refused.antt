@@ -121,58 +121,67 @@ headline_of told task Written cluster workload events loaded given valid fits le
   reported = record { legal = legal; agree = legal_agree cluster valid workload fits events legal; report = written };
 }
 
--- a replay
-module _ {F A : Type 0} (seen : F → FolderView) (files files_after : F) (told : (seen files_after).told ≡ (seen files).told) (word name list : Bytes)
-    (cluster : Cluster) (workload : Workload) (loaded : Loaded (seen files).told (Replay word name list) cluster workload) where
-  abbrev replay : Task
-  replay = Replay word name list
+-- neither a replay nor a run is a big run
+pub no_size : {X : Type 0} (word name list size : Bytes) → Replay word name list ≡ Big size → X
+no_size word name list size same = absurd (replay_apart same)
+  where
+    replay_apart : Replay word name list ≡ Big size → ⊥
+    replay_apart same = cc
 
-  -- it is no big run
-  pub no_size : {X : Type 0} (size : Bytes) → replay ≡ Big size → X
-  no_size size same = cc
+pub no_run_size : {X : Type 0} (word name size : Bytes) → Run word name ≡ Big size → X
+no_run_size word name size same = absurd (run_apart same)
+  where
+    run_apart : Run word name ≡ Big size → ⊥
+    run_apart same = cc
 
+-- a replay, of which the cluster and the workload were loaded
+module _ (before : FolderView) (word name list : Bytes) (cluster : Cluster) (workload : Workload) (loaded : Loaded before.told (Replay word name list) cluster workload) where
   malformed : (line : ℕ) (cause : EventsCause) (bytes : Bytes) → AreMalformed line cause bytes → AreBadEvents cluster workload line cause bytes
   malformed line TooLong bytes is = is
   malformed line Form bytes is = is
   malformed line (Rule n) bytes is = absurd is
 
   -- the events' file was refused
-  pub no_events : (before : FolderView) (status : Status) → Follows (seen files) before → IsEventsRefusal list before (seen files_after) status → IsRefusal replay (seen files) (seen files_after) status
-  no_events before NoMemory follows is = tt
-  no_events before (BadEvents line cause) follows is =
-      let here : HasFile (seen files).told list (AreMalformed line cause) = subst (λ told. HasFile told list (AreMalformed line cause)) follows.told is in
-      (cluster, workload, loaded, file_more (seen files).told list (AreMalformed line cause) (AreBadEvents cluster workload line cause) (malformed line cause) here)
-  no_events before (CannotRead number) follows (four, missed) =
-      inr (inr (four, cluster, workload, loaded, missed_later (seen files) before (seen files_after) list follows missed))
-  no_events before status follows is = absurd is
+  pub no_events : (later now : FolderView) (status : Status) → Follows before later → IsEventsRefusal list later now status → IsRefusal (Replay word name list) before now status
+  no_events later now NoMemory follows is = tt
+  no_events later now (BadEvents line cause) follows is =
+      let here : HasFile before.told list (AreMalformed line cause) = subst (λ told. HasFile told list (AreMalformed line cause)) follows.told is in
+      (cluster, workload, loaded, file_more before.told list (AreMalformed line cause) (AreBadEvents cluster workload line cause) (malformed line cause) here)
+  no_events later now (CannotRead number) follows (four, missed) =
+      inr (inr (four, cluster, workload, loaded, missed_later before later now list follows missed))
+  no_events later now status follows is = absurd is
 
-  module _ (events : List (ℕ × Event)) (all : HasFile (seen files).told list (HoldEvents events)) where
+  module _ (events : List (ℕ × Event)) (all : HasFile before.told list (HoldEvents events)) where
     -- an event was refused
-    not_legal : (status : Status) → IsStepRefusal cluster workload events status → IsRefusal replay (seen files) (seen files_after) status
-    not_legal NoMemory is = tt
-    not_legal (BadEvents line TooLong) is = absurd is
-    not_legal (BadEvents line Form) is = absurd is
-    not_legal (BadEvents line (Rule n)) is =
-        let bad = file_more (seen files).told list (HoldEvents events) (AreBadEvents cluster workload line (Rule n)) (λ bytes are. (events, are, is)) all in
+    pub not_legal : (now : FolderView) (status : Status) → IsStepRefusal cluster workload events status → IsRefusal (Replay word name list) before now status
+    not_legal now NoMemory is = tt
+    not_legal now (BadEvents line TooLong) is = absurd is
+    not_legal now (BadEvents line Form) is = absurd is
+    not_legal now (BadEvents line (Rule n)) is =
+        let bad = file_more before.told list (HoldEvents events) (AreBadEvents cluster workload line (Rule n)) (λ bytes are. (events, are, is)) all in
         (cluster, workload, loaded, bad)
-    not_legal status is = absurd is
+    not_legal now status is = absurd is
 
-    -- what became of its events
-    pub replayed_text : (r : Result (Vec ℕ A) Status) → IsValidCluster cluster → IsValidWorkload cluster workload
-        → IfOk r (λ _. AreLegal cluster workload (unnumbered events))
-        → IfOk r (λ text. text.items ≡ report_text (report_of cluster workload (unnumbered events)))
-        → ((status : Status) → r ≡ Err status → IsStepRefusal cluster workload events status)
-        → IsTextOf seen files files_after r replay
-    replayed_text (Ok text) valid fits legal written refused =
-        made_text seen files files_after replay no_size told (Ok text) text refl
-        (headline_of (seen files).told replay (λ report. text.items ≡ report) cluster workload (unnumbered events) loaded (events, all, refl) valid fits legal written)
-        (record {
-          cluster = cluster;
-          workload = workload;
-          loaded = loaded;
-          events = events;
-          events_file = all;
-          legal = legal;
-        })
-    replayed_text (Err status) valid fits legal written refused =
-        refused_text seen files files_after replay no_size told (Err status) status refl (not_legal status (refused status refl))
+-- what became of the events of a replay
+module _ {F A : Type 0} (seen : F → FolderView) (files files_after : F) (told : (seen files_after).told ≡ (seen files).told) (word name list : Bytes)
+    (cluster : Cluster) (workload : Workload) (loaded : Loaded (seen files).told (Replay word name list) cluster workload)
+    (events : List (ℕ × Event)) (all : HasFile (seen files).told list (HoldEvents events)) where
+  pub replayed_text : (r : Result (Vec ℕ A) Status) → IsValidCluster cluster → IsValidWorkload cluster workload
+      → IfOk r (λ _. AreLegal cluster workload (unnumbered events))
+      → IfOk r (λ text. text.items ≡ report_text (report_of cluster workload (unnumbered events)))
+      → ((status : Status) → r ≡ Err status → IsStepRefusal cluster workload events status)
+      → IsTextOf seen files files_after r (Replay word name list)
+  replayed_text (Ok text) valid fits legal written refused =
+      made_text seen files files_after (Replay word name list) (no_size word name list) told (Ok text) text refl
+      (headline_of (seen files).told (Replay word name list) (λ report. text.items ≡ report) cluster workload (unnumbered events) loaded (events, all, refl) valid fits legal written)
+      (record {
+        cluster = cluster;
+        workload = workload;
+        loaded = loaded;
+        events = events;
+        events_file = all;
+        legal = legal;
+      })
+  replayed_text (Err status) valid fits legal written refused =
+      refused_text seen files files_after (Replay word name list) (no_size word name list) told (Err status) status refl
+      (not_legal (seen files) word name list cluster workload loaded events all (seen files_after) status (refused status refl))

@@ -2,3 +2,5 @@ use Rattle.detock.specs.Tasks.{word_bytes}
 use Rattle.detock.proofs.WordForms.{no_threads_asked}
 use Rattle.detock.proofs.words.threaded_words.Goals as goal
 
+pub returns-in_err-big_words : goal.returns-in_err-big_words
+returns-in_err-big_words c = let h = c.from_residual.ensures in let k = c.in_err-big_words.ensures in ?
