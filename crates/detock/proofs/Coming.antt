@@ -1,5 +1,5 @@
 -- How a status comes: a refusal by its cause, and a text that was written, whole or in part.
-use Rattle.std.proofs.Common.{◌≡◌, ℕ, inl, inr, List, Result, Ok, Err, Vec, refl, sym, subst}
+use Rattle.std.proofs.Common.{◌≡◌, ℕ, inl, inr, List, Result, Ok, Err, Vec, refl, sym, ◌∙◌, subst}
 use Rattle.dt_access.specs.Clash.{Bytes}
 use Rattle.dt_outside.specs.Folder.{FolderView}
 use Rattle.dt_outside.specs.Sink.{SinkView, Adds, AddsPrefix}
@@ -79,8 +79,12 @@ module _ {F O A : Type 0} (words : List Bytes) (seen : F → FolderView) (files 
     comes_done : (text : Vec ℕ A) → IsTextOf seen files files_after (Ok text) task → Adds (shown out).held (shown out_after).held text.items
         → Comes words seen files files_after shown out out_after Done
     comes_done text has added = record {
-      done = λ is. (task, asks, done_more (seen files).told task (λ report. text.items ≡ report) (Adds (shown out).held (shown out_after).held)
-          (λ report same. subst (Adds (shown out).held (shown out_after).held) same added) has.done);
+      done = λ is. (
+        task,
+        asks,
+        done_more (seen files).told task (λ report. text.items ≡ report) (Adds (shown out).held (shown out_after).held)
+            (λ report same. subst (Adds (shown out).held (shown out_after).held) same added) has.done,
+      );
       bad_words = λ is. cc;
       bad_cluster = λ fault is. cc;
       bad_workload = λ line cause is. cc;
@@ -104,8 +108,15 @@ module _ {F O A : Type 0} (words : List Bytes) (seen : F → FolderView) (files 
       bad_workload = λ line cause is. cc;
       bad_events = λ line cause is. cc;
       cannot_read = λ word is. cc;
-      cannot_write = λ is. (rose, task, asks, done_more (seen files).told task (λ report. text.items ≡ report) (AddsPrefix (shown out).held (shown out_after).held)
-          (λ report same. subst (AddsPrefix (shown out).held (shown out_after).held) same added) has.done);
+      cannot_write = λ is. (
+        rose,
+        (
+          task,
+          asks,
+          done_more (seen files).told task (λ report. text.items ≡ report) (AddsPrefix (shown out).held (shown out_after).held)
+              (λ report same. subst (AddsPrefix (shown out).held (shown out_after).held) same added) has.done,
+        ),
+      );
       complete = λ due some is_due never dry. absurd (dry rose);
       unread = λ is. cc;
       unloaded = λ size sized. has.unloaded size (one_task words task (Big size) asks sized);

@@ -305,7 +305,7 @@ module _ (files : Files) where
 
   -- so do the words and the files
   pub one_due : (words : List Bytes) (s t : Status) → IsDue (Some files) words s → IsDue (Some files) words t → s ≡ t
-  one_due words s t (inl (is, none)) (inl (also, no)) = is ∙ sym also
+  one_due words s t (inl (is, none)) (inl (also, never)) = is ∙ sym also
   one_due words s t (inl (is, none)) (inr (task, asks, calls)) = absurd (none (task, asks))
   one_due words s t (inr (task, asks, calls)) (inl (is, none)) = absurd (none (task, asks))
   one_due words s t (inr one) (inr other) =

@@ -10,8 +10,6 @@ use Rattle.dt_workload.specs.Valid.{IsValidWorkload}
 use Rattle.dt_gen.specs.Load.{load_cluster, load_workload}
 use Rattle.dt_report.specs.declared.Report.{Report}
 use Rattle.dt_report.specs.Report.{report_text}
-use Rattle.dt_run.specs.NodesView.{NodesView}
-use Rattle.dt_run.specs.Run.{IsRunReport}
 use Rattle.dt_sum.specs.Summary.{big_text, summary_of}
 use Rattle.dt_sum.proofs.Callers.{each_summary}
 use Rattle.dt_world.specs.WorldReport.{report_of}
@@ -20,18 +18,6 @@ use Rattle.detock.specs.Loading.{Loaded}
 use Rattle.detock.specs.Headline.{BigRun, Headline}
 use Rattle.detock.specs.RefusalCode.{IsReportOfRun}
 use Rattle.detock.proofs.Refused.{headline_of}
-
--- the report of nodes is one of a run of their cluster and their workload
-pub run_reported : {E : Type 0} (v : NodesView) (cluster : Cluster) (workload : Workload) (r : Result Report E) → v.cluster ≡ cluster → v.workload ≡ workload
-    → IfOk r (IsRunReport v) → IfOk r (IsReportOfRun cluster workload)
-run_reported v cluster workload (Ok report) same_cluster same_workload is =
-    let P : Cluster × Workload → Type 0 = λ q. IsReportOfRun q.0 q.1 report in
-    subst P (λ i. (same_cluster i, same_workload i)) (record {
-      legal = is.run.legal;
-      run = record { finished = is.run.finished; eager = is.run.eager };
-      report_is = is.report_is;
-    })
-run_reported v cluster workload (Err error) same_cluster same_workload is = tt
 
 module _ (cluster : Cluster) (workload : Workload) (report : Report) (is : IsReportOfRun cluster workload report) where
   -- the text of such a report makes the headline true

@@ -62,7 +62,7 @@ fn report_of_run<R: Threads + Wait + Sync>(
 ) -> Result<Report, NoMemory>
     requires cluster { IsValidCluster cluster }
     requires workload { IsValidWorkload cluster workload }
-    ensures { IfOk result (IsReportOfRun cluster.entry workload.entry) }
+    ensures { IfOk result (IsReportOfRun cluster workload) }
 {
     let mut nodes: Nodes<QueueSched> = Nodes::new(alloc, &cluster, &workload)?;
     run(rt, alloc, &mut nodes)

@@ -357,12 +357,7 @@ const UNREAD: [(&[&str], &[u64], u8, &str); 12] = [
     // A run loads its cluster and its workload, and no third file.
     (&["run", "c", "w"], &[1], 3, "detock: cannot read word 2\n"),
     (&["run", "c", "w"], &[2], 3, "detock: cannot read word 3\n"),
-    (
-        &["run", ":1", "w"],
-        &[1],
-        3,
-        "detock: cannot read word 3\n",
-    ),
+    (&["run", ":1", "w"], &[1], 3, "detock: cannot read word 3\n"),
     (&["run", ":1", "x"], &[], 3, "detock: cannot read word 3\n"),
 ];
 

@@ -73,11 +73,7 @@ fn threaded_text<R: Threads + Wait + Sync, F: Folder>(
 }
 
 /// The text that the words ask for where they need no threads, or why there is none.
-fn alone_text<F: Folder>(
-    alloc: Global,
-    words: &[String],
-    files: &mut F,
-) -> Result<Vec<u8>, Status>
+fn alone_text<F: Folder>(alloc: Global, words: &[String], files: &mut F) -> Result<Vec<u8>, Status>
     requires { ¬ NeedsThreads (word_bytes words.now) }
     ensures { IsAskedFor F.seen files.old files.new result (word_bytes words.now) }
 {
@@ -89,7 +85,7 @@ fn alone_text<F: Folder>(
 
 /// Writes the text, or hands on why there is none, and tells the status.
 fn end<O: Sink, E: Sink>(text: Result<Vec<u8>, Status>, out: &mut O, err: &mut E) -> Status
-    ensures ends { EndsBy O.seen out.old out.new text.entry result }
+    ensures ends { EndsBy O.seen out.old out.new text result }
     ensures told { IsTold E.seen err.old err.new result }
 {
     let status = status_of(text, out);
@@ -99,7 +95,7 @@ fn end<O: Sink, E: Sink>(text: Result<Vec<u8>, Status>, out: &mut O, err: &mut E
 
 /// Writes the text, or hands on why there is none.
 fn status_of<O: Sink>(text: Result<Vec<u8>, Status>, out: &mut O) -> Status
-    ensures { EndsBy O.seen out.old out.new text.entry result }
+    ensures { EndsBy O.seen out.old out.new text result }
 {
     let text = match text {
         Ok(text) => text,

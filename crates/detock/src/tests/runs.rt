@@ -183,10 +183,12 @@ fn is_so<R: Threads + Wait + Sync>(rt: &R, alloc: Global, case: &Case) -> Result
         return Ok(false);
     };
     let again = told(rt, alloc, case, &["replay", "c", "w", "e"], events)?;
-    Ok(again.as_slice() == ran.as_slice()
-        && replies.len() == b"0 |replies\n".len() + file_of(alloc, case.replies)?.len()
-        && each_stands_in(alloc, replies, case.replies)?
-        && each_stands_in(alloc, events, case.events)?)
+    Ok(
+        again.as_slice() == ran.as_slice()
+            && replies.len() == b"0 |replies\n".len() + file_of(alloc, case.replies)?.len()
+            && each_stands_in(alloc, replies, case.replies)?
+            && each_stands_in(alloc, events, case.events)?,
+    )
 }
 
 #[test]
