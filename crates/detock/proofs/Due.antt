@@ -23,12 +23,12 @@ use Rattle.dt_session.specs.Step.{IsLegal, next, rule_of}
 use Rattle.dt_session.specs.Run.{AreLegal, AreLegalFrom, world_from}
 use Rattle.dt_agreement.proofs.Callers.{legal_append}
 use Rattle.detock.specs.declared.status.Status.{Status}
-use Rattle.detock.specs.declared.status.Status.TheVariants.{Done, NoMemory, BadWords, CannotRead, BadCluster, BadWorkload, BadEvents, CannotWrite, NotBuilt}
+use Rattle.detock.specs.declared.status.Status.TheVariants.{Done, NoMemory, BadWords, CannotRead, BadCluster, BadWorkload, BadEvents, CannotWrite}
 use Rattle.detock.specs.declared.status.EventsCause.{EventsCause}
 use Rattle.detock.specs.declared.status.EventsCause.TheVariants.{TooLong, Form, Rule}
-use Rattle.detock.specs.Tasks.{Task, Replay, Run, Big, Asks, IsBuiltin, IsClusterFile, IsThreaded, NeedsThreads, AreAForm, builtin_word, task_words, cluster_word, workload_word, events_word}
-use Rattle.detock.specs.Loading.{HasFile, HasCluster, NamesThis, HoldCluster, HoldWorkload, HoldEvents, unnumbered}
-use Rattle.detock.specs.Causes.{AsksBuilt, AsksOn, AsksWith, AreBadCluster, HasBadCluster, AreBadWorkload, HasBadWorkload, IsFirstIllegal, AreBadEvents, HasBadEvents, WasMissed, CouldNotRead, IsReplayable, IsDue}
+use Rattle.detock.specs.Tasks.{Task, Replay, Run, Big, Asks, AskFor, IsBuiltin, IsClusterFile, AreAForm, builtin_word, task_words, cluster_word, workload_word, events_word}
+use Rattle.detock.specs.Loading.{HasFile, HasCluster, HasEvents, NamesThis, Loaded, HoldCluster, HoldWorkload, HoldEvents, unnumbered}
+use Rattle.detock.specs.Causes.{AreBadCluster, HasBadCluster, AreBadWorkload, HasBadWorkload, IsFirstIllegal, AreBadEvents, HasBadEvents, WasMissed, CouldNotRead, CanBeDone, CallsFor, IsDue}
 use Rattle.detock.specs.RefusalCode.{IsRefusal}
 use Rattle.detock.proofs.WordForms.{two_bytes}
 use Rattle.dt_lists.proofs.Callers.{same_head, same_tail}
@@ -71,9 +71,9 @@ module _ (words : List Bytes) where
   one_task (Big a) (Replay x y z) is also = absurd (omega (arith, ap (λ (l : List Bytes). length l) (sym is.form ∙ also.form)))
   one_task (Big a) (Run x y) is also = absurd (omega (arith, ap (λ (l : List Bytes). length l) (sym is.form ∙ also.form)))
 
-  -- a task that is built is done by no threads
-  no_threads : (task : Task) → AsksBuilt words task → NeedsThreads words → ⊥
-  no_threads task is (other, asks, threaded) = is.built (subst IsThreaded (one_task other task asks is.asked) threaded)
+  -- so what holds of the task that they ask for holds of one
+  pub one_asked : (P Q : Task → Type 0) → AskFor words P → AskFor words Q → (task : Task) × P task × Q task
+  one_asked P Q (s, asks, p) (t, also, q) = (s, p, subst Q (one_task t s also asks) q)
 
 -- a file is one list of events
 pub one_list : (lines : List FileLine) (a b : List (ℕ × Event)) → Pairwise IsNumberedEvent lines a → Pairwise IsNumberedEvent lines b → a ≡ b
@@ -101,7 +101,6 @@ one_without (line ∷ lines) l m (inl (none, here)) (inr (some, later)) = absurd
 one_without (line ∷ lines) l m (inr (some, later)) (inl (none, here)) = absurd (none some)
 one_without (line ∷ lines) l m (inr (some, later)) (inr (also, after)) = one_without lines l m later after
 
--- what two lists with equal items begin and go on with
 -- of events, the first that is not legal is one
 module _ (cluster : Cluster) (workload : Workload) where
   one_illegal : (w : World) (a b after later : List (ℕ × Event)) (x y : ℕ × Event) → a ++ x ∷ after ≡ b ++ y ∷ later
@@ -160,7 +159,7 @@ no_file : (word : Bytes) (n : ℕ) → IsBuiltin n → word ≡ builtin_word n �
 no_file word n is spelled file =
     let colon : slice_get word 0 ≡ Some 58 = ap (λ (w : Bytes). slice_get w 0) (spelled ∙ two_bytes n is) in file.1 colon
 
-module _ (files : Files) (words : List Bytes) where
+module _ (files : Files) where
   -- a word names one cluster
   same_cluster : (word : Bytes) (c d : Cluster) → HasCluster (Some files) word c → HasCluster (Some files) word d → c ≡ d
   same_cluster word c d (inl (m, few, is, made)) (inl (n, many, too, also)) =
@@ -170,35 +169,16 @@ module _ (files : Files) (words : List Bytes) where
   same_cluster word c d (inr (_, one)) (inr (_, other)) =
       let (bytes, a, b) = both_files files word (HoldCluster c) (HoldCluster d) one other in one_cluster bytes c d a.form b.form
 
-  -- a task has one cluster
+  -- if a task has a word for a cluster, it has one cluster
   same_named : (word : Option Bytes) (c d : Cluster) → IsSomeAnd word (λ w. HasCluster (Some files) w c) → IsSomeAnd word (λ w. HasCluster (Some files) w d) → c ≡ d
   same_named None c d is also = absurd is
   same_named (Some word) c d is also = same_cluster word c d is also
-
-  same_asked : (s t : Task) (c d : Cluster) → AsksOn (Some files) words s c → AsksOn (Some files) words t d → (s ≡ t) × (c ≡ d)
-  same_asked s t c d a b =
-      let same = one_task words s t a.asks.asked b.asks.asked in
-      let P : Task → Type 0 = λ q. NamesThis (Some files) q d in
-      (same, same_named (cluster_word s) c d a.cluster_word (subst P (sym same) b.cluster_word))
 
   -- which is valid
   valid_cluster : (word : Option Bytes) (c : Cluster) → IsSomeAnd word (λ w. HasCluster (Some files) w c) → IsValidCluster c
   valid_cluster None c is = absurd is
   valid_cluster (Some word) c (inl (n, (some, few), is, made)) = subst IsValidCluster (sym made) (builtin_valid n some few)
   valid_cluster (Some word) c (inr (file, content)) = cluster_valid content.0 c content.2.form
-
-  -- the cluster of a task whose workload is loaded
-  on : (t : Task) (c : Cluster) (v : Workload) → AsksWith (Some files) words t c v → AsksOn (Some files) words t c
-  on t c v a = record { asks = a.asks; cluster_word = a.loaded.cluster_word }
-
-  -- and one workload
-  same_workload : (s t : Task) (c d : Cluster) (v w : Workload) → AsksWith (Some files) words s c v → AsksWith (Some files) words t d w → (s ≡ t) × (c ≡ d) × (v ≡ w)
-  same_workload s t c d v w a b =
-      let same = same_asked s t c d (on s c v a) (on t d w b) in
-      let P : Task × Cluster → Type 0 = λ q. IsSomeAnd (workload_word q.0) (λ name. HasFile (Some files) name (HoldWorkload q.1 w)) in
-      let pair : (t, d) ≡ (s, c) = λ i. (sym same.0 i, sym same.1 i) in
-      let (bytes, one, other) = both_words files (workload_word s) (HoldWorkload c v) (HoldWorkload c w) a.loaded.workload_file (subst P pair b.loaded.workload_file) in
-      (same.0, same.1, one_workload c (valid_cluster (cluster_word s) c a.loaded.cluster_word) bytes v w one.form other.form)
 
   -- the word of a cluster's file that has a fault names no cluster
   no_named : (word : Option Bytes) (c : Cluster) (f : ClusterFault) → IsSomeAnd word (λ w. HasCluster (Some files) w c) → IsSomeAnd word (λ w. IsClusterFile w × HasFile (Some files) w (AreBadCluster f)) → ⊥
@@ -210,12 +190,6 @@ module _ (files : Files) (words : List Bytes) where
       go : (bytes : Bytes) → HoldCluster c bytes → AreBadCluster f bytes → ⊥
       go bytes is (inl (whole, long)) = omega (arith, long, is.short)
       go bytes is (inr (short, has)) = no_cluster_fault bytes c f is.form has
-
-  -- a cluster has no fault
-  sound_cluster : (t : Task) (c : Cluster) (f : ClusterFault) → AsksOn (Some files) words t c → HasBadCluster (Some files) words f → ⊥
-  sound_cluster t c f a (s, asks, bad) =
-      let P : Task → Type 0 = λ q. IsSomeAnd (cluster_word q) (λ w. IsClusterFile w × HasFile (Some files) w (AreBadCluster f)) in
-      no_named (cluster_word t) c f a.cluster_word (subst P (one_task words s t asks.asked a.asks.asked) bad)
 
   -- a cluster's file has one fault
   one_named : (word : Option Bytes) (f g : ClusterFault) → IsSomeAnd word (λ w. IsClusterFile w × HasFile (Some files) w (AreBadCluster f))
@@ -230,112 +204,112 @@ module _ (files : Files) (words : List Bytes) where
       go bytes (inr (short, has)) (inl (too, long)) = absurd (omega (arith, long, short))
       go bytes (inr (_, one)) (inr (_, other)) = one_cluster_fault bytes f g one other
 
-  same_cluster_fault : (f g : ClusterFault) → HasBadCluster (Some files) words f → HasBadCluster (Some files) words g → f ≡ g
-  same_cluster_fault f g (s, asks, bad) (t, also, worse) =
-      let P : Task → Type 0 = λ q. IsSomeAnd (cluster_word q) (λ w. IsClusterFile w × HasFile (Some files) w (AreBadCluster g)) in
-      one_named (cluster_word s) f g bad (subst P (sym (one_task words s t asks.asked also.asked)) worse)
+  module _ (task : Task) where
+    -- a task has one cluster and one workload
+    same_loaded : (c d : Cluster) (v w : Workload) → Loaded (Some files) task c v → Loaded (Some files) task d w → (c ≡ d) × (v ≡ w)
+    same_loaded c d v w a b =
+        let same = same_named (cluster_word task) c d a.cluster_word b.cluster_word in
+        let P : Cluster → Type 0 = λ q. IsSomeAnd (workload_word task) (λ name. HasFile (Some files) name (HoldWorkload q w)) in
+        let (bytes, one, other) = both_words files (workload_word task) (HoldWorkload c v) (HoldWorkload c w) a.workload_file (subst P (sym same) b.workload_file) in
+        (same, one_workload c (valid_cluster (cluster_word task) c a.cluster_word) bytes v w one.form other.form)
 
-  -- a workload has no fault
-  sound_workload : (t : Task) (c : Cluster) (v : Workload) (l : ℕ) (why : WorkloadCause) → AsksWith (Some files) words t c v → HasBadWorkload (Some files) words l why → ⊥
-  sound_workload t c v l why a (s, d, asks, bad) =
-      let same = same_asked t s c d (on t c v a) asks in
-      let P : Task × Cluster → Type 0 = λ q. IsSomeAnd (workload_word q.0) (λ name. HasFile (Some files) name (AreBadWorkload q.1 l why)) in
-      let pair : (s, d) ≡ (t, c) = λ i. (sym same.0 i, sym same.1 i) in
-      let (bytes, is, has) = both_words files (workload_word t) (HoldWorkload c v) (AreBadWorkload c l why) a.loaded.workload_file (subst P pair bad) in
-      go bytes is has
-    where
-      go : (bytes : Bytes) → HoldWorkload c v bytes → AreBadWorkload c l why bytes → ⊥
-      go bytes is (inl (zero_l, whole, long)) = omega (arith, long, is.short)
-      go bytes is (inr (short, has)) = no_workload_fault c (valid_cluster (cluster_word t) c a.loaded.cluster_word) bytes v l why is.form has
+    -- a workload has no fault
+    sound_workload : (c : Cluster) (v : Workload) (l : ℕ) (why : WorkloadCause) → Loaded (Some files) task c v → HasBadWorkload (Some files) task l why → ⊥
+    sound_workload c v l why a (d, names, bad) =
+        let same = same_named (cluster_word task) c d a.cluster_word names in
+        let P : Cluster → Type 0 = λ q. IsSomeAnd (workload_word task) (λ name. HasFile (Some files) name (AreBadWorkload q l why)) in
+        let (bytes, is, has) = both_words files (workload_word task) (HoldWorkload c v) (AreBadWorkload c l why) a.workload_file (subst P (sym same) bad) in
+        go bytes is has
+      where
+        go : (bytes : Bytes) → HoldWorkload c v bytes → AreBadWorkload c l why bytes → ⊥
+        go bytes is (inl (zero_l, whole, long)) = omega (arith, long, is.short)
+        go bytes is (inr (short, has)) = no_workload_fault c (valid_cluster (cluster_word task) c a.cluster_word) bytes v l why is.form has
 
-  -- a workload's file has one fault
-  same_workload_fault : (l m : ℕ) (why how : WorkloadCause) → HasBadWorkload (Some files) words l why → HasBadWorkload (Some files) words m how → BadWorkload l why ≡ BadWorkload m how
-  same_workload_fault l m why how (t, c, asks, bad) (s, d, also, worse) =
-      let same = same_asked t s c d asks also in
-      let P : Task × Cluster → Type 0 = λ q. IsSomeAnd (workload_word q.0) (λ name. HasFile (Some files) name (AreBadWorkload q.1 m how)) in
-      let pair : (s, d) ≡ (t, c) = λ i. (sym same.0 i, sym same.1 i) in
-      let (bytes, a, b) = both_words files (workload_word t) (AreBadWorkload c l why) (AreBadWorkload c m how) bad (subst P pair worse) in
-      go bytes a b
-    where
-      go : (bytes : Bytes) → AreBadWorkload c l why bytes → AreBadWorkload c m how bytes → BadWorkload l why ≡ BadWorkload m how
-      go bytes (inl (zero_l, is, long)) (inl (zero_m, too, also)) = λ i. BadWorkload ((zero_l ∙ sym zero_m) i) ((is ∙ sym too) i)
-      go bytes (inl (zero_l, is, long)) (inr (short, has)) = absurd (omega (arith, long, short))
-      go bytes (inr (short, has)) (inl (zero_m, too, long)) = absurd (omega (arith, long, short))
-      go bytes (inr (_, one)) (inr (_, other)) =
-          let both = one_workload_fault c (valid_cluster (cluster_word t) c asks.cluster_word) bytes l m why how one other in λ i. BadWorkload (both.0 i) (both.1 i)
+    -- a workload's file has one fault
+    same_workload_fault : (l m : ℕ) (why how : WorkloadCause) → HasBadWorkload (Some files) task l why → HasBadWorkload (Some files) task m how → BadWorkload l why ≡ BadWorkload m how
+    same_workload_fault l m why how (c, names, bad) (d, also, worse) =
+        let same = same_named (cluster_word task) c d names also in
+        let P : Cluster → Type 0 = λ q. IsSomeAnd (workload_word task) (λ name. HasFile (Some files) name (AreBadWorkload q m how)) in
+        let (bytes, a, b) = both_words files (workload_word task) (AreBadWorkload c l why) (AreBadWorkload c m how) bad (subst P (sym same) worse) in
+        go bytes a b
+      where
+        go : (bytes : Bytes) → AreBadWorkload c l why bytes → AreBadWorkload c m how bytes → BadWorkload l why ≡ BadWorkload m how
+        go bytes (inl (zero_l, is, long)) (inl (zero_m, too, also)) = λ i. BadWorkload ((zero_l ∙ sym zero_m) i) ((is ∙ sym too) i)
+        go bytes (inl (zero_l, is, long)) (inr (short, has)) = absurd (omega (arith, long, short))
+        go bytes (inr (short, has)) (inl (zero_m, too, long)) = absurd (omega (arith, long, short))
+        go bytes (inr (_, one)) (inr (_, other)) =
+            let both = one_workload_fault c (valid_cluster (cluster_word task) c names) bytes l m why how one other in λ i. BadWorkload (both.0 i) (both.1 i)
 
-  -- what can be done has no fault in its events
-  doable : (is : IsReplayable (Some files) words) (l : ℕ) (c : EventsCause) → HasBadEvents (Some files) words l c → ⊥
-  doable is l c (s, d, w, has, bad) =
-      let same = same_workload is.task s is.cluster d is.workload w is.asks has in
-      let P : Task × (Cluster × Workload) → Type 0 = λ q. IsSomeAnd (events_word q.0) (λ name. HasFile (Some files) name (AreBadEvents q.1.0 q.1.1 l c)) in
-      let all : (s, (d, w)) ≡ (is.task, (is.cluster, is.workload)) = λ i. (sym same.0 i, (sym same.1 i, sym same.2 i)) in
-      let (bytes, are, fault) = both_words files (events_word is.task) (HoldEvents is.events) (AreBadEvents is.cluster is.workload l c) is.events_file (subst P all bad) in
-      no_fault is.cluster is.workload bytes is.events l c are is.legal fault
+    -- legal events have no fault
+    sound_events : (c : Cluster) (v : Workload) (events : List (ℕ × Event)) (l : ℕ) (why : EventsCause) → Loaded (Some files) task c v → HasEvents (Some files) task events
+        → AreLegal c v (unnumbered events) → HasBadEvents (Some files) task l why → ⊥
+    sound_events c v events l why a list legal (d, w, b, bad) =
+        let same = same_loaded c d v w a b in
+        let P : Cluster × Workload → Type 0 = λ q. IsSomeAnd (events_word task) (λ name. HasFile (Some files) name (AreBadEvents q.0 q.1 l why)) in
+        let both : (d, w) ≡ (c, v) = λ i. (sym same.0 i, sym same.1 i) in
+        let (bytes, are, fault) = both_words files (events_word task) (HoldEvents events) (AreBadEvents c v l why) list (subst P both bad) in
+        no_fault c v bytes events l why are legal fault
 
-  -- two faults of the events are one
-  same_fault : (l m : ℕ) (c d : EventsCause) → HasBadEvents (Some files) words l c → HasBadEvents (Some files) words m d → BadEvents l c ≡ BadEvents m d
-  same_fault l m c d (t, a, v, has, bad) (s, b, w, also, too) =
-      let same = same_workload t s a b v w has also in
-      let P : Task × (Cluster × Workload) → Type 0 = λ q. IsSomeAnd (events_word q.0) (λ name. HasFile (Some files) name (AreBadEvents q.1.0 q.1.1 m d)) in
-      let all : (s, (b, w)) ≡ (t, (a, v)) = λ i. (sym same.0 i, (sym same.1 i, sym same.2 i)) in
-      let (bytes, one, other) = both_words files (events_word t) (AreBadEvents a v l c) (AreBadEvents a v m d) bad (subst P all too) in
-      one_fault a v bytes l m c d one other
+    -- two faults of the events are one
+    same_fault : (l m : ℕ) (why how : EventsCause) → HasBadEvents (Some files) task l why → HasBadEvents (Some files) task m how → BadEvents l why ≡ BadEvents m how
+    same_fault l m why how (c, v, a, bad) (d, w, b, too) =
+        let same = same_loaded c d v w a b in
+        let P : Cluster × Workload → Type 0 = λ q. IsSomeAnd (events_word task) (λ name. HasFile (Some files) name (AreBadEvents q.0 q.1 m how)) in
+        let both : (d, w) ≡ (c, v) = λ i. (sym same.0 i, sym same.1 i) in
+        let (bytes, one, other) = both_words files (events_word task) (AreBadEvents c v l why) (AreBadEvents c v m how) bad (subst P both too) in
+        one_fault c v bytes l m why how one other
 
-  -- words that ask for a task are of a form
-  formed : (t : Task) → AsksBuilt words t → (¬ AreAForm words) → ⊥
-  formed t asks none = none (t, asks.asked)
+  -- what can be done has no fault
+  done_cluster : (task : Task) (f : ClusterFault) → CanBeDone (Some files) task → HasBadCluster (Some files) task f → ⊥
+  done_cluster (Replay word name list) f can bad = no_named (Some word) can.cluster f can.loaded.cluster_word bad
+  done_cluster (Run word name) f can bad = no_named (Some word) can.cluster f can.loaded.cluster_word bad
+  done_cluster (Big size) f can bad = bad
 
-  threaded : NeedsThreads words → (¬ AreAForm words) → ⊥
-  threaded (t, asks, is) none = none (t, asks)
+  done_workload : (task : Task) (l : ℕ) (why : WorkloadCause) → CanBeDone (Some files) task → HasBadWorkload (Some files) task l why → ⊥
+  done_workload (Replay word name list) l why can bad = sound_workload (Replay word name list) can.cluster can.workload l why can.loaded bad
+  done_workload (Run word name) l why can bad = sound_workload (Run word name) can.cluster can.workload l why can.loaded bad
+  done_workload (Big size) l why can (cluster, names, bad) = names
 
-  -- the words and the files call for one status; of two, the first is tried first
-  before : (s t : Status) → IsDue (Some files) words s → IsDue (Some files) words t → s ≡ t
-  before Done Done is also = refl
-  before Done BadWords is none = absurd (formed is.task is.asks.asks none)
-  before Done NotBuilt is not = absurd (no_threads words is.task is.asks.asks not)
-  before Done (BadCluster f) is bad = absurd (sound_cluster is.task is.cluster f (on is.task is.cluster is.workload is.asks) bad)
-  before Done (BadWorkload l why) is bad = absurd (sound_workload is.task is.cluster is.workload l why is.asks bad)
-  before Done (BadEvents l c) is bad = absurd (doable is l c bad)
-  before BadWords BadWords none also = refl
-  before BadWords NotBuilt none threads = absurd (threaded threads none)
-  before BadWords (BadCluster f) none (r, asks, bad) = absurd (formed r asks none)
-  before BadWords (BadWorkload l why) none (r, c, asks, bad) = absurd (formed r asks.asks none)
-  before BadWords (BadEvents l c) none (r, d, v, has, bad) = absurd (formed r has.asks none)
-  before NotBuilt NotBuilt not also = refl
-  before NotBuilt (BadCluster f) threads (r, asks, bad) = absurd (no_threads words r asks threads)
-  before NotBuilt (BadWorkload l why) threads (r, c, asks, bad) = absurd (no_threads words r asks.asks threads)
-  before NotBuilt (BadEvents l c) not (r, d, v, has, bad) = absurd (no_threads words r has.asks not)
-  before (BadCluster f) (BadCluster g) bad also = ap BadCluster (same_cluster_fault f g bad also)
-  before (BadCluster f) (BadWorkload l why) bad (r, c, asks, worse) = absurd (sound_cluster r c f asks bad)
-  before (BadCluster f) (BadEvents l c) bad (r, d, v, has, worse) = absurd (sound_cluster r d f (on r d v has) bad)
-  before (BadWorkload l why) (BadWorkload m how) bad also = same_workload_fault l m why how bad also
-  before (BadWorkload l why) (BadEvents m c) bad (r, d, v, has, worse) = absurd (sound_workload r d v l why has bad)
-  before (BadEvents l c) (BadEvents m d) bad also = same_fault l m c d bad also
-  before BadWords Done none is = absurd (formed is.task is.asks.asks none)
-  before NotBuilt Done not is = absurd (no_threads words is.task is.asks.asks not)
-  before NotBuilt BadWords threads none = absurd (threaded threads none)
-  before (BadCluster f) Done bad is = absurd (sound_cluster is.task is.cluster f (on is.task is.cluster is.workload is.asks) bad)
-  before (BadCluster f) BadWords (r, asks, bad) none = absurd (formed r asks none)
-  before (BadCluster f) NotBuilt (r, asks, bad) threads = absurd (no_threads words r asks threads)
-  before (BadWorkload l why) Done bad is = absurd (sound_workload is.task is.cluster is.workload l why is.asks bad)
-  before (BadWorkload l why) BadWords (r, c, asks, bad) none = absurd (formed r asks.asks none)
-  before (BadWorkload l why) NotBuilt (r, c, asks, bad) threads = absurd (no_threads words r asks.asks threads)
-  before (BadWorkload l why) (BadCluster f) (r, c, asks, worse) bad = absurd (sound_cluster r c f asks bad)
-  before (BadEvents l c) Done bad is = absurd (doable is l c bad)
-  before (BadEvents l c) BadWords (r, d, v, has, bad) none = absurd (formed r has.asks none)
-  before (BadEvents l c) NotBuilt (r, d, v, has, bad) not = absurd (no_threads words r has.asks not)
-  before (BadEvents l c) (BadCluster f) (r, d, v, has, worse) bad = absurd (sound_cluster r d f (on r d v has) bad)
-  before (BadEvents m c) (BadWorkload l why) (r, d, v, has, worse) bad = absurd (sound_workload r d v l why has bad)
-  before NoMemory t none is = absurd none
-  before (CannotRead word) t none is = absurd none
-  before CannotWrite t none is = absurd none
-  before s NoMemory is none = absurd none
-  before s (CannotRead word) is none = absurd none
-  before s CannotWrite is none = absurd none
+  done_events : (task : Task) (l : ℕ) (why : EventsCause) → CanBeDone (Some files) task → HasBadEvents (Some files) task l why → ⊥
+  done_events (Replay word name list) l why can bad =
+      sound_events (Replay word name list) can.cluster can.workload can.events l why can.loaded can.events_file can.legal bad
+  done_events (Run word name) l why can (cluster, workload, loaded, bad) = bad
+  done_events (Big size) l why can (cluster, workload, loaded, bad) = bad
 
-  pub one_due : (s t : Status) → IsDue (Some files) words s → IsDue (Some files) words t → s ≡ t
-  one_due = before
+  -- a task and the files call for one status; of two, the first is tried first
+  before : (task : Task) (s t : Status) → CallsFor (Some files) task s → CallsFor (Some files) task t → s ≡ t
+  before task Done Done can also = refl
+  before task Done (BadCluster f) can bad = absurd (done_cluster task f can bad)
+  before task Done (BadWorkload l why) can bad = absurd (done_workload task l why can bad)
+  before task Done (BadEvents l why) can bad = absurd (done_events task l why can bad)
+  before task (BadCluster f) Done bad can = absurd (done_cluster task f can bad)
+  before task (BadCluster f) (BadCluster g) bad also = ap BadCluster (one_named (cluster_word task) f g bad also)
+  before task (BadCluster f) (BadWorkload l why) bad (c, names, worse) = absurd (no_named (cluster_word task) c f names bad)
+  before task (BadCluster f) (BadEvents l why) bad (c, v, loaded, worse) = absurd (no_named (cluster_word task) c f loaded.cluster_word bad)
+  before task (BadWorkload l why) Done bad can = absurd (done_workload task l why can bad)
+  before task (BadWorkload l why) (BadCluster f) (c, names, worse) bad = absurd (no_named (cluster_word task) c f names bad)
+  before task (BadWorkload l why) (BadWorkload m how) bad also = same_workload_fault task l m why how bad also
+  before task (BadWorkload l why) (BadEvents m how) bad (c, v, loaded, worse) = absurd (sound_workload task c v l why loaded bad)
+  before task (BadEvents l why) Done bad can = absurd (done_events task l why can bad)
+  before task (BadEvents l why) (BadCluster f) (c, v, loaded, worse) bad = absurd (no_named (cluster_word task) c f loaded.cluster_word bad)
+  before task (BadEvents m how) (BadWorkload l why) (c, v, loaded, worse) bad = absurd (sound_workload task c v l why loaded bad)
+  before task (BadEvents l why) (BadEvents m how) bad also = same_fault task l m why how bad also
+  before task NoMemory t none calls = absurd none
+  before task BadWords t none calls = absurd none
+  before task (CannotRead word) t none calls = absurd none
+  before task CannotWrite t none calls = absurd none
+  before task s NoMemory calls none = absurd none
+  before task s BadWords calls none = absurd none
+  before task s (CannotRead word) calls none = absurd none
+  before task s CannotWrite calls none = absurd none
+
+  -- so do the words and the files
+  pub one_due : (words : List Bytes) (s t : Status) → IsDue (Some files) words s → IsDue (Some files) words t → s ≡ t
+  one_due words s t (inl (is, none)) (inl (also, never)) = is ∙ sym also
+  one_due words s t (inl (is, none)) (inr (task, asks, calls)) = absurd (none (task, asks))
+  one_due words s t (inr (task, asks, calls)) (inl (is, none)) = absurd (none (task, asks))
+  one_due words s t (inr one) (inr other) =
+      let (task, calls, also) = one_asked words (λ task. CallsFor (Some files) task s) (λ task. CallsFor (Some files) task t) one other in before task s t calls also
 
 -- where a file could not be read, the folder's count rose
 missed_rose : (before now : FolderView) (word : Option Bytes) → IsSomeAnd word (WasMissed before now) → Rose before.faults now.faults
@@ -346,34 +320,38 @@ missed_file : (before now : FolderView) (word : Option Bytes) → IsSomeAnd word
 missed_file before now None is = absurd is
 missed_file before now (Some name) (file, is) = is.rose
 
-could_not : (words : List Bytes) (before now : FolderView) (word : ℕ) → CouldNotRead words before now word → Rose before.faults now.faults
-could_not words before now word (inl (is, task, asks, missed)) = missed_file before now (cluster_word task) missed
-could_not words before now word (inr (inl (is, task, cluster, asks, missed))) = missed_rose before now (workload_word task) missed
-could_not words before now word (inr (inr (is, task, cluster, workload, asks, missed))) = missed_rose before now (events_word task) missed
+could_not : (task : Task) (before now : FolderView) (word : ℕ) → CouldNotRead task before now word → Rose before.faults now.faults
+could_not task before now word (inl (is, missed)) = missed_file before now (cluster_word task) missed
+could_not task before now word (inr (inl (is, cluster, names, missed))) = missed_rose before now (workload_word task) missed
+could_not task before now word (inr (inr (is, cluster, workload, loaded, missed))) = missed_rose before now (events_word task) missed
 
 -- a status that is no fault of a device is the one that is due
-module _ (words : List Bytes) (before now : FolderView) where
+module _ (words : List Bytes) (task : Task) (asks : Asks words task) (before now : FolderView) where
   due_of : (told : Option Files) → told ≡ before.told → (status due : Status) → IsSome told → IsDue told words due → ¬ Rose before.faults now.faults
-      → IsRefusal words before now status → (status ≡ due) ⊎ (status ≡ NoMemory)
+      → IsRefusal task before now status → (status ≡ due) ⊎ (status ≡ NoMemory)
   due_of None is status due some is_due still refused = cc
   due_of (Some files) is NoMemory due some is_due still refused = inr refl
-  due_of (Some files) is BadWords due some is_due still refused = inl (one_due files words BadWords due refused is_due)
-  due_of (Some files) is NotBuilt due some is_due still refused = inl (one_due files words NotBuilt due refused is_due)
-  due_of (Some files) is (BadCluster f) due some is_due still refused = inl (one_due files words (BadCluster f) due (subst (λ told. HasBadCluster told words f) (sym is) refused) is_due)
-  due_of (Some files) is (BadWorkload l why) due some is_due still refused = inl (one_due files words (BadWorkload l why) due (subst (λ told. HasBadWorkload told words l why) (sym is) refused) is_due)
-  due_of (Some files) is (BadEvents l why) due some is_due still refused = inl (one_due files words (BadEvents l why) due (subst (λ told. HasBadEvents told words l why) (sym is) refused) is_due)
-  due_of (Some files) is (CannotRead word) due some is_due still refused = absurd (still (could_not words before now word refused))
+  due_of (Some files) is (BadCluster f) due some is_due still refused =
+      inl (one_due files words (BadCluster f) due (inr (task, asks, subst (λ told. HasBadCluster told task f) (sym is) refused)) is_due)
+  due_of (Some files) is (BadWorkload l why) due some is_due still refused =
+      inl (one_due files words (BadWorkload l why) due (inr (task, asks, subst (λ told. HasBadWorkload told task l why) (sym is) refused)) is_due)
+  due_of (Some files) is (BadEvents l why) due some is_due still refused =
+      inl (one_due files words (BadEvents l why) due (inr (task, asks, subst (λ told. HasBadEvents told task l why) (sym is) refused)) is_due)
+  due_of (Some files) is (CannotRead word) due some is_due still refused = absurd (still (could_not task before now word refused))
   due_of (Some files) is Done due some is_due still refused = absurd refused
+  due_of (Some files) is BadWords due some is_due still refused = absurd refused
   due_of (Some files) is CannotWrite due some is_due still refused = absurd refused
 
   -- a refusal
-  pub refusal_due : (status due : Status) → IsSome before.told → IsDue before.told words due → ¬ Rose before.faults now.faults → IsRefusal words before now status → (status ≡ due) ⊎ (status ≡ NoMemory)
+  pub refusal_due : (status due : Status) → IsSome before.told → IsDue before.told words due → ¬ Rose before.faults now.faults → IsRefusal task before now status → (status ≡ due) ⊎ (status ≡ NoMemory)
   refusal_due = due_of before.told refl
 
-  -- a report that was made
-  pub done_due : (due : Status) → IsSome before.told → IsDue before.told words due → IsReplayable before.told words → Done ≡ due
-  done_due due some is possible = go before.told some is possible
-    where
-      go : (told : Option Files) → IsSome told → IsDue told words due → IsReplayable told words → Done ≡ due
-      go None some is possible = cc
-      go (Some files) some is possible = one_due files words Done due possible is
+-- a text that was made
+pub done_due : (told : Option Files) (words : List Bytes) (task : Task) → Asks words task → CanBeDone told task → (due : Status) → IsSome told → IsDue told words due → Done ≡ due
+done_due None words task asks can due some is_due = cc
+done_due (Some files) words task asks can due some is_due = one_due files words Done due (inr (task, asks, can)) is_due
+
+-- words of no form
+pub words_due : (told : Option Files) (words : List Bytes) → ¬ AreAForm words → (due : Status) → IsSome told → IsDue told words due → BadWords ≡ due
+words_due None words none due some is_due = cc
+words_due (Some files) words none due some is_due = one_due files words BadWords due (inl (refl, none)) is_due

@@ -1,5 +1,5 @@
 -- How the words of the command line are spelled.
-use Rattle.std.proofs.Common.{◌≡◌, ℕ, ◌+◌, ◌-◌, ◌≤◌, Bool, true, false, List, [], ◌∷◌, length, get_or, ap, sym, ◌∙◌, arith, subst, codes, String, string_bytes, MatchBool}
+use Rattle.std.proofs.Common.{◌≡◌, ℕ, ◌+◌, ◌-◌, ◌≤◌, List, [], ◌∷◌, length, get_or, Option, None, Some, refl, ap, sym, ◌∙◌, arith, subst, codes, String, string_bytes, MatchOption}
 use Rattle.std.proofs.lemmas.Fmt.{decimal_digit, length-decimal-le}
 use Rattle.std.specs.Fmt.{decimal}
 use Rattle.dt_access.specs.Clash.{Bytes}
@@ -45,15 +45,6 @@ no_threads_asked words no_run no_big (Replay cluster workload events, asks, thre
 no_threads_asked words no_run no_big (Run cluster workload, asks, threaded) = no_run cluster workload asks
 no_threads_asked words no_run no_big (Big size, asks, threaded) = no_big size asks
 
--- what two readers answer, of a run and of a big one, says whether threads are needed
-pub threads_of : (words : List Bytes) (run big : Bool) → run ≡ false
-    → MatchBool run ((cluster workload : Bytes) × Asks words (Run cluster workload)) ((cluster workload : Bytes) → ¬ Asks words (Run cluster workload))
-    → MatchBool big ((size : Bytes) × Asks words (Big size)) ((size : Bytes) → ¬ Asks words (Big size))
-    → MatchBool big (NeedsThreads words) (¬ NeedsThreads words)
-threads_of words true big is run asked = cc
-threads_of words false true is no_run (size, asks) = (Big size, asks, tt)
-threads_of words false false is no_run no_big = no_threads_asked words no_run no_big
-
 -- so many words, one by one
 module _ {A : Type 0} (words : List (String A)) (a b c d : String A) where
   pub two_words : length words ≡ 2 → a ≡ get_or words 0 a → b ≡ get_or words 1 b → word_bytes words ≡ string_bytes a ∷ string_bytes b ∷ []
@@ -90,21 +81,20 @@ module _ {A : Type 0} (words : List (String A)) (a b c d : String A) where
       go (p ∷ q ∷ r ∷ s ∷ t ∷ l) is x y z w = absurd (omega (arith, is))
 
 module _ (words : List Bytes) where
-  -- words of a big one, where the second is a size
-  pub asks_big : (verb a size : Bytes) (b : Bool) → words ≡ verb ∷ a ∷ [] → verb ≡ codes "big" → a ≡ size → MatchBool b (IsSize size) (¬ IsSize size)
-      → MatchBool b ((size : Bytes) × Asks words (Big size)) ((size : Bytes) → ¬ Asks words (Big size))
-  asks_big verb a size true is big same right = (size, record { form = is ∙ (λ i. big i ∷ same i ∷ []); right = right })
-  asks_big verb a size false is big same wrong =
+  -- words of a big run, where the second is a size
+  pub asks_big : (verb a size : Bytes) (r : Option ℕ) → words ≡ verb ∷ a ∷ [] → verb ≡ codes "big" → a ≡ size
+      → MatchOption r (¬ IsSize size) (λ calls. (1 ≤ calls) × (calls ≤ 20000) × (size ≡ decimal calls))
+      → MatchOption r ((size : Bytes) → ¬ Asks words (Big size)) (λ calls. Asks words (Big (decimal calls)) × (1 ≤ calls) × (calls ≤ 20000))
+  asks_big verb a size (Some calls) is big same (some, few, named) =
+      (record { form = is ∙ (λ i. big i ∷ (same ∙ named) i ∷ []); right = (calls, some, few, refl) }, some, few)
+  asks_big verb a size None is big same wrong =
       λ other asks. wrong (subst IsSize (ap (λ (l : List Bytes). get_or l 1 []) (sym asks.form ∙ is) ∙ same) asks.right)
 
-  -- words of a run, where the second names a cluster and the third is not empty
-  pub asks_run : (verb a w cluster workload : Bytes) (b : Bool) → words ≡ verb ∷ a ∷ w ∷ [] → verb ≡ codes "run" → a ≡ cluster → w ≡ workload → IsFileName workload
-      → MatchBool b (NamesCluster cluster) (¬ NamesCluster cluster)
-      → MatchBool b ((cluster workload : Bytes) × Asks words (Run cluster workload)) ((cluster workload : Bytes) → ¬ Asks words (Run cluster workload))
-  asks_run verb a w cluster workload true is run named file some right =
-      (cluster, workload, record { form = is ∙ (λ i. run i ∷ named i ∷ file i ∷ []); right = (right, some) })
-  asks_run verb a w cluster workload false is run named file some wrong =
-      λ other name asks. wrong (subst NamesCluster (ap (λ (l : List Bytes). get_or l 1 []) (sym asks.form ∙ is) ∙ named) asks.right.0)
+  -- words of a run
+  pub asks_run : (verb a w cluster workload : Bytes) → words ≡ verb ∷ a ∷ w ∷ [] → verb ≡ codes "run" → a ≡ cluster → w ≡ workload
+      → NamesCluster cluster → IsFileName workload → Asks words (Run cluster workload)
+  asks_run verb a w cluster workload is run named file right some =
+      record { form = is ∙ (λ i. run i ∷ named i ∷ file i ∷ []); right = (right, some) }
 
   -- words of a replay
   pub asks_replay : (verb a w e cluster workload events : Bytes) → words ≡ verb ∷ a ∷ w ∷ e ∷ [] → verb ≡ codes "replay" → a ≡ cluster → w ≡ workload → e ≡ events

@@ -11,9 +11,9 @@ use Rattle.dt_outside.specs.Sink.{SinkView, Adds, AddsPrefix}
 use Rattle.dt_cluster.specs.declared.ClusterFault.{ClusterFault}
 use Rattle.dt_workload.specs.declared.WorkloadCause.{WorkloadCause}
 use Rattle.detock.specs.declared.status.Status.{Status}
-use Rattle.detock.specs.declared.status.Status.TheVariants.{Done, NoMemory, BadWords, CannotRead, BadCluster, BadWorkload, BadEvents, CannotWrite, NotBuilt}
+use Rattle.detock.specs.declared.status.Status.TheVariants.{Done, NoMemory, BadWords, CannotRead, BadCluster, BadWorkload, BadEvents, CannotWrite}
 use Rattle.detock.specs.declared.status.EventsCause.{EventsCause}
-use Rattle.detock.specs.Tasks.{AreAForm, NeedsThreads}
+use Rattle.detock.specs.Tasks.{Big, Asks, AreAForm, AskFor}
 use Rattle.detock.specs.Headline.{AreDone}
 use Rattle.detock.specs.Causes.{CouldNotRead, HasBadCluster, HasBadEvents, HasBadWorkload, IsDue}
 use Rattle.detock.specs.Statuses.{fault_line}
@@ -25,12 +25,10 @@ module _ {F O : Type 0} (words : List Bytes) (seen : F → FolderView) (files fi
     pub done : status ≡ Done → AreDone (seen files).told words (Adds (shown out).held (shown out_after).held)
     -- Each refusal comes only by its cause, tried in this order.
     pub bad_words : status ≡ BadWords → ¬ AreAForm words
-    pub unread : status ≡ BadWords → files_after ≡ files
-    pub not_built : status ≡ NotBuilt → NeedsThreads words
-    pub bad_cluster : (fault : ClusterFault) → status ≡ BadCluster fault → HasBadCluster (seen files).told words fault
-    pub bad_workload : (line : ℕ) (cause : WorkloadCause) → status ≡ BadWorkload line cause → HasBadWorkload (seen files).told words line cause
-    pub cannot_read : (word : ℕ) → status ≡ CannotRead word → CouldNotRead words (seen files) (seen files_after) word
-    pub bad_events : (line : ℕ) (cause : EventsCause) → status ≡ BadEvents line cause → HasBadEvents (seen files).told words line cause
+    pub bad_cluster : (fault : ClusterFault) → status ≡ BadCluster fault → AskFor words (λ task. HasBadCluster (seen files).told task fault)
+    pub bad_workload : (line : ℕ) (cause : WorkloadCause) → status ≡ BadWorkload line cause → AskFor words (λ task. HasBadWorkload (seen files).told task line cause)
+    pub bad_events : (line : ℕ) (cause : EventsCause) → status ≡ BadEvents line cause → AskFor words (λ task. HasBadEvents (seen files).told task line cause)
+    pub cannot_read : (word : ℕ) → status ≡ CannotRead word → AskFor words (λ task. CouldNotRead task (seen files) (seen files_after) word)
     -- A report that could not be written was to be; some first bytes of it stand behind what the output held.
     pub cannot_write : status ≡ CannotWrite → Rose (shown out).faults (shown out_after).faults
         × AreDone (seen files).told words (AddsPrefix (shown out).held (shown out_after).held)
@@ -38,8 +36,9 @@ module _ {F O : Type 0} (words : List Bytes) (seen : F → FolderView) (files fi
     pub complete : (due : Status) → IsSome (seen files).told → IsDue (seen files).told words due →
         ¬ Rose (seen files).faults (seen files_after).faults → ¬ Rose (shown out).faults (shown out_after).faults →
         (status ≡ due) ⊎ (status ≡ NoMemory)
-    -- Where the words ask for threads, no file is loaded before the answer.
-    pub not_loaded : NeedsThreads words → files_after ≡ files
+    -- Neither for words of no form nor for a big run is any file loaded.
+    pub unread : status ≡ BadWords → files_after ≡ files
+    pub unloaded : (size : Bytes) → Asks words (Big size) → files_after ≡ files
     -- Nothing is written to the output but the report, and no file changes.
     pub out_same : status ≢ Done → status ≢ CannotWrite → out_after ≡ out
     pub files_same : (seen files_after).told ≡ (seen files).told

@@ -22,26 +22,11 @@ use Rattle.dt_workload.specs.File.{IsWorkloadFault}
 use Rattle.dt_session.specs.Step.{IsLegal, rule_of}
 use Rattle.dt_session.specs.Run.{AreLegal, world_after}
 use Rattle.detock.specs.declared.status.Status.{Status}
-use Rattle.detock.specs.declared.status.Status.TheVariants.{Done, NoMemory, BadWords, CannotRead, BadCluster, BadWorkload, BadEvents, CannotWrite, NotBuilt}
+use Rattle.detock.specs.declared.status.Status.TheVariants.{Done, NoMemory, BadWords, CannotRead, BadCluster, BadWorkload, BadEvents, CannotWrite}
 use Rattle.detock.specs.declared.status.EventsCause.{EventsCause}
 use Rattle.detock.specs.declared.status.EventsCause.TheVariants.{TooLong, Form, Rule}
-use Rattle.detock.specs.Tasks.{Task, Asks, AreAForm, IsClusterFile, IsThreaded, NeedsThreads, cluster_word, workload_word, events_word}
+use Rattle.detock.specs.Tasks.{Task, Replay, Run, Big, AreAForm, AskFor, IsClusterFile, cluster_word, workload_word, events_word}
 use Rattle.detock.specs.Loading.{HasFile, HoldEvents, NamesThis, Loaded, HasEvents, file_limit, unnumbered}
-
--- the words ask for a task that is built
-pub record AsksBuilt (words : List Bytes) (task : Task) : Type 0 where
-  pub asked : Asks words task
-  pub built : ¬ IsThreaded task
-
--- the words ask for a task that is built, and the task names this cluster
-pub record AsksOn (told : Option Files) (words : List Bytes) (task : Task) (cluster : Cluster) : Type 0 where
-  pub asks : AsksBuilt words task
-  pub cluster_word : NamesThis told task cluster
-
--- the words ask for a task that is built, and these are the cluster that it names and the workload of its file
-pub record AsksWith (told : Option Files) (words : List Bytes) (task : Task) (cluster : Cluster) (workload : Workload) : Type 0 where
-  pub asks : AsksBuilt words task
-  pub loaded : Loaded told task cluster workload
 
 -- what is wrong with the bytes of a cluster's file: they are too long, or they are no cluster, and this is their first fault
 abbrev pub AreBadCluster : ClusterFault → Bytes → Type 0
@@ -50,10 +35,8 @@ AreBadCluster fault bytes =
     ⊎ ((length bytes ≤ file_limit) × IsClusterFault bytes fault)
 
 -- the task's word for a cluster is the name of a file, and that file has this fault
-abbrev pub HasBadCluster : Option Files → List Bytes → ClusterFault → Type 0
-HasBadCluster told words fault =
-    (task : Task) × AsksBuilt words task
-    × IsSomeAnd (cluster_word task) (λ word. IsClusterFile word × HasFile told word (AreBadCluster fault))
+abbrev pub HasBadCluster : Option Files → Task → ClusterFault → Type 0
+HasBadCluster told task fault = IsSomeAnd (cluster_word task) (λ word. IsClusterFile word × HasFile told word (AreBadCluster fault))
 
 -- what is wrong with the bytes of a workload's file: they are too long, or they are no workload for the cluster, and this line
 -- is the first faulty one
@@ -63,9 +46,9 @@ AreBadWorkload cluster line cause bytes =
     ⊎ ((length bytes ≤ file_limit) × IsWorkloadFault cluster bytes line cause)
 
 -- the task has its cluster, and its workload's file has this fault
-abbrev pub HasBadWorkload : Option Files → List Bytes → ℕ → WorkloadCause → Type 0
-HasBadWorkload told words line cause =
-    (task : Task) × (cluster : Cluster) × AsksOn told words task cluster
+abbrev pub HasBadWorkload : Option Files → Task → ℕ → WorkloadCause → Type 0
+HasBadWorkload told task line cause =
+    (cluster : Cluster) × NamesThis told task cluster
     × IsSomeAnd (workload_word task) (λ name. HasFile told name (AreBadWorkload cluster line cause))
 
 -- the event of this line is the first that is not legal after those before it, by the rule of this number
@@ -87,9 +70,9 @@ AreBadEvents cluster workload line (Rule n) bytes =
     (events : List (ℕ × Event)) × HoldEvents events bytes × IsFirstIllegal cluster workload events line n
 
 -- the task has its cluster and its workload, and its events' file has this fault
-abbrev pub HasBadEvents : Option Files → List Bytes → ℕ → EventsCause → Type 0
-HasBadEvents told words line cause =
-    (task : Task) × (cluster : Cluster) × (workload : Workload) × AsksWith told words task cluster workload
+abbrev pub HasBadEvents : Option Files → Task → ℕ → EventsCause → Type 0
+HasBadEvents told task line cause =
+    (cluster : Cluster) × (workload : Workload) × Loaded told task cluster workload
     × IsSomeAnd (events_word task) (λ name. HasFile told name (AreBadEvents cluster workload line cause))
 
 -- a load failed in this call, and the newest one that did is that of this name, where the folder tells it
@@ -99,33 +82,43 @@ pub record WasMissed (before now : FolderView) (name : Bytes) : Type 0 where
 
 -- a load failed in this call, and it was that of word 2, of a task whose word for a cluster names a file; or that of word 3, of
 -- a task that has its cluster; or that of word 4, of one that has its cluster and its workload
-abbrev pub CouldNotRead : List Bytes → FolderView → FolderView → ℕ → Type 0
-CouldNotRead words before now word =
-    ((word ≡ 2) × (task : Task) × AsksBuilt words task
-    × IsSomeAnd (cluster_word task) (λ name. IsClusterFile name × WasMissed before now name))
-    ⊎ ((word ≡ 3) × (task : Task) × (cluster : Cluster) × AsksOn before.told words task cluster
+abbrev pub CouldNotRead : Task → FolderView → FolderView → ℕ → Type 0
+CouldNotRead task before now word =
+    ((word ≡ 2) × IsSomeAnd (cluster_word task) (λ name. IsClusterFile name × WasMissed before now name))
+    ⊎ ((word ≡ 3) × (cluster : Cluster) × NamesThis before.told task cluster
     × IsSomeAnd (workload_word task) (WasMissed before now))
-    ⊎ ((word ≡ 4) × (task : Task) × (cluster : Cluster) × (workload : Workload) × AsksWith before.told words task cluster workload
+    ⊎ ((word ≡ 4) × (cluster : Cluster) × (workload : Workload) × Loaded before.told task cluster workload
     × IsSomeAnd (events_word task) (WasMissed before now))
 
--- a replay that can be done: all files are what they are to be, and the events are legal
-pub record IsReplayable (told : Option Files) (words : List Bytes) : Type 0 where
-  pub task : Task
+-- a run that can be done: its cluster and its workload are what they are to be
+pub record IsRunnable (told : Option Files) (task : Task) : Type 0 where
   pub cluster : Cluster
   pub workload : Workload
-  pub asks : AsksWith told words task cluster workload
+  pub loaded : Loaded told task cluster workload
+
+-- a replay that can be done: all its files are what they are to be, and the events are legal
+pub record IsReplayable (told : Option Files) (task : Task) : Type 0 where
+  pub cluster : Cluster
+  pub workload : Workload
+  pub loaded : Loaded told task cluster workload
   pub events : List (ℕ × Event)
   pub events_file : HasEvents told task events
   pub legal : AreLegal cluster workload (unnumbered events)
 
+-- nothing that a task takes from files stands in its way; a big run takes nothing from them
+abbrev pub CanBeDone : Option Files → Task → Type 0
+CanBeDone told (Replay cluster workload events) = IsReplayable told (Replay cluster workload events)
+CanBeDone told (Run cluster workload) = IsRunnable told (Run cluster workload)
+CanBeDone told (Big size) = Unit {0}
+
+-- the status that a task and the files call for, where no device fails
+abbrev pub CallsFor : Option Files → Task → Status → Type 0
+CallsFor told task Done = CanBeDone told task
+CallsFor told task (BadCluster fault) = HasBadCluster told task fault
+CallsFor told task (BadWorkload line cause) = HasBadWorkload told task line cause
+CallsFor told task (BadEvents line cause) = HasBadEvents told task line cause
+CallsFor told task status = ⊥
+
 -- the status that the words and the files call for, where no device fails
 abbrev pub IsDue : Option Files → List Bytes → Status → Type 0
-IsDue told words Done = IsReplayable told words
-IsDue told words BadWords = ¬ AreAForm words
-IsDue told words NotBuilt = NeedsThreads words
-IsDue told words (BadCluster fault) = HasBadCluster told words fault
-IsDue told words (BadWorkload line cause) = HasBadWorkload told words line cause
-IsDue told words (BadEvents line cause) = HasBadEvents told words line cause
-IsDue told words NoMemory = ⊥
-IsDue told words (CannotRead word) = ⊥
-IsDue told words CannotWrite = ⊥
+IsDue told words status = ((status ≡ BadWords) × ¬ AreAForm words) ⊎ AskFor words (λ task. CallsFor told task status)

@@ -1,25 +1,31 @@
--- What the parts of the program answer where they refuse.
+-- What the parts of the program answer.
 --
--- Scaffolding: the top call is made of steps (a file, a cluster, a workload, the events), and only the contracts of these
--- cite this. Read next: Causes, for what a caller is promised.
-use Rattle.std.specs.Prelude.{◌≡◌, ℕ, ◌<◌, ◌≤◌, List, length}
+-- Scaffolding: the top call is made of steps (a file, a cluster, a workload, the events; then the text that is written), and
+-- only the contracts of these cite this. Read next: Causes, for what a caller is promised.
+use Rattle.std.specs.Prelude.{◌≡◌, ℕ, ◌<◌, ◌≤◌, ◌⊎◌, List, length, Result, Ok, Err, Vec, IfOk}
 use Rattle.dt_access.specs.Clash.{Bytes}
 use Rattle.dt_text.specs.Lines.{lines_of}
+use Rattle.dt_outside.specs.Faults.{Rose}
 use Rattle.dt_outside.specs.Folder.{FolderView}
+use Rattle.dt_outside.specs.Sink.{SinkView, Adds, AddsPrefix}
 use Rattle.dt_events.specs.declared.Event.{Event}
 use Rattle.dt_events.specs.Events.{FirstWithoutForm}
 use Rattle.dt_cluster.specs.declared.Cluster.{Cluster}
 use Rattle.dt_workload.specs.declared.Workload.{Workload}
 use Rattle.detock.specs.declared.status.Status.{Status}
-use Rattle.detock.specs.declared.status.Status.TheVariants.{Done, NoMemory, BadWords, CannotRead, BadCluster, BadWorkload, BadEvents, CannotWrite, NotBuilt}
+use Rattle.detock.specs.declared.status.Status.TheVariants.{Done, NoMemory, BadWords, CannotRead, BadCluster, BadWorkload, BadEvents, CannotWrite}
 use Rattle.detock.specs.declared.status.EventsCause.{EventsCause}
 use Rattle.detock.specs.declared.status.EventsCause.TheVariants.{TooLong, Form, Rule}
+use Rattle.dt_session.specs.Run.{AreLegal}
+use Rattle.dt_report.specs.declared.Report.{Report}
+use Rattle.dt_world.specs.WorldReport.{report_of}
 use Rattle.dt_world.specs.declared.StepError.{StepError}
 use Rattle.dt_world.specs.declared.StepError.TheVariants.{Illegal}
 use Rattle.dt_world.specs.declared.StepError.TheVariants as step
-use Rattle.detock.specs.Tasks.{IsClusterFile, AreAForm, NeedsThreads}
-use Rattle.detock.specs.Loading.{HasFile, file_limit}
-use Rattle.detock.specs.Causes.{AreBadCluster, AreBadWorkload, IsFirstIllegal, HasBadCluster, HasBadWorkload, HasBadEvents, CouldNotRead, WasMissed}
+use Rattle.detock.specs.Tasks.{Task, Big, Asks, AreAForm, AskFor, IsClusterFile}
+use Rattle.detock.specs.Loading.{HasCluster, HasFile, file_limit}
+use Rattle.detock.specs.Headline.{AreOfARun, IsDone}
+use Rattle.detock.specs.Causes.{AreBadCluster, AreBadWorkload, CanBeDone, CouldNotRead, HasBadCluster, HasBadEvents, HasBadWorkload, IsFirstIllegal, WasMissed}
 
 -- why a cluster's file was refused, by what is seen of the folder before its loading and now
 abbrev pub IsFileRefusal : Bytes → FolderView → FolderView → Status → Type 0
@@ -41,6 +47,17 @@ IsWorkloadRefusal cluster name before now NoMemory = Unit {0}
 IsWorkloadRefusal cluster name before now (BadWorkload line cause) = HasFile before.told name (AreBadWorkload cluster line cause)
 IsWorkloadRefusal cluster name before now (CannotRead number) = (number ≡ 3) × WasMissed before now name
 IsWorkloadRefusal cluster name before now status = ⊥
+
+-- why a cluster or a workload for it was refused, by the word of the cluster and the name of the workload's file
+abbrev pub IsLoadRefusal : Bytes → Bytes → FolderView → FolderView → Status → Type 0
+IsLoadRefusal word name before now NoMemory = Unit {0}
+IsLoadRefusal word name before now (BadCluster fault) = IsClusterFile word × HasFile before.told word (AreBadCluster fault)
+IsLoadRefusal word name before now (BadWorkload line cause) =
+    (cluster : Cluster) × HasCluster before.told word cluster × HasFile before.told name (AreBadWorkload cluster line cause)
+IsLoadRefusal word name before now (CannotRead number) =
+    ((number ≡ 2) × IsClusterFile word × WasMissed before now word)
+    ⊎ ((number ≡ 3) × (cluster : Cluster) × HasCluster before.told word cluster × WasMissed before now name)
+IsLoadRefusal word name before now status = ⊥
 
 -- a fault in the form of an events' file
 abbrev pub AreMalformed : ℕ → EventsCause → Bytes → Type 0
@@ -66,14 +83,44 @@ abbrev pub refusal_of : ℕ → StepError → Status
 refusal_of line (Illegal rule) = BadEvents line (Rule rule)
 refusal_of line (step.NoMemory) = NoMemory
 
--- why there is no report
-abbrev pub IsRefusal : List Bytes → FolderView → FolderView → Status → Type 0
-IsRefusal words before now NoMemory = Unit {0}
-IsRefusal words before now BadWords = ¬ AreAForm words
-IsRefusal words before now NotBuilt = NeedsThreads words
-IsRefusal words before now (BadCluster fault) = HasBadCluster before.told words fault
-IsRefusal words before now (BadWorkload line cause) = HasBadWorkload before.told words line cause
-IsRefusal words before now (BadEvents line cause) = HasBadEvents before.told words line cause
-IsRefusal words before now (CannotRead word) = CouldNotRead words before now word
-IsRefusal words before now Done = ⊥
-IsRefusal words before now CannotWrite = ⊥
+-- the report of some events that a run of the workload makes
+pub record IsReportOfRun (cluster : Cluster) (workload : Workload) (report : Report) : Type 0 where
+  pub legal : AreLegal cluster workload report.events
+  pub run : AreOfARun cluster workload report.events
+  pub report_is : report ≡ report_of cluster workload report.events
+
+-- why a task has no text
+abbrev pub IsRefusal : Task → FolderView → FolderView → Status → Type 0
+IsRefusal task before now NoMemory = Unit {0}
+IsRefusal task before now (BadCluster fault) = HasBadCluster before.told task fault
+IsRefusal task before now (BadWorkload line cause) = HasBadWorkload before.told task line cause
+IsRefusal task before now (BadEvents line cause) = HasBadEvents before.told task line cause
+IsRefusal task before now (CannotRead word) = CouldNotRead task before now word
+IsRefusal task before now status = ⊥
+
+module _ {F A : Type 0} (seen : F → FolderView) (files files_after : F) (text : Result (Vec ℕ A) Status) where
+  -- the text that a task asks for, or why there is none
+  pub record IsTextOf (task : Task) : Type 0 where
+    pub done : IfOk text (λ t. IsDone (seen files).told task (λ report. t.items ≡ report))
+    pub can : IfOk text (λ _. CanBeDone (seen files).told task)
+    pub refused : (status : Status) → text ≡ Err status → IsRefusal task (seen files) (seen files_after) status
+    pub unloaded : (size : Bytes) → task ≡ Big size → files_after ≡ files
+    pub same_told : (seen files_after).told ≡ (seen files).told
+
+  -- there is none, since the words ask for nothing, and nothing was loaded
+  pub record HasNoTask (words : List Bytes) : Type 0 where
+    pub none : ¬ AreAForm words
+    pub refused : text ≡ Err BadWords
+    pub unread : files_after ≡ files
+
+  -- the text that the words ask for, or why there is none
+  abbrev pub IsAskedFor : List Bytes → Type 0
+  IsAskedFor words = HasNoTask words ⊎ AskFor words IsTextOf
+
+-- how a call ends: a text is written, as far as the output takes it; and why there is none is handed on
+module _ {O A : Type 0} (shown : O → SinkView) (out out_after : O) where
+  abbrev pub EndsBy : Result (Vec ℕ A) Status → Status → Type 0
+  EndsBy (Ok text) Done = Adds (shown out).held (shown out_after).held text.items
+  EndsBy (Ok text) CannotWrite = AddsPrefix (shown out).held (shown out_after).held text.items × Rose (shown out).faults (shown out_after).faults
+  EndsBy (Ok text) status = ⊥
+  EndsBy (Err why) status = (status ≡ why) × (out_after ≡ out)

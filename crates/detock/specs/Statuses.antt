@@ -15,7 +15,7 @@ use Rattle.dt_cluster.specs.declared.error.ClusterCause.TheVariants as cluster
 use Rattle.dt_workload.specs.declared.WorkloadCause.{WorkloadCause}
 use Rattle.dt_workload.specs.declared.error.WorkloadCause.TheVariants as workload
 use Rattle.detock.specs.declared.status.Status.{Status}
-use Rattle.detock.specs.declared.status.Status.TheVariants.{Done, NoMemory, BadWords, CannotRead, BadCluster, BadWorkload, BadEvents, CannotWrite, NotBuilt}
+use Rattle.detock.specs.declared.status.Status.TheVariants.{Done, NoMemory, BadWords, CannotRead, BadCluster, BadWorkload, BadEvents, CannotWrite}
 use Rattle.detock.specs.declared.status.EventsCause.{EventsCause}
 use Rattle.detock.specs.declared.status.EventsCause.TheVariants.{TooLong, Form, Rule}
 
@@ -29,7 +29,6 @@ exit_number (BadCluster fault) = 4
 exit_number (BadWorkload line cause) = 5
 exit_number (BadEvents line cause) = 6
 exit_number CannotWrite = 7
-exit_number NotBuilt = 9
 
 -- the status where the words of the command line cannot be had: want of memory; or a word that is no text, which is a fault of the
 -- caller; and none where the system does not give them at all
@@ -102,4 +101,3 @@ fault_line (BadCluster fault) = told_line (codes "cluster" ++ place_text fault.p
 fault_line (BadWorkload line cause) = told_line (codes "workload line " ++ decimal line ++ codes ": " ++ workload_text cause)
 fault_line (BadEvents line cause) = told_line (codes "events line " ++ decimal line ++ codes ": " ++ cause_text cause)
 fault_line CannotWrite = told_line (codes "cannot write")
-fault_line NotBuilt = told_line (codes "not built")

@@ -63,6 +63,10 @@ pub record Asks (words : List Bytes) (task : Task) : Type 0 where
 abbrev pub AreAForm : List Bytes → Type 0
 AreAForm words = (task : Task) × Asks words task
 
+-- the words ask for a task of which P holds; words ask for one task at most
+abbrev pub AskFor : List Bytes → (Task → Type 0) → Type 0
+AskFor words P = (task : Task) × Asks words task × P task
+
 -- the word that names the task's cluster, if it has one
 abbrev pub cluster_word : Task → Option Bytes
 cluster_word (Replay cluster workload events) = Some cluster
@@ -89,4 +93,4 @@ IsThreaded (Big size) = Unit {0}
 
 -- the words ask for a task that is done by threads
 abbrev pub NeedsThreads : List Bytes → Type 0
-NeedsThreads words = (task : Task) × Asks words task × IsThreaded task
+NeedsThreads words = AskFor words IsThreaded

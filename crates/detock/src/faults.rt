@@ -38,7 +38,6 @@ fn put_fault<E: Sink>(status: &Status, err: &mut E) -> Result<(), Failed>
         Status::BadWorkload(line, cause) => put_bad_workload(*line, *cause, err),
         Status::BadEvents(line, cause) => put_bad_events(*line, *cause, err),
         Status::CannotWrite => write_all(err, b"detock: cannot write\n"),
-        Status::NotBuilt => write_all(err, b"detock: not built\n"),
     }
 }
 

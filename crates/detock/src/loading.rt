@@ -4,7 +4,7 @@ ghost use Rattle.dt_workload.specs.Valid.{IsValidWorkload};
 ghost use Rattle.detock.specs.TaskCode.{IsRight, word_of};
 ghost use Rattle.detock.specs.Loading.{HasCluster, HasFile, HoldCluster, HoldEvents, HoldWorkload, file_limit};
 ghost use Rattle.detock.specs.Causes.{WasMissed};
-ghost use Rattle.detock.specs.RefusalCode.{IsClusterRefusal, IsEventsRefusal, IsFileRefusal, IsWorkloadRefusal};
+ghost use Rattle.detock.specs.RefusalCode.{IsClusterRefusal, IsEventsRefusal, IsFileRefusal, IsLoadRefusal, IsWorkloadRefusal};
 
 use crate::status::{EventsCause, Status};
 use crate::words::ClusterWord;
@@ -28,8 +28,29 @@ const WORKLOAD_WORD: u32 = 3;
 /// The number of the word that names the events' file.
 const EVENTS_WORD: u32 = 4;
 
+/// The cluster that a word names, and the workload for it in the file of this name.
+pub fn load_both<F: Folder>(
+    alloc: Global,
+    files: &mut F,
+    word: ClusterWord<'_>,
+    name: &str,
+) -> Result<(Cluster, Workload), Status>
+    requires { IsRight word }
+    ensures cluster { IfOk result (λ both. HasCluster (F.seen files.old).told (word_of word.entry) both.0) }
+    ensures workload { IfOk result (λ both. HasFile (F.seen files.old).told name.now (HoldWorkload both.0 both.1)) }
+    ensures valid { IfOk result (λ both. IsValidCluster both.0 × IsValidWorkload both.0 both.1) }
+    ensures refused { (status : _) → result ≡ Err status →
+        IsLoadRefusal (word_of word.entry) name.now (F.seen files.old) (F.seen files.new) status }
+    ensures same_told { (F.seen files.new).told ≡ (F.seen files.old).told }
+    ensures later { (F.seen files.old).faults ≤ (F.seen files.new).faults }
+{
+    let cluster = load_cluster(alloc, files, word)?;
+    let workload = load_workload(alloc, files, name, &cluster)?;
+    Ok((cluster, workload))
+}
+
 /// The cluster that a word names: a built-in one, or that of its file, which is loaded and read.
-pub fn load_cluster<F: Folder>(
+fn load_cluster<F: Folder>(
     alloc: Global,
     files: &mut F,
     word: ClusterWord<'_>,
@@ -70,7 +91,7 @@ fn cluster_file<F: Folder>(alloc: Global, files: &mut F, name: &str) -> Result<C
 }
 
 /// Loads and reads a workload for a cluster.
-pub fn load_workload<F: Folder>(
+fn load_workload<F: Folder>(
     alloc: Global,
     files: &mut F,
     name: &str,

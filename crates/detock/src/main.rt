@@ -5,6 +5,7 @@ mod faults;
 mod loading;
 mod program;
 mod replay;
+mod running;
 mod status;
 #[cfg(test)]
 mod tests;

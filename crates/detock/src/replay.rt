@@ -4,15 +4,13 @@ ghost use Rattle.dt_workload.specs.Valid.{IsValidWorkload};
 ghost use Rattle.dt_session.specs.Run.{AreLegal, world_after};
 ghost use Rattle.dt_report.specs.Report.{report_text};
 ghost use Rattle.dt_world.specs.WorldReport.{report_of};
-ghost use Rattle.detock.specs.Tasks.{NeedsThreads, word_bytes};
+ghost use Rattle.detock.specs.TaskCode.{IsRight, asked_for};
 ghost use Rattle.detock.specs.Loading.{file_limit, unnumbered};
-ghost use Rattle.detock.specs.Headline.{AreDone};
-ghost use Rattle.detock.specs.Causes.{IsReplayable};
-ghost use Rattle.detock.specs.RefusalCode.{IsRefusal, IsStepRefusal, refusal_of};
+ghost use Rattle.detock.specs.RefusalCode.{IsStepRefusal, IsTextOf, refusal_of};
 
-use crate::loading::{load_cluster, load_events, load_workload};
+use crate::loading::{load_both, load_events};
 use crate::status::{EventsCause, Status};
-use crate::words::replay_words;
+use crate::words::ReplayWords;
 use dt_cluster::Cluster;
 use dt_events::Event;
 use dt_graph::QueueSched;
@@ -23,22 +21,16 @@ use dt_workload::Workload;
 use dt_world::{StepError, World};
 use std::alloc::Global;
 
-/// The text of the report that the words ask for, or why there is none.
-pub fn report<F: Folder>(alloc: Global, words: &[String], files: &mut F) -> Result<Vec<u8>, Status>
-    requires { ¬ NeedsThreads (word_bytes words.now) }
-    ensures done { IfOk result (λ text. AreDone (F.seen files.old).told (word_bytes words.now) (λ report. text.items ≡ report)) }
-    ensures possible { IfOk result (λ _. IsReplayable (F.seen files.old).told (word_bytes words.now)) }
-    ensures refused { (status : _) → result ≡ Err status →
-        IsRefusal (word_bytes words.now) (F.seen files.old) (F.seen files.new) status }
-    ensures unread { result ≡ Err Status.BadWords → files.new ≡ files.old }
-    ensures same_told { (F.seen files.new).told ≡ (F.seen files.old).told }
-    ensures later { (F.seen files.old).faults ≤ (F.seen files.new).faults }
+/// The text of the report that a replay asks for, or why there is none.
+pub fn replay_text<F: Folder>(
+    alloc: Global,
+    replay: ReplayWords<'_>,
+    files: &mut F,
+) -> Result<Vec<u8>, Status>
+    requires { IsRight replay.cluster }
+    ensures { IsTextOf F.seen files.old files.new result (asked_for replay.entry) }
 {
-    let Some(replay) = replay_words(words) else {
-        return Err(Status::BadWords);
-    };
-    let cluster = load_cluster(alloc, files, replay.cluster)?;
-    let workload = load_workload(alloc, files, replay.workload, &cluster)?;
+    let (cluster, workload) = load_both(alloc, files, replay.cluster, replay.workload)?;
     let events = load_events(alloc, files, replay.events)?;
     report_of(alloc, &cluster, &workload, events)
 }

@@ -8,7 +8,7 @@ use dt_workload::WorkloadCause;
 /// How the program ends.
 #[derive(Debug, Drop)]
 pub enum Status {
-    /// The whole report was written.
+    /// The whole report, or the whole summary of a big run, was written.
     Done,
     /// Memory ran out. Nothing was written.
     NoMemory,
@@ -24,8 +24,6 @@ pub enum Status {
     BadEvents(u32, EventsCause),
     /// The sink failed. It took some first bytes of the report, and no others.
     CannotWrite,
-    /// What is asked for is not built yet.
-    NotBuilt,
 }
 
 /// What is wrong with a file of events.
@@ -53,7 +51,6 @@ impl Status {
             Status::BadWorkload(_, _) => 5,
             Status::BadEvents(_, _) => 6,
             Status::CannotWrite => 7,
-            Status::NotBuilt => 9,
         }
     }
 }

@@ -1,7 +1,7 @@
 //! Whole calls of the program over a folder and sinks in memory.
 use crate::status::{EventsCause, Status};
 use crate::top::{detock, detock_alone};
-use crate::words::needs_threads;
+use crate::words::threaded_words;
 use dt_cluster::{ClusterCause, ClusterFault, ClusterPlace};
 use dt_outside::{MemoryFolder, MemorySink};
 use dt_workload::WorkloadCause;
@@ -12,6 +12,7 @@ use std::thread::Threads;
 
 mod moves;
 mod replays;
+mod runs;
 
 /// Room that no report or fault line of these tests uses up.
 const AMPLE: u64 = 4096;
@@ -72,7 +73,7 @@ fn call_alone(alloc: Global, words: &[&str], mut files: MemoryFolder) -> Result<
     let words = words_of(alloc, words)?;
     let mut out = MemorySink::new(alloc, AMPLE)?;
     let mut err = MemorySink::new(alloc, AMPLE)?;
-    if needs_threads(words.as_slice()) {
+    if threaded_words(words.as_slice()).is_some() {
         return Err(Fail::new("a replay needs no threads"));
     }
     let status = detock_alone(alloc, words.as_slice(), &mut files, &mut out, &mut err);
@@ -254,39 +255,35 @@ fn the_first_fault_of_the_first_file_is_told(rt: HostRuntime) -> Result<(), Fail
     Ok(())
 }
 
-/// Words that ask for nothing that there is, or for what is not built yet.
-const OTHER_WORDS: [(&[&str], u8); 19] = [
-    (&[], 2),
-    (&["replay"], 2),
-    (&["replay", ":1", "w"], 2),
-    (&["replay", ":1", "w", "e", "e"], 2),
-    (&["replay", ":0", "w", "e"], 2),
-    (&["replay", ":9", "w", "e"], 2),
-    (&["replay", ":01", "w", "e"], 2),
-    (&["replay", "", "w", "e"], 2),
-    (&["replay", ":1", "", "e"], 2),
-    (&["replay", ":1", "w", ""], 2),
-    (&["Replay", ":1", "w", "e"], 2),
-    (&["run", ":9", "w"], 2),
-    (&["run", ":1", ""], 2),
-    (&["big", "0"], 2),
-    (&["big", "20001"], 2),
-    (&["big", "007"], 2),
-    (&["run", ":1", "w"], 9),
-    (&["run", "c", "w"], 9),
-    (&["big", "20000"], 9),
+/// Words that ask for nothing that there is.
+const OTHER_WORDS: [&[&str]; 18] = [
+    &[],
+    &["replay"],
+    &["replay", ":1", "w"],
+    &["replay", ":1", "w", "e", "e"],
+    &["replay", ":0", "w", "e"],
+    &["replay", ":9", "w", "e"],
+    &["replay", ":01", "w", "e"],
+    &["replay", "", "w", "e"],
+    &["replay", ":1", "", "e"],
+    &["replay", ":1", "w", ""],
+    &["Replay", ":1", "w", "e"],
+    &["run", ":9", "w"],
+    &["run", ":1", ""],
+    &["big", "0"],
+    &["big", "20001"],
+    &["big", "007"],
+    &["run", ":1", "w", "e"],
+    &["big", "1", "1"],
 ];
 
 #[test]
 fn other_words_are_told_which_words_there_are(rt: HostRuntime) -> Result<(), Fail> {
-    for (words, exit) in OTHER_WORDS {
-        let line = match exit {
-            2 => "detock: usage: replay CLUSTER WORKLOAD EVENTS, run CLUSTER WORKLOAD, big N\n",
-            _ => "detock: not built\n",
-        };
+    let line = "detock: usage: replay CLUSTER WORKLOAD EVENTS, run CLUSTER WORKLOAD, big N\n";
+    for words in OTHER_WORDS {
         let files = folder_of(rt.alloc(), &[], &[])?;
         let told = call(&rt, rt.alloc(), words, files, (AMPLE, AMPLE))?;
-        assert_eq!(rt; told, refused(rt.alloc(), exit, line)?);
+        assert_eq!(rt; told, refused(rt.alloc(), 2, line)?);
     }
     Ok(())
 }
@@ -306,7 +303,7 @@ const ONE_PUT_REPORT: [&str; 6] = [
 ];
 
 /// Words, the numbers of the loads that fail, the exit number, and the fault that is told.
-const UNREAD: [(&[&str], &[u64], u8, &str); 8] = [
+const UNREAD: [(&[&str], &[u64], u8, &str); 12] = [
     (
         &["replay", "c", "w", "e"],
         &[1],
@@ -357,6 +354,11 @@ const UNREAD: [(&[&str], &[u64], u8, &str); 8] = [
         3,
         "detock: cannot read word 4\n",
     ),
+    // A run loads its cluster and its workload, and no third file.
+    (&["run", "c", "w"], &[1], 3, "detock: cannot read word 2\n"),
+    (&["run", "c", "w"], &[2], 3, "detock: cannot read word 3\n"),
+    (&["run", ":1", "w"], &[1], 3, "detock: cannot read word 3\n"),
+    (&["run", ":1", "x"], &[], 3, "detock: cannot read word 3\n"),
 ];
 
 #[test]
@@ -448,7 +450,6 @@ fn each_status_has_its_exit_number(rt: HostRuntime) {
         (Status::BadWorkload(1, WorkloadCause::Form), 5),
         (Status::BadEvents(1, EventsCause::Rule(1)), 6),
         (Status::CannotWrite, 7),
-        (Status::NotBuilt, 9),
     ];
     for (status, number) in &cases {
         assert_eq!(rt; status.exit(), *number);

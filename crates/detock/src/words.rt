@@ -1,7 +1,8 @@
-ghost use Rattle.std.specs.Prelude.{◌≡◌, ◌≢◌, ℕ, List, MatchBool, MatchOption};
+ghost use Rattle.std.specs.Prelude.{◌≡◌, ◌≢◌, ◌≤◌, ℕ, MatchOption};
+ghost use Rattle.std.specs.Fmt.{decimal};
 ghost use Rattle.dt_access.specs.Clash.{Bytes};
 ghost use Rattle.detock.specs.Tasks.{Asks, Big, IsBuiltin, IsSize, NamesCluster, NeedsThreads, Replay, Run, builtin_word, word_bytes};
-ghost use Rattle.detock.specs.TaskCode.{IsRight, asked_for, word_of};
+ghost use Rattle.detock.specs.TaskCode.{IsRight, IsRightThreaded, asked_for, run_asked_for, threaded_asked_for, word_of};
 
 use dt_text::read_u32;
 
@@ -25,6 +26,24 @@ pub struct ReplayWords<'a> {
     pub events: &'a str,
 }
 
+/// What `run` is asked to do.
+#[derive(Clone, Copy, Debug)]
+pub struct RunWords<'a> {
+    /// The cluster.
+    pub cluster: ClusterWord<'a>,
+    /// The name of the workload's file.
+    pub workload: &'a str,
+}
+
+/// What threads are asked to do.
+#[derive(Clone, Copy, Debug)]
+pub enum ThreadedWords<'a> {
+    /// To run a workload.
+    Run(RunWords<'a>),
+    /// To run the generated load of so many calls.
+    Big(u32),
+}
+
 /// Reads the words of a replay. `None` exactly where the words are not those of one. Takes no memory.
 pub fn replay_words(words: &[String]) -> Option<ReplayWords<'_>>
     ensures { MatchOption result ((cluster workload events : Bytes) → ¬ Asks (word_bytes words.now) (Replay cluster workload events))
@@ -44,60 +63,60 @@ pub fn replay_words(words: &[String]) -> Option<ReplayWords<'_>>
     })
 }
 
-/// Whether the words ask for what threads do: `run`, or `big`. Takes no memory.
-pub fn needs_threads(words: &[String]) -> bool
-    ensures { MatchBool result (NeedsThreads (word_bytes words.now)) (¬ NeedsThreads (word_bytes words.now)) }
+/// Reads the words of what threads do: of a run, or of a big one. `None` exactly where the words are those of neither. Takes no
+/// memory.
+pub fn threaded_words(words: &[String]) -> Option<ThreadedWords<'_>>
+    ensures { MatchOption result (¬ NeedsThreads (word_bytes words.now))
+        (λ threaded. Asks (word_bytes words.now) (threaded_asked_for threaded) × IsRightThreaded threaded) }
 {
-    is_run(words) || is_big(words)
+    if let Some(run) = run_words(words) {
+        return Some(ThreadedWords::Run(run));
+    }
+    Some(ThreadedWords::Big(big_words(words)?))
 }
 
-fn is_run(words: &[String]) -> bool
-    ensures { MatchBool result ((cluster workload : Bytes) × Asks (word_bytes words.now) (Run cluster workload))
-        ((cluster workload : Bytes) → ¬ Asks (word_bytes words.now) (Run cluster workload)) }
+/// Reads the words of a run. `None` exactly where the words are not those of one.
+fn run_words(words: &[String]) -> Option<RunWords<'_>>
+    ensures { MatchOption result ((cluster workload : Bytes) → ¬ Asks (word_bytes words.now) (Run cluster workload))
+        (λ run. Asks (word_bytes words.now) (run_asked_for run) × IsRight run.cluster) }
 {
     let [verb, cluster, workload] = words else {
-        return false;
+        return None;
     };
     if verb.as_str() != "run" || workload.is_empty() {
-        return false;
+        return None;
     }
-    names_cluster(cluster)
+    let cluster = cluster_word(cluster)?;
+    Some(RunWords { cluster, workload })
 }
 
-fn is_big(words: &[String]) -> bool
-    ensures { MatchBool result ((size : Bytes) × Asks (word_bytes words.now) (Big size))
-        ((size : Bytes) → ¬ Asks (word_bytes words.now) (Big size)) }
+/// Reads the words of a big run: how many calls are asked for. `None` exactly where the words are not those of one.
+fn big_words(words: &[String]) -> Option<u32>
+    ensures { MatchOption result ((size : Bytes) → ¬ Asks (word_bytes words.now) (Big size))
+        (λ calls. Asks (word_bytes words.now) (Big (decimal calls)) × (1 ≤ calls) × (calls ≤ 20000)) }
 {
     let [verb, size] = words else {
-        return false;
+        return None;
     };
     if verb.as_str() != "big" {
-        return false;
+        return None;
     }
-    is_size(size.as_bytes())
+    size_of(size.as_bytes())
 }
 
-/// Whether the word is a number from 1 to 20000.
-fn is_size(word: &[u8]) -> bool
-    ensures { MatchBool result (IsSize word.now) (¬ IsSize word.now) }
+/// The number from 1 to 20000 that the word is. `None` exactly where it is none.
+fn size_of(word: &[u8]) -> Option<u32>
+    ensures { MatchOption result (¬ IsSize word.now)
+        (λ calls. (1 ≤ calls) × (calls ≤ 20000) × (word.now ≡ decimal calls)) }
 {
     if word.len() > 5 {
-        return false;
+        return None;
     }
-    let Some(number) = read_u32(word) else {
-        return false;
-    };
+    let number = read_u32(word)?;
     if number < 1 || number > 20_000 {
-        return false;
+        return None;
     }
-    true
-}
-
-/// Whether the word names a cluster.
-fn names_cluster(word: &str) -> bool
-    ensures { MatchBool result (NamesCluster word.now) (¬ NamesCluster word.now) }
-{
-    cluster_word(word).is_some()
+    Some(number)
 }
 
 /// Which cluster the word names. `None` exactly where it names none.

@@ -8,6 +8,3 @@ returns-in-BadEvents g c = rw c.in-BadEvents.is c.put_bad_events.ensures
 
 pub returns-in-CannotWrite : goal.returns-in-CannotWrite
 returns-in-CannotWrite g c = rw c.in-CannotWrite.is c.write_all-in-CannotWrite.ensures
-
-pub returns-in-NotBuilt : goal.returns-in-NotBuilt
-returns-in-NotBuilt g c = rw c.in-NotBuilt.is c.write_all-in-NotBuilt.ensures

@@ -1,0 +1,50 @@
+-- What a run is, from what made it.
+use Rattle.std.proofs.Common.{◌≡◌, ℕ, ◌≤◌, List, Result, Ok, Err, IfOk, Vec, ap, sym, ◌∙◌, subst}
+use Rattle.std.specs.Fmt.{decimal}
+use Rattle.dt_access.specs.Clash.{Bytes}
+use Rattle.dt_outside.specs.Folder.{Files}
+use Rattle.dt_cluster.specs.declared.Cluster.{Cluster}
+use Rattle.dt_cluster.specs.Valid.{IsValidCluster}
+use Rattle.dt_workload.specs.declared.Workload.{Workload}
+use Rattle.dt_workload.specs.Valid.{IsValidWorkload}
+use Rattle.dt_gen.specs.Load.{load_cluster, load_workload}
+use Rattle.dt_report.specs.declared.Report.{Report}
+use Rattle.dt_report.specs.Report.{report_text}
+use Rattle.dt_sum.specs.Summary.{big_text, summary_of}
+use Rattle.dt_sum.proofs.Callers.{each_summary}
+use Rattle.dt_world.specs.WorldReport.{report_of}
+use Rattle.detock.specs.Tasks.{Run}
+use Rattle.detock.specs.Loading.{Loaded}
+use Rattle.detock.specs.Headline.{BigRun, Headline}
+use Rattle.detock.specs.RefusalCode.{IsReportOfRun}
+use Rattle.detock.proofs.Refused.{headline_of}
+
+module _ (cluster : Cluster) (workload : Workload) (report : Report) (is : IsReportOfRun cluster workload report) where
+  -- the text of such a report makes the headline true
+  pub run_headline : (told : _) (word name text : Bytes) → Loaded told (Run word name) cluster workload → IsValidCluster cluster → IsValidWorkload cluster workload
+      → text ≡ report_text report → Headline told (Run word name) (λ lines. text ≡ lines)
+  run_headline told word name text loaded valid fits written =
+      headline_of told (Run word name) (λ lines. text ≡ lines) cluster workload report.events loaded is.run valid fits is.legal (written ∙ ap report_text is.report_is)
+
+  -- and the summary of one of the load is known
+  big_lines : (calls : ℕ) → calls ≤ 20000 → cluster ≡ load_cluster → workload ≡ load_workload calls → (text : Bytes) → text ≡ summary_of calls report
+      → BigRun (decimal calls) (λ lines. text ≡ lines)
+  big_lines calls few of_cluster of_workload text written =
+      let P : Cluster × Workload → Type 0 = λ q. IsReportOfRun q.0 q.1 report in
+      let of_load : IsReportOfRun load_cluster (load_workload calls) report = subst P (λ i. (of_cluster i, of_workload i)) is in
+      let known : big_text calls ≡ summary_of calls (report_of load_cluster (load_workload calls) report.events) =
+      sym (each_summary calls report.events few of_load.legal of_load.run.finished) in record {
+        calls = calls;
+        named = λ i. decimal calls;
+        lines = written ∙ ap (summary_of calls) of_load.report_is ∙ sym known;
+        events = report.events;
+        legal = of_load.legal;
+        run = of_load.run;
+        summary = known;
+      }
+
+  -- so what is written of it is what a big run tells
+  pub big_told : {A E : Type 0} (calls : ℕ) → calls ≤ 20000 → cluster ≡ load_cluster → workload ≡ load_workload calls → (r : Result (Vec ℕ A) E)
+      → IfOk r (λ text. text.items ≡ summary_of calls report) → IfOk r (λ text. BigRun (decimal calls) (λ lines. text.items ≡ lines))
+  big_told calls few of_cluster of_workload (Ok text) written = big_lines calls few of_cluster of_workload text.items written
+  big_told calls few of_cluster of_workload (Err error) written = tt
