@@ -17,7 +17,7 @@ use std::alloc::Global;
 use std::marker::Model;
 use std::mem;
 
-/// A node with its ends of all links: all that a turn of it may touch.
+/// A node with its ends of all links: what goes to a thread in a phase.
 #[derive(Drop)]
 pub struct Seat<S: Scheduler> {
     pub(crate) node: Node<S>,
