@@ -27,4 +27,3 @@ pub mod Assembled
 pub mod KeptLists
 pub mod PhaseMade
 pub mod OpeningSeats
-mod TurningAll

@@ -103,12 +103,6 @@ pub record EachGoes (procs : List ProcTree) (before after : List SeatView) : Typ
   pub many : length after ≡ length before
   pub each : (region : ℕ) → region < length before → SeatGoes procs (seat_at before region) (seat_at after region)
 
--- a turn at each of the first so many seats, and the others are as before
-pub record TurnedSoFar (procs : List ProcTree) (count : ℕ) (before now : List SeatView) : Type 0 where
-  pub many : length now ≡ length before
-  pub gone : (region : ℕ) → region < count → region < length before → SeatGoes procs (seat_at before region) (seat_at now region)
-  pub left : (region : ℕ) → count ≤ region → seat_at now region ≡ seat_at before region
-
 -- what a seat's region submitted is counted by 32 bits
 abbrev pub HasFewSubmitted : SeatView → Type 0
 HasFewSubmitted s = length s.node.site.region.state.submitted + 1 < 4294967296

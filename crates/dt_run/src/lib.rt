@@ -1,8 +1,8 @@
 //! All nodes of a cluster at once: they run in phases over links that lose packets, until every call is answered.
 //!
-//! In a phase every node makes one turn ([`Nodes::phase`]). A node knows nothing of what the others do meanwhile: what it sends
-//! waits on a link, and becomes known between two phases, when the ends of each link are brought beside each other (`links.rt`).
-//! So it does not matter in which order the turns are made, nor whether one after another. [`run`] makes phases until all is done.
+//! In a phase every node makes one turn, each in a thread of its own where one can be made ([`Nodes::phase`]). A node knows
+//! nothing of what the others do meanwhile: what it sends waits on a link, and becomes known between two phases, when the ends
+//! of each link are brought beside each other (`links.rt`). [`run`] makes phases until all is done.
 //!
 //! Nobody has the events of all regions as one list while they are made. In the end they are told in the order of their stamps
 //! (`merging.rt`), and the report is that of this list: it is legal, and it leads to the world in which all nodes are, by the

@@ -27,6 +27,9 @@ use dt_text::NoMemory;
 use dt_workload::Workload;
 use std::alloc::Global;
 use std::marker::Model;
+use std::sync::Wait;
+use std::thread;
+use std::thread::Threads;
 
 /// All nodes of a cluster, and the links between them, with the cluster and the workload.
 ///
@@ -103,17 +106,17 @@ impl<S: Scheduler + Drop> Nodes<S> {
     }
 }
 
-impl<S: Scheduler + Drop> Nodes<S> {
-    /// Makes one turn of every node. No turn sees anything of what another makes in this phase, so their order tells nothing. It
-    /// fails only for want of memory; then some turns may be made in part, and links and marks are given up.
-    pub fn phase(&mut self, alloc: Global) -> Result<(), NoMemory>
+impl<S: Scheduler + Drop + Send> Nodes<S> {
+    /// Runs one turn of every node, by a parallel call over the list of nodes. It fails only for want of memory; then some turns
+    /// may be made in part, and links and marks are given up.
+    pub fn phase<R: Threads + Wait + Sync>(&mut self, rt: &R, alloc: Global) -> Result<(), NoMemory>
         requires { self.old.broken ≡ false }
         ensures phase { IsPhase self.old self.new }
         ensures in_step { OnOk result (EndsInStep self.old self.new) }
         ensures broken { OnErr result (self.new.broken ≡ true) }
         ensures nodes { AreNodes self.new }
     {
-        turn_all(alloc, self.seats.as_mut_slice(), &self.cluster.procs);
+        turn_all(rt, alloc, self.seats.as_mut_slice(), &self.cluster.procs);
         if some_failed(self.seats.as_slice()) {
             self.broken = true;
             return Err(NoMemory);
@@ -123,15 +126,27 @@ impl<S: Scheduler + Drop> Nodes<S> {
     }
 }
 
-/// One turn at every seat, one after another. None depends on what another does meanwhile: what is put on a link becomes known
-/// only after the phase.
-fn turn_all<S: Scheduler + Drop>(alloc: Global, seats: &mut [Seat<S>], procs: &Procs)
+/// One turn at every seat, each in a thread of its own where one can be made.
+fn turn_all<S: Scheduler + Drop + Send, R: Threads + Wait + Sync>(
+    rt: &R,
+    alloc: Global,
+    seats: &mut [Seat<S>],
+    procs: &Procs,
+)
     requires { All (SeatCan procs.now) seats.old }
     ensures { EachGoes procs.now seats.old seats.new }
 {
-    for region in 0..seats.len() {
-        seats[region].turn(alloc, procs);
-    }
+    thread::for_each_mut(
+        rt,
+        seats,
+        8,
+        &|_, seat: &mut Seat<S>|
+            requires { SeatCan procs.now seat.now }
+            ensures { SeatGoes procs.entry.now seat.entry.now seat.exit.now }
+        {
+            seat.turn(alloc, procs);
+        },
+    );
 }
 
 /// Whether the last turn at some seat failed.

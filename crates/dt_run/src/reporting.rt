@@ -18,11 +18,12 @@ use dt_workload::Workload;
 use dt_world::{StepError, World};
 use std::alloc::Global;
 use std::sync::Wait;
+use std::thread::Threads;
 
 /// Makes phases until every call is answered and every region has executed every attempt, and gives the report of the events
 /// that the nodes then hold, in the order of their stamps. No clause says that it returns. It fails only for want of memory;
 /// then the nodes are as after some phases, of which the last one may have been made in part.
-pub fn run<R: Wait, S: Scheduler + Drop>(
+pub fn run<R: Threads + Wait + Sync, S: Scheduler + Drop + Send>(
     rt: &R,
     alloc: Global,
     nodes: &mut Nodes<S>,
@@ -35,7 +36,7 @@ pub fn run<R: Wait, S: Scheduler + Drop>(
     ensures report { IfOk result (IsRunReport nodes.new) }
 {
     for _ in rt.forever() {
-        nodes.phase(alloc)?;
+        nodes.phase(rt, alloc)?;
         if nodes.finished() {
             return nodes.report(alloc);
         }

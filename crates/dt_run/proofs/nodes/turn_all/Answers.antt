@@ -1,15 +1,18 @@
-use Rattle.std.proofs.Common.{arith}
-use Rattle.dt_run.proofs.TurningAll.{may_turn, turned_each, turned_more, turned_none}
+use denote.Param.Send.{sendable}
+use Rattle.std.proofs.Common.{sym, subst}
+use Rattle.dt_run.specs.SeatsInner.{SeatCan, SeatGoes, no_seat, seat_at}
 use Rattle.dt_run.proofs.nodes.turn_all.Goals as goal
 
-pub loop-region-init : goal.loop-region-init
-loop-region-init g c = turned_none c.args.procs.now c.args.seats.now
+pub for_each_mut-requires-sync-F : goal.for_each_mut-requires-sync-F
+for_each_mut-requires-sync-F g c κs within = search sendable depth 20
 
-pub turn-requires : goal.turn-requires
-turn-requires g c = may_turn c.loop-region.invariant (omega arith) c.index-seats-region.result c.requires
-
-pub loop-region-preserved : goal.loop-region-preserved
-loop-region-preserved g c = turned_more c.loop-region.invariant (omega arith) c.index-seats-region.result c.turn.new.self c.turn.ensures
+pub for_each_mut-requires-clause-accepts : goal.for_each_mut-requires-clause-accepts
+for_each_mut-requires-clause-accepts g c κs within = λ i p lt is. subst (SeatCan c.args.procs.now) (sym is) (c.requires i p.now lt)
 
 pub returns : goal.returns
-returns g c = turned_each c.loop-region.invariant (omega arith)
+returns g c = record {
+  many = c.for_each_mut.auto.s;
+  each = λ region lt.
+      let w = (c.for_each_mut.ensures region no_seat lt).1 in
+      subst (λ s. SeatGoes c.args.procs.now s (seat_at c.for_each_mut.new.s region)) w.argument_is (subst (SeatGoes c.args.procs.now w.argument.now) w.left w.call);
+}
