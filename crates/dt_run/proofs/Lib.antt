@@ -15,6 +15,7 @@ pub mod RowBeside
 pub mod Linking
 pub mod SeatTurning
 pub mod SeatMaking
+pub mod Crossing
 pub mod Finishing
 pub mod MakingAgain
 pub mod RunLaws
