@@ -23,7 +23,7 @@ use Rattle.dt_site.proofs.Callers.{seat_changed}
 use Rattle.dt_node.specs.NodeView.{NodeView}
 use Rattle.dt_node.specs.Turn.{MayAnswerAt, MaySubmitAt}
 use Rattle.dt_node.specs.Steps.{AllWhoMight, OneByOne, has_some}
-use Rattle.dt_node.specs.StepsInner.{ArePicked, HaveStepped, IsAnswering, IsSubmission, LeavesOthers, StepsAt, names_of}
+use Rattle.dt_node.specs.StepsInner.{ArePicked, HaveStepped, IsAnswering, IsSubmission, LeavesOthers, StepsAt, seat_names}
 use Rattle.dt_node.specs.TurnInner.{EndsAll, EndsOne, HasGoneOn}
 use Rattle.dt_node.proofs.Passing.{answer_found, place_of_name, submit_found}
 use Rattle.dt_node.proofs.Seating.{not_before}
@@ -135,7 +135,7 @@ module _ {a b : NodeView} (change : Seat → Seat) (name : Bytes) (sessions : b.
       same_tries None = refl
       same_tries (Some seat) = refl
 
-      same_keys : (o : Option Seat) → map (λ p. p.0) (with_changed change a.sessions name o).seats ≡ names_of a
+      same_keys : (o : Option Seat) → map (λ p. p.0) (with_changed change a.sessions name o).seats ≡ seat_names a
       same_keys None = refl
       same_keys (Some seat) = keys-set_value (is_named name) a.sessions.seats (change seat)
 
@@ -192,25 +192,25 @@ module _ (May : NodeView → Bytes → Type 0) (Step : NodeView → Bytes → No
   stepped_none a = record { names = []; picked = refl; each = refl; leaves = left_none a }
 
   module _ {a b : NodeView} (place : ℕ) (ascending : HasAscendingKeys a.sessions.seats) (h : HaveStepped May Step a place b) where
-    in_order : EachThen KeyBefore (names_of a)
+    in_order : EachThen KeyBefore (seat_names a)
     in_order = each_image KeyBefore (λ q. q.0) a.sessions.seats ascending
 
     -- the session of this place is none of those that made a step
-    module _ (name : Bytes) (at : slice_get (names_of b) place ≡ Some name) where
-      at_first : slice_get (names_of a) place ≡ Some name
+    module _ (name : Bytes) (at : slice_get (seat_names b) place ≡ Some name) where
+      at_first : slice_get (seat_names a) place ≡ Some name
       at_first = ap (λ l. slice_get l place) (sym h.leaves.same_names) ∙ at
 
       is_new : ¬ (Has h.names name)
-      is_new k = not_in_front place (names_of a) name in_order at_first (picked_has (May a) (take place (names_of a)) h.names h.picked name k).0
+      is_new k = not_in_front place (seat_names a) name in_order at_first (picked_has (May a) (take place (seat_names a)) h.names h.picked name k).0
 
-      up : take (place + 1) (names_of a) ≡ take place (names_of a) ++ name ∷ []
-      up = ap (λ n. take n (names_of a)) (let e : place + 1 ≡ suc place = omega arith in e) ∙ front_more place (names_of a) name at_first
+      up : take (place + 1) (seat_names a) ≡ take place (seat_names a) ++ name ∷ []
+      up = ap (λ n. take n (seat_names a)) (let e : place + 1 ≡ suc place = omega arith in e) ∙ front_more place (seat_names a) name at_first
 
       stepped_there : (c : NodeView) → Step b name c → HaveStepped May Step a (place + 1) c
       stepped_there c s = record {
         names = h.names ++ name ∷ [];
         picked = subst (λ l. ArePicked (May a) l (h.names ++ name ∷ [])) (sym up)
-            (picked_more (May a) (take place (names_of a)) h.names name h.picked ((stays h.names a b h.leaves name is_new).1 (may b name c s)));
+            (picked_more (May a) (take place (seat_names a)) h.names name h.picked ((stays h.names a b h.leaves name is_new).1 (may b name c s)));
         each = one_more_step Step h.names name a b c h.each s;
         leaves = left_more h.names name h.leaves (leaves b name c s);
       }
@@ -219,7 +219,7 @@ module _ (May : NodeView → Bytes → Type 0) (Step : NodeView → Bytes → No
       stepped_not c same apart = subst (HaveStepped May Step a (place + 1)) (sym same) (record {
         names = h.names;
         picked = subst (λ l. ArePicked (May a) l h.names) (sym up)
-            (picked_same (May a) (take place (names_of a)) h.names name h.picked (λ m. apart ((stays h.names a b h.leaves name is_new).0 m)));
+            (picked_same (May a) (take place (seat_names a)) h.names name h.picked (λ m. apart ((stays h.names a b h.leaves name is_new).0 m)));
         each = h.each;
         leaves = h.leaves;
       })
@@ -228,23 +228,23 @@ module _ (May : NodeView → Bytes → Type 0) (Step : NodeView → Bytes → No
     stepped_more : (c : NodeView) (some : Bool) → place < length b.sessions.seats → EndsOne May b place some c → StepsAt Step b place some c → HaveStepped May Step a (place + 1) c
     stepped_more c true lt o s = stepped_there s.0 s.1 c s.2
     stepped_more c false lt o s =
-        let here = item_at place (names_of b) (subst (λ n. place < n) (sym (length-map b.sessions.seats (λ p. p.0))) lt) in
+        let here = item_at place (seat_names b) (subst (λ n. place < n) (sym (length-map b.sessions.seats (λ p. p.0))) lt) in
         stepped_not here.0 here.1 c o.0 (o.1 here.0 here.1)
 
     -- all of them
     stepped_all : ((n : NodeView) (name : Bytes) → May n name → (seat : Seat) × (seat_of n.sessions name ≡ Some seat)) → length a.sessions.seats ≤ place → AllWhoMight May Step a b
     stepped_all found le =
-        let whole : take place (names_of a) ≡ names_of a = whole_front place (names_of a) (subst (λ n. n ≤ place) (sym (length-map a.sessions.seats (λ p. p.0))) le) in
-        let picked : ArePicked (May a) (names_of a) h.names = subst (λ l. ArePicked (May a) l h.names) whole h.picked in
+        let whole : take place (seat_names a) ≡ seat_names a = whole_front place (seat_names a) (subst (λ n. n ≤ place) (sym (length-map a.sessions.seats (λ p. p.0))) le) in
+        let picked : ArePicked (May a) (seat_names a) h.names = subst (λ l. ArePicked (May a) l h.names) whole h.picked in
         record {
           names = h.names;
           are = λ name. (
-            λ k. (picked_has (May a) (names_of a) h.names picked name k).1,
+            λ k. (picked_has (May a) (seat_names a) h.names picked name k).1,
             λ m.
                 let seat = found a name m in let there = place_of_name name a.sessions.seats seat.0 seat.1 in
-                has_picked (May a) (names_of a) h.names picked name (has_place (names_of a) there.0 name there.2) m,
+                has_picked (May a) (seat_names a) h.names picked name (has_place (seat_names a) there.0 name there.2) m,
           );
-          ascending = picked_each (May a) KeyBefore (names_of a) h.names picked in_order;
+          ascending = picked_each (May a) KeyBefore (seat_names a) h.names picked in_order;
           each = h.each;
         }
 

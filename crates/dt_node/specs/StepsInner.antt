@@ -54,18 +54,18 @@ pub record IsSubmission (procs : List ProcTree) (before : NodeView) (name : Byte
   pub done : after.site.region.state.here.done ≡ before.site.region.state.here.done
 
 -- the names of a node's sessions, in their order
-abbrev pub names_of : NodeView → List Bytes
-names_of n = map (λ p. p.0) n.sessions.seats
+abbrev pub seat_names : NodeView → List Bytes
+seat_names n = map (λ p. p.0) n.sessions.seats
 
 -- where a step of the session at a place says that it was made, it was, by the session of that place
 abbrev pub StepsAt : (NodeView → Bytes → NodeView → Type 0) → NodeView → ℕ → Bool → NodeView → Type 0
-StepsAt Step before place true after = (name : Bytes) × (slice_get (names_of before) place ≡ Some name) × Step before name after
+StepsAt Step before place true after = (name : Bytes) × (slice_get (seat_names before) place ≡ Some name) × Step before name after
 StepsAt Step before place false after = Unit {0}
 
 -- what is so for all sessions but those of these names, while those make steps: where they stand, and all outcomes
 pub record LeavesOthers (names : List Bytes) (before after : NodeView) : Type 0 where
   pub tries : after.sessions.tries ≡ before.sessions.tries
-  pub same_names : names_of after ≡ names_of before
+  pub same_names : seat_names after ≡ seat_names before
   pub seats : (other : Bytes) → ¬ (Has names other) → seat_of after.sessions other ≡ seat_of before.sessions other
   pub done : after.site.region.state.here.done ≡ before.site.region.state.here.done
 
@@ -77,6 +77,6 @@ ArePicked {A} P (x ∷ xs) picked = ((rest : List A) × P x × (picked ≡ x ∷
 -- of the sessions before a place those have made a step that might in the beginning
 pub record HaveStepped (May : NodeView → Bytes → Type 0) (Step : NodeView → Bytes → NodeView → Type 0) (before : NodeView) (place : ℕ) (now : NodeView) : Type 0 where
   pub names : List Bytes
-  pub picked : ArePicked (May before) (take place (names_of before)) names
+  pub picked : ArePicked (May before) (take place (seat_names before)) names
   pub each : OneByOne Step names before now
   pub leaves : LeavesOthers names before now

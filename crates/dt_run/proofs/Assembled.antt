@@ -24,8 +24,8 @@ use Rattle.dt_node.specs.Packets.{IsToldOf, IsTruePacket}
 use Rattle.dt_node.specs.Standing.{NodeFits}
 use Rattle.dt_node.specs.Turn.{BeginsEagerly, BringsEntries, BringsRequest, IsBroughtBy}
 use Rattle.dt_run.specs.LinksInner.{BesideSoFar}
-use Rattle.dt_run.specs.Marks.{IsPlannedIn, IsToldIn, WasAskedBefore, WerePlacedBefore, kept_before, kept_of, mark_at}
-use Rattle.dt_run.specs.NodesStand.{AreInStep, AreNodes, BeganEagerly, IsWaiting, LinkTells, StandsAmong}
+use Rattle.dt_run.specs.Marks.{IsPlannedIn, IsToldIn, WasAskedBefore, WerePlacedBefore, kept_before, kept_by_region, mark_at}
+use Rattle.dt_run.specs.NodesStand.{AreInStep, AreNodes, BeganEagerly, IsOnLink, LinkTells, StandsAmong}
 use Rattle.dt_run.specs.NodesView.{NodesView, kept_by, node_in, waiting_at, waiting_between}
 use Rattle.dt_run.specs.Phase.{EndsInStep, TurnsOnce}
 use Rattle.dt_run.specs.SeatsInner.{AreSeated, EachGoes, SeatTurned, SeatView, nodes_view, seat_at}
@@ -103,7 +103,7 @@ module _ {cluster : Cluster} {workload : Workload} {seats seats' seats'' : List 
           let s : StandsAmong v' (all_now a sound (turns_now a sound g whole b) false) source = stand_now a sound (turns_now a sound g whole b) false source ls in
           ap (λ k. asked_of later k home) (sym s.number) ∙ ap (λ (x : Node). get_or x.here.asked home []) (sym s.fits.site.node)
 
-  there : (region : ℕ) (x : Stamped) → region < cluster.regions → Has (kept_of v region) x → planning.RegionsAre cluster.regions x.event
+  there : (region : ℕ) (x : Stamped) → region < cluster.regions → Has (kept_by_region v region) x → planning.RegionsAre cluster.regions x.event
   there region x lr h =
       let kept : Has (those_at region n.all) x = subst (λ l. Has l x) (sym (waiting.kept_is a sound region) ∙ n.chronicle.lists region) h in
       let in_all : Has n.all x = (has_of_filtered _ n.all x kept).0 in
@@ -195,20 +195,20 @@ module _ {cluster : Cluster} {workload : Workload} {seats seats' seats'' : List 
           by : Either (suc (region_at x) ≤ cluster.regions) → ⊥
           by (inl le) =
               let lr : region_at x < cluster.regions = omega (arith, le) in
-              let last : mark_at v (region_at x) step.made ≡ length (kept_of v (region_at x)) = (step.each (region_at x) lr).marks.last in
+              let last : mark_at v (region_at x) step.made ≡ length (kept_by_region v (region_at x)) = (step.each (region_at x) lr).marks.last in
               let zero_mark : mark_at v (region_at x) step.made ≡ 0 = ap (mark_at v (region_at x)) first in
-              let here : Has (kept_of v (region_at x)) x = subst (λ l. Has l x) (waiting.kept_is a sound (region_at x)) kept in
-              some_long (kept_of v (region_at x)) here (omega (arith, last, zero_mark))
+              let here : Has (kept_by_region v (region_at x)) x = subst (λ l. Has l x) (waiting.kept_is a sound (region_at x)) kept in
+              some_long (kept_by_region v (region_at x)) here (omega (arith, last, zero_mark))
             where
               some_long : (xs : List Stamped) → Has xs x → length xs ≡ 0 → ⊥
               some_long [] k e = k
               some_long (y ∷ ys) k e = omega (arith, e)
           by (inr far) = subst (λ l. Has l x) (none_kept v.nodes (region_at x) (let m = n.many in omega (arith, far, m))) kept
 
-  begun : (region : ℕ) → region < cluster.regions → Either (step.made ≡ 0) → BeganEagerly cluster workload region (kept_of v' region)
+  begun : (region : ℕ) → region < cluster.regions → Either (step.made ≡ 0) → BeganEagerly cluster workload region (kept_by_region v' region)
   begun region lr (inr later) =
       subst (BeganEagerly cluster workload region) (sym ((phase_is a sound (turns_now a sound g whole b) false).turns region lr).gone.grows)
-      (subst (IsFront _) (sym (map-append (λ (x : Stamped). x.event) (kept_of v region) _)) (front_longer _ (events_of (kept_of v region)) _ ((step.each region lr).begun later)))
+      (subst (IsFront _) (sym (map-append (λ (x : Stamped). x.event) (kept_by_region v region) _)) (front_longer _ (events_of (kept_by_region v region)) _ ((step.each region lr).begun later)))
     where
       front_longer : {A : Type 0} (xs ys zs : List A) → IsFront xs ys → IsFront xs (ys ++ zs)
       front_longer xs ys zs f = (f.0 ++ zs, sym (append_assoc xs f.0 zs) ∙ ap (λ l. l ++ zs) f.1)
@@ -219,17 +219,17 @@ module _ {cluster : Cluster} {workload : Workload} {seats seats' seats'' : List 
       first_of : ℕ → List Event
       first_of q = first_events cluster q (opening_table cluster) (first_calls (sessions_at q workload.sessions)) 0
 
-      none : kept_of v region ≡ []
+      none : kept_by_region v region ≡ []
       none =
-          let last : mark_at v region step.made ≡ length (kept_of v region) = (step.each region lr).marks.last in
+          let last : mark_at v region step.made ≡ length (kept_by_region v region) = (step.each region lr).marks.last in
           let zero_mark : mark_at v region step.made ≡ 0 = ap (mark_at v region) first in
-          no_item (kept_of v region) (omega (arith, last, zero_mark))
+          no_item (kept_by_region v region) (omega (arith, last, zero_mark))
         where
           no_item : (xs : List Stamped) → length xs ≡ 0 → xs ≡ []
           no_item [] e = refl
           no_item (x ∷ xs) e = absurd (omega (arith, e))
 
-      kept_now : kept_of v' region ≡ new_items (node_in v region) (node_in v' region)
+      kept_now : kept_by_region v' region ≡ new_items (node_in v region) (node_in v' region)
       kept_now = ((phase_is a sound (turns_now a sound g whole b) false).turns region lr).gone.grows ∙ ap (λ l. l ++ new_items (node_in v region) (node_in v' region)) none
 
       no_packet : waiting_at v region ≡ []
@@ -264,7 +264,7 @@ module _ {cluster : Cluster} {workload : Workload} {seats seats' seats'' : List 
     links = λ source target ls lt apart.
         let turns : (node_in v' source).turns ≡ suc step.made =
         (ends.each source ls).turns ∙ ap (λ k. k + 1) (step.each source ls).turns ∙ (let e : step.made + 1 ≡ suc step.made = omega arith in e) in
-        subst (λ k. IsWaiting cluster k (packet_for (node_in v' source) target) (waiting_between v' source target)) turns (ends.links source target ls lt apart);
+        subst (λ k. IsOnLink cluster k (packet_for (node_in v' source) target) (waiting_between v' source target)) turns (ends.links source target ls lt apart);
     planned = planning.planned_now step (phase_is a sound (turns_now a sound g whole b) false) ends (λ r l. l) (λ r l. l) fronts step.planned there new_planned;
   }
 

@@ -12,7 +12,7 @@ use Rattle.dt_session.specs.Run.{world_after}
 use Rattle.dt_site.proofs.Callers.{IsShort, legal_short, many_here}
 use Rattle.dt_node.specs.Standing.{NodeFits}
 use Rattle.dt_node.specs.NodeView.{NodeView, number_of}
-use Rattle.dt_run.specs.Done.{AreDone, HasDone}
+use Rattle.dt_run.specs.Done.{IsAllDone, HasDone}
 use Rattle.dt_run.specs.NodesView.{NodesView, node_in}
 use Rattle.dt_run.specs.SeatsInner.{AreSeated, HasFewSubmitted, SeatView, nodes_view, seat_at}
 use Rattle.dt_run.proofs.Laws.{few_events, reached}
@@ -55,18 +55,18 @@ module _ {cluster : Cluster} {workload : Workload} {seats : List SeatView} {brok
   each_done f = all_seats (λ t. AllIn (λ s. HasDone s.node t.node) seats) seats (λ source ls. all_seats (λ s. HasDone s.node (seat_at seats source).node) seats (λ region lr.
       subst (λ n. HasDone n (seat_at seats source).node) (at_seat region) (subst (HasDone (node_in v region)) (at_seat source) (f region source (subst (λ m. region < m) many lr) (subst (λ m. source < m) many ls)))))
 
-  pub are_done : AllIn (λ s. AreAllAnswered s.node.sessions) seats → AllIn (λ source. AllIn (λ s. HasDone s.node source.node) seats) seats → AreDone v
+  pub are_done : AllIn (λ s. AreAllAnswered s.node.sessions) seats → AllIn (λ source. AllIn (λ s. HasDone s.node source.node) seats) seats → IsAllDone v
   are_done answered executed = record { answered = answered_all answered; executed = done_each executed }
 
   -- whether all is done, as it is asked of seats in turn
   pub done_if : {asked told : List SeatView} → asked ≡ seats → told ≡ seats → AllIn (λ s. AreAllAnswered s.node.sessions) asked
-      → (b : Bool) → (IsTrue b ↔ AllIn (λ source. AllIn (λ s. HasDone s.node source.node) told) told) → IsTrue b ↔ AreDone v
+      → (b : Bool) → (IsTrue b ↔ AllIn (λ source. AllIn (λ s. HasDone s.node source.node) told) told) → IsTrue b ↔ IsAllDone v
   done_if {asked} {told} asked_is told_is answered b executed = (
     λ t. are_done (subst (AllIn (λ s. AreAllAnswered s.node.sessions)) asked_is answered) (subst (λ l. AllIn (λ source. AllIn (λ s. HasDone s.node source.node) l) l) told_is (executed.0 t)),
     λ d. executed.1 (subst (λ l. AllIn (λ source. AllIn (λ s. HasDone s.node source.node) l) l) (sym told_is) (each_done d.executed)),
   )
 
-  pub not_done_if : {asked : List SeatView} → asked ≡ seats → (b : Bool) → (IsTrue b ↔ AllIn (λ s. AreAllAnswered s.node.sessions) asked) → b ≡ false → IsTrue b ↔ AreDone v
+  pub not_done_if : {asked : List SeatView} → asked ≡ seats → (b : Bool) → (IsTrue b ↔ AllIn (λ s. AreAllAnswered s.node.sessions) asked) → b ≡ false → IsTrue b ↔ IsAllDone v
   not_done_if asked_is b answered fails = (
     λ t. absurd (false≢true (sym fails ∙ t)),
     λ d. answered.1 (subst (AllIn (λ s. AreAllAnswered s.node.sessions)) (sym asked_is) (all_answered d.answered)),

@@ -7,7 +7,7 @@ use Rattle.dt_lists.proofs.Callers.{either_nat, map_of_set}
 use Rattle.dt_ring.specs.Rings.{AreEnds, RingInView, RingOutView}
 use Rattle.dt_run.specs.LinksInner.{AreFresh, HasEnds, IsJoined, LinkAdded, LinkedSoFar, in_at, out_at, without_links}
 use Rattle.dt_run.specs.NodesView.{link_to}
-use Rattle.dt_run.specs.SeatsInner.{AreBeside, AreLinked, AreNew, HaveEnds, SeatView, new_seat, no_seat, places_of_link, seat_at}
+use Rattle.dt_run.specs.SeatsInner.{AreBeside, AreLinkedBy, AreNew, HaveEnds, SeatView, new_seat, no_seat, places_of_link, seat_at}
 use Rattle.dt_run.proofs.Alls.{all_by_place}
 use Rattle.dt_run.proofs.LinkNumbers.{LinkOf, link_above, link_below, link_of, link_within, links_apart}
 use Rattle.dt_run.proofs.RowBeside.{any_default}
@@ -275,7 +275,7 @@ module _ {before now : List SeatView} {regions : ℕ} (s : LinkedSoFar regions 0
       let l : link_to source target + 1 < length now = link_within (length now) source target ls lt (λ i. n (sym i)) in
       s.joined source target ls lt n (omega (arith, e, l))
 
-  pub are_linked : AreLinked AreBeside now
+  pub are_linked : AreLinkedBy AreBeside now
   are_linked = record { ends = have; each = λ source target ls lt n d e. ((all_pairs source target ls lt n).fresh d e).beside }
 
   -- some outlet, of the ring of an inlet

@@ -10,7 +10,7 @@ use Rattle.dt_node.specs.NodeView.{NodeView, opening_node_of}
 use Rattle.dt_node.specs.Standing.{NodeFits}
 use Rattle.dt_node.specs.Turn.{HasPlacedOwn}
 use Rattle.dt_region.specs.Region.{latest_stamp}
-use Rattle.dt_run.specs.Marks.{AreMarks, IsKeptIn, kept_of}
+use Rattle.dt_run.specs.Marks.{AreMarksOf, IsKeptIn, kept_by_region}
 use Rattle.dt_run.specs.NodesStand.{AreInStep, AreNodes, StandsAmong}
 use Rattle.dt_run.specs.NodesView.{NodesView, kept_by, marks_at, node_in, waiting_between}
 
@@ -32,7 +32,7 @@ module _ {v : NodesView} (o : AreOpening v) where
   chronicle : IsChronicle v.cluster v.workload [] (kept_by v.nodes)
   chronicle = record { legal = tt; changing = tt; lists = o.kept; rising = λ region. subst (EachThen HasLowerStamp) (sym (o.kept region)) tt; caused = tt }
 
-  none_kept : (region : ℕ) → region < v.cluster.regions → kept_of v region ≡ []
+  none_kept : (region : ℕ) → region < v.cluster.regions → kept_by_region v region ≡ []
   none_kept region lr = ap (λ (n : NodeView). n.site.region.events) (o.nodes region lr)
 
   stands : (region : ℕ) → region < v.cluster.regions → StandsAmong v [] region
@@ -50,7 +50,7 @@ module _ {v : NodesView} (o : AreOpening v) where
       zeros zero = refl
       zeros (suc k) = refl
 
-  marked : (region : ℕ) → region < v.cluster.regions → AreMarks v 0 region
+  marked : (region : ℕ) → region < v.cluster.regions → AreMarksOf v 0 region
   marked region lr = record {
     many = ap length (o.marks region);
     rise = λ phase lt. absurd (omega (arith, lt));

@@ -24,7 +24,7 @@ use Rattle.dt_node.specs.NodeView.{NodeView, opening_node_of}
 use Rattle.dt_node.specs.Standing.{KnowsNoMore, NodeFits}
 use Rattle.dt_run.specs.NodesStand.{AreNodes}
 use Rattle.dt_run.specs.NodesView.{kept_by, no_running_node, opening_nodes}
-use Rattle.dt_run.specs.SeatsInner.{AreBeside, AreLinked, AreNew, AreSeated, SeatView, new_seat, no_seat, nodes_view, seat_at, waits_in}
+use Rattle.dt_run.specs.SeatsInner.{AreBeside, AreLinkedBy, AreNew, AreSeated, SeatView, new_seat, no_seat, nodes_view, seat_at, waits_in}
 use Rattle.dt_run.proofs.Finishing.{all_seats, each_seat}
 use Rattle.dt_run.proofs.PhaseMade.{put_back, put_back_is}
 use Rattle.dt_run.proofs.OpeningNodes.{AreOpening, opening_nodes_stand}
@@ -123,7 +123,7 @@ module _ {cluster : Cluster} (ok : IsValidCluster cluster) {workload : Workload}
 
   -- nodes at their seats, on whose links nothing waits
   module _ {seats : List SeatView} (nodes_are : map (λ (s : SeatView). s.node) seats ≡ map opened (range_with_len 0 cluster.regions)) (unmarked : AllIn (λ s. s.marks ≡ []) seats)
-      (linked : AreLinked AreBeside seats) (empty : AllIn (λ s. AllIn (λ inlet. inlet.waits ≡ []) s.ins) seats) where
+      (linked : AreLinkedBy AreBeside seats) (empty : AllIn (λ s. AllIn (λ inlet. inlet.waits ≡ []) s.ins) seats) where
     many : length seats ≡ cluster.regions
     many = sym (length-map seats (λ (s : SeatView). s.node)) ∙ ap length nodes_are ∙ length-map-range_with_len opened 0 cluster.regions
 
@@ -178,7 +178,7 @@ module _ {cluster : Cluster} (ok : IsValidCluster cluster) {workload : Workload}
       subst (λ (s : SeatView). IsSoundRegion s.node.site.region.state) (get_or-map-range_with_len opened_seats 0 cluster.regions region region no_seat lr (omega arith))
       (each_seat (λ s. IsSoundRegion s.node.site.region.state) (map opened_seats (range_with_len 0 cluster.regions)) all region within)
 
-  module _ {seats : List SeatView} (bare : map (λ (s : SeatView). new_seat s.node) seats ≡ lent) (unmarked : AllIn (λ s. s.marks ≡ []) seats) (linked : AreLinked AreBeside seats)
+  module _ {seats : List SeatView} (bare : map (λ (s : SeatView). new_seat s.node) seats ≡ lent) (unmarked : AllIn (λ s. s.marks ≡ []) seats) (linked : AreLinkedBy AreBeside seats)
       (empty : AllIn (λ s. AllIn (λ inlet. inlet.waits ≡ []) s.ins) seats) where
     nodes_same : map (λ (s : SeatView). s.node) seats ≡ map (opening_node_of cluster workload) (range_with_len 0 cluster.regions)
     nodes_same =

@@ -8,7 +8,7 @@ use Rattle.dt_workload.specs.declared.Workload.{Workload}
 use Rattle.dt_run.specs.LinksInner.{BesideSoFar}
 use Rattle.dt_run.specs.NodesView.{NodesView}
 use Rattle.dt_run.specs.Phase.{EndsInStep, IsPhase}
-use Rattle.dt_run.specs.SeatsInner.{AreApart, AreLinked, AreSeated, EachGoes, SeatCan, SeatTurned, SeatView, no_seat, nodes_view, seat_at}
+use Rattle.dt_run.specs.SeatsInner.{EndsAreApart, AreLinkedBy, AreSeated, EachGoes, SeatCan, SeatTurned, SeatView, no_seat, nodes_view, seat_at}
 use Rattle.dt_run.proofs.Assembled.{phase_seated}
 use Rattle.dt_run.proofs.Finishing.{each_seat}
 use Rattle.dt_run.proofs.Keeping.{broken_seated, phase_is, turns_of}
@@ -29,7 +29,7 @@ module _ {cluster : Cluster} {workload : Workload} {seats : List SeatView} {brok
     pub failed_phase : IsPhase (nodes_view cluster workload seats broken) (nodes_view cluster workload seats' true)
     failed_phase = phase_is a sound (turns_of g) true
 
-    pub links_apart : AreLinked AreApart seats'
+    pub links_apart : AreLinkedBy EndsAreApart seats'
     links_apart = apart_now (a.linked sound) g
 
     -- none failed, and the ends of all links were brought beside each other
@@ -71,8 +71,8 @@ module _ {cluster : Cluster} {workload : Workload} {seats : List SeatView} {brok
       (subst (λ l. IsPhase (nodes_view cluster workload seats broken) (nodes_view cluster workload l true)) (sym turned_is) (failed_phase a sound g))
 
   module _ {lent2 : List SeatView} (lent2_is : lent2 ≡ put_back len seats turned) where
-    pub ends_apart : AreLinked AreApart lent2
-    ends_apart = subst (AreLinked AreApart) (sym (lent2_is ∙ turned_is)) (links_apart a sound g)
+    pub ends_apart : AreLinkedBy EndsAreApart lent2
+    ends_apart = subst (AreLinkedBy EndsAreApart) (sym (lent2_is ∙ turned_is)) (links_apart a sound g)
 
     module _ {asked : List SeatView} (asked_is : asked ≡ put_back len seats turned) (none : AllIn (λ s. s.failed ≡ false) asked) {beside : List SeatView} (so_far : BesideSoFar (length lent2) lent2 beside) where
       n : AllIn (λ s. s.failed ≡ false) turned

@@ -7,7 +7,7 @@ use Rattle.dt_ring.specs.Rings.{RingInView, RingOutView}
 use Rattle.dt_node.specs.NodeView.{other_at}
 use Rattle.dt_run.specs.LinksInner.{BesideSoFar, InletGoes, LinkGoes, LinksGo, RowApart, RowSoFar, SameButIns, SameButLinks, in_at, out_at}
 use Rattle.dt_run.specs.NodesView.{link_to}
-use Rattle.dt_run.specs.SeatsInner.{AreApart, AreLinked, SeatView, no_seat, seat_at}
+use Rattle.dt_run.specs.SeatsInner.{EndsAreApart, AreLinkedBy, SeatView, no_seat, seat_at}
 use Rattle.dt_run.proofs.LinkNumbers.{LinkOfNumber, link_of_number, link_within, links_apart}
 
 -- which default is given is no matter where there is an item
@@ -161,14 +161,14 @@ module _ {source link : ℕ} {row row1 : List RingOutView} {seats seats1 : List 
     pub next_place : place < length (get_or seats1 target seat).ins
     next_place = subst (λ p. p < length (get_or seats1 target seat).ins) (sym place_is) (subst (λ (q : SeatView). link_to target source < length q.ins) (sym seat_is) next_within)
 
-    pub next_ends : (e : RingInView) → AreApart (get_or row1 link out) (get_or (get_or seats1 target seat).ins place e)
+    pub next_ends : (e : RingInView) → EndsAreApart (get_or row1 link out) (get_or (get_or seats1 target seat).ins place e)
     next_ends e =
         let low : link ≤ link_to source target = let i : link_to source target ≡ link = at.is in omega (arith, i) in
         let o : get_or row (link_to source target) out ≡ get_or row1 link out = ap (λ k. get_or row k out) at.is ∙ sym (r.row_left link out (omega arith)) in
         let i : in_at seats source target e ≡ get_or (get_or seats1 target seat).ins place e =
         sym (r.ins_left target e low at.there next_apart) ∙ ap (λ (q : SeatView). get_or q.ins (link_to target source) e) (sym seat_is)
         ∙ ap (λ k. get_or (get_or seats1 target seat).ins k e) (sym place_is) in
-        subst (λ p. AreApart p (get_or (get_or seats1 target seat).ins place e)) o (subst (AreApart (get_or row (link_to source target) out)) i (a.each target out e at.there next_apart))
+        subst (λ p. EndsAreApart p (get_or (get_or seats1 target seat).ins place e)) o (subst (EndsAreApart (get_or row (link_to source target) out)) i (a.each target out e at.there next_apart))
 
     pub row_steps : (out' : RingOutView) (later : SeatView) → InletGoes place (get_or row1 link out) (get_or seats1 target seat) out' later
         → RowSoFar source (link + 1) row seats (set row1 link out') (set seats1 target later)
@@ -231,7 +231,7 @@ module _ {source : ℕ} {seats : List SeatView} (a : RowApart source (seat_at se
     many = a.many ∙ sym many_taken;
     ins = λ region lt. ap (λ l. length l + 1) (ins_taken region) ∙ a.ins region (subst (λ n. region < n) many_taken lt) ∙ sym many_taken;
     each = λ target d e lt n.
-        subst (AreApart (get_or all_outs (link_to source target) d)) (sym (ap (λ l. get_or l (link_to target source) e) (ins_taken target)))
+        subst (EndsAreApart (get_or all_outs (link_to source target) d)) (sym (ap (λ l. get_or l (link_to target source) e) (ins_taken target)))
         (a.each target d e (subst (λ n. target < n) many_taken lt) n);
   }
 
@@ -345,15 +345,15 @@ beside_starts seats = record {
 }
 
 module _ {source : ℕ} {before now : List SeatView} (b : BesideSoFar source before now) (here : source < length before) where
-  pub row_here : AreLinked AreApart before → RowApart source (seat_at now source).outs now
+  pub row_here : AreLinkedBy EndsAreApart before → RowApart source (seat_at now source).outs now
   row_here linked = record {
     within = subst (λ n. source < n) (sym b.many) here;
     many = ap (λ n. n + 1) ((b.same source here).outs) ∙ linked.ends.outs source here ∙ sym b.many;
     ins = λ region lt. let lb : region < length before = subst (λ n. region < n) b.many lt in ap (λ n. n + 1) (b.same region lb).ins ∙ linked.ends.ins region lb ∙ sym b.many;
     each = λ target d e lt n.
         let lb : target < length before = subst (λ n. target < n) b.many lt in
-        subst (λ o. AreApart o (in_at now source target e)) (sym (b.outs_left source target d (omega arith) here lb n))
-        (subst (AreApart (out_at before source target d)) (sym (b.ins_left source target e (omega arith) here lb n)) (linked.each source target here lb n d e));
+        subst (λ o. EndsAreApart o (in_at now source target e)) (sym (b.outs_left source target d (omega arith) here lb n))
+        (subst (EndsAreApart (out_at before source target d)) (sym (b.ins_left source target e (omega arith) here lb n)) (linked.each source target here lb n d e));
   }
 
   module _ {after : List SeatView} (g : LinksGo source now after) where

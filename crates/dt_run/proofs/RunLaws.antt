@@ -31,8 +31,8 @@ use Rattle.dt_site.proofs.Callers.{attempts_have, kept_here}
 use Rattle.dt_world.specs.WorldReport.{report_of}
 use Rattle.dt_node.specs.NodeView.{NodeView}
 use Rattle.dt_node.specs.Standing.{NodeFits}
-use Rattle.dt_run.specs.Done.{AreDone}
-use Rattle.dt_run.specs.Marks.{kept_of}
+use Rattle.dt_run.specs.Done.{IsAllDone}
+use Rattle.dt_run.specs.Marks.{kept_by_region}
 use Rattle.dt_run.specs.NodesStand.{AreInStep, AreNodes, BeganEagerly, StandsAmong}
 use Rattle.dt_run.specs.NodesView.{NodesView, kept_by, marks_at, no_running_node, node_in}
 use Rattle.dt_run.specs.Run.{AreMerged, IsRun, IsRunReport}
@@ -72,7 +72,7 @@ own_answered (s ∷ sessions) (p ∷ places) same once g = (g s (inl refl) p (rw
     away t h = false_from_ne_true (is_session t.region t.name s)
         (λ e. all_get _ (map (λ u. u.name) sessions) once.0 t.name (has_map (λ u. u.name) sessions t h) (session_of_test t.region t.name s e).0)
 
-module _ {v : NodesView} (n : AreNodes v) (sound : v.broken ≡ false) (some : 1 ≤ length (marks_at v 0)) (d : AreDone v) {events : List Event} (m : AreMerged (kept_by v.nodes) events) where
+module _ {v : NodesView} (n : AreNodes v) (sound : v.broken ≡ false) (some : 1 ≤ length (marks_at v 0)) (d : IsAllDone v) {events : List Event} (m : AreMerged (kept_by v.nodes) events) where
   abbrev whole : World
   whole = world_after v.cluster v.workload (events_of n.all)
 
@@ -101,7 +101,7 @@ module _ {v : NodesView} (n : AreNodes v) (sound : v.broken ≡ false) (some : 1
       step : AreInStep v
       step = n.in_step sound
 
-      own : filter (λ event. eqb (region_of event) region) events ≡ events_of (kept_of v region)
+      own : filter (λ event. eqb (region_of event) region) events ≡ events_of (kept_by_region v region)
       own =
           ap (filter (λ event. eqb (region_of event) region)) m.events_are ∙ events_at_region region m.merged
           ∙ ap events_of (merge_keeps (kept_by v.nodes) (are_kept n.chronicle) m.merged m.is region ∙ get_of_map (λ (x : NodeView). x.site.region.events) v.nodes region no_running_node)
@@ -109,7 +109,7 @@ module _ {v : NodesView} (n : AreNodes v) (sound : v.broken ≡ false) (some : 1
       phases : step.made ≢ 0
       phases e = let k : length (marks_at v 0) ≡ step.made = (step.each 0 one).marks.many in absurd (omega (arith, k, e, some))
 
-      begun : BeganEagerly v.cluster v.workload region (kept_of v region)
+      begun : BeganEagerly v.cluster v.workload region (kept_by_region v region)
       begun = (step.each region lr).begun phases
 
   answered : AreAnswered v.workload.sessions whole.places

@@ -17,10 +17,10 @@ use Rattle.dt_node.specs.Sending.{IsSentBy, copies_of, no_outlet}
 use Rattle.dt_node.specs.Turn.{HasTaken, IsSettled}
 use Rattle.dt_run.specs.LinksInner.{BesideSoFar, LinkGoes, in_at, out_at}
 use Rattle.dt_run.specs.Marks.{plan_of}
-use Rattle.dt_run.specs.NodesStand.{IsWaiting}
+use Rattle.dt_run.specs.NodesStand.{IsOnLink}
 use Rattle.dt_run.specs.NodesView.{NodesView, link_to, marks_at, node_in, waiting_at, waiting_between}
 use Rattle.dt_run.specs.Phase.{EndsInStep, TurnsOnce, TurnsWhole}
-use Rattle.dt_run.specs.SeatsInner.{AreApart, AreBeside, AreLinked, AreSeated, EachGoes, SeatTurned, SeatView, no_seat, nodes_view, seat_at, seen_out, waits_in}
+use Rattle.dt_run.specs.SeatsInner.{EndsAreApart, AreBeside, AreLinkedBy, AreSeated, EachGoes, SeatTurned, SeatView, no_seat, nodes_view, seat_at, seen_out, waits_in}
 use Rattle.dt_run.proofs.Keeping.{EachTurns, stand_now}
 use Rattle.dt_run.proofs.LinkNumbers.{link_within, other_of_link}
 use Rattle.dt_run.proofs.Waiting as waiting
@@ -55,7 +55,7 @@ emptied_at (i ∷ ins) none zero e lt = front_nothing i.waits (flat_map waits_in
 emptied_at (i ∷ ins) none (suc k) e lt = emptied_at ins (rest_nothing i.waits (flat_map waits_in ins) none) k e (omega (arith, lt))
 
 -- while they were apart the ends of each link stay so
-module _ {procs : List ProcTree} {seats seats' : List SeatView} (linked : AreLinked AreBeside seats) (g : EachGoes procs seats seats') where
+module _ {procs : List ProcTree} {seats seats' : List SeatView} (linked : AreLinkedBy AreBeside seats) (g : EachGoes procs seats seats') where
   there : (region : ℕ) → region < length seats' → region < length seats
   there region lt = subst (λ n. region < n) g.many lt
 
@@ -77,7 +77,7 @@ module _ {procs : List ProcTree} {seats seats' : List SeatView} (linked : AreLin
       let l : link_to me other + 1 < length seats = link_within (length seats) me other lm lo n in
       omega (arith, e, l)
 
-  pub apart_now : AreLinked AreApart seats'
+  pub apart_now : AreLinkedBy EndsAreApart seats'
   apart_now = record {
     ends = record {
       ins = λ region lt. ap (λ n. n + 1) (many_ins region (there region lt)) ∙ linked.ends.ins region (there region lt) ∙ sym g.many;
@@ -101,7 +101,7 @@ module _ {cluster : Cluster} {workload : Workload} {seats seats' seats'' : List 
   abbrev v' : NodesView
   v' = nodes_view cluster workload seats'' false
 
-  abbrev linked : AreLinked AreBeside seats
+  abbrev linked : AreLinkedBy AreBeside seats
   linked = a.linked sound
 
   many : length seats ≡ cluster.regions
@@ -122,7 +122,7 @@ module _ {cluster : Cluster} {workload : Workload} {seats seats' seats'' : List 
     each = λ region lt. subst (λ m. TurnsOnce cluster.procs (flat_map waits_in (seat_at seats region).ins) (seat_at seats region).node m) (sym (node_same region lt)) (g.each region lt).once;
   }
 
-  pub beside_now : AreLinked AreBeside seats''
+  pub beside_now : AreLinkedBy AreBeside seats''
   beside_now = record {
     ends = record {
       ins = λ region lt. let l = back region lt in ap (λ n. n + 1) (b.same region (at_seat' region l)).ins ∙ (apart_now linked g).ends.ins region (at_seat' region l) ∙ sym b.many;
@@ -189,14 +189,14 @@ module _ {cluster : Cluster} {workload : Workload} {seats seats' seats'' : List 
   waits_at = waiting.waiting_is cluster workload seats broken
 
   link_waits : (source target : ℕ) → source < cluster.regions → target < cluster.regions → source ≢ target
-      → IsWaiting cluster (node_in v' source).turns (packet_for (node_in v' source) target) (waiting_between v' source target)
+      → IsOnLink cluster (node_in v' source).turns (packet_for (node_in v' source) target) (waiting_between v' source target)
   link_waits source target ls lt n =
       let s : IsSentBy _ _ _ _ _ = sent source target (at_seat source ls) (at_seat target lt) n in
       let now : node_in v' source ≡ (seat_at seats' source).node = node_now source (at_seat source ls) in
       let number : number_of (seat_at seats' source).node ≡ source = subst (λ (m : NodeView). number_of m ≡ source) now (stand_now a sound turns_now false source ls).number in
       let other : other_at (number_of (seat_at seats' source).node) (link_to source target) ≡ target = ap (λ k. other_at k (link_to source target)) number ∙ other_of_link source target (λ i. n (sym i)) in
       let plan : (seat_at seats' source).node.plan ≡ plan_of cluster = subst (λ (m : NodeView). m.plan ≡ plan_of cluster) now (stand_now a sound turns_now false source ls).plan in
-      subst (λ m. IsWaiting cluster m.turns (packet_for m target) (waiting_between v' source target)) (sym now) (record {
+      subst (λ m. IsOnLink cluster m.turns (packet_for m target) (waiting_between v' source target)) (sym now) (record {
         verdict = s.verdict;
         is = subst (λ p. IsVerdict p (seat_at seats' source).node.turns s.verdict) plan s.is;
         copies = waiting.between_is cluster workload seats'' false source target (e source target (at_seat source ls) (at_seat target lt) n) (in_now source target ls lt n)

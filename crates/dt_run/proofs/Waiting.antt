@@ -22,7 +22,7 @@ use Rattle.dt_node.specs.Sending.{copies_of}
 use Rattle.dt_node.specs.Standing.{IsFor, NodeStands}
 use Rattle.dt_run.specs.NodesStand.{AreInStep, AreNodes, LinkTells, StandsAmong}
 use Rattle.dt_run.specs.NodesView.{NodesView, kept_by, link_to, no_running_node, node_in, waiting_at, waiting_between}
-use Rattle.dt_run.specs.SeatsInner.{AreBeside, AreLinked, AreSeated, SeatCan, SeatView, no_seat, nodes_view, places_of_link, seat_at, waits_in}
+use Rattle.dt_run.specs.SeatsInner.{AreBeside, AreLinkedBy, AreSeated, SeatCan, SeatView, no_seat, nodes_view, places_of_link, seat_at, waits_in}
 use Rattle.dt_run.proofs.Laws.{few_events}
 use Rattle.dt_run.proofs.LinkNumbers.{LinkOf, link_of, link_within}
 use Rattle.dt_run.proofs.Snapshots.{snapshot_true}
@@ -105,7 +105,7 @@ module _ {cluster : Cluster} {workload : Workload} {seats : List SeatView} {brok
   abbrev step : AreInStep v
   step = n.in_step sound
 
-  abbrev linked : AreLinked AreBeside seats
+  abbrev linked : AreLinkedBy AreBeside seats
   linked = a.linked sound
 
   pub many : length seats ≡ cluster.regions

@@ -12,6 +12,6 @@ abbrev pub HasDone : NodeView → NodeView → Type 0
 HasDone n source = AllIn (λ txn. Has (done_ids n.site.region.state.here) txn.id) source.site.region.state.submitted
 
 -- every call is answered, and every region has executed every attempt
-pub record AreDone (v : NodesView) : Type 0 where
+pub record IsAllDone (v : NodesView) : Type 0 where
   pub answered : (region : ℕ) → region < v.cluster.regions → AreAllAnswered (node_in v region).sessions
   pub executed : (region source : ℕ) → region < v.cluster.regions → source < v.cluster.regions → HasDone (node_in v region) (node_in v source)

@@ -3,7 +3,7 @@
 use Rattle.std.specs.Prelude.{◌≡◌, ◌≢◌, ◌<◌, ◌≤◌, ◌+◌, ◌-◌, ◌⊎◌, ◌++◌, ◌∷◌, ℕ, List, [], get_or, length, map, set}
 use Rattle.dt_ring.specs.Rings.{RingInView, RingOutView}
 use Rattle.dt_run.specs.NodesView.{link_to}
-use Rattle.dt_run.specs.SeatsInner.{AreApart, AreBeside, SeatView, seat_at}
+use Rattle.dt_run.specs.SeatsInner.{EndsAreApart, AreBeside, SeatView, seat_at}
 
 -- the two ends of a link were brought beside each other: what was put waits behind what still waited
 pub record LinkGoes (out : RingOutView) (inlet : RingInView) (out' : RingOutView) (inlet' : RingInView) : Type 0 where
@@ -106,7 +106,7 @@ pub record RowApart (source : ℕ) (row : List RingOutView) (seats : List SeatVi
   pub within : source < length seats
   pub many : length row + 1 ≡ length seats
   pub ins : (region : ℕ) → region < length seats → length (seat_at seats region).ins + 1 ≡ length seats
-  pub each : (target : ℕ) (d : RingOutView) (e : RingInView) → target < length seats → source ≢ target → AreApart (get_or row (link_to source target) d) (in_at seats source target e)
+  pub each : (target : ℕ) (d : RingOutView) (e : RingInView) → target < length seats → source ≢ target → EndsAreApart (get_or row (link_to source target) d) (in_at seats source target e)
 
 -- the ends of each link from one seat were brought beside each other, and those of all others are as before
 pub record LinksGo (source : ℕ) (before after : List SeatView) : Type 0 where

@@ -22,18 +22,18 @@ abbrev pub mark_at : NodesView → ℕ → ℕ → ℕ
 mark_at v region phase = get_or (0 ∷ marks_at v region) phase 0
 
 -- what a region has kept
-abbrev pub kept_of : NodesView → ℕ → List Stamped
-kept_of v region = (node_in v region).site.region.events
+abbrev pub kept_by_region : NodesView → ℕ → List Stamped
+kept_by_region v region = (node_in v region).site.region.events
 
 -- what a region had kept before a phase; phases are counted from 1
 abbrev pub kept_before : NodesView → ℕ → ℕ → List Stamped
-kept_before v region phase = take (mark_at v region (phase - 1)) (kept_of v region)
+kept_before v region phase = take (mark_at v region (phase - 1)) (kept_by_region v region)
 
 -- a region kept this event in this phase
 pub record IsKeptIn (v : NodesView) (region phase : ℕ) (x : Stamped) : Type 0 where
   -- its place among what the region has kept
   pub place : ℕ
-  pub stands : slice_get (kept_of v region) place ≡ Some x
+  pub stands : slice_get (kept_by_region v region) place ≡ Some x
   pub from : mark_at v region (phase - 1) ≤ place
   pub to : place < mark_at v region phase
 
@@ -77,10 +77,10 @@ IsPlannedIn v phase (Deliver region home first last) = region ≢ home → IsTol
 IsPlannedIn v phase event = Unit {0}
 
 -- the marks of a region after so many phases: they never fall, and the last one counts all that the region has kept
-pub record AreMarks (v : NodesView) (made region : ℕ) : Type 0 where
+pub record AreMarksOf (v : NodesView) (made region : ℕ) : Type 0 where
   pub many : length (marks_at v region) ≡ made
   pub rise : (phase : ℕ) → phase < made → mark_at v region phase ≤ mark_at v region (phase + 1)
-  pub last : mark_at v region made ≡ length (kept_of v region)
+  pub last : mark_at v region made ≡ length (kept_by_region v region)
 
 -- each event was kept in a phase in which its region could know of what it takes
 pub record ArePlanned (v : NodesView) : Type 0 where

@@ -21,11 +21,11 @@ use Rattle.dt_node.specs.NodeView.{number_of, packet_for}
 use Rattle.dt_node.specs.Sending.{copies_of}
 use Rattle.dt_node.specs.Standing.{NodeFits}
 use Rattle.dt_node.specs.Turn.{HasPlacedOwn}
-use Rattle.dt_run.specs.Marks.{AreMarks, ArePlanned, kept_of, plan_of}
+use Rattle.dt_run.specs.Marks.{AreMarksOf, ArePlanned, kept_by_region, plan_of}
 use Rattle.dt_run.specs.NodesView.{NodesView, kept_by, node_in, waiting_between}
 
 -- the packet of this number waits on a link as often as the plan says, and nothing else; it is what its source would send now
-pub record IsWaiting (cluster : Cluster) (number : ℕ) (packet : Packet) (waiting : List Packet) : Type 0 where
+pub record IsOnLink (cluster : Cluster) (number : ℕ) (packet : Packet) (waiting : List Packet) : Type 0 where
   pub verdict : Verdict
   pub is : IsVerdict (plan_of cluster) number verdict
   pub copies : waiting ≡ copies_of verdict packet
@@ -33,7 +33,7 @@ pub record IsWaiting (cluster : Cluster) (number : ℕ) (packet : Packet) (waiti
 -- what waits on the link from one region to another after so many phases
 abbrev pub LinkTells : NodesView → ℕ → ℕ → ℕ → Type 0
 LinkTells v zero source target = waiting_between v source target ≡ []
-LinkTells v (suc made) source target = IsWaiting v.cluster (suc made) (packet_for (node_in v source) target) (waiting_between v source target)
+LinkTells v (suc made) source target = IsOnLink v.cluster (suc made) (packet_for (node_in v source) target) (waiting_between v source target)
 
 -- a region that has made turns began with the first calls of its sessions
 abbrev pub BeganEagerly : Cluster → Workload → ℕ → List Stamped → Type 0
@@ -44,10 +44,10 @@ BeganEagerly cluster workload region kept =
 pub record IsInStep (v : NodesView) (made region : ℕ) : Type 0 where
   -- it has made a turn in each
   pub turns : (node_in v region).turns ≡ made
-  pub marks : AreMarks v made region
+  pub marks : AreMarksOf v made region
   -- all that it asked of its own region is placed
   pub placed : HasPlacedOwn (node_in v region)
-  pub begun : made ≢ 0 → BeganEagerly v.cluster v.workload region (kept_of v region)
+  pub begun : made ≢ 0 → BeganEagerly v.cluster v.workload region (kept_by_region v region)
 
 -- no phase has failed: the nodes have made as many turns, the links bring what their sources would send now, and all that
 -- regions took from each other came as planned

@@ -6,8 +6,8 @@ use Rattle.dt_packet.specs.declared.packet.Packet.{Packet}
 use Rattle.dt_proc.specs.Tree.{ProcTree}
 use Rattle.dt_node.specs.NodeView.{NodeView, new_items, packet_for}
 use Rattle.dt_node.specs.Turn.{AreBrought, HasGone, HasTaken, IsSettled, StampsRise}
-use Rattle.dt_run.specs.Marks.{kept_of}
-use Rattle.dt_run.specs.NodesStand.{IsWaiting}
+use Rattle.dt_run.specs.Marks.{kept_by_region}
+use Rattle.dt_run.specs.NodesStand.{IsOnLink}
 use Rattle.dt_run.specs.NodesView.{NodesView, marks_at, node_in, waiting_at, waiting_between}
 
 -- a node made a turn, or a part of one: what it kept goes on from what there was, and whatever it used of other regions
@@ -29,7 +29,7 @@ pub record TurnsWhole (before after : NodesView) (region : ℕ) : Type 0 where
   pub turns : (node_in after region).turns ≡ (node_in before region).turns + 1
   pub taken : HasTaken (waiting_at before region) (node_in before region) (node_in after region)
   pub settled : IsSettled (node_in before region) (node_in after region)
-  pub marks : marks_at after region ≡ marks_at before region ++ length (kept_of after region) ∷ []
+  pub marks : marks_at after region ≡ marks_at before region ++ length (kept_by_region after region) ∷ []
 
 -- what a phase leaves that did not fail
 pub record EndsInStep (before after : NodesView) : Type 0 where
@@ -37,4 +37,4 @@ pub record EndsInStep (before after : NodesView) : Type 0 where
   pub each : (region : ℕ) → region < before.cluster.regions → TurnsWhole before after region
   -- what one node sent another in this phase waits now, as often as the plan says, and nothing else
   pub links : (source target : ℕ) → source < before.cluster.regions → target < before.cluster.regions → source ≢ target
-      → IsWaiting after.cluster (node_in after source).turns (packet_for (node_in after source) target) (waiting_between after source target)
+      → IsOnLink after.cluster (node_in after source).turns (packet_for (node_in after source) target) (waiting_between after source target)

@@ -60,7 +60,7 @@ pub record AreBeside (out : RingOutView) (inlet : RingInView) : Type 0 where
   pub free : out.free + length inlet.waits ≡ out.places
 
 -- the two ends of a link, which need not be beside each other
-pub record AreApart (out : RingOutView) (inlet : RingInView) : Type 0 where
+pub record EndsAreApart (out : RingOutView) (inlet : RingInView) : Type 0 where
   pub ends : AreEnds out inlet
   pub places : out.places ≡ places_of_link
 
@@ -70,7 +70,7 @@ pub record HaveEnds (seats : List SeatView) : Type 0 where
   pub outs : (region : ℕ) → region < length seats → length (seat_at seats region).outs + 1 ≡ length seats
 
 -- the ends of each link are related so
-pub record AreLinked (Link : RingOutView → RingInView → Type 0) (seats : List SeatView) : Type 0 where
+pub record AreLinkedBy (Link : RingOutView → RingInView → Type 0) (seats : List SeatView) : Type 0 where
   pub ends : HaveEnds seats
   pub each : (source target : ℕ) → source < length seats → target < length seats → source ≢ target → (d : RingOutView) (e : RingInView)
       → Link (get_or (seat_at seats source).outs (link_to source target) d) (get_or (seat_at seats target).ins (link_to target source) e)
@@ -121,4 +121,4 @@ nodes_view cluster workload seats broken = record {
 -- what the type of the nodes keeps
 pub record AreSeated (cluster : Cluster) (workload : Workload) (seats : List SeatView) (broken : Bool) : Type 0 where
   pub nodes : AreNodes (nodes_view cluster workload seats broken)
-  pub linked : broken ≡ false → AreLinked AreBeside seats
+  pub linked : broken ≡ false → AreLinkedBy AreBeside seats

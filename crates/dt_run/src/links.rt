@@ -5,7 +5,7 @@ ghost use Rattle.dt_node.specs.NodeView.{other_at};
 ghost use Rattle.dt_ring.specs.Rings.{RingInView};
 ghost use Rattle.dt_run.specs.LinksInner.{BesideSoFar, InletGoes, LinkAdded, LinkGoes, LinksGo, RowApart, RowSoFar};
 ghost use Rattle.dt_run.specs.NodesView.{link_to};
-ghost use Rattle.dt_run.specs.SeatsInner.{AreApart, AreBeside, AreLinked, AreNew, new_seat, seat_at};
+ghost use Rattle.dt_run.specs.SeatsInner.{EndsAreApart, AreBeside, AreLinkedBy, AreNew, new_seat, seat_at};
 
 use crate::seat::Seat;
 use dt_ring::{RingIn, RingOut, beside, ring};
@@ -22,7 +22,7 @@ pub fn link_all<S: Scheduler + Drop>(alloc: Global, seats: &mut [Seat<S>]) -> Re
     requires { AreNew seats.old }
     ensures nodes { OnOk result (map (λ s. new_seat s.node) seats.new ≡ seats.old) }
     ensures marks { OnOk result (AllIn (λ s. s.marks ≡ []) seats.new) }
-    ensures linked { OnOk result (AreLinked AreBeside seats.new) }
+    ensures linked { OnOk result (AreLinkedBy AreBeside seats.new) }
     ensures empty { OnOk result (AllIn (λ s. AllIn (λ inlet. inlet.waits ≡ []) s.ins) seats.new) }
 {
     for region in 0..seats.len() {
@@ -53,7 +53,7 @@ fn link<S: Scheduler + Drop>(
 
 /// Brings the two ends of each link beside each other: what was put since becomes known to wait. Takes no memory.
 pub fn beside_all<S: Scheduler + Drop>(alloc: Global, seats: &mut [Seat<S>])
-    requires { AreLinked AreApart seats.old }
+    requires { AreLinkedBy EndsAreApart seats.old }
     ensures { BesideSoFar (length seats.old) seats.old seats.new }
 {
     for source in 0..seats.len() {
@@ -105,7 +105,7 @@ fn link_number(region: usize, other: usize) -> usize
 /// Brings an outlet beside the inlet at this place of a seat.
 fn beside_inlet<S: Scheduler + Drop>(out: &mut RingOut, seat: &mut Seat<S>, place: usize)
     requires within { place < length seat.old.ins }
-    requires apart { (e : RingInView) → AreApart out.old (get_or seat.old.ins place e) }
+    requires apart { (e : RingInView) → EndsAreApart out.old (get_or seat.old.ins place e) }
     ensures { InletGoes place out.old seat.old out.new seat.new }
 {
     beside_one(out, &mut seat.ins[place]);
@@ -113,7 +113,7 @@ fn beside_inlet<S: Scheduler + Drop>(out: &mut RingOut, seat: &mut Seat<S>, plac
 
 /// Brings the two ends of a link beside each other. Takes no memory.
 fn beside_one(out: &mut RingOut, inlet: &mut RingIn)
-    requires { AreApart out.old inlet.old }
+    requires { EndsAreApart out.old inlet.old }
     ensures { LinkGoes out.old inlet.old out.new inlet.new }
 {
     match beside(out, inlet) {

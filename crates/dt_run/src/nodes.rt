@@ -5,7 +5,7 @@ ghost use Rattle.dt_region.specs.Sound.{IsSoundRegion};
 ghost use Rattle.dt_node.specs.NodeView.{opening_node_of};
 ghost use Rattle.dt_cluster.specs.Valid.{IsValidCluster};
 ghost use Rattle.dt_workload.specs.Valid.{IsValidWorkload};
-ghost use Rattle.dt_run.specs.Done.{AreDone};
+ghost use Rattle.dt_run.specs.Done.{IsAllDone};
 ghost use Rattle.dt_run.specs.NodesStand.{AreNodes};
 ghost use Rattle.dt_run.specs.NodesView.{kept_by, marks_at, opening_nodes};
 ghost use Rattle.dt_run.specs.Phase.{EndsInStep, IsPhase};
@@ -78,7 +78,7 @@ impl<S: Scheduler + Drop> Nodes<S> {
 
     /// Whether every call of every session is answered, and every region has executed every attempt. Takes no memory.
     pub fn finished(&self) -> bool
-        ensures { IsTrue result ↔ AreDone self.now }
+        ensures { IsTrue result ↔ IsAllDone self.now }
     {
         are_answered(self.seats.as_slice()) && have_done_all(self.seats.as_slice())
     }
@@ -87,7 +87,7 @@ impl<S: Scheduler + Drop> Nodes<S> {
     pub fn report(&self, alloc: Global) -> Result<Report, NoMemory>
         requires phases { 1 ≤ length (marks_at self.now 0) }
         requires sound { self.now.broken ≡ false }
-        requires done { AreDone self.now }
+        requires done { IsAllDone self.now }
         ensures { IfOk result (IsRunReport self.now) }
     {
         let events = self.merged(alloc)?;

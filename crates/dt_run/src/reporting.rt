@@ -4,7 +4,7 @@ ghost use Rattle.dt_cluster.specs.Valid.{IsValidCluster};
 ghost use Rattle.dt_workload.specs.Valid.{IsValidWorkload};
 ghost use Rattle.dt_session.specs.Run.{AreLegal};
 ghost use Rattle.dt_world.specs.WorldReport.{report_of};
-ghost use Rattle.dt_run.specs.Done.{AreDone};
+ghost use Rattle.dt_run.specs.Done.{IsAllDone};
 ghost use Rattle.dt_run.specs.NodesStand.{AreNodes};
 ghost use Rattle.dt_run.specs.Run.{IsRunReport};
 
@@ -32,7 +32,7 @@ pub fn run<R: Threads + Wait + Sync, S: Scheduler + Drop + Send>(
     ensures nodes { AreNodes nodes.new }
     ensures cluster { nodes.new.cluster ≡ nodes.old.cluster }
     ensures workload { nodes.new.workload ≡ nodes.old.workload }
-    ensures done { OnOk result (AreDone nodes.new) }
+    ensures done { OnOk result (IsAllDone nodes.new) }
     ensures report { IfOk result (IsRunReport nodes.new) }
 {
     for _ in rt.forever() {
