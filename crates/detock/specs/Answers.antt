@@ -14,7 +14,7 @@ use Rattle.detock.specs.declared.status.Status.{Status}
 use Rattle.detock.specs.declared.status.Status.TheVariants.{Done, NoMemory, BadWords, CannotRead, BadCluster, BadWorkload, BadEvents, CannotWrite}
 use Rattle.detock.specs.declared.status.EventsCause.{EventsCause}
 use Rattle.detock.specs.Tasks.{Big, Asks, AreAForm, AskFor}
-use Rattle.detock.specs.Headline.{AreDone}
+use Rattle.detock.specs.Headline.{IsDone}
 use Rattle.detock.specs.Causes.{CouldNotRead, HasBadCluster, HasBadEvents, HasBadWorkload, IsDue}
 use Rattle.detock.specs.Statuses.{fault_line}
 
@@ -22,7 +22,7 @@ module _ {F O : Type 0} (words : List Bytes) (seen : F → FolderView) (files fi
   -- how a status comes, from the words, the folder and the output before the call and after it
   pub record Comes (status : Status) : Type 0 where
     -- The headline: the task is done, and all of its report stands behind what the output held.
-    pub done : status ≡ Done → AreDone (seen files).told words (Adds (shown out).held (shown out_after).held)
+    pub done : status ≡ Done → AskFor words (λ task. IsDone (seen files).told task (Adds (shown out).held (shown out_after).held))
     -- Each refusal comes only by its cause, tried in this order.
     pub bad_words : status ≡ BadWords → ¬ AreAForm words
     pub bad_cluster : (fault : ClusterFault) → status ≡ BadCluster fault → AskFor words (λ task. HasBadCluster (seen files).told task fault)
@@ -31,7 +31,7 @@ module _ {F O : Type 0} (words : List Bytes) (seen : F → FolderView) (files fi
     pub cannot_read : (word : ℕ) → status ≡ CannotRead word → AskFor words (λ task. CouldNotRead task (seen files) (seen files_after) word)
     -- A report that could not be written was to be; some first bytes of it stand behind what the output held.
     pub cannot_write : status ≡ CannotWrite → Rose (shown out).faults (shown out_after).faults
-        × AreDone (seen files).told words (AddsPrefix (shown out).held (shown out_after).held)
+        × AskFor words (λ task. IsDone (seen files).told task (AddsPrefix (shown out).held (shown out_after).held))
     -- Where the files are told and no device failed, the status is the one that they call for, unless memory runs out.
     pub complete : (due : Status) → IsSome (seen files).told → IsDue (seen files).told words due →
         ¬ Rose (seen files).faults (seen files_after).faults → ¬ Rose (shown out).faults (shown out_after).faults →

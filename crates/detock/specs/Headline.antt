@@ -4,7 +4,7 @@
 -- regions agree, and the bytes of their report. A replay is given its events; a run makes them, and leaves nothing undone. A
 -- big run makes its own load too, and tells three lines. Read next: Causes, for what is answered instead; then Answers, for
 -- all that a call promises.
-use Rattle.std.specs.Prelude.{◌≡◌, ◌≤◌, ℕ, List, Option}
+use Rattle.std.specs.Prelude.{◌≡◌, ℕ, List, Option}
 use Rattle.std.specs.Fmt.{decimal}
 use Rattle.dt_access.specs.Clash.{Bytes}
 use Rattle.dt_outside.specs.Folder.{Files}
@@ -19,7 +19,7 @@ use Rattle.dt_gen.specs.Load.{load_cluster, load_workload}
 use Rattle.dt_report.specs.Report.{report_text}
 use Rattle.dt_sum.specs.Summary.{big_text, summary_of}
 use Rattle.dt_world.specs.WorldReport.{report_of}
-use Rattle.detock.specs.Tasks.{Task, Replay, Run, Big, AskFor}
+use Rattle.detock.specs.Tasks.{Task, Replay, Run, Big}
 use Rattle.detock.specs.Loading.{Loaded, HasEvents, unnumbered}
 
 -- what is reported: each event is legal after those before it; all regions agree on outcomes, tables, the order of what was
@@ -75,7 +75,3 @@ abbrev pub IsDone : Option Files → Task → (Bytes → Type 0) → Type 0
 IsDone told (Replay cluster workload events) Written = Headline told (Replay cluster workload events) Written
 IsDone told (Run cluster workload) Written = Headline told (Run cluster workload) Written
 IsDone told (Big size) Written = BigRun size Written
-
--- the words ask for a task, and it is done
-abbrev pub AreDone : Option Files → List Bytes → (Bytes → Type 0) → Type 0
-AreDone told words Written = AskFor words (λ task. IsDone told task Written)

@@ -148,47 +148,52 @@ fn each_stands_in(alloc: Global, text: &[u8], lines: &[&str]) -> Result<bool, Fa
     Ok(true)
 }
 
-/// How the run of a case ends; or, by another word, the replay of these events in the same cluster.
+/// How a call ends over a folder of a cluster, a workload and events.
 fn told<R: Threads + Wait + Sync>(
     rt: &R,
     alloc: Global,
-    case: &Case,
     words: &[&str],
+    cluster: &[u8],
+    workload: &[u8],
     events: &[u8],
 ) -> Result<Vec<u8>, Fail> {
-    let cluster = file_of(alloc, case.cluster)?;
-    let workload = file_of(alloc, case.workload)?;
-    let files = folder_of(
-        alloc,
-        &[
-            ("c", cluster.as_slice()),
-            ("w", workload.as_slice()),
-            ("e", events),
-        ],
-        &[],
-    )?;
+    let texts = [("c", cluster), ("w", workload), ("e", events)];
+    let files = folder_of(alloc, &texts, &[])?;
     call(rt, alloc, words, files, (AMPLE, AMPLE))
+}
+
+/// The events behind these lines of a report, if they are its lines from the order up to the events, behind these replies.
+fn events_behind<'a>(
+    alloc: Global,
+    report: &'a [u8],
+    replies: &[&str],
+    lines: &[&str],
+) -> Result<Option<&'a [u8]>, Fail> {
+    let lines = file_of(alloc, lines)?;
+    let Some(at) = place_of(report, lines.as_slice()) else {
+        return Ok(None);
+    };
+    let (front, rest) = report.split_at(at);
+    let length = b"0 |replies\n".len() + file_of(alloc, replies)?.len();
+    if front.len() != length || !each_stands_in(alloc, front, replies)? {
+        return Ok(None);
+    }
+    Ok(rest.strip_prefix(lines.as_slice()))
 }
 
 /// Whether the case is as it says: the report has its replies, in some order, what is told behind them, and these events; and a
 /// replay of the events that are printed reports the same bytes.
 fn is_so<R: Threads + Wait + Sync>(rt: &R, alloc: Global, case: &Case) -> Result<bool, Fail> {
-    let ran = told(rt, alloc, case, &["run", "c", "w"], b"")?;
-    let told_lines = file_of(alloc, case.told)?;
-    let Some(at) = place_of(ran.as_slice(), told_lines.as_slice()) else {
+    let cluster = file_of(alloc, case.cluster)?;
+    let workload = file_of(alloc, case.workload)?;
+    let (cluster, workload) = (cluster.as_slice(), workload.as_slice());
+    let ran = told(rt, alloc, &["run", "c", "w"], cluster, workload, b"")?;
+    let Some(events) = events_behind(alloc, ran.as_slice(), case.replies, case.told)? else {
         return Ok(false);
     };
-    let (replies, rest) = ran.as_slice().split_at(at);
-    let Some(events) = rest.strip_prefix(told_lines.as_slice()) else {
-        return Ok(false);
-    };
-    let again = told(rt, alloc, case, &["replay", "c", "w", "e"], events)?;
-    Ok(
-        again.as_slice() == ran.as_slice()
-            && replies.len() == b"0 |replies\n".len() + file_of(alloc, case.replies)?.len()
-            && each_stands_in(alloc, replies, case.replies)?
-            && each_stands_in(alloc, events, case.events)?,
-    )
+    let words = ["replay", "c", "w", "e"];
+    let again = told(rt, alloc, &words, cluster, workload, events)?;
+    Ok(again.as_slice() == ran.as_slice() && each_stands_in(alloc, events, case.events)?)
 }
 
 #[test]
