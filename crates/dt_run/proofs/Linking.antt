@@ -1,5 +1,5 @@
 -- Links are made between new seats, those of each region with all before it.
-use Rattle.std.proofs.Common.{◌≡◌, ◌≢◌, ◌<◌, ◌≤◌, ◌+◌, ◌-◌, ◌++◌, ℕ, zero, suc, List, [], ◌∷◌, length, map, get_or, set, refl, sym, ap, subst, ◌∙◌, inl, inr, arith}
+use Rattle.std.proofs.Common.{◌≡◌, ◌≢◌, ◌<◌, ◌+◌, ◌-◌, ◌++◌, ℕ, zero, suc, List, [], ◌∷◌, length, map, get_or, set, refl, sym, ap, subst, ◌∙◌, inl, inr, arith}
 use Rattle.std.proofs.lemmas.List.{get_or-set_same, get_or-set_other, get_or_append_left, length-set, length-append, length-map}
 use Rattle.std.proofs.Math.Seq.{get_or-append_seam}
 use Rattle.dt_lists.specs.Lists.{AllIn, Either}
@@ -96,68 +96,68 @@ module _ {source target : ℕ} {before after : List SeatView} (l : LinkAdded sou
   many_added = sym (length-map after without_links) ∙ ap length l.seats ∙ length-map before without_links
 
   module _ (j : AreJoined before) (apart : source ≢ target) (outs_place : length (seat_at before source).outs ≡ link_to source target) (ins_place : length (seat_at before target).ins ≡ link_to target source)
-      where
-    new_out : (d : RingOutView) → out_at after source target d ≡ l.out
-    new_out d =
-        ap (λ o. get_or o (link_to source target) d) l.outs ∙ ap (λ k. get_or ((seat_at before source).outs ++ l.out ∷ []) k d) (sym outs_place)
-        ∙ get_or-append_seam (seat_at before source).outs l.out [] d
+    where
+      new_out : (d : RingOutView) → out_at after source target d ≡ l.out
+      new_out d =
+          ap (λ o. get_or o (link_to source target) d) l.outs ∙ ap (λ k. get_or ((seat_at before source).outs ++ l.out ∷ []) k d) (sym outs_place)
+          ∙ get_or-append_seam (seat_at before source).outs l.out [] d
 
-    new_in : (e : RingInView) → in_at after source target e ≡ l.inlet
-    new_in e =
-        ap (λ i. get_or i (link_to target source) e) l.ins ∙ ap (λ k. get_or ((seat_at before target).ins ++ l.inlet ∷ []) k e) (sym ins_place)
-        ∙ get_or-append_seam (seat_at before target).ins l.inlet [] e
+      new_in : (e : RingInView) → in_at after source target e ≡ l.inlet
+      new_in e =
+          ap (λ i. get_or i (link_to target source) e) l.ins ∙ ap (λ k. get_or ((seat_at before target).ins ++ l.inlet ∷ []) k e) (sym ins_place)
+          ∙ get_or-append_seam (seat_at before target).ins l.inlet [] e
 
-    in_there : link_to target source < length (seat_at after target).ins
-    in_there =
-        let k : length (seat_at after target).ins ≡ length (seat_at before target).ins + 1 = ap length l.ins ∙ length_more (seat_at before target).ins l.inlet in
-        omega (arith, k, ins_place)
+      in_there : link_to target source < length (seat_at after target).ins
+      in_there =
+          let k : length (seat_at after target).ins ≡ length (seat_at before target).ins + 1 = ap length l.ins ∙ length_more (seat_at before target).ins l.inlet in
+          omega (arith, k, ins_place)
 
-    -- an inlet that there was is there still
-    in_still : (s t : ℕ) (e : RingInView) → link_to t s < length (seat_at before t).ins → Either (t ≡ target) → in_at after s t e ≡ in_at before s t e
-    in_still s t e lt (inr n) = ap (λ i. get_or i (link_to t s) e) (l.other_ins t n)
-    in_still s t e lt (inl is) =
-        let lt' : link_to target s < length (seat_at before target).ins = subst (λ q. link_to q s < length (seat_at before q).ins) is lt in
-        subst (λ q. in_at after s q e ≡ in_at before s q e) (sym is)
-        (ap (λ i. get_or i (link_to target s) e) l.ins ∙ get_or_append_left (seat_at before target).ins (l.inlet ∷ []) e (link_to target s) lt')
+      -- an inlet that there was is there still
+      in_still : (s t : ℕ) (e : RingInView) → link_to t s < length (seat_at before t).ins → Either (t ≡ target) → in_at after s t e ≡ in_at before s t e
+      in_still s t e lt (inr n) = ap (λ i. get_or i (link_to t s) e) (l.other_ins t n)
+      in_still s t e lt (inl is) =
+          let lt' : link_to target s < length (seat_at before target).ins = subst (λ q. link_to q s < length (seat_at before q).ins) is lt in
+          subst (λ q. in_at after s q e ≡ in_at before s q e) (sym is)
+          (ap (λ i. get_or i (link_to target s) e) l.ins ∙ get_or_append_left (seat_at before target).ins (l.inlet ∷ []) e (link_to target s) lt')
 
-    there_still : (s t : ℕ) → link_to t s < length (seat_at before t).ins → Either (t ≡ target) → link_to t s < length (seat_at after t).ins
-    there_still s t lt (inr n) = subst (λ i. link_to t s < length i) (sym (l.other_ins t n)) lt
-    there_still s t lt (inl is) =
-        let k : length (seat_at after target).ins ≡ length (seat_at before target).ins + 1 = ap length l.ins ∙ length_more (seat_at before target).ins l.inlet in
-        let lt' : link_to target s < length (seat_at before target).ins = subst (λ q. link_to q s < length (seat_at before q).ins) is lt in
-        subst (λ q. link_to q s < length (seat_at after q).ins) (sym is) (omega (arith, k, lt'))
+      there_still : (s t : ℕ) → link_to t s < length (seat_at before t).ins → Either (t ≡ target) → link_to t s < length (seat_at after t).ins
+      there_still s t lt (inr n) = subst (λ i. link_to t s < length i) (sym (l.other_ins t n)) lt
+      there_still s t lt (inl is) =
+          let k : length (seat_at after target).ins ≡ length (seat_at before target).ins + 1 = ap length l.ins ∙ length_more (seat_at before target).ins l.inlet in
+          let lt' : link_to target s < length (seat_at before target).ins = subst (λ q. link_to q s < length (seat_at before q).ins) is lt in
+          subst (λ q. link_to q s < length (seat_at after q).ins) (sym is) (omega (arith, k, lt'))
 
-    -- a link that there was, and whose outlet stands as it did
-    still : (s t : ℕ) → s < length before → t < length before → s ≢ t → link_to s t < length (seat_at before s).outs
-        → ((d : RingOutView) → out_at after s t d ≡ out_at before s t d) → IsJoined after s t
-    still s t hs ht n lt same =
-        let o : IsJoined before s t = j s t hs ht n lt in
-        record {
-          inlet = there_still s t o.inlet (either_nat t target);
-          fresh = λ d e.
-              subst (λ q. AreFresh q (in_at after s t e)) (sym (same d)) (subst (AreFresh (out_at before s t d)) (sym (in_still s t e o.inlet (either_nat t target))) (o.fresh d e));
-        }
+      -- a link that there was, and whose outlet stands as it did
+      still : (s t : ℕ) → s < length before → t < length before → s ≢ t → link_to s t < length (seat_at before s).outs
+          → ((d : RingOutView) → out_at after s t d ≡ out_at before s t d) → IsJoined after s t
+      still s t hs ht n lt same =
+          let o : IsJoined before s t = j s t hs ht n lt in
+          record {
+            inlet = there_still s t o.inlet (either_nat t target);
+            fresh = λ d e.
+                subst (λ q. AreFresh q (in_at after s t e)) (sym (same d)) (subst (AreFresh (out_at before s t d)) (sym (in_still s t e o.inlet (either_nat t target))) (o.fresh d e));
+          }
 
-    new : IsJoined after source target
-    new = record { inlet = in_there; fresh = λ d e. subst (λ q. AreFresh q (in_at after source target e)) (sym (new_out d)) (subst (AreFresh l.out) (sym (new_in e)) l.fresh) }
+      new : IsJoined after source target
+      new = record { inlet = in_there; fresh = λ d e. subst (λ q. AreFresh q (in_at after source target e)) (sym (new_out d)) (subst (AreFresh l.out) (sym (new_in e)) l.fresh) }
 
-    joined : (s t : ℕ) → s < length before → t < length before → s ≢ t → link_to s t < length (seat_at after s).outs → Either (s ≡ source) → Either (t ≡ target) → IsJoined after s t
-    joined s t hs ht n lt (inr m) e =
-        still s t hs ht n (subst (λ o. link_to s t < length o) (l.other_outs s m) lt) (λ d. ap (λ o. get_or o (link_to s t) d) (l.other_outs s m))
-    joined s t hs ht n lt (inl is) (inl at) = subst (λ q. IsJoined after q t) (sym is) (subst (IsJoined after source) (sym at) new)
-    joined s t hs ht n lt (inl is) (inr m) =
-        let n' : t ≢ source = λ i. n (is ∙ sym i) in
-        let other : link_to source t ≢ link_to source target = links_apart source t target n' (λ i. apart (sym i)) m in
-        let k : length (seat_at after source).outs ≡ length (seat_at before source).outs + 1 = ap length l.outs ∙ length_more (seat_at before source).outs l.out in
-        let lt' : link_to source t < length (seat_at after source).outs = subst (λ q. link_to q t < length (seat_at after q).outs) is lt in
-        let below : link_to source t < length (seat_at before source).outs = omega (arith, k, lt', outs_place, other) in
-        subst (λ q. IsJoined after q t) (sym is)
-        (still source t (subst (λ q. q < length before) is hs) ht (λ i. n' (sym i)) below
-        (λ d. ap (λ o. get_or o (link_to source t) d) l.outs ∙ get_or_append_left (seat_at before source).outs (l.out ∷ []) d (link_to source t) below))
+      joined : (s t : ℕ) → s < length before → t < length before → s ≢ t → link_to s t < length (seat_at after s).outs → Either (s ≡ source) → Either (t ≡ target) → IsJoined after s t
+      joined s t hs ht n lt (inr m) e =
+          still s t hs ht n (subst (λ o. link_to s t < length o) (l.other_outs s m) lt) (λ d. ap (λ o. get_or o (link_to s t) d) (l.other_outs s m))
+      joined s t hs ht n lt (inl is) (inl at) = subst (λ q. IsJoined after q t) (sym is) (subst (IsJoined after source) (sym at) new)
+      joined s t hs ht n lt (inl is) (inr m) =
+          let n' : t ≢ source = λ i. n (is ∙ sym i) in
+          let other : link_to source t ≢ link_to source target = links_apart source t target n' (λ i. apart (sym i)) m in
+          let k : length (seat_at after source).outs ≡ length (seat_at before source).outs + 1 = ap length l.outs ∙ length_more (seat_at before source).outs l.out in
+          let lt' : link_to source t < length (seat_at after source).outs = subst (λ q. link_to q t < length (seat_at after q).outs) is lt in
+          let below : link_to source t < length (seat_at before source).outs = omega (arith, k, lt', outs_place, other) in
+          subst (λ q. IsJoined after q t) (sym is)
+          (still source t (subst (λ q. q < length before) is hs) ht (λ i. n' (sym i)) below
+          (λ d. ap (λ o. get_or o (link_to source t) d) l.outs ∙ get_or_append_left (seat_at before source).outs (l.out ∷ []) d (link_to source t) below))
 
-    pub all_joined : AreJoined after
-    all_joined s t hs ht n lt =
-        joined s t (subst (λ k. s < k) many_added hs) (subst (λ k. t < k) many_added ht) n lt (either_nat s source) (either_nat t target)
+      pub all_joined : AreJoined after
+      all_joined s t hs ht n lt =
+          joined s t (subst (λ k. s < k) many_added hs) (subst (λ k. t < k) many_added ht) n lt (either_nat s source) (either_nat t target)
 
 -- the first region has none before it
 pub linking_starts : {seats : List SeatView} → AreNew seats → LinkedSoFar 0 0 seats seats
@@ -204,7 +204,7 @@ module _ {region other : ℕ} {before now mid after : List SeatView} (s : Linked
   outs_there =
       let e : length (seat_at now other).outs ≡ region - 1 = was.outs in
       let k : length (seat_at after other).outs ≡ length (seat_at now other).outs + 1 =
-          ap length from.outs ∙ length_more (seat_at mid other).outs from.out ∙ ap (λ l. length l + 1) (to.other_outs other back) in
+      ap length from.outs ∙ length_more (seat_at mid other).outs from.out ∙ ap (λ l. length l + 1) (to.other_outs other back) in
       omega (arith, e, k, lo)
 
   ins_there : length (seat_at after other).ins ≡ region

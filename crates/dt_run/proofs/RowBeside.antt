@@ -1,5 +1,5 @@
 -- One outlet after another is brought beside its inlet, of one seat after another.
-use Rattle.std.proofs.Common.{◌≡◌, ◌≢◌, ◌<◌, ◌≤◌, ◌+◌, ◌⊎◌, ◌++◌, ℕ, zero, suc, List, [], ◌∷◌, length, get_or, set, refl, sym, ap, subst, ◌∙◌, inl, inr, arith}
+use Rattle.std.proofs.Common.{◌≡◌, ◌≢◌, ◌<◌, ◌≤◌, ◌+◌, ◌⊎◌, ℕ, zero, suc, List, [], ◌∷◌, length, get_or, set, refl, sym, ap, subst, ◌∙◌, inl, inr, arith}
 use Rattle.std.proofs.lemmas.List.{get_or-set_same, get_or-set_other, length-set}
 use Rattle.dt_lists.specs.Lists.{Either}
 use Rattle.dt_lists.proofs.Callers.{either_nat}
@@ -166,8 +166,8 @@ module _ {source link : ℕ} {row row1 : List RingOutView} {seats seats1 : List 
         let low : link ≤ link_to source target = let i : link_to source target ≡ link = at.is in omega (arith, i) in
         let o : get_or row (link_to source target) out ≡ get_or row1 link out = ap (λ k. get_or row k out) at.is ∙ sym (r.row_left link out (omega arith)) in
         let i : in_at seats source target e ≡ get_or (get_or seats1 target seat).ins place e =
-            sym (r.ins_left target e low at.there next_apart) ∙ ap (λ (q : SeatView). get_or q.ins (link_to target source) e) (sym seat_is)
-            ∙ ap (λ k. get_or (get_or seats1 target seat).ins k e) (sym place_is) in
+        sym (r.ins_left target e low at.there next_apart) ∙ ap (λ (q : SeatView). get_or q.ins (link_to target source) e) (sym seat_is)
+        ∙ ap (λ k. get_or (get_or seats1 target seat).ins k e) (sym place_is) in
         subst (λ p. AreApart p (get_or (get_or seats1 target seat).ins place e)) o (subst (AreApart (get_or row (link_to source target) out)) i (a.each target out e at.there next_apart))
 
     pub row_steps : (out' : RingOutView) (later : SeatView) → InletGoes place (get_or row1 link out) (get_or seats1 target seat) out' later
@@ -177,11 +177,11 @@ module _ {source link : ℕ} {row row1 : List RingOutView} {seats seats1 : List 
         let old_is : old ≡ get_or (seat_at seats1 target).ins (link_to target source) old = any_default (seat_at seats1 target).ins (link_to target source) g.inlet old next_within in
         let out_is : get_or row1 link out ≡ get_or row1 link (get_or row1 link out) = any_default row1 link out (get_or row1 link out) more in
         let goes : LinkGoes (get_or row1 link out) old out' g.inlet =
-            subst (λ (q : SeatView). LinkGoes (get_or row1 link out) (get_or q.ins (link_to target source) g.inlet) out' g.inlet) seat_is
-            (subst (λ k. LinkGoes (get_or row1 link out) (get_or (get_or seats1 target seat).ins k g.inlet) out' g.inlet) place_is g.goes) in
+        subst (λ (q : SeatView). LinkGoes (get_or row1 link out) (get_or q.ins (link_to target source) g.inlet) out' g.inlet) seat_is
+        (subst (λ k. LinkGoes (get_or row1 link out) (get_or (get_or seats1 target seat).ins k g.inlet) out' g.inlet) place_is g.goes) in
         let after : later ≡ record (seat_at seats1 target) { ins = set (seat_at seats1 target).ins (link_to target source) g.inlet } =
-            g.after_is ∙ ap (λ k. record (get_or seats1 target seat) { ins = set (get_or seats1 target seat).ins k g.inlet }) place_is
-            ∙ ap (λ (q : SeatView). record q { ins = set q.ins (link_to target source) g.inlet }) seat_is in
+        g.after_is ∙ ap (λ k. record (get_or seats1 target seat) { ins = set (get_or seats1 target seat).ins k g.inlet }) place_is
+        ∙ ap (λ (q : SeatView). record q { ins = set q.ins (link_to target source) g.inlet }) seat_is in
         subst (λ q. RowSoFar source (link + 1) row seats (set row1 link out') (set seats1 target q)) (sym after)
         (row_goes r a below target target_is at.there next_apart at.is (get_or row1 link out) out' old g.inlet out_is old_is goes)
 
@@ -327,10 +327,12 @@ module _ {source : ℕ} {seats : List SeatView} (a : RowApart source (seat_at se
       → full ≡ record (get_or seats' source seat') { outs = outs' } → LinksGo source seats (set seats' source full)
   row_put row' outs' seats' seat' full outs_are r full_is =
       let r1 : RowSoFar source (length (seat_at seats source).outs) (seat_at seats source).outs (set seats source (record (seat_at seats source) { outs = [] })) row' seats' =
-          subst (λ q. RowSoFar source (length (seat_at seats source).outs) (seat_at seats source).outs (set seats source q) row' seats') without
-          (subst (λ l. RowSoFar source (length l) l (set seats source taken) row' seats') found_row r) in
+      subst (λ q. RowSoFar source (length (seat_at seats source).outs) (seat_at seats source).outs (set seats source q) row' seats') without
+      (subst (λ l. RowSoFar source (length l) l (set seats source taken) row' seats') found_row r) in
       let there : source < length seats' = let m : length seats' ≡ length (set seats source taken) = r.many in subst (λ n. source < n) (sym (m ∙ length-set seats source taken)) a.within in
-      subst (λ q. LinksGo source seats (set seats' source q)) (sym (full_is ∙ ap (λ l. record (get_or seats' source seat') { outs = l }) outs_are ∙ ap (λ (q : SeatView). record q { outs = row' }) (any_default seats' source seat' no_seat there))) (links_go a r1)
+      let full_was : full ≡ record (seat_at seats' source) { outs = row' } =
+          full_is ∙ ap (λ l. record (get_or seats' source seat') { outs = l }) outs_are ∙ ap (λ (q : SeatView). record q { outs = row' }) (any_default seats' source seat' no_seat there) in
+      subst (λ q. LinksGo source seats (set seats' source q)) (sym full_was) (links_go a r1)
 
 -- one seat after another
 

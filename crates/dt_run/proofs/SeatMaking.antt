@@ -16,7 +16,7 @@ module _ (seats seats' : List SeatView) (seat : SeatView) (node : NodeView) (mor
       let front : seats ++ seat ∷ [] ≡ map (λ r. new_seat (opening r)) (range_with_len 0 region) ++ seat ∷ [] = ap (λ l. l ++ seat ∷ []) all in
       let last : seat ≡ new_seat (opening region) = seat_is ∙ ap new_seat is in
       let back : map (λ r. new_seat (opening r)) (range_with_len 0 (region + 1)) ≡ map (λ r. new_seat (opening r)) (range_with_len 0 region) ++ new_seat (opening region) ∷ [] =
-          map-range_with_len_more (λ r. new_seat (opening r)) 0 region region (omega arith) in
+      map-range_with_len_more (λ r. new_seat (opening r)) 0 region region (omega arith) in
       more ∙ front ∙ ap (λ s. map (λ r. new_seat (opening r)) (range_with_len 0 region) ++ s ∷ []) last ∙ sym back
 
   pub sound_more : {region : RegionView} → region ≡ node.site.region → IsSoundRegion region.state → AllIn (λ (s : SeatView). IsSoundRegion s.node.site.region.state) seats

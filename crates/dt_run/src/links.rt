@@ -78,7 +78,11 @@ fn beside_row<S: Scheduler + Drop>(row: &mut [RingOut], seats: &mut [Seat<S>], s
 {
     for link in 0..row.len() {
         let target = other_region(source, link);
-        beside_inlet(&mut row[link], &mut seats[target], link_number(target, source));
+        beside_inlet(
+            &mut row[link],
+            &mut seats[target],
+            link_number(target, source),
+        );
     }
 }
 
