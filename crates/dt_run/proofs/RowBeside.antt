@@ -331,7 +331,7 @@ module _ {source : ℕ} {seats : List SeatView} (a : RowApart source (seat_at se
       (subst (λ l. RowSoFar source (length l) l (set seats source taken) row' seats') found_row r) in
       let there : source < length seats' = let m : length seats' ≡ length (set seats source taken) = r.many in subst (λ n. source < n) (sym (m ∙ length-set seats source taken)) a.within in
       let full_was : full ≡ record (seat_at seats' source) { outs = row' } =
-          full_is ∙ ap (λ l. record (get_or seats' source seat') { outs = l }) outs_are ∙ ap (λ (q : SeatView). record q { outs = row' }) (any_default seats' source seat' no_seat there) in
+      full_is ∙ ap (λ l. record (get_or seats' source seat') { outs = l }) outs_are ∙ ap (λ (q : SeatView). record q { outs = row' }) (any_default seats' source seat' no_seat there) in
       subst (λ q. LinksGo source seats (set seats' source q)) (sym full_was) (links_go a r1)
 
 -- one seat after another

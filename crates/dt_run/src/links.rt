@@ -1,5 +1,5 @@
 //! The links between all regions: how they are made, and how their ends are brought beside each other.
-ghost use Rattle.std.specs.Prelude.{◌≡◌, ◌≢◌, ◌<◌, ◌+◌, ◌^◌, ℕ, [], get_or, length, map, OnOk};
+ghost use Rattle.std.specs.Prelude.{◌≡◌, ◌≢◌, ◌<◌, ◌+◌, ◌^◌, [], get_or, length, map, OnOk};
 ghost use Rattle.dt_lists.specs.Lists.{AllIn};
 ghost use Rattle.dt_node.specs.NodeView.{other_at};
 ghost use Rattle.dt_ring.specs.Rings.{RingInView};
