@@ -4,8 +4,8 @@ use Rattle.dt_access.specs.Clash.{Bytes}
 use Rattle.dt_outside.specs.Folder.{FolderView}
 use Rattle.dt_outside.specs.Sink.{SinkView, Adds, AddsPrefix}
 use Rattle.detock.specs.declared.status.Status.{Status}
-use Rattle.detock.specs.declared.status.Status.TheVariants.{Done, NoMemory, BadWords, CannotRead, BadCluster, BadWorkload, BadEvents, CannotWrite}
-use Rattle.detock.specs.Tasks.{Task, Replay, Run, Big, Asks, AreAForm}
+use Rattle.detock.specs.declared.status.Status.TheVariants.{Done, BadWords, CannotWrite}
+use Rattle.detock.specs.Tasks.{Task, Replay, Run, Big, Asks}
 use Rattle.detock.specs.Headline.{Headline, IsDone}
 use Rattle.detock.specs.Answers.{Comes}
 use Rattle.detock.specs.RefusalCode.{EndsBy, IsAskedFor, IsRefusal, IsTextOf, HasNoTask}

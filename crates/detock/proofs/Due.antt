@@ -27,7 +27,7 @@ use Rattle.detock.specs.declared.status.Status.TheVariants.{Done, NoMemory, BadW
 use Rattle.detock.specs.declared.status.EventsCause.{EventsCause}
 use Rattle.detock.specs.declared.status.EventsCause.TheVariants.{TooLong, Form, Rule}
 use Rattle.detock.specs.Tasks.{Task, Replay, Run, Big, Asks, AskFor, IsBuiltin, IsClusterFile, AreAForm, builtin_word, task_words, cluster_word, workload_word, events_word}
-use Rattle.detock.specs.Loading.{HasFile, HasCluster, HasEvents, NamesThis, Loaded, HoldCluster, HoldWorkload, HoldEvents, unnumbered}
+use Rattle.detock.specs.Loading.{HasFile, HasCluster, HasEvents, Loaded, HoldCluster, HoldWorkload, HoldEvents, unnumbered}
 use Rattle.detock.specs.Causes.{AreBadCluster, HasBadCluster, AreBadWorkload, HasBadWorkload, IsFirstIllegal, AreBadEvents, HasBadEvents, WasMissed, CouldNotRead, CanBeDone, CallsFor, IsDue}
 use Rattle.detock.specs.RefusalCode.{IsRefusal}
 use Rattle.detock.proofs.WordForms.{two_bytes}

@@ -16,8 +16,8 @@ use Rattle.detock.specs.declared.status.Status.TheVariants.{NoMemory, CannotRead
 use Rattle.detock.specs.declared.status.EventsCause.{EventsCause}
 use Rattle.detock.specs.declared.status.EventsCause.TheVariants.{TooLong, Form, Rule}
 use Rattle.detock.specs.Tasks.{Task, Replay, Run, Big, IsClusterFile, cluster_word, workload_word}
-use Rattle.detock.specs.Loading.{HasFile, HasCluster, HoldWorkload, HoldEvents, Loaded, unnumbered}
-use Rattle.detock.specs.Headline.{Headline, HasGiven, IsDone, Reported}
+use Rattle.detock.specs.Loading.{HasFile, HasCluster, HoldEvents, Loaded, unnumbered}
+use Rattle.detock.specs.Headline.{Headline, HasGiven, IsDone}
 use Rattle.detock.specs.Causes.{AreBadCluster, AreBadWorkload, AreBadEvents, CanBeDone, WasMissed}
 use Rattle.detock.specs.RefusalCode.{IsFileRefusal, IsClusterRefusal, IsWorkloadRefusal, IsLoadRefusal, IsEventsRefusal, IsStepRefusal, IsRefusal, IsTextOf, AreMalformed}
 

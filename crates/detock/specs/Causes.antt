@@ -22,7 +22,7 @@ use Rattle.dt_workload.specs.File.{IsWorkloadFault}
 use Rattle.dt_session.specs.Step.{IsLegal, rule_of}
 use Rattle.dt_session.specs.Run.{AreLegal, world_after}
 use Rattle.detock.specs.declared.status.Status.{Status}
-use Rattle.detock.specs.declared.status.Status.TheVariants.{Done, NoMemory, BadWords, CannotRead, BadCluster, BadWorkload, BadEvents, CannotWrite}
+use Rattle.detock.specs.declared.status.Status.TheVariants.{Done, BadWords, BadCluster, BadWorkload, BadEvents}
 use Rattle.detock.specs.declared.status.EventsCause.{EventsCause}
 use Rattle.detock.specs.declared.status.EventsCause.TheVariants.{TooLong, Form, Rule}
 use Rattle.detock.specs.Tasks.{Task, Replay, Run, Big, AreAForm, AskFor, IsClusterFile, cluster_word, workload_word, events_word}

@@ -22,7 +22,7 @@ use Rattle.dt_world.specs.WorldReport.{report_of}
 use Rattle.dt_world.specs.declared.StepError.{StepError}
 use Rattle.dt_world.specs.declared.StepError.TheVariants.{Illegal}
 use Rattle.dt_world.specs.declared.StepError.TheVariants as step
-use Rattle.detock.specs.Tasks.{Task, Big, Asks, AreAForm, AskFor, IsClusterFile}
+use Rattle.detock.specs.Tasks.{Task, Big, AreAForm, AskFor, IsClusterFile}
 use Rattle.detock.specs.Loading.{HasCluster, HasFile, file_limit}
 use Rattle.detock.specs.Headline.{AreOfARun, IsDone}
 use Rattle.detock.specs.Causes.{AreBadCluster, AreBadWorkload, CanBeDone, CouldNotRead, HasBadCluster, HasBadEvents, HasBadWorkload, IsFirstIllegal, WasMissed}

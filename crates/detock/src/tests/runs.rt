@@ -173,7 +173,9 @@ fn events_behind<'a>(
     let Some(at) = place_of(report, lines.as_slice()) else {
         return Ok(None);
     };
-    let (front, rest) = report.split_at(at);
+    let Some((front, rest)) = report.split_at_checked(at) else {
+        return Ok(None);
+    };
     let length = b"0 |replies\n".len() + file_of(alloc, replies)?.len();
     if front.len() != length || !each_stands_in(alloc, front, replies)? {
         return Ok(None);
