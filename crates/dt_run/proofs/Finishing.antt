@@ -5,7 +5,7 @@ use Rattle.dt_lists.specs.Lists.{AllIn}
 use Rattle.dt_events.specs.Stamps.{events_of}
 use Rattle.dt_cluster.specs.declared.Cluster.{Cluster}
 use Rattle.dt_workload.specs.declared.Workload.{Workload}
-use Rattle.dt_session.specs.Sessions.{AreAllAnswered}
+use Rattle.dt_session.specs.Sessions.{EachNameIsAnswered}
 use Rattle.dt_session.specs.World.{node_at}
 use Rattle.dt_session.specs.Run.{world_after}
 use Rattle.dt_site.proofs.Callers.{IsShort, legal_short, many_here}
@@ -38,11 +38,11 @@ module _ {cluster : Cluster} {workload : Workload} {seats : List SeatView} {brok
   at_seat : (region : ℕ) → node_in v region ≡ (seat_at seats region).node
   at_seat = node_is cluster workload seats broken
 
-  pub answered_all : AllIn (λ s. AreAllAnswered s.node.sessions) seats → (region : ℕ) → region < cluster.regions → AreAllAnswered (node_in v region).sessions
-  answered_all all region lr = subst (λ (n : NodeView). AreAllAnswered n.sessions) (sym (at_seat region)) (each_seat (λ s. AreAllAnswered s.node.sessions) seats all region (subst (λ m. region < m) (sym many) lr))
+  pub answered_all : AllIn (λ s. EachNameIsAnswered s.node.sessions) seats → (region : ℕ) → region < cluster.regions → EachNameIsAnswered (node_in v region).sessions
+  answered_all all region lr = subst (λ (n : NodeView). EachNameIsAnswered n.sessions) (sym (at_seat region)) (each_seat (λ s. EachNameIsAnswered s.node.sessions) seats all region (subst (λ m. region < m) (sym many) lr))
 
-  pub all_answered : ((region : ℕ) → region < cluster.regions → AreAllAnswered (node_in v region).sessions) → AllIn (λ s. AreAllAnswered s.node.sessions) seats
-  all_answered f = all_seats (λ s. AreAllAnswered s.node.sessions) seats (λ region lt. subst (λ (n : NodeView). AreAllAnswered n.sessions) (at_seat region) (f region (subst (λ m. region < m) many lt)))
+  pub all_answered : ((region : ℕ) → region < cluster.regions → EachNameIsAnswered (node_in v region).sessions) → AllIn (λ s. EachNameIsAnswered s.node.sessions) seats
+  all_answered f = all_seats (λ s. EachNameIsAnswered s.node.sessions) seats (λ region lt. subst (λ (n : NodeView). EachNameIsAnswered n.sessions) (at_seat region) (f region (subst (λ m. region < m) many lt)))
 
   pub done_each : AllIn (λ source. AllIn (λ s. HasDone s.node source.node) seats) seats → (region source : ℕ) → region < cluster.regions → source < cluster.regions → HasDone (node_in v region) (node_in v source)
   done_each all region source lr ls =
@@ -54,7 +54,7 @@ module _ {cluster : Cluster} {workload : Workload} {seats : List SeatView} {brok
   each_done f = all_seats (λ t. AllIn (λ s. HasDone s.node t.node) seats) seats (λ source ls. all_seats (λ s. HasDone s.node (seat_at seats source).node) seats (λ region lr.
       subst (λ n. HasDone n (seat_at seats source).node) (at_seat region) (subst (HasDone (node_in v region)) (at_seat source) (f region source (subst (λ m. region < m) many lr) (subst (λ m. source < m) many ls)))))
 
-  pub are_done : AllIn (λ s. AreAllAnswered s.node.sessions) seats → AllIn (λ source. AllIn (λ s. HasDone s.node source.node) seats) seats → AreDone v
+  pub are_done : AllIn (λ s. EachNameIsAnswered s.node.sessions) seats → AllIn (λ source. AllIn (λ s. HasDone s.node source.node) seats) seats → AreDone v
   are_done answered executed = record { answered = answered_all answered; executed = done_each executed }
 
   -- submissions are counted by 32 bits

@@ -1,0 +1,90 @@
+-- Why a run ends. A phase in which no region keeps an event is silent. Phases may be silent while something is left to do, since
+-- packets are lost, and a packet carries only what its source does not know to have arrived. One learns here how phases and
+-- events are counted (`made_in`, `kept_in`, `quiet_in`) and what silent phases leave: as nothing changes, what nodes know of each
+-- other becomes exact, and then the next packets that are not lost carry what is first in turn. So of any four phases in a row
+-- before all is done one keeps an event, and as the events are few, so are the phases (`ComesToAnEnd`, `most_phases`). Read
+-- `Done` before.
+use Rattle.std.specs.Prelude.{◌≡◌, ◌≢◌, ◌<◌, ◌≤◌, ◌⊎◌, ◌+◌, ◌*◌, ◌==◌, ℕ, zero, suc, [], length, get_or, if◌then◌else◌}
+use Rattle.dt_sched.specs.Views.{log_at}
+use Rattle.dt_txn.specs.Replica.{taken_from}
+use Rattle.dt_packet.specs.declared.loss.Verdict.TheVariants.{Lost}
+use Rattle.dt_packet.specs.Loss.{IsVerdict}
+use Rattle.dt_cluster.specs.declared.Cluster.{Cluster}
+use Rattle.dt_workload.specs.declared.Workload.{Workload}
+use Rattle.dt_merge.specs.Weight.{most_events, sum_below}
+use Rattle.dt_node.specs.NodeView.{NodeView, number_of}
+use Rattle.dt_run.specs.Done.{AreDone}
+use Rattle.dt_run.specs.Marks.{kept_of, mark_at, plan_of}
+use Rattle.dt_run.specs.NodesView.{NodesView, marks_at, node_in}
+
+-- how many phases were made: each adds a mark for each region
+abbrev pub made_in : NodesView → ℕ
+made_in v = length (marks_at v 0)
+
+-- how many events all regions together have kept
+abbrev pub kept_in : NodesView → ℕ
+kept_in v = sum_below (λ region. length (kept_of v region)) v.cluster.regions
+
+-- how many they had kept after so many phases
+abbrev pub kept_after : NodesView → ℕ → ℕ
+kept_after v phase = sum_below (λ region. mark_at v region phase) v.cluster.regions
+
+-- of so many phases, how many of the last ones were silent: in none of them an event was kept
+abbrev pub quiet_after : NodesView → ℕ → ℕ
+quiet_after v zero = 0
+quiet_after v (suc made) = if kept_after v made == kept_after v (suc made) then quiet_after v made + 1 else 0
+
+-- how many silent phases were made since the last one in which some event was kept
+abbrev pub quiet_in : NodesView → ℕ
+quiet_in v = quiet_after v (made_in v)
+
+-- a phase is silent: no region keeps an event in it
+pub record IsSilent (before after : NodesView) : Type 0 where
+  pub each : (region : ℕ) → region < before.cluster.regions → kept_of after region ≡ kept_of before region
+
+-- a phase is counted: one more is made, nothing that was kept is lost, and the silent ones go on or begin anew
+pub record IsCounted (before after : NodesView) : Type 0 where
+  pub made : made_in after ≡ made_in before + 1
+  pub kept : kept_in before ≤ kept_in after
+  pub quiet : quiet_in after ≡ (if kept_in before == kept_in after then quiet_in before + 1 else 0)
+
+-- nothing is outstanding between two nodes: the one has placed all requests of the other and received its whole log
+pub record HasAllOf (target source : NodeView) : Type 0 where
+  pub requests : taken_from target.site.region.state.here (number_of source) ≡ length (get_or source.site.region.state.here.asked (number_of target) [])
+  pub log : length (log_at target.site.region.state.logs (number_of source)) ≡ length (log_at source.site.region.state.logs (number_of source))
+
+-- nothing is outstanding anywhere
+pub record HasAllArrived (v : NodesView) : Type 0 where
+  pub each : (target source : ℕ) → target < v.cluster.regions → source < v.cluster.regions → target ≢ source → HasAllOf (node_in v target) (node_in v source)
+
+-- a node knows just how far another one has come with its requests and its log
+pub record KnowsExactly (n other : NodeView) : Type 0 where
+  pub took : get_or n.took (number_of other) 0 ≡ taken_from other.site.region.state.here (number_of n)
+  pub received : get_or n.received (number_of other) 0 ≡ length (log_at other.site.region.state.logs (number_of n))
+
+-- all that nodes know of each other is exact
+pub record IsExact (v : NodesView) : Type 0 where
+  pub each : (region other : ℕ) → region < v.cluster.regions → other < v.cluster.regions → region ≢ other → KnowsExactly (node_in v region) (node_in v other)
+
+-- packets wait on all links: a phase was made, and the packets of the last one were not lost
+pub record PacketsWait (v : NodesView) : Type 0 where
+  pub some : 1 ≤ made_in v
+  pub put : ¬ (IsVerdict (plan_of v.cluster) (made_in v) Lost)
+
+-- what makes a run end
+pub record ComesToAnEnd (v : NodesView) : Type 0 where
+  -- after a silent phase all knowledge is exact, or packets wait that make it so
+  pub after_one : 1 ≤ quiet_in v → IsExact v ⊎ PacketsWait v
+  -- after two it is exact
+  pub after_two : 2 ≤ quiet_in v → IsExact v
+  -- after three, while not all is done, packets wait too; as knowledge is exact, they carry all that is first in turn
+  pub after_three : ¬ (AreDone v) → 3 ≤ quiet_in v → IsExact v × PacketsWait v
+  -- so there are no more than three in a row
+  pub few_quiet : ¬ (AreDone v) → quiet_in v ≤ 3
+  pub few_made : ¬ (AreDone v) → made_in v ≤ 4 * kept_in v + quiet_in v
+  -- and there are only so many events
+  pub few_kept : kept_in v ≤ most_events v.cluster v.workload
+
+-- so many phases are made at most until all is done
+abbrev pub most_phases : Cluster → Workload → ℕ
+most_phases cluster workload = 4 * most_events cluster workload + 4
