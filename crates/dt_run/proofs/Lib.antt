@@ -20,3 +20,10 @@ pub mod Planning
 pub mod InStep
 pub mod Together
 pub mod Assembled
+pub mod SomeHome
+pub mod AllArrived
+pub mod Silent
+pub mod CountedPhases
+pub mod QuietPhases
+pub mod StaysDone
+pub mod RunEnds

@@ -12,7 +12,6 @@ use Rattle.dt_packet.specs.Loss.{IsVerdict}
 use Rattle.dt_cluster.specs.declared.Cluster.{Cluster}
 use Rattle.dt_workload.specs.declared.Workload.{Workload}
 use Rattle.dt_merge.specs.Weight.{most_events, sum_below}
-use Rattle.dt_node.specs.NodeView.{NodeView, number_of}
 use Rattle.dt_run.specs.Done.{AreDone}
 use Rattle.dt_run.specs.Marks.{kept_of, mark_at, plan_of}
 use Rattle.dt_run.specs.NodesView.{NodesView, marks_at, node_in}
@@ -48,23 +47,23 @@ pub record IsCounted (before after : NodesView) : Type 0 where
   pub kept : kept_in before ≤ kept_in after
   pub quiet : quiet_in after ≡ (if kept_in before == kept_in after then quiet_in before + 1 else 0)
 
--- nothing is outstanding between two nodes: the one has placed all requests of the other and received its whole log
-pub record HasAllOf (target source : NodeView) : Type 0 where
-  pub requests : taken_from target.site.region.state.here (number_of source) ≡ length (get_or source.site.region.state.here.asked (number_of target) [])
-  pub log : length (log_at target.site.region.state.logs (number_of source)) ≡ length (log_at source.site.region.state.logs (number_of source))
+-- nothing is outstanding from one region to another: this one has placed all its requests and received its whole log
+pub record HasArrived (v : NodesView) (source target : ℕ) : Type 0 where
+  pub requests : taken_from (node_in v target).site.region.state.here source ≡ length (get_or (node_in v source).site.region.state.here.asked target [])
+  pub log : length (log_at (node_in v target).site.region.state.logs source) ≡ length (log_at (node_in v source).site.region.state.logs source)
 
 -- nothing is outstanding anywhere
 pub record HasAllArrived (v : NodesView) : Type 0 where
-  pub each : (target source : ℕ) → target < v.cluster.regions → source < v.cluster.regions → target ≢ source → HasAllOf (node_in v target) (node_in v source)
+  pub each : (source target : ℕ) → source < v.cluster.regions → target < v.cluster.regions → source ≢ target → HasArrived v source target
 
--- a node knows just how far another one has come with its requests and its log
-pub record KnowsExactly (n other : NodeView) : Type 0 where
-  pub took : get_or n.took (number_of other) 0 ≡ taken_from other.site.region.state.here (number_of n)
-  pub received : get_or n.received (number_of other) 0 ≡ length (log_at other.site.region.state.logs (number_of n))
+-- the node of one region knows just how far another region has come with its requests and its log
+pub record KnowsExactly (v : NodesView) (region other : ℕ) : Type 0 where
+  pub took : get_or (node_in v region).took other 0 ≡ taken_from (node_in v other).site.region.state.here region
+  pub received : get_or (node_in v region).received other 0 ≡ length (log_at (node_in v other).site.region.state.logs region)
 
 -- all that nodes know of each other is exact
 pub record IsExact (v : NodesView) : Type 0 where
-  pub each : (region other : ℕ) → region < v.cluster.regions → other < v.cluster.regions → region ≢ other → KnowsExactly (node_in v region) (node_in v other)
+  pub each : (region other : ℕ) → region < v.cluster.regions → other < v.cluster.regions → region ≢ other → KnowsExactly v region other
 
 -- packets wait on all links: a phase was made, and the packets of the last one were not lost
 pub record PacketsWait (v : NodesView) : Type 0 where
