@@ -1,7 +1,7 @@
 -- Where nothing is outstanding between the nodes of a world and none of them has anything to do by itself, all is done: each log
 -- has all its requests and each region has inserted all logs, so all that was submitted is complete everywhere and executed; and
 -- then a session that still had a call left could go on.
-use Rattle.std.proofs.Common.{◌≡◌, ◌≢◌, ◌<◌, ◌≤◌, ◌⊎◌, ℕ, zero, suc, eqb, List, [], ◌∷◌, length, filter, get_or, take, Option, None, Some, option_map, refl, sym, ap, subst, ◌∙◌, inl, inr, arith, eq-eqb}
+use Rattle.std.proofs.Common.{◌≡◌, ◌≢◌, ◌<◌, ◌≤◌, ◌⊎◌, ℕ, zero, suc, true, eqb, List, [], ◌∷◌, length, filter, get_or, take, Option, None, Some, option_map, refl, sym, ap, subst, ◌∙◌, inl, inr, arith, eq-eqb}
 use Rattle.std.specs.Prelude.{option_and_then, slice_index}
 use Rattle.std.proofs.lemmas.List.{take_all}
 use Rattle.dt_lists.specs.Lists.{AllIn, AnyIn, Either, Has}
@@ -25,7 +25,7 @@ use Rattle.dt_workload.specs.declared.Workload.{Workload}
 use Rattle.dt_session.specs.declared.sessions.Seat.{Seat}
 use Rattle.dt_session.specs.Sessions.{EachNameIsAnswered, MayBeAnswered, MayGo, seat_of, waits_of}
 use Rattle.dt_session.specs.Step.{IsLast, IsStale, MayAnswer, MayEnd, MaySubmit, MayTry, awaited_at}
-use Rattle.dt_session.specs.World.{Node, Place, Submission, World, asked_of, attempt_of, log_of, logs_of, node_at, outcome_at, received_logs, received_of, session_at, submission_of, taken_of, txn_of, view_at}
+use Rattle.dt_session.specs.World.{Node, Place, Submission, World, asked_of, attempt_of, log_of, logs_of, node_at, outcome_at, received_logs, received_of, session_at, submissions, taken_of, txn_of, view_at}
 use Rattle.dt_session.specs.Run.{world_after}
 use Rattle.dt_agreement.specs.Invariant.{IsPartAt, IsPlaceOf, given_by, has_home, requests}
 use Rattle.dt_agreement.proofs.Callers.{WaitsAt, home_region, logs_length, received_log, received_own, session_found, transaction_valid, txn_there, waiting_for}
@@ -140,7 +140,7 @@ module _ {cluster : Cluster} {workload : Workload} {events : List Event} (some :
       within : (home : ℕ) → Has (homes_of txn) home → home < cluster.regions
       within home h = all_get (λ x. x < cluster.regions) (homes_of txn) valid.homes home h
 
-      made : ((s : Submission) × Has _ s × (s.txn ≡ txn) × (s.txn.id ≡ id)) → IsComplete (view_at w region) id
+      made : ((s : Submission) × Has (submissions w) s × (s.txn ≡ txn) × (s.txn.id ≡ id)) → IsComplete (view_at w region) id
       made r =
           any_from_at (AnyIn (λ (q : Part). (q.id ≡ id) × HasParts (view_at w region) q.homes id)) [] (view_at w region) home.0 (λ x. x)
           (subst (AnyIn (λ (q : Part). (q.id ≡ id) × HasParts (view_at w region) q.homes id)) (sym (view_log region home.0 lr (within home.0 home.1)))

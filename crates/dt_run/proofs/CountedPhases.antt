@@ -35,53 +35,57 @@ sum_up f g (suc n) e =
 -- where no summand falls and the sum stays, each stays
 sum_stays : (f g : ℕ → ℕ) (n : ℕ) → ((k : ℕ) → k < n → f k ≤ g k) → sum_below f n ≡ sum_below g n → (k : ℕ) → k < n → f k ≡ g k
 sum_stays f g zero e same k lt = absurd (omega (arith, lt))
-sum_stays f g (suc n) e same k lt = by (either_nat k n)
+sum_stays f g (suc n) e same k lt = by (either_nat k n) (λ s below. sum_stays f g n (λ j l. e j (omega (arith, l))) s k below)
   where
     front : sum_below f n ≤ sum_below g n
-    front = sum_up f g n (λ k lt. e k (omega (arith, lt)))
+    front = sum_up f g n (λ j l. e j (omega (arith, l)))
 
     last : f n ≤ g n
     last = e n (omega arith)
 
-    by : Either (k ≡ n) → f k ≡ g k
-    by (inl is) = subst (λ m. f m ≡ g m) (sym is) (omega (arith, front, last, same))
-    by (inr m) = sum_stays f g n (λ j l. e j (omega (arith, l))) (omega (arith, front, last, same)) k (omega (arith, lt, m))
+    by : Either (k ≡ n) → (sum_below f n ≡ sum_below g n → k < n → f k ≡ g k) → f k ≡ g k
+    by (inl is) later = subst (λ m. f m ≡ g m) (sym is) (omega (arith, front, last, same))
+    by (inr m) later = later (omega (arith, front, last, same)) (omega (arith, lt, m))
 
 -- each item is of one region at most
 
-one_in : (r n : ℕ) → ((n ≤ r) × (sum_below (λ q. cond (eqb r q) 1 0) n ≡ 0)) ⊎ ((r < n) × (sum_below (λ q. cond (eqb r q) 1 0) n ≡ 1))
+abbrev one_if : ℕ → ℕ → ℕ
+one_if r q = cond (eqb r q) 1 0
+
+one_here : (r q : ℕ) → r ≡ q → one_if r q ≡ 1
+one_here r q is = rw (eq-eqb r q is) refl
+
+none_here : (r q : ℕ) → r ≢ q → one_if r q ≡ 0
+none_here r q n = rw (false_from_ne_true (eqb r q) (λ e. n (eqb-true r q e))) refl
+
+one_in : (r n : ℕ) → ((n ≤ r) × (sum_below (one_if r) n ≡ 0)) ⊎ ((r < n) × (sum_below (one_if r) n ≡ 1))
 one_in r zero = inl (omega arith, refl)
 one_in r (suc n) = by (one_in r n) (either_nat r n)
   where
-    by : ((n ≤ r) × (sum_below (λ q. cond (eqb r q) 1 0) n ≡ 0)) ⊎ ((r < n) × (sum_below (λ q. cond (eqb r q) 1 0) n ≡ 1)) → Either (r ≡ n)
-        → ((suc n ≤ r) × (sum_below (λ q. cond (eqb r q) 1 0) (suc n) ≡ 0)) ⊎ ((r < suc n) × (sum_below (λ q. cond (eqb r q) 1 0) (suc n) ≡ 1))
-    by (inl b) (inl is) =
-        let one : cond (eqb r n) 1 0 ≡ 1 = rw (eq-eqb r n is) refl in
-        let old : sum_below (λ q. cond (eqb r q) 1 0) n ≡ 0 = b.1 in
-        inr (omega (arith, is), omega (arith, one, old))
+    by : ((n ≤ r) × (sum_below (one_if r) n ≡ 0)) ⊎ ((r < n) × (sum_below (one_if r) n ≡ 1)) → Either (r ≡ n)
+        → ((suc n ≤ r) × (sum_below (one_if r) (suc n) ≡ 0)) ⊎ ((r < suc n) × (sum_below (one_if r) (suc n) ≡ 1))
+    by (inl b) (inl is) = let old : sum_below (one_if r) n ≡ 0 = b.1 in inr (omega (arith, is), omega (arith, one_here r n is, old))
     by (inl b) (inr apart) =
-        let none : cond (eqb r n) 1 0 ≡ 0 = rw (false_from_ne_true (eqb r n) (λ e. apart (eqb-true r n e))) refl in
-        let old : sum_below (λ q. cond (eqb r q) 1 0) n ≡ 0 = b.1 in
+        let old : sum_below (one_if r) n ≡ 0 = b.1 in
         let le : n ≤ r = b.0 in
-        inl (omega (arith, le, apart), omega (arith, none, old))
+        inl (omega (arith, le, apart), omega (arith, none_here r n apart, old))
     by (inr b) (inl is) = let lt : r < n = b.0 in absurd (omega (arith, lt, is))
     by (inr b) (inr apart) =
-        let none : cond (eqb r n) 1 0 ≡ 0 = rw (false_from_ne_true (eqb r n) (λ e. apart (eqb-true r n e))) refl in
-        let old : sum_below (λ q. cond (eqb r q) 1 0) n ≡ 1 = b.1 in
+        let old : sum_below (one_if r) n ≡ 1 = b.1 in
         let lt : r < n = b.0 in
-        inr (omega (arith, lt), omega (arith, none, old))
+        inr (omega (arith, lt), omega (arith, none_here r n apart, old))
 
-one_at_most : (r n : ℕ) → sum_below (λ q. cond (eqb r q) 1 0) n ≤ 1
+one_at_most : (r n : ℕ) → sum_below (one_if r) n ≤ 1
 one_at_most r n = elim (one_in r n) [
-  | inl b ↦ let e : sum_below (λ q. cond (eqb r q) 1 0) n ≡ 0 = b.1 in omega (arith, e)
-  | inr b ↦ let e : sum_below (λ q. cond (eqb r q) 1 0) n ≡ 1 = b.1 in omega (arith, e)
+  | inl b ↦ let e : sum_below (one_if r) n ≡ 0 = b.1 in omega (arith, e)
+  | inr b ↦ let e : sum_below (one_if r) n ≡ 1 = b.1 in omega (arith, e)
 ]
 
 sum_of_two : (f g : ℕ → ℕ) (n : ℕ) → sum_below (λ k. f k + g k) n ≡ sum_below f n + sum_below g n
 sum_of_two f g zero = refl
 sum_of_two f g (suc n) = let a : sum_below (λ k. f k + g k) n ≡ sum_below f n + sum_below g n = sum_of_two f g n in omega (arith, a)
 
-one_more : (q : ℕ) (x : Stamped) (items : List Stamped) → length (those_at q (x ∷ items)) ≡ cond (eqb (region_at x) q) 1 0 + length (those_at q items)
+one_more : (q : ℕ) (x : Stamped) (items : List Stamped) → length (those_at q (x ∷ items)) ≡ one_if (region_at x) q + length (those_at q items)
 one_more q x items = go (eqb (region_at x) q)
   where
     go : (b : Bool) → length (cond b (x ∷ those_at q items) (those_at q items)) ≡ cond b 1 0 + length (those_at q items)
@@ -95,10 +99,10 @@ all_of_all [] n = none n
     none zero = omega arith
     none (suc n) = let a : sum_below (λ q. 0) n ≤ 0 = none n in omega (arith, a)
 all_of_all (x ∷ items) n =
-    let a : sum_below (λ q. length (those_at q (x ∷ items))) n ≡ sum_below (λ q. cond (eqb (region_at x) q) 1 0 + length (those_at q items)) n = sum_same _ _ n (λ q lt. one_more q x items) in
-    let b : sum_below (λ q. cond (eqb (region_at x) q) 1 0 + length (those_at q items)) n
-    ≡ sum_below (λ q. cond (eqb (region_at x) q) 1 0) n + sum_below (λ q. length (those_at q items)) n = sum_of_two (λ q. cond (eqb (region_at x) q) 1 0) (λ q. length (those_at q items)) n in
-    let c : sum_below (λ q. cond (eqb (region_at x) q) 1 0) n ≤ 1 = one_at_most (region_at x) n in
+    let a : sum_below (λ q. length (those_at q (x ∷ items))) n ≡ sum_below (λ q. one_if (region_at x) q + length (those_at q items)) n = sum_same _ _ n (λ q lt. one_more q x items) in
+    let b : sum_below (λ q. one_if (region_at x) q + length (those_at q items)) n
+    ≡ sum_below (one_if (region_at x)) n + sum_below (λ q. length (those_at q items)) n = sum_of_two (one_if (region_at x)) (λ q. length (those_at q items)) n in
+    let c : sum_below (one_if (region_at x)) n ≤ 1 = one_at_most (region_at x) n in
     let d : sum_below (λ q. length (those_at q items)) n ≤ length items = all_of_all items n in
     omega (arith, a, b, c, d)
 

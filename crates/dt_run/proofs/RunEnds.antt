@@ -40,7 +40,7 @@ kept_few {v} n =
 
 -- before the first phase nothing is made and nothing is kept
 
-none_made : (n : ℕ) → get_or (replicate n []) 0 [] ≡ []
+none_made : (n : ℕ) → get_or {A = List ℕ} (replicate n []) 0 [] ≡ []
 none_made zero = refl
 none_made (suc n) = refl
 
@@ -87,7 +87,7 @@ module _ {before after : NodesView} (n : AreNodes before) (sound : before.broken
   made = made_now step phase ends one
 
   unfinished : ¬ (AreDone after) → ¬ (AreDone before)
-  unfinished open d = open (stays_done n told phase d)
+  unfinished left d = left (stays_done n told phase d)
 
   -- a phase in which some event was kept: the silent ones begin anew
   kept_some : kept_in before ≢ kept_in after → ComesToAnEnd after
@@ -96,9 +96,9 @@ module _ {before after : NodesView} (n : AreNodes before) (sound : before.broken
     after_two = λ some. absurd (omega (arith, some, quiet));
     after_three = λ _ some. absurd (omega (arith, some, quiet));
     few_quiet = λ _. omega (arith, quiet);
-    few_made = λ open.
-        let a : quiet_in before ≤ 3 = c.few_quiet (unfinished open) in
-        let b : made_in before ≤ 4 * kept_in before + quiet_in before = c.few_made (unfinished open) in
+    few_made = λ left.
+        let a : quiet_in before ≤ 3 = c.few_quiet (unfinished left) in
+        let b : made_in before ≤ 4 * kept_in before + quiet_in before = c.few_made (unfinished left) in
         let up : kept_in before ≤ kept_in after = kept_up step phase ends one in
         omega (arith, a, b, up, other, made, quiet);
     few_kept = kept_few later;
@@ -112,9 +112,9 @@ module _ {before after : NodesView} (n : AreNodes before) (sound : before.broken
   kept_none same = record {
     after_one = λ _. exact_or_put n sound told phase ends silent;
     after_two = λ two. exact_now n sound told phase ends silent (c.after_one (omega (arith, two, quiet)));
-    after_three = λ open three. exact_and_put n sound told phase ends silent open (c.after_two (omega (arith, three, quiet)));
-    few_quiet = λ open. let a : quiet_in before ≤ 3 = c.few_quiet (unfinished open) in by open a (either_nat (quiet_in before) 3);
-    few_made = λ open. let b : made_in before ≤ 4 * kept_in before + quiet_in before = c.few_made (unfinished open) in omega (arith, b, same, made, quiet);
+    after_three = λ left three. exact_and_put n sound told phase ends silent left (c.after_two (omega (arith, three, quiet)));
+    few_quiet = λ left. let a : quiet_in before ≤ 3 = c.few_quiet (unfinished left) in by left a (either_nat (quiet_in before) 3);
+    few_made = λ left. let b : made_in before ≤ 4 * kept_in before + quiet_in before = c.few_made (unfinished left) in omega (arith, b, same, made, quiet);
     few_kept = kept_few later;
   }
     where
@@ -126,18 +126,18 @@ module _ {before after : NodesView} (n : AreNodes before) (sound : before.broken
 
       -- after three silent ones the next phase would finish
       by : ¬ (AreDone after) → quiet_in before ≤ 3 → Either (quiet_in before ≡ 3) → quiet_in after ≤ 3
-      by open a (inl three) =
-          let r : IsExact before × PacketsWait before = c.after_three (unfinished open) (omega (arith, three)) in
-          absurd (open (done_now n sound told phase ends silent r.0 r.1))
-      by open a (inr fewer) = omega (arith, a, fewer, quiet)
+      by left a (inl three) =
+          let r : IsExact before × PacketsWait before = c.after_three (unfinished left) (omega (arith, three)) in
+          absurd (left (done_now n sound told phase ends silent r.0 r.1))
+      by left a (inr fewer) = omega (arith, a, fewer, quiet)
 
   pub ends_on : ComesToAnEnd after
   ends_on = elim (either_nat (kept_in before) (kept_in after)) [ inl same ↦ kept_none same | inr other ↦ kept_some other ]
 
 -- so few phases are made while not all is done
 pub phases_few : {v : NodesView} → ComesToAnEnd v → ¬ (AreDone v) → made_in v < most_phases v.cluster v.workload
-phases_few {v} c open =
-    let a : quiet_in v ≤ 3 = c.few_quiet open in
-    let b : made_in v ≤ 4 * kept_in v + quiet_in v = c.few_made open in
+phases_few {v} c left =
+    let a : quiet_in v ≤ 3 = c.few_quiet left in
+    let b : made_in v ≤ 4 * kept_in v + quiet_in v = c.few_made left in
     let k : kept_in v ≤ most_events v.cluster v.workload = c.few_kept in
     omega (arith, a, b, k)

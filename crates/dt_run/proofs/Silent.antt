@@ -136,8 +136,8 @@ module _ {before after : NodesView} (n : AreNodes before)
       still_exact k =
           let t : get_or (a region).took other 0 ≡ greatest (get_or (b region).took other 0) (map (λ (p : Packet). p.took) from_other) = heard.took in
           let r : get_or (a region).received other 0 ≡ greatest (get_or (b region).received other 0) (map (λ (p : Packet). p.received) from_other) = heard.received in
-          let u : get_or (b region).took other 0 ≤ greatest (get_or (b region).took other 0) (map (λ (p : Packet). p.took) from_other) = above_first _ _ in
-          let v : get_or (b region).received other 0 ≤ greatest (get_or (b region).received other 0) (map (λ (p : Packet). p.received) from_other) = above_first _ _ in
+          let u : get_or (b region).took other 0 ≤ greatest (get_or (b region).took other 0) (map (λ (p : Packet). p.took) from_other) = above_first (get_or (b region).took other 0) (map (λ (p : Packet). p.took) from_other) in
+          let v : get_or (b region).received other 0 ≤ greatest (get_or (b region).received other 0) (map (λ (p : Packet). p.received) from_other) = above_first (get_or (b region).received other 0) (map (λ (p : Packet). p.received) from_other) in
           let x = k.took in let y = k.received in
           let p : taken_from (a other).site.region.state.here region ≡ taken_from (b other).site.region.state.here region = ap (λ (s : Replica). taken_from s region) (here_same other lo) in
           let q : length (log_at (a other).site.region.state.logs region) ≡ length (log_at (b other).site.region.state.logs region) = log_same other region lo lr in
@@ -150,9 +150,9 @@ module _ {before after : NodesView} (n : AreNodes before)
           let waits : Has (waiting_at before region) (packet_for (b other) region) = on_links _ (link_to region other) (packet_for (b other) region) h in
           let its : Has from_other (packet_for (b other) region) = has_filter (λ (p : Packet). eqb p.source other) (waiting_at before region) (packet_for (b other) region) waits (eq-eqb (number_of (b other)) other (number other lo)) in
           let u : taken_from (b other).site.region.state.here region ≤ greatest (get_or (b region).took other 0) (map (λ (p : Packet). p.took) from_other) =
-          above_each _ _ _ (has_map (λ (p : Packet). p.took) from_other (packet_for (b other) region) its) in
+          above_each (get_or (b region).took other 0) (map (λ (p : Packet). p.took) from_other) _ (has_map (λ (p : Packet). p.took) from_other (packet_for (b other) region) its) in
           let v : length (log_at (b other).site.region.state.logs region) ≤ greatest (get_or (b region).received other 0) (map (λ (p : Packet). p.received) from_other) =
-          above_each _ _ _ (has_map (λ (p : Packet). p.received) from_other (packet_for (b other) region) its) in
+          above_each (get_or (b region).received other 0) (map (λ (p : Packet). p.received) from_other) _ (has_map (λ (p : Packet). p.received) from_other (packet_for (b other) region) its) in
           let p : taken_from (a other).site.region.state.here region ≡ taken_from (b other).site.region.state.here region = ap (λ (s : Replica). taken_from s region) (here_same other lo) in
           let q : length (log_at (a other).site.region.state.logs region) ≡ length (log_at (b other).site.region.state.logs region) = log_same other region lo lr in
           exact_of (omega (arith, t, u, p)) (omega (arith, r, v, q))

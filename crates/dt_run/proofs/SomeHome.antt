@@ -1,5 +1,5 @@
 -- Each valid transaction has a home: a call uses some key, and a move leads to some region.
-use Rattle.std.proofs.Common.{◌≡◌, ◌<◌, ◌≤◌, ◌⊎◌, ℕ, Bool, true, false, ltb, eqb, List, [], ◌∷◌, ◌++◌, length, map, sym, ap, subst, inl, inr, refl, arith}
+use Rattle.std.proofs.Common.{◌≡◌, ◌<◌, ◌≤◌, ◌+◌, ◌⊎◌, ℕ, Bool, true, false, ltb, eqb, List, [], ◌∷◌, ◌++◌, length, map, sym, ap, subst, inl, inr, refl, arith}
 use Rattle.std.specs.List.{fold}
 use Rattle.std.specs.Ordering.{nat_cmp}
 use Rattle.std.specs.declared.cmp.Ordering.{Ordering}

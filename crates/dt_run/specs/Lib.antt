@@ -5,6 +5,7 @@ pub mod Phase
 pub mod Done
 pub mod Run
 pub mod Silence
+pub mod EndLaws
 pub mod SeatsInner
 pub mod LinksInner
 pub mod MergingInner

@@ -17,11 +17,13 @@
 #![tactic(auto)]
 
 mod doing;
+mod ending;
 mod links;
 mod merging;
 mod nodes;
 mod reporting;
 mod seat;
 
+pub use ending::{begins_to_end, each_phase_is_counted, each_phase_leads_to_an_end, phases_are_few, what_is_done_stays_done};
 pub use nodes::Nodes;
 pub use reporting::run;
