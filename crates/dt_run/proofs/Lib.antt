@@ -27,3 +27,4 @@ pub mod CountedPhases
 pub mod QuietPhases
 pub mod StaysDone
 pub mod RunEnds
+pub mod SeatCounts

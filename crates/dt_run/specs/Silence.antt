@@ -12,6 +12,7 @@ use Rattle.dt_packet.specs.Loss.{IsVerdict}
 use Rattle.dt_cluster.specs.declared.Cluster.{Cluster}
 use Rattle.dt_workload.specs.declared.Workload.{Workload}
 use Rattle.dt_merge.specs.Weight.{most_events, sum_below}
+use Rattle.dt_run.specs.declared.counts.Counts.{Counts}
 use Rattle.dt_run.specs.Done.{AreDone}
 use Rattle.dt_run.specs.Marks.{kept_of, mark_at, plan_of}
 use Rattle.dt_run.specs.NodesView.{NodesView, marks_at, node_in}
@@ -36,6 +37,10 @@ quiet_after v (suc made) = if kept_after v made == kept_after v (suc made) then 
 -- how many silent phases were made since the last one in which some event was kept
 abbrev pub quiet_in : NodesView → ℕ
 quiet_in v = quiet_after v (made_in v)
+
+-- the three numbers together, as the nodes count them
+abbrev pub counts_in : NodesView → Counts
+counts_in v = record { made = made_in v; kept = kept_in v; quiet = quiet_in v }
 
 -- a phase is silent: no region keeps an event in it
 pub record IsSilent (before after : NodesView) : Type 0 where

@@ -16,6 +16,7 @@
 //! Read next: `specs/NodesView`, `specs/Marks`, `specs/NodesStand`, `specs/Phase`, `specs/Done`, `specs/Run`; then `nodes.rt`.
 #![tactic(auto)]
 
+mod counts;
 mod doing;
 mod ending;
 mod links;
@@ -24,6 +25,7 @@ mod nodes;
 mod reporting;
 mod seat;
 
+pub use counts::Counts;
 pub use ending::{begins_to_end, each_phase_is_counted, each_phase_leads_to_an_end, phases_are_few, what_is_done_stays_done};
 pub use nodes::Nodes;
 pub use reporting::run;
