@@ -20,7 +20,7 @@ use Rattle.dt_run.specs.Marks.{kept_of}
 use Rattle.dt_run.specs.NodesStand.{AreInStep, AreNodes}
 use Rattle.dt_run.specs.NodesView.{NodesView, marks_at, no_running_node, node_in, opening_nodes, waiting_at}
 use Rattle.dt_run.specs.Phase.{EndsInStep, IsPhase}
-use Rattle.dt_run.specs.Silence.{ComesToAnEnd, IsExact, IsSilent, PacketsWait, kept_in, made_in, most_phases, quiet_after, quiet_in}
+use Rattle.dt_run.specs.Silence.{ComesToAnEnd, IsExact, IsSilent, PacketsWait, counts_in, kept_in, made_in, most_phases, quiet_after, quiet_in}
 use Rattle.dt_run.proofs.CountedPhases.{all_of_all, kept_up, made_now, quiet_more, quiet_none, silent_of, sum_same}
 use Rattle.dt_run.proofs.Laws.{events_few}
 use Rattle.dt_run.proofs.QuietPhases.{done_now, exact_and_put, exact_now, exact_or_put}
@@ -53,24 +53,31 @@ nothing : (f : ℕ → ℕ) (n : ℕ) → ((k : ℕ) → f k ≡ 0) → sum_belo
 nothing f zero e = refl
 nothing f (suc n) e = let a : sum_below f n ≡ 0 = nothing f n e in let b : f n ≡ 0 = e n in omega (arith, a, b)
 
-pub opening_ends : (cluster : Cluster) (workload : Workload) → ComesToAnEnd (opening_nodes cluster workload)
-opening_ends cluster workload = record {
-  after_one = λ some. absurd (omega (arith, some, quiet));
-  after_two = λ some. absurd (omega (arith, some, quiet));
-  after_three = λ _ some. absurd (omega (arith, some, quiet));
-  few_quiet = λ _. omega (arith, quiet);
-  few_made = λ _. omega (arith, made);
-  few_kept = omega (arith, kept);
-}
-  where
-    made : made_in (opening_nodes cluster workload) ≡ 0
-    made = ap length (none_made cluster.regions)
+module _ (cluster : Cluster) (workload : Workload) where
+  abbrev first : NodesView
+  first = opening_nodes cluster workload
 
-    quiet : quiet_in (opening_nodes cluster workload) ≡ 0
-    quiet = ap (quiet_after (opening_nodes cluster workload)) made
+  made_first : made_in first ≡ 0
+  made_first = ap length (none_made cluster.regions)
 
-    kept : kept_in (opening_nodes cluster workload) ≡ 0
-    kept = nothing _ cluster.regions (λ region. ap length (none_kept cluster workload region))
+  quiet_first : quiet_in first ≡ 0
+  quiet_first = ap (quiet_after first) made_first
+
+  kept_first : kept_in first ≡ 0
+  kept_first = nothing _ cluster.regions (λ region. ap length (none_kept cluster workload region))
+
+  pub opening_counts : counts_in first ≡ record { made = 0; kept = 0; quiet = 0 }
+  opening_counts = λ i. record { made = made_first i; kept = kept_first i; quiet = quiet_first i }
+
+  pub opening_ends : ComesToAnEnd first
+  opening_ends = record {
+    after_one = λ some. absurd (omega (arith, some, quiet_first));
+    after_two = λ some. absurd (omega (arith, some, quiet_first));
+    after_three = λ _ some. absurd (omega (arith, some, quiet_first));
+    few_quiet = λ _. omega (arith, quiet_first);
+    few_made = λ _. omega (arith, made_first);
+    few_kept = omega (arith, kept_first);
+  }
 
 -- after a phase
 

@@ -129,7 +129,12 @@ pub record AreCounted (v : NodesView) (counts : Counts) : Type 0 where
   pub are : counts ≡ counts_in v
   pub ends : ComesToAnEnd v
 
--- what the type of the nodes keeps
+-- what the type of the nodes keeps of nodes and links
 pub record AreSeated (cluster : Cluster) (workload : Workload) (seats : List SeatView) (broken : Bool) : Type 0 where
   pub nodes : AreNodes (nodes_view cluster workload seats broken)
   pub linked : broken ≡ false → AreLinked AreBeside seats
+
+-- what the type of the nodes keeps
+pub record AreRunning (cluster : Cluster) (workload : Workload) (seats : List SeatView) (broken : Bool) (counts : Counts) : Type 0 where
+  pub seated : AreSeated cluster workload seats broken
+  pub counted : broken ≡ false → AreCounted (nodes_view cluster workload seats broken) counts
