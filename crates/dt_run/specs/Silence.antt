@@ -4,7 +4,7 @@
 -- other becomes exact, and then the next packets that are not lost carry what is first in turn. So of any four phases in a row
 -- before all is done one keeps an event, and as the events are few, so are the phases (`ComesToAnEnd`, `most_phases`). Read
 -- `Done` before.
-use Rattle.std.specs.Prelude.{◌≡◌, ◌≢◌, ◌<◌, ◌≤◌, ◌⊎◌, ◌+◌, ◌*◌, ◌==◌, ℕ, zero, suc, [], length, get_or, if◌then◌else◌}
+use Rattle.std.specs.Prelude.{◌≡◌, ◌≢◌, ◌<◌, ◌≤◌, ◌⊎◌, ◌+◌, ◌*◌, ◌==◌, ℕ, zero, suc, [], length, get_or, max, if◌then◌else◌}
 use Rattle.dt_sched.specs.Views.{log_at}
 use Rattle.dt_txn.specs.Replica.{taken_from}
 use Rattle.dt_packet.specs.declared.loss.Verdict.TheVariants.{Lost}
@@ -92,3 +92,7 @@ pub record ComesToAnEnd (v : NodesView) : Type 0 where
 -- so many phases are made at most until all is done
 abbrev pub most_phases : Cluster → Workload → ℕ
 most_phases cluster workload = 4 * most_events cluster workload + 4
+
+-- a run that begins here ends there: it makes one phase at least, and no more than there can be
+abbrev pub MakesFewPhases : NodesView → NodesView → Type 0
+MakesFewPhases before after = made_in after ≤ max (made_in before + 1) (most_phases before.cluster before.workload)

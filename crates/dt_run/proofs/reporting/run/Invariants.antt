@@ -1,0 +1,16 @@
+use Rattle.std.proofs.Common.{◌≡◌, ◌<◌, ◌⊎◌, ◌-◌, false}
+use Rattle.dt_run.specs.Silence.{made_in, most_phases}
+use Rattle.dt_run.proofs.reporting.run.Given as goal
+
+-- the nodes are sound, and no phase was made yet, or fewer than there can be
+abbrev pub invariant-phases : goal.invariant-phases
+invariant-phases g l = record {
+  sound : l.nodes.broken ≡ false;
+  cluster : l.nodes.cluster ≡ l.fn.nodes.cluster;
+  workload : l.nodes.workload ≡ l.fn.nodes.workload;
+  few : (made_in l.nodes ≡ made_in l.fn.nodes) ⊎ (made_in l.nodes < most_phases l.nodes.cluster l.nodes.workload);
+}
+
+-- how many more phases there can be
+abbrev pub decreases-phases : goal.decreases-phases
+decreases-phases g l = most_phases l.nodes.cluster l.nodes.workload - made_in l.nodes
