@@ -47,14 +47,11 @@ sum_along f (x ∷ xs) d =
 -- there are no more silent phases than phases
 quiet_few : (v : NodesView) (made : ℕ) → quiet_after v made ≤ made
 quiet_few v zero = omega arith
-quiet_few v (suc made) = go (eqb (kept_after v made) (kept_after v (suc made)))
+quiet_few v (suc made) = go (eqb (kept_after v made) (kept_after v (suc made))) (quiet_few v made)
   where
-    less : quiet_after v made ≤ made
-    less = quiet_few v made
-
-    go : (b : Bool) → cond b (quiet_after v made + 1) 0 ≤ suc made
-    go true = omega (arith, less)
-    go false = omega arith
+    go : (b : Bool) → quiet_after v made ≤ made → cond b (quiet_after v made + 1) 0 ≤ suc made
+    go true less = omega (arith, less)
+    go false less = omega arith
 
 -- what is seen of seats
 
