@@ -28,3 +28,4 @@ pub mod QuietPhases
 pub mod StaysDone
 pub mod RunEnds
 pub mod SeatCounts
+pub mod PhaseRuns
