@@ -1,22 +1,23 @@
 -- Where nothing is outstanding between the nodes of a world and none of them has anything to do by itself, all is done: each log
 -- has all its requests and each region has inserted all logs, so all that was submitted is complete everywhere and executed; and
 -- then a session that still had a call left could go on.
-use Rattle.std.proofs.Common.{◌≡◌, ◌≢◌, ◌<◌, ◌≤◌, ◌⊎◌, ℕ, zero, suc, true, eqb, List, [], ◌∷◌, length, filter, get_or, take, Option, None, Some, option_map, refl, sym, ap, subst, ◌∙◌, inl, inr, arith, eq-eqb}
+use Rattle.std.proofs.Common.{◌≡◌, ◌≢◌, ◌<◌, ◌≤◌, ◌⊎◌, ℕ, suc, true, eqb, List, [], ◌∷◌, length, filter, get_or, take, Option, None, Some, option_map, refl, sym, ap, subst, ◌∙◌, inl}
+use Rattle.std.proofs.Common.{inr, arith, eq-eqb}
 use Rattle.std.specs.Prelude.{option_and_then, slice_index}
 use Rattle.std.proofs.lemmas.List.{take_all}
-use Rattle.dt_lists.specs.Lists.{AllIn, AnyIn, Either, Has}
+use Rattle.dt_lists.specs.Lists.{AnyIn, Either, Has}
 use Rattle.dt_lists.proofs.Callers.{all_any, all_get, all_put, any_at, any_from_at, any_get, any_map, any_of_image, any_put, either_nat, has_filter, has_map, has_of_filtered, test_of_any}
 use Rattle.dt_access.specs.Clash.{Bytes}
 use Rattle.dt_access.specs.declared.Part.{Part}
 use Rattle.dt_access.specs.declared.TxnId.{TxnId}
-use Rattle.dt_sched.specs.Views.{HasPart, HasParts, IsClosed, IsComplete, IsPresent, Reaches, View, ids_of, log_at}
+use Rattle.dt_sched.specs.Views.{HasPart, HasParts, IsClosed, IsComplete, IsPresent, View, ids_of, log_at}
 use Rattle.dt_sched.proofs.Callers.{done_where_closed, reach_source}
 use Rattle.dt_events.specs.declared.Event.{Event}
 use Rattle.dt_txn.specs.declared.Outcome.{Outcome}
 use Rattle.dt_txn.specs.declared.outcome.Outcome.TheVariants.{Gave, Aborted, Stale}
 use Rattle.dt_txn.specs.declared.Txn.{Txn}
 use Rattle.dt_txn.specs.Replica.{IsDrained, Replica, done_ids, fronts, taken_from}
-use Rattle.dt_txn.specs.Transaction.{IsValid, homes_of, part_of}
+use Rattle.dt_txn.specs.Transaction.{IsValid, homes_of}
 use Rattle.dt_txn.proofs.Callers.{fronts_at}
 use Rattle.dt_region.specs.Region.{outcome_of}
 use Rattle.dt_cluster.specs.declared.Cluster.{Cluster}
@@ -27,7 +28,7 @@ use Rattle.dt_session.specs.Sessions.{EachNameIsAnswered, MayBeAnswered, MayGo, 
 use Rattle.dt_session.specs.Step.{IsLast, IsStale, MayAnswer, MayEnd, MaySubmit, MayTry, awaited_at}
 use Rattle.dt_session.specs.World.{Node, Place, Submission, World, asked_of, attempt_of, log_of, logs_of, node_at, outcome_at, received_logs, received_of, session_at, submissions, taken_of, txn_of, view_at}
 use Rattle.dt_session.specs.Run.{world_after}
-use Rattle.dt_agreement.specs.Invariant.{IsPartAt, IsPlaceOf, given_by, has_home, requests}
+use Rattle.dt_agreement.specs.Invariant.{IsPartAt, IsPlaceOf, given_by, has_home}
 use Rattle.dt_agreement.proofs.Callers.{WaitsAt, home_region, logs_length, received_log, received_own, session_found, transaction_valid, txn_there, waiting_for}
 use Rattle.dt_merge.specs.WorldRegions.{HasInvariant}
 use Rattle.dt_site.specs.SessionsStandIn.{SessionsStandIn, seat_in}

@@ -1,13 +1,12 @@
 -- All that a phase of the nodes needs and leaves, over the lists of seats: before it, after turns of which some failed, and after
 -- turns of which none did.
-use Rattle.std.proofs.Common.{◌≡◌, ◌<◌, ◌+◌, ◌^◌, ℕ, zero, suc, Bool, true, false, cond, eqb, List, [], ◌∷◌, length, get_or, refl, sym, subst, ◌∙◌, arith}
+use Rattle.std.proofs.Common.{◌≡◌, ◌<◌, ◌+◌, ◌^◌, ℕ, zero, suc, Bool, true, false, cond, eqb, List, [], ◌∷◌, length, get_or, refl, sym, subst, arith}
 use Rattle.std.specs.Prelude.{sum_by}
 use Rattle.std.proofs.lemmas.Bool.{false≢true}
 use Rattle.dt_lists.specs.Lists.{AllIn}
 use Rattle.dt_cluster.specs.declared.Cluster.{Cluster}
 use Rattle.dt_workload.specs.declared.Workload.{Workload}
 use Rattle.dt_run.specs.LinksInner.{BesideSoFar}
-use Rattle.dt_run.specs.NodesView.{NodesView}
 use Rattle.dt_run.specs.Phase.{EndsInStep, IsPhase}
 use Rattle.dt_run.specs.SeatsInner.{AreApart, AreCounted, AreLinked, AreRunning, AreSeated, EachGoes, SeatCan, SeatTurned, SeatView, events_at, nodes_view, seat_at}
 use Rattle.dt_run.specs.Silence.{ComesToAnEnd, IsCounted}

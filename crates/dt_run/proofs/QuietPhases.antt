@@ -1,13 +1,13 @@
 -- What silent phases leave, one after another: exact knowledge, and packets that carry what is first in turn; and where both were
 -- there before a silent phase, all is done.
-use Rattle.std.proofs.Common.{◌≡◌, ◌≢◌, ◌<◌, ◌≤◌, ◌+◌, ◌⊎◌, ℕ, zero, suc, false, sym, ap, subst, ◌∙◌, inl, inr, arith}
+use Rattle.std.proofs.Common.{◌≡◌, ◌≢◌, ◌<◌, ◌≤◌, ◌+◌, ◌⊎◌, ℕ, zero, suc, false, sym, subst, inl, inr, arith}
 use Rattle.std.proofs.Math.Nat.{eq-one_of_dvd-one}
 use Rattle.dt_lists.specs.Lists.{Either, Has}
 use Rattle.dt_events.specs.Stamps.{events_of}
 use Rattle.dt_packet.specs.declared.loss.LossPlan.{LossPlan}
 use Rattle.dt_packet.specs.declared.loss.Verdict.{Verdict}
 use Rattle.dt_packet.specs.declared.loss.Verdict.TheVariants.{Pass, Lost, Twice}
-use Rattle.dt_packet.specs.Loss.{IsEvery, IsVerdict}
+use Rattle.dt_packet.specs.Loss.{IsVerdict}
 use Rattle.dt_packet.proofs.Callers.{one_of_two, one_verdict}
 use Rattle.dt_cluster.specs.Valid.{IsDrop, IsValidCluster}
 use Rattle.dt_cluster.specs.declared.Cluster.{Cluster}
@@ -20,7 +20,7 @@ use Rattle.dt_run.specs.Marks.{plan_of}
 use Rattle.dt_run.specs.NodesStand.{AreInStep, AreNodes, LinkTells}
 use Rattle.dt_run.specs.NodesView.{NodesView, node_in, waiting_at, waiting_between}
 use Rattle.dt_run.specs.Phase.{EndsInStep, IsPhase}
-use Rattle.dt_run.specs.Silence.{HasArrived, IsExact, IsSilent, KnowsExactly, PacketsWait, made_in}
+use Rattle.dt_run.specs.Silence.{HasArrived, IsExact, IsSilent, PacketsWait, made_in}
 use Rattle.dt_run.proofs.AllArrived.{all_answered, all_executed}
 use Rattle.dt_run.proofs.CountedPhases.{made_is, made_now, regions_same}
 use Rattle.dt_run.proofs.Silent.{fits_now, has_arrived, is_put, none_new, number_now, still_exact, told_exact}
@@ -80,7 +80,8 @@ module _ {before after : NodesView} (n : AreNodes before) (sound : before.broken
 
   module _ (silent : IsSilent before after) where
     exact_stays : IsExact before → IsExact after
-    exact_stays x = record { each = λ region other lr lo apart. still_exact n told phase silent region other (down region lr) (down other lo) apart (ends.each region (down region lr)) (x.each region other (down region lr) (down other lo) apart) }
+    exact_stays x = record { each = λ region other lr lo apart.
+        still_exact n told phase silent region other (down region lr) (down other lo) apart (ends.each region (down region lr)) (x.each region other (down region lr) (down other lo) apart) }
 
     exact_told : PacketsWait before → IsExact after
     exact_told p = record { each = λ region other lr lo apart.

@@ -1,8 +1,8 @@
 -- What makes a run end is so before the first phase, and after each phase that does not fail.
-use Rattle.std.proofs.Common.{◌≡◌, ◌≢◌, ◌<◌, ◌≤◌, ◌+◌, ◌*◌, ◌⊎◌, ℕ, zero, suc, false, List, [], ◌∷◌, length, map, get_or, replicate, refl, sym, ap, subst, ◌∙◌, inl, inr, arith}
+use Rattle.std.proofs.Common.{◌≡◌, ◌≢◌, ◌<◌, ◌≤◌, ◌+◌, ◌*◌, ℕ, zero, suc, false, List, [], length, get_or, replicate, refl, sym, ap, ◌∙◌, inl, inr, arith}
 use Rattle.std.specs.List.{range_with_len}
 use Rattle.std.proofs.lemmas.List.{length-map}
-use Rattle.dt_lists.specs.Lists.{AllIn, Either}
+use Rattle.dt_lists.specs.Lists.{Either}
 use Rattle.dt_lists.proofs.Callers.{all_at, all_image, all_put, either_nat, get_of_map}
 use Rattle.dt_events.specs.declared.Stamped.{Stamped}
 use Rattle.dt_events.specs.Stamps.{events_of}
@@ -18,7 +18,7 @@ use Rattle.dt_node.specs.Standing.{AreTold}
 use Rattle.dt_run.specs.Done.{AreDone}
 use Rattle.dt_run.specs.Marks.{kept_of}
 use Rattle.dt_run.specs.NodesStand.{AreInStep, AreNodes}
-use Rattle.dt_run.specs.NodesView.{NodesView, marks_at, no_running_node, node_in, opening_nodes, waiting_at}
+use Rattle.dt_run.specs.NodesView.{NodesView, no_running_node, node_in, opening_nodes, waiting_at}
 use Rattle.dt_run.specs.Phase.{EndsInStep, IsPhase}
 use Rattle.dt_run.specs.Silence.{ComesToAnEnd, IsExact, IsSilent, PacketsWait, counts_in, kept_in, made_in, most_phases, quiet_after, quiet_in}
 use Rattle.dt_run.proofs.CountedPhases.{all_of_all, kept_up, made_now, quiet_more, quiet_none, silent_of, sum_same}

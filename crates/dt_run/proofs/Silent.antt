@@ -1,13 +1,13 @@
 -- A silent phase changes nothing but what nodes know: each node stands in the world in which it stood, what it knew exactly it
 -- still knows so, and it knows exactly what packets told it that waited.
-use Rattle.std.proofs.Common.{◌≡◌, ◌≢◌, ◌<◌, ◌≤◌, ◌+◌, ◌-◌, ℕ, zero, suc, eqb, List, [], ◌∷◌, ◌++◌, length, map, max, get_or, drop, take, min, refl, sym, ap, subst, ◌∙◌, inl, inr, arith, append-nil, eq-eqb}
+use Rattle.std.proofs.Common.{◌≡◌, ◌≢◌, ◌<◌, ◌≤◌, ◌+◌, ◌-◌, ℕ, zero, suc, eqb, List, [], ◌∷◌, ◌++◌, length, map, max, get_or, drop, min, refl, sym, ap, subst, ◌∙◌, inl, inr}
+use Rattle.std.proofs.Common.{arith, append-nil, eq-eqb}
 use Rattle.std.specs.Prelude.{flat_map}
 use Rattle.std.proofs.lemmas.List.{drop_all, length-drop, length-take}
-use Rattle.dt_lists.specs.Lists.{AllIn, EachThen, Has}
+use Rattle.dt_lists.specs.Lists.{EachThen, Has}
 use Rattle.dt_lists.proofs.Callers.{all_get, any_append_left, any_append_right, get_of_map, has_filter, has_map}
 use Rattle.dt_access.specs.declared.Part.{Part}
 use Rattle.dt_access.specs.declared.TxnId.{TxnId}
-use Rattle.dt_events.specs.declared.Stamped.{Stamped}
 use Rattle.dt_events.specs.Stamps.{events_of}
 use Rattle.dt_sched.specs.Views.{log_at}
 use Rattle.dt_txn.specs.Replica.{Replica, taken_from}
@@ -19,15 +19,15 @@ use Rattle.dt_cluster.specs.declared.Cluster.{Cluster}
 use Rattle.dt_session.specs.World.{Node, World, node_at, received_of, taken_of}
 use Rattle.dt_session.specs.Run.{world_after}
 use Rattle.dt_site.specs.Site.{node_of}
-use Rattle.dt_merge.specs.Merge.{HasLowerStamp, kept_at, those_at}
+use Rattle.dt_merge.specs.Merge.{HasLowerStamp, those_at}
 use Rattle.dt_node.specs.NodeView.{NodeView, most_items, new_items, number_of, packet_for, stretch_from}
 use Rattle.dt_node.specs.Sending.{copies_of}
 use Rattle.dt_node.specs.Standing.{AreTold, NodeFits}
 use Rattle.dt_node.specs.Turn.{HasHeard, IsTaken, greatest, those_from}
 use Rattle.dt_run.specs.Marks.{kept_of, plan_of}
 use Rattle.dt_run.specs.NodesStand.{AreNodes, IsWaiting}
-use Rattle.dt_run.specs.NodesView.{NodesView, kept_by, link_to, no_running_node, node_in, waiting_at, waiting_between}
-use Rattle.dt_run.specs.Phase.{EndsInStep, IsPhase, TurnsWhole}
+use Rattle.dt_run.specs.NodesView.{NodesView, link_to, no_running_node, node_in, waiting_at, waiting_between}
+use Rattle.dt_run.specs.Phase.{IsPhase, TurnsWhole}
 use Rattle.dt_run.specs.Silence.{HasArrived, IsSilent, KnowsExactly}
 use Rattle.dt_run.proofs.Phasing.{goes, received_here, taken_here}
 use Rattle.dt_run.proofs.Snapshots.{asked_long, entries_long, first_asked, first_entry}
@@ -137,7 +137,8 @@ module _ {before after : NodesView} (n : AreNodes before)
           let t : get_or (a region).took other 0 ≡ greatest (get_or (b region).took other 0) (map (λ (p : Packet). p.took) from_other) = heard.took in
           let r : get_or (a region).received other 0 ≡ greatest (get_or (b region).received other 0) (map (λ (p : Packet). p.received) from_other) = heard.received in
           let u : get_or (b region).took other 0 ≤ greatest (get_or (b region).took other 0) (map (λ (p : Packet). p.took) from_other) = above_first (get_or (b region).took other 0) (map (λ (p : Packet). p.took) from_other) in
-          let v : get_or (b region).received other 0 ≤ greatest (get_or (b region).received other 0) (map (λ (p : Packet). p.received) from_other) = above_first (get_or (b region).received other 0) (map (λ (p : Packet). p.received) from_other) in
+          let v : get_or (b region).received other 0 ≤ greatest (get_or (b region).received other 0) (map (λ (p : Packet). p.received) from_other) =
+          above_first (get_or (b region).received other 0) (map (λ (p : Packet). p.received) from_other) in
           let x = k.took in let y = k.received in
           let p : taken_from (a other).site.region.state.here region ≡ taken_from (b other).site.region.state.here region = ap (λ (s : Replica). taken_from s region) (here_same other lo) in
           let q : length (log_at (a other).site.region.state.logs region) ≡ length (log_at (b other).site.region.state.logs region) = log_same other region lo lr in

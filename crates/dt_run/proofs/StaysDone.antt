@@ -1,21 +1,20 @@
 -- What is done stays done: where all calls are answered no session goes on any more, so nothing is submitted, and what a region
 -- has executed it has executed for good.
-use Rattle.std.proofs.Common.{◌≡◌, ◌≢◌, ◌<◌, ◌≤◌, ◌+◌, ◌⊎◌, ℕ, Bool, true, false, cond, ltb, leb, ◌&&◌, List, [], ◌∷◌, ◌++◌, length, map, set, Option, None, Some, option_map, refl, sym, ap, subst, ◌∙◌, inl, inr, arith}
-use Rattle.std.proofs.lemmas.List.{get_or-set_same, get_or-set_other, map-append}
+use Rattle.std.proofs.Common.{◌≡◌, ◌<◌, ℕ, Bool, true, false, cond, ltb, leb, ◌&&◌, List, [], ◌∷◌, ◌++◌, length, map, Option, None, Some, option_map, refl}
+use Rattle.std.proofs.Common.{sym, ap, subst, ◌∙◌, inl, inr, arith}
+use Rattle.std.proofs.lemmas.List.{get_or-set_same, get_or-set_other}
 use Rattle.dt_lists.specs.Lists.{AllIn, Either, Has, IsFront}
-use Rattle.dt_lists.proofs.Callers.{all_get, all_image, all_put, any_front, either_nat, field_of_set, front_append, front_map, front_refl, front_trans}
+use Rattle.dt_lists.proofs.Callers.{all_get, all_put, any_front, either_nat, field_of_set, front_append, front_map, front_refl, front_trans}
 use Rattle.dt_access.specs.Clash.{Bytes}
 use Rattle.dt_access.specs.declared.TxnId.{TxnId}
 use Rattle.dt_events.specs.declared.Event.{Event}
 use Rattle.dt_events.specs.declared.Event.TheVariants.{Submit, Append, Deliver, Insert, Resolve, Execute, Answer}
-use Rattle.dt_events.specs.declared.Stamped.{Stamped}
 use Rattle.dt_events.specs.Events.{region_of}
 use Rattle.dt_events.specs.Stamps.{events_of}
 use Rattle.dt_proc.specs.Tree.{ProcTree}
 use Rattle.dt_txn.specs.declared.Outcome.{Outcome}
 use Rattle.dt_txn.specs.declared.Txn.{Txn}
-use Rattle.dt_txn.specs.Replica.{Replica, after_taking, done_ids, executed, stepped}
-use Rattle.dt_txn.specs.Transaction.{part_of}
+use Rattle.dt_txn.specs.Replica.{Replica, done_ids, executed}
 use Rattle.dt_packet.specs.declared.packet.Packet.{Packet}
 use Rattle.dt_cluster.specs.declared.Cluster.{Cluster}
 use Rattle.dt_cluster.specs.Valid.{IsValidCluster}
@@ -23,9 +22,9 @@ use Rattle.dt_workload.specs.declared.Session.{Session}
 use Rattle.dt_workload.specs.declared.Workload.{Workload}
 use Rattle.dt_workload.specs.Valid.{IsValidWorkload}
 use Rattle.dt_session.specs.declared.sessions.Seat.{Seat}
-use Rattle.dt_session.specs.Sessions.{EachNameIsAnswered, SessionsView, seat_of}
-use Rattle.dt_session.specs.Step.{IsLegal, MayAnswer, MayEnd, MaySubmit, MayTry, awaited_at, next, placed, received}
-use Rattle.dt_session.specs.World.{Node, Place, World, log_of, no_node, node_at, received_of, session_at, txn_of, with_node}
+use Rattle.dt_session.specs.Sessions.{EachNameIsAnswered, seat_of}
+use Rattle.dt_session.specs.Step.{IsLegal, MayAnswer, MayEnd, MaySubmit, MayTry, awaited_at, next, received}
+use Rattle.dt_session.specs.World.{Node, Place, World, no_node, node_at, received_of, session_at, txn_of, with_node}
 use Rattle.dt_session.specs.Run.{AreLegalFrom, world_after, world_from}
 use Rattle.dt_agreement.specs.Invariant.{IsPlaceOf}
 use Rattle.dt_agreement.proofs.Callers.{WaitsAt, append_cases, next_keeps, ordered, session_found, waiting_for, world_from_append}
@@ -36,7 +35,7 @@ use Rattle.dt_site.specs.Site.{attempts, node_of}
 use Rattle.dt_site.specs.declared.Origin.{Origin}
 use Rattle.dt_node.specs.NodeView.{NodeView, new_items, number_of}
 use Rattle.dt_node.specs.Standing.{AreTold, NodeFits}
-use Rattle.dt_run.specs.Done.{AreDone, HasDone}
+use Rattle.dt_run.specs.Done.{AreDone}
 use Rattle.dt_run.specs.NodesStand.{AreNodes}
 use Rattle.dt_run.specs.NodesView.{NodesView, node_in, waiting_at}
 use Rattle.dt_run.specs.Phase.{IsPhase, TurnsOnce}
