@@ -1,7 +1,8 @@
 -- All that a phase of the nodes needs and leaves, over the lists of seats: before it, after turns of which some failed, and after
 -- turns of which none did.
-use Rattle.std.proofs.Common.{◌≡◌, ◌<◌, ◌+◌, ◌^◌, ℕ, zero, suc, Bool, true, false, cond, eqb, List, [], ◌∷◌, length, get_or, refl, sym, subst, arith}
+use Rattle.std.proofs.Common.{◌≡◌, ◌<◌, ◌+◌, ◌^◌, ℕ, zero, suc, Bool, true, false, cond, eqb, List, [], ◌∷◌, length, ◌++◌, take, get_or, refl, sym, subst, arith}
 use Rattle.std.specs.Prelude.{sum_by}
+use Rattle.std.proofs.Math.Seq.{take-append_seam}
 use Rattle.std.proofs.lemmas.Bool.{false≢true}
 use Rattle.dt_lists.specs.Lists.{AllIn}
 use Rattle.dt_cluster.specs.declared.Cluster.{Cluster}
@@ -22,6 +23,10 @@ get_same : {A : Type 0} (xs : List A) (k : ℕ) (d e : A) → k < length xs → 
 get_same [] k d e lt = absurd (omega (arith, lt))
 get_same (x ∷ xs) zero d e lt = refl
 get_same (x ∷ xs) (suc k) d e lt = get_same xs k d e (omega (arith, lt))
+
+-- a list that is written over a longer one is its front
+pub front_whole : {A : Type 0} (n : ℕ) (xs ys : List A) → length xs ≡ n → take n (xs ++ ys) ≡ xs
+front_whole n xs ys e = subst (λ m. take m (xs ++ ys) ≡ xs) e (take-append_seam xs ys)
 
 module _ {cluster : Cluster} {workload : Workload} {seats : List SeatView} {broken : Bool} {counts : Counts} (r : AreRunning cluster workload seats broken counts) (sound : broken ≡ false) where
   -- each seat may make its turn
