@@ -80,12 +80,16 @@ module _ {before after : NodesView} (n : AreNodes before) (sound : before.broken
 
   module _ (silent : IsSilent before after) where
     exact_stays : IsExact before → IsExact after
-    exact_stays x = record { each = λ region other lr lo apart.
-        still_exact n told phase silent region other (down region lr) (down other lo) apart (ends.each region (down region lr)) (x.each region other (down region lr) (down other lo) apart) }
+    exact_stays x = record {
+      each = λ region other lr lo apart.
+          still_exact n told phase silent region other (down region lr) (down other lo) apart (ends.each region (down region lr)) (x.each region other (down region lr) (down other lo) apart);
+    }
 
     exact_told : PacketsWait before → IsExact after
-    exact_told p = record { each = λ region other lr lo apart.
-        told_exact n told phase silent region other (down region lr) (down other lo) apart (ends.each region (down region lr)) (waits p other region (down other lo) (down region lr) (λ e. apart (sym e))) }
+    exact_told p = record {
+      each = λ region other lr lo apart.
+          told_exact n told phase silent region other (down region lr) (down other lo) apart (ends.each region (down region lr)) (waits p other region (down other lo) (down region lr) (λ e. apart (sym e)));
+    }
 
     -- after one silent phase
     pub exact_or_put : IsExact after ⊎ PacketsWait after
