@@ -36,6 +36,16 @@ executable_held s sound id executable =
     let k : IsHeldPart s r.0 r.1 = view_parts s sound r.0 r.1 r.2 in
     (k.0, ap (held s) (sym r.3) ∙ k.1)
 
+-- what contracts see as executable is so for the scheduler
+pub can_seen : {r : RegionView} {s : RegionState} {events : List Stamped} {heard room : ℕ} {seen : Sched} → IsSeenAs s events heard room seen r → (id : TxnId)
+    → CanExecute (sched_of r.state.logs r.state.here) id → CanExecute seen id
+can_seen stands id can = subst (λ x. CanExecute x id) (sym (stands.well.1 ∙ ap (λ (x : RegionView). sched_of x.state.logs x.state.here) stands.view)) can
+
+-- and the other way round
+pub can_shown : {r : RegionView} {s : RegionState} {events : List Stamped} {heard room : ℕ} {seen : Sched} → IsSeenAs s events heard room seen r → (id : TxnId)
+    → CanExecute seen id → CanExecute (sched_of r.state.logs r.state.here) id
+can_shown stands id can = subst (λ x. CanExecute x id) (stands.well.1 ∙ ap (λ (x : RegionView). sched_of x.state.logs x.state.here) stands.view) can
+
 ids_done : (done : List (TxnId × Outcome)) (d : TxnId × Outcome) → map (λ x. x.0) (done ++ d ∷ []) ≡ map (λ x. x.0) done ++ d.0 ∷ []
 ids_done [] d = refl
 ids_done (x ∷ done) d = ap (λ l. x.0 ∷ l) (ids_done done d)

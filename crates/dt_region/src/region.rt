@@ -483,11 +483,11 @@ impl<S: Scheduler> Region<S> {
         ensures err { OnErr result (self.new ≡ self.old) }
         ensures sound { IsSoundRegion self.new.state }
     {
+        self.events.reserve(runs as usize)?;
+        self.done.reserve(runs as usize)?;
         let Some(changes) = runs.checked_mul(CHANGES) else {
             return Err(NoMemory);
         };
-        self.events.reserve(runs as usize)?;
-        self.done.reserve(runs as usize)?;
         self.table.reserve(changes)?;
         self.scheduler.reserve(alloc, runs)?;
         self.room = runs;

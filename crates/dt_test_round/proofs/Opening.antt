@@ -22,7 +22,7 @@ no_rows_fit = record {
 }
 
 -- a region that has done nothing was fed nothing
-pub fed_none : (procs : List ProcTree) (r : RegionView) (table : Table) → table ≡ opening 1 4 [] [] → r ≡ record { state = opening_state 3 4 table; events = []; heard = 0 } → WasFed procs 0 r
+pub fed_none : (procs : List ProcTree) (r : RegionView) (table : Table) → table ≡ opening 1 4 [] [] → r ≡ record { state = opening_state 3 4 table; events = []; heard = 0; room = 0 } → WasFed procs 0 r
 fed_none procs r table opened is = subst (WasFed procs 0) (sym is) (record {
   holds = λ id txn e. absurd (none-some txn e);
   unmoved = λ key. subst (λ t. counter_of t key ≡ 0) (sym opened) (ap length (moves_of-opening 1 4 [] [] key));
