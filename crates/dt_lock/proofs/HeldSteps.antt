@@ -2,6 +2,7 @@
 use Rattle.std.proofs.Common.{◌≡◌, ◌≢◌, ◌<◌, ◌≤◌, ◌+◌, ◌-◌, ℕ, Bool, true, false, List, [], ◌∷◌, ◌++◌, length, map, max, Option, Some, None, Result, Ok, Err, refl, sym, ap, ap₂, subst, ◌∙◌, inl, inr, arith}
 use Rattle.std.proofs.lemmas.Bool.{false_from_ne_true}
 use Rattle.std.proofs.lemmas.List.{length-append}
+use Rattle.std.proofs.lemmas.Option.{same_Some}
 use Rattle.std.proofs.Math.Nat.{le-max_right}
 use Rattle.dt_lists.specs.Lists.{AllIn, EachThen, Has}
 use Rattle.dt_lists.proofs.Callers.{all_get, all_map, all_more, filter_all, filter_each}
@@ -11,25 +12,26 @@ use Rattle.dt_access.specs.declared.TxnId.{TxnId}
 use Rattle.dt_events.specs.declared.Event.{Event}
 use Rattle.dt_events.specs.declared.Event.TheVariants.{Insert, Resolve, Execute}
 use Rattle.dt_events.specs.Events.{region_of}
-use Rattle.dt_sched.specs.Sched.{CanExecute}
+use Rattle.dt_sched.specs.Sched.{CanExecute, CanResolve}
 use Rattle.dt_serial.proofs.Callers.{seen_apart}
 use Rattle.dt_proc.specs.Tree.{ProcTree}
 use Rattle.dt_table.specs.Table.{Table}
 use Rattle.dt_txn.specs.declared.txn.Txn.{Txn}
 use Rattle.dt_txn.specs.declared.outcome.Seen.{Seen}
 use Rattle.dt_txn.specs.Transaction.{IsValid, used_of}
-use Rattle.dt_txn.specs.Execution.{see}
+use Rattle.dt_txn.specs.Execution.{execution, one, see}
 use Rattle.dt_txn.specs.Replica.{executed}
 use Rattle.dt_txn.specs.Serial.{after}
 use Rattle.dt_region.specs.Region.{RegionState, RegionView, held, sched_of}
 use Rattle.dt_region.specs.Rules.{MakesStep, MayMake, after_finishing, after_step, with_event}
+use Rattle.dt_region.specs.Conditions.{ComesTo, HasRun}
 use Rattle.dt_region.specs.Sound.{IsSoundRegion}
 use Rattle.dt_region.proofs.Callers.{executable_held, execute_leaves, insert_leaves, resolve_leaves, step_sound}
 use Rattle.dt_round.specs.Rounds.{CanRound}
 use Rattle.dt_round.proofs.Callers.{at_first, one_more, whatever_room}
 use Rattle.dt_lock.specs.declared.running.Running.{Running}
-use Rattle.dt_lock.specs.Claims.{ClaimView, IsClaim}
-use Rattle.dt_lock.specs.Held.{AreApart, AreClashing, HeldView, IsBusy, IsClaimed, IsHeld, noted, sight_in, uses_in, without}
+use Rattle.dt_lock.specs.Claims.{FinishedView, IsClaim, IsFinished}
+use Rattle.dt_lock.specs.Held.{AreApart, AreClashing, HeldView, IsBusy, IsHeld, noted, sight_in, uses_in, without}
 use Rattle.dt_lock.proofs.Running.{apart_more, fewer_left, left_without, one_less_left, touch_not}
 
 -- a region that comes behind its lock
@@ -148,3 +150,29 @@ module _ (procs : List ProcTree) (before : RegionView) (v : HeldView) (h : IsHel
       apart = filter_each (AreApart before.state) _ v.running h.apart;
       room = let less = one_less_left r.id v.running r there refl in let room = h.room in omega (arith, less, room);
     })
+
+    -- there is room for it
+    pub has_room : 0 < v.region.room
+    has_room = let less = one_less_left r.id v.running r there refl in let room = h.room in omega (arith, less, room)
+
+  -- what is finished of a claim that is running is what its transaction comes to now
+  module _ (f : FinishedView) (there : Has v.running (noted f.claim)) (claim : IsClaim procs before.state f.claim) (finished : IsFinished procs f) where
+    sees_now : f.claim.seen ≡ see f.claim.txn v.region.state.here.table
+    sees_now = all_get _ v.running h.rows (noted f.claim) there ∙ ap (λ o. sight_in o v.region.state.here.table) claim.known
+
+    pub comes_now : ComesTo procs v.region.state f.claim.txn.id f.outcome f.effect
+    comes_now = record {
+      holds = h.underway.holds;
+      values = λ txn e.
+          (let same : f.claim.txn ≡ txn = same_Some f.claim.txn txn (sym claim.known ∙ sym (held_stays f.claim.txn.id) ∙ e) in
+          finished ∙ ap (execution procs f.claim.txn) sees_now ∙ ap (λ x. one procs x v.region.state.here.table) same);
+    }
+
+    pub has_run : HasRun v.region.state f.claim.txn.id f.outcome f.effect
+    has_run = record { procs = procs; comes = comes_now }
+
+-- a class that the region was told is resolved
+pub resolves_some : (r later : RegionView) (ids given : List TxnId) (on : Bool) → CanResolve (sched_of r.state.logs r.state.here) ids → given ≡ ids
+    → MakesStep [] r (Resolve r.state.number given) (Ok on) later → MakesStep [] r (Resolve r.state.number ids) (Ok true) later
+resolves_some r later ids given true can same makes = subst (λ l. MakesStep [] r (Resolve r.state.number l) (Ok true) later) same makes
+resolves_some r later ids given false can same makes = absurd (makes.0 (subst (λ l. CanResolve (sched_of r.state.logs r.state.here) l) (sym same) can))

@@ -1,3 +1,4 @@
 pub mod Running
 pub mod HeldSteps
 pub mod Free
+pub mod Empty

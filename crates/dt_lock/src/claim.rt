@@ -123,9 +123,9 @@ impl<N: Named> Finished<N> {
     {
         let Finished {
             claim: _,
-            outcome,
-            effect,
+            outcome: came_to,
+            effect: changes,
         } = self;
-        (outcome, effect)
+        (came_to, changes)
     }
 }

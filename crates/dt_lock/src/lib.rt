@@ -19,15 +19,20 @@
 //! round, and the procedures. Read next: `specs/Held.antt`, for what the lock keeps.
 #![tactic(auto)]
 
+mod by;
 mod claim;
 mod clashes;
 mod gate;
 mod held;
+mod jobs;
 mod named;
 mod running;
+mod threaded;
 
+pub use by::By;
 pub use claim::{Claim, Finished};
 pub use gate::{Gate, NoGate};
 pub use held::Held;
 pub use named::Named;
 pub use running::Running;
+pub use threaded::round;
