@@ -1,6 +1,7 @@
-use Rattle.std.proofs.Common.{◌≡◌, Ok, sym, ap, subst, ◌∙◌}
+use Rattle.std.proofs.Common.{◌≡◌, false, Ok, sym, ap, subst, ◌∙◌}
 use Rattle.dt_region.specs.Region.{RegionView}
 use Rattle.dt_round.specs.Steps.{IsOwnStep, StepsOn}
+use Rattle.dt_round.specs.Underway.{IsUnderway}
 use Rattle.dt_round.proofs.alone.finish.Goals as goal
 use Rattle.dt_round.proofs.Underway.{moves_left, one_less, one_more, stamp_left}
 
@@ -32,3 +33,11 @@ steps-preserved g c =
       underway = λ entry u. one_more c.args.procs.now entry c.steps.region (c.steps.invariant.underway entry u) c.step.new.region made c.in_ok-step.ensures.sound;
       regions = c.steps.invariant.regions ∙ sym (ap (λ (r : RegionView). r.state.regions) made.makes.1);
     }
+
+pub returns-in_err-step-clause-underway : goal.returns-in_err-step-clause-underway
+returns-in_err-step-clause-underway g c entry u = subst (IsUnderway c.args.procs.now entry) (sym c.in_err-step.ensures.steps) (c.steps.invariant.underway entry u)
+
+pub returns-then-not-branch-clause-underway : goal.returns-then-not-branch-clause-underway
+returns-then-not-branch-clause-underway g c entry u =
+    let same : StepsOn c.args.procs.now c.steps.region (Ok false) c.step.new.region = subst (λ b. StepsOn c.args.procs.now c.steps.region (Ok b) c.step.new.region) c.if-not-branch.true c.in_ok-step.ensures.steps in
+    subst (IsUnderway c.args.procs.now entry) (sym same.1) (c.steps.invariant.underway entry u)
