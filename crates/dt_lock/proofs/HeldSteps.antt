@@ -13,7 +13,7 @@ use Rattle.dt_events.specs.declared.Event.{Event}
 use Rattle.dt_events.specs.declared.Event.TheVariants.{Insert, Resolve, Execute}
 use Rattle.dt_events.specs.Events.{region_of}
 use Rattle.dt_sched.specs.Sched.{CanExecute, CanResolve}
-use Rattle.dt_serial.proofs.Callers.{seen_apart}
+use Rattle.dt_lock.proofs.Unseen.{seen_apart}
 use Rattle.dt_proc.specs.Tree.{ProcTree}
 use Rattle.dt_table.specs.Table.{Table}
 use Rattle.dt_txn.specs.declared.txn.Txn.{Txn}
@@ -32,7 +32,7 @@ use Rattle.dt_round.proofs.Callers.{at_first, one_more, whatever_room}
 use Rattle.dt_lock.specs.declared.running.Running.{Running}
 use Rattle.dt_lock.specs.Claims.{FinishedView, IsClaim, IsFinished}
 use Rattle.dt_lock.specs.Held.{AreApart, AreClashing, HeldView, IsBusy, IsHeld, noted, sight_in, uses_in, without}
-use Rattle.dt_lock.proofs.Running.{apart_more, fewer_left, left_without, one_less_left, touch_not}
+use Rattle.dt_lock.proofs.Touching.{apart_more, fewer_left, left_without, one_less_left, touch_not}
 
 -- a region that comes behind its lock
 pub held_at_first : (procs : List ProcTree) (before : RegionView) → CanRound procs before → IsSoundRegion before.state → IsHeld procs before (record { region = before; running = [] })

@@ -1,4 +1,5 @@
-pub mod Running
+pub mod Unseen
+pub mod Touching
 pub mod HeldSteps
 pub mod Free
 pub mod Empty

@@ -13,7 +13,7 @@ use crate::claim::{Claim, Finished};
 use crate::clashes::clash;
 use crate::named::Named;
 use crate::running::{Running, is_running, note, take_off};
-use dt_access::{Access, Ids, TxnId};
+use dt_access::{Access, Ids, TryCopy, TxnId};
 use dt_region::Region;
 use dt_sched::Scheduler;
 use dt_text::NoMemory;

@@ -22,7 +22,7 @@ use std::thread::Threads;
 /// Makes a round of a region by threads, of which so many work: they insert, resolve and execute, by these procedures, until
 /// nothing is left, and the calling thread finishes what they leave. The promise is that of `Rounds`; it doesn't depend on how
 /// many threads there are, nor on the schedule. No thread is started where there is at most one thing to do.
-pub fn round<R: Threads + Wait + Sync, S: Scheduler + Send, G: Gate>(
+pub fn round<R: Threads + Wait + Sync, S: Scheduler + Drop + Send, G: Gate>(
     rt: &R,
     alloc: Global,
     region: &mut Region<S>,
@@ -47,7 +47,7 @@ fn empty_region<S: Scheduler>(alloc: Global) -> Result<Region<S>, NoMemory> {
 }
 
 // Makes the round that `N` names. Gives the region back, and whether there was memory to finish.
-fn round_named<N: Named + Send + Sync, R: Threads + Wait + Sync, S: Scheduler + Send, G: Gate>(
+fn round_named<N: Named + Send + Sync, R: Threads + Wait + Sync, S: Scheduler + Drop + Send, G: Gate>(
     rt: &R,
     alloc: Global,
     region: Region<S>,
@@ -69,7 +69,7 @@ fn round_named<N: Named + Send + Sync, R: Threads + Wait + Sync, S: Scheduler + 
 }
 
 // Has the jobs done, by a thread each. Where no thread can be started, the calling one does what it would have done.
-fn by_threads<R: Threads + Wait + Sync, S: Scheduler + Send, N: Named + Send + Sync, G: Gate>(
+fn by_threads<R: Threads + Wait + Sync, S: Scheduler + Drop + Send, N: Named + Send + Sync, G: Gate>(
     rt: &R,
     alloc: Global,
     held: Held<S, N>,
@@ -87,7 +87,7 @@ fn by_threads<R: Threads + Wait + Sync, S: Scheduler + Send, N: Named + Send + S
 }
 
 // Takes the region out of its lock, and finishes the round on the calling thread.
-fn finish_held<S: Scheduler, N: Named>(
+fn finish_held<S: Scheduler + Drop, N: Named>(
     alloc: Global,
     held: Held<S, N>,
     procs: &Procs,

@@ -18,7 +18,7 @@ use std::test::Fail;
 use std::thread::Threads;
 
 /// A region is fed these parts and makes a round by threads: its events from then on.
-fn go_on<R: Threads + Wait + Sync, S: Scheduler + Send, G: Gate>(
+fn go_on<R: Threads + Wait + Sync, S: Scheduler + Drop + Send, G: Gate>(
     rt: &R,
     alloc: Global,
     region: &mut Region<S>,
@@ -35,7 +35,7 @@ fn go_on<R: Threads + Wait + Sync, S: Scheduler + Send, G: Gate>(
 }
 
 /// What region 3 of four makes of these parts.
-fn told<R: Threads + Wait + Sync, S: Scheduler + Send + Drop, G: Gate>(
+fn told<R: Threads + Wait + Sync, S: Scheduler + Drop + Send, G: Gate>(
     rt: &R,
     alloc: Global,
     rows: &[Row],

@@ -18,7 +18,7 @@ use std::marker::Brand;
 use std::test::Fail;
 
 /// A claim that there is.
-fn claimed<S: Scheduler, N: Named>(
+fn claimed<S: Scheduler + Drop, N: Named>(
     alloc: Global,
     held: &mut Held<S, N>,
 ) -> Result<Claim<N>, Fail>
@@ -41,7 +41,7 @@ fn worked<N: Named>(alloc: Global, claim: Claim<N>, procs: &Procs) -> Result<Fin
 }
 
 /// A region behind its lock that does not leave it, since a claim is running.
-fn stayed<S: Scheduler, N: Named>(held: Held<S, N>) -> Result<Held<S, N>, Fail>
+fn stayed<S: Scheduler + Drop, N: Named>(held: Held<S, N>) -> Result<Held<S, N>, Fail>
     ensures { IfOk result (λ stayed. stayed ≡ held) }
 {
     match held.leave() {
@@ -51,7 +51,7 @@ fn stayed<S: Scheduler, N: Named>(held: Held<S, N>) -> Result<Held<S, N>, Fail>
 }
 
 /// A region that leaves its lock, since no claim is running.
-fn left<S: Scheduler, N: Named>(held: Held<S, N>) -> Result<Region<S>, Fail>
+fn left<S: Scheduler + Drop, N: Named>(held: Held<S, N>) -> Result<Region<S>, Fail>
     ensures { IfOk result (λ region. region ≡ held.region) }
 {
     match held.leave() {
@@ -61,7 +61,7 @@ fn left<S: Scheduler, N: Named>(held: Held<S, N>) -> Result<Region<S>, Fail>
 }
 
 /// What is finished of a claim in a twin, of which the claim is cancelled then; and the twin's region, as it was.
-fn finished_in_twin<S: Scheduler, N: Named>(
+fn finished_in_twin<S: Scheduler + Drop, N: Named>(
     alloc: Global,
     twin: Held<S, N>,
     procs: &Procs,
@@ -81,7 +81,7 @@ fn finished_in_twin<S: Scheduler, N: Named>(
 
 /// Two claims; a third there is not, and while they run the region stays behind its lock. The one of which a twin was finished
 /// is committed once, and not again by the twin; the other is cancelled.
-fn go_on<S: Scheduler, N: Named>(
+fn go_on<S: Scheduler + Drop, N: Named>(
     alloc: Global,
     held: Held<S, N>,
     twin: Finished<N>,
@@ -109,7 +109,7 @@ fn go_on<S: Scheduler, N: Named>(
 }
 
 /// The steps of a region that is named so, with a twin of the same name.
-fn steps_named<S: Scheduler, N: Named>(
+fn steps_named<S: Scheduler + Drop, N: Named>(
     alloc: Global,
     region: Region<S>,
     procs: &Procs,
