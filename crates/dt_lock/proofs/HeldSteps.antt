@@ -13,7 +13,7 @@ use Rattle.dt_events.specs.declared.Event.{Event}
 use Rattle.dt_events.specs.declared.Event.TheVariants.{Insert, Resolve, Execute}
 use Rattle.dt_events.specs.Events.{region_of}
 use Rattle.dt_sched.specs.Sched.{CanExecute, CanResolve}
-use Rattle.dt_lock.proofs.Unseen.{seen_apart}
+use Rattle.dt_serial.proofs.Callers.{seen_apart}
 use Rattle.dt_proc.specs.Tree.{ProcTree}
 use Rattle.dt_table.specs.Table.{Table}
 use Rattle.dt_txn.specs.declared.txn.Txn.{Txn}

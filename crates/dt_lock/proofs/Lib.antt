@@ -1,4 +1,3 @@
-pub mod Unseen
 pub mod Touching
 pub mod HeldSteps
 pub mod Free
