@@ -226,7 +226,7 @@ module _ {cluster : Cluster} {workload : Workload} {events : List Event} {a : No
     logs = ap (λ s. s.logs) state ∙ passed.on_way.logs;
     origins = f.site.origins ∙ sym (ap (λ s. length s.submitted) state);
     known = λ id txn h. passed.on_way.known id txn (subst (λ (s : RegionState). held s id ≡ Some txn) state h);
-    node = ap (λ s. node_of (in_region a.site (record { state = s; events = r.events; heard = r.heard }))) state ∙ sym passed.on_way.node;
+    node = ap (λ s. node_of (in_region a.site (record r { state = s }))) state ∙ sym passed.on_way.node;
   }
 
   -- the round goes on from the events that there were

@@ -15,4 +15,6 @@ pub mod Rule5Resolve
 pub mod Rule6Execute
 pub mod Drained
 pub mod Stamps
+pub mod Stock
 pub mod StepSound
+pub mod Leaving

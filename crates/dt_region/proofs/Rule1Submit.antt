@@ -74,7 +74,7 @@ module _ (procs : List ProcTree) (s : RegionState) (sound : IsSoundRegion s) (ra
 
 -- The region has the state s and these events, and contracts see it as r: what the call makes of its fields is what the
 -- rule says.
-module _ (procs : List ProcTree) (r : RegionView) (s : RegionState) (events : List Stamped) (heard : ℕ) (seen : Sched) (stands : IsSeenAs s events heard seen r)
+module _ (procs : List ProcTree) (r : RegionView) (s : RegionState) (events : List Stamped) (heard room : ℕ) (seen : Sched) (stands : IsSeenAs s events heard room seen r)
     (rank : ℕ) (body : Body) (fits : BodyFits procs r.state.here.table.version r.state.regions body) where
   fits_here : BodyFits procs s.here.table.version s.regions body
   fits_here = subst (λ x. BodyFits procs x.state.here.table.version x.state.regions body) (sym stands.view) fits
@@ -102,7 +102,7 @@ module _ (procs : List ProcTree) (r : RegionView) (s : RegionState) (events : Li
 
     pub submit_made : (session : List ℕ) (stamp : ℕ) (is_next : stamp ≡ latest_stamp r + 1) (after : List Stamped)
         → after ≡ events ++ under stamp (Submit s.number session) ∷ []
-        → MakesSubmit procs r session rank body (Ok id) (record { state = made submitted asked; events = after; heard = heard })
+        → MakesSubmit procs r session rank body (Ok id) (record { state = made submitted asked; events = after; heard = heard; room = room })
     submit_made session stamp is_next after kept =
-        subst (λ x. MakesSubmit procs x session rank body (Ok id) (record { state = made submitted asked; events = after; heard = heard })) stands.view
-        (i, λ j. record { state = submit_is j; events = kept_under stands (Submit s.number session) stamp after is_next kept j; heard = heard })
+        subst (λ x. MakesSubmit procs x session rank body (Ok id) (record { state = made submitted asked; events = after; heard = heard; room = room })) stands.view
+        (i, λ j. record { state = submit_is j; events = kept_under stands (Submit s.number session) stamp after is_next kept j; heard = heard; room = room })

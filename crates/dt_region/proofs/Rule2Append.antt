@@ -123,7 +123,7 @@ module _ (s : RegionState) (sound : IsSoundRegion s) (source number : ℕ) (txn 
 
 -- The region has the state s and these events, and contracts see it as r: what the call makes of its fields is what the
 -- rule says.
-module _ (r : RegionView) (s : RegionState) (events : List Stamped) (heard : ℕ) (seen : Sched) (stands : IsSeenAs s events heard seen r)
+module _ (r : RegionView) (s : RegionState) (events : List Stamped) (heard room : ℕ) (seen : Sched) (stands : IsSeenAs s events heard room seen r)
     (source number : ℕ) (txn : Txn) (known : source < r.state.regions) (can : CanAppend r.state source number txn) (turn : number ≡ taken_from r.state.here source) where
   can_here : CanAppend s source number txn
   can_here = subst (λ x. CanAppend x.state source number txn) (sym stands.view) can
@@ -159,7 +159,7 @@ module _ (r : RegionView) (s : RegionState) (events : List Stamped) (heard : ℕ
 
     pub append_made : (stamp : ℕ) (is_next : stamp ≡ latest_stamp r + 1) (after : List Stamped)
         → after ≡ events ++ under stamp (Append s.number source number) ∷ []
-        → MakesAppend r source number txn (Ok true) (record { state = made foreign logs; events = after; heard = heard })
+        → MakesAppend r source number txn (Ok true) (record { state = made foreign logs; events = after; heard = heard; room = room })
     append_made stamp is_next after kept =
-        subst (λ x. MakesAppend x source number txn (Ok true) (record { state = made foreign logs; events = after; heard = heard })) stands.view
-        (turn_here, λ j. record { state = append_is j; events = kept_under stands (Append s.number source number) stamp after is_next kept j; heard = heard })
+        subst (λ x. MakesAppend x source number txn (Ok true) (record { state = made foreign logs; events = after; heard = heard; room = room })) stands.view
+        (turn_here, λ j. record { state = append_is j; events = kept_under stands (Append s.number source number) stamp after is_next kept j; heard = heard; room = room })

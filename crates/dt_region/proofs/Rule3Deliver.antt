@@ -159,7 +159,7 @@ deliver_places s home first entries known can reach =
 
 -- The region has the state s and these events, and contracts see it as r: what the call makes of its fields is what the
 -- rule says.
-module _ (r : RegionView) (s : RegionState) (events : List Stamped) (heard : ℕ) (seen : Sched) (stands : IsSeenAs s events heard seen r)
+module _ (r : RegionView) (s : RegionState) (events : List Stamped) (heard room : ℕ) (seen : Sched) (stands : IsSeenAs s events heard room seen r)
     (home first : ℕ) (entries : List Entry) (known : home < r.state.regions) (can : CanDeliver r.state home first entries) where
   abbrev log_here : List Part
   log_here = log_at s.logs home
@@ -222,12 +222,12 @@ module _ (r : RegionView) (s : RegionState) (events : List Stamped) (heard : ℕ
       new_keeps = subst (λ x. AreWell x seen) (sym deliver_is) (deliver_well s stands.well.0 home first entries known_here can_here took.0 seen stands.well.1)
 
       pub new_made : (begin : ℕ) (stamp : ℕ) (is_next : stamp ≡ latest_stamp r + 1) (after : List Stamped) → after ≡ events ++ under stamp (Deliver s.number home begin (first + count)) ∷ []
-          → MakesDelivery r home begin first entries (Ok (New new)) (record { state = made foreign logs; events = after; heard = heard })
+          → MakesDelivery r home begin first entries (Ok (New new)) (record { state = made foreign logs; events = after; heard = heard; room = room })
       new_made begin stamp is_next after kept =
           let renamed : after ≡ events ++ under stamp (Deliver s.number home begin (first + length entries)) ∷ [] = kept ∙ ap (λ m. events ++ under stamp (Deliver s.number home begin (first + m)) ∷ []) count_is in
           let event = kept_under stands (Deliver s.number home begin (first + length entries)) stamp after is_next renamed in
-          subst (λ x. MakesDelivery x home begin first entries (Ok (New new)) (record { state = made foreign logs; events = after; heard = heard })) stands.view
-          (took.0, past, reached, λ j. record { state = deliver_is j; events = event j; heard = heard })
+          subst (λ x. MakesDelivery x home begin first entries (Ok (New new)) (record { state = made foreign logs; events = after; heard = heard; room = room })) stands.view
+          (took.0, past, reached, λ j. record { state = deliver_is j; events = event j; heard = heard; room = room })
 
     -- where none is, or where there is a gap before them, nothing changes
     module _ (foreign : List Txn) (logs : View) (taken : Taken) (none : (m : ℕ) → taken ≢ New m) (takes : Takes log_here first parts (Ok taken) (log_at logs home))
@@ -243,13 +243,13 @@ module _ (r : RegionView) (s : RegionState) (events : List Stamped) (heard : ℕ
       pub old_keeps : AreWell (made foreign logs) seen
       old_keeps = subst (λ x. AreWell x seen) (sym old_is) stands.well
 
-      pub old_made : (begin : ℕ) (after : List Stamped) → after ≡ events → MakesDelivery r home begin first entries (Ok taken) (record { state = made foreign logs; events = after; heard = heard })
+      pub old_made : (begin : ℕ) (after : List Stamped) → after ≡ events → MakesDelivery r home begin first entries (Ok taken) (record { state = made foreign logs; events = after; heard = heard; room = room })
       old_made begin after kept = by taken none takes
         where
-          whole : record { state = made foreign logs; events = after; heard = heard } ≡ r
-          whole = (λ j. record { state = old_is j; events = kept j; heard = heard }) ∙ stands.view
+          whole : record { state = made foreign logs; events = after; heard = heard; room = room } ≡ r
+          whole = (λ j. record { state = old_is j; events = kept j; heard = heard; room = room }) ∙ stands.view
 
-          by : (x : Taken) → ((m : ℕ) → x ≢ New m) → Takes log_here first parts (Ok x) (log_at logs home) → MakesDelivery r home begin first entries (Ok x) (record { state = made foreign logs; events = after; heard = heard })
+          by : (x : Taken) → ((m : ℕ) → x ≢ New m) → Takes log_here first parts (Ok x) (log_at logs home) → MakesDelivery r home begin first entries (Ok x) (record { state = made foreign logs; events = after; heard = heard; room = room })
           by (New m) other h = absurd (other m refl)
           by Old other h =
               let reach : first ≤ length (log_at r.state.logs home) = subst (λ x. first ≤ length (log_at x.state.logs home)) stands.view h.0 in

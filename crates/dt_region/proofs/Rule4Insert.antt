@@ -46,7 +46,7 @@ module _ (s : RegionState) (sound : IsSoundRegion s) (home : ℕ) (part : Part) 
   abbrev lengths : List ℕ
   lengths = set s.here.inserted home (slice_index s.here.inserted home + 1)
 
-  view_now : fronts lengths s.logs ≡ with_part sight part
+  pub view_now : fronts lengths s.logs ≡ with_part sight part
   view_now = fronts_insert s.here.inserted s.logs home part (subst (λ n. home < n) (sym sound.inserted) known) next part_home
 
   room : parts_in sight < 4294967295
@@ -119,7 +119,7 @@ module _ (s : RegionState) (sound : IsSoundRegion s) (home : ℕ) (part : Part) 
 
 -- The region has the state s and these events, and contracts see it as r: what the call makes of its fields is what the
 -- rule says.
-module _ (r : RegionView) (s : RegionState) (events : List Stamped) (heard : ℕ) (seen : Sched) (stands : IsSeenAs s events heard seen r)
+module _ (r : RegionView) (s : RegionState) (events : List Stamped) (heard room : ℕ) (seen : Sched) (stands : IsSeenAs s events heard room seen r)
     (home : ℕ) (known : home < r.state.regions) (part : Part) (next : slice_get (log_at r.state.logs home) (slice_index r.state.here.inserted home) ≡ Some part) where
   known_here : home < s.regions
   known_here = subst (λ x. home < x.state.regions) (sym stands.view) known
@@ -155,8 +155,8 @@ module _ (r : RegionView) (s : RegionState) (events : List Stamped) (heard : ℕ
 
     pub insert_made : (stamp : ℕ) (is_next : stamp ≡ latest_stamp r + 1) (after : List Stamped)
         → after ≡ events ++ under stamp (Insert s.number home) ∷ []
-        → MakesStep [] r (Insert r.state.number home) (Ok true) (record { state = made place now; events = after; heard = heard })
+        → MakesStep [] r (Insert r.state.number home) (Ok true) (record { state = made place now; events = after; heard = heard; room = room })
     insert_made stamp is_next after kept =
         let may : slice_index s.here.inserted home < length (log_at s.logs home) = slice_get_within (log_at s.logs home) (slice_index s.here.inserted home) part next_here in
-        subst (λ x. MakesStep [] x (Insert x.state.number home) (Ok true) (record { state = made place now; events = after; heard = heard })) stands.view
-        (may, λ j. record { state = insert_is j; events = kept_under stands (Insert s.number home) stamp after is_next kept j; heard = heard })
+        subst (λ x. MakesStep [] x (Insert x.state.number home) (Ok true) (record { state = made place now; events = after; heard = heard; room = room })) stands.view
+        (may, λ j. record { state = insert_is j; events = kept_under stands (Insert s.number home) stamp after is_next kept j; heard = heard; room = room })

@@ -36,7 +36,7 @@ resolve_sound s sound ids may = record {
 
 -- The region has the state s and these events, and contracts see it as r: what the call makes of its fields is what the
 -- rule says.
-module _ (r : RegionView) (s : RegionState) (events : List Stamped) (heard : ℕ) (seen : Sched) (stands : IsSeenAs s events heard seen r) (ids : List TxnId) (can : CanResolve seen ids) where
+module _ (r : RegionView) (s : RegionState) (events : List Stamped) (heard room : ℕ) (seen : Sched) (stands : IsSeenAs s events heard room seen r) (ids : List TxnId) (can : CanResolve seen ids) where
   abbrev made : Sched → RegionState
   made now = record s { here = record s.here { resolved = now.resolved } }
 
@@ -52,7 +52,7 @@ module _ (r : RegionView) (s : RegionState) (events : List Stamped) (heard : ℕ
 
     pub resolve_made : (stamp : ℕ) (is_next : stamp ≡ latest_stamp r + 1) (after : List Stamped)
         → after ≡ events ++ under stamp (Resolve s.number ids) ∷ []
-        → MakesStep [] r (Resolve r.state.number ids) (Ok true) (record { state = made now; events = after; heard = heard })
+        → MakesStep [] r (Resolve r.state.number ids) (Ok true) (record { state = made now; events = after; heard = heard; room = room })
     resolve_made stamp is_next after kept =
-        subst (λ x. MakesStep [] x (Resolve x.state.number ids) (Ok true) (record { state = made now; events = after; heard = heard })) stands.view
-        (may, λ j. record { state = made (now_is j); events = kept_under stands (Resolve s.number ids) stamp after is_next kept j; heard = heard })
+        subst (λ x. MakesStep [] x (Resolve x.state.number ids) (Ok true) (record { state = made now; events = after; heard = heard; room = room })) stands.view
+        (may, λ j. record { state = made (now_is j); events = kept_under stands (Resolve s.number ids) stamp after is_next kept j; heard = heard; room = room })

@@ -1,6 +1,6 @@
 -- Rule 6: what an execution makes of a region's fields is what the rule says, and keeps the region sound. Its scheduler
 -- goes along.
-use Rattle.std.proofs.Common.{◌≡◌, ◌<◌, ◌≤◌, ◌+◌, arith, ℕ, Ok, true, List, [], ◌∷◌, ◌++◌, map, Some, refl, sym, ap, subst, ◌∙◌}
+use Rattle.std.proofs.Common.{◌≡◌, ◌<◌, ◌≤◌, ◌+◌, ◌-◌, arith, ℕ, Ok, true, List, [], ◌∷◌, ◌++◌, map, Some, refl, sym, ap, subst, ◌∙◌}
 use Rattle.dt_lists.specs.Lists.{Has}
 use Rattle.dt_access.specs.declared.Part.{Part}
 use Rattle.dt_access.specs.declared.TxnId.{TxnId}
@@ -20,7 +20,7 @@ use Rattle.dt_txn.specs.Execution.{one}
 use Rattle.dt_txn.specs.Replica.{view_of, done_ids, executed}
 use Rattle.dt_txn.proofs.Callers.{few_places, moves_unit}
 use Rattle.dt_region.specs.Region.{RegionState, RegionView, latest_stamp, held, sched_of}
-use Rattle.dt_region.specs.Rules.{after_step, MakesStep}
+use Rattle.dt_region.specs.Rules.{after_finishing, after_step, with_event, MakesStep}
 use Rattle.dt_region.specs.Conditions.{CanMove, HoldsValid}
 use Rattle.dt_region.specs.Sound.{IsSoundRegion, IsHeldPart}
 use Rattle.dt_region.specs.RegionInner.{AreWell}
@@ -35,6 +35,16 @@ executable_held s sound id executable =
     let r : (home : ℕ) × (p : Part) × Has (log_at sight home) p × (p.id ≡ id) × HasParts sight p.homes id = part_of_complete sight id (complete_of_closed sight id executable.closed) in
     let k : IsHeldPart s r.0 r.1 = view_parts s sound r.0 r.1 r.2 in
     (k.0, ap (held s) (sym r.3) ∙ k.1)
+
+-- what contracts see as executable is so for the scheduler
+pub can_seen : {r : RegionView} {s : RegionState} {events : List Stamped} {heard room : ℕ} {seen : Sched} → IsSeenAs s events heard room seen r → (id : TxnId)
+    → CanExecute (sched_of r.state.logs r.state.here) id → CanExecute seen id
+can_seen stands id can = subst (λ x. CanExecute x id) (sym (stands.well.1 ∙ ap (λ (x : RegionView). sched_of x.state.logs x.state.here) stands.view)) can
+
+-- and the other way round
+pub can_shown : {r : RegionView} {s : RegionState} {events : List Stamped} {heard room : ℕ} {seen : Sched} → IsSeenAs s events heard room seen r → (id : TxnId)
+    → CanExecute seen id → CanExecute (sched_of r.state.logs r.state.here) id
+can_shown stands id can = subst (λ x. CanExecute x id) (stands.well.1 ∙ ap (λ (x : RegionView). sched_of x.state.logs x.state.here) stands.view) can
 
 ids_done : (done : List (TxnId × Outcome)) (d : TxnId × Outcome) → map (λ x. x.0) (done ++ d ∷ []) ≡ map (λ x. x.0) done ++ d.0 ∷ []
 ids_done [] d = refl
@@ -73,7 +83,7 @@ module _ (procs : List ProcTree) (s : RegionState) (sound : IsSoundRegion s) (ho
 
 -- The region has the state s and these events, and contracts see it as r: what the call makes of its fields is what the
 -- rule says.
-module _ (procs : List ProcTree) (r : RegionView) (s : RegionState) (events : List Stamped) (heard : ℕ) (seen : Sched) (stands : IsSeenAs s events heard seen r)
+module _ (procs : List ProcTree) (r : RegionView) (s : RegionState) (events : List Stamped) (heard room : ℕ) (seen : Sched) (stands : IsSeenAs s events heard room seen r)
     (holds : HoldsValid procs r.state) (id : TxnId) (can : CanExecute seen id) where
   may_here : CanExecute (sched_of s.logs s.here) id
   may_here = subst (λ x. CanExecute x id) stands.well.1 can
@@ -105,10 +115,8 @@ module _ (procs : List ProcTree) (r : RegionView) (s : RegionState) (events : Li
         (subst (λ x. MovesUnit s.here.table.version x.1.moved) (sym run_is) (moves_unit procs s.here.table.version s.regions txn_here s.here.table (valid_here id txn_here held_here.1)))
 
     -- and it takes few places
-    pub execute_few : places_for effect < 4294967296
-    execute_few =
-        let few : places_for (one procs txn_here s.here.table).1 ≤ 17 = few_places procs s.here.table.version s.regions txn_here s.here.table (valid_here id txn_here held_here.1) in
-        subst (λ x. places_for x.1 < 4294967296) (sym run_is) (omega (arith, few))
+    pub execute_few : places_for effect ≤ 17
+    execute_few = subst (λ x. places_for x.1 ≤ 17) (sym run_is) (few_places procs s.here.table.version s.regions txn_here s.here.table (valid_here id txn_here held_here.1))
 
     pub execute_place : CanMove r.state id → (t : Table) → t ≡ s.here.table → HasPlaceFor effect.moved t
     execute_place moves t e =
@@ -129,10 +137,17 @@ module _ (procs : List ProcTree) (r : RegionView) (s : RegionState) (events : Li
       pub execute_keeps : AreWell (made now done table) now
       execute_keeps = subst (λ x. AreWell x now) (sym ran_so) (execute_well procs s stands.well.0 valid_here id may_here txn_here held_here.1 now now_is)
 
-      pub execute_made : (stamp : ℕ) (is_next : stamp ≡ latest_stamp r + 1) (after : List Stamped)
+      pub finish_made : (stamp : ℕ) (is_next : stamp ≡ latest_stamp r + 1) (after : List Stamped)
           → after ≡ events ++ under stamp (Execute s.number id) ∷ []
-          → MakesStep procs r (Execute r.state.number id) (Ok true) (record { state = made now done table; events = after; heard = heard })
-      execute_made stamp is_next after kept =
+          → record { state = made now done table; events = after; heard = heard; room = room - 1 } ≡ after_finishing procs r id
+      finish_made stamp is_next after kept =
           let state : made now done table ≡ after_step procs s (Execute s.number id) = ran_so ∙ ap (λ o. record s { here = executed procs s.here o }) (sym held_here.1) in
-          subst (λ x. MakesStep procs x (Execute x.state.number id) (Ok true) (record { state = made now done table; events = after; heard = heard })) stands.view
-          (may_here, λ j. record { state = state j; events = kept_under stands (Execute s.number id) stamp after is_next kept j; heard = heard })
+          subst (λ x. record { state = made now done table; events = after; heard = heard; room = room - 1 } ≡ after_finishing procs x id) stands.view
+          (λ j. record { state = state j; events = kept_under stands (Execute s.number id) stamp after is_next kept j; heard = heard; room = room - 1 })
+
+-- an execution for which room was made, and which was then finished, is the step
+pub execute_made : (procs : List ProcTree) (r roomy after : RegionView) (id : TxnId) → CanExecute (sched_of r.state.logs r.state.here) id → roomy ≡ record r { room = r.room + 1 }
+    → after ≡ after_finishing procs roomy id → MakesStep procs r (Execute r.state.number id) (Ok true) after
+execute_made procs r roomy after id may made finished =
+    let back : r.room + 1 - 1 ≡ r.room = omega arith in
+    (may, finished ∙ ap (λ x. after_finishing procs x id) made ∙ ap (λ n. record (with_event r (after_step procs r.state (Execute r.state.number id)) (Execute r.state.number id)) { room = n }) back)

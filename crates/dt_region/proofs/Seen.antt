@@ -8,11 +8,11 @@ use Rattle.dt_sched.specs.Sched.{Sched}
 use Rattle.dt_region.specs.Region.{RegionState, RegionView, latest_stamp}
 use Rattle.dt_region.specs.RegionInner.{AreWell}
 
-pub record IsSeenAs (s : RegionState) (events : List Stamped) (heard : ℕ) (seen : Sched) (r : RegionView) : Type 0 where
-  pub view : record { state = s; events = events; heard = heard } ≡ r
+pub record IsSeenAs (s : RegionState) (events : List Stamped) (heard room : ℕ) (seen : Sched) (r : RegionView) : Type 0 where
+  pub view : record { state = s; events = events; heard = heard; room = room } ≡ r
   pub well : AreWell s seen
 
-pub seen_as : {s : RegionState} {events : List Stamped} {heard : ℕ} {seen : Sched} {r : RegionView} → record { state = s; events = events; heard = heard } ≡ r → AreWell s seen → IsSeenAs s events heard seen r
+pub seen_as : {s : RegionState} {events : List Stamped} {heard room : ℕ} {seen : Sched} {r : RegionView} → record { state = s; events = events; heard = heard; room = room } ≡ r → AreWell s seen → IsSeenAs s events heard room seen r
 seen_as view well = record { view = view; well = well }
 
 -- an event under a stamp
@@ -20,7 +20,7 @@ abbrev pub under : ℕ → Event → Stamped
 under stamp event = record { stamp = stamp; event = event }
 
 -- an event that is kept under the stamp which the region gives next
-pub kept_under : {s : RegionState} {events : List Stamped} {heard : ℕ} {seen : Sched} {r : RegionView} → IsSeenAs s events heard seen r
+pub kept_under : {s : RegionState} {events : List Stamped} {heard room : ℕ} {seen : Sched} {r : RegionView} → IsSeenAs s events heard room seen r
     → (event : Event) (stamp : ℕ) (after : List Stamped) → stamp ≡ latest_stamp r + 1 → after ≡ events ++ under stamp event ∷ []
     → after ≡ events ++ under (max (last_stamp events) heard + 1) event ∷ []
 kept_under {events = events} stands event stamp after is kept = kept ∙ ap (λ n. events ++ under n event ∷ []) (is ∙ ap (λ x. latest_stamp x + 1) (sym stands.view))

@@ -20,7 +20,7 @@ use Rattle.dt_region.proofs.Rule5Resolve.{resolve_sound}
 use Rattle.dt_region.proofs.Rule6Execute.{executable_held, execute_sound}
 
 -- a log that has a part at some place is there
-has_log : (s : RegionState) → IsSoundRegion s → (home place : ℕ) → place < length (log_at s.logs home) → home < s.regions
+pub has_log : (s : RegionState) → IsSoundRegion s → (home place : ℕ) → place < length (log_at s.logs home) → home < s.regions
 has_log s sound home place lt = by (either_le (suc home) s.regions)
   where
     by : Either (home < s.regions) → home < s.regions

@@ -16,6 +16,9 @@ use Rattle.dt_txn.specs.declared.txn.Body.TheVariants.{Call, Move}
 use Rattle.dt_txn.specs.declared.txn.Txn.{Txn}
 use Rattle.dt_txn.specs.declared.txn.Entry.{Entry}
 use Rattle.dt_txn.specs.Transaction.{homes_of, part_of, IsValid}
+use Rattle.dt_txn.specs.Execution.{one}
+use Rattle.dt_txn.specs.declared.outcome.Outcome.{Outcome}
+use Rattle.dt_table.specs.declared.Effect.{Effect}
 use Rattle.dt_txn.specs.Replica.{taken_from}
 use Rattle.dt_region.specs.Region.{RegionState, held}
 use Rattle.dt_region.specs.Rules.{with_entries}
@@ -72,6 +75,17 @@ pub record CanDeliver (s : RegionState) (home first : ℕ) (entries : List Entry
 -- each transaction that a region holds is valid for these procedures, in the version of the region's table
 abbrev pub HoldsValid : List ProcTree → RegionState → Type 0
 HoldsValid procs s = (id : TxnId) (txn : Txn) → held s id ≡ Some txn → IsValid procs s.here.table.version s.regions txn
+
+-- by these procedures, for which all that the region holds is valid, this is what the transaction of an id comes to on the
+-- region's table
+pub record ComesTo (procs : List ProcTree) (s : RegionState) (id : TxnId) (outcome : Outcome) (effect : Effect) : Type 0 where
+  pub holds : HoldsValid procs s
+  pub values : (txn : Txn) → held s id ≡ Some txn → (outcome, effect) ≡ one procs txn s.here.table
+
+-- there are such procedures
+pub record HasRun (s : RegionState) (id : TxnId) (outcome : Outcome) (effect : Effect) : Type 0 where
+  pub procs : List ProcTree
+  pub comes : ComesTo procs s id outcome effect
 
 -- what a body moves has a place left for one move more: the moves of a unit are counted by 32 bits
 abbrev pub HasPlaceToMove : Table → Body → Type 0

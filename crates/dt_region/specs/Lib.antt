@@ -3,6 +3,7 @@ pub mod Rules
 pub mod Conditions
 pub mod Sound
 pub mod Foreign
+pub mod Kept
 pub mod RegionCode
 pub mod RegionInner
 pub use Rattle.dt_txn.specs.Transaction

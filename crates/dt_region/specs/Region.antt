@@ -27,12 +27,13 @@ pub record RegionState : Type 0 where
   -- what it asked and placed, and what it made of the logs
   pub here : Replica
 
--- a region, as contracts see it: what it holds, the events that it made, in order, each with its stamp, and the greatest
--- stamp that it heard of from others, or 0
+-- a region, as contracts see it: what it holds, the events that it made, in order, each with its stamp, the greatest
+-- stamp that it heard of from others, or 0, and its room: how many executions can be finished before memory is needed
 pub record RegionView : Type 0 where
   pub state : RegionState
   pub events : List Stamped
   pub heard : ℕ
+  pub room : ℕ
 
 -- the greatest stamp that a region knows of: that of its last event, or one that it heard of; its next event gets the one
 -- above

@@ -53,5 +53,5 @@ state_code = code_by (ℕ × (ℕ × (List Txn × (List Txn × (List (List Part)
 
 -- a region is stored as its fields
 abbrev pub region_code : Coded RegionView
-region_code = code_by (RegionState × (List Stamped × ℕ)) (coded× state_code (coded× (coded_list stamped.the_row.coded) coded_ℕ)) (λ k. (k.state, (k.events, k.heard)))
-    (λ p. record { state = p.0; events = p.1.0; heard = p.1.1 }) (λ _. refl)
+region_code = code_by (RegionState × (List Stamped × (ℕ × ℕ))) (coded× state_code (coded× (coded_list stamped.the_row.coded) (coded× coded_ℕ coded_ℕ))) (λ k. (k.state, (k.events, (k.heard, k.room))))
+    (λ p. record { state = p.0; events = p.1.0; heard = p.1.1.0; room = p.1.1.1 }) (λ _. refl)

@@ -1,6 +1,7 @@
 -- Only proofs need this file: how a region keeps what contracts see of it, and what its type says of its fields. Skip it;
 -- read `Region` for what callers see, and `Sound` for what every region keeps.
-use Rattle.std.specs.Prelude.{◌≡◌, ℕ, length, slice_index}
+use Rattle.std.specs.Prelude.{◌≡◌, ◌<◌, ◌≤◌, ◌*◌, ◌^◌, ℕ, length, slice_index}
+use Rattle.indexmap.specs.IndexMap.{spare}
 use Rattle.dt_sched.specs.Views.{View, log_at}
 use Rattle.dt_txn.specs.Replica.{Replica}
 use Rattle.dt_sched.specs.Sched.{Sched}
@@ -28,15 +29,26 @@ state_in seen a = record {
 
 -- the region that is kept in these fields
 abbrev pub region_in : {S : Type 0} → (S → Sched) → Inside S → RegionView
-region_in seen a = record { state = state_in seen a; events = a.events.items; heard = a.heard }
+region_in seen a = record { state = state_in seen a; events = a.events.events; heard = a.heard; room = a.room }
 
 -- the region is sound, and its scheduler has what the region inserted, resolved and has done
 abbrev pub AreWell : RegionState → Sched → Type 0
 AreWell s seen = IsSoundRegion s × (seen ≡ sched_of s.logs s.here)
 
--- what the type of a region says of its fields
-abbrev pub IsWell : {S : Type 0} → (S → Sched) → Inside S → Type 0
-IsWell seen a = AreWell (state_in seen a) (seen a.scheduler)
+-- its stores have places for so many executions, each of which is one event, one id that is done and at most 17 changes of
+-- the table: these many events, ids and changes fit, and so many ids in the scheduler
+pub record HasStock (room for_events for_done for_changes for_finishes : ℕ) : Type 0 where
+  pub events : room ≤ for_events
+  pub done : room ≤ for_done
+  pub changes : 17 * room ≤ for_changes
+  pub finishes : room ≤ for_finishes
+  -- the changes are counted by 32 bits
+  pub few : 17 * room < 2 ^ 32
+
+-- what the type of a region says of its fields, where the scheduler is seen so and has this room
+pub record IsWell {S : Type 0} (seen : S → Sched) (finishes : S → ℕ) (a : Inside S) : Type 0 where
+  pub well : AreWell (state_in seen a) (seen a.scheduler)
+  pub stock : HasStock a.room a.events.spare (spare a.done) a.table.spare (finishes a.scheduler)
 
 -- all that was received of these logs is inserted
 abbrev pub HasInsertedAll : View → Replica → Type 0

@@ -9,7 +9,7 @@ use Rattle.dt_access.specs.declared.Part.{Part}
 use Rattle.dt_log.specs.declared.Taken.{Taken}
 use Rattle.dt_log.specs.declared.Taken.TheVariants.{New, Old, Gap}
 use Rattle.dt_events.specs.declared.Event.{Event}
-use Rattle.dt_events.specs.declared.Event.TheVariants.{Submit, Append, Deliver, Answer}
+use Rattle.dt_events.specs.declared.Event.TheVariants.{Submit, Append, Deliver, Execute, Answer}
 use Rattle.dt_sched.specs.Views.{log_at}
 use Rattle.dt_sched.specs.Sched.{with_part}
 use Rattle.dt_proc.specs.Tree.{ProcTree}
@@ -99,12 +99,13 @@ after_step procs s event = record s { here = stepped procs (held s) s.here event
 -- From here on: how each call is answered, and what the region is after it, its events with it. After `NoMemory` it is
 -- always as before.
 
--- the region in its new state, with one event more, whose stamp is one above all that it knows of
+-- the region in its new state, with one event more, whose stamp is one above all that it knows of; its room stays
 abbrev pub with_event : RegionView → RegionState → Event → RegionView
 with_event r state event = record {
   state = state;
   events = r.events ++ record { stamp = latest_stamp r + 1; event = event } ∷ [];
   heard = r.heard;
+  room = r.room;
 }
 
 -- a submission answers the id that the transaction got, which is the next one of the region
@@ -139,6 +140,10 @@ abbrev pub MakesStep : List ProcTree → RegionView → Event → Result Bool No
 MakesStep procs r event (Ok true) after = MayMake r.state event × (after ≡ with_event r (after_step procs r.state event) event)
 MakesStep procs r event (Ok false) after = ¬ (MayMake r.state event) × (after ≡ r)
 MakesStep procs r event (Err e) after = after ≡ r
+
+-- to finish an execution makes the step, and takes one unit of room
+abbrev pub after_finishing : List ProcTree → RegionView → TxnId → RegionView
+after_finishing procs r id = record (with_event r (after_step procs r.state (Execute r.state.number id)) (Execute r.state.number id)) { room = r.room - 1 }
 
 -- an answer changes nothing but that its event is kept
 abbrev pub MakesAnswer : RegionView → List ℕ → Result (Unit {0}) NoMemory → RegionView → Type 0

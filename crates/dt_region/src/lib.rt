@@ -39,6 +39,7 @@ mod asking;
 mod entries;
 mod execution;
 mod foreign;
+mod kept;
 mod opening;
 mod region;
 

@@ -1,24 +1,26 @@
-ghost use Rattle.std.specs.Prelude.{◌≡◌, ◌↔◌, ◌<◌, ◌≤◌, [], ◌∷◌, ◌++◌, length, max, vec_len, vec_capacity, slice_index, slice_get, get_or, ℕ, ◌+◌, Some, IsTrue, IfOk};
+ghost use Rattle.std.specs.Prelude.{◌≡◌, ◌↔◌, ◌<◌, ◌≤◌, [], ◌∷◌, ◌++◌, length, max, vec_len, vec_capacity, slice_index, slice_get, get_or, ℕ, ◌+◌, Some, List, IsTrue, IfOk, OnOk, OnErr};
 ghost use Rattle.std.specs.Option.{option_copied};
 ghost use Rattle.dt_events.specs.Stamps.{last_stamp};
 ghost use Rattle.dt_events.specs.declared.Event.TheVariants.{Insert, Resolve, Execute};
 ghost use Rattle.dt_sched.specs.Views.{log_at};
-ghost use Rattle.dt_sched.specs.Sched.{IsNextClass, IsNextReady};
+ghost use Rattle.dt_sched.specs.Sched.{CanExecute, IsNextClass, IsNextReady};
+ghost use Rattle.dt_proc.specs.Tree.{ProcTree};
 ghost use Rattle.dt_txn.specs.declared.txn.Txn.{Txn};
 ghost use Rattle.dt_txn.specs.Execution.{one};
 ghost use Rattle.dt_txn.specs.Replica.{IsDrained, taken_from};
 ghost use Rattle.dt_txn.specs.Transaction.{BodyFits};
 ghost use Rattle.dt_region.specs.RegionInner.{HasInsertedAll};
 ghost use Rattle.dt_region.specs.Region.{HasStamp, held, latest_stamp, outcome_of, sched_of};
-ghost use Rattle.dt_region.specs.Rules.{opening_state, MakesSubmit, MakesAppend, MakesDelivery, MakesStep, MakesAnswer};
-ghost use Rattle.dt_region.specs.Conditions.{IsTableFor, CanAppend, CanDeliver, CanMove, HoldsValid};
+ghost use Rattle.dt_region.specs.Rules.{opening_state, MakesSubmit, MakesAppend, MakesDelivery, MakesStep, MakesAnswer, after_finishing};
+ghost use Rattle.dt_region.specs.Conditions.{IsTableFor, CanAppend, CanDeliver, CanMove, ComesTo, HasRun, HoldsValid};
 ghost use Rattle.dt_region.specs.Sound.{IsSoundRegion};
 
 use crate::ascent::are_ascending;
 use crate::asking::ask;
 use crate::entries::{keep_last, parts_and_txns, place, take};
-use crate::execution::{note_outcome, places_for};
+use crate::execution::note_outcome;
 use crate::foreign::Foreign;
+use crate::kept::Kept;
 use crate::opening::{no_counts, no_ids, no_parts};
 use dt_access::{Ids, TxnId};
 use dt_events::{Event, Stamped};
@@ -32,10 +34,13 @@ use indexmap::IndexMap;
 use std::alloc::Global;
 use std::marker::Model;
 
+// How many changes of a table one execution makes at most: 16 rows of a call and one move.
+const CHANGES: u32 = 17;
+
 /// One region of a cluster. What it may execute and resolve is decided by its scheduler `S`.
 ///
-/// Contracts see its `state`, as `events` the events that it made, in order, each with its stamp, and as `heard` the
-/// greatest stamp that it heard of. Its type keeps what `IsSoundRegion` says: in each log every id stands once, every part is
+/// Contracts see its `state`, as `events` the events that it made, in order, each with its stamp, as `heard` the greatest
+/// stamp that it heard of, and as `room` how many executions it can finish before memory is needed. Its type keeps what `IsSoundRegion` says: in each log every id stands once, every part is
 /// that of the transaction which the region holds under its id, all logs together have at most 4,294,967,295 parts, and what
 /// is resolved and done could be resolved and done.
 #[derive(Drop)]
@@ -51,8 +56,9 @@ pub struct Region<S: Scheduler> {
     done: IndexMap<TxnId, Outcome>,
     table: Table,
     scheduler: S,
-    events: Vec<Stamped>,
+    events: Kept,
     heard: u64,
+    room: u32,
 }
 
 impl<S: Scheduler> Model for Region<S> {
@@ -67,7 +73,7 @@ impl<S: Scheduler> Model for Region<S> {
 
     ghost view = { λ r. region_in S.seen r };
 
-    ghost invariant = { λ r. IsWell S.seen r };
+    ghost invariant = { λ r. IsWell S.seen S.spare r };
 }
 
 impl<S: Scheduler> Region<S> {
@@ -77,7 +83,7 @@ impl<S: Scheduler> Region<S> {
         requires number { number < regions }
         requires regions { regions ≤ 8 }
         requires table { IsTableFor regions table.state }
-        ensures opening { IfOk result (λ region. region ≡ record { state = opening_state number regions table.state; events = []; heard = 0 }) }
+        ensures opening { IfOk result (λ region. region ≡ record { state = opening_state number regions table.state; events = []; heard = 0; room = 0 }) }
         ensures sound { IfOk result (λ region. IsSoundRegion region.state) }
     {
         Ok(Region {
@@ -92,8 +98,9 @@ impl<S: Scheduler> Region<S> {
             done: IndexMap::new(alloc),
             table,
             scheduler: S::empty(alloc, regions)?,
-            events: Vec::new(alloc),
+            events: Kept::new(alloc),
             heard: 0,
+            room: 0,
         })
     }
 
@@ -232,11 +239,11 @@ impl<S: Scheduler> Region<S> {
         };
         let txn = annotate(alloc, id, rank, body, procs, &self.table)?;
         let homes = homes(alloc, &txn)?;
-        self.events.reserve(1)?;
+        self.events.reserve(self.room as usize + 1)?;
         self.submitted.reserve(1)?;
         ask(alloc, &mut self.asked, homes.as_slice(), id)?;
         add_last(&mut self.submitted, txn);
-        keep_event(&mut self.events, stamp, event);
+        self.events.keep(stamp, event);
         Ok(id)
     }
 
@@ -284,13 +291,12 @@ impl<S: Scheduler> Region<S> {
         let stamp = self.next_stamp();
         let home = self.number;
         let part = part_at(alloc, &txn, home)?;
-        self.events.reserve(1)?;
+        self.events.reserve(self.room as usize + 1)?;
         self.foreign.reserve(1)?;
         place(&mut self.logs, part)?;
         self.taken[source as usize] = number + 1;
         self.foreign.keep(home, txn);
-        keep_event(
-            &mut self.events,
+        self.events.keep(
             stamp,
             Event::Append {
                 home,
@@ -325,14 +331,13 @@ impl<S: Scheduler> Region<S> {
         let region = self.number;
         let (parts, txns) = parts_and_txns(alloc, entries)?;
         let count = txns.len();
-        self.events.reserve(1)?;
+        self.events.reserve(self.room as usize + 1)?;
         self.foreign.reserve(count)?;
         let taken = take(&mut self.logs, home, first, parts)?;
         if let Taken::New(new) = taken {
             keep_last(region, &mut self.foreign, txns, new as usize);
             let last = first + count as u32;
-            keep_event(
-                &mut self.events,
+            self.events.keep(
                 stamp,
                 Event::Deliver {
                     region,
@@ -360,10 +365,10 @@ impl<S: Scheduler> Region<S> {
             return Ok(false);
         };
         let part = part.copy(alloc)?;
-        self.events.reserve(1)?;
+        self.events.reserve(self.room as usize + 1)?;
         self.scheduler.insert(alloc, part)?;
         self.inserted[home as usize] = place + 1;
-        keep_event(&mut self.events, stamp, Event::Insert { region, home });
+        self.events.keep(stamp, Event::Insert { region, home });
         Ok(true)
     }
 
@@ -382,9 +387,9 @@ impl<S: Scheduler> Region<S> {
             region: self.number,
             ids: Ids::from_vec(ids.to_vec(alloc)?),
         };
-        self.events.reserve(1)?;
+        self.events.reserve(self.room as usize + 1)?;
         self.scheduler.resolve(alloc, ids)?;
-        keep_event(&mut self.events, stamp, event);
+        self.events.keep(stamp, event);
         Ok(true)
     }
 
@@ -449,21 +454,66 @@ impl<S: Scheduler> Region<S> {
         ensures makes { MakesStep procs.now self.old (Execute self.old.state.number id) result self.new }
         ensures sound { IsSoundRegion self.new.state }
     {
-        let stamp = self.next_stamp();
-        let region = self.number;
         if !self.scheduler.executable(alloc, id)? {
             return Ok(false);
         }
         let (outcome, effect) = self.run(alloc, id, procs)?;
-        self.events.reserve(1)?;
-        self.table.reserve(places_for(&effect))?;
-        self.done.reserve(1)?;
-        self.scheduler.reserve(alloc, 1)?;
+        self.make_room(alloc, self.room + 1)?;
+        self.finish(id, outcome, effect);
+        Ok(true)
+    }
+
+    /// Makes room for so many executions: each unit of it is enough for any one execution that is finished. Nothing else
+    /// changes, and after `NoMemory` the region is as before.
+    pub fn reserve(&mut self, alloc: Global, runs: u32) -> Result<(), NoMemory>
+        ensures ok { OnOk result (self.new ≡ record self.old { room = max self.old.room runs }) }
+        ensures err { OnErr result (self.new ≡ self.old) }
+        ensures sound { IsSoundRegion self.new.state }
+    {
+        if runs <= self.room {
+            return Ok(());
+        }
+        self.make_room(alloc, runs)
+    }
+
+    // Makes room for so many executions, which are more than there is room for.
+    fn make_room(&mut self, alloc: Global, runs: u32) -> Result<(), NoMemory>
+        requires { self.old.room < runs }
+        ensures ok { OnOk result (self.new ≡ record self.old { room = runs }) }
+        ensures err { OnErr result (self.new ≡ self.old) }
+        ensures sound { IsSoundRegion self.new.state }
+    {
+        self.events.reserve(runs as usize)?;
+        self.done.reserve(runs as usize)?;
+        let Some(changes) = runs.checked_mul(CHANGES) else {
+            return Err(NoMemory);
+        };
+        self.table.reserve(changes)?;
+        self.scheduler.reserve(alloc, runs)?;
+        self.room = runs;
+        Ok(())
+    }
+
+    /// Finishes the execution of a transaction that came to this outcome and this effect, and keeps the event. Takes no
+    /// memory, but one unit of room. The transaction is executable here, and by some procedures, for which all that the
+    /// region holds is valid, this is what it comes to on the region's table. If it is a move, its unit was moved fewer than
+    /// 4,294,967,295 times so far.
+    pub fn finish(&mut self, id: TxnId, outcome: Outcome, effect: Effect)
+        requires stamp { HasStamp self.old }
+        requires executable { CanExecute (sched_of self.old.state.logs self.old.state.here) id }
+        requires room { 0 < self.old.room }
+        requires run { HasRun self.old.state id outcome effect }
+        requires place { CanMove self.old.state id }
+        ensures makes { (procs : List ProcTree) → ComesTo procs self.old.state id outcome effect → self.new ≡ after_finishing procs self.old id }
+        ensures sound { IsSoundRegion self.new.state }
+    {
+        let stamp = self.next_stamp();
+        let region = self.number;
+        self.room -= 1;
         self.table.apply(effect);
         note_outcome(&mut self.done, id, outcome);
         self.scheduler.finish(id);
-        keep_event(&mut self.events, stamp, Event::Execute { region, id });
-        Ok(true)
+        self.events.keep(stamp, Event::Execute { region, id });
     }
 
     /// Keeps the event that a session is answered, which changes nothing else. Whether the session may be answered is for
@@ -477,7 +527,8 @@ impl<S: Scheduler> Region<S> {
             region: self.number,
             session: session.copy(alloc)?,
         };
-        self.events.push(Stamped { stamp, event })?;
+        self.events.reserve(self.room as usize + 1)?;
+        self.events.keep(stamp, event);
         Ok(())
     }
 }
@@ -496,17 +547,6 @@ fn add_last(txns: &mut Vec<Txn>, txn: Txn)
     ensures { txns.new.items ≡ txns.old.items ++ txn ∷ [] }
 {
     match txns.push(txn) {
-        Ok(()) => (),
-        Err(_) => unreachable!(),
-    }
-}
-
-// Keeps an event under a stamp at the end, which takes no memory where there is room.
-fn keep_event(events: &mut Vec<Stamped>, stamp: u64, event: Event)
-    requires { vec_len events.old < vec_capacity events.old }
-    ensures { events.new.items ≡ events.old.items ++ record { stamp = stamp; event = event } ∷ [] }
-{
-    match events.push(Stamped { stamp, event }) {
         Ok(()) => (),
         Err(_) => unreachable!(),
     }

@@ -19,20 +19,10 @@ use Rattle.dt_region.specs.Sound.{IsSoundRegion}
 use Rattle.dt_region.proofs.Callers.{fronts_few, latest_more}
 use Rattle.dt_round.specs.Rounds.{CanRound, Continues}
 use Rattle.dt_round.specs.Steps.{IsOwnStep, steps_left, steps_of}
+use Rattle.dt_round.specs.Underway.{IsUnderway}
 use Rattle.dt_round.proofs.Counting.{few_done, few_steps}
 use Rattle.dt_round.proofs.Effects.{IsCounted, step_counted}
 use Rattle.dt_round.proofs.Going.{continues_more, continues_none}
-
--- a round that began with the first region has come to the second
-pub record IsUnderway (procs : List ProcTree) (entry now : RegionView) : Type 0 where
-  pub began : CanRound procs entry
-  pub continues : Continues procs entry now
-  pub sound : IsSoundRegion now.state
-  pub holds : HoldsValid procs now.state
-  -- a stamp for each step, and a move of a unit for each execution at most
-  pub many : latest_stamp now ≡ latest_stamp entry + length continues.events
-  pub counted : steps_of now.state.here ≡ steps_of entry.state.here + length continues.events
-  pub moves : (key : Bytes) → counter_of now.state.here.table key + length entry.state.here.done ≤ counter_of entry.state.here.table key + length now.state.here.done
 
 pub at_first : (procs : List ProcTree) (r : RegionView) → CanRound procs r → IsSoundRegion r.state → IsUnderway procs r r
 at_first procs r can sound = record {
@@ -43,6 +33,18 @@ at_first procs r can sound = record {
   many = omega arith;
   counted = omega arith;
   moves = λ key. omega arith;
+}
+
+-- a round looks at no room
+pub whatever_room : (procs : List ProcTree) (entry now : RegionView) (room : ℕ) → IsUnderway procs entry now → IsUnderway procs entry (record now { room = room })
+whatever_room procs entry now room u = record {
+  began = u.began;
+  continues = record { events = u.continues.events; legal = u.continues.legal; state = u.continues.state; kept = u.continues.kept; heard = u.continues.heard };
+  sound = u.sound;
+  holds = u.holds;
+  many = u.many;
+  counted = u.counted;
+  moves = u.moves;
 }
 
 module _ (procs : List ProcTree) (entry now : RegionView) (u : IsUnderway procs entry now) where

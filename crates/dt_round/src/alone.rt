@@ -1,11 +1,13 @@
-ghost use Rattle.std.specs.Prelude.{◌≡◌, List};
+ghost use Rattle.std.specs.Prelude.{◌≡◌, List, OnOk};
 ghost use Rattle.dt_access.specs.declared.TxnId.{TxnId};
 ghost use Rattle.dt_proc.specs.Tree.{ProcTree};
 ghost use Rattle.dt_sched.specs.Sched.{CanExecute};
 ghost use Rattle.dt_region.specs.Conditions.{CanMove, HoldsValid};
-ghost use Rattle.dt_region.specs.Region.{HasStamp, sched_of};
+ghost use Rattle.dt_region.specs.Region.{HasStamp, RegionView, sched_of};
 ghost use Rattle.dt_region.specs.Sound.{IsSoundRegion};
 ghost use Rattle.dt_round.specs.Steps.{InsertsSome, StepsOn};
+ghost use Rattle.dt_round.specs.Underway.{IsOnWay, IsUnderway};
+ghost use Rattle.dt_txn.specs.Replica.{IsDrained};
 
 use crate::rounds::Rounds;
 use dt_proc::Procs;
@@ -23,10 +25,26 @@ impl<S: Scheduler> Rounds<Region<S>> for Alone {
 
     fn round(&self, alloc: Global, region: &mut Region<S>, procs: &Procs) -> Result<(), NoMemory> {
         let regions = region.regions();
-        'steps: loop {
-            if !step(alloc, region, regions, procs)? {
-                return Ok(());
-            }
+        finish(alloc, region, regions, procs)
+    }
+}
+
+/// Finishes a round on its way, of a region of so many, on the calling thread: inserts, resolves and executes, by these
+/// procedures, until nothing is left. After `NoMemory` it has stopped somewhere on the way.
+pub fn finish<S: Scheduler>(
+    alloc: Global,
+    region: &mut Region<S>,
+    regions: u8,
+    procs: &Procs,
+) -> Result<(), NoMemory>
+    requires regions { regions ≡ region.old.state.regions }
+    requires on_way { IsOnWay procs.now region.old }
+    ensures underway { (entry : RegionView) → IsUnderway procs.now entry region.old → IsUnderway procs.now entry region.new }
+    ensures drained { OnOk result (IsDrained region.new.state.logs region.new.state.here) }
+{
+    'steps: loop {
+        if !step(alloc, region, regions, procs)? {
+            return Ok(());
         }
     }
 }

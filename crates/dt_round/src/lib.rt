@@ -9,5 +9,5 @@
 mod alone;
 mod rounds;
 
-pub use alone::Alone;
+pub use alone::{Alone, finish};
 pub use rounds::{Rounded, Rounds};

@@ -1,5 +1,6 @@
 -- What the proofs of crates above may cite of this crate, and nothing else of `proofs/`. The laws stand here for any order
--- of ids, where `src/laws.rt` has them for an order that a test tells; beside them what a run comes to when it grows.
+-- of ids, where `src/laws.rt` has them for an order that a test tells; beside them what a run comes to when it grows, and
+-- what a transaction sees after one that it does not clash with.
 pub use Rattle.dt_serial.proofs.Causes.{move_made, reasons}
 pub use Rattle.dt_serial.proofs.History.{across_fewer, chain}
 pub use Rattle.dt_serial.proofs.Lookups.{looked_filter, looked_from, looked_has, looked_ids, looked_members}
@@ -11,3 +12,4 @@ pub use Rattle.dt_serial.proofs.Rows.{same_moves}
 pub use Rattle.dt_serial.proofs.Runs.{movers_ran, moves_grow, outcome_at, outcomes_append, outcomes_ids, table_after_append}
 pub use Rattle.dt_serial.proofs.SameOrder.{down_as, history_as}
 pub use Rattle.dt_serial.proofs.Valid.{valid_keeps}
+pub use Rattle.dt_serial.proofs.Unseen.{seen_apart}

@@ -42,7 +42,7 @@ node_of p = record {
 
 -- a site before anything happens, in a cluster of so many regions, with this table
 abbrev pub opening_site : ℕ → ℕ → Table → SiteView
-opening_site number regions table = record { region = record { state = opening_state number regions table; events = []; heard = 0 }; origins = [] }
+opening_site number regions table = record { region = record { state = opening_state number regions table; events = []; heard = 0; room = 0 }; origins = [] }
 
 -- stands for a site that there is not
 abbrev pub no_site : SiteView

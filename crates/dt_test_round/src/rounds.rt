@@ -15,7 +15,7 @@ use std::alloc::Global;
 use std::test::Fail;
 
 /// The events of a region from a place on, each behind its stamp, and at last whether it is drained.
-fn events_from<S: Scheduler>(
+pub fn events_from<S: Scheduler>(
     alloc: Global,
     region: &Region<S>,
     place: usize,
@@ -52,7 +52,7 @@ fn told<S: Scheduler + Drop>(alloc: Global, rows: &[Row]) -> Result<Vec<u8>, Fai
     go_on(alloc, &mut region, &procs, rows)
 }
 
-/// In a cluster of four the home of `d` is region 0, that of `a` region 1 and that of `b` region 2.
+/// In a cluster of four the home of `d` and `h` is region 0, that of `a` region 1 and that of `b` region 2.
 const DA: Call<'static> = (b"xfer", &[b"d", b"a", b"3"]);
 
 const AD: Call<'static> = (b"xfer", &[b"a", b"d", b"4"]);
@@ -61,12 +61,14 @@ const AB: Call<'static> = (b"xfer", &[b"a", b"b", b"1"]);
 
 const BD: Call<'static> = (b"xfer", &[b"b", b"d", b"1"]);
 
-const PUT: Call<'static> = (b"put", &[b"d", b"20"]);
+pub const PUT: Call<'static> = (b"put", &[b"d", b"20"]);
+
+pub const PUT_H: Call<'static> = (b"put", &[b"h", b"30"]);
 
 const GET: Call<'static> = (b"get", &[b"d"]);
 
 /// Parts, and what a round makes of them: one of two texts, where two transactions may run in either order.
-const ROUNDS: [(&[Row<'static>], &[u8], &[u8]); 4] = [
+pub const ROUNDS: [(&[Row<'static>], &[u8], &[u8]); 4] = [
     // Two that wait for each other run once they are resolved, in the order of their ids.
     (
         &[(0, 1, 0, DA), (0, 1, 1, AD), (1, 1, 1, AD), (1, 1, 0, DA)],

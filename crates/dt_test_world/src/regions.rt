@@ -16,7 +16,7 @@ use std::test::Fail;
 
 /// Region 0 of two before anything happens, without rows.
 fn first_of_two(alloc: Global) -> Result<Region<PlainSched>, Fail>
-    ensures { IfOk result (λ region. region ≡ record { state = opening_state 0 2 (opening 1 2 [] []); events = []; heard = 0 }) }
+    ensures { IfOk result (λ region. region ≡ record { state = opening_state 0 2 (opening 1 2 [] []); events = []; heard = 0; room = 0 }) }
 {
     let table = Table::new(alloc, 1, 2, &[], &[])?;
     Ok(Region::new(alloc, 0, 2, table)?)
@@ -61,7 +61,7 @@ fn places(
     number: u32,
     heard: u32,
 ) -> Result<bool, Fail>
-    requires { region.old ≡ record { state = opening_state 0 2 (opening 1 2 [] []); events = []; heard = 0 } }
+    requires { region.old ≡ record { state = opening_state 0 2 (opening 1 2 [] []); events = []; heard = 0; room = 0 } }
     ensures { OnOk result (region.new.state.regions ≡ 2) }
 {
     let txn = a_move(alloc)?;

@@ -6,5 +6,5 @@ use Rattle.dt_region.proofs.region.Region.ready.Goals as goal
 
 pub returns : goal.returns
 returns g c =
-    let seen = c.self.invariant.1 ∙ ap (λ (r : RegionView). sched_of r.state.logs r.state.here) c.self.view_is in
+    let seen = c.self.invariant.well.1 ∙ ap (λ (r : RegionView). sched_of r.state.logs r.state.here) c.self.view_is in
     subst (λ s. IfOk c.next_ready.result (IsNextReady s c.args.busy.now)) seen c.next_ready.ensures

@@ -1,0 +1,42 @@
+-- The search for an id that may be claimed: it passes over what is busy, each id once, and there are no more ids than parts.
+use Rattle.std.proofs.Common.{◌≡◌, ◌≤◌, ◌<◌, ◌+◌, ◌-◌, ℕ, List, [], ◌∷◌, ◌++◌, length, Some, None, subst, arith}
+use Rattle.std.proofs.lemmas.List.{length-append}
+use Rattle.dt_lists.specs.Lists.{AllIn, Distinct, Has}
+use Rattle.dt_lists.proofs.Callers.{all_get, all_map, all_more, distinct_push, distinct_within}
+use Rattle.dt_access.specs.declared.TxnId.{TxnId}
+use Rattle.dt_sched.specs.Sched.{CanExecute, IsNextReady, Sched}
+use Rattle.dt_sched.proofs.Callers.{complete_of_closed, has_of_present, ids_in, present_of_complete}
+use Rattle.dt_region.specs.Region.{RegionState, sched_of}
+use Rattle.dt_lock.specs.Held.{HeldView, IsBusy, IsNextFree}
+
+-- the ids that were passed over may be executed and are busy, and each was passed over once
+pub record ArePassed (before : RegionState) (h : HeldView) (ids : List TxnId) : Type 0 where
+  pub each : AllIn (λ id. CanExecute (sched_of h.region.state.logs h.region.state.here) id × IsBusy before h.running id) ids
+  pub once : Distinct ids
+
+-- how many more can be passed over at most
+abbrev pub ids_left : HeldView → List TxnId → ℕ
+ids_left h ids = length (ids_in (sched_of h.region.state.logs h.region.state.here).logs) - length ids
+
+pub none_passed : (before : RegionState) (h : HeldView) → ArePassed before h []
+none_passed before h = record { each = tt; once = tt }
+
+module _ (before : RegionState) (h : HeldView) (ids : List TxnId) (passed : ArePassed before h ids) where
+  sched : Sched
+  sched = sched_of h.region.state.logs h.region.state.here
+
+  pub passed_all : IsNextReady (sched_of h.region.state.logs h.region.state.here) ids None → IsNextFree before h None
+  passed_all none id can = (all_get _ ids passed.each id (none id can)).1
+
+  module _ (id : TxnId) (ready : IsNextReady (sched_of h.region.state.logs h.region.state.here) ids (Some id)) (busy : IsBusy before h.running id) where
+    pub one_passed : ArePassed before h (ids ++ id ∷ [])
+    one_passed = record { each = all_more _ ids id passed.each (ready.0, busy); once = distinct_push ids id passed.once ready.1 }
+
+    known : (other : TxnId) → CanExecute sched other → Has (ids_in sched.logs) other
+    known other can = has_of_present sched.logs other (present_of_complete sched.logs other (complete_of_closed sched.logs other can.closed))
+
+    pub one_left_less : ids_left h (ids ++ id ∷ []) < ids_left h ids
+    one_left_less =
+        let few : length (ids ++ id ∷ []) ≤ length (ids_in sched.logs) = distinct_within (ids ++ id ∷ []) (ids_in sched.logs) one_passed.once (all_map _ _ (ids ++ id ∷ []) (λ other k. known other k.0) one_passed.each) in
+        let more : length (ids ++ id ∷ []) ≡ length ids + 1 = length-append ids (id ∷ []) in
+        omega (arith, few, more)

@@ -1,0 +1,4 @@
+pub mod Touching
+pub mod HeldSteps
+pub mod Free
+pub mod Empty

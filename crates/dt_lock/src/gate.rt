@@ -1,0 +1,16 @@
+use dt_access::TxnId;
+
+/// What a worker passes between its work and its commit, outside the lock. It changes nothing that a contract sees; a test
+/// sees by one how many workers are at work at once.
+pub trait Gate: Sync {
+    /// Called with the id of what was worked, before it is committed.
+    fn between(&self, id: TxnId);
+}
+
+/// The gate that lets everyone pass.
+#[derive(Drop)]
+pub struct NoGate;
+
+impl Gate for NoGate {
+    fn between(&self, _id: TxnId) {}
+}

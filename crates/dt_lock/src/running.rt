@@ -1,0 +1,72 @@
+ghost use Rattle.std.specs.Prelude.{◌≡◌, ◌↔◌, ◌<◌, [], ◌∷◌, ◌++◌, vec_len, vec_capacity, IsTrue};
+ghost use Rattle.dt_lists.specs.Lists.{Has};
+ghost use Rattle.dt_lock.specs.Held.{without};
+
+use dt_access::TxnId;
+use dt_txn::{Seen, Seens};
+
+/// A claim that is running, as the lock notes it: whose it is, and what its transaction saw.
+#[derive(Drop)]
+pub struct Running {
+    pub id: TxnId,
+    pub seen: Seens,
+}
+
+/// Whether a claim of this id, whose transaction saw just this, is running.
+pub fn is_running(running: &[Running], id: TxnId, seen: &Seens) -> bool
+    ensures { IsTrue result ↔ Has running.now (record { id = id; seen = seen.now }) }
+{
+    for one in running {
+        if one.id == id && saw_alike(one.seen.as_slice(), seen.as_slice()) {
+            return true;
+        }
+    }
+    false
+}
+
+/// Takes off what is running of an id.
+pub fn take_off(running: &mut Vec<Running>, id: TxnId)
+    ensures { running.new.items ≡ without id running.old.items }
+{
+    running.retain(|one| one.id != id);
+}
+
+/// Notes one more that is running, as the last one. Takes no memory where there is room.
+pub fn note(running: &mut Vec<Running>, one: Running)
+    requires { vec_len running.old < vec_capacity running.old }
+    ensures { running.new.items ≡ running.old.items ++ one ∷ [] }
+{
+    match running.push(one) {
+        Ok(()) => (),
+        Err(_) => unreachable!(),
+    }
+}
+
+// Whether two transactions saw the same.
+fn saw_alike(left: &[Seen], right: &[Seen]) -> bool
+    ensures { IsTrue result ↔ (left.now ≡ right.now) }
+{
+    let mut left = left;
+    let mut right = right;
+    while let Some((one, others)) = left.split_first() {
+        let Some((other, rest)) = right.split_first() else {
+            return false;
+        };
+        if !alike(one, other) {
+            return false;
+        }
+        left = others;
+        right = rest;
+    }
+    right.is_empty()
+}
+
+// Whether the same was seen at two entries.
+fn alike(left: &Seen, right: &Seen) -> bool
+    ensures { IsTrue result ↔ (left.now ≡ right.now) }
+{
+    left.unit == right.unit
+        && left.value == right.value
+        && left.counter == right.counter
+        && left.mover == right.mover
+}
