@@ -7,6 +7,7 @@ ghost use Rattle.dt_world.specs.WorldReport.{report_of};
 ghost use Rattle.dt_run.specs.Done.{IsAllDone};
 ghost use Rattle.dt_run.specs.NodesStand.{AreNodes};
 ghost use Rattle.dt_run.specs.Run.{IsRunReport};
+ghost use Rattle.dt_run.specs.Silence.{MakesFewPhases};
 
 use crate::nodes::Nodes;
 use dt_cluster::Cluster;
@@ -21,8 +22,9 @@ use std::sync::Wait;
 use std::thread::Threads;
 
 /// Makes phases until every call is answered and every region has executed every attempt, and gives the report of the events
-/// that the nodes then hold, in the order of their stamps. No clause says that it returns. It fails only for want of memory;
-/// then the nodes are as after some phases, of which the last one may have been made in part.
+/// that the nodes then hold, in the order of their stamps. It makes only so many phases, whatever packets are lost, so it returns
+/// if each of them does. It fails only for want of memory; then the nodes are as after some phases, of which the last one may
+/// have been made in part.
 pub fn run<R: Threads + Wait + Sync, S: Scheduler + Drop + Send>(
     rt: &R,
     alloc: Global,
@@ -33,15 +35,15 @@ pub fn run<R: Threads + Wait + Sync, S: Scheduler + Drop + Send>(
     ensures cluster { nodes.new.cluster ≡ nodes.old.cluster }
     ensures workload { nodes.new.workload ≡ nodes.old.workload }
     ensures done { OnOk result (IsAllDone nodes.new) }
+    ensures phases { OnOk result (MakesFewPhases nodes.old nodes.new) }
     ensures report { IfOk result (IsRunReport nodes.new) }
 {
-    for _ in rt.forever() {
+    'phases: loop {
         nodes.phase(rt, alloc)?;
         if nodes.finished() {
             return nodes.report(alloc);
         }
     }
-    unreachable!()
 }
 
 /// The report of events of a cluster and its workload. They are made again, one after another, in one world.
