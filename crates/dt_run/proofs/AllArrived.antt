@@ -220,7 +220,7 @@ module _ {cluster : Cluster} {workload : Workload} {events : List Event} (some :
         go (Some id) = sym (outcome_is id)
 
     no_submit : (name : Bytes) → ¬ (MaySubmit cluster w region (session_at workload.sessions w.places region name))
-    no_submit name m = (still name).waits (subst (MayGo (node_in v region).sessions name) (last_is name) (may_go stand name m))
+    no_submit name m = (still name).no_submission (subst (MayGo (node_in v region).sessions name) (last_is name) (may_go stand name m))
 
     no_answer : (name : Bytes) → ¬ (MayAnswer cluster w region (session_at workload.sessions w.places region name))
     no_answer name m = (still name).unanswered (subst (MayBeAnswered (node_in v region).sessions name) (last_is name) (may_be_answered stand name m))
