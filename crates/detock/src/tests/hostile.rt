@@ -153,63 +153,62 @@ fn each_long_file_is_told<R: Threads + Wait + Sync>(rt: &R, alloc: Global) -> Re
     Ok(holds)
 }
 
-/// The front of a file, what follows so many times, and the back.
-fn repeated(
-    alloc: Global,
-    front: &str,
-    piece: &str,
-    times: u32,
-    back: &str,
-) -> Result<Vec<u8>, Fail> {
-    let mut file = front.as_bytes().to_vec(alloc)?;
+/// A file, by its front, the piece that follows it, how often, and its back.
+type Repeated = (&'static str, &'static str, u32, &'static str);
+
+/// The cluster of one region, and a workload of nothing.
+const ONE_REGION: Repeated = ("regions = 1\n", "", 0, "");
+
+const NOTHING: Repeated = ("", "", 0, "");
+
+/// A cluster and a workload with one thing too many: the items of a text, the brackets that are open in a procedure, its `{` among
+/// them, and the calls.
+const TOO_MANY: [(Repeated, Repeated, u8, &str); 3] = [
+    (
+        ONE_REGION,
+        ("session a at 0\ncall note \"t\" \"", "x", 257, "\"\n"),
+        5,
+        "detock: workload line 2: no line of a workload\n",
+    ),
+    (
+        (
+            "regions = 1\nprocs = \"proc f(k: text) read a = k; { let x = ",
+            "(",
+            64,
+            "\"\n",
+        ),
+        NOTHING,
+        4,
+        "detock: cluster procs byte 101: too many\n",
+    ),
+    (
+        ONE_REGION,
+        ("session a at 0\n", "call put \"b\" 5\n", 20_001, ""),
+        5,
+        "detock: workload line 20002: too many\n",
+    ),
+];
+
+/// The bytes of a file.
+fn repeated(alloc: Global, file: Repeated) -> Result<Vec<u8>, Fail> {
+    let (front, piece, times, back) = file;
+    let mut bytes = front.as_bytes().to_vec(alloc)?;
     for _ in 0..times {
-        file.extend_from_slice(piece.as_bytes())?;
+        bytes.extend_from_slice(piece.as_bytes())?;
     }
-    file.extend_from_slice(back.as_bytes())?;
-    Ok(file)
+    bytes.extend_from_slice(back.as_bytes())?;
+    Ok(bytes)
 }
 
-/// Whether a call with a text of 257 items, the 64th bracket that is open in a procedure, its `{` among them, and call 20,001 are
-/// told.
+/// Whether each thing that is one too many is told.
 fn each_thing_too_many_is_told<R: Threads + Wait + Sync>(
     rt: &R,
     alloc: Global,
 ) -> Result<bool, Fail> {
-    let one = b"regions = 1\n".to_vec(alloc)?;
-    let none = Vec::new(alloc);
     let mut holds = true;
-    for (cluster, workload, exit, line) in [
-        (
-            one.clone()?,
-            repeated(
-                alloc,
-                "session a at 0\ncall note \"t\" \"",
-                "x",
-                257,
-                "\"\n",
-            )?,
-            5u8,
-            "detock: workload line 2: no line of a workload\n",
-        ),
-        (
-            repeated(
-                alloc,
-                "regions = 1\nprocs = \"proc f(k: text) read a = k; { let x = ",
-                "(",
-                64,
-                "\"\n",
-            )?,
-            none,
-            4,
-            "detock: cluster procs byte 101: too many\n",
-        ),
-        (
-            one,
-            repeated(alloc, "session a at 0\n", "call put \"b\" 5\n", 20_001, "")?,
-            5,
-            "detock: workload line 20002: too many\n",
-        ),
-    ] {
+    for (cluster, workload, exit, line) in TOO_MANY {
+        let cluster = repeated(alloc, cluster)?;
+        let workload = repeated(alloc, workload)?;
         let texts = [("c", cluster.as_slice()), ("w", workload.as_slice())];
         let files = folder_of(alloc, &texts, &[])?;
         let told = call(rt, alloc, &["run", "c", "w"], files, (AMPLE, AMPLE))?;
