@@ -10,6 +10,7 @@ use std::sync::Wait;
 use std::test::Fail;
 use std::thread::Threads;
 
+mod hostile;
 mod moves;
 mod replays;
 mod runs;
@@ -288,6 +289,36 @@ fn other_words_are_told_which_words_there_are(rt: HostRuntime) -> Result<(), Fai
     Ok(())
 }
 
+/// The cluster and the calls of a shop: the second call has not enough credit.
+const SHOP: &[&str] = &[
+    "regions = 2",
+    "procs = \'\'\'",
+    "proc buy(c: text, s: text, n: int)",
+    "  write who = \"cust/\" ++ c;",
+    "  write item = \"stock/\" ++ s;",
+    "{",
+    "  let price = 20 * n;",
+    "  if int(item) < n { abort \"sold out\"; }",
+    "  if int(who) < price { abort \"credit\"; }",
+    "  set item = int(item) - n;",
+    "  set who = int(who) - price;",
+    "  give int(item), int(who);",
+    "}",
+    "\'\'\'",
+    "[homes]",
+    "\"stock/7\" = 0",
+    "\"cust/ann\" = 1",
+    "[rows]",
+    "\"stock/7\" = 3",
+    "\"cust/ann\" = 50",
+];
+
+const SHOP_CALLS: &[&str] = &[
+    "session w at 0",
+    "call buy \"ann\" \"7\" 2",
+    "call buy \"ann\" \"7\" 1",
+];
+
 /// The workload, the events and the report of one put in one region.
 const ONE_PUT: &[u8] = b"session a at 0\ncall put \"b\" 5\n";
 
@@ -396,42 +427,6 @@ fn a_sink_that_fails_holds_a_prefix(rt: HostRuntime) -> Result<(), Fail> {
     // A fault of `err` changes no status.
     let want = b"7 detock: |replies\nreply a 1 done\norder\n1.0 a 1 1 d".as_slice();
     assert_eq!(rt; told.as_slice(), want);
-    Ok(())
-}
-
-/// How a replay ends where the file of this name has one byte more than any file may have.
-fn of_long_file<R: Threads + Wait + Sync>(
-    rt: &R,
-    alloc: Global,
-    name: &str,
-) -> Result<Vec<u8>, Fail> {
-    let files = vec![in alloc;
-        (
-            String::from_str(alloc, name)?,
-            vec![in alloc; b' '; 16_777_217]?
-        ),
-        (
-            String::from_str(alloc, "c")?,
-            b"regions = 1\n".to_vec(alloc)?
-        ),
-        (String::from_str(alloc, "w")?, Vec::new(alloc)),
-    ]?;
-    let files = MemoryFolder::new(files, Vec::new(alloc));
-    call(rt, alloc, &["replay", "c", "w", "e"], files, (AMPLE, AMPLE))
-}
-
-#[test]
-fn files_above_the_limit_are_too_long(rt: HostRuntime) -> Result<(), Fail> {
-    for (name, exit, line) in [
-        ("c", 4, "detock: cluster: too long\n"),
-        ("w", 5, "detock: workload line 0: too long\n"),
-        ("e", 6, "detock: events line 0: too long\n"),
-    ] {
-        assert_eq!(rt;
-            of_long_file(&rt, rt.alloc(), name)?,
-            refused(rt.alloc(), exit, line)?
-        );
-    }
     Ok(())
 }
 

@@ -1,6 +1,8 @@
-//! Tests of runs: how many phases the nodes of a cluster make until all is done.
-//! A case is a cluster and a workload, as a reader would write them; there is no other code here.
+//! Tests of what runs come to: all regions at once, until nothing is left.
+//! Each is a table of outside values with one loop and one assertion; there is no other code here.
 #![tactic(auto)]
 
+#[cfg(test)]
+mod generated;
 #[cfg(test)]
 mod phases;

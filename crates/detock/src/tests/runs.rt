@@ -1,5 +1,5 @@
 //! Runs: all regions at once, which make the events themselves.
-use super::{AMPLE, call, file_of, folder_of, refused, words_of};
+use super::{AMPLE, SHOP, SHOP_CALLS, call, file_of, folder_of, refused, words_of};
 use crate::words::threaded_words;
 use std::alloc::Global;
 use std::sync::Wait;
@@ -64,33 +64,8 @@ const CASES: [Case; 4] = [
     },
     Case {
         shows: "a session makes its calls in turn, and the second has not enough credit",
-        cluster: &[
-            "regions = 2",
-            "procs = \'\'\'",
-            "proc buy(c: text, s: text, n: int)",
-            "  write who = \"cust/\" ++ c;",
-            "  write item = \"stock/\" ++ s;",
-            "{",
-            "  let price = 20 * n;",
-            "  if int(item) < n { abort \"sold out\"; }",
-            "  if int(who) < price { abort \"credit\"; }",
-            "  set item = int(item) - n;",
-            "  set who = int(who) - price;",
-            "  give int(item), int(who);",
-            "}",
-            "\'\'\'",
-            "[homes]",
-            "\"stock/7\" = 0",
-            "\"cust/ann\" = 1",
-            "[rows]",
-            "\"stock/7\" = 3",
-            "\"cust/ann\" = 50",
-        ],
-        workload: &[
-            "session w at 0",
-            "call buy \"ann\" \"7\" 2",
-            "call buy \"ann\" \"7\" 1",
-        ],
+        cluster: SHOP,
+        workload: SHOP_CALLS,
         replies: &["reply w 1 done 1 10", "reply w 2 abort \"credit\""],
         told: &[
             "order",
