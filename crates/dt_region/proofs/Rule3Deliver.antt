@@ -249,7 +249,8 @@ module _ (r : RegionView) (s : RegionState) (events : List Stamped) (heard room 
           whole : record { state = made foreign logs; events = after; heard = heard; room = room } ≡ r
           whole = (λ j. record { state = old_is j; events = kept j; heard = heard; room = room }) ∙ stands.view
 
-          by : (x : Taken) → ((m : ℕ) → x ≢ New m) → Takes log_here first parts (Ok x) (log_at logs home) → MakesDelivery r home begin first entries (Ok x) (record { state = made foreign logs; events = after; heard = heard; room = room })
+          by : (x : Taken) → ((m : ℕ) → x ≢ New m) → Takes log_here first parts (Ok x) (log_at logs home)
+              → MakesDelivery r home begin first entries (Ok x) (record { state = made foreign logs; events = after; heard = heard; room = room })
           by (New m) other h = absurd (other m refl)
           by Old other h =
               let reach : first ≤ length (log_at r.state.logs home) = subst (λ x. first ≤ length (log_at x.state.logs home)) stands.view h.0 in

@@ -12,7 +12,8 @@ pub record IsSeenAs (s : RegionState) (events : List Stamped) (heard room : ℕ)
   pub view : record { state = s; events = events; heard = heard; room = room } ≡ r
   pub well : AreWell s seen
 
-pub seen_as : {s : RegionState} {events : List Stamped} {heard room : ℕ} {seen : Sched} {r : RegionView} → record { state = s; events = events; heard = heard; room = room } ≡ r → AreWell s seen → IsSeenAs s events heard room seen r
+pub seen_as : {s : RegionState} {events : List Stamped} {heard room : ℕ} {seen : Sched} {r : RegionView} → record { state = s; events = events; heard = heard; room = room } ≡ r → AreWell s seen
+    → IsSeenAs s events heard room seen r
 seen_as view well = record { view = view; well = well }
 
 -- an event under a stamp
