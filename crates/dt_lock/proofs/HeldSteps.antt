@@ -1,7 +1,7 @@
 -- Each step under the lock keeps what holds whenever the lock is free.
 use Rattle.std.proofs.Common.{◌≡◌, ◌≢◌, ◌<◌, ◌≤◌, ◌+◌, ◌-◌, ℕ, Bool, true, false, List, [], ◌∷◌, ◌++◌, length, map, max, Option, Some, None, Result, Ok, Err, refl, sym, ap, ap₂, subst, ◌∙◌, inl, inr, arith}
 use Rattle.std.proofs.lemmas.Bool.{false_from_ne_true}
-use Rattle.std.proofs.lemmas.List.{length-append}
+use Rattle.std.proofs.lemmas.List.{length-append, length-map}
 use Rattle.std.proofs.lemmas.Option.{same_Some}
 use Rattle.std.proofs.Math.Nat.{le-max_right}
 use Rattle.dt_lists.specs.Lists.{AllIn, EachThen, Has}
@@ -19,19 +19,19 @@ use Rattle.dt_table.specs.Table.{Table}
 use Rattle.dt_txn.specs.declared.txn.Txn.{Txn}
 use Rattle.dt_txn.specs.declared.outcome.Seen.{Seen}
 use Rattle.dt_txn.specs.Transaction.{IsValid, used_of}
-use Rattle.dt_txn.specs.Execution.{execution, one, see}
+use Rattle.dt_txn.specs.Execution.{execution, one, see, seen_of}
 use Rattle.dt_txn.specs.Replica.{executed}
 use Rattle.dt_txn.specs.Serial.{after}
 use Rattle.dt_region.specs.Region.{RegionState, RegionView, held, sched_of}
 use Rattle.dt_region.specs.Rules.{MakesStep, MayMake, after_finishing, after_step, with_event}
 use Rattle.dt_region.specs.Conditions.{ComesTo, HasRun}
 use Rattle.dt_region.specs.Sound.{IsSoundRegion}
-use Rattle.dt_region.proofs.Callers.{executable_held, execute_leaves, insert_leaves, resolve_leaves, step_sound}
+use Rattle.dt_region.proofs.Callers.{executable_held, execute_leaves, held_id, insert_leaves, resolve_leaves, step_sound}
 use Rattle.dt_round.specs.Rounds.{CanRound}
 use Rattle.dt_round.proofs.Callers.{at_first, one_more, whatever_room}
 use Rattle.dt_lock.specs.declared.running.Running.{Running}
-use Rattle.dt_lock.specs.Claims.{FinishedView, IsClaim, IsFinished}
-use Rattle.dt_lock.specs.Held.{AreApart, AreClashing, HeldView, IsBusy, IsHeld, noted, sight_in, uses_in, without}
+use Rattle.dt_lock.specs.Claims.{ClaimView, FinishedView, IsClaim, IsFinished}
+use Rattle.dt_lock.specs.Held.{AreApart, AreClashing, HeldView, IsBusy, IsClaimed, IsHeld, noted, sight_in, uses_in, without}
 use Rattle.dt_lock.proofs.Touching.{apart_more, fewer_left, left_without, one_less_left, touch_not}
 
 -- a region that comes behind its lock
@@ -109,6 +109,26 @@ module _ (procs : List ProcTree) (before : RegionView) (v : HeldView) (h : IsHel
           omega (arith, more, fits);
     }
 
+    pub claim_noted : (later : RegionView) (running : List Running) → later ≡ record v.region { room = max v.region.room (length v.running + 1) } → running ≡ v.running ++ record { id = id; seen = seen } ∷ []
+        → IsHeld procs before (record { region = later; running = running })
+    claim_noted later running is more =
+        subst (λ l. IsHeld procs before (record { region = later; running = l })) (sym more)
+        (subst (λ r. IsHeld procs before (record { region = r; running = v.running ++ record { id = id; seen = seen } ∷ [] })) (sym is) one_running)
+
+    pub is_claim : IsClaim procs before.state (record { txn = txn; seen = seen })
+    is_claim = record {
+      known = subst (λ i. held before.state i ≡ Some txn) (sym (held_id before.state id txn known)) known;
+      valid = h.underway.began.holds id txn known;
+      sized = ap length sees ∙ length-map txn.access (seen_of v.region.state.here.table);
+    }
+
+    pub is_claimed : (later : RegionView) (running : List Running) → later ≡ record v.region { room = max v.region.room (length v.running + 1) } → running ≡ v.running ++ record { id = id; seen = seen } ∷ []
+        → IsClaimed v (record { txn = txn; seen = seen }) (record { region = later; running = running })
+    is_claimed later running is more = record {
+      seen = sees;
+      is = ap₂ (λ r l. record { region = r; running = l }) is (more ∙ ap (λ i. v.running ++ record { id = i; seen = seen } ∷ []) (sym (held_id before.state id txn known)));
+    }
+
   -- a claim that is running is committed
   module _ (r : Running) (there : Has v.running r) where
     pub can_commit : CanExecute (sched_of v.region.state.logs v.region.state.here) r.id
@@ -170,6 +190,12 @@ module _ (procs : List ProcTree) (before : RegionView) (v : HeldView) (h : IsHel
 
     pub has_run : HasRun v.region.state f.claim.txn.id f.outcome f.effect
     has_run = record { procs = procs; comes = comes_now }
+
+-- what was found running is the claim
+pub found_running : (running given : List Running) (id : TxnId) (seen : List Seen) (claim : ClaimView) → given ≡ running → id ≡ claim.txn.id → seen ≡ claim.seen
+    → Has given (record { id = id; seen = seen }) → Has running (noted claim)
+found_running running given id seen claim e i s there =
+    subst (λ l. Has l (noted claim)) e (subst (λ x. Has given (record { id = x; seen = claim.seen })) i (subst (λ x. Has given (record { id = id; seen = x })) s there))
 
 -- a class that the region was told is resolved
 pub resolves_some : (r later : RegionView) (ids given : List TxnId) (on : Bool) → CanResolve (sched_of r.state.logs r.state.here) ids → given ≡ ids

@@ -207,9 +207,11 @@ impl<S: Scheduler, N: Named> Held<S, N> {
     pub fn give_back(&mut self, claim: Claim<N>)
         ensures { GivesBack self.old claim self.new }
     {
-        if is_running(self.running.as_slice(), claim.id(), claim.seen()) {
-            take_off(&mut self.running, claim.id());
+        let id = claim.id();
+        if !is_running(self.running.as_slice(), id, claim.seen()) {
+            return;
         }
+        take_off(&mut self.running, id);
     }
 
     /// Takes off every running claim, so that the region can leave. Takes no memory.
