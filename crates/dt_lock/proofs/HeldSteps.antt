@@ -1,5 +1,6 @@
 -- Each step under the lock keeps what holds whenever the lock is free.
-use Rattle.std.proofs.Common.{◌≡◌, ◌≢◌, ◌<◌, ◌≤◌, ◌+◌, ◌-◌, ℕ, Bool, true, false, List, [], ◌∷◌, ◌++◌, length, map, max, Option, Some, None, Result, Ok, Err, refl, sym, ap, ap₂, subst, ◌∙◌, inl, inr, arith}
+use Rattle.std.proofs.Common.{◌≡◌, ◌≢◌, ◌<◌, ◌≤◌, ◌+◌, ◌-◌, ℕ, Bool, true, false, List, [], ◌∷◌, ◌++◌, length, map, max, Option, Some, None}
+use Rattle.std.proofs.Common.{Result, Ok, Err, refl, sym, ap, ap₂, subst, ◌∙◌, inl, inr, arith}
 use Rattle.std.proofs.lemmas.Bool.{false_from_ne_true}
 use Rattle.std.proofs.lemmas.List.{length-append, length-map}
 use Rattle.std.proofs.lemmas.Option.{same_Some}
@@ -30,8 +31,8 @@ use Rattle.dt_region.proofs.Callers.{executable_held, execute_leaves, held_id, i
 use Rattle.dt_round.specs.Rounds.{CanRound}
 use Rattle.dt_round.proofs.Callers.{at_first, one_more, whatever_room}
 use Rattle.dt_lock.specs.declared.running.Running.{Running}
-use Rattle.dt_lock.specs.Claims.{ClaimView, FinishedView, IsClaim, IsFinished}
-use Rattle.dt_lock.specs.Held.{AreApart, AreClashing, HeldView, IsBusy, IsClaimed, IsHeld, noted, sight_in, uses_in, without}
+use Rattle.dt_lock.specs.Claims.{ClaimView, FinishedView, IsClaim, IsWorked}
+use Rattle.dt_lock.specs.Held.{AreDisjoint, IdsClash, HeldView, IsBusy, IsClaimed, IsHeld, as_running, sight_in, uses_held, without_claim}
 use Rattle.dt_lock.proofs.Touching.{apart_more, fewer_left, left_without, one_less_left, touch_not}
 
 -- a region that comes behind its lock
@@ -82,12 +83,12 @@ module _ (procs : List ProcTree) (before : RegionView) (v : HeldView) (h : IsHel
   resolved ids (Err e) later makes sound = same_region later makes
 
   -- some are taken off
-  pub taken_off : (id : TxnId) → IsHeld procs before (record v { running = without id v.running })
+  pub taken_off : (id : TxnId) → IsHeld procs before (record v { running = without_claim id v.running })
   taken_off id = record {
     underway = h.underway;
     executable = filter_all _ _ v.running h.executable;
     rows = filter_all _ _ v.running h.rows;
-    apart = filter_each (AreApart before.state) _ v.running h.apart;
+    apart = filter_each (AreDisjoint before.state) _ v.running h.apart;
     room = let few = fewer_left id v.running in let room = h.room in omega (arith, few, room);
   }
 
@@ -156,18 +157,18 @@ module _ (procs : List ProcTree) (before : RegionView) (v : HeldView) (h : IsHel
         by : (o : Option Txn) → held before.state other.id ≡ o → sight_in o (after procs found.0 v.region.state.here.table) ≡ sight_in o v.region.state.here.table
         by None e = refl
         by (Some txn) e =
-            let untouched : ¬ (AreClashing before.state r.id other.id) = touch_not before.state v.running h.apart r other there running (λ same. apart (sym same)) in
+            let untouched : ¬ (IdsClash before.state r.id other.id) = touch_not before.state v.running h.apart r other there running (λ same. apart (sym same)) in
             let mine : held before.state r.id ≡ Some found.0 = sym (held_stays r.id) ∙ found.1 in
-            let never : clash (map used_of found.0.access) (map used_of txn.access) ≡ false = false_from_ne_true _ (λ c. untouched (ap₂ (λ a b. clash (uses_in a) (uses_in b)) mine e ∙ c)) in
+            let never : clash (map used_of found.0.access) (map used_of txn.access) ≡ false = false_from_ne_true _ (λ c. untouched (ap₂ (λ a b. clash (uses_held a) (uses_held b)) mine e ∙ c)) in
             seen_apart procs v.region.state.regions found.0 txn v.region.state.here.table (h.underway.holds r.id found.0 found.1) never
 
-    pub committed : (later : RegionView) → later ≡ after_finishing procs v.region r.id → IsHeld procs before (record { region = later; running = without r.id v.running })
-    committed later is = subst (λ x. IsHeld procs before (record { region = x; running = without r.id v.running })) (sym is) (record {
+    pub committed : (later : RegionView) → later ≡ after_finishing procs v.region r.id → IsHeld procs before (record { region = later; running = without_claim r.id v.running })
+    committed later is = subst (λ x. IsHeld procs before (record { region = x; running = without_claim r.id v.running })) (sym is) (record {
       underway = whatever_room procs before plain (v.region.room - 1) (one_more procs before v.region h.underway plain (record { event = event; mine = refl; makes = (can_commit, refl) }) plain_sound);
-      executable = all_map _ _ (without r.id v.running) (λ other k.
+      executable = all_map _ _ (without_claim r.id v.running) (λ other k.
           execute_leaves procs v.region.state h.underway.sound other.id (all_get _ v.running h.executable other k.0) r.id can_commit (λ same. k.1 (sym same))) (left_without r.id v.running);
-      rows = all_map _ _ (without r.id v.running) (λ other k. sees_on other k.0 k.1 (all_get _ v.running h.rows other k.0)) (left_without r.id v.running);
-      apart = filter_each (AreApart before.state) _ v.running h.apart;
+      rows = all_map _ _ (without_claim r.id v.running) (λ other k. sees_on other k.0 k.1 (all_get _ v.running h.rows other k.0)) (left_without r.id v.running);
+      apart = filter_each (AreDisjoint before.state) _ v.running h.apart;
       room = let less = one_less_left r.id v.running r there refl in let room = h.room in omega (arith, less, room);
     })
 
@@ -176,9 +177,9 @@ module _ (procs : List ProcTree) (before : RegionView) (v : HeldView) (h : IsHel
     has_room = let less = one_less_left r.id v.running r there refl in let room = h.room in omega (arith, less, room)
 
   -- what is finished of a claim that is running is what its transaction comes to now
-  module _ (f : FinishedView) (there : Has v.running (noted f.claim)) (claim : IsClaim procs before.state f.claim) (finished : IsFinished procs f) where
+  module _ (f : FinishedView) (there : Has v.running (as_running f.claim)) (claim : IsClaim procs before.state f.claim) (finished : IsWorked procs f) where
     sees_now : f.claim.seen ≡ see f.claim.txn v.region.state.here.table
-    sees_now = all_get _ v.running h.rows (noted f.claim) there ∙ ap (λ o. sight_in o v.region.state.here.table) claim.known
+    sees_now = all_get _ v.running h.rows (as_running f.claim) there ∙ ap (λ o. sight_in o v.region.state.here.table) claim.known
 
     pub comes_now : ComesTo procs v.region.state f.claim.txn.id f.outcome f.effect
     comes_now = record {
@@ -193,9 +194,9 @@ module _ (procs : List ProcTree) (before : RegionView) (v : HeldView) (h : IsHel
 
 -- what was found running is the claim
 pub found_running : (running given : List Running) (id : TxnId) (seen : List Seen) (claim : ClaimView) → given ≡ running → id ≡ claim.txn.id → seen ≡ claim.seen
-    → Has given (record { id = id; seen = seen }) → Has running (noted claim)
+    → Has given (record { id = id; seen = seen }) → Has running (as_running claim)
 found_running running given id seen claim e i s there =
-    subst (λ l. Has l (noted claim)) e (subst (λ x. Has given (record { id = x; seen = claim.seen })) i (subst (λ x. Has given (record { id = id; seen = x })) s there))
+    subst (λ l. Has l (as_running claim)) e (subst (λ x. Has given (record { id = x; seen = claim.seen })) i (subst (λ x. Has given (record { id = id; seen = x })) s there))
 
 -- a class that the region was told is resolved
 pub resolves_some : (r later : RegionView) (ids given : List TxnId) (on : Bool) → CanResolve (sched_of r.state.logs r.state.here) ids → given ≡ ids
