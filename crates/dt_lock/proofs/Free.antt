@@ -1,5 +1,5 @@
 -- The search for an id that may be claimed: it passes over what is busy, each id once, and there are no more ids than parts.
-use Rattle.std.proofs.Common.{◌≡◌, ◌≤◌, ◌<◌, ◌+◌, ◌-◌, ℕ, List, [], ◌∷◌, ◌++◌, length, Some, None, subst, arith}
+use Rattle.std.proofs.Common.{◌≡◌, ◌≤◌, ◌<◌, ◌+◌, ◌-◌, ℕ, List, [], ◌∷◌, ◌++◌, length, Option, Some, None, subst, arith}
 use Rattle.std.proofs.lemmas.List.{length-append}
 use Rattle.dt_lists.specs.Lists.{AllIn, Distinct, Has}
 use Rattle.dt_lists.proofs.Callers.{all_get, all_map, all_more, distinct_push, distinct_within}
@@ -14,6 +14,13 @@ pub record ArePassed (before : RegionState) (h : HeldView) (ids : List TxnId) : 
   pub each : AllIn (λ id. CanExecute (sched_of h.region.state.logs h.region.state.here) id × IsBusy before h.running id) ids
   pub once : Distinct ids
 
+-- what a region answers to a search for an id that it may execute, said of the region behind its lock
+pub ready_there : (v h : HeldView) → v ≡ h → (ids given : List TxnId) → given ≡ ids → (found answer : Option TxnId) → found ≡ answer
+    → IsNextReady (sched_of v.region.state.logs v.region.state.here) given found → IsNextReady (sched_of h.region.state.logs h.region.state.here) ids answer
+ready_there v h same ids given e found answer f ready =
+    subst (λ (x : HeldView). IsNextReady (sched_of x.region.state.logs x.region.state.here) ids answer) same
+    (subst (λ l. IsNextReady (sched_of v.region.state.logs v.region.state.here) l answer) e (subst (IsNextReady (sched_of v.region.state.logs v.region.state.here) given) f ready))
+
 -- how many more can be passed over at most
 abbrev pub ids_left : HeldView → List TxnId → ℕ
 ids_left h ids = length (ids_in (sched_of h.region.state.logs h.region.state.here).logs) - length ids
@@ -22,7 +29,7 @@ pub none_passed : (before : RegionState) (h : HeldView) → ArePassed before h [
 none_passed before h = record { each = tt; once = tt }
 
 module _ (before : RegionState) (h : HeldView) (ids : List TxnId) (passed : ArePassed before h ids) where
-  sched : Sched
+  abbrev sched : Sched
   sched = sched_of h.region.state.logs h.region.state.here
 
   pub passed_all : IsNextReady (sched_of h.region.state.logs h.region.state.here) ids None → IsNextFree before h None

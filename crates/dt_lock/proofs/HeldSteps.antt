@@ -1,7 +1,8 @@
 -- Each step under the lock keeps what holds whenever the lock is free.
-use Rattle.std.proofs.Common.{◌≡◌, ◌≢◌, ◌<◌, ◌≤◌, ◌+◌, ◌-◌, ℕ, Bool, true, false, List, [], ◌∷◌, ◌++◌, length, map, max, Option, Some, None, Result, Ok, Err, refl, sym, ap, ap₂, subst, ◌∙◌, inl, inr, arith}
+use Rattle.std.proofs.Common.{◌≡◌, ◌≢◌, ◌<◌, ◌≤◌, ◌+◌, ◌-◌, ℕ, Bool, true, false, List, [], ◌∷◌, ◌++◌, length, map, max, Option, Some, None}
+use Rattle.std.proofs.Common.{Result, Ok, Err, refl, sym, ap, ap₂, subst, ◌∙◌, inl, inr, arith}
 use Rattle.std.proofs.lemmas.Bool.{false_from_ne_true}
-use Rattle.std.proofs.lemmas.List.{length-append}
+use Rattle.std.proofs.lemmas.List.{length-append, length-map}
 use Rattle.std.proofs.lemmas.Option.{same_Some}
 use Rattle.std.proofs.Math.Nat.{le-max_right}
 use Rattle.dt_lists.specs.Lists.{AllIn, EachThen, Has}
@@ -19,19 +20,19 @@ use Rattle.dt_table.specs.Table.{Table}
 use Rattle.dt_txn.specs.declared.txn.Txn.{Txn}
 use Rattle.dt_txn.specs.declared.outcome.Seen.{Seen}
 use Rattle.dt_txn.specs.Transaction.{IsValid, used_of}
-use Rattle.dt_txn.specs.Execution.{execution, one, see}
+use Rattle.dt_txn.specs.Execution.{execution, one, see, seen_of}
 use Rattle.dt_txn.specs.Replica.{executed}
 use Rattle.dt_txn.specs.Serial.{after}
 use Rattle.dt_region.specs.Region.{RegionState, RegionView, held, sched_of}
 use Rattle.dt_region.specs.Rules.{MakesStep, MayMake, after_finishing, after_step, with_event}
 use Rattle.dt_region.specs.Conditions.{ComesTo, HasRun}
 use Rattle.dt_region.specs.Sound.{IsSoundRegion}
-use Rattle.dt_region.proofs.Callers.{executable_held, execute_leaves, insert_leaves, resolve_leaves, step_sound}
+use Rattle.dt_region.proofs.Callers.{executable_held, execute_leaves, held_id, insert_leaves, resolve_leaves, step_sound}
 use Rattle.dt_round.specs.Rounds.{CanRound}
 use Rattle.dt_round.proofs.Callers.{at_first, one_more, whatever_room}
 use Rattle.dt_lock.specs.declared.running.Running.{Running}
-use Rattle.dt_lock.specs.Claims.{FinishedView, IsClaim, IsFinished}
-use Rattle.dt_lock.specs.Held.{AreApart, AreClashing, HeldView, IsBusy, IsHeld, noted, sight_in, uses_in, without}
+use Rattle.dt_lock.specs.Claims.{ClaimView, FinishedView, IsClaim, IsWorked}
+use Rattle.dt_lock.specs.Held.{AreDisjoint, IdsClash, HeldView, IsBusy, IsClaimed, IsHeld, as_running, sight_in, uses_held, without_claim}
 use Rattle.dt_lock.proofs.Touching.{apart_more, fewer_left, left_without, one_less_left, touch_not}
 
 -- a region that comes behind its lock
@@ -82,12 +83,12 @@ module _ (procs : List ProcTree) (before : RegionView) (v : HeldView) (h : IsHel
   resolved ids (Err e) later makes sound = same_region later makes
 
   -- some are taken off
-  pub taken_off : (id : TxnId) → IsHeld procs before (record v { running = without id v.running })
+  pub taken_off : (id : TxnId) → IsHeld procs before (record v { running = without_claim id v.running })
   taken_off id = record {
     underway = h.underway;
     executable = filter_all _ _ v.running h.executable;
     rows = filter_all _ _ v.running h.rows;
-    apart = filter_each (AreApart before.state) _ v.running h.apart;
+    apart = filter_each (AreDisjoint before.state) _ v.running h.apart;
     room = let few = fewer_left id v.running in let room = h.room in omega (arith, few, room);
   }
 
@@ -107,6 +108,26 @@ module _ (procs : List ProcTree) (before : RegionView) (v : HeldView) (h : IsHel
           let more : length (v.running ++ record { id = id; seen = seen } ∷ []) ≡ length v.running + 1 = length-append v.running (record { id = id; seen = seen } ∷ []) in
           let fits : length v.running + 1 ≤ max v.region.room (length v.running + 1) = le-max_right v.region.room (length v.running + 1) in
           omega (arith, more, fits);
+    }
+
+    pub claim_noted : (later : RegionView) (running : List Running) → later ≡ record v.region { room = max v.region.room (length v.running + 1) } → running ≡ v.running ++ record { id = id; seen = seen } ∷ []
+        → IsHeld procs before (record { region = later; running = running })
+    claim_noted later running is more =
+        subst (λ l. IsHeld procs before (record { region = later; running = l })) (sym more)
+        (subst (λ r. IsHeld procs before (record { region = r; running = v.running ++ record { id = id; seen = seen } ∷ [] })) (sym is) one_running)
+
+    pub is_claim : IsClaim procs before.state (record { txn = txn; seen = seen })
+    is_claim = record {
+      known = subst (λ i. held before.state i ≡ Some txn) (sym (held_id before.state id txn known)) known;
+      valid = h.underway.began.holds id txn known;
+      sized = ap length sees ∙ length-map txn.access (seen_of v.region.state.here.table);
+    }
+
+    pub is_claimed : (later : RegionView) (running : List Running) → later ≡ record v.region { room = max v.region.room (length v.running + 1) } → running ≡ v.running ++ record { id = id; seen = seen } ∷ []
+        → IsClaimed v (record { txn = txn; seen = seen }) (record { region = later; running = running })
+    is_claimed later running is more = record {
+      seen = sees;
+      is = ap₂ (λ r l. record { region = r; running = l }) is (more ∙ ap (λ i. v.running ++ record { id = i; seen = seen } ∷ []) (sym (held_id before.state id txn known)));
     }
 
   -- a claim that is running is committed
@@ -136,18 +157,18 @@ module _ (procs : List ProcTree) (before : RegionView) (v : HeldView) (h : IsHel
         by : (o : Option Txn) → held before.state other.id ≡ o → sight_in o (after procs found.0 v.region.state.here.table) ≡ sight_in o v.region.state.here.table
         by None e = refl
         by (Some txn) e =
-            let untouched : ¬ (AreClashing before.state r.id other.id) = touch_not before.state v.running h.apart r other there running (λ same. apart (sym same)) in
+            let untouched : ¬ (IdsClash before.state r.id other.id) = touch_not before.state v.running h.apart r other there running (λ same. apart (sym same)) in
             let mine : held before.state r.id ≡ Some found.0 = sym (held_stays r.id) ∙ found.1 in
-            let never : clash (map used_of found.0.access) (map used_of txn.access) ≡ false = false_from_ne_true _ (λ c. untouched (ap₂ (λ a b. clash (uses_in a) (uses_in b)) mine e ∙ c)) in
+            let never : clash (map used_of found.0.access) (map used_of txn.access) ≡ false = false_from_ne_true _ (λ c. untouched (ap₂ (λ a b. clash (uses_held a) (uses_held b)) mine e ∙ c)) in
             seen_apart procs v.region.state.regions found.0 txn v.region.state.here.table (h.underway.holds r.id found.0 found.1) never
 
-    pub committed : (later : RegionView) → later ≡ after_finishing procs v.region r.id → IsHeld procs before (record { region = later; running = without r.id v.running })
-    committed later is = subst (λ x. IsHeld procs before (record { region = x; running = without r.id v.running })) (sym is) (record {
+    pub committed : (later : RegionView) → later ≡ after_finishing procs v.region r.id → IsHeld procs before (record { region = later; running = without_claim r.id v.running })
+    committed later is = subst (λ x. IsHeld procs before (record { region = x; running = without_claim r.id v.running })) (sym is) (record {
       underway = whatever_room procs before plain (v.region.room - 1) (one_more procs before v.region h.underway plain (record { event = event; mine = refl; makes = (can_commit, refl) }) plain_sound);
-      executable = all_map _ _ (without r.id v.running) (λ other k.
+      executable = all_map _ _ (without_claim r.id v.running) (λ other k.
           execute_leaves procs v.region.state h.underway.sound other.id (all_get _ v.running h.executable other k.0) r.id can_commit (λ same. k.1 (sym same))) (left_without r.id v.running);
-      rows = all_map _ _ (without r.id v.running) (λ other k. sees_on other k.0 k.1 (all_get _ v.running h.rows other k.0)) (left_without r.id v.running);
-      apart = filter_each (AreApart before.state) _ v.running h.apart;
+      rows = all_map _ _ (without_claim r.id v.running) (λ other k. sees_on other k.0 k.1 (all_get _ v.running h.rows other k.0)) (left_without r.id v.running);
+      apart = filter_each (AreDisjoint before.state) _ v.running h.apart;
       room = let less = one_less_left r.id v.running r there refl in let room = h.room in omega (arith, less, room);
     })
 
@@ -156,9 +177,9 @@ module _ (procs : List ProcTree) (before : RegionView) (v : HeldView) (h : IsHel
     has_room = let less = one_less_left r.id v.running r there refl in let room = h.room in omega (arith, less, room)
 
   -- what is finished of a claim that is running is what its transaction comes to now
-  module _ (f : FinishedView) (there : Has v.running (noted f.claim)) (claim : IsClaim procs before.state f.claim) (finished : IsFinished procs f) where
+  module _ (f : FinishedView) (there : Has v.running (as_running f.claim)) (claim : IsClaim procs before.state f.claim) (finished : IsWorked procs f) where
     sees_now : f.claim.seen ≡ see f.claim.txn v.region.state.here.table
-    sees_now = all_get _ v.running h.rows (noted f.claim) there ∙ ap (λ o. sight_in o v.region.state.here.table) claim.known
+    sees_now = all_get _ v.running h.rows (as_running f.claim) there ∙ ap (λ o. sight_in o v.region.state.here.table) claim.known
 
     pub comes_now : ComesTo procs v.region.state f.claim.txn.id f.outcome f.effect
     comes_now = record {
@@ -170,6 +191,12 @@ module _ (procs : List ProcTree) (before : RegionView) (v : HeldView) (h : IsHel
 
     pub has_run : HasRun v.region.state f.claim.txn.id f.outcome f.effect
     has_run = record { procs = procs; comes = comes_now }
+
+-- what was found running is the claim
+pub found_running : (running given : List Running) (id : TxnId) (seen : List Seen) (claim : ClaimView) → given ≡ running → id ≡ claim.txn.id → seen ≡ claim.seen
+    → Has given (record { id = id; seen = seen }) → Has running (as_running claim)
+found_running running given id seen claim e i s there =
+    subst (λ l. Has l (as_running claim)) e (subst (λ x. Has given (record { id = x; seen = claim.seen })) i (subst (λ x. Has given (record { id = id; seen = x })) s there))
 
 -- a class that the region was told is resolved
 pub resolves_some : (r later : RegionView) (ids given : List TxnId) (on : Bool) → CanResolve (sched_of r.state.logs r.state.here) ids → given ≡ ids

@@ -32,5 +32,5 @@ pub record IsClaim (procs : List ProcTree) (before : RegionState) (claim : Claim
   pub sized : length claim.seen ≡ length claim.txn.access
 
 -- the outcome and the effect are what the claim's transaction comes to from what it saw, by these procedures
-abbrev pub IsFinished : List ProcTree → FinishedView → Type 0
-IsFinished procs f = (f.outcome, f.effect) ≡ execution procs f.claim.txn f.claim.seen
+abbrev pub IsWorked : List ProcTree → FinishedView → Type 0
+IsWorked procs f = (f.outcome, f.effect) ≡ execution procs f.claim.txn f.claim.seen

@@ -30,13 +30,13 @@ pub record HeldView : Type 0 where
   pub running : List Running
 
 -- how a claim is noted while it is running
-abbrev pub noted : ClaimView → Running
-noted claim = record { id = claim.txn.id; seen = claim.seen }
+abbrev pub as_running : ClaimView → Running
+as_running claim = record { id = claim.txn.id; seen = claim.seen }
 
 -- the uses of a transaction, if it is there
-abbrev pub uses_in : Option Txn → List (Bytes × Mode)
-uses_in None = []
-uses_in (Some txn) = map used_of txn.access
+abbrev pub uses_held : Option Txn → List (Bytes × Mode)
+uses_held None = []
+uses_held (Some txn) = map used_of txn.access
 
 -- what a transaction sees in a table, if it is there
 abbrev pub sight_in : Option Txn → Table → List Seen
@@ -44,16 +44,16 @@ sight_in None table = []
 sight_in (Some txn) table = see txn table
 
 -- the access lists of two transactions that a region holds under these ids clash
-abbrev pub AreClashing : RegionState → TxnId → TxnId → Type 0
-AreClashing s a b = clash (uses_in (held s a)) (uses_in (held s b)) ≡ true
+abbrev pub IdsClash : RegionState → TxnId → TxnId → Type 0
+IdsClash s a b = clash (uses_held (held s a)) (uses_held (held s b)) ≡ true
 
 -- two claims have different ids, and the access lists of their transactions don't clash
-abbrev pub AreApart : RegionState → Running → Running → Type 0
-AreApart s a b = (a.id ≢ b.id) × ¬ (AreClashing s a.id b.id)
+abbrev pub AreDisjoint : RegionState → Running → Running → Type 0
+AreDisjoint s a b = (a.id ≢ b.id) × ¬ (IdsClash s a.id b.id)
 
 -- an id is running, or clashes with a running claim
 abbrev pub IsBusy : RegionState → List Running → TxnId → Type 0
-IsBusy s running id = AnyIn (λ r. (r.id ≡ id) ⊎ AreClashing s r.id id) running
+IsBusy s running id = AnyIn (λ r. (r.id ≡ id) ⊎ IdsClash s r.id id) running
 
 -- what holds whenever the lock is free, in a round that began with the region `before`, by these procedures
 pub record IsHeld (procs : List ProcTree) (before : RegionView) (h : HeldView) : Type 0 where
@@ -64,13 +64,13 @@ pub record IsHeld (procs : List ProcTree) (before : RegionView) (h : HeldView) :
   -- and saw what it would see now
   pub rows : AllIn (λ r. r.seen ≡ sight_in (held before.state r.id) h.region.state.here.table) h.running
   -- no two that are running touch each other
-  pub apart : EachThen (AreApart before.state) h.running
+  pub apart : EachThen (AreDisjoint before.state) h.running
   -- there is room to commit all of them
   pub room : length h.running ≤ h.region.room
 
 -- the claims that are running without those of an id
-abbrev pub without : TxnId → List Running → List Running
-without id running = filter (λ r. not (same_id r.id id)) running
+abbrev pub without_claim : TxnId → List Running → List Running
+without_claim id running = filter (λ r. not (same_id r.id id)) running
 
 -- From here on: how each step under the lock ends. After `NoMemory` nothing has changed.
 
@@ -88,7 +88,7 @@ IsNextFree before h (Some id) = CanExecute (sched_of h.region.state.logs h.regio
 -- a claim is noted as running, with what its transaction sees now, and there is room for one commit more
 pub record IsClaimed (h : HeldView) (claim : ClaimView) (after : HeldView) : Type 0 where
   pub seen : claim.seen ≡ see claim.txn h.region.state.here.table
-  pub is : after ≡ record { region = record h.region { room = max h.region.room (length h.running + 1) }; running = h.running ++ noted claim ∷ [] }
+  pub is : after ≡ record { region = record h.region { room = max h.region.room (length h.running + 1) }; running = h.running ++ as_running claim ∷ [] }
 
 -- a claim of some transaction that is executable and isn't busy; or of none, where there is none
 abbrev pub ClaimsSome : RegionState → HeldView → Result (Option ClaimView) NoMemory → HeldView → Type 0
@@ -100,11 +100,11 @@ ClaimsSome before h (Err e) after = after ≡ h
 -- has made the one event of its execution
 abbrev pub Commits : List ProcTree → HeldView → FinishedView → Bool → HeldView → Type 0
 Commits procs h f true after =
-    Has h.running (noted f.claim)
-    × (after ≡ record { region = after_finishing procs h.region f.claim.txn.id; running = without f.claim.txn.id h.running })
-Commits procs h f false after = ¬ (Has h.running (noted f.claim)) × (after ≡ h)
+    Has h.running (as_running f.claim)
+    × (after ≡ record { region = after_finishing procs h.region f.claim.txn.id; running = without_claim f.claim.txn.id h.running })
+Commits procs h f false after = ¬ (Has h.running (as_running f.claim)) × (after ≡ h)
 
 -- a claim is given back: an equal one that is running is taken off
 pub record GivesBack (h : HeldView) (claim : ClaimView) (after : HeldView) : Type 0 where
-  pub taken : Has h.running (noted claim) → after ≡ record h { running = without claim.txn.id h.running }
-  pub other : ¬ (Has h.running (noted claim)) → after ≡ h
+  pub taken : Has h.running (as_running claim) → after ≡ record h { running = without_claim claim.txn.id h.running }
+  pub other : ¬ (Has h.running (as_running claim)) → after ≡ h

@@ -13,7 +13,8 @@ pub struct By<F> {
 }
 
 impl<T: Rounded, F: Fn(Global, &mut T, &Procs) -> Result<(), NoMemory>> Rounds<T> for By<F> {
-    ghost use Rattle.std.specs.Prelude.{List, Bor, MutBor};
+    ghost use Rattle.std.specs.Borrow.{Bor, MutBor};
+    ghost use Rattle.std.specs.Prelude.{List};
     ghost use Rattle.dt_proc.specs.Tree.{ProcTree};
     ghost use Rattle.dt_txn.specs.Replica.{IsDrained};
     ghost use Rattle.dt_round.specs.Rounds.{CanRound, Continues};

@@ -89,17 +89,17 @@ pub struct Finished<N: Named> {
 }
 
 impl<N: Named> Model for Finished<N> {
-    ghost use Rattle.dt_lock.specs.Claims.{FinishedView, IsFinished};
+    ghost use Rattle.dt_lock.specs.Claims.{FinishedView, IsWorked};
 
     ghost Value = { FinishedView };
 
     ghost view = { λ f. record { claim = f.claim; outcome = f.outcome; effect = f.effect } };
 
-    ghost invariant = { λ f. IsFinished N.procs (record { claim = f.claim; outcome = f.outcome; effect = f.effect }) };
+    ghost invariant = { λ f. IsWorked N.procs (record { claim = f.claim; outcome = f.outcome; effect = f.effect }) };
 }
 
 impl<N: Named> Finished<N> {
-    ghost use Rattle.dt_lock.specs.Claims.{IsClaim, IsFinished};
+    ghost use Rattle.dt_lock.specs.Claims.{IsClaim, IsWorked};
 
     /// Whose claim it was. Takes no memory.
     pub fn id(&self) -> TxnId
@@ -119,7 +119,7 @@ impl<N: Named> Finished<N> {
     pub(crate) fn into_run(self) -> (Outcome, Effect)
         ensures run { result ≡ (self.outcome, self.effect) }
         ensures claim { IsClaim N.procs N.before.state self.claim }
-        ensures finished { IsFinished N.procs self }
+        ensures finished { IsWorked N.procs self }
     {
         let Finished {
             claim: _,

@@ -7,7 +7,7 @@ ghost use Rattle.dt_region.specs.Region.{held, sched_of};
 ghost use Rattle.dt_region.specs.Rules.{MakesStep};
 ghost use Rattle.dt_round.specs.Rounds.{CanRound};
 ghost use Rattle.dt_round.specs.Underway.{IsUnderway};
-ghost use Rattle.dt_lock.specs.Held.{ClaimsSome, Commits, GivesBack, IsBusy, IsClaimed, IsNextFree, ResolvesSome, uses_in};
+ghost use Rattle.dt_lock.specs.Held.{ClaimsSome, Commits, GivesBack, IsBusy, IsClaimed, IsNextFree, ResolvesSome, uses_held};
 
 use crate::claim::{Claim, Finished};
 use crate::clashes::clash;
@@ -149,7 +149,7 @@ impl<S: Scheduler, N: Named> Held<S, N> {
 
     // The access list of the transaction that the region holds under an id; none where it holds none.
     fn access(&self, id: TxnId) -> &[Access]
-        ensures { map used_of result.now ≡ uses_in (held N.before.state id) }
+        ensures { map used_of result.now ≡ uses_held (held N.before.state id) }
     {
         match self.region.txn(id) {
             Some(txn) => txn.access.as_slice(),
@@ -207,9 +207,11 @@ impl<S: Scheduler, N: Named> Held<S, N> {
     pub fn give_back(&mut self, claim: Claim<N>)
         ensures { GivesBack self.old claim self.new }
     {
-        if is_running(self.running.as_slice(), claim.id(), claim.seen()) {
-            take_off(&mut self.running, claim.id());
+        let id = claim.id();
+        if !is_running(self.running.as_slice(), id, claim.seen()) {
+            return;
         }
+        take_off(&mut self.running, id);
     }
 
     /// Takes off every running claim, so that the region can leave. Takes no memory.

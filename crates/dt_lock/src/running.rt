@@ -1,6 +1,6 @@
 ghost use Rattle.std.specs.Prelude.{◌≡◌, ◌↔◌, ◌<◌, [], ◌∷◌, ◌++◌, vec_len, vec_capacity, IsTrue};
 ghost use Rattle.dt_lists.specs.Lists.{Has};
-ghost use Rattle.dt_lock.specs.Held.{without};
+ghost use Rattle.dt_lock.specs.Held.{without_claim};
 
 use dt_access::TxnId;
 use dt_txn::{Seen, Seens};
@@ -26,7 +26,7 @@ pub fn is_running(running: &[Running], id: TxnId, seen: &Seens) -> bool
 
 /// Takes off what is running of an id.
 pub fn take_off(running: &mut Vec<Running>, id: TxnId)
-    ensures { running.new.items ≡ without id running.old.items }
+    ensures { running.new.items ≡ without_claim id running.old.items }
 {
     running.retain(|one| one.id != id);
 }

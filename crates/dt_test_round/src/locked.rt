@@ -76,6 +76,7 @@ fn a_round_without_workers_is_finished_by_the_calling_thread(rt: HostRuntime) ->
 }
 
 /// Notes how many workers passed, the ids that did as bits, and whether the first one met a second one.
+#[derive(Drop)]
 struct Meeting {
     begun: AtomicU64,
     ids: AtomicU64,
