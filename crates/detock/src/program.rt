@@ -1,4 +1,4 @@
-ghost use Rattle.std.specs.Prelude.{◌≡◌, ℕ, IfOk, IfErr, MatchOption, drop};
+ghost use Rattle.std.specs.Prelude.{◌≡◌, ℕ, IfOk, IfErr, MatchOption, None, drop};
 ghost use Rattle.std.specs.IoError.{error_kind};
 ghost use Rattle.detock.specs.Tasks.{word_bytes};
 ghost use Rattle.detock.specs.Answers.{Comes, IsTold};
@@ -42,6 +42,11 @@ pub fn exit_of<R: Threads + Wait + Sync, F: Folder, O: Sink, E: Sink>(
     // A word that is no text is a fault of the caller; without any words there is no status.
     ensures without { IfErr line (λ error. MatchOption (status_without (error_kind error)) (result ≡ no_words)
         (λ status. (result ≡ exit_number status) × IsTold E.seen err.old err.new status)) }
+
+    // Then no file is loaded, and nothing is written but the line of a status.
+    ensures files_same { IfErr line (λ _. files.new ≡ files.old) }
+    ensures out_same { IfErr line (λ _. out.new ≡ out.old) }
+    ensures silent { IfErr line (λ error. status_without (error_kind error) ≡ None → err.new ≡ err.old) }
 {
     let all = match line {
         Ok(all) => all,
@@ -53,8 +58,9 @@ pub fn exit_of<R: Threads + Wait + Sync, F: Folder, O: Sink, E: Sink>(
 
 /// Gives the number where there are no words for this reason, and tells the status, if there is one.
 fn exit_without<E: Sink>(kind: ErrorKind, err: &mut E) -> u8
-    ensures { MatchOption (status_without kind) (result ≡ no_words)
+    ensures ends { MatchOption (status_without kind) (result ≡ no_words)
         (λ status. (result ≡ exit_number status) × IsTold E.seen err.old err.new status) }
+    ensures silent { status_without kind ≡ None → err.new ≡ err.old }
 {
     let Some(status) = status_without(kind) else {
         return NO_WORDS;
