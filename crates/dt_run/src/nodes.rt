@@ -2,8 +2,6 @@ ghost use Rattle.std.specs.List.{range_with_len};
 ghost use Rattle.std.specs.Prelude.{◌≡◌, ◌↔◌, ◌≤◌, length, map, All, IfOk, OnErr, OnOk, IsTrue, IsFalse, false, true};
 ghost use Rattle.dt_lists.specs.Lists.{AllIn};
 ghost use Rattle.dt_region.specs.Sound.{IsSoundRegion};
-ghost use Rattle.dt_round.specs.Rounds.{CanRound, Continues};
-ghost use Rattle.dt_txn.specs.Replica.{IsDrained};
 ghost use Rattle.dt_node.specs.NodeView.{opening_node_of};
 ghost use Rattle.dt_cluster.specs.Valid.{IsValidCluster};
 ghost use Rattle.dt_workload.specs.Valid.{IsValidWorkload};
@@ -23,10 +21,8 @@ use crate::reporting::report_of;
 use crate::seat::Seat;
 use dt_cluster::Cluster;
 use dt_events::Event;
-use dt_lock::{By, Gate, round};
 use dt_node::Node;
 use dt_proc::Procs;
-use dt_region::Region;
 use dt_report::Report;
 use dt_sched::Scheduler;
 use dt_text::NoMemory;
@@ -126,15 +122,9 @@ impl<S: Scheduler + Drop> Nodes<S> {
 }
 
 impl<S: Scheduler + Drop + Send> Nodes<S> {
-    /// Runs one turn of every node, by a parallel call over the list of nodes. Rounds are made by as many workers as the cluster
-    /// says, each of which passes the gate between its work and its commit. It fails only for want of memory; then some turns
+    /// Runs one turn of every node, by a parallel call over the list of nodes. It fails only for want of memory; then some turns
     /// may be made in part, and links and marks are given up.
-    pub fn phase<R: Threads + Wait + Sync, G: Gate>(
-        &mut self,
-        rt: &R,
-        alloc: Global,
-        gate: &G,
-    ) -> Result<(), NoMemory>
+    pub fn phase<R: Threads + Wait + Sync>(&mut self, rt: &R, alloc: Global) -> Result<(), NoMemory>
         requires { self.old.broken ≡ false }
         ensures phase { IsPhase self.old self.new }
         ensures in_step { OnOk result (EndsInStep self.old self.new) }
@@ -143,14 +133,7 @@ impl<S: Scheduler + Drop + Send> Nodes<S> {
         ensures broken { OnErr result (self.new.broken ≡ true) }
         ensures nodes { AreNodes self.new }
     {
-        turn_all(
-            rt,
-            alloc,
-            self.seats.as_mut_slice(),
-            &self.cluster.procs,
-            self.cluster.workers,
-            gate,
-        );
+        turn_all(rt, alloc, self.seats.as_mut_slice(), &self.cluster.procs);
         if some_failed(self.seats.as_slice()) {
             self.broken = true;
             return Err(NoMemory);
@@ -162,13 +145,11 @@ impl<S: Scheduler + Drop + Send> Nodes<S> {
 }
 
 /// One turn at every seat, each in a thread of its own where one can be made.
-fn turn_all<S: Scheduler + Drop + Send, R: Threads + Wait + Sync, G: Gate>(
+fn turn_all<S: Scheduler + Drop + Send, R: Threads + Wait + Sync>(
     rt: &R,
     alloc: Global,
     seats: &mut [Seat<S>],
     procs: &Procs,
-    workers: u32,
-    gate: &G,
 )
     requires { All (SeatCan procs.now) seats.old }
     ensures { EachGoes procs.now seats.old seats.new }
@@ -181,31 +162,9 @@ fn turn_all<S: Scheduler + Drop + Send, R: Threads + Wait + Sync, G: Gate>(
             requires { SeatCan procs.now seat.now }
             ensures { SeatGoes procs.entry.now seat.entry.now seat.exit.now }
         {
-            turn_seat(rt, alloc, seat, procs, workers, gate);
+            seat.turn(alloc, procs);
         },
     );
-}
-
-/// One turn at a seat, with rounds of so many workers.
-fn turn_seat<S: Scheduler + Drop + Send, R: Threads + Wait + Sync, G: Gate>(
-    rt: &R,
-    alloc: Global,
-    seat: &mut Seat<S>,
-    procs: &Procs,
-    workers: u32,
-    gate: &G,
-)
-    requires { SeatCan procs.now seat.old }
-    ensures { SeatGoes procs.now seat.old seat.new }
-{
-    let rounds = By {
-        by: |alloc: Global, region: &mut Region<S>, procs: &Procs| -> Result<(), NoMemory>
-            requires { CanRound procs.now region.now }
-            ensures continues { Continues procs.now region.entry.now region.exit.now }
-            ensures drained { OnOk result (IsDrained region.exit.now.state.logs region.exit.now.state.here) }
-        { round(rt, alloc, region, procs, workers, gate) },
-    };
-    seat.turn(alloc, procs, &rounds);
 }
 
 /// Whether the last turn at some seat failed.

@@ -12,7 +12,6 @@ ghost use Rattle.dt_run.specs.Silence.{MakesFewPhases};
 use crate::nodes::Nodes;
 use dt_cluster::Cluster;
 use dt_events::Event;
-use dt_lock::Gate;
 use dt_report::Report;
 use dt_sched::Scheduler;
 use dt_text::NoMemory;
@@ -26,11 +25,10 @@ use std::thread::Threads;
 /// that the nodes then hold, in the order of their stamps. It makes only so many phases, whatever packets are lost, so it returns
 /// if each of them does. It fails only for want of memory; then the nodes are as after some phases, of which the last one may
 /// have been made in part.
-pub fn run<R: Threads + Wait + Sync, S: Scheduler + Drop + Send, G: Gate>(
+pub fn run<R: Threads + Wait + Sync, S: Scheduler + Drop + Send>(
     rt: &R,
     alloc: Global,
     nodes: &mut Nodes<S>,
-    gate: &G,
 ) -> Result<Report, NoMemory>
     requires { nodes.old.broken ≡ false }
     ensures nodes { AreNodes nodes.new }
@@ -41,7 +39,7 @@ pub fn run<R: Threads + Wait + Sync, S: Scheduler + Drop + Send, G: Gate>(
     ensures report { IfOk result (IsRunReport nodes.new) }
 {
     'phases: loop {
-        nodes.phase(rt, alloc, gate)?;
+        nodes.phase(rt, alloc)?;
         if nodes.finished() {
             return nodes.report(alloc);
         }

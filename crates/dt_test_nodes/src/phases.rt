@@ -5,7 +5,6 @@ ghost use Rattle.dt_workload.specs.Valid.{IsValidWorkload};
 
 use dt_cluster::{Cluster, ClusterError, read_cluster};
 use dt_graph::QueueSched;
-use dt_lock::NoGate;
 use dt_run::Nodes;
 use dt_text::NoMemory;
 use dt_workload::{Workload, WorkloadError, read_workload};
@@ -59,7 +58,7 @@ fn go_on<R: Threads + Wait + Sync>(
 {
     let mut quiet = 0;
     for phase in 0..MOST {
-        nodes.phase(rt, alloc, &NoGate)?;
+        nodes.phase(rt, alloc)?;
         let counts = nodes.counts();
         if counts.made != phase + 1 {
             return Err(Fail::from("each phase is counted"));
@@ -98,9 +97,9 @@ const REPEATS: [u32; 4] = [0, 1, 2, 3];
 
 /// A cluster of two regions with three tries and this plan.
 fn planned(alloc: Global, drop: u32, repeat: u32) -> Result<String, Fail> {
-    Ok(format!(in alloc;
-        "regions = 2\ntries = 3\ndrop = {drop}\nrepeat = {repeat}\n[rows]\na = 10\nb = 10\n"
-    )?)
+    Ok(
+        format!(in alloc; "regions = 2\ntries = 3\ndrop = {drop}\nrepeat = {repeat}\n[rows]\na = 10\nb = 10\n")?,
+    )
 }
 
 #[test]
@@ -109,10 +108,7 @@ fn two_transfers_are_done_after_few_phases_whatever_is_lost(rt: HostRuntime) -> 
         for repeat in REPEATS {
             let cluster = planned(rt.alloc(), drop, repeat)?;
             let (made, quiet) = phases_of(&rt, rt.alloc(), cluster.as_bytes(), TWO)?;
-            assert!(rt;
-                made <= MOST && quiet <= 3,
-                "drop {drop}, repeat {repeat}: {made} phases, {quiet} silent"
-            );
+            assert!(rt; made <= MOST && quiet <= 3, "drop {drop}, repeat {repeat}: {made} phases, {quiet} silent");
         }
     }
     Ok(())
