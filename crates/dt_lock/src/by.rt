@@ -20,7 +20,7 @@ impl<T: Rounded, F: Fn(Global, &mut T, &Procs) -> Result<(), NoMemory>> Rounds<T
 
     ghost ready = { λ b. ((a : _) (x : MutBor T) (p : Bor (List ProcTree)) → CanRound p.now (T.seen x.now) → F.pre b.by a x p)
         × ((a : _) (x y : MutBor T) (p : Bor (List ProcTree)) (r : _) → F.post b.by a x p r y
-            → Continues p.now (T.seen x.now) (T.seen y.now) × OnOk r (IsDrained (T.seen y.now).state.logs (T.seen y.now).state.here)) };
+        → Continues p.now (T.seen x.now) (T.seen y.now) × OnOk r (IsDrained (T.seen y.now).state.logs (T.seen y.now).state.here)) };
 
     fn round(&self, alloc: Global, region: &mut T, procs: &Procs) -> Result<(), NoMemory> {
         (self.by)(alloc, region, procs)

@@ -137,11 +137,7 @@ fn insert_all<R: Wait, S: Scheduler, N: Named>(
 }
 
 // Resolves classes, until nothing is missing and none is resolvable.
-fn resolve_all<R: Wait, S: Scheduler, N: Named>(
-    rt: &R,
-    alloc: Global,
-    lock: &Mutex<Held<S, N>>,
-) {
+fn resolve_all<R: Wait, S: Scheduler, N: Named>(rt: &R, alloc: Global, lock: &Mutex<Held<S, N>>) {
     for _ in rt.forever() {
         let mut held = lock.lock(rt);
         if !matches!(resolve_on(alloc, &mut *held), Ok(true)) {

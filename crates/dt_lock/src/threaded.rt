@@ -14,10 +14,9 @@ use dt_table::Table;
 use dt_text::NoMemory;
 use std::alloc::Global;
 use std::marker::Brand;
-use std::mem;
 use std::sync::{Mutex, Wait};
-use std::thread;
 use std::thread::Threads;
+use std::{mem, thread};
 
 /// Makes a round of a region by threads, of which so many work: they insert, resolve and execute, by these procedures, until
 /// nothing is left, and the calling thread finishes what they leave. The promise is that of `Rounds`; it doesn't depend on how
@@ -47,7 +46,12 @@ fn empty_region<S: Scheduler>(alloc: Global) -> Result<Region<S>, NoMemory> {
 }
 
 // Makes the round that `N` names. Gives the region back, and whether there was memory to finish.
-fn round_named<N: Named + Send + Sync, R: Threads + Wait + Sync, S: Scheduler + Drop + Send, G: Gate>(
+fn round_named<
+    N: Named + Send + Sync,
+    R: Threads + Wait + Sync,
+    S: Scheduler + Drop + Send,
+    G: Gate,
+>(
     rt: &R,
     alloc: Global,
     region: Region<S>,
@@ -69,20 +73,22 @@ fn round_named<N: Named + Send + Sync, R: Threads + Wait + Sync, S: Scheduler + 
 }
 
 // Has the jobs done, by a thread each. Where no thread can be started, the calling one does what it would have done.
-fn by_threads<R: Threads + Wait + Sync, S: Scheduler + Drop + Send, N: Named + Send + Sync, G: Gate>(
-    rt: &R,
-    alloc: Global,
-    held: Held<S, N>,
-    jobs: Vec<Job<N>>,
-    procs: &Procs,
-    gate: &G,
-) -> Held<S, N>
+fn by_threads<
+    R: Threads + Wait + Sync,
+    S: Scheduler + Drop + Send,
+    N: Named + Send + Sync,
+    G: Gate,
+>(rt: &R, alloc: Global, held: Held<S, N>, jobs: Vec<Job<N>>, procs: &Procs, gate: &G) -> Held<S, N>
     requires { procs.now ≡ N.procs }
 {
     let lock = Mutex::new(held);
-    let _done = thread::map_vec(rt, jobs, &|job| -> ()
-        requires { procs.now ≡ N.procs }
-    { act(rt, alloc, &lock, job, procs, gate) });
+    let _done = thread::map_vec(
+        rt,
+        jobs,
+        &|job| -> ()
+            requires { procs.now ≡ N.procs }
+        { act(rt, alloc, &lock, job, procs, gate) },
+    );
     lock.into_inner()
 }
 

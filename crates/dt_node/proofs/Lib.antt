@@ -28,6 +28,7 @@ pub mod Keeping
 pub mod Stretches
 pub mod Opened
 pub mod Putting
+pub mod LeavingOut
 pub mod Seating
 pub mod OwnPlacing
 pub mod HavingPlaced

@@ -66,11 +66,13 @@ stretch_from first items = take most_items (drop first items)
 abbrev pub entry_held : RegionState → Part → Option Entry
 entry_held s part = option_map (λ txn. record { part = part; txn = txn }) (held s part.id)
 
--- the requests for another region in the next packet to it
+-- the requests for another region in the next packet to it: as many of those that the node asked of it as there is room for, each
+-- with its transaction. The node holds them all, so none is left out (`LeavesNothingOut`)
 abbrev pub requests_for : NodeView → ℕ → List Txn
 requests_for n target = filter_map (held n.site.region.state) (stretch_from (get_or n.took target 0) (get_or n.site.region.state.here.asked target []))
 
--- the entries of the node's own log in the next packet to another region
+-- the entries of the node's own log in the next packet to another region: as many of its parts as there is room for, each with its
+-- transaction, and none of these is left out either
 abbrev pub entries_for : NodeView → ℕ → List Entry
 entries_for n target = filter_map (entry_held n.site.region.state) (stretch_from (get_or n.received target 0) (log_at n.site.region.state.logs (number_of n)))
 

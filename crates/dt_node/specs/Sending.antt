@@ -1,5 +1,6 @@
 -- What a turn sends. Each other region is sent one packet, the same number on all links, and the plan says of that number
--- whether the packet is put once, twice or not at all. One learns here what stands on the outlets then. Read next: src/lib.rt.
+-- whether the packet is put once, twice or not at all. One learns here what stands on the outlets then (`HasSent`),
+-- and that no packet lacks anything that it should have (`LeavesNothingOut`). Read next: src/lib.rt.
 use Rattle.std.specs.Prelude.{◌≡◌, ◌<◌, ◌+◌, ◌-◌, ℕ, List, [], ◌∷◌, ◌++◌, length, map, get_or}
 use Rattle.std.specs.List.{range_with_len}
 use Rattle.dt_packet.specs.declared.packet.Packet.{Packet}
@@ -8,7 +9,8 @@ use Rattle.dt_packet.specs.declared.loss.Verdict.{Verdict}
 use Rattle.dt_packet.specs.declared.loss.Verdict.TheVariants.{Pass, Lost, Twice}
 use Rattle.dt_packet.specs.Links.{OutletView}
 use Rattle.dt_packet.specs.Loss.{IsVerdict}
-use Rattle.dt_node.specs.NodeView.{NodeView, number_of, other_at, packet_for}
+use Rattle.dt_sched.specs.Views.{log_at}
+use Rattle.dt_node.specs.NodeView.{NodeView, entries_for, number_of, other_at, packet_for, requests_for, stretch_from}
 
 -- as often as a verdict says a packet is put, one right after the other
 abbrev pub copies_of : Verdict → Packet → List Packet
@@ -37,6 +39,12 @@ pub record HasSent (before now : NodeView) (outs_before outs_now : List OutletVi
   pub many : length outs_now ≡ length outs_before
   pub each : (link : ℕ) → link < length outs_before
       → IsSentBy now.plan now.turns (packet_for now (other_at (number_of now) link)) (get_or outs_before link no_outlet) (get_or outs_now link no_outlet)
+
+-- a node's next packet to another region has all that stands on its stretches: each request that the node asked of the region,
+-- and each part of its own log
+pub record LeavesNothingOut (n : NodeView) (target : ℕ) : Type 0 where
+  pub asked : map (λ txn. txn.id) (requests_for n target) ≡ stretch_from (get_or n.took target 0) (get_or n.site.region.state.here.asked target [])
+  pub entries : map (λ e. e.part) (entries_for n target) ≡ stretch_from (get_or n.received target 0) (log_at n.site.region.state.logs (number_of n))
 
 -- From here on words that only proofs need, and the private calls of sending.
 

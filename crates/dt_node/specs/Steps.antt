@@ -1,10 +1,10 @@
--- The steps of a turn, in their order. First the packets that wait are taken, one after another. Then the turn makes passes. In
--- a pass each session that may be answered is, in byte order of names; after that each session that may submit does, in the same
--- order, and what the node then asks of its own region is placed at once; and last a round makes insertions, resolutions and
--- executions until none is left to make. Where some session went on in a pass, another pass follows; the first pass in which
--- none did is the last one. Then the packets are sent, which makes no event. One learns here how this is said of a node before
--- and after a turn (`HasTurned`): between the two stand states of the node that only these words name, and each step from one
--- state to the next is known by its events. Read `Turn` before; read next: `Sending`, for the packets that are sent.
+-- The steps of a turn, in their order. First the packets that wait are taken, one after another, in the order of the inlets. Then
+-- the turn makes passes. In a pass each session that may be answered is, in byte order of names; after that each session that may
+-- submit does, in the same order, and what the node then asks of its own region is placed at once; and last a round makes
+-- insertions, resolutions and executions until none is left to make. Where some session went on in a pass, another pass follows;
+-- the first pass in which none did is the last one. Then the packets are sent, which makes no event. One learns here how this is
+-- said of a node before and after a turn (`HasTurned`): between the two stand states of the node that only these words name, and
+-- each step from one state to the next is known by its events. Read `Turn` before; read next: `Sending`, for what is sent.
 use Rattle.std.specs.Prelude.{◌≡◌, ◌↔◌, ◌+◌, ◌-◌, ◌==◌, ℕ, zero, suc, nat_lt, List, [], ◌∷◌, ◌++◌, length, get_or, max, Bool, true, false, Some, option_map, if◌then◌else◌}
 use Rattle.std.specs.List.{list_any}
 use Rattle.dt_lists.specs.Lists.{EachThen, Has}

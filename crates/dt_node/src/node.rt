@@ -1,11 +1,11 @@
-ghost use Rattle.std.specs.Prelude.{◌≡◌, ◌<◌, ◌≤◌, ◌+◌, ◌^◌, List, [], flat_map, length, map, replicate, IfOk, OnOk};
+ghost use Rattle.std.specs.Prelude.{◌≡◌, ◌<◌, ◌≤◌, ◌+◌, ◌^◌, ℕ, List, [], flat_map, length, map, replicate, IfOk, OnOk};
 ghost use Rattle.dt_lists.specs.Lists.{AllIn, Pairwise};
 ghost use Rattle.dt_txn.specs.Replica.{IsDrained};
 ghost use Rattle.dt_round.specs.Rounds.{Continues};
 ghost use Rattle.dt_cluster.specs.Valid.{IsValidCluster};
 ghost use Rattle.dt_workload.specs.Valid.{IsValidWorkload};
 ghost use Rattle.dt_node.specs.NodeView.{heard_by, new_items, opening_node_of};
-ghost use Rattle.dt_node.specs.Sending.{HasSent};
+ghost use Rattle.dt_node.specs.Sending.{HasSent, LeavesNothingOut};
 ghost use Rattle.dt_node.specs.Standing.{NodeStands};
 ghost use Rattle.dt_node.specs.Steps.{HasMadePasses, HasTurned, IsPass};
 ghost use Rattle.dt_node.specs.Turn.{AreBrought, BeginsEagerly, HasGone, HasTaken, IsSettled, StampsRise};
@@ -136,6 +136,7 @@ impl<S: Scheduler + Drop> Node<S> {
         ensures steps { OnOk result (HasTurned procs.now (flat_map I.waits ins.old) self.old self.new) }
         ensures begins { OnOk result (flat_map I.waits ins.old ≡ [] → BeginsEagerly procs.now self.old self.new) }
         ensures sent { OnOk result (HasSent self.old self.new (map O.seen outs.old) (map O.seen outs.new)) }
+        ensures whole { OnOk result ((target : ℕ) → target < self.new.site.region.state.regions → LeavesNothingOut self.new target) }
         ensures same_ins { (first : List I) → Pairwise I.same first ins.old → Pairwise I.same first ins.new }
         ensures same_outs { (first : List O) → Pairwise O.same first outs.old → Pairwise O.same first outs.new }
     {

@@ -6,7 +6,7 @@ use Rattle.dt_lists.specs.Lists.{AllIn}
 use Rattle.dt_events.specs.Stamps.{events_of}
 use Rattle.dt_cluster.specs.declared.Cluster.{Cluster}
 use Rattle.dt_workload.specs.declared.Workload.{Workload}
-use Rattle.dt_session.specs.Sessions.{AreAllAnswered}
+use Rattle.dt_session.specs.Sessions.{EachNameIsAnswered}
 use Rattle.dt_session.specs.World.{node_at}
 use Rattle.dt_session.specs.Run.{world_after}
 use Rattle.dt_site.proofs.Callers.{IsShort, legal_short, many_here}
@@ -39,11 +39,11 @@ module _ {cluster : Cluster} {workload : Workload} {seats : List SeatView} {brok
   at_seat : (region : ℕ) → node_in v region ≡ (seat_at seats region).node
   at_seat = node_is cluster workload seats broken
 
-  pub answered_all : AllIn (λ s. AreAllAnswered s.node.sessions) seats → (region : ℕ) → region < cluster.regions → AreAllAnswered (node_in v region).sessions
-  answered_all all region lr = subst (λ (n : NodeView). AreAllAnswered n.sessions) (sym (at_seat region)) (each_seat (λ s. AreAllAnswered s.node.sessions) seats all region (subst (λ m. region < m) (sym many) lr))
+  pub answered_all : AllIn (λ s. EachNameIsAnswered s.node.sessions) seats → (region : ℕ) → region < cluster.regions → EachNameIsAnswered (node_in v region).sessions
+  answered_all all region lr = subst (λ (n : NodeView). EachNameIsAnswered n.sessions) (sym (at_seat region)) (each_seat (λ s. EachNameIsAnswered s.node.sessions) seats all region (subst (λ m. region < m) (sym many) lr))
 
-  pub all_answered : ((region : ℕ) → region < cluster.regions → AreAllAnswered (node_in v region).sessions) → AllIn (λ s. AreAllAnswered s.node.sessions) seats
-  all_answered f = all_seats (λ s. AreAllAnswered s.node.sessions) seats (λ region lt. subst (λ (n : NodeView). AreAllAnswered n.sessions) (at_seat region) (f region (subst (λ m. region < m) many lt)))
+  pub all_answered : ((region : ℕ) → region < cluster.regions → EachNameIsAnswered (node_in v region).sessions) → AllIn (λ s. EachNameIsAnswered s.node.sessions) seats
+  all_answered f = all_seats (λ s. EachNameIsAnswered s.node.sessions) seats (λ region lt. subst (λ (n : NodeView). EachNameIsAnswered n.sessions) (at_seat region) (f region (subst (λ m. region < m) many lt)))
 
   pub done_each : AllIn (λ source. AllIn (λ s. HasDone s.node source.node) seats) seats → (region source : ℕ) → region < cluster.regions → source < cluster.regions → HasDone (node_in v region) (node_in v source)
   done_each all region source lr ls =
@@ -55,21 +55,21 @@ module _ {cluster : Cluster} {workload : Workload} {seats : List SeatView} {brok
   each_done f = all_seats (λ t. AllIn (λ s. HasDone s.node t.node) seats) seats (λ source ls. all_seats (λ s. HasDone s.node (seat_at seats source).node) seats (λ region lr.
       subst (λ n. HasDone n (seat_at seats source).node) (at_seat region) (subst (HasDone (node_in v region)) (at_seat source) (f region source (subst (λ m. region < m) many lr) (subst (λ m. source < m) many ls)))))
 
-  pub are_done : AllIn (λ s. AreAllAnswered s.node.sessions) seats → AllIn (λ source. AllIn (λ s. HasDone s.node source.node) seats) seats → IsAllDone v
+  pub are_done : AllIn (λ s. EachNameIsAnswered s.node.sessions) seats → AllIn (λ source. AllIn (λ s. HasDone s.node source.node) seats) seats → IsAllDone v
   are_done answered executed = record { answered = answered_all answered; executed = done_each executed }
 
   -- whether all is done, as it is asked of seats in turn
-  pub done_if : {asked told : List SeatView} → asked ≡ seats → told ≡ seats → AllIn (λ s. AreAllAnswered s.node.sessions) asked
+  pub done_if : {asked told : List SeatView} → asked ≡ seats → told ≡ seats → AllIn (λ s. EachNameIsAnswered s.node.sessions) asked
       → (b : Bool) → (IsTrue b ↔ AllIn (λ source. AllIn (λ s. HasDone s.node source.node) told) told) → IsTrue b ↔ IsAllDone v
   done_if {asked} {told} asked_is told_is answered b executed = (
-    λ t. are_done (subst (AllIn (λ s. AreAllAnswered s.node.sessions)) asked_is answered) (subst (λ l. AllIn (λ source. AllIn (λ s. HasDone s.node source.node) l) l) told_is (executed.0 t)),
+    λ t. are_done (subst (AllIn (λ s. EachNameIsAnswered s.node.sessions)) asked_is answered) (subst (λ l. AllIn (λ source. AllIn (λ s. HasDone s.node source.node) l) l) told_is (executed.0 t)),
     λ d. executed.1 (subst (λ l. AllIn (λ source. AllIn (λ s. HasDone s.node source.node) l) l) (sym told_is) (each_done d.executed)),
   )
 
-  pub not_done_if : {asked : List SeatView} → asked ≡ seats → (b : Bool) → (IsTrue b ↔ AllIn (λ s. AreAllAnswered s.node.sessions) asked) → b ≡ false → IsTrue b ↔ IsAllDone v
+  pub not_done_if : {asked : List SeatView} → asked ≡ seats → (b : Bool) → (IsTrue b ↔ AllIn (λ s. EachNameIsAnswered s.node.sessions) asked) → b ≡ false → IsTrue b ↔ IsAllDone v
   not_done_if asked_is b answered fails = (
     λ t. absurd (false≢true (sym fails ∙ t)),
-    λ d. answered.1 (subst (AllIn (λ s. AreAllAnswered s.node.sessions)) (sym asked_is) (all_answered d.answered)),
+    λ d. answered.1 (subst (AllIn (λ s. EachNameIsAnswered s.node.sessions)) (sym asked_is) (all_answered d.answered)),
   )
 
   -- submissions are counted by 32 bits

@@ -28,3 +28,13 @@ pub mod Assembled
 pub mod KeptLists
 pub mod PhaseMade
 pub mod OpeningSeats
+pub mod SomeHome
+pub mod AllArrived
+pub mod Silent
+pub mod CountedPhases
+pub mod QuietPhases
+pub mod StaysDone
+pub mod RunEnds
+pub mod SeatCounts
+pub mod PhaseRuns
+pub mod OpeningRuns

@@ -2,10 +2,8 @@
 use Rattle.std.proofs.Common.{◌≡◌, ◌≢◌, ◌<◌, ◌≤◌, ◌+◌, ◌⊎◌, ℕ, true, false, eqb, List, [], ◌∷◌, length, map, filter, Some, refl, sym, ap, subst, ◌∙◌, inl, inr, arith, eq-eqb}
 use Rattle.std.proofs.Common.{Result, Ok, Err, IfOk}
 use Rattle.std.proofs.lemmas.Bool.{cases_Bool, false_from_ne_true}
-use Rattle.std.specs.Map.{lookup}
 use Rattle.dt_lists.specs.Lists.{AllIn, Distinct, Has, IsFront}
 use Rattle.dt_lists.proofs.Callers.{all_get, all_put, get_of_map, has_map}
-use Rattle.dt_access.specs.Clash.{Bytes}
 use Rattle.dt_text.specs.declared.NoMemory.{NoMemory}
 use Rattle.dt_events.specs.declared.Event.{Event}
 use Rattle.dt_events.specs.declared.Stamped.{Stamped}
@@ -14,11 +12,9 @@ use Rattle.dt_events.specs.Stamps.{events_of}
 use Rattle.dt_txn.specs.declared.Txn.{Txn}
 use Rattle.dt_txn.specs.Replica.{done_ids}
 use Rattle.dt_workload.specs.declared.Session.{Session}
-use Rattle.dt_session.specs.declared.sessions.Seat.{Seat}
 use Rattle.dt_session.specs.Eager.{AllChange, first_calls, first_events, sessions_at}
 use Rattle.dt_session.specs.Finished.{AreAnswered}
 use Rattle.dt_session.specs.Run.{AreLegal, world_after}
-use Rattle.dt_session.specs.Sessions.{is_named}
 use Rattle.dt_session.specs.World.{World, Node, Place, is_session, node_at, opening_table, opening_world, session_at}
 use Rattle.dt_report.specs.declared.Report.{Report}
 use Rattle.dt_agreement.proofs.Callers.{legal_keeps, places_parallel, session_of_test, test_of_key}
@@ -49,15 +45,6 @@ events_at_region region (x ∷ items) = go (cases_Bool (eqb (region_at x) region
         → filter (λ event. eqb (region_of event) region) (events_of (x ∷ items)) ≡ events_of (those_at region (x ∷ items))
     go (inl t) e = rw t (ap (λ l. x.event ∷ l) e)
     go (inr n) e = rw n e
-
--- what a name finds is among all
-found_has : (P : Seat → Type 0) (name : Bytes) (es : List (Bytes × Seat)) (seat : Seat) → lookup (is_named name) es ≡ Some seat → AllIn (λ p. P p.1) es → P seat
-found_has P name [] seat e a = cc
-found_has P name (x ∷ es) seat e a = go (cases_Bool (is_named name x.0)) (λ f. found_has P name es seat f a.1)
-  where
-    go : (is_named name x.0 ≡ true) ⊎ (is_named name x.0 ≡ false) → (lookup (is_named name) es ≡ Some seat → P seat) → P seat
-    go (inl t) later = let is : Some x.1 ≡ Some seat = rw t at e in let same : x.1 ≡ seat = cc in subst P same a.0
-    go (inr n) later = later (rw n at e)
 
 -- every call is answered where each session says so
 own_answered : (sessions : List Session) (places : List Place) → length places ≡ length sessions → Distinct (map (λ s. s.name) sessions)
@@ -121,7 +108,7 @@ module _ {v : NodesView} (n : AreNodes v) (sound : v.broken ≡ false) (some : 1
           let lr : t.region < v.cluster.regions = (all_get _ v.workload.sessions n.workload.sessions t h).region in
           let f : StandsAmong v n.all t.region = n.stand t.region lr in
           let k = subst (λ r. SessionsStandIn v.cluster v.workload whole r (node_in v t.region).sessions) f.number f.fits.sessions in
-          found_has (λ seat. seat.answered ≡ length seat.calls) t.name (node_in v t.region).sessions.seats _ (kept_here k t.name e) (d.answered t.region lr)
+          d.answered t.region lr t.name _ (kept_here k t.name e)
 
   executed : (region source : ℕ) → region < v.cluster.regions → source < v.cluster.regions → AllIn (λ s. Has (done_ids (node_at whole region).here) s.txn.id) (node_at whole source).submitted
   executed region source lr ls =

@@ -167,14 +167,14 @@ module _ {cluster : Cluster} {workload : Workload} (all : List Stamped) {n : Nod
   parts_held : AllIn (λ p. IsHeld s p.id) log
   parts_held = all_map _ _ log (λ p h. (h.0, h.1)) (f.site.sound.parts me)
 
-  first_asked : get_or n.took target 0 ≤ length asked
+  pub first_asked : get_or n.took target 0 ≤ length asked
   first_asked =
       let k : get_or n.took target 0 ≤ taken_of whole target me = (f.knows target apart).took in
       let l : taken_of whole target me ≤ length (asked_of whole me target) = (good.inv.logs target there).taken me f.number in
       let e : length (asked_of whole me target) ≡ length asked = ap length asked_is in
       omega (arith, k, l, e)
 
-  first_entry : get_or n.received target 0 ≤ length log
+  pub first_entry : get_or n.received target 0 ≤ length log
   first_entry =
       let k : get_or n.received target 0 ≤ received_of whole target me = (f.knows target apart).received in
       let l : received_of whole target me ≤ length (log_of whole me) = (good.inv.lengths target me there f.number).received in
@@ -196,10 +196,10 @@ module _ {cluster : Cluster} {workload : Workload} (all : List Stamped) {n : Nod
   ids_parts_held : AllIn (λ q. IsHeld s q.id) parts
   ids_parts_held = all_taken (λ (q : Part). IsHeld s q.id) most_items _ (all_dropped (λ (q : Part). IsHeld s q.id) (get_or n.received target 0) log parts_held)
 
-  asked_long : length p.asked ≡ length ids
+  pub asked_long : length p.asked ≡ length ids
   asked_long = sym (length-map p.asked (λ (t : Txn). t.id)) ∙ ap length (looked_ids s ids ids_held)
 
-  entries_long : length p.entries ≡ length parts
+  pub entries_long : length p.entries ≡ length parts
   entries_long = sym (length-map p.entries (λ (e : Entry). e.part)) ∙ ap length (looked_parts s parts ids_parts_held)
 
   -- where only later events of others are left

@@ -3,7 +3,7 @@
 use Rattle.std.specs.Prelude.{◌<◌, ℕ}
 use Rattle.dt_lists.specs.Lists.{AllIn, Has}
 use Rattle.dt_txn.specs.Replica.{done_ids}
-use Rattle.dt_session.specs.Sessions.{AreAllAnswered}
+use Rattle.dt_session.specs.Sessions.{EachNameIsAnswered}
 use Rattle.dt_node.specs.NodeView.{NodeView}
 use Rattle.dt_run.specs.NodesView.{NodesView, node_in}
 
@@ -13,5 +13,5 @@ HasDone n source = AllIn (λ txn. Has (done_ids n.site.region.state.here) txn.id
 
 -- every call is answered, and every region has executed every attempt
 pub record IsAllDone (v : NodesView) : Type 0 where
-  pub answered : (region : ℕ) → region < v.cluster.regions → AreAllAnswered (node_in v region).sessions
+  pub answered : (region : ℕ) → region < v.cluster.regions → EachNameIsAnswered (node_in v region).sessions
   pub executed : (region source : ℕ) → region < v.cluster.regions → source < v.cluster.regions → HasDone (node_in v region) (node_in v source)

@@ -4,6 +4,8 @@ pub mod NodesStand
 pub mod Phase
 pub mod Done
 pub mod Run
+pub mod Silence
+pub mod EndLaws
 pub mod SeatsInner
 pub mod LinksInner
 pub mod MergingInner

@@ -15,6 +15,8 @@ use Rattle.dt_node.specs.Turn.{BeginsEagerly, HasTaken, IsSettled}
 use Rattle.dt_run.specs.NodesStand.{AreNodes}
 use Rattle.dt_run.specs.NodesView.{NodesView, link_to, no_running_node}
 use Rattle.dt_run.specs.Phase.{TurnsOnce}
+use Rattle.dt_run.specs.Silence.{ComesToAnEnd, counts_in}
+use Rattle.dt_run.specs.declared.counts.Counts.{Counts}
 
 -- a node at its seat: with its ends of the links from and to the other regions, in ascending order of these, its marks, and
 -- whether its last turn failed
@@ -118,7 +120,21 @@ nodes_view cluster workload seats broken = record {
   broken = broken;
 }
 
--- what the type of the nodes keeps
+-- how many events the region of a seat has kept
+abbrev pub events_at : SeatView → ℕ
+events_at s = length s.node.site.region.events
+
+-- what the type of the nodes keeps of its counts: they are those of the nodes, and a run comes to an end
+pub record HasCounts (v : NodesView) (counts : Counts) : Type 0 where
+  pub are : counts ≡ counts_in v
+  pub ends : ComesToAnEnd v
+
+-- what the type of the nodes keeps of nodes and links
 pub record AreSeated (cluster : Cluster) (workload : Workload) (seats : List SeatView) (broken : Bool) : Type 0 where
   pub nodes : AreNodes (nodes_view cluster workload seats broken)
   pub linked : broken ≡ false → AreLinkedBy AreBeside seats
+
+-- what the type of the nodes keeps
+pub record AreRunning (cluster : Cluster) (workload : Workload) (seats : List SeatView) (broken : Bool) (counts : Counts) : Type 0 where
+  pub seated : AreSeated cluster workload seats broken
+  pub counted : broken ≡ false → HasCounts (nodes_view cluster workload seats broken) counts

@@ -2,7 +2,7 @@
 ghost use Rattle.std.specs.Prelude.{◌↔◌, ◌<◌, ◌+◌, length, IsTrue};
 ghost use Rattle.dt_lists.specs.Lists.{AllIn, Has};
 ghost use Rattle.dt_txn.specs.Replica.{done_ids};
-ghost use Rattle.dt_session.specs.Sessions.{AreAllAnswered};
+ghost use Rattle.dt_session.specs.Sessions.{EachNameIsAnswered};
 ghost use Rattle.dt_run.specs.Done.{HasDone};
 ghost use Rattle.dt_run.specs.SeatsInner.{HasFewSubmitted};
 
@@ -13,7 +13,7 @@ use dt_sched::Scheduler;
 
 /// Whether every call of every session is answered.
 pub fn are_answered<S: Scheduler + Drop>(seats: &[Seat<S>]) -> bool
-    ensures { IsTrue result ↔ AllIn (λ s. AreAllAnswered s.node.sessions) seats.now }
+    ensures { IsTrue result ↔ AllIn (λ s. EachNameIsAnswered s.node.sessions) seats.now }
 {
     for seat in seats {
         if !seat.node.sessions().all_answered() {

@@ -2,7 +2,8 @@
 //!
 //! In a phase every node makes one turn, each in a thread of its own where one can be made ([`Nodes::phase`]). A node knows
 //! nothing of what the others do meanwhile: what it sends waits on a link, and becomes known between two phases, when the ends
-//! of each link are brought beside each other (`links.rt`). [`run`] makes phases until all is done.
+//! of each link are brought beside each other (`links.rt`). [`run`] makes phases until all is done; there are only so many of
+//! them, whatever packets are lost (`specs/Silence`, and the laws of `ending.rt`).
 //!
 //! Nobody has the events of all regions as one list while they are made. In the end they are told in the order of their stamps
 //! (`merging.rt`): this list is legal, and it leads to the world in which all nodes are, by the laws of `dt_merge`. So whatever
@@ -14,10 +15,13 @@
 //! now. One turn of each node, told one after another, makes the list longer, since a turn's events go on from whatever
 //! events there were (`HasGone` of `dt_node`).
 //!
-//! Read next: `specs/NodesView`, `specs/Marks`, `specs/NodesStand`, `specs/Phase`, `specs/Done`, `specs/Run`; then `nodes.rt`.
+//! Read next: `specs/NodesView`, `specs/Marks`, `specs/NodesStand`, `specs/Phase`, `specs/Done`, `specs/Run`, `specs/Silence`;
+//! then `nodes.rt`.
 #![tactic(auto)]
 
+mod counts;
 mod doing;
+mod ending;
 mod links;
 mod merging;
 mod nodes;
@@ -25,5 +29,10 @@ mod reporting;
 mod seat;
 mod sites;
 
+pub use counts::Counts;
+pub use ending::{
+    begins_to_end, each_phase_is_counted, each_phase_leads_to_an_end, phases_are_few,
+    what_is_done_stays_done,
+};
 pub use nodes::Nodes;
 pub use reporting::run;

@@ -11,7 +11,9 @@ ghost use Rattle.dt_run.specs.NodesView.{kept_by, marks_at, opening_nodes};
 ghost use Rattle.dt_run.specs.Phase.{EndsInStep, IsPhase};
 ghost use Rattle.dt_run.specs.Run.{AreMerged, IsRunReport};
 ghost use Rattle.dt_run.specs.SeatsInner.{EachGoes, SeatCan, SeatGoes, new_seat};
+ghost use Rattle.dt_run.specs.Silence.{ComesToAnEnd, PhaseIsCounted, counts_in};
 
+use crate::counts::Counts;
 use crate::doing::{are_answered, have_done_all};
 use crate::links::{beside_all, link_all};
 use crate::merging::merged;
@@ -43,12 +45,14 @@ pub struct Nodes<S: Scheduler + Drop> {
     /// The seat of each region's node, by its number.
     seats: Vec<Seat<S>>,
     broken: bool,
+    /// How far they have come.
+    counts: Counts,
 }
 
 impl<S: Scheduler + Drop> Model for Nodes<S> {
     ghost use Rattle.dt_run.specs.NodesView.{NodesView};
     ghost use Rattle.dt_run.specs.NodesCode.{nodes_code};
-    ghost use Rattle.dt_run.specs.SeatsInner.{AreSeated, nodes_view};
+    ghost use Rattle.dt_run.specs.SeatsInner.{AreRunning, nodes_view};
 
     ghost Value = { NodesView };
 
@@ -56,7 +60,7 @@ impl<S: Scheduler + Drop> Model for Nodes<S> {
 
     ghost view = { λ n. nodes_view n.cluster n.workload n.seats.items n.broken };
 
-    ghost invariant = { λ n. AreSeated n.cluster n.workload n.seats.items n.broken };
+    ghost invariant = { λ n. AreRunning n.cluster n.workload n.seats.items n.broken n.counts };
 }
 
 impl<S: Scheduler + Drop> Nodes<S> {
@@ -74,7 +78,18 @@ impl<S: Scheduler + Drop> Nodes<S> {
             workload: workload.copy(alloc)?,
             seats,
             broken: false,
+            counts: Counts::none(),
         })
+    }
+
+    /// How many phases were made, how many events all regions have kept, and how many silent phases were made since the last
+    /// one in which some event was kept. Takes no memory.
+    pub fn counts(&self) -> Counts
+        requires { self.now.broken ≡ false }
+        ensures counts { result ≡ counts_in self.now }
+        ensures ends { ComesToAnEnd self.now }
+    {
+        self.counts
     }
 
     /// Whether every call of every session is answered, and every region has executed every attempt. Takes no memory.
@@ -122,6 +137,8 @@ impl<S: Scheduler + Drop + Send> Nodes<S> {
         requires { self.old.broken ≡ false }
         ensures phase { IsPhase self.old self.new }
         ensures in_step { OnOk result (EndsInStep self.old self.new) }
+        ensures counted { OnOk result (PhaseIsCounted self.old self.new) }
+        ensures ends { OnOk result (ComesToAnEnd self.new) }
         ensures broken { OnErr result (self.new.broken ≡ true) }
         ensures nodes { AreNodes self.new }
     {
@@ -131,6 +148,7 @@ impl<S: Scheduler + Drop + Send> Nodes<S> {
             return Err(NoMemory);
         }
         beside_all(alloc, self.seats.as_mut_slice());
+        self.counts = self.counts.after(self.seats.as_slice());
         Ok(())
     }
 }

@@ -3,6 +3,7 @@ ghost use Rattle.std.specs.Prelude.{◌≡◌, false, IfOk, OnOk};
 ghost use Rattle.dt_run.specs.Done.{IsAllDone};
 ghost use Rattle.dt_run.specs.NodesStand.{AreNodes};
 ghost use Rattle.dt_run.specs.Run.{IsRunReport};
+ghost use Rattle.dt_run.specs.Silence.{MakesFewPhases};
 
 use crate::nodes::Nodes;
 use dt_report::Report;
@@ -13,8 +14,9 @@ use std::sync::Wait;
 use std::thread::Threads;
 
 /// Makes phases until every call is answered and every region has executed every attempt, and gives the report of the events
-/// that the nodes then hold, in the order of their stamps. No clause says that it returns. It fails only for want of memory;
-/// then the nodes are as after some phases, of which the last one may have been made in part.
+/// that the nodes then hold, in the order of their stamps. It makes only so many phases, whatever packets are lost, so it returns
+/// if each of them does. It fails only for want of memory; then the nodes are as after some phases, of which the last one may
+/// have been made in part.
 pub fn run<R: Threads + Wait + Sync, S: Scheduler + Drop + Send>(
     rt: &R,
     alloc: Global,
@@ -25,13 +27,13 @@ pub fn run<R: Threads + Wait + Sync, S: Scheduler + Drop + Send>(
     ensures cluster { nodes.new.cluster ≡ nodes.old.cluster }
     ensures workload { nodes.new.workload ≡ nodes.old.workload }
     ensures done { OnOk result (IsAllDone nodes.new) }
+    ensures phases { OnOk result (MakesFewPhases nodes.old nodes.new) }
     ensures report { IfOk result (IsRunReport nodes.new) }
 {
-    for _ in rt.forever() {
+    'phases: loop {
         nodes.phase(rt, alloc)?;
         if nodes.finished() {
             return nodes.report(alloc);
         }
     }
-    unreachable!()
 }

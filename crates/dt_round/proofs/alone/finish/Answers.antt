@@ -27,9 +27,9 @@ steps-preserved g c =
     let made : IsOwnStep c.args.procs.now c.steps.region c.step.new.region = subst (λ b. StepsOn c.args.procs.now c.steps.region (Ok b) c.step.new.region) c.if-not-branch.false c.in_ok-step.ensures.steps in
     record {
       on_way = record {
-          entry = c.steps.invariant.on_way.entry;
-          underway = one_more c.args.procs.now c.steps.invariant.on_way.entry c.steps.region c.steps.invariant.on_way.underway c.step.new.region made c.in_ok-step.ensures.sound;
-        };
+        entry = c.steps.invariant.on_way.entry;
+        underway = one_more c.args.procs.now c.steps.invariant.on_way.entry c.steps.region c.steps.invariant.on_way.underway c.step.new.region made c.in_ok-step.ensures.sound;
+      };
       underway = λ entry u. one_more c.args.procs.now entry c.steps.region (c.steps.invariant.underway entry u) c.step.new.region made c.in_ok-step.ensures.sound;
       regions = c.steps.invariant.regions ∙ sym (ap (λ (r : RegionView). r.state.regions) made.makes.1);
     }

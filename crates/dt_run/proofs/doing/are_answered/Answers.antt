@@ -1,5 +1,5 @@
-use Rattle.std.proofs.Common.{◌<◌, length, subst, arith}
-use Rattle.dt_session.specs.Sessions.{AreAllAnswered}
+use Rattle.std.proofs.Common.{◌≡◌, ◌<◌, length, subst, arith}
+use Rattle.dt_session.specs.Sessions.{EachNameIsAnswered}
 use Rattle.dt_run.specs.SeatsInner.{SeatView}
 use Rattle.dt_run.proofs.Alls.{all_next}
 use Rattle.dt_run.proofs.doing.are_answered.Goals as goal
@@ -7,6 +7,6 @@ use Rattle.dt_run.proofs.doing.are_answered.Goals as goal
 pub loop-seat-preserved : goal.loop-seat-preserved
 loop-seat-preserved g c =
     let lt : c.loop-seat.seat-index < length c.args.seats.now = omega (arith, c.loop-seat-test.true) in
-    let there : AreAllAnswered c.seat.inside.node.sessions = subst AreAllAnswered c.sessions.ensures (c.all_answered.ensures.all.0 c.if-not-all_answered.false) in
-    all_next (λ (s : SeatView). AreAllAnswered s.node.sessions) c.args.seats.now c.loop-seat.seat-index c.seat-item.result c.seat-item.is lt c.loop-seat.invariant
-    (subst (λ (s : SeatView). AreAllAnswered s.node.sessions) c.seat.view_is there)
+    let there : EachNameIsAnswered c.seat.inside.node.sessions = subst EachNameIsAnswered c.sessions.ensures (c.all_answered.ensures.by_name.0 c.if-not-all_answered.false) in
+    all_next (λ (s : SeatView). EachNameIsAnswered s.node.sessions) c.args.seats.now c.loop-seat.seat-index c.seat-item.result c.seat-item.is lt c.loop-seat.invariant
+    (subst (λ (s : SeatView). EachNameIsAnswered s.node.sessions) c.seat.view_is there)

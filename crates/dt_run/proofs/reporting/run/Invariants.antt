@@ -1,7 +1,16 @@
-use Rattle.std.proofs.Common.{◌≡◌, false}
+use Rattle.std.proofs.Common.{◌≡◌, ◌<◌, ◌⊎◌, ◌-◌, false}
+use Rattle.dt_run.specs.Silence.{made_in, most_phases}
 use Rattle.dt_run.proofs.reporting.run.Given as goal
 
--- no phase has failed so far, and the nodes are of the same cluster and workload
-abbrev pub invariant-loop : goal.invariant-loop
-invariant-loop g l =
-    (goal.iterator-loop g).can_next l.iterator' × (goal.iterator-loop g).is_finite l.iterator' × (l.nodes.broken ≡ false) × (l.nodes.cluster ≡ l.initial.nodes.cluster) × (l.nodes.workload ≡ l.initial.nodes.workload)
+-- the nodes are sound, and no phase was made yet, or fewer than there can be
+abbrev pub invariant-phases : goal.invariant-phases
+invariant-phases g l = record {
+  sound : l.nodes.broken ≡ false;
+  cluster : l.nodes.cluster ≡ l.fn.nodes.cluster;
+  workload : l.nodes.workload ≡ l.fn.nodes.workload;
+  few : (made_in l.nodes ≡ made_in l.fn.nodes) ⊎ (made_in l.nodes < most_phases l.nodes.cluster l.nodes.workload);
+}
+
+-- how many more phases there can be
+abbrev pub decreases-phases : goal.decreases-phases
+decreases-phases g l = most_phases l.nodes.cluster l.nodes.workload - made_in l.nodes

@@ -1,6 +1,7 @@
 use Rattle.std.proofs.Common.{[], flat_map, sym, subst, ◌∙◌}
 use Rattle.dt_node.specs.NodeView.{new_items}
 use Rattle.dt_node.specs.Turn.{AreBrought, BeginsEagerly, HasGone, HasTaken, IsSettled, StampsRise}
+use Rattle.dt_node.proofs.LeavingOut.{sends_whole}
 use Rattle.dt_node.proofs.Moving.{moves_on}
 use Rattle.dt_node.proofs.Stepping.{on_ok, turn_begins, turn_can, turn_moves, turn_ready, turn_settles, turn_steps, turn_takes}
 use Rattle.dt_node.proofs.Telling.{can_on, may_begin}
@@ -73,3 +74,7 @@ returns-clause-begins g c =
 
 pub returns-clause-steps : goal.returns-clause-steps
 returns-clause-steps g c = on_ok c.send.result (turn_steps (c.in_ok-receive_all.ensures.each c.args.procs.now) c.in_ok-go_on.ensures.passes c.send.ensures.still)
+
+pub returns-clause-whole : goal.returns-clause-whole
+returns-clause-whole g c =
+    on_ok c.send.result (sends_whole (can_on [] [] (turn_can c.requires.stands (c.receive_all.ensures.moved c.args.procs.now)) c.go_on.ensures.moved) c.send.ensures.still)

@@ -14,7 +14,7 @@ loop-seat-preserved g c =
 
 pub merged-requires : goal.merged-requires
 merged-requires g c =
-    subst AreKept (sym (all_kept c.loop-seat.seat-index c.loop-seat.invariant c.as_slice-seat-items.ensures.value c.loop-seat-test.false)) (are_kept c.self.invariant.nodes.chronicle)
+    subst AreKept (sym (all_kept c.loop-seat.seat-index c.loop-seat.invariant c.as_slice-seat-items.ensures.value c.loop-seat-test.false)) (are_kept c.self.invariant.seated.nodes.chronicle)
 
 pub returns : goal.returns
 returns g c =

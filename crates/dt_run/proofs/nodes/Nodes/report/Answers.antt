@@ -10,7 +10,7 @@ use Rattle.dt_run.proofs.nodes.Nodes.report.Goals as goal
 
 pub report_of_sites-requires : goal.report_of_sites-requires
 report_of_sites-requires g c =
-    sites_after c.self.invariant.nodes (subst (λ (v : NodesView). v.broken ≡ false) (sym c.self.view_is) c.requires.sound)
+    sites_after c.self.invariant.seated.nodes (subst (λ (v : NodesView). v.broken ≡ false) (sym c.self.view_is) c.requires.sound)
     (subst (λ (v : NodesView). 1 ≤ length (marks_at v 0)) (sym c.self.view_is) c.requires.phases) (subst IsAllDone (sym c.self.view_is) c.requires.done)
     (subst (λ (v : NodesView). AreMerged (kept_by v.nodes) c.in_ok-events.events.items) (sym c.self.view_is) c.in_ok-events.ensures)
     (ap (map (λ (site : Bor SiteView). site.now)) c.as_slice-sites.ensures.value ∙ c.in_ok-sites.ensures ∙ ap (map (λ (s : SeatView). s.node.site)) c.as_slice.ensures.value ∙ sites_by_nodes _)
@@ -18,7 +18,7 @@ report_of_sites-requires g c =
 pub returns : goal.returns
 returns g c =
     subst (λ v. IfOk c.report_of_sites.result (IsRunReport v)) c.self.view_is
-    (report_told c.self.invariant.nodes (subst (λ (v : NodesView). v.broken ≡ false) (sym c.self.view_is) c.requires.sound)
+    (report_told c.self.invariant.seated.nodes (subst (λ (v : NodesView). v.broken ≡ false) (sym c.self.view_is) c.requires.sound)
     (subst (λ (v : NodesView). 1 ≤ length (marks_at v 0)) (sym c.self.view_is) c.requires.phases) (subst IsAllDone (sym c.self.view_is) c.requires.done)
     (subst (λ (v : NodesView). AreMerged (kept_by v.nodes) c.in_ok-events.events.items) (sym c.self.view_is) c.in_ok-events.ensures)
     c.report_of_sites.result c.report_of_sites.ensures)

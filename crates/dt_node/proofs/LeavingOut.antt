@@ -1,0 +1,84 @@
+-- A packet leaves nothing out: a node that stands in a world holds the transaction of each id that it asked for, and of each part
+-- in its log.
+use Rattle.std.proofs.Common.{◌≡◌, ◌<◌, ◌+◌, ℕ, zero, suc, List, [], ◌∷◌, map, drop, take, get_or, Some, refl, sym, ap, ap₂, subst}
+use Rattle.std.specs.Prelude.{filter_map}
+use Rattle.dt_lists.specs.Lists.{AllIn, Has}
+use Rattle.dt_lists.proofs.Callers.{all_map, all_put}
+use Rattle.dt_access.specs.declared.Part.{Part}
+use Rattle.dt_access.specs.declared.TxnId.{TxnId}
+use Rattle.dt_events.specs.declared.Event.{Event}
+use Rattle.dt_sched.specs.Views.{log_at}
+use Rattle.dt_proc.specs.Tree.{ProcTree}
+use Rattle.dt_txn.specs.declared.Entry.{Entry}
+use Rattle.dt_txn.specs.declared.Txn.{Txn}
+use Rattle.dt_region.specs.Region.{RegionState, held}
+use Rattle.dt_region.proofs.Callers.{held_id}
+use Rattle.dt_cluster.specs.declared.Cluster.{Cluster}
+use Rattle.dt_workload.specs.declared.Workload.{Workload}
+use Rattle.dt_session.specs.World.{World, Node, asked_of}
+use Rattle.dt_session.specs.Run.{world_after}
+use Rattle.dt_agreement.proofs.Callers.{IsRequest, request_is}
+use Rattle.dt_site.proofs.Callers.{attempts_have, find_some, inv, order}
+use Rattle.dt_node.specs.NodeView.{NodeView, entry_held, most_items, number_of, stretch_from}
+use Rattle.dt_node.specs.Sending.{LeavesNothingOut}
+use Rattle.dt_node.specs.Standing.{NodeFits}
+use Rattle.dt_node.specs.TurnInner.{CanGo}
+use Rattle.dt_node.proofs.Going.{reached}
+
+all_taken : {A : Type 0} (P : A → Type 0) (n : ℕ) (xs : List A) → AllIn P xs → AllIn P (take n xs)
+all_taken P zero xs a = tt
+all_taken P (suc n) [] a = tt
+all_taken P (suc n) (x ∷ xs) a = (a.0, all_taken P n xs a.1)
+
+all_dropped : {A : Type 0} (P : A → Type 0) (n : ℕ) (xs : List A) → AllIn P xs → AllIn P (drop n xs)
+all_dropped P zero xs a = a
+all_dropped P (suc n) [] a = tt
+all_dropped P (suc n) (x ∷ xs) a = all_dropped P n xs a.1
+
+-- what is held is found, each under its id
+
+module _ (s : RegionState) where
+  abbrev IsHeld : TxnId → Type 0
+  IsHeld id = (txn : Txn) × (held s id ≡ Some txn)
+
+  found_ids : (ids : List TxnId) → AllIn IsHeld ids → map (λ (t : Txn). t.id) (filter_map (held s) ids) ≡ ids
+  found_ids [] a = refl
+  found_ids (id ∷ ids) a = rw a.0.1 (ap₂ ◌∷◌ (held_id s id a.0.0 a.0.1) (found_ids ids a.1))
+
+  found_parts : (parts : List Part) → AllIn (λ p. IsHeld p.id) parts → map (λ (e : Entry). e.part) (filter_map (entry_held s) parts) ≡ parts
+  found_parts [] a = refl
+  found_parts (p ∷ parts) a = rw a.0.1 (ap (λ l. p ∷ l) (found_parts parts a.1))
+
+module _ {cluster : Cluster} {workload : Workload} {events : List Event} {n : NodeView} (f : NodeFits cluster workload events n) (target : ℕ) (there : target < cluster.regions) where
+  abbrev w : World
+  w = world_after cluster workload events
+
+  abbrev s : RegionState
+  s = n.site.region.state
+
+  one_held : (id : TxnId) → Has (asked_of w (number_of n) target) id → IsHeld s id
+  one_held id h =
+      let r : IsRequest w target (number_of n) id = request_is cluster workload w (order (reached f)) target (number_of n) there f.number (inv (reached f)) id h in
+      subst (IsHeld s) r.same (find_some s.submitted s.foreign r.submission.txn
+      (attempts_have s.submitted n.site.origins r.submission (subst (λ (x : Node). Has x.submitted r.submission) (sym f.site.node) r.there)))
+
+  asked_held : AllIn (IsHeld s) (get_or s.here.asked target [])
+  asked_held = subst (λ (x : Node). AllIn (IsHeld s) (get_or x.here.asked target [])) (sym f.site.node) (all_put (IsHeld s) (asked_of w (number_of n) target) one_held)
+
+  parts_held : AllIn (λ p. IsHeld s p.id) (log_at s.logs (number_of n))
+  parts_held = all_map _ _ (log_at s.logs (number_of n)) (λ p h. (h.0, h.1)) (f.site.sound.parts (number_of n))
+
+  nothing_out : LeavesNothingOut n target
+  nothing_out = record {
+    asked = found_ids s (stretch_from (get_or n.took target 0) (get_or s.here.asked target []))
+        (all_taken (IsHeld s) most_items _ (all_dropped (IsHeld s) (get_or n.took target 0) (get_or s.here.asked target []) asked_held));
+    entries = found_parts s (stretch_from (get_or n.received target 0) (log_at s.logs (number_of n)))
+        (all_taken (λ (p : Part). IsHeld s p.id) most_items _ (all_dropped (λ (p : Part). IsHeld s p.id) (get_or n.received target 0) (log_at s.logs (number_of n)) parts_held));
+  }
+
+-- the same after a turn, which has sent
+pub sends_whole : {procs : List ProcTree} {n m : NodeView} → CanGo procs [] n → m ≡ record n { turns = n.turns + 1 } → (target : ℕ) → target < m.site.region.state.regions → LeavesNothingOut m target
+sends_whole {procs} {n} {m} c same target lt =
+    let there : target < n.site.region.state.regions = subst (λ (x : NodeView). target < x.site.region.state.regions) same lt in
+    let now : LeavesNothingOut n target = nothing_out c.fits target (subst (λ k. target < k) c.fits.site.many there) in
+    subst (λ x. LeavesNothingOut x target) (sym same) (record { asked = now.asked; entries = now.entries })

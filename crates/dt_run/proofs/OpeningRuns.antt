@@ -1,0 +1,27 @@
+-- The nodes of a cluster are as their type keeps them, with their counts, before the first phase.
+use Rattle.std.proofs.Common.{◌≡◌, ℕ, false, List, [], length, map}
+use Rattle.std.specs.List.{range_with_len}
+use Rattle.dt_lists.specs.Lists.{AllIn}
+use Rattle.dt_region.specs.Sound.{IsSoundRegion}
+use Rattle.dt_cluster.specs.Valid.{IsValidCluster}
+use Rattle.dt_cluster.specs.declared.Cluster.{Cluster}
+use Rattle.dt_workload.specs.Valid.{IsValidWorkload}
+use Rattle.dt_workload.specs.declared.Workload.{Workload}
+use Rattle.dt_node.specs.NodeView.{opening_node_of}
+use Rattle.dt_run.specs.SeatsInner.{AreBeside, AreLinkedBy, AreRunning, SeatView, new_seat, nodes_view}
+use Rattle.dt_run.specs.declared.counts.Counts.{Counts}
+use Rattle.dt_run.proofs.OpeningSeats.{opened_is, opened_seated}
+use Rattle.dt_run.proofs.PhaseMade.{put_back}
+use Rattle.dt_run.proofs.SeatCounts.{opening_counted}
+
+module _ {cluster : Cluster} (ok : IsValidCluster cluster) {workload : Workload} (fits : IsValidWorkload cluster workload) {given : List SeatView}
+    (given_is : given ≡ map (λ region. new_seat (opening_node_of cluster workload region)) (range_with_len 0 cluster.regions)) (sound : AllIn (λ s. IsSoundRegion s.node.site.region.state) given)
+    (len : ℕ) (full : len ≡ length given) {lent : List SeatView} (lent_is : lent ≡ given) where
+  module _ {seats : List SeatView} (bare : map (λ (s : SeatView). new_seat s.node) seats ≡ lent) (unmarked : AllIn (λ s. s.marks ≡ []) seats) (linked : AreLinkedBy AreBeside seats)
+      (empty : AllIn (λ s. AllIn (λ inlet. inlet.waits ≡ []) s.ins) seats) {copy : Cluster} {copied : Workload} (copy_is : copy ≡ cluster) (copied_is : copied ≡ workload) where
+    pub opened_running : {counts : Counts} → counts ≡ record { made = 0; kept = 0; quiet = 0 } → AreRunning copy copied (put_back len given seats) false counts
+    opened_running {counts} none = record {
+      seated = opened_seated ok fits given_is sound len full lent_is bare unmarked linked empty copy_is copied_is;
+      counted = λ e. opening_counted cluster workload (nodes_view copy copied (put_back len given seats) false) counts
+          (opened_is ok fits given_is sound len full lent_is bare unmarked linked empty copy_is copied_is) none;
+    }

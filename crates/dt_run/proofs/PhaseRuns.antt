@@ -1,0 +1,62 @@
+-- What a phase needs and leaves of the counts of the nodes, over their seats in a vector: after turns of which some failed, and
+-- after turns of which none did.
+use Rattle.std.proofs.Common.{◌≡◌, ◌<◌, ◌+◌, ◌^◌, ℕ, Bool, true, false, cond, eqb, List, length, refl, sym, subst, ◌∙◌}
+use Rattle.std.specs.Prelude.{sum_by}
+use Rattle.std.proofs.lemmas.Bool.{false≢true}
+use Rattle.dt_lists.specs.Lists.{AllIn}
+use Rattle.dt_cluster.specs.declared.Cluster.{Cluster}
+use Rattle.dt_workload.specs.declared.Workload.{Workload}
+use Rattle.dt_run.specs.LinksInner.{BesideSoFar}
+use Rattle.dt_run.specs.NodesView.{NodesView}
+use Rattle.dt_run.specs.Phase.{EndsInStep, IsPhase}
+use Rattle.dt_run.specs.SeatsInner.{HasCounts, AreRunning, AreSeated, EachGoes, SeatView, events_at, nodes_view, seat_at}
+use Rattle.dt_run.specs.Silence.{ComesToAnEnd, PhaseIsCounted}
+use Rattle.dt_run.specs.declared.counts.Counts.{Counts}
+use Rattle.dt_run.proofs.PhaseMade.{failed_seats, in_step_made, phase_made, put_back, seats_made}
+use Rattle.dt_run.proofs.SeatCounts as counting
+
+module _ {cluster : Cluster} {workload : Workload} {seats : List SeatView} {broken : Bool} {counts : Counts} (r : AreRunning cluster workload seats broken counts) (sound : broken ≡ false) (len : ℕ) (full : len ≡ length seats)
+    {lent turned : List SeatView} (lent_is : lent ≡ seats) (goes : EachGoes cluster.procs lent turned) where
+  -- some turn failed
+  pub failed_running : AreRunning cluster workload (put_back len seats turned) true counts
+  failed_running = record { seated = failed_seats r.seated sound len full lent_is goes; counted = λ e. absurd (false≢true (sym e)) }
+
+  -- none failed, and the ends of all links were brought beside each other
+  module _ {lent2 : List SeatView} (lent2_is : lent2 ≡ put_back len seats turned) {asked : List SeatView} (asked_is : asked ≡ put_back len seats turned) (none : AllIn (λ s. s.failed ≡ false) asked)
+      {beside : List SeatView} (so_far : BesideSoFar (length lent2) lent2 beside) where
+    abbrev left : List SeatView
+    left = put_back len (put_back len seats turned) beside
+
+    seated : AreSeated cluster workload left broken
+    seated = seats_made r.seated sound len full lent_is goes lent2_is asked_is none so_far
+
+    phase : IsPhase (nodes_view cluster workload seats broken) (nodes_view cluster workload left broken)
+    phase = phase_made r.seated sound len full lent_is goes lent2_is asked_is none so_far refl
+
+    ends : EndsInStep (nodes_view cluster workload seats broken) (nodes_view cluster workload left broken)
+    ends = in_step_made r.seated sound len full lent_is goes lent2_is asked_is none so_far refl
+
+    counted : HasCounts (nodes_view cluster workload seats broken) counts
+    counted = r.counted sound
+
+    pub phase_counts : {before : NodesView} → nodes_view cluster workload seats broken ≡ before → PhaseIsCounted before (nodes_view cluster workload left broken)
+    phase_counts is = subst (λ v. PhaseIsCounted v (nodes_view cluster workload left broken)) is (counting.phase_counted r.seated sound counted seated phase ends)
+
+    pub comes_to_an_end : ComesToAnEnd (nodes_view cluster workload left broken)
+    comes_to_an_end = counting.phase_ends r.seated sound counted seated phase ends
+
+    -- the seats as they are counted
+    module _ {given : List SeatView} (given_is : given ≡ left) where
+      pub kept_fits : sum_by events_at given < 2 ^ 64
+      kept_fits = subst (λ l. sum_by events_at l < 2 ^ 64) (sym given_is) (counting.kept_fits r.seated sound counted seated phase ends)
+
+      pub quiet_fits : counts.quiet < length (seat_at given 0).marks
+      quiet_fits = subst (λ l. counts.quiet < length (seat_at l 0).marks) (sym given_is) (counting.quiet_fits r.seated sound counted seated phase ends)
+
+      pub running_now : {now : Counts} → now.made ≡ length (seat_at given 0).marks → now.kept ≡ sum_by events_at given
+          → now.quiet ≡ cond (eqb counts.kept now.kept) (counts.quiet + 1) 0 → AreRunning cluster workload left broken now
+      running_now {now} made kept quiet = record {
+        seated = seated;
+        counted = λ e. counting.counted_now r.seated sound counted seated phase ends now (subst (λ l. now.made ≡ length (seat_at l 0).marks) given_is made)
+            (subst (λ l. now.kept ≡ sum_by events_at l) given_is kept) quiet;
+      }
