@@ -1,5 +1,5 @@
 -- What the parts of a report are, step by step.
-use Rattle.std.proofs.Common.{◌≡◌, ◌≢◌, ◌<◌, ◌≤◌, ◌+◌, ℕ, zero, suc, Bool, true, false, cond, not, List, [], ◌∷◌, ◌++◌, length, map, get_or, replicate, take}
+use Rattle.std.proofs.Common.{◌≡◌, ◌≢◌, ◌<◌, ◌≤◌, ◌+◌, ℕ, zero, suc, Bool, Bor, true, false, cond, not, List, [], ◌∷◌, ◌++◌, length, map, get_or, replicate, take}
 use Rattle.std.proofs.Common.{drop, slice_get, Some, None, Ok, Err, refl, sym, ap, ap₂, subst, subst₂, ◌∙◌, append_assoc, append-nil, arith}
 use Rattle.std.specs.Prelude.{Option, Result, IfOk, OnOk, option_map, option_and_then, option_to_list, filter_map}
 use Rattle.std.specs.List.{position, range_with_len}
@@ -13,6 +13,7 @@ use Rattle.dt_access.specs.declared.TxnId.{TxnId}
 use Rattle.dt_events.specs.declared.Event.{Event}
 use Rattle.dt_events.specs.declared.Event.TheVariants.{Submit, Append, Deliver, Insert, Resolve, Execute, Answer}
 use Rattle.dt_table.specs.Table.{shown}
+use Rattle.dt_table.specs.declared.Shown.{Shown}
 use Rattle.dt_text.specs.declared.NoMemory.{NoMemory}
 use Rattle.dt_txn.specs.declared.Outcome.{Outcome}
 use Rattle.dt_report.specs.declared.Ran.{Ran}
@@ -35,7 +36,7 @@ use Rattle.dt_world.specs.SessionReplay.{SessionReplayView, IsReply, after_reply
 use Rattle.dt_world.specs.Telling.{AreSitesAfter, LedTo, TellingView, world_told}
 use Rattle.dt_world.specs.WorldInner.{IsLawful, site_at, view_in, world_of}
 use Rattle.dt_world.specs.WorldSessions.{WorldSessions, places_in}
-use Rattle.dt_world.specs.WorldReport.{IsOutcomeOf, IsReplyOf, answered_name, answered_session, ran, ran_of, rans_of, replies_from, replies_of, reply_for, tables_of}
+use Rattle.dt_world.specs.WorldReport.{IsOutcomeOf, IsReplyOf, answered_name, answered_session, ran, ran_of, rans_of, replies_from, replies_of, reply_for, report_of, tables_of}
 use Rattle.dt_world.proofs.Executions.{executed_at, order_again, order_new, order_other, outcomes_kept, rans_more}
 use Rattle.dt_world.proofs.Replay.{answer_executed, answer_follows, answer_kept, answer_own, answer_place, answer_region, answer_replies, answer_somewhere}
 use Rattle.dt_world.proofs.Replay.{answer_waits, append_same, deliver_same, execute_same, insert_same, replies_more, resolve_same, submit_few, submit_follows}
@@ -98,7 +99,8 @@ module _ {told : TellingView} (led : LedTo told) where
   pub tables_are : map (λ (p : SiteView). shown p.region.state.here.table) told.sites ≡ tables_of told.cluster told.workload told.events
   tables_are = sym (subst (λ m. map (λ region. shown (region_table told.cluster told.workload told.events region)) (range_with_len 0 m) ≡ map (λ (p : SiteView). shown p.region.state.here.table) told.sites) led.many
       (by_number (λ region. shown (region_table told.cluster told.workload told.events region)) (λ (p : SiteView). shown p.region.state.here.table) told.sites 0 no_site
-      (λ i lt. let same : 0 + i ≡ i = omega arith in subst (λ r. shown (region_table told.cluster told.workload told.events r) ≡ shown (get_or told.sites i no_site).region.state.here.table) (sym same) (here i (subst (λ m. i < m) led.many lt)))))
+      (λ i lt. let same : 0 + i ≡ i = omega arith in subst (λ r. shown (region_table told.cluster told.workload told.events r) ≡ shown (get_or told.sites i no_site).region.state.here.table) (sym same)
+      (here i (subst (λ m. i < m) led.many lt)))))
     where
       here : (i : ℕ) → i < told.cluster.regions → shown (region_table told.cluster told.workload told.events i) ≡ shown (get_or told.sites i no_site).region.state.here.table
       here i lr = sym (ap (λ (n : Node). shown n.here.table) (led.stands i lr).node ∙ ap shown ((legal_agree told.cluster led.valid told.workload led.fits told.events led.legal).tables i lr))
@@ -122,7 +124,8 @@ module _ {told : TellingView} (led : LedTo told) where
           ∙ sym (order_again told.cluster led.valid told.workload led.fits told.events led.legal at region id item (subst (λ l. is_among l id ≡ true) before there))
 
       rans_again : is_among keys id ≡ true → rans_at told at ≡ rans_at told (at + 1)
-      rans_again there = ap (filter_map (ran_of told.cluster told.workload told.events)) (sym (order_again told.cluster led.valid told.workload led.fits told.events led.legal at region id item (subst (λ l. is_among l id ≡ true) before there)))
+      rans_again there = ap (filter_map (ran_of told.cluster told.workload told.events)) (sym (order_again told.cluster led.valid told.workload led.fits told.events led.legal at region id item
+          (subst (λ l. is_among l id ≡ true) before there)))
 
       rans_new : is_among keys id ≡ false → (r : Ran) → ran_at (world_told told) region id ≡ Some r → rans_at told at ++ r ∷ [] ≡ rans_at told (at + 1)
       rans_new absent r is = sym (rans_more told.cluster led.valid told.workload led.fits told.events led.legal at region id r item
@@ -254,7 +257,8 @@ module _ {told : TellingView} (led : LedTo told) where
 
         reply_added : (reply : Reply) → IsReply (world_told told) region name id reply → replies_at told at ++ reply ∷ [] ≡ replies_at told (at + 1)
         reply_added reply r =
-            let added : replies_from told.cluster told.workload (take at told.events ++ Answer region name ∷ drop (at + 1) told.events) (opening_world told.cluster told.workload) (take at told.events ++ Answer region name ∷ []) ≡ replies_from
+            let added : replies_from told.cluster told.workload (take at told.events ++ Answer region name ∷ drop (at + 1) told.events) (opening_world told.cluster told.workload) (take at told.events ++ Answer region name ∷ [])
+            ≡ replies_from
             told.cluster told.workload (take at told.events ++ Answer region name ∷ drop (at + 1) told.events) (opening_world told.cluster told.workload) (take at told.events) ++ reply ∷ [] =
             answer_replies told.cluster led.valid told.workload led.fits (take at told.events) (drop (at + 1) told.events) region name (legal_split at (Answer region name) item) place found id waits_then reply
             (subst (λ w. IsReply w region name id reply) the_end r) in
@@ -309,12 +313,14 @@ module _ (cluster : Cluster) (ok : IsValidCluster cluster) (workload : Workload)
 
 -- loops that are done
 
-pub order_whole : (told : TellingView) {held : List Event} → held ≡ told.events → (at : ℕ) (o : List Ran) → at ≤ length held → length held ≤ at → o ≡ rans_at told at → o ≡ rans_of told.cluster told.workload told.events
+pub order_whole : (told : TellingView) {held : List Event} → held ≡ told.events
+    → (at : ℕ) (o : List Ran) → at ≤ length held → length held ≤ at → o ≡ rans_at told at → o ≡ rans_of told.cluster told.workload told.events
 order_whole told {held} is at o le ge e =
     let same : at ≡ length held = omega arith in
     e ∙ ap (rans_at told) (same ∙ ap length is) ∙ ap (λ l. filter_map (ran_of told.cluster told.workload told.events) (order_of l)) (take-length told.events)
 
-pub replies_whole : (told : TellingView) {held : List Event} → held ≡ told.events → (at : ℕ) (o : List Reply) → at ≤ length held → length held ≤ at → o ≡ replies_at told at → o ≡ replies_of told.cluster told.workload told.events
+pub replies_whole : (told : TellingView) {held : List Event} → held ≡ told.events
+    → (at : ℕ) (o : List Reply) → at ≤ length held → length held ≤ at → o ≡ replies_at told at → o ≡ replies_of told.cluster told.workload told.events
 replies_whole told {held} is at o le ge e =
     let same : at ≡ length held = omega arith in
     e ∙ ap (replies_at told) (same ∙ ap length is) ∙ ap (replies_from told.cluster told.workload told.events (opening_world told.cluster told.workload)) (take-length told.events)
@@ -362,6 +368,21 @@ on_ok_map P Q (Err e) f p = tt
 
 pub ran_found : (w : World) (region : ℕ) (id : TxnId) (s : Submission) (o : Outcome) → submission_of w id ≡ Some s → outcome_at w region id ≡ Some o → ran_at w region id ≡ Some (ran id s o)
 ran_found w region id s o e f = ap₂ (λ x y. option_and_then (λ z. option_map (ran id z) y) x) e f
+
+-- the parts of a report are the report
+
+sites_shown : (lent : List (Bor SiteView)) → map (λ (s : Bor SiteView). shown s.now.region.state.here.table) lent ≡ map (λ (p : SiteView). shown p.region.state.here.table) (map (λ (s : Bor SiteView). s.now) lent)
+sites_shown [] = refl
+sites_shown (s ∷ lent) = ap (λ l. shown s.now.region.state.here.table ∷ l) (sites_shown lent)
+
+pub parts_told : {cluster : Cluster} {workload : Workload} {events : List Event} (lent : List (Bor SiteView)) → AreSitesAfter cluster workload events (map (λ (s : Bor SiteView). s.now) lent)
+    → {replies : List Reply} {order : List Ran} {tables : List (List Shown)} {all : List Event} → replies ≡ replies_of cluster workload events → order ≡ rans_of cluster workload events
+    → tables ≡ map (λ (s : Bor SiteView). shown s.now.region.state.here.table) lent → all ≡ events
+    → ◌≡◌ {A = Report} (record { replies = replies; order = order; tables = tables; events = all }) (report_of cluster workload events)
+parts_told {cluster} {workload} {events} lent led r o t e =
+    let told : TellingView = record { cluster = cluster; workload = workload; sites = map (λ (s : Bor SiteView). s.now) lent; events = events } in
+    let same = t ∙ sites_shown lent ∙ tables_are {told = told} led in
+    λ i. record { replies = r i; order = o i; tables = same i; events = e i }
 
 -- what else is said of a report
 

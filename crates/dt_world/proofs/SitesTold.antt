@@ -1,6 +1,6 @@
 -- What a report finds in the sites of all regions, each as it is after the events: the outcome of an executed attempt, and whose
 -- the attempt is.
-use Rattle.std.proofs.Common.{◌≡◌, ◌<◌, ◌≤◌, ◌+◌, ◌-◌, ℕ, zero, suc, Bor, List, [], ◌∷◌, ◌++◌, length, map, get_or, slice_get, Some, refl, sym, ap, ap₂, subst, ◌∙◌, arith}
+use Rattle.std.proofs.Common.{◌≡◌, ◌<◌, ◌≤◌, ◌+◌, ◌-◌, ℕ, zero, suc, Bor, List, [], ◌∷◌, ◌++◌, length, map, get_or, slice_get, take, Some, refl, sym, ap, ap₂, subst, ◌∙◌, arith}
 use Rattle.std.proofs.lemmas.List.{length-map, map-append}
 use Rattle.dt_lists.specs.Lists.{Has}
 use Rattle.dt_lists.proofs.Callers.{all_get}
@@ -24,10 +24,18 @@ lent_at [] i d lt = absurd (omega arith)
 lent_at (x ∷ lent) zero d lt = refl
 lent_at (x ∷ lent) (suc i) d lt = lent_at lent i d (omega arith)
 
--- one more is lent
-pub lent_more : (lent lent' : List (Bor SiteView)) (more : Bor SiteView) (all : List SiteView) → lent' ≡ lent ++ more ∷ [] → map (λ (s : Bor SiteView). s.now) lent ≡ all
-    → map (λ (s : Bor SiteView). s.now) lent' ≡ all ++ more.now ∷ []
-lent_more lent lent' more all put is = ap (map (λ (s : Bor SiteView). s.now)) put ∙ map-append (λ (s : Bor SiteView). s.now) lent (more ∷ []) ∙ ap (λ l. l ++ more.now ∷ []) is
+taken_next : (sites : List SiteView) (i : ℕ) (p : SiteView) → p ≡ get_or sites i p → i < length sites → take i sites ++ p ∷ [] ≡ take (suc i) sites
+taken_next [] i p e lt = absurd (omega (arith, lt))
+taken_next (x ∷ sites) zero p e lt = ap (λ y. y ∷ []) e
+taken_next (x ∷ sites) (suc i) p e lt = ap (λ l. x ∷ l) (taken_next sites i p e (omega (arith, lt)))
+
+-- one more of them is lent
+pub lent_next : (sites : List SiteView) (i : ℕ) (p : SiteView) (lent lent' : List (Bor SiteView)) (more : Bor SiteView) → p ≡ get_or sites i p → i < length sites → more.now ≡ p → lent' ≡ lent ++ more ∷ []
+    → map (λ (s : Bor SiteView). s.now) lent ≡ take i sites → map (λ (s : Bor SiteView). s.now) lent' ≡ take (i + 1) sites
+lent_next sites i p lent lent' more e lt now put so_far =
+    let up : suc i ≡ i + 1 = omega arith in
+    ap (map (λ (s : Bor SiteView). s.now)) put ∙ map-append (λ (s : Bor SiteView). s.now) lent (more ∷ []) ∙ ap₂ (λ l x. l ++ x ∷ []) so_far now
+    ∙ subst (λ n. take i sites ++ p ∷ [] ≡ take n sites) up (taken_next sites i p e lt)
 
 module _ {told : TellingView} (led : LedTo told) where
   abbrev w : World

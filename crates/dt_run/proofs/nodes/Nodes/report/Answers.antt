@@ -13,7 +13,7 @@ report_of_sites-requires g c =
     sites_after c.self.invariant.seated.nodes (subst (λ (v : NodesView). v.broken ≡ false) (sym c.self.view_is) c.requires.sound)
     (subst (λ (v : NodesView). 1 ≤ length (marks_at v 0)) (sym c.self.view_is) c.requires.phases) (subst IsAllDone (sym c.self.view_is) c.requires.done)
     (subst (λ (v : NodesView). AreMerged (kept_by v.nodes) c.in_ok-events.events.items) (sym c.self.view_is) c.in_ok-events.ensures)
-    (ap (map (λ (site : Bor SiteView). site.now)) c.as_slice-sites.ensures.value ∙ c.in_ok-sites.ensures ∙ ap (map (λ (s : SeatView). s.node.site)) c.as_slice.ensures.value ∙ sites_by_nodes _)
+    (ap (map (λ (site : Bor SiteView). site.now)) c.as_slice-2.ensures.value ∙ c.in_ok-sites.ensures ∙ ap (map (λ (s : SeatView). s.node.site)) c.as_slice.ensures.value ∙ sites_by_nodes _)
 
 pub returns : goal.returns
 returns g c =

@@ -1,4 +1,4 @@
-use Rattle.std.proofs.Common.{◌≡◌, Bor, IfOk, map, sym, ap, subst, ◌∙◌}
+use Rattle.std.proofs.Common.{◌≡◌, Bor, IfOk, map, sym, ap, subst, ◌∙◌, arith}
 use Rattle.std.specs.Prelude.{filter_map}
 use Rattle.dt_lists.specs.Lists.{AllIn}
 use Rattle.dt_report.specs.declared.Ran.{Ran}
@@ -17,7 +17,7 @@ use Rattle.dt_world.proofs.world.World.report.Goals as goal
 pub report_of_sites-requires : goal.report_of_sites-requires
 report_of_sites-requires g c =
     subst (AreSitesAfter c.self.inside.cluster c.self.inside.workload c.args.events.items)
-    (sym (ap (map (λ (site : Bor SiteView). site.now)) c.as_slice-sites.ensures.value ∙ c.in_ok-sites.ensures ∙ c.as_slice.ensures.value))
+    (sym (ap (map (λ (site : Bor SiteView). site.now)) c.as_slice-2.ensures.value ∙ c.in_ok-sites.ensures ∙ c.as_slice.ensures.value))
     (sites_after c.self.invariant c.self.view_is c.args.events.items c.requires.legal c.requires.reached (omega arith))
 
 pub returns-clause-report : goal.returns-clause-report
