@@ -1,7 +1,8 @@
-use Rattle.std.proofs.Common.{◌≡◌, ◌<◌, length, subst, arith}
+use Rattle.std.proofs.Common.{◌≡◌, ◌<◌, true, length, sym, subst, arith, ◌∙◌}
+use Rattle.std.proofs.lemmas.Bool.{false≢true}
 use Rattle.dt_session.specs.Sessions.{EachNameIsAnswered}
 use Rattle.dt_run.specs.SeatsInner.{SeatView}
-use Rattle.dt_run.proofs.Alls.{all_next}
+use Rattle.dt_run.proofs.Alls.{all_next, all_one}
 use Rattle.dt_run.proofs.doing.are_answered.Goals as goal
 
 pub loop-seat-preserved : goal.loop-seat-preserved
@@ -10,3 +11,12 @@ loop-seat-preserved g c =
     let there : EachNameIsAnswered c.seat.inside.node.sessions = subst EachNameIsAnswered c.sessions.ensures (c.all_answered.ensures.by_name.0 c.if-not-all_answered.false) in
     all_next (λ (s : SeatView). EachNameIsAnswered s.node.sessions) c.args.seats.now c.loop-seat.seat-index c.seat-item.result c.seat-item.is lt c.loop-seat.invariant
     (subst (λ (s : SeatView). EachNameIsAnswered s.node.sessions) c.seat.view_is there)
+
+pub returns-then-not-all_answered : goal.returns-then-not-all_answered
+returns-then-not-all_answered g c =
+    let lt : c.loop-seat.seat-index < length c.args.seats.now = omega (arith, c.loop-seat-test.true) in
+    let back : EachNameIsAnswered c.seat-item.result.node.sessions → c.all_answered.result ≡ true =
+    λ p. c.all_answered.ensures.by_name.1 (subst EachNameIsAnswered (sym c.sessions.ensures) (subst (λ (s : SeatView). EachNameIsAnswered s.node.sessions) (sym c.seat.view_is) p)) in (
+      λ e. absurd (false≢true e),
+      λ a. absurd (false≢true (sym c.if-not-all_answered.true ∙ back (all_one (λ (s : SeatView). EachNameIsAnswered s.node.sessions) c.args.seats.now c.loop-seat.seat-index c.seat-item.result c.seat-item.is lt a))),
+    )
