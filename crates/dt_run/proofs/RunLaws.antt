@@ -134,7 +134,7 @@ module _ {v : NodesView} (n : AreNodes v) (sound : v.broken ≡ false) (some : 1
 
   -- the nodes' sites are those after these events
   pub sites_after : {sites : List SiteView} → sites ≡ map (λ (x : NodeView). x.site) v.nodes → AreSitesAfter v.cluster v.workload events sites
-  sites_after all = sites_stand n legal same_world all
+  sites_after all = sites_stand n all events legal same_world
 
   -- their report is that of a run
   pub run_report : (report : Report) → report ≡ report_of v.cluster v.workload events → IsRunReport v report

@@ -27,13 +27,13 @@ submitted_few {cluster} {workload} {events} {n} f =
     let l : length events ≤ 24640000 = few_events f in
     omega (arith, s, e, l)
 
-module _ {v : NodesView} (n : AreNodes v) {events : List Event} (legal : AreLegal v.cluster v.workload events) (same : world_after v.cluster v.workload events ≡ world_after v.cluster v.workload (events_of n.all))
-    {sites : List SiteView} (all : sites ≡ map (λ (x : NodeView). x.site) v.nodes) where
+module _ {v : NodesView} (n : AreNodes v) {sites : List SiteView} (all : sites ≡ map (λ (x : NodeView). x.site) v.nodes) where
   site_is : (region : ℕ) → get_or sites region no_site ≡ (node_in v region).site
   site_is region = ap (λ l. get_or l region no_site) all ∙ get_of_map (λ (x : NodeView). x.site) v.nodes region no_running_node
 
-  pub sites_stand : AreSitesAfter v.cluster v.workload events sites
-  sites_stand = record {
+  pub sites_stand : (events : List Event) → AreLegal v.cluster v.workload events → world_after v.cluster v.workload events ≡ world_after v.cluster v.workload (events_of n.all)
+      → AreSitesAfter v.cluster v.workload events sites
+  sites_stand events legal same = record {
     valid = n.cluster;
     fits = n.workload;
     legal = legal;
