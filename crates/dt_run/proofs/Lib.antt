@@ -17,7 +17,7 @@ pub mod SeatTurning
 pub mod SeatMaking
 pub mod Crossing
 pub mod Finishing
-pub mod MakingAgain
+pub mod SitesAfter
 pub mod RunLaws
 pub mod OpeningNodes
 pub mod Counting

@@ -19,11 +19,11 @@ use Rattle.dt_session.specs.World.{World, Node, Place, is_session, node_at, open
 use Rattle.dt_report.specs.declared.Report.{Report}
 use Rattle.dt_agreement.proofs.Callers.{legal_keeps, places_parallel, session_of_test, test_of_key}
 use Rattle.dt_merge.specs.Merge.{region_at, those_at}
-use Rattle.dt_merge.specs.Weight.{most_events}
 use Rattle.dt_merge.specs.WorldRegions.{HasInvariant}
 use Rattle.dt_site.specs.SessionsStandIn.{SessionsStandIn}
-use Rattle.dt_site.specs.Site.{node_of}
+use Rattle.dt_site.specs.Site.{SiteView, node_of}
 use Rattle.dt_site.proofs.Callers.{attempts_have, kept_here}
+use Rattle.dt_world.specs.Telling.{AreSitesAfter}
 use Rattle.dt_world.specs.WorldReport.{report_of}
 use Rattle.dt_node.specs.NodeView.{NodeView}
 use Rattle.dt_node.specs.Standing.{NodeFits}
@@ -32,8 +32,9 @@ use Rattle.dt_run.specs.Marks.{kept_by_region}
 use Rattle.dt_run.specs.NodesStand.{AreInStep, AreNodes, BeganEagerly, StandsAmong}
 use Rattle.dt_run.specs.NodesView.{NodesView, kept_by, marks_at, no_running_node, node_in}
 use Rattle.dt_run.specs.Run.{AreMerged, IsRun, IsRunReport}
-use Rattle.dt_run.proofs.Laws.{are_kept, events_few, merge_changes, merge_keeps, merge_legal, merge_world, most_few}
+use Rattle.dt_run.proofs.Laws.{are_kept, merge_changes, merge_keeps, merge_legal, merge_world}
 use Rattle.dt_run.proofs.Phasing.{good_world}
+use Rattle.dt_run.proofs.SitesAfter.{sites_stand}
 
 -- the events of a region, with or without their stamps
 events_at_region : (region : ℕ) (items : List Stamped) → filter (λ event. eqb (region_of event) region) (events_of items) ≡ events_of (those_at region items)
@@ -131,12 +132,9 @@ module _ {v : NodesView} (n : AreNodes v) (sound : v.broken ≡ false) (some : 1
     };
   }
 
-  -- they are counted by 32 bits
-  pub merged_few : length events < 4294967295
-  merged_few =
-      let opening : HasInvariant v.cluster v.workload (opening_world v.cluster v.workload) = record { order = []; inv = legal_keeps v.cluster n.cluster v.workload n.workload [] tt } in
-      let few : length events ≤ most_events v.cluster v.workload = events_few v.cluster n.cluster v.workload n.workload (opening_world v.cluster v.workload) events opening legal changing in
-      omega (arith, few, most_few v.cluster n.cluster v.workload n.workload)
+  -- the nodes' sites are those after these events
+  pub sites_after : {sites : List SiteView} → sites ≡ map (λ (x : NodeView). x.site) v.nodes → AreSitesAfter v.cluster v.workload events sites
+  sites_after all = sites_stand n all events legal same_world
 
   -- their report is that of a run
   pub run_report : (report : Report) → report ≡ report_of v.cluster v.workload events → IsRunReport v report

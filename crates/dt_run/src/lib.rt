@@ -6,8 +6,9 @@
 //! them, whatever packets are lost (`specs/Silence`, and the laws of `ending.rt`).
 //!
 //! Nobody has the events of all regions as one list while they are made. In the end they are told in the order of their stamps
-//! (`merging.rt`), and the report is that of this list: it is legal, and it leads to the world in which all nodes are, by the
-//! laws of `dt_merge`. So whatever is proved of a list of events holds of what ran.
+//! (`merging.rt`): this list is legal, and it leads to the world in which all nodes are, by the laws of `dt_merge`. So whatever
+//! is proved of a list of events holds of what ran. The report is that of this list, and the nodes tell it (`sites.rt`):
+//! nothing is executed again.
 //!
 //! The type of [`Nodes`] keeps what makes this so (`specs/NodesStand`): some list has the events of all nodes in the order in
 //! which they were made, each node stands in the world after it, and each packet that waits is what its source would send
@@ -26,6 +27,7 @@ mod merging;
 mod nodes;
 mod reporting;
 mod seat;
+mod sites;
 
 pub use counts::Counts;
 pub use ending::{

@@ -17,8 +17,8 @@ use crate::counts::Counts;
 use crate::doing::{are_answered, have_done_all};
 use crate::links::{beside_all, link_all};
 use crate::merging::merged;
-use crate::reporting::report_of;
 use crate::seat::Seat;
+use crate::sites::sites_of;
 use dt_cluster::Cluster;
 use dt_events::Event;
 use dt_node::Node;
@@ -27,6 +27,7 @@ use dt_report::Report;
 use dt_sched::Scheduler;
 use dt_text::NoMemory;
 use dt_workload::Workload;
+use dt_world::report_of_sites;
 use std::alloc::Global;
 use std::marker::Model;
 use std::sync::Wait;
@@ -98,7 +99,8 @@ impl<S: Scheduler + Drop> Nodes<S> {
         are_answered(self.seats.as_slice()) && have_done_all(self.seats.as_slice())
     }
 
-    /// The report of the events that all nodes have kept, in the order of their stamps.
+    /// The report of the events that all nodes have kept, in the order of their stamps. It is told by the nodes, and nothing is
+    /// executed again.
     pub fn report(&self, alloc: Global) -> Result<Report, NoMemory>
         requires phases { 1 ≤ length (marks_at self.now 0) }
         requires sound { self.now.broken ≡ false }
@@ -106,7 +108,14 @@ impl<S: Scheduler + Drop> Nodes<S> {
         ensures { IfOk result (IsRunReport self.now) }
     {
         let events = self.merged(alloc)?;
-        report_of::<S>(alloc, &self.cluster, &self.workload, events)
+        let sites = sites_of(alloc, self.seats.as_slice())?;
+        report_of_sites(
+            alloc,
+            &self.cluster,
+            &self.workload,
+            sites.as_slice(),
+            events,
+        )
     }
 
     /// The events that all nodes have kept, in ascending order of their stamps, and of their regions where these are equal.

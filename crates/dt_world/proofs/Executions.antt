@@ -147,38 +147,3 @@ module _ (cluster : Cluster) (ok : IsValidCluster cluster) (workload : Workload)
               → AllIn (λ (r : Ran). IsOutcomeOf cluster.regions (world_after cluster workload events) r.id r.outcome) (cons_option o (filter_map (ran_of cluster workload events) ids))
           joined None a b = b
           joined (Some r) a b = (a.0, b)
-
--- where an executed attempt stands among the submissions of its region
-
-module _ {cluster : Cluster} {sessions : WorldSessions} {sites : List SiteView} {steps : ℕ} (k : IsLawful cluster sessions sites steps) {region : ℕ} (lr : region < cluster.regions) (id : TxnId)
-    (done : IsExecutedAt (world_of sites (places_in sessions)) region id) where
-  pub record StandsAmong : Type 0 where
-    pub home : id.region < cluster.regions
-    pub from : 1 ≤ id.seq
-    pub to : id.seq ≤ length (site_at sites id.region).origins
-    pub submission : Submission
-    pub found : submission_of (world_of sites (places_in sessions)) id ≡ Some submission
-    pub origin : (d : Origin) → submission ≡ attempt submission.txn (get_or (site_at sites id.region).origins (id.seq - 1) d)
-
-  pub stands_among : StandsAmong
-  stands_among = go (all_get (IsKnown (world_of sites (places_in sessions))) (done_ids (node_at (world_of sites (places_in sessions)) region).here)
-      (done_known cluster sessions.workload (world_of sites (places_in sessions)) (order k.reached) (inv k.reached) region lr) id done)
-    where
-      go : IsKnown (world_of sites (places_in sessions)) id → StandsAmong
-      go x =
-          let s : (s : Submission) × Has (submissions (world_of sites (places_in sessions))) s × (s.txn ≡ x.0) × (s.txn.id ≡ id) = txn_there (world_of sites (places_in sessions)) id x.0 x.1 in
-          let n : (r i : ℕ) × (r < cluster.regions) × (slice_get (node_at (world_of sites (places_in sessions)) r).submitted i ≡ Some s.0) × (s.0.txn.id ≡ record { seq = i + 1; region = r }) =
-          numbered cluster.regions (world_of sites (places_in sessions)) (inv k.reached).nodes (inv k.reached).ids s.0 s.1 in
-          let region_is : id.region ≡ n.0 = ap (λ y. y.region) (sym s.3 ∙ n.4) in
-          let seq_is : id.seq ≡ n.1 + 1 = ap (λ y. y.seq) (sym s.3 ∙ n.4) in
-          let there : slice_get (attempts (site_at sites n.0).region.state.submitted (site_at sites n.0).origins) n.1 ≡ Some s.0 = subst (λ l. slice_get l n.1 ≡ Some s.0) (ap (λ m. m.submitted) (node_is k n.0)) n.3 in
-          let place : n.1 ≡ id.seq - 1 = omega arith in
-          record {
-            home = subst (λ r. r < cluster.regions) (sym region_is) n.2;
-            from = omega arith;
-            to = subst (λ r. id.seq ≤ length (site_at sites r).origins) (sym region_is)
-                (let lt : n.1 < length (site_at sites n.0).origins = (attempt_at (site_at sites n.0).region.state.submitted (site_at sites n.0).origins n.1 s.0 (record { session = []; call = 0; attempt = 0 }) there).0 in omega arith);
-            submission = s.0;
-            found = subst (λ y. submission_of (world_of sites (places_in sessions)) y ≡ Some s.0) s.3 (submission_is_found cluster.regions (world_of sites (places_in sessions)) (inv k.reached).nodes (inv k.reached).ids s.0 s.1);
-            origin = λ d. (attempt_at (site_at sites n.0).region.state.submitted (site_at sites n.0).origins n.1 s.0 d there).1 ∙ ap₂ (λ r i. attempt s.0.txn (get_or (site_at sites r).origins i d)) (sym region_is) place;
-          }

@@ -13,3 +13,4 @@ pub mod Executions
 pub mod Replay
 pub mod Reports
 pub mod NothingLeftOut
+pub mod SitesTold

@@ -24,8 +24,6 @@ use Rattle.dt_session.specs.Run.{AreLegal, order_of, serial_outcome, world_after
 use Rattle.dt_agreement.specs.Reports.{IsAccounted, IsAnswered}
 use Rattle.dt_agreement.proofs.Callers.{answer_accounted, executed_accounted, session_of_test}
 use Rattle.dt_world.specs.WorldReport.{answered_name, answered_session, ran, ran_of, rans_of, replies_from, replies_of, reply_for, reply_to}
-use Rattle.dt_world.specs.SessionReplay.{LedTo}
-use Rattle.dt_world.specs.WorldView.{WorldView}
 use Rattle.dt_world.proofs.Replay.{replies_more}
 
 -- the session that is found has the name that is looked for
@@ -59,8 +57,8 @@ module _ (cluster : Cluster) (ok : IsValidCluster cluster) (workload : Workload)
       joined None r rest = absurd (cc (r.1))
       joined (Some q) r rest = let same : q ≡ r.0 = cc (r.1) in ap₂ (λ x l. x ∷ l) (ap (λ z. z.id) same ∙ r.2) rest
 
-  pub order_whole : map (λ (r : Ran). r.id) (rans_of cluster workload events) ≡ order_of events
-  order_whole = all_ran (order_of events) (all_put _ (order_of events) (λ id h. executed_accounted cluster ok workload fits events legal id h))
+  pub all_are_ran : map (λ (r : Ran). r.id) (rans_of cluster workload events) ≡ order_of events
+  all_are_ran = all_ran (order_of events) (all_put _ (order_of events) (λ id h. executed_accounted cluster ok workload fits events legal id h))
 
   -- the replies have each answer
 
@@ -89,8 +87,8 @@ module _ (cluster : Cluster) (ok : IsValidCluster cluster) (workload : Workload)
           ap (λ o. map (λ (r : Reply). r.session) (option_to_list o)) replied
           ∙ ap (λ n. n ∷ []) (named_there workload.sessions (world_after cluster workload xs).places region name a.session a.place a.found)
 
-  pub replies_whole : map (λ (r : Reply). r.session) (replies_of cluster workload events) ≡ filter_map answered_name events
-  replies_whole = from_right (λ xs. (ys : List Event) → events ≡ xs ++ ys → map (λ (r : Reply). r.session) (replies_from cluster workload events (opening_world cluster workload) xs) ≡ filter_map answered_name xs)
+  pub all_are_answered : map (λ (r : Reply). r.session) (replies_of cluster workload events) ≡ filter_map answered_name events
+  all_are_answered = from_right (λ xs. (ys : List Event) → events ≡ xs ++ ys → map (λ (r : Reply). r.session) (replies_from cluster workload events (opening_world cluster workload) xs) ≡ filter_map answered_name xs)
       (λ ys e. refl)
       (λ xs event before ys e.
       ap (map (λ (r : Reply). r.session)) (replies_more cluster workload events (opening_world cluster workload) xs event)
@@ -98,12 +96,3 @@ module _ (cluster : Cluster) (ok : IsValidCluster cluster) (workload : Workload)
       ∙ ap₂ (λ x y. x ++ y) (before (event ∷ ys) (e ∙ append_assoc xs (event ∷ []) ys)) (one_reply xs ys event (e ∙ append_assoc xs (event ∷ []) ys))
       ∙ sym (filter_map-append answered_name xs (event ∷ [])))
       events [] (sym (append-nil events))
-
--- the same of a world that the events lead to
-
-module _ {view : WorldView} {events : List Event} (led : LedTo view events) where
-  pub all_are_ran : map (λ (r : Ran). r.id) (rans_of view.cluster view.workload events) ≡ order_of events
-  all_are_ran = order_whole view.cluster led.valid view.workload led.fits events led.legal
-
-  pub all_are_answered : map (λ (r : Reply). r.session) (replies_of view.cluster view.workload events) ≡ filter_map answered_name events
-  all_are_answered = replies_whole view.cluster led.valid view.workload led.fits events led.legal

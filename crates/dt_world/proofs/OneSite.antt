@@ -71,11 +71,6 @@ module _ {cluster : Cluster} {sessions : WorldSessions} {sites : List SiteView} 
   pub sound_here : IsSoundRegion r.state
   sound_here = subst (λ x. IsSoundRegion x.state) (sym b.region_is) (k.stands region lr).sound
 
-  -- the outcome that the region keeps, as the world shows it
-  pub outcome_is : {now : WorldView} → view_in cluster sessions sites steps ≡ now → (id : TxnId) → outcome_of r.state id ≡ outcome_at now.state region id
-  outcome_is view id =
-      ap (λ x. outcome_of x.state id) b.region_is ∙ outcome_here k.reached (k.stands region lr) id ∙ ap (λ (v : WorldView). outcome_at v.state region id) view
-
   -- rules 4 to 6
 
   module _ (home : ℕ) (lh : home < cluster.regions) (later : RegionView) (on : Bool) (m : MakesStep [] r (Insert r.state.number home) (Ok on) later) where

@@ -113,9 +113,12 @@ module _ (cluster : Cluster) (ok : IsValidCluster cluster) (workload : Workload)
     submit_place = subst (λ n. place < n) (sym (length-map (world_after cluster workload xs).places (λ p. p.waits) ∙ now_places cluster ok workload fits xs ys (Submit region name) legal))
         (position-Some (is_session region name) workload.sessions place no_session found).0
 
+    pub submit_within : region < cluster.regions
+    submit_within = (now_legal cluster ok workload fits xs ys (Submit region name) legal).regions
+
     pub submit_region : region < length (replay_of (world_after cluster workload xs)).submitted
     submit_region = subst (λ n. region < n) (sym (length-map (world_after cluster workload xs).nodes (λ n. length n.submitted) ∙ (now_inv cluster ok workload fits xs ys (Submit region name) legal).nodes))
-        (now_legal cluster ok workload fits xs ys (Submit region name) legal).regions
+        submit_within
 
     r : Submits cluster workload (world_after cluster workload xs) region name
     r = submits cluster ok workload (world_after cluster workload xs) (order_of xs) region name (now_legal cluster ok workload fits xs ys (Submit region name) legal).allowed

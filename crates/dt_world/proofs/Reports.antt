@@ -1,7 +1,7 @@
 -- What the parts of a report are, step by step.
-use Rattle.std.proofs.Common.{◌≡◌, ◌≢◌, ◌<◌, ◌≤◌, ◌+◌, ℕ, zero, suc, Bool, true, false, cond, not, List, [], ◌∷◌, ◌++◌, length, map, get_or, replicate, take}
+use Rattle.std.proofs.Common.{◌≡◌, ◌≢◌, ◌<◌, ◌≤◌, ◌+◌, ℕ, zero, suc, Bool, Bor, true, false, cond, not, List, [], ◌∷◌, ◌++◌, length, map, get_or, replicate, take}
 use Rattle.std.proofs.Common.{drop, slice_get, Some, None, Ok, Err, refl, sym, ap, ap₂, subst, subst₂, ◌∙◌, append_assoc, append-nil, arith}
-use Rattle.std.specs.Prelude.{Option, Result, OnOk, option_map, option_and_then, option_to_list, filter_map}
+use Rattle.std.specs.Prelude.{Option, Result, IfOk, OnOk, option_map, option_and_then, option_to_list, filter_map}
 use Rattle.std.specs.List.{position, range_with_len}
 use Rattle.std.proofs.Math.Seq.{take-length}
 use Rattle.std.proofs.lemmas.Option.{slice_get-get_or}
@@ -13,9 +13,12 @@ use Rattle.dt_access.specs.declared.TxnId.{TxnId}
 use Rattle.dt_events.specs.declared.Event.{Event}
 use Rattle.dt_events.specs.declared.Event.TheVariants.{Submit, Append, Deliver, Insert, Resolve, Execute, Answer}
 use Rattle.dt_table.specs.Table.{shown}
+use Rattle.dt_table.specs.declared.Shown.{Shown}
+use Rattle.dt_text.specs.declared.NoMemory.{NoMemory}
 use Rattle.dt_txn.specs.declared.Outcome.{Outcome}
 use Rattle.dt_report.specs.declared.Ran.{Ran}
 use Rattle.dt_report.specs.declared.Reply.{Reply}
+use Rattle.dt_report.specs.declared.Report.{Report}
 use Rattle.dt_cluster.specs.declared.Cluster.{Cluster}
 use Rattle.dt_cluster.specs.Valid.{IsValidCluster}
 use Rattle.dt_workload.specs.declared.Session.{Session}
@@ -27,23 +30,24 @@ use Rattle.dt_session.specs.Run.{AreLegal, executed_id, order_of, region_table, 
 use Rattle.dt_agreement.specs.Invariant.{IsExecutedAt}
 use Rattle.dt_agreement.proofs.Callers.{legal_agree, legal_keeps, world_after_more}
 use Rattle.dt_world.specs.WorldView.{WorldView}
-use Rattle.dt_site.specs.Site.{SiteView, node_of}
-use Rattle.dt_world.specs.SessionReplay.{SessionReplayView, IsReply, LedTo, after_reply, after_submission, count_at, replay_at, replay_of, ran_at, rans_at, replies_at, wait_at}
-use Rattle.dt_world.specs.WorldReport.{IsOutcomeOf, IsReplyOf, answered_session, ran, ran_of, rans_of, replies_from, replies_of, reply_for, tables_of}
+use Rattle.dt_site.specs.Site.{SiteView, no_site}
+use Rattle.dt_site.specs.StandsIn.{StandsIn}
+use Rattle.dt_world.specs.SessionReplay.{SessionReplayView, IsReply, after_reply, after_submission, count_at, replay_at, replay_of, ran_at, rans_at, replies_at, wait_at}
+use Rattle.dt_world.specs.Telling.{AreSitesAfter, LedTo, TellingView, world_told}
+use Rattle.dt_world.specs.WorldInner.{IsLawful, site_at, view_in, world_of}
+use Rattle.dt_world.specs.WorldSessions.{WorldSessions, places_in}
+use Rattle.dt_world.specs.WorldReport.{IsOutcomeOf, IsReplyOf, answered_name, answered_session, ran, ran_of, rans_of, replies_from, replies_of, reply_for, report_of, tables_of}
 use Rattle.dt_world.proofs.Executions.{executed_at, order_again, order_new, order_other, outcomes_kept, rans_more}
 use Rattle.dt_world.proofs.Replay.{answer_executed, answer_follows, answer_kept, answer_own, answer_place, answer_region, answer_replies, answer_somewhere}
 use Rattle.dt_world.proofs.Replay.{answer_waits, append_same, deliver_same, execute_same, insert_same, replies_more, resolve_same, submit_few, submit_follows}
-use Rattle.dt_world.proofs.Replay.{submit_place, submit_region, submit_somewhere}
+use Rattle.dt_world.proofs.Replay.{submit_place, submit_region, submit_somewhere, submit_within}
+use Rattle.dt_world.proofs.SitesTold.{reached}
 use Rattle.dt_world.proofs.Growth.{split_at}
+use Rattle.dt_site.proofs.Callers.{many_here}
+use Rattle.dt_world.proofs.NothingLeftOut.{all_are_answered, all_are_ran}
+use Rattle.dt_world.proofs.WorldLaws.{many_sites, submitted_few}
 
 -- tables
-
-map_twice : {A B C : Type 0} (f : A → B) (g : B → C) (xs : List A) → map g (map f xs) ≡ map (λ x. g (f x)) xs
-map_twice f g [] = refl
-map_twice f g (x ∷ xs) = ap (λ l. g (f x) ∷ l) (map_twice f g xs)
-
-pub tables_shown : (sites : List SiteView) → map (λ (n : Node). shown n.here.table) (map node_of sites) ≡ map (λ (p : SiteView). shown p.region.state.here.table) sites
-tables_shown sites = map_twice node_of (λ n. shown n.here.table) sites
 
 by_number : {A B : Type 0} (f : ℕ → B) (g : A → B) (xs : List A) (a : ℕ) (d : A) → ((i : ℕ) → i < length xs → f (a + i) ≡ g (get_or xs i d)) → map f (range_with_len a (length xs)) ≡ map g xs
 by_number f g [] a d e = refl
@@ -53,206 +57,215 @@ by_number f g (x ∷ xs) a d e =
 
 -- an item of a list, by its place
 
-pub item_at : {A : Type 0} (xs : List A) (at : ℕ) (r e : A) → at < length xs → r ≡ get_or xs at r → r ≡ e → slice_get xs at ≡ Some e
+item_at : {A : Type 0} (xs : List A) (at : ℕ) (r e : A) → at < length xs → r ≡ get_or xs at r → r ≡ e → slice_get xs at ≡ Some e
 item_at xs at r e lt is same = slice_get-get_or xs at r lt ∙ ap Some (sym is ∙ same)
 
+pub event_at : (told : TellingView) {held : List Event} → held ≡ told.events → (at : ℕ) (r e : Event) → at < length held → r ≡ get_or held at r → r ≡ e → slice_get told.events at ≡ Some e
+event_at told {held} same at r e lt is this = subst (λ l. slice_get l at ≡ Some e) same (item_at held at r e lt is this)
+
 -- what an execution adds to the order, where its attempt was not executed before: these are the ids then
-pub record NotesNew (view : WorldView) (events : List Event) (at region : ℕ) (id : TxnId) (new : List TxnId) : Type 0 where
-  pub seen : new ≡ order_of (take (at + 1) events)
-  pub order : (r : Ran) → ran_at view.state region id ≡ Some r → rans_at view events at ++ r ∷ [] ≡ rans_at view events (at + 1)
+pub record NotesNew (told : TellingView) (at region : ℕ) (id : TxnId) (new : List TxnId) : Type 0 where
+  pub seen : new ≡ order_of (take (at + 1) told.events)
+  pub order : (r : Ran) → ran_at (world_told told) region id ≡ Some r → rans_at told at ++ r ∷ [] ≡ rans_at told (at + 1)
 
 -- and where it was
-pub record NotesAgain (view : WorldView) (events : List Event) (at : ℕ) (new : List TxnId) : Type 0 where
-  pub seen : new ≡ order_of (take (at + 1) events)
-  pub order : rans_at view events at ≡ rans_at view events (at + 1)
+pub record NotesAgain (told : TellingView) (at : ℕ) (new : List TxnId) : Type 0 where
+  pub seen : new ≡ order_of (take (at + 1) told.events)
+  pub order : rans_at told at ≡ rans_at told (at + 1)
 
 -- what a submission of the session at a place does to what is followed
-pub record FollowsSubmission (view : WorldView) (events : List Event) (at region place : ℕ) (course : SessionReplayView) : Type 0 where
+pub record FollowsSubmission (told : TellingView) (at region place : ℕ) (course : SessionReplayView) : Type 0 where
   pub place_there : place < length course.waits
   pub region_there : region < length course.submitted
-  pub few : count_at course region + 1 ≤ length (node_at view.state region).submitted
-  pub replay : after_submission course place region ≡ replay_at view events (at + 1)
-  pub replies : replies_at view events at ≡ replies_at view events (at + 1)
+  pub few : count_at course region + 1 < 4294967296
+  pub replay : after_submission course place region ≡ replay_at told (at + 1)
+  pub replies : replies_at told at ≡ replies_at told (at + 1)
 
 -- what an answer to it does: it waited for an attempt, and waits for nothing then
-pub record FollowsAnswer (view : WorldView) (events : List Event) (at region place : ℕ) (course : SessionReplayView) : Type 0 where
+pub record FollowsAnswer (told : TellingView) (at region place : ℕ) (course : SessionReplayView) : Type 0 where
   pub place_there : place < length course.waits
-  pub region_there : region < view.cluster.regions
+  pub region_there : region < told.cluster.regions
   pub waited : ¬ (wait_at course place ≡ None)
-  pub replay : after_reply course place ≡ replay_at view events (at + 1)
+  pub replay : after_reply course place ≡ replay_at told (at + 1)
 
 -- and this is the attempt, whose outcome is the reply
-pub record FollowsReply (view : WorldView) (events : List Event) (at region : ℕ) (name : Bytes) (id : TxnId) : Type 0 where
+pub record FollowsReply (told : TellingView) (at region : ℕ) (name : Bytes) (id : TxnId) : Type 0 where
   pub own : id.region ≡ region
-  pub executed : IsExecutedAt view.state region id
-  pub replies : (reply : Reply) → IsReply view.state region name id reply → replies_at view events at ++ reply ∷ [] ≡ replies_at view events (at + 1)
+  pub executed : IsExecutedAt (world_told told) region id
+  pub replies : (reply : Reply) → IsReply (world_told told) region name id reply → replies_at told at ++ reply ∷ [] ≡ replies_at told (at + 1)
 
-module _ {view : WorldView} {events : List Event} (led : LedTo view events) where
-  -- the tables that regions keep are those of the report
-  pub tables_are : map (λ (n : Node). shown n.here.table) view.state.nodes ≡ tables_of view.cluster view.workload events
-  tables_are = subst (λ (w : World). map (λ (n : Node). shown n.here.table) w.nodes ≡ tables_of view.cluster view.workload events) (sym led.reached)
-      (sym (subst (λ m. map (λ region. shown (region_table view.cluster view.workload events region)) (range_with_len 0 m) ≡ map (λ (n : Node). shown n.here.table) (world_after view.cluster view.workload events).nodes) many
-      (by_number (λ region. shown (region_table view.cluster view.workload events region)) (λ (n : Node). shown n.here.table) (world_after view.cluster view.workload events).nodes 0 no_node
-      (λ i lt. let same : 0 + i ≡ i = omega arith in subst (λ r. shown (region_table view.cluster view.workload events r) ≡ shown (node_at (world_after view.cluster view.workload events) i).here.table) (sym same)
-      (ap shown (sym ((legal_agree view.cluster led.valid view.workload led.fits events led.legal).tables i (subst (λ m. i < m) many lt))))))))
+module _ {told : TellingView} (led : LedTo told) where
+  -- the tables that sites keep are those of the report
+  pub tables_are : map (λ (p : SiteView). shown p.region.state.here.table) told.sites ≡ tables_of told.cluster told.workload told.events
+  tables_are = sym (subst (λ m. map (λ region. shown (region_table told.cluster told.workload told.events region)) (range_with_len 0 m) ≡ map (λ (p : SiteView). shown p.region.state.here.table) told.sites) led.many
+      (by_number (λ region. shown (region_table told.cluster told.workload told.events region)) (λ (p : SiteView). shown p.region.state.here.table) told.sites 0 no_site
+      (λ i lt. let same : 0 + i ≡ i = omega arith in subst (λ r. shown (region_table told.cluster told.workload told.events r) ≡ shown (get_or told.sites i no_site).region.state.here.table) (sym same)
+      (here i (subst (λ m. i < m) led.many lt)))))
     where
-      many : length (world_after view.cluster view.workload events).nodes ≡ view.cluster.regions
-      many = (legal_keeps view.cluster led.valid view.workload led.fits events led.legal).nodes
-
-  pub outcomes_are : AllIn (λ (r : Ran). IsOutcomeOf view.cluster.regions view.state r.id r.outcome) (rans_of view.cluster view.workload events)
-  outcomes_are = subst (λ w. AllIn (λ (r : Ran). IsOutcomeOf view.cluster.regions w r.id r.outcome) (rans_of view.cluster view.workload events)) (sym led.reached)
-      (outcomes_kept view.cluster led.valid view.workload led.fits events led.legal)
+      here : (i : ℕ) → i < told.cluster.regions → shown (region_table told.cluster told.workload told.events i) ≡ shown (get_or told.sites i no_site).region.state.here.table
+      here i lr = sym (ap (λ (n : Node). shown n.here.table) (led.stands i lr).node ∙ ap shown ((legal_agree told.cluster led.valid told.workload led.fits told.events led.legal).tables i lr))
 
   -- what an execution adds to the order
 
-  module _ (at : ℕ) (region : ℕ) (id : TxnId) (item : slice_get events at ≡ Some (Execute region id)) where
-    pub note_region : region < view.cluster.regions
-    note_region = (executed_at view.cluster led.valid view.workload led.fits events led.legal at region id item).0
+  module _ (at : ℕ) (region : ℕ) (id : TxnId) (item : slice_get told.events at ≡ Some (Execute region id)) where
+    pub note_region : region < told.cluster.regions
+    note_region = (executed_at told.cluster led.valid told.workload led.fits told.events led.legal at region id item).0
 
-    pub note_executed : IsExecutedAt view.state region id
-    note_executed = subst (λ w. IsExecutedAt w region id) (sym led.reached) (executed_at view.cluster led.valid view.workload led.fits events led.legal at region id item).1
+    pub note_executed : IsExecutedAt (world_told told) region id
+    note_executed = (executed_at told.cluster led.valid told.workload led.fits told.events led.legal at region id item).1
 
-    module _ (keys new : List TxnId) (before : keys ≡ order_of (take at events)) (inserted : new ≡ cond (is_among keys id) keys (keys ++ id ∷ [])) where
-      seen_new : is_among keys id ≡ false → new ≡ order_of (take (at + 1) events)
+    module _ (keys new : List TxnId) (before : keys ≡ order_of (take at told.events)) (inserted : new ≡ cond (is_among keys id) keys (keys ++ id ∷ [])) where
+      seen_new : is_among keys id ≡ false → new ≡ order_of (take (at + 1) told.events)
       seen_new absent = inserted ∙ ap (λ b. cond b keys (keys ++ id ∷ [])) absent ∙ ap (λ l. l ++ id ∷ []) before
-          ∙ sym (order_new view.cluster led.valid view.workload led.fits events led.legal at region id item (subst (λ l. is_among l id ≡ false) before absent))
+          ∙ sym (order_new told.cluster led.valid told.workload led.fits told.events led.legal at region id item (subst (λ l. is_among l id ≡ false) before absent))
 
-      seen_again : is_among keys id ≡ true → new ≡ order_of (take (at + 1) events)
+      seen_again : is_among keys id ≡ true → new ≡ order_of (take (at + 1) told.events)
       seen_again there = inserted ∙ ap (λ b. cond b keys (keys ++ id ∷ [])) there ∙ before
-          ∙ sym (order_again view.cluster led.valid view.workload led.fits events led.legal at region id item (subst (λ l. is_among l id ≡ true) before there))
+          ∙ sym (order_again told.cluster led.valid told.workload led.fits told.events led.legal at region id item (subst (λ l. is_among l id ≡ true) before there))
 
-      rans_again : is_among keys id ≡ true → rans_at view events at ≡ rans_at view events (at + 1)
-      rans_again there = ap (filter_map (ran_of view.cluster view.workload events)) (sym (order_again view.cluster led.valid view.workload led.fits events led.legal at region id item (subst (λ l. is_among l id ≡ true) before there)))
+      rans_again : is_among keys id ≡ true → rans_at told at ≡ rans_at told (at + 1)
+      rans_again there = ap (filter_map (ran_of told.cluster told.workload told.events)) (sym (order_again told.cluster led.valid told.workload led.fits told.events led.legal at region id item
+          (subst (λ l. is_among l id ≡ true) before there)))
 
-      rans_new : is_among keys id ≡ false → (r : Ran) → ran_at view.state region id ≡ Some r → rans_at view events at ++ r ∷ [] ≡ rans_at view events (at + 1)
-      rans_new absent r is = sym (rans_more view.cluster led.valid view.workload led.fits events led.legal at region id r item
-          (subst (λ l. is_among l id ≡ false) before absent) (subst (λ w. ran_at w region id ≡ Some r) led.reached is))
+      rans_new : is_among keys id ≡ false → (r : Ran) → ran_at (world_told told) region id ≡ Some r → rans_at told at ++ r ∷ [] ≡ rans_at told (at + 1)
+      rans_new absent r is = sym (rans_more told.cluster led.valid told.workload led.fits told.events led.legal at region id r item
+          (subst (λ l. is_among l id ≡ false) before absent) is)
 
-      pub notes_new : is_among keys id ≡ false → NotesNew view events at region id new
+      pub notes_new : is_among keys id ≡ false → NotesNew told at region id new
       notes_new absent = record { seen = seen_new absent; order = rans_new absent }
 
-      pub notes_again : is_among keys id ≡ true → NotesAgain view events at new
+      pub notes_again : is_among keys id ≡ true → NotesAgain told at new
       notes_again there = record { seen = seen_again there; order = rans_again there }
 
-  pub seen_other : (at : ℕ) (event : Event) → slice_get events at ≡ Some event → executed_id event ≡ None → order_of (take at events) ≡ order_of (take (at + 1) events)
-  seen_other at event item none = sym (order_other view.cluster led.valid view.workload led.fits events led.legal at event item none)
+  pub seen_other : (at : ℕ) (event : Event) → slice_get told.events at ≡ Some event → executed_id event ≡ None → order_of (take at told.events) ≡ order_of (take (at + 1) told.events)
+  seen_other at event item none = sym (order_other told.cluster led.valid told.workload led.fits told.events led.legal at event item none)
 
   -- what is followed
 
-  legal_split : (at : ℕ) (event : Event) → slice_get events at ≡ Some event → AreLegal view.cluster view.workload (take at events ++ event ∷ drop (at + 1) events)
-  legal_split at event item = subst (AreLegal view.cluster view.workload) (split_at events at event item).0 led.legal
+  legal_split : (at : ℕ) (event : Event) → slice_get told.events at ≡ Some event → AreLegal told.cluster told.workload (take at told.events ++ event ∷ drop (at + 1) told.events)
+  legal_split at event item = subst (AreLegal told.cluster told.workload) (split_at told.events at event item).0 led.legal
 
   -- an event that neither submits nor answers
 
-  plain_replies : (at : ℕ) (event : Event) → slice_get events at ≡ Some event → answered_session view.workload (world_after view.cluster view.workload (take at events)) event ≡ None
-      → replies_at view events at ≡ replies_at view events (at + 1)
+  plain_replies : (at : ℕ) (event : Event) → slice_get told.events at ≡ Some event → answered_session told.workload (world_after told.cluster told.workload (take at told.events)) event ≡ None
+      → replies_at told at ≡ replies_at told (at + 1)
   plain_replies at event item none = sym (
-      ap (replies_from view.cluster view.workload events (opening_world view.cluster view.workload)) (split_at events at event item).1
-      ∙ replies_more view.cluster view.workload events (opening_world view.cluster view.workload) (take at events) event
-      ∙ ap (λ o. replies_from view.cluster view.workload events (opening_world view.cluster view.workload) (take at events) ++ option_to_list (reply_for view.cluster view.workload events o)) none
-      ∙ append-nil (replies_at view events at))
+      ap (replies_from told.cluster told.workload told.events (opening_world told.cluster told.workload)) (split_at told.events at event item).1
+      ∙ replies_more told.cluster told.workload told.events (opening_world told.cluster told.workload) (take at told.events) event
+      ∙ ap (λ o. replies_from told.cluster told.workload told.events (opening_world told.cluster told.workload) (take at told.events) ++ option_to_list (reply_for told.cluster told.workload told.events o)) none
+      ∙ append-nil (replies_at told at))
 
-  plain_course : (at : ℕ) (event : Event) → slice_get events at ≡ Some event → ((w : World) → replay_of (next view.cluster view.workload w event) ≡ replay_of w) → replay_at view events at ≡ replay_at view events (at + 1)
-  plain_course at event item same = sym (ap (λ l. replay_of (world_after view.cluster view.workload l)) (split_at events at event item).1 ∙ ap replay_of (world_after_more view.cluster view.workload (take at events) event)
-      ∙ same (world_after view.cluster view.workload (take at events)))
+  plain_course : (at : ℕ) (event : Event) → slice_get told.events at ≡ Some event → ((w : World) → replay_of (next told.cluster told.workload w event) ≡ replay_of w) → replay_at told at ≡ replay_at told (at + 1)
+  plain_course at event item same = sym (ap (λ l. replay_of (world_after told.cluster told.workload l)) (split_at told.events at event item).1 ∙ ap replay_of (world_after_more told.cluster told.workload (take at told.events) event)
+      ∙ same (world_after told.cluster told.workload (take at told.events)))
 
-  pub plain_event : (at : ℕ) (event : Event) → slice_get events at ≡ Some event → ((region : ℕ) (name : Bytes) → event ≢ Submit region name) → ((region : ℕ) (name : Bytes) → event ≢ Answer region name)
-      → (replay_at view events at ≡ replay_at view events (at + 1)) × (replies_at view events at ≡ replies_at view events (at + 1))
+  pub plain_event : (at : ℕ) (event : Event) → slice_get told.events at ≡ Some event → ((region : ℕ) (name : Bytes) → event ≢ Submit region name) → ((region : ℕ) (name : Bytes) → event ≢ Answer region name)
+      → (replay_at told at ≡ replay_at told (at + 1)) × (replies_at told at ≡ replies_at told (at + 1))
   plain_event at (Submit region name) item a b = absurd (a region name refl)
-  plain_event at (Append home source number) item a b = (plain_course at (Append home source number) item (λ w. append_same view.cluster view.workload w home source number), plain_replies at (Append home source number) item refl)
+  plain_event at (Append home source number) item a b = (plain_course at (Append home source number) item (λ w. append_same told.cluster told.workload w home source number), plain_replies at (Append home source number) item refl)
   plain_event at (Deliver region home first last) item a b = (
-    plain_course at (Deliver region home first last) item (λ w. deliver_same view.cluster view.workload w region home first last),
+    plain_course at (Deliver region home first last) item (λ w. deliver_same told.cluster told.workload w region home first last),
     plain_replies at (Deliver region home first last) item refl,
   )
-  plain_event at (Insert region home) item a b = (plain_course at (Insert region home) item (λ w. insert_same view.cluster view.workload w region home), plain_replies at (Insert region home) item refl)
-  plain_event at (Resolve region ids) item a b = (plain_course at (Resolve region ids) item (λ w. resolve_same view.cluster view.workload w region ids), plain_replies at (Resolve region ids) item refl)
-  plain_event at (Execute region id) item a b = (plain_course at (Execute region id) item (λ w. execute_same view.cluster view.workload w region id), plain_replies at (Execute region id) item refl)
+  plain_event at (Insert region home) item a b = (plain_course at (Insert region home) item (λ w. insert_same told.cluster told.workload w region home), plain_replies at (Insert region home) item refl)
+  plain_event at (Resolve region ids) item a b = (plain_course at (Resolve region ids) item (λ w. resolve_same told.cluster told.workload w region ids), plain_replies at (Resolve region ids) item refl)
+  plain_event at (Execute region id) item a b = (plain_course at (Execute region id) item (λ w. execute_same told.cluster told.workload w region id), plain_replies at (Execute region id) item refl)
   plain_event at (Answer region name) item a b = absurd (b region name refl)
 
   -- a submission
 
-  module _ (at : ℕ) (region : ℕ) (name : Bytes) (item : slice_get events at ≡ Some (Submit region name)) where
-    pub follow_somewhere : ¬ (position (is_session region name) view.workload.sessions ≡ None)
-    follow_somewhere = submit_somewhere view.cluster led.valid view.workload led.fits (take at events) (drop (at + 1) events) region name (legal_split at (Submit region name) item)
+  module _ (at : ℕ) (region : ℕ) (name : Bytes) (item : slice_get told.events at ≡ Some (Submit region name)) where
+    pub follow_somewhere : ¬ (position (is_session region name) told.workload.sessions ≡ None)
+    follow_somewhere = submit_somewhere told.cluster led.valid told.workload led.fits (take at told.events) (drop (at + 1) told.events) region name (legal_split at (Submit region name) item)
 
-    module _ (place : ℕ) (found : position (is_session region name) view.workload.sessions ≡ Some place) (course : SessionReplayView) (is : course ≡ replay_at view events at) where
+    module _ (place : ℕ) (found : position (is_session region name) told.workload.sessions ≡ Some place) (course : SessionReplayView) (is : course ≡ replay_at told at) where
       follow_place : place < length course.waits
       follow_place = subst (λ (c : SessionReplayView). place < length c.waits) (sym is)
-          (submit_place view.cluster led.valid view.workload led.fits (take at events) (drop (at + 1) events) region name (legal_split at (Submit region name) item) place found)
+          (submit_place told.cluster led.valid told.workload led.fits (take at told.events) (drop (at + 1) told.events) region name (legal_split at (Submit region name) item) place found)
 
       follow_region : region < length course.submitted
       follow_region = subst (λ (c : SessionReplayView). region < length c.submitted) (sym is)
-          (submit_region view.cluster led.valid view.workload led.fits (take at events) (drop (at + 1) events) region name (legal_split at (Submit region name) item) place found)
+          (submit_region told.cluster led.valid told.workload led.fits (take at told.events) (drop (at + 1) told.events) region name (legal_split at (Submit region name) item) place found)
 
-      follow_few : count_at course region + 1 ≤ length (node_at view.state region).submitted
-      follow_few = subst (λ (c : SessionReplayView). count_at c region + 1 ≤ length (node_at view.state region).submitted) (sym is)
-          (subst (λ w. count_at (replay_at view events at) region + 1 ≤ length (node_at w region).submitted) (ap (world_after view.cluster view.workload) (sym (split_at events at (Submit region name) item).0) ∙ sym led.reached)
-          (submit_few view.cluster led.valid view.workload led.fits (take at events) (drop (at + 1) events) region name (legal_split at (Submit region name) item) place found))
+      follow_few : count_at course region + 1 ≤ length (node_at (world_told told) region).submitted
+      follow_few = subst (λ (c : SessionReplayView). count_at c region + 1 ≤ length (node_at (world_told told) region).submitted) (sym is)
+          (subst (λ w. count_at (replay_at told at) region + 1 ≤ length (node_at w region).submitted) (ap (world_after told.cluster told.workload) (sym (split_at told.events at (Submit region name) item).0))
+          (submit_few told.cluster led.valid told.workload led.fits (take at told.events) (drop (at + 1) told.events) region name (legal_split at (Submit region name) item) place found))
 
-      follow_submitted : after_submission course place region ≡ replay_at view events (at + 1)
+      follow_counted : count_at course region + 1 < 4294967296
+      follow_counted =
+          let lr : region < told.cluster.regions =
+          submit_within told.cluster led.valid told.workload led.fits (take at told.events) (drop (at + 1) told.events) region name (legal_split at (Submit region name) item) place found in
+          let many : length (node_at (world_told told) region).submitted ≡ length (get_or told.sites region no_site).region.state.submitted = many_here (reached led) (led.stands region lr) in
+          let few = led.few region lr in
+          let more = follow_few in
+          omega (arith, many, few, more)
+
+      follow_submitted : after_submission course place region ≡ replay_at told (at + 1)
       follow_submitted = ap (λ c. after_submission c place region) is
-          ∙ sym (submit_follows view.cluster led.valid view.workload led.fits (take at events) (drop (at + 1) events) region name (legal_split at (Submit region name) item) place found)
-          ∙ ap (λ l. replay_of (world_after view.cluster view.workload l)) (sym (split_at events at (Submit region name) item).1)
+          ∙ sym (submit_follows told.cluster led.valid told.workload led.fits (take at told.events) (drop (at + 1) told.events) region name (legal_split at (Submit region name) item) place found)
+          ∙ ap (λ l. replay_of (world_after told.cluster told.workload l)) (sym (split_at told.events at (Submit region name) item).1)
 
-      pub follows_submission : FollowsSubmission view events at region place course
+      pub follows_submission : FollowsSubmission told at region place course
       follows_submission = record {
         place_there = follow_place;
         region_there = follow_region;
-        few = follow_few;
+        few = follow_counted;
         replay = follow_submitted;
         replies = plain_replies at (Submit region name) item refl;
       }
 
   -- an answer
 
-  module _ (at : ℕ) (region : ℕ) (name : Bytes) (item : slice_get events at ≡ Some (Answer region name)) where
-    pub reply_somewhere : ¬ (position (is_session region name) view.workload.sessions ≡ None)
-    reply_somewhere = answer_somewhere view.cluster led.valid view.workload led.fits (take at events) (drop (at + 1) events) region name (legal_split at (Answer region name) item)
+  module _ (at : ℕ) (region : ℕ) (name : Bytes) (item : slice_get told.events at ≡ Some (Answer region name)) where
+    pub reply_somewhere : ¬ (position (is_session region name) told.workload.sessions ≡ None)
+    reply_somewhere = answer_somewhere told.cluster led.valid told.workload led.fits (take at told.events) (drop (at + 1) told.events) region name (legal_split at (Answer region name) item)
 
-    module _ (place : ℕ) (found : position (is_session region name) view.workload.sessions ≡ Some place) (course : SessionReplayView) (is : course ≡ replay_at view events at) where
-      reply_region : region < view.cluster.regions
-      reply_region = answer_region view.cluster led.valid view.workload led.fits (take at events) (drop (at + 1) events) region name (legal_split at (Answer region name) item) place found
+    module _ (place : ℕ) (found : position (is_session region name) told.workload.sessions ≡ Some place) (course : SessionReplayView) (is : course ≡ replay_at told at) where
+      reply_region : region < told.cluster.regions
+      reply_region = answer_region told.cluster led.valid told.workload led.fits (take at told.events) (drop (at + 1) told.events) region name (legal_split at (Answer region name) item) place found
 
       reply_place : place < length course.waits
       reply_place = subst (λ (c : SessionReplayView). place < length c.waits) (sym is)
-          (answer_place view.cluster led.valid view.workload led.fits (take at events) (drop (at + 1) events) region name (legal_split at (Answer region name) item) place found)
+          (answer_place told.cluster led.valid told.workload led.fits (take at told.events) (drop (at + 1) told.events) region name (legal_split at (Answer region name) item) place found)
 
       reply_waits : ¬ (wait_at course place ≡ None)
-      reply_waits e = answer_waits view.cluster led.valid view.workload led.fits (take at events) (drop (at + 1) events) region name (legal_split at (Answer region name) item) place found
+      reply_waits e = answer_waits told.cluster led.valid told.workload led.fits (take at told.events) (drop (at + 1) told.events) region name (legal_split at (Answer region name) item) place found
           (subst (λ (c : SessionReplayView). wait_at c place ≡ None) is e)
 
-      reply_followed : after_reply course place ≡ replay_at view events (at + 1)
+      reply_followed : after_reply course place ≡ replay_at told (at + 1)
       reply_followed = ap (λ c. after_reply c place) is
-          ∙ sym (answer_follows view.cluster led.valid view.workload led.fits (take at events) (drop (at + 1) events) region name (legal_split at (Answer region name) item) place found)
-          ∙ ap (λ l. replay_of (world_after view.cluster view.workload l)) (sym (split_at events at (Answer region name) item).1)
+          ∙ sym (answer_follows told.cluster led.valid told.workload led.fits (take at told.events) (drop (at + 1) told.events) region name (legal_split at (Answer region name) item) place found)
+          ∙ ap (λ l. replay_of (world_after told.cluster told.workload l)) (sym (split_at told.events at (Answer region name) item).1)
 
-      pub follows_answer : FollowsAnswer view events at region place course
+      pub follows_answer : FollowsAnswer told at region place course
       follows_answer = record { place_there = reply_place; region_there = reply_region; waited = reply_waits; replay = reply_followed }
 
       module _ (id : TxnId) (waits : wait_at course place ≡ Some id) where
-        waits_then : wait_at (replay_at view events at) place ≡ Some id
+        waits_then : wait_at (replay_at told at) place ≡ Some id
         waits_then = subst (λ (c : SessionReplayView). wait_at c place ≡ Some id) is waits
 
         reply_own : id.region ≡ region
-        reply_own = answer_own view.cluster led.valid view.workload led.fits (take at events) (drop (at + 1) events) region name (legal_split at (Answer region name) item) place found id waits_then
+        reply_own = answer_own told.cluster led.valid told.workload led.fits (take at told.events) (drop (at + 1) told.events) region name (legal_split at (Answer region name) item) place found id waits_then
 
-        the_end : view.state ≡ world_after view.cluster view.workload (take at events ++ Answer region name ∷ drop (at + 1) events)
-        the_end = led.reached ∙ ap (world_after view.cluster view.workload) (split_at events at (Answer region name) item).0
+        the_end : (world_told told) ≡ world_after told.cluster told.workload (take at told.events ++ Answer region name ∷ drop (at + 1) told.events)
+        the_end = ap (world_after told.cluster told.workload) (split_at told.events at (Answer region name) item).0
 
-        reply_executed : IsExecutedAt view.state region id
+        reply_executed : IsExecutedAt (world_told told) region id
         reply_executed = subst (λ w. IsExecutedAt w region id) (sym the_end)
-            (answer_executed view.cluster led.valid view.workload led.fits (take at events) (drop (at + 1) events) region name (legal_split at (Answer region name) item) place found id waits_then)
+            (answer_executed told.cluster led.valid told.workload led.fits (take at told.events) (drop (at + 1) told.events) region name (legal_split at (Answer region name) item) place found id waits_then)
 
-        reply_added : (reply : Reply) → IsReply view.state region name id reply → replies_at view events at ++ reply ∷ [] ≡ replies_at view events (at + 1)
+        reply_added : (reply : Reply) → IsReply (world_told told) region name id reply → replies_at told at ++ reply ∷ [] ≡ replies_at told (at + 1)
         reply_added reply r =
-            let added : replies_from view.cluster view.workload (take at events ++ Answer region name ∷ drop (at + 1) events) (opening_world view.cluster view.workload) (take at events ++ Answer region name ∷ []) ≡ replies_from
-            view.cluster view.workload (take at events ++ Answer region name ∷ drop (at + 1) events) (opening_world view.cluster view.workload) (take at events) ++ reply ∷ [] =
-            answer_replies view.cluster led.valid view.workload led.fits (take at events) (drop (at + 1) events) region name (legal_split at (Answer region name) item) place found id waits_then reply
+            let added : replies_from told.cluster told.workload (take at told.events ++ Answer region name ∷ drop (at + 1) told.events) (opening_world told.cluster told.workload) (take at told.events ++ Answer region name ∷ [])
+            ≡ replies_from
+            told.cluster told.workload (take at told.events ++ Answer region name ∷ drop (at + 1) told.events) (opening_world told.cluster told.workload) (take at told.events) ++ reply ∷ [] =
+            answer_replies told.cluster led.valid told.workload led.fits (take at told.events) (drop (at + 1) told.events) region name (legal_split at (Answer region name) item) place found id waits_then reply
             (subst (λ w. IsReply w region name id reply) the_end r) in
-            sym (subst₂ (λ (all now : List Event). replies_from view.cluster view.workload all (opening_world view.cluster view.workload) now ≡ replies_from view.cluster view.workload all (opening_world view.cluster view.workload)
-            (take at events) ++ reply ∷ []) (sym (split_at events at (Answer region name) item).0) (sym (split_at events at (Answer region name) item).1) added)
+            sym (subst₂ (λ (all now : List Event). replies_from told.cluster told.workload all (opening_world told.cluster told.workload) now ≡ replies_from told.cluster told.workload all (opening_world told.cluster told.workload)
+            (take at told.events) ++ reply ∷ []) (sym (split_at told.events at (Answer region name) item).0) (sym (split_at told.events at (Answer region name) item).1) added)
 
-        pub follows_reply : FollowsReply view events at region name id
+        pub follows_reply : FollowsReply told at region name id
         follows_reply = record { own = reply_own; executed = reply_executed; replies = reply_added }
 
 -- all replies are of what regions keep
@@ -298,18 +311,19 @@ module _ (cluster : Cluster) (ok : IsValidCluster cluster) (workload : Workload)
       (keeps (event ∷ ys) (e ∙ append_assoc xs (event ∷ []) ys)) (one_kept xs ys event (e ∙ append_assoc xs (event ∷ []) ys))))
       events [] (sym (append-nil events))
 
-pub replies_are : {view : WorldView} {events : List Event} → LedTo view events → AllIn (IsReplyOf view.cluster.regions view.state) (replies_of view.cluster view.workload events)
-replies_are {view} {events} led = subst (λ w. AllIn (IsReplyOf view.cluster.regions w) (replies_of view.cluster view.workload events)) (sym led.reached)
-    (replies_kept view.cluster led.valid view.workload led.fits events led.legal)
-
 -- loops that are done
 
-pub order_whole : (view : WorldView) (events : List Event) (at : ℕ) (o : List Ran) → at ≤ length events → length events ≤ at → o ≡ rans_at view events at → o ≡ rans_of view.cluster view.workload events
-order_whole view events at o le ge e = let same : at ≡ length events = omega arith in e ∙ ap (rans_at view events) same ∙ ap (λ l. filter_map (ran_of view.cluster view.workload events) (order_of l)) (take-length events)
+pub order_whole : (told : TellingView) {held : List Event} → held ≡ told.events
+    → (at : ℕ) (o : List Ran) → at ≤ length held → length held ≤ at → o ≡ rans_at told at → o ≡ rans_of told.cluster told.workload told.events
+order_whole told {held} is at o le ge e =
+    let same : at ≡ length held = omega arith in
+    e ∙ ap (rans_at told) (same ∙ ap length is) ∙ ap (λ l. filter_map (ran_of told.cluster told.workload told.events) (order_of l)) (take-length told.events)
 
-pub replies_whole : (view : WorldView) (events : List Event) (at : ℕ) (o : List Reply) → at ≤ length events → length events ≤ at → o ≡ replies_at view events at → o ≡ replies_of view.cluster view.workload events
-replies_whole view events at o le ge e = let same : at ≡ length events = omega arith in e ∙ ap (replies_at view events) same
-    ∙ ap (replies_from view.cluster view.workload events (opening_world view.cluster view.workload)) (take-length events)
+pub replies_whole : (told : TellingView) {held : List Event} → held ≡ told.events
+    → (at : ℕ) (o : List Reply) → at ≤ length held → length held ≤ at → o ≡ replies_at told at → o ≡ replies_of told.cluster told.workload told.events
+replies_whole told {held} is at o le ge e =
+    let same : at ≡ length held = omega arith in
+    e ∙ ap (replies_at told) (same ∙ ap length is) ∙ ap (replies_from told.cluster told.workload told.events (opening_world told.cluster told.workload)) (take-length told.events)
 
 -- a course begins with the opening world
 
@@ -354,3 +368,69 @@ on_ok_map P Q (Err e) f p = tt
 
 pub ran_found : (w : World) (region : ℕ) (id : TxnId) (s : Submission) (o : Outcome) → submission_of w id ≡ Some s → outcome_at w region id ≡ Some o → ran_at w region id ≡ Some (ran id s o)
 ran_found w region id s o e f = ap₂ (λ x y. option_and_then (λ z. option_map (ran id z) y) x) e f
+
+-- the parts of a report are the report
+
+sites_shown : (lent : List (Bor SiteView)) → map (λ (s : Bor SiteView). shown s.now.region.state.here.table) lent ≡ map (λ (p : SiteView). shown p.region.state.here.table) (map (λ (s : Bor SiteView). s.now) lent)
+sites_shown [] = refl
+sites_shown (s ∷ lent) = ap (λ l. shown s.now.region.state.here.table ∷ l) (sites_shown lent)
+
+pub parts_told : {cluster : Cluster} {workload : Workload} {events : List Event} (lent : List (Bor SiteView)) → AreSitesAfter cluster workload events (map (λ (s : Bor SiteView). s.now) lent)
+    → {replies : List Reply} {order : List Ran} {tables : List (List Shown)} {all : List Event} → replies ≡ replies_of cluster workload events → order ≡ rans_of cluster workload events
+    → tables ≡ map (λ (s : Bor SiteView). shown s.now.region.state.here.table) lent → all ≡ events
+    → ◌≡◌ {A = Report} (record { replies = replies; order = order; tables = tables; events = all }) (report_of cluster workload events)
+parts_told {cluster} {workload} {events} lent led r o t e =
+    let told : TellingView = record { cluster = cluster; workload = workload; sites = map (λ (s : Bor SiteView). s.now) lent; events = events } in
+    let same = t ∙ sites_shown lent ∙ tables_are {told = told} led in
+    λ i. record { replies = r i; order = o i; tables = same i; events = e i }
+
+-- what else is said of a report
+
+pub same_told : (P : Report → Type 0) {whole : Report} (r : Result Report NoMemory) → IfOk r (λ report. report ≡ whole) → P whole → IfOk r P
+same_told P (Ok report) is p = subst P (sym is) p
+same_told P (Err e) is p = tt
+
+module _ {cluster : Cluster} {sessions : WorldSessions} {sites : List SiteView} {steps : ℕ} (k : IsLawful cluster sessions sites steps) {now : WorldView} (view : view_in cluster sessions sites steps ≡ now) where
+  sound : IsValidCluster now.cluster
+  sound = subst (λ (v : WorldView). IsValidCluster v.cluster) view k.reached.run.sound
+
+  fits : IsValidWorkload now.cluster now.workload
+  fits = subst (λ (v : WorldView). IsValidWorkload v.cluster v.workload) view k.reached.run.fits
+
+  module _ (events : List Event) (legal : AreLegal now.cluster now.workload events) (led_to : now.state ≡ world_after now.cluster now.workload events) where
+    pub outcomes_are : AllIn (λ (r : Ran). IsOutcomeOf now.cluster.regions now.state r.id r.outcome) (rans_of now.cluster now.workload events)
+    outcomes_are = subst (λ w. AllIn (λ (r : Ran). IsOutcomeOf now.cluster.regions w r.id r.outcome) (rans_of now.cluster now.workload events)) (sym led_to)
+        (outcomes_kept now.cluster sound now.workload fits events legal)
+
+    pub replies_are : AllIn (IsReplyOf now.cluster.regions now.state) (replies_of now.cluster now.workload events)
+    replies_are = subst (λ w. AllIn (IsReplyOf now.cluster.regions w) (replies_of now.cluster now.workload events)) (sym led_to) (replies_kept now.cluster sound now.workload fits events legal)
+
+    pub nodes_tables : tables_of now.cluster now.workload events ≡ map (λ (n : Node). shown n.here.table) now.state.nodes
+    nodes_tables = subst (λ (w : World). tables_of now.cluster now.workload events ≡ map (λ (n : Node). shown n.here.table) w.nodes) (sym led_to)
+        (subst (λ m. map (λ region. shown (region_table now.cluster now.workload events region)) (range_with_len 0 m) ≡ map (λ (n : Node). shown n.here.table) (world_after now.cluster now.workload events).nodes) many
+        (by_number (λ region. shown (region_table now.cluster now.workload events region)) (λ (n : Node). shown n.here.table) (world_after now.cluster now.workload events).nodes 0 no_node
+        (λ i lt. let same : 0 + i ≡ i = omega arith in subst (λ r. shown (region_table now.cluster now.workload events r) ≡ shown (node_at (world_after now.cluster now.workload events) i).here.table) (sym same)
+        (ap shown (sym ((legal_agree now.cluster sound now.workload fits events legal).tables i (subst (λ m. i < m) many lt)))))))
+      where
+        many : length (world_after now.cluster now.workload events).nodes ≡ now.cluster.regions
+        many = (legal_keeps now.cluster sound now.workload fits events legal).nodes
+
+    pub ran_all : map (λ (r : Ran). r.id) (rans_of now.cluster now.workload events) ≡ order_of events
+    ran_all = all_are_ran now.cluster sound now.workload fits events legal
+
+    pub answered_all : map (λ (r : Reply). r.session) (replies_of now.cluster now.workload events) ≡ filter_map answered_name events
+    answered_all = all_are_answered now.cluster sound now.workload fits events legal
+
+    -- the sites of a world are those after events that lead to it
+    pub sites_after : steps < 4294967296 → AreSitesAfter cluster sessions.workload events sites
+    sites_after few = record {
+      valid = k.reached.run.sound;
+      fits = k.reached.run.fits;
+      legal = subst (λ (v : WorldView). AreLegal v.cluster v.workload events) (sym view) legal;
+      many = many_sites k;
+      stands = λ region lr. subst (λ w. StandsIn cluster.regions w region (site_at sites region)) led (k.stands region lr);
+      few = λ region lr. (let s = submitted_few k lr in omega (arith, s, few));
+    }
+      where
+        led : world_of sites (places_in sessions) ≡ world_after cluster sessions.workload events
+        led = subst (λ (v : WorldView). v.state ≡ world_after v.cluster v.workload events) (sym view) led_to

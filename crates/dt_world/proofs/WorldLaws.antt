@@ -22,7 +22,6 @@ use Rattle.dt_site.specs.SessionsStandIn.{SessionsStandIn, places_of}
 use Rattle.dt_site.specs.StandsIn.{IsReached, StandsIn}
 use Rattle.dt_site.proofs.Callers.{IsShort, Steps, after_more, inv, legal_short, many_here, order, others_stand, places_are, run_more, sessions_stay}
 use Rattle.dt_world.specs.WorldSessions.{WorldSessions, places_in}
-use Rattle.dt_world.specs.SessionReplay.{LedTo}
 use Rattle.dt_world.specs.WorldInner.{IsLawful, kept_in, sessions_of, site_at, view_in, world_of}
 use Rattle.dt_world.specs.WorldView.{Makes, WorldView, kept_next, made, takes_effect}
 use Rattle.dt_world.specs.declared.world.StepError.{StepError}
@@ -150,16 +149,6 @@ module _ {cluster : Cluster} {sessions : WorldSessions} {sites : List SiteView} 
     is = ap₂ (λ w (l : List (List Event)). record { cluster = cluster; workload = sessions.workload; state = w; kept = l; steps = steps + 1 }) (sym same)
         (sym (ap (λ b. cond b (set (map kept_in sites) (region_of event) (get_or (map kept_in sites) (region_of event) [] ++ event ∷ [])) (map kept_in sites)) effect));
   }
-
--- the events of a report lead to the world
-pub led_by : {cluster : Cluster} {sessions : WorldSessions} {sites : List SiteView} {steps : ℕ} → IsLawful cluster sessions sites steps → {now : WorldView} → view_in cluster sessions sites steps ≡ now
-    → {events : List Event} → AreLegal now.cluster now.workload events → now.state ≡ world_after now.cluster now.workload events → LedTo now events
-led_by k view legal reached = record {
-  valid = subst (λ (v : WorldView). IsValidCluster v.cluster) view k.reached.run.sound;
-  fits = subst (λ (v : WorldView). IsValidWorkload v.cluster v.workload) view k.reached.run.fits;
-  legal = legal;
-  reached = reached;
-}
 
 -- a site that a call reached through the list, by its fields
 

@@ -1,5 +1,7 @@
 pub mod WorldView
 pub mod WorldReport
+pub mod Telling
+pub mod TellingCode
 pub mod WorldInner
 pub mod WorldCode
 pub mod WorldSessions

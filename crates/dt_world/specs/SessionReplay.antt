@@ -1,18 +1,16 @@
--- What a report follows of the events, one after another. A world does not keep who was answered when; so a report plays
+-- What a report follows of the events, one after another. Sites do not keep who was answered when; so a report plays
 -- the events again, as far as they concern sessions: what each waits for, and how many attempts each region submitted.
 -- One learns here what is so followed, and what the report has after the first so many events. Only the private functions
--- of `World::report` cite this; read `WorldReport` for the report.
+-- of `report_of_sites` cite this; read `WorldReport` for the report.
 use Rattle.std.specs.Prelude.{◌≡◌, ◌+◌, ℕ, List, length, map, get_or, set, take, filter_map, Option, Some, None, option_map, option_and_then}
 use Rattle.dt_access.specs.Clash.{Bytes}
 use Rattle.dt_access.specs.declared.TxnId.{TxnId}
 use Rattle.dt_events.specs.declared.Event.{Event}
 use Rattle.dt_report.specs.declared.Ran.{Ran}
 use Rattle.dt_report.specs.declared.Reply.{Reply}
-use Rattle.dt_cluster.specs.Valid.{IsValidCluster}
-use Rattle.dt_workload.specs.Valid.{IsValidWorkload}
 use Rattle.dt_session.specs.World.{World, Submission, opening_world, outcome_at, submission_of}
-use Rattle.dt_session.specs.Run.{AreLegal, order_of, world_after}
-use Rattle.dt_world.specs.WorldView.{WorldView}
+use Rattle.dt_session.specs.Run.{order_of, world_after}
+use Rattle.dt_world.specs.Telling.{TellingView}
 use Rattle.dt_world.specs.WorldReport.{ran, ran_of, replies_from}
 
 -- what each session waits for, and how many attempts each region has submitted
@@ -44,24 +42,17 @@ after_reply c place = record c { waits = set c.waits place None }
 abbrev pub wait_at : SessionReplayView → ℕ → Option TxnId
 wait_at c place = get_or c.waits place None
 
--- these events lead to the world, of a valid cluster and workload
-pub record LedTo (view : WorldView) (events : List Event) : Type 0 where
-  pub valid : IsValidCluster view.cluster
-  pub fits : IsValidWorkload view.cluster view.workload
-  pub legal : AreLegal view.cluster view.workload events
-  pub reached : view.state ≡ world_after view.cluster view.workload events
-
 -- what is followed after the first so many of the events
-abbrev pub replay_at : WorldView → List Event → ℕ → SessionReplayView
-replay_at view events at = replay_of (world_after view.cluster view.workload (take at events))
+abbrev pub replay_at : TellingView → ℕ → SessionReplayView
+replay_at told at = replay_of (world_after told.cluster told.workload (take at told.events))
 
 -- the replies that the first so many of the events give
-abbrev pub replies_at : WorldView → List Event → ℕ → List Reply
-replies_at view events at = replies_from view.cluster view.workload events (opening_world view.cluster view.workload) (take at events)
+abbrev pub replies_at : TellingView → ℕ → List Reply
+replies_at told at = replies_from told.cluster told.workload told.events (opening_world told.cluster told.workload) (take at told.events)
 
 -- the executed attempts of the first so many of the events, in the serial order
-abbrev pub rans_at : WorldView → List Event → ℕ → List Ran
-rans_at view events at = filter_map (ran_of view.cluster view.workload events) (order_of (take at events))
+abbrev pub rans_at : TellingView → ℕ → List Ran
+rans_at told at = filter_map (ran_of told.cluster told.workload told.events) (order_of (take at told.events))
 
 -- an attempt with the outcome that a region keeps of it
 abbrev pub ran_at : World → ℕ → TxnId → Option Ran

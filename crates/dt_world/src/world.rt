@@ -18,19 +18,17 @@ ghost use Rattle.dt_session.specs.Sessions.{waits_of};
 ghost use Rattle.dt_session.specs.World.{is_session, opening_table};
 ghost use Rattle.dt_session.specs.Step.{IsLegal, next, rule_of};
 ghost use Rattle.dt_session.specs.Run.{AreLegal, order_of, world_after};
-ghost use Rattle.dt_agreement.specs.Invariant.{IsExecutedAt};
-ghost use Rattle.dt_world.specs.SessionReplay.{IsReply, LedTo, ran_at, rans_at, replay_at, replies_at};
 ghost use Rattle.dt_world.specs.WorldInner.{IsNextOf, MayBeTold, opening_sites};
-ghost use Rattle.dt_world.specs.WorldReport.{IsOutcomeOf, IsReplyOf, answered_name, report_of, replies_of, rans_of};
+ghost use Rattle.dt_world.specs.WorldReport.{IsOutcomeOf, IsReplyOf, answered_name, report_of};
 ghost use Rattle.dt_world.specs.WorldSessions.{opening_sessions};
 ghost use Rattle.dt_world.specs.WorldView.{Makes, kept_next, kept_after, opening_view, own_events};
 
-use crate::session_replay::SessionReplay;
+use crate::telling::report_of_sites;
 use dt_access::TxnId;
 use dt_cluster::Cluster;
 use dt_events::{Event, Stamped};
 use dt_region::Region;
-use dt_report::{EventList, Ran, Rans, Replies, Reply, Report, Tables};
+use dt_report::Report;
 use dt_sched::Scheduler;
 use dt_session::Sessions;
 use dt_site::{Origin, Site};
@@ -38,7 +36,6 @@ use dt_table::Table;
 use dt_text::{Name, NoMemory};
 use dt_txn::{Body, Entry, Outcome};
 use dt_workload::Workload;
-use indexmap::IndexSet;
 use std::alloc::Global;
 use std::marker::Model;
 
@@ -354,160 +351,16 @@ impl<S: Scheduler + Drop> World<S> {
         ensures replies { IfOk result (λ report. AllIn (IsReplyOf self.now.cluster.regions self.now.state) report.replies) }
         ensures tables { IfOk result (λ report. report.tables ≡ map (λ node. shown node.here.table) self.now.state.nodes) }
     {
-        let tables = tables(alloc, self.sites.as_slice())?;
-        Ok(Report {
-            replies: self.replies(alloc, events.as_slice())?,
-            order: self.order(alloc, events.as_slice())?,
-            tables,
-            events: EventList::from_vec(events),
-        })
-    }
-
-    /// The executed attempts, in the order of their first executions.
-    fn order(&self, alloc: Global, events: &[Event]) -> Result<Rans, NoMemory>
-        requires { LedTo self.now events.now }
-        ensures { IfOk result (λ order. order ≡ rans_of self.now.cluster self.now.workload events.now) }
-    {
-        let mut seen = IndexSet::new(alloc);
-        let mut order = Rans::new(alloc);
-        for at in 0..events.len() {
-            self.note(alloc, &mut seen, &mut order, events, at)?;
-        }
-        Ok(order)
-    }
-
-    /// Notes what an event executes, if it is the first to do so.
-    fn note(
-        &self,
-        alloc: Global,
-        seen: &mut IndexSet<TxnId>,
-        order: &mut Rans,
-        events: &[Event],
-        at: usize,
-    ) -> Result<(), NoMemory>
-        requires led { LedTo self.now events.now }
-        requires at { at < length events.now }
-        requires seen { seen.old.keys ≡ order_of (take at events.now) }
-        requires order { order.old ≡ rans_at self.now events.now at }
-        ensures seen { OnOk result (seen.new.keys ≡ order_of (take (at + 1) events.now)) }
-        ensures order { OnOk result (order.new ≡ rans_at self.now events.now (at + 1)) }
-    {
-        let Event::Execute { region, id } = &events[at] else {
-            return Ok(());
-        };
-        if seen.insert(*id)? {
-            order.push(self.ran(alloc, *region, *id)?)?;
-        }
-        Ok(())
-    }
-
-    /// An attempt that a region has executed, with its outcome.
-    fn ran(&self, alloc: Global, region: u8, id: TxnId) -> Result<Ran, NoMemory>
-        requires region { region < self.now.cluster.regions }
-        requires executed { IsExecutedAt self.now.state region id }
-        ensures { IfOk result (λ ran. ran_at self.now.state region id ≡ Some ran) }
-    {
-        let Some(outcome) = self.sites[region as usize].region.outcome(id) else {
-            unreachable!()
-        };
-        let origin = self.sites[id.region as usize].origin(id.seq);
-        Ok(Ran {
-            id,
-            session: origin.session.copy(alloc)?,
-            call: origin.call,
-            attempt: origin.attempt,
-            outcome: outcome.copy(alloc)?,
-        })
-    }
-
-    /// The answers that the events give, in their order.
-    fn replies(&self, alloc: Global, events: &[Event]) -> Result<Replies, NoMemory>
-        requires { LedTo self.now events.now }
-        ensures { IfOk result (λ replies. replies ≡ replies_of self.now.cluster self.now.workload events.now) }
-    {
-        let names = names_of(alloc, &self.workload)?;
-        let sessions = self.workload.sessions.len();
-        let mut replay = SessionReplay::new(alloc, sessions, self.cluster.regions)?;
-        let mut replies = Replies::new(alloc);
-        for at in 0..events.len() {
-            self.follow(alloc, &names, &mut replay, &mut replies, events, at)?;
-        }
-        Ok(replies)
-    }
-
-    /// Follows what an event does to sessions, and adds the reply that it gives, if it is an answer.
-    fn follow(
-        &self,
-        alloc: Global,
-        names: &IndexSet<Name>,
-        replay: &mut SessionReplay,
-        replies: &mut Replies,
-        events: &[Event],
-        at: usize,
-    ) -> Result<(), NoMemory>
-        requires led { LedTo self.now events.now }
-        requires at { at < length events.now }
-        requires names { names.now.keys ≡ session_names self.now.workload.sessions }
-        requires replay { replay.old ≡ replay_at self.now events.now at }
-        requires replies { replies.old ≡ replies_at self.now events.now at }
-        ensures replay { OnOk result (replay.new ≡ replay_at self.now events.now (at + 1)) }
-        ensures replies { OnOk result (replies.new ≡ replies_at self.now events.now (at + 1)) }
-    {
-        match &events[at] {
-            Event::Submit { region, session } => {
-                let Some(place) = self.find(names, *region, session) else {
-                    unreachable!()
-                };
-                // Names the steps, so that the proof has what is kept of their number.
-                let _steps = self.steps;
-                replay.submit(place, *region);
-                Ok(())
-            }
-            Event::Answer { region, session } => {
-                let Some(place) = self.find(names, *region, session) else {
-                    unreachable!()
-                };
-                let Some(id) = replay.waits(place) else {
-                    unreachable!()
-                };
-                let reply = self.reply(alloc, *region, session, id)?;
-                replay.answer(place);
-                replies.push(reply)
-            }
-            _ => Ok(()),
-        }
-    }
-
-    /// The place in the workload of the session of this name at a region, by the names of all sessions. `None` exactly where the
-    /// region has no such session.
-    fn find(&self, names: &IndexSet<Name>, region: u8, name: &Name) -> Option<usize>
-        requires names { names.now.keys ≡ session_names self.now.workload.sessions }
-        requires once { Distinct (session_names self.now.workload.sessions) }
-        ensures { result ≡ position (is_session region name.now) self.now.workload.sessions }
-    {
-        let place = names.get_index_of(name)?;
-        if self.workload.sessions.as_slice()[place].region != region {
-            return None;
-        }
-        Some(place)
-    }
-
-    /// The reply to a session of a region that waited for this attempt.
-    fn reply(&self, alloc: Global, region: u8, session: &Name, id: TxnId) -> Result<Reply, NoMemory>
-        requires region { region < self.now.cluster.regions }
-        requires own { id.region ≡ region }
-        requires executed { IsExecutedAt self.now.state region id }
-        ensures { IfOk result (λ reply. IsReply self.now.state region session.now id reply) }
-    {
-        let site = &self.sites[region as usize];
-        let Some(outcome) = site.region.outcome(id) else {
-            unreachable!()
-        };
-        Ok(Reply {
-            session: session.copy(alloc)?,
-            call: site.origin(id.seq).call,
-            outcome: outcome.copy(alloc)?,
-        })
+        // Names the steps, so that the proof has what is kept of their number.
+        let _steps = self.steps;
+        let sites = each_lent(alloc, self.sites.as_slice())?;
+        report_of_sites(
+            alloc,
+            &self.cluster,
+            &self.workload,
+            sites.as_slice(),
+            events,
+        )
     }
 }
 
@@ -538,18 +391,6 @@ fn last_outcome<'a, S: Scheduler>(
     region.outcome(sessions.waits(name)?)
 }
 
-/// The names of the sessions of a workload, in its order.
-fn names_of(alloc: Global, workload: &Workload) -> Result<IndexSet<Name>, NoMemory>
-    requires { Distinct (session_names workload.now.sessions) }
-    ensures { IfOk result (λ names. names.keys ≡ session_names workload.now.sessions) }
-{
-    let mut names = IndexSet::new(alloc);
-    for session in workload.sessions.as_slice() {
-        names.insert(session.name.copy(alloc)?)?;
-    }
-    Ok(names)
-}
-
 /// The sites of all regions of a cluster before anything happens, by number.
 fn sites<S: Scheduler + Drop>(alloc: Global, cluster: &Cluster) -> Result<Vec<Site<S>>, NoMemory>
     requires { IsValidCluster cluster.now }
@@ -564,15 +405,18 @@ fn sites<S: Scheduler + Drop>(alloc: Global, cluster: &Cluster) -> Result<Vec<Si
     Ok(sites)
 }
 
-/// The table of each region, as it is shown.
-fn tables<S: Scheduler + Drop>(alloc: Global, sites: &[Site<S>]) -> Result<Tables, NoMemory>
-    ensures { IfOk result (λ tables. tables ≡ map (λ site. shown site.region.state.here.table) sites.now) }
+/// Each of some sites, lent.
+fn each_lent<S: Scheduler + Drop>(
+    alloc: Global,
+    sites: &[Site<S>],
+) -> Result<Vec<&Site<S>>, NoMemory>
+    ensures { IfOk result (λ lent. map (λ site. site.now) lent.items ≡ sites.now) }
 {
-    let mut tables = Tables::new(alloc);
+    let mut lent = Vec::with_capacity(alloc, sites.len())?;
     for site in sites {
-        tables.push(site.region.table().shown(alloc)?)?;
+        lent.push(site)?;
     }
-    Ok(tables)
+    Ok(lent)
 }
 
 /// The table that every region has at first.

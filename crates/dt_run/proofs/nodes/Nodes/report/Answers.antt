@@ -1,32 +1,24 @@
-use Rattle.std.proofs.Common.{◌≡◌, ◌≤◌, false, IfOk, length, subst, sym}
+use Rattle.std.proofs.Common.{◌≡◌, ◌≤◌, false, Bor, IfOk, length, map, ap, subst, sym, ◌∙◌}
+use Rattle.dt_site.specs.Site.{SiteView}
 use Rattle.dt_run.specs.Done.{IsAllDone}
 use Rattle.dt_run.specs.NodesView.{NodesView, kept_by, marks_at}
 use Rattle.dt_run.specs.Run.{AreMerged, IsRunReport}
-use Rattle.dt_run.proofs.RunLaws.{merged_few, merged_run, report_told}
+use Rattle.dt_run.specs.SeatsInner.{SeatView}
+use Rattle.dt_run.proofs.KeptLists.{sites_by_nodes}
+use Rattle.dt_run.proofs.RunLaws.{report_told, sites_after}
 use Rattle.dt_run.proofs.nodes.Nodes.report.Goals as goal
 
-pub report_of-requires-clause-cluster : goal.report_of-requires-clause-cluster
-report_of-requires-clause-cluster g c = c.self.invariant.seated.nodes.cluster
-
-pub report_of-requires-clause-workload : goal.report_of-requires-clause-workload
-report_of-requires-clause-workload g c = c.self.invariant.seated.nodes.workload
-
-pub report_of-requires-clause-legal : goal.report_of-requires-clause-legal
-report_of-requires-clause-legal g c =
-    (merged_run c.self.invariant.seated.nodes (subst (λ (v : NodesView). v.broken ≡ false) (sym c.self.view_is) c.requires.sound)
-    (subst (λ (v : NodesView). 1 ≤ length (marks_at v 0)) (sym c.self.view_is) c.requires.phases) (subst IsAllDone (sym c.self.view_is) c.requires.done)
-    (subst (λ (v : NodesView). AreMerged (kept_by v.nodes) c.in_ok-events.events.items) (sym c.self.view_is) c.in_ok-events.ensures)).legal
-
-pub report_of-requires-clause-few : goal.report_of-requires-clause-few
-report_of-requires-clause-few g c =
-    merged_few c.self.invariant.seated.nodes (subst (λ (v : NodesView). v.broken ≡ false) (sym c.self.view_is) c.requires.sound)
+pub report_of_sites-requires : goal.report_of_sites-requires
+report_of_sites-requires g c =
+    sites_after c.self.invariant.seated.nodes (subst (λ (v : NodesView). v.broken ≡ false) (sym c.self.view_is) c.requires.sound)
     (subst (λ (v : NodesView). 1 ≤ length (marks_at v 0)) (sym c.self.view_is) c.requires.phases) (subst IsAllDone (sym c.self.view_is) c.requires.done)
     (subst (λ (v : NodesView). AreMerged (kept_by v.nodes) c.in_ok-events.events.items) (sym c.self.view_is) c.in_ok-events.ensures)
+    (ap (map (λ (site : Bor SiteView). site.now)) c.as_slice-2.ensures.value ∙ c.in_ok-sites.ensures ∙ ap (map (λ (s : SeatView). s.node.site)) c.as_slice.ensures.value ∙ sites_by_nodes _)
 
 pub returns : goal.returns
 returns g c =
-    subst (λ v. IfOk c.report_of.result (IsRunReport v)) c.self.view_is
+    subst (λ v. IfOk c.report_of_sites.result (IsRunReport v)) c.self.view_is
     (report_told c.self.invariant.seated.nodes (subst (λ (v : NodesView). v.broken ≡ false) (sym c.self.view_is) c.requires.sound)
     (subst (λ (v : NodesView). 1 ≤ length (marks_at v 0)) (sym c.self.view_is) c.requires.phases) (subst IsAllDone (sym c.self.view_is) c.requires.done)
     (subst (λ (v : NodesView). AreMerged (kept_by v.nodes) c.in_ok-events.events.items) (sym c.self.view_is) c.in_ok-events.ensures)
-    c.report_of.result c.report_of.ensures)
+    c.report_of_sites.result c.report_of_sites.ensures)

@@ -2,7 +2,7 @@ use Rattle.std.proofs.Common.{sym, ap, subst, ◌∙◌}
 use Rattle.dt_lists.specs.Lists.{Distinct}
 use Rattle.dt_workload.specs.Valid.{session_names}
 use Rattle.dt_world.proofs.PlacesOfNames.{index_more}
-use Rattle.dt_world.proofs.world.names_of.Goals as goal
+use Rattle.dt_world.proofs.telling.names_of.Goals as goal
 
 pub loop-session-preserved : goal.loop-session-preserved
 loop-session-preserved c = record {

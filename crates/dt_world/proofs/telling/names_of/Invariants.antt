@@ -1,6 +1,6 @@
 use Rattle.std.proofs.Common.{◌≡◌, take}
 use Rattle.dt_workload.specs.Valid.{session_names}
-use Rattle.dt_world.proofs.world.names_of.Given as goal
+use Rattle.dt_world.proofs.telling.names_of.Given as goal
 
 abbrev pub invariant-loop-session : goal.invariant-loop-session
 invariant-loop-session l = record {

@@ -1,7 +1,0 @@
-use Rattle.std.proofs.Common.{◌≡◌, map, take}
-use Rattle.dt_table.specs.Table.{shown}
-use Rattle.dt_site.specs.Site.{SiteView}
-use Rattle.dt_world.proofs.world.tables.Given as goal
-
-abbrev pub invariant-loop-site : goal.invariant-loop-site
-invariant-loop-site g l = l.tables ≡ map (λ (p : SiteView). shown p.region.state.here.table) (take l.site-index l.sites)

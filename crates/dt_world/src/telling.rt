@@ -1,0 +1,275 @@
+//! The report of events, told by the sites of all regions, each as it is after these events.
+//!
+//! Outcomes, whose an attempt is, and rows stand in the sites, so nothing is executed again. The events are gone through for
+//! the order of first executions, and to follow what each session waits for, which sites do not keep.
+ghost use Rattle.std.specs.Prelude.{◌≡◌, ◌+◌, ◌<◌, length, map, position, take, Some, IfOk, OnOk};
+ghost use Rattle.dt_lists.specs.Lists.{Distinct};
+ghost use Rattle.dt_table.specs.Table.{shown};
+ghost use Rattle.dt_workload.specs.Valid.{session_names};
+ghost use Rattle.dt_session.specs.World.{is_session};
+ghost use Rattle.dt_session.specs.Run.{order_of};
+ghost use Rattle.dt_agreement.specs.Invariant.{IsExecutedAt};
+ghost use Rattle.dt_world.specs.SessionReplay.{IsReply, ran_at, rans_at, replay_at, replies_at};
+ghost use Rattle.dt_world.specs.Telling.{AreSitesAfter, LedTo, world_told};
+ghost use Rattle.dt_world.specs.WorldReport.{report_of, replies_of, rans_of};
+
+use crate::session_replay::SessionReplay;
+use dt_access::TxnId;
+use dt_cluster::Cluster;
+use dt_events::Event;
+use dt_report::{EventList, Ran, Rans, Replies, Reply, Report, Tables};
+use dt_sched::Scheduler;
+use dt_site::Site;
+use dt_text::{Name, NoMemory};
+use dt_workload::Workload;
+use indexmap::IndexSet;
+use std::alloc::Global;
+use std::marker::Model;
+
+/// Events, and the sites of all regions, each as it is after these, with the cluster and the workload.
+#[derive(Drop)]
+pub struct Telling<'a, 'b, S: Scheduler + Drop> {
+    cluster: &'a Cluster,
+    workload: &'a Workload,
+    /// The site of each region, by its number.
+    sites: &'a [&'b Site<S>],
+    events: &'a [Event],
+}
+
+impl<'a, 'b, S: Scheduler + Drop> Model for Telling<'a, 'b, S> {
+    ghost use Rattle.dt_world.specs.Telling.{TellingView};
+    ghost use Rattle.dt_world.specs.TellingCode.{telling_code};
+
+    ghost Value = { TellingView };
+
+    ghost coded = { telling_code };
+
+    ghost use Rattle.std.specs.Prelude.{map};
+
+    ghost view = { λ t. record { cluster = t.cluster.now; workload = t.workload.now; sites = map (λ site. site.now) t.sites.now; events = t.events.now } };
+}
+
+/// The report of events, told by the sites of all regions, each as it is after them. The events become part of it.
+pub fn report_of_sites<S: Scheduler + Drop>(
+    alloc: Global,
+    cluster: &Cluster,
+    workload: &Workload,
+    sites: &[&Site<S>],
+    events: Vec<Event>,
+) -> Result<Report, NoMemory>
+    requires { AreSitesAfter cluster.now workload.now events.items (map (λ site. site.now) sites.now) }
+    ensures { IfOk result (λ report. report ≡ report_of cluster.now workload.now events.items) }
+{
+    let (replies, order) = replies_and_order(
+        alloc,
+        &*cluster,
+        &*workload,
+        &*sites,
+        events.as_slice(),
+    )?;
+    let tables = tables(alloc, sites)?;
+    Ok(Report {
+        replies,
+        order,
+        tables,
+        events: EventList::from_vec(events),
+    })
+}
+
+/// The replies that the events give, and the executed attempts in the serial order.
+fn replies_and_order<'a, 'b, S: Scheduler + Drop>(
+    alloc: Global,
+    cluster: &'a Cluster,
+    workload: &'a Workload,
+    sites: &'a [&'b Site<S>],
+    events: &'a [Event],
+) -> Result<(Replies, Rans), NoMemory>
+    requires { AreSitesAfter cluster.now workload.now events.now (map (λ site. site.now) sites.now) }
+    ensures replies { IfOk result (λ parts. parts.0 ≡ replies_of cluster.now workload.now events.now) }
+    ensures order { IfOk result (λ parts. parts.1 ≡ rans_of cluster.now workload.now events.now) }
+{
+    let telling = Telling {
+        cluster,
+        workload,
+        sites,
+        events,
+    };
+    Ok((telling.replies(alloc)?, telling.order(alloc)?))
+}
+
+impl<'a, 'b, S: Scheduler + Drop> Telling<'a, 'b, S> {
+    /// The executed attempts, in the order of their first executions.
+    fn order(&self, alloc: Global) -> Result<Rans, NoMemory>
+        requires { LedTo self.now }
+        ensures { IfOk result (λ order. order ≡ rans_of self.now.cluster self.now.workload self.now.events) }
+    {
+        let mut seen = IndexSet::new(alloc);
+        let mut order = Rans::new(alloc);
+        for at in 0..self.events.len() {
+            self.note(alloc, &mut seen, &mut order, self.events, at)?;
+        }
+        Ok(order)
+    }
+
+    /// Notes what an event executes, if it is the first to do so.
+    fn note(
+        &self,
+        alloc: Global,
+        seen: &mut IndexSet<TxnId>,
+        order: &mut Rans,
+        events: &[Event],
+        at: usize,
+    ) -> Result<(), NoMemory>
+        requires led { LedTo self.now }
+        requires events { events.now ≡ self.now.events }
+        requires at { at < length events.now }
+        requires seen { seen.old.keys ≡ order_of (take at self.now.events) }
+        requires order { order.old ≡ rans_at self.now at }
+        ensures seen { OnOk result (seen.new.keys ≡ order_of (take (at + 1) self.now.events)) }
+        ensures order { OnOk result (order.new ≡ rans_at self.now (at + 1)) }
+    {
+        let Event::Execute { region, id } = &events[at] else {
+            return Ok(());
+        };
+        if seen.insert(*id)? {
+            order.push(self.ran(alloc, *region, *id)?)?;
+        }
+        Ok(())
+    }
+
+    /// An attempt that a region has executed, with its outcome.
+    fn ran(&self, alloc: Global, region: u8, id: TxnId) -> Result<Ran, NoMemory>
+        requires led { LedTo self.now }
+        requires region { region < self.now.cluster.regions }
+        requires executed { IsExecutedAt (world_told self.now) region id }
+        ensures { IfOk result (λ ran. ran_at (world_told self.now) region id ≡ Some ran) }
+    {
+        let executing = self.sites[region as usize];
+        let Some(outcome) = executing.region.outcome(id) else {
+            unreachable!()
+        };
+        let asking = self.sites[id.region as usize];
+        let origin = asking.origin(id.seq);
+        Ok(Ran {
+            id,
+            session: origin.session.copy(alloc)?,
+            call: origin.call,
+            attempt: origin.attempt,
+            outcome: outcome.copy(alloc)?,
+        })
+    }
+
+    /// The answers that the events give, in their order.
+    fn replies(&self, alloc: Global) -> Result<Replies, NoMemory>
+        requires { LedTo self.now }
+        ensures { IfOk result (λ replies. replies ≡ replies_of self.now.cluster self.now.workload self.now.events) }
+    {
+        let names = names_of(alloc, self.workload)?;
+        let sessions = self.workload.sessions.len();
+        let mut replay = SessionReplay::new(alloc, sessions, self.cluster.regions)?;
+        let mut replies = Replies::new(alloc);
+        for at in 0..self.events.len() {
+            self.follow(alloc, &names, &mut replay, &mut replies, self.events, at)?;
+        }
+        Ok(replies)
+    }
+
+    /// Follows what an event does to sessions, and adds the reply that it gives, if it is an answer.
+    fn follow(
+        &self,
+        alloc: Global,
+        names: &IndexSet<Name>,
+        replay: &mut SessionReplay,
+        replies: &mut Replies,
+        events: &[Event],
+        at: usize,
+    ) -> Result<(), NoMemory>
+        requires led { LedTo self.now }
+        requires events { events.now ≡ self.now.events }
+        requires at { at < length events.now }
+        requires names { names.now.keys ≡ session_names self.now.workload.sessions }
+        requires replay { replay.old ≡ replay_at self.now at }
+        requires replies { replies.old ≡ replies_at self.now at }
+        ensures replay { OnOk result (replay.new ≡ replay_at self.now (at + 1)) }
+        ensures replies { OnOk result (replies.new ≡ replies_at self.now (at + 1)) }
+    {
+        match &events[at] {
+            Event::Submit { region, session } => {
+                let Some(place) = self.find(names, *region, session) else {
+                    unreachable!()
+                };
+                replay.submit(place, *region);
+                Ok(())
+            }
+            Event::Answer { region, session } => {
+                let Some(place) = self.find(names, *region, session) else {
+                    unreachable!()
+                };
+                let Some(id) = replay.waits(place) else {
+                    unreachable!()
+                };
+                let reply = self.reply(alloc, *region, session, id)?;
+                replay.answer(place);
+                replies.push(reply)
+            }
+            _ => Ok(()),
+        }
+    }
+
+    /// The place in the workload of the session of this name at a region, by the names of all sessions. `None` exactly where the
+    /// region has no such session.
+    fn find(&self, names: &IndexSet<Name>, region: u8, name: &Name) -> Option<usize>
+        requires names { names.now.keys ≡ session_names self.now.workload.sessions }
+        requires once { Distinct (session_names self.now.workload.sessions) }
+        ensures { result ≡ position (is_session region name.now) self.now.workload.sessions }
+    {
+        let place = names.get_index_of(name)?;
+        if self.workload.sessions.as_slice()[place].region != region {
+            return None;
+        }
+        Some(place)
+    }
+
+    /// The reply to a session of a region that waited for this attempt.
+    fn reply(&self, alloc: Global, region: u8, session: &Name, id: TxnId) -> Result<Reply, NoMemory>
+        requires led { LedTo self.now }
+        requires region { region < self.now.cluster.regions }
+        requires own { id.region ≡ region }
+        requires executed { IsExecutedAt (world_told self.now) region id }
+        ensures { IfOk result (λ reply. IsReply (world_told self.now) region session.now id reply) }
+    {
+        let site = self.sites[region as usize];
+        let Some(outcome) = site.region.outcome(id) else {
+            unreachable!()
+        };
+        Ok(Reply {
+            session: session.copy(alloc)?,
+            call: site.origin(id.seq).call,
+            outcome: outcome.copy(alloc)?,
+        })
+    }
+}
+
+/// The names of the sessions of a workload, in its order.
+fn names_of(alloc: Global, workload: &Workload) -> Result<IndexSet<Name>, NoMemory>
+    requires { Distinct (session_names workload.now.sessions) }
+    ensures { IfOk result (λ names. names.keys ≡ session_names workload.now.sessions) }
+{
+    let mut names = IndexSet::new(alloc);
+    for session in workload.sessions.as_slice() {
+        names.insert(session.name.copy(alloc)?)?;
+    }
+    Ok(names)
+}
+
+/// The table of each region, as it is shown.
+fn tables<S: Scheduler + Drop>(alloc: Global, sites: &[&Site<S>]) -> Result<Tables, NoMemory>
+    ensures { IfOk result (λ tables. tables ≡ map (λ site. shown site.now.region.state.here.table) sites.now) }
+{
+    let mut tables = Tables::new(alloc);
+    for region in 0..sites.len() {
+        let site = sites[region];
+        tables.push(site.region.table().shown(alloc)?)?;
+    }
+    Ok(tables)
+}
