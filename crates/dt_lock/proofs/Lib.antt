@@ -2,3 +2,4 @@ pub mod Touching
 pub mod HeldSteps
 pub mod Free
 pub mod Empty
+pub mod Crossing
