@@ -72,7 +72,7 @@ fn round_named<
     }
 }
 
-// Has the jobs done, by a thread each. Where no thread can be started, the calling one does what it would have done.
+// Has the jobs done, of a region that lies behind a lock for so long.
 fn by_threads<
     R: Threads + Wait + Sync,
     S: Scheduler + Drop + Send,
@@ -82,14 +82,48 @@ fn by_threads<
     requires { procs.now ≡ N.procs }
 {
     let lock = Mutex::new(held);
+    act_all(rt, alloc, &lock, jobs, procs, gate);
+    lock.into_inner()
+}
+
+// Has the jobs done, by a thread each. Where no thread can be started, the calling one does what it would have done.
+fn act_all<R: Threads + Wait + Sync, S: Scheduler + Drop + Send, N: Named + Send + Sync, G: Gate>(
+    rt: &R,
+    alloc: Global,
+    lock: &Mutex<Held<S, N>>,
+    jobs: Vec<Job<N>>,
+    procs: &Procs,
+    gate: &G,
+)
+    requires { procs.now ≡ N.procs }
+{
+    each_with(
+        rt,
+        lock,
+        jobs,
+        &|lock: &Mutex<Held<S, N>>, job: Job<N>| -> ()
+            requires { procs.now ≡ N.procs }
+        { act(rt, alloc, lock, job, procs, gate) },
+    );
+}
+
+// Calls with what lies behind a lock and each of these jobs, in a thread each. Where no thread can be started, the calling one
+// does it.
+fn each_with<R: Threads + Sync, T: Send, J: Send + Drop, F: Fn(&Mutex<T>, J) + Sync>(
+    rt: &R,
+    lock: &Mutex<T>,
+    jobs: Vec<J>,
+    call: &F,
+)
+    requires { F.IsAlwaysCallable call.now }
+{
     let _done = thread::map_vec(
         rt,
         jobs,
         &|job| -> ()
-            requires { procs.now ≡ N.procs }
-        { act(rt, alloc, &lock, job, procs, gate) },
+            requires { F.IsAlwaysCallable call.now }
+        { call(lock, job) },
     );
-    lock.into_inner()
 }
 
 // Takes the region out of its lock, and finishes the round on the calling thread.
