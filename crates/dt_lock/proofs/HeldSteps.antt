@@ -1,11 +1,11 @@
 -- Each step under the lock keeps what holds whenever the lock is free.
 use Rattle.std.proofs.Common.{◌≡◌, ◌≢◌, ◌<◌, ◌≤◌, ◌+◌, ◌-◌, ℕ, Bool, true, false, List, [], ◌∷◌, ◌++◌, length, map, max, Option, Some, None}
-use Rattle.std.proofs.Common.{Result, Ok, Err, refl, sym, ap, ap₂, subst, ◌∙◌, inl, inr, arith}
+use Rattle.std.proofs.Common.{Result, Ok, Err, refl, sym, ap, ap₂, subst, ◌∙◌, arith}
 use Rattle.std.proofs.lemmas.Bool.{false_from_ne_true}
 use Rattle.std.proofs.lemmas.List.{length-append, length-map}
 use Rattle.std.proofs.lemmas.Option.{same_Some}
 use Rattle.std.proofs.Math.Nat.{le-max_right}
-use Rattle.dt_lists.specs.Lists.{AllIn, EachThen, Has}
+use Rattle.dt_lists.specs.Lists.{Has}
 use Rattle.dt_lists.proofs.Callers.{all_get, all_map, all_more, filter_all, filter_each}
 use Rattle.dt_text.specs.declared.NoMemory.{NoMemory}
 use Rattle.dt_access.specs.Clash.{clash}
@@ -16,15 +16,14 @@ use Rattle.dt_events.specs.Events.{region_of}
 use Rattle.dt_sched.specs.Sched.{CanExecute, CanResolve}
 use Rattle.dt_serial.proofs.Callers.{seen_apart}
 use Rattle.dt_proc.specs.Tree.{ProcTree}
-use Rattle.dt_table.specs.Table.{Table}
 use Rattle.dt_txn.specs.declared.txn.Txn.{Txn}
 use Rattle.dt_txn.specs.declared.outcome.Seen.{Seen}
-use Rattle.dt_txn.specs.Transaction.{IsValid, used_of}
+use Rattle.dt_txn.specs.Transaction.{used_of}
 use Rattle.dt_txn.specs.Execution.{execution, one, see, seen_of}
 use Rattle.dt_txn.specs.Replica.{executed}
 use Rattle.dt_txn.specs.Serial.{after}
 use Rattle.dt_region.specs.Region.{RegionState, RegionView, held, sched_of}
-use Rattle.dt_region.specs.Rules.{MakesStep, MayMake, after_finishing, after_step, with_event}
+use Rattle.dt_region.specs.Rules.{MakesStep, after_finishing, after_step, with_event}
 use Rattle.dt_region.specs.Conditions.{ComesTo, HasRun}
 use Rattle.dt_region.specs.Sound.{IsSoundRegion}
 use Rattle.dt_region.proofs.Callers.{executable_held, execute_leaves, held_id, insert_leaves, resolve_leaves, step_sound}

@@ -1,4 +1,3 @@
 pub mod Touching
 pub mod HeldSteps
 pub mod Free
-pub mod Empty

@@ -1,6 +1,6 @@
 -- Lists of claims that are running: when one is taken off, and when two of them touch each other.
-use Rattle.std.proofs.Common.{◌≡◌, ◌≢◌, ◌≤◌, ◌+◌, ℕ, Bool, true, false, not, cond, List, [], ◌∷◌, ◌++◌, length, filter, refl, sym, ap, subst, ◌∙◌, inl, inr, arith}
-use Rattle.std.proofs.lemmas.Bool.{cases_Bool, false≢true}
+use Rattle.std.proofs.Common.{◌≡◌, ◌≢◌, ◌≤◌, ◌+◌, Bool, true, false, not, cond, List, [], ◌∷◌, ◌++◌, length, sym, ap, subst, ◌∙◌, inl, inr, arith}
+use Rattle.std.proofs.lemmas.Bool.{false≢true}
 use Rattle.dt_lists.specs.Lists.{AllIn, EachThen, Has}
 use Rattle.dt_lists.proofs.Callers.{all_get, all_map, all_put, any_put, each_append, of_filter}
 use Rattle.dt_access.specs.Ids.{same_id}

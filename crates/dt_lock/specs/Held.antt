@@ -3,7 +3,7 @@
 -- none. Of claims that are running the lock keeps that each may run now, that it saw what the rows still are, that no two
 -- of them touch each other, and that there is room to commit them all: so a commit is never refused, and needs no memory.
 -- Read `Claims` before. Read next: src/held.rt, the calls.
-use Rattle.std.specs.Prelude.{◌≡◌, ◌≢◌, ◌⊎◌, ◌≤◌, ◌+◌, ℕ, Bool, true, false, not, List, [], ◌∷◌, ◌++◌, map, filter, length, max, Option, Some, None, Result, Ok, Err}
+use Rattle.std.specs.Prelude.{◌≡◌, ◌≢◌, ◌⊎◌, ◌≤◌, ◌+◌, Bool, true, false, not, List, [], ◌∷◌, ◌++◌, map, filter, length, max, Option, Some, None, Result, Ok, Err}
 use Rattle.dt_lists.specs.Lists.{AllIn, AnyIn, EachThen, Has}
 use Rattle.dt_text.specs.declared.NoMemory.{NoMemory}
 use Rattle.dt_access.specs.Clash.{Bytes, clash}

@@ -1,7 +1,6 @@
 //! Runs of generated loads, whose calls are all answered and leave the sum of all accounts.
 use dt_gen::generate;
 use dt_graph::QueueSched;
-use dt_lock::NoGate;
 use dt_run::{Nodes, run};
 use dt_sum::row_sum;
 use std::alloc::Global;
@@ -16,7 +15,7 @@ fn told<R: Threads + Wait + Sync>(rt: &R, alloc: Global, calls: u32) -> Result<(
 {
     let (cluster, workload) = generate(alloc, calls)?;
     let mut nodes: Nodes<QueueSched> = Nodes::new(alloc, &cluster, &workload)?;
-    let report = run(rt, alloc, &mut nodes, &NoGate)?;
+    let report = run(rt, alloc, &mut nodes)?;
     let sum = match report.tables.as_slice().first() {
         Some(rows) => row_sum(rows.as_slice()),
         None => 0,

@@ -97,9 +97,9 @@ const REPEATS: [u32; 4] = [0, 1, 2, 3];
 
 /// A cluster of two regions with three tries and this plan.
 fn planned(alloc: Global, drop: u32, repeat: u32) -> Result<String, Fail> {
-    Ok(
-        format!(in alloc; "regions = 2\ntries = 3\ndrop = {drop}\nrepeat = {repeat}\n[rows]\na = 10\nb = 10\n")?,
-    )
+    Ok(format!(in alloc;
+        "regions = 2\ntries = 3\ndrop = {drop}\nrepeat = {repeat}\n[rows]\na = 10\nb = 10\n"
+    )?)
 }
 
 #[test]
@@ -108,7 +108,10 @@ fn two_transfers_are_done_after_few_phases_whatever_is_lost(rt: HostRuntime) -> 
         for repeat in REPEATS {
             let cluster = planned(rt.alloc(), drop, repeat)?;
             let (made, quiet) = phases_of(&rt, rt.alloc(), cluster.as_bytes(), TWO)?;
-            assert!(rt; made <= MOST && quiet <= 3, "drop {drop}, repeat {repeat}: {made} phases, {quiet} silent");
+            assert!(rt;
+                made <= MOST && quiet <= 3,
+                "drop {drop}, repeat {repeat}: {made} phases, {quiet} silent"
+            );
         }
     }
     Ok(())

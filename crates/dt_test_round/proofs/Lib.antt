@@ -1,3 +1,2 @@
 mod Delivered
 mod Opening
-pub mod Locked

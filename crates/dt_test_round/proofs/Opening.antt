@@ -52,9 +52,9 @@ nearly_inserted procs stamps home r later small fed makes =
     let more : latest_stamp next ≡ latest_stamp r + 1 = latest_more r (after_step [] r.state (Insert r.state.number home)) (Insert r.state.number home) in
     subst (IsNearlyFed procs (stamps + 1)) (sym makes.1) (record {
       can = record {
-          holds = fed.can.holds;
-          moves = fed.can.moves;
-          stamps = let a = fed.few in omega (arith, a, more, small);
-        };
+        holds = fed.can.holds;
+        moves = fed.can.moves;
+        stamps = let a = fed.few in omega (arith, a, more, small);
+      };
       few = let a = fed.few in omega (arith, a, more);
     })

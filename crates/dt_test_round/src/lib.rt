@@ -7,8 +7,4 @@ mod calls;
 #[cfg(test)]
 mod feeding;
 #[cfg(test)]
-mod locked;
-#[cfg(test)]
 mod rounds;
-#[cfg(test)]
-mod steps;

@@ -1,9 +1,8 @@
 use Rattle.std.proofs.Common.{◌≡◌, ◌+◌, [], ◌∷◌, ◌++◌, length, max, sym, ap, ap₂, subst, arith, ◌∙◌}
 use Rattle.dt_sched.specs.Sched.{CanExecute}
 use Rattle.dt_txn.specs.Execution.{see}
-use Rattle.dt_region.specs.Region.{RegionView, sched_of}
+use Rattle.dt_region.specs.Region.{sched_of}
 use Rattle.dt_region.proofs.Callers.{held_id}
-use Rattle.dt_lock.specs.declared.running.Running.{Running}
 use Rattle.dt_lock.specs.Held.{HeldView, IsBusy, IsClaimed}
 use Rattle.dt_lock.proofs.HeldSteps.{claim_noted, is_claim, is_claimed}
 use Rattle.dt_lock.proofs.held.Held.claim_id.Goals as goal

@@ -1,4 +1,4 @@
-use Rattle.std.proofs.Common.{◌≡◌, [], sym, subst}
+use Rattle.std.proofs.Common.{[], sym, subst}
 use Rattle.dt_region.specs.Region.{RegionView}
 use Rattle.dt_region.specs.Sound.{IsSoundRegion}
 use Rattle.dt_lock.specs.Held.{IsHeld}

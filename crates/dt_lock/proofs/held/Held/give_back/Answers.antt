@@ -1,5 +1,5 @@
-use Rattle.std.proofs.Common.{◌∙◌, sym, ap, subst}
-use Rattle.dt_lock.specs.Held.{IsHeld, without_claim}
+use Rattle.std.proofs.Common.{sym, subst}
+use Rattle.dt_lock.specs.Held.{IsHeld}
 use Rattle.dt_lock.proofs.HeldSteps.{taken_off}
 use Rattle.dt_lock.proofs.held.Held.give_back.Goals as goal
 
