@@ -1,4 +1,6 @@
 //! Runs of generated loads, whose calls are all answered and leave the sum of all accounts.
+ghost use Rattle.std.specs.Prelude.{◌≤◌};
+
 use dt_gen::generate;
 use dt_graph::QueueSched;
 use dt_run::{Nodes, run};
