@@ -6,7 +6,7 @@ import pathlib
 import re
 import sys
 
-MOST_READ = 600  # from which is concluded what a request is
+MOST_READ = 600  # events from which is inferred what a request is
 KINDS = "submit append deliver insert resolve execute answer".split()
 BUILT_IN = """
 proc put(k: text, v: int) write a = k; {} proc note(k: text, v: text) write a = k; {} proc get(k: text) read a = k; {}
