@@ -1,3 +1,5 @@
 pub mod Touching
 pub mod HeldSteps
 pub mod Free
+pub mod Empty
+pub mod Crossing
