@@ -1,11 +1,5 @@
 -- Procedures may be read by many threads at once: they hold nothing that changes. Trees hold themselves, so their case is cited.
-use mathlib.Core.List.{[], ◌∷◌}
-use mir.Syntax.{Sym}
-use denote.RattleType.{RattleType}
-use denote.Struct.Field.{row_field}
-use denote.Struct.Tuple.{TupleAt, type_at}
 use denote.Param.Send.{IsSync, sendable}
-use denote.Param.SendFields.{as_row_sync, declared_sync}
 use Rattle.std.proofs.Crossing.{crosses}
 use Rattle.dt_text.specs.contracts.listed.Listed as listed
 use Rattle.dt_text.specs.contracts.name.Name as name
@@ -46,9 +40,3 @@ proc_sync = search (name_sync, kinds_sync, decls_sync, stmts_sync, crosses, send
 
 pub procs_sync : IsSync procs.the_row
 procs_sync = search (proc_sync, crosses, sendable) depth 30
-
--- a closure that holds four values, each of which many threads may read at once
-pub four_sync : (ν : Sym) (A B C D : RattleType) → IsSync A → IsSync B → IsSync C → IsSync D → IsSync (TupleAt ν (A ∷ B ∷ C ∷ D ∷ []))
-four_sync ν A B C D a b c d =
-    declared_sync (type_at ν (A ∷ B ∷ C ∷ D ∷ []))
-    (as_row_sync (row_field A) a, (as_row_sync (row_field B) b, (as_row_sync (row_field C) c, (as_row_sync (row_field D) d, tt))))

@@ -3,3 +3,5 @@ pub mod HeldSteps
 pub mod Free
 pub mod Empty
 pub mod Crossing
+pub mod Captures
+pub mod Callers

@@ -1,3 +1,3 @@
 mod Delivered
 mod Opening
-pub mod Locked
+pub mod RoomLeft

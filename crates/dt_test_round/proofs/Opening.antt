@@ -1,9 +1,7 @@
 -- A region before anything happens, and one that was fed a few parts: it may make a round.
-use Rattle.std.proofs.Common.{◌≡◌, ◌<◌, ◌≤◌, ◌+◌, ◌^◌, ℕ, List, [], ◌∷◌, length, Ok, true, refl, sym, ap, subst, ◌∙◌, arith}
+use Rattle.std.proofs.Common.{◌≡◌, ◌<◌, ◌+◌, ◌^◌, ℕ, List, [], length, Ok, true, refl, sym, ap, subst, arith}
 use Rattle.std.proofs.lemmas.Option.{none-some}
 use Rattle.dt_lists.specs.Lists.{AllIn}
-use Rattle.dt_access.specs.Clash.{Bytes}
-use Rattle.dt_sched.specs.Sched.{parts_in}
 use Rattle.dt_proc.specs.Tree.{ProcTree}
 use Rattle.dt_table.specs.Table.{Table, counter_of, opening}
 use Rattle.dt_table.proofs.Callers.{moves_of-opening}

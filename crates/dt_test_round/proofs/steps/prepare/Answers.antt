@@ -1,6 +1,6 @@
 use Rattle.std.proofs.Common.{length}
 use Rattle.dt_test_round.proofs.Opening.{nearly_fed}
-use Rattle.dt_test_round.proofs.Locked.{can_still, has_room}
+use Rattle.dt_test_round.proofs.RoomLeft.{can_still, has_room}
 use Rattle.dt_test_round.proofs.steps.prepare.Goals as goal
 
 pub insert-requires : goal.insert-requires
