@@ -19,6 +19,7 @@ pub mod Crossing
 pub mod Finishing
 pub mod SitesAfter
 pub mod RunLaws
+pub mod RunsOn
 pub mod OpeningNodes
 pub mod Counting
 pub mod Planning

@@ -3,6 +3,7 @@ ghost use Rattle.dt_lists.specs.Lists.{AllIn, Pairwise};
 ghost use Rattle.dt_ring.specs.Rings.{SameIn, SameOut};
 ghost use Rattle.dt_node.specs.Sending.{HasSent};
 ghost use Rattle.dt_node.specs.Standing.{NodeStands};
+ghost use Rattle.dt_node.specs.Steps.{HasTurned};
 ghost use Rattle.dt_node.specs.Turn.{BeginsEagerly, HasTaken, IsSettled};
 ghost use Rattle.dt_run.specs.Phase.{TurnsOnce};
 ghost use Rattle.dt_run.specs.SeatsInner.{SeatCan, SeatGoes, SeatTurned, new_seat, seen_out, waits_in};
@@ -133,6 +134,7 @@ fn turn_node<S: Scheduler + Drop>(
     ensures ins { Pairwise SameIn ins.old ins.new }
     ensures outs { Pairwise SameOut outs.old outs.new }
     ensures emptied { OnOk result (flat_map waits_in ins.new ≡ []) }
+    ensures steps { OnOk result (HasTurned procs.now (flat_map waits_in ins.old) node.old node.new) }
     ensures taken { OnOk result (HasTaken (flat_map waits_in ins.old) node.old node.new) }
     ensures settled { OnOk result (IsSettled node.old node.new) }
     ensures begins { OnOk result (flat_map waits_in ins.old ≡ [] → BeginsEagerly procs.now node.old node.new) }
