@@ -1,5 +1,5 @@
 ghost use Rattle.std.specs.List.{range_with_len};
-ghost use Rattle.std.specs.Prelude.{◌≡◌, ◌↔◌, ◌≤◌, length, map, All, IfOk, OnErr, OnOk, IsTrue, IsFalse, false, true};
+ghost use Rattle.std.specs.Prelude.{◌≡◌, ◌↔◌, ◌<◌, ◌≤◌, length, map, All, IfOk, OnErr, OnOk, IsTrue, IsFalse, false, true};
 ghost use Rattle.dt_lists.specs.Lists.{AllIn};
 ghost use Rattle.dt_region.specs.Sound.{IsSoundRegion};
 ghost use Rattle.dt_node.specs.NodeView.{opening_node_of};
@@ -47,6 +47,8 @@ pub struct Nodes<S: Scheduler + Drop> {
     broken: bool,
     /// How far they have come.
     counts: Counts,
+    /// How many events the last phase has kept: so long the next one is taken to be.
+    grown: u64,
 }
 
 impl<S: Scheduler + Drop> Model for Nodes<S> {
@@ -79,6 +81,7 @@ impl<S: Scheduler + Drop> Nodes<S> {
             seats,
             broken: false,
             counts: Counts::none(),
+            grown: 0,
         })
     }
 
@@ -142,31 +145,53 @@ impl<S: Scheduler + Drop + Send> Nodes<S> {
         ensures broken { OnErr result (self.new.broken ≡ true) }
         ensures nodes { AreNodes self.new }
     {
-        turn_all(rt, alloc, self.seats.as_mut_slice(), &self.cluster.procs);
+        let threads = threads_for(self.grown);
+        turn_all(
+            rt,
+            alloc,
+            self.seats.as_mut_slice(),
+            &self.cluster.procs,
+            threads,
+        );
         if some_failed(self.seats.as_slice()) {
             self.broken = true;
             return Err(NoMemory);
         }
         beside_all(alloc, self.seats.as_mut_slice());
+        let kept = self.counts.kept;
         self.counts = self.counts.after(self.seats.as_slice());
+        self.grown = self.counts.kept.saturating_sub(kept);
         Ok(())
     }
 }
 
-/// One turn at every seat, each in a thread of its own where one can be made.
+/// So many events take the turns of a phase longer than threads for them take to start and to end.
+const MANY: u64 = 1024;
+
+/// In how many threads the turns of a phase are made, if it keeps about so many events: in two where it is short, as far as
+/// events tell, else in one for each region that there can be.
+fn threads_for(events: u64) -> usize
+    ensures { 0 < result }
+{
+    if events < MANY { 2 } else { 8 }
+}
+
+/// One turn at every seat, in so many threads where they can be made.
 fn turn_all<S: Scheduler + Drop + Send, R: Threads + Wait + Sync>(
     rt: &R,
     alloc: Global,
     seats: &mut [Seat<S>],
     procs: &Procs,
+    threads: usize,
 )
-    requires { All (SeatCan procs.now) seats.old }
+    requires threads { 0 < threads }
+    requires can { All (SeatCan procs.now) seats.old }
     ensures { EachGoes procs.now seats.old seats.new }
 {
     thread::for_each_mut(
         rt,
         seats,
-        8,
+        threads,
         &|_, seat: &mut Seat<S>|
             requires { SeatCan procs.now seat.now }
             ensures { SeatGoes procs.entry.now seat.entry.now seat.exit.now }

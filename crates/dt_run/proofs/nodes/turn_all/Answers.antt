@@ -10,7 +10,7 @@ pub for_each_mut-requires-sync-F : goal.for_each_mut-requires-sync-F
 for_each_mut-requires-sync-F g c κs within = search (procs_sync, crosses, sendable) depth 30
 
 pub for_each_mut-requires-clause-accepts : goal.for_each_mut-requires-clause-accepts
-for_each_mut-requires-clause-accepts g c κs within = λ i p lt is. subst (SeatCan c.args.procs.now) (sym is) (c.requires i p.now lt)
+for_each_mut-requires-clause-accepts g c κs within = λ i p lt is. subst (SeatCan c.args.procs.now) (sym is) (c.requires.can i p.now lt)
 
 pub returns : goal.returns
 returns g c = record { many = c.for_each_mut.auto.s; each = λ region lt. let w = (c.for_each_mut.ensures region no_seat lt).1 in went w.argument_is w.left w.call }
