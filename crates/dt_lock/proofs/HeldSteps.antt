@@ -197,7 +197,7 @@ pub found_running : (running given : List Running) (id : TxnId) (seen : List See
 found_running running given id seen claim e i s there =
     subst (λ l. Has l (as_running claim)) e (subst (λ x. Has given (record { id = x; seen = claim.seen })) i (subst (λ x. Has given (record { id = id; seen = x })) s there))
 
--- a class that the region was told is resolved
+-- a class that the region was given is resolved
 pub resolves_some : (r later : RegionView) (ids given : List TxnId) (on : Bool) → CanResolve (sched_of r.state.logs r.state.here) ids → given ≡ ids
     → MakesStep [] r (Resolve r.state.number given) (Ok on) later → MakesStep [] r (Resolve r.state.number ids) (Ok true) later
 resolves_some r later ids given true can same makes = subst (λ l. MakesStep [] r (Resolve r.state.number l) (Ok true) later) same makes

@@ -1,3 +1,7 @@
 pub mod Touching
 pub mod HeldSteps
 pub mod Free
+pub mod Empty
+pub mod Crossing
+pub mod Captures
+pub mod Callers

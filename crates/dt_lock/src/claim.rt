@@ -5,7 +5,7 @@ use dt_access::TxnId;
 use dt_proc::Procs;
 use dt_table::Effect;
 use dt_text::NoMemory;
-use dt_txn::{Outcome, Seens, Txn, execute_seen};
+use dt_txn::{Body, Outcome, Seens, Txn, execute_seen};
 use std::alloc::Global;
 use std::marker::{Model, PhantomData};
 
@@ -57,6 +57,14 @@ impl<N: Named> Claim<N> {
         ensures { result.now ≡ self.now.seen }
     {
         &self.seen
+    }
+
+    // How many statements its procedure has, by which a round judges whether it is worth a thread.
+    pub(crate) fn statements(&self, procs: &Procs) -> usize {
+        match &self.txn.body {
+            Body::Call(proc, _) => procs.get(*proc).map_or(0, |proc| proc.body().len()),
+            Body::Move(_, _) => 0,
+        }
     }
 
     /// Finds what the transaction comes to, by the procedures that `N` names, from what it saw; no lock is needed for it.

@@ -5,6 +5,11 @@ use dt_access::TxnId;
 pub trait Gate: Sync {
     /// Called with the id of what was worked, before it is committed.
     fn between(&self, id: TxnId);
+
+    /// Whether it may hold one worker until another comes. Then each claim gets a worker of its own, however short it is.
+    fn holds(&self) -> bool {
+        true
+    }
 }
 
 /// The gate that lets everyone pass.
@@ -13,4 +18,8 @@ pub struct NoGate;
 
 impl Gate for NoGate {
     fn between(&self, _id: TxnId) {}
+
+    fn holds(&self) -> bool {
+        false
+    }
 }

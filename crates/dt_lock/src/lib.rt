@@ -24,8 +24,10 @@ mod claim;
 mod clashes;
 mod gate;
 mod held;
+mod jobs;
 mod named;
 mod running;
+mod threaded;
 
 pub use by::By;
 pub use claim::{Claim, Finished};
@@ -33,3 +35,4 @@ pub use gate::{Gate, NoGate};
 pub use held::Held;
 pub use named::Named;
 pub use running::Running;
+pub use threaded::round;

@@ -1,2 +1,3 @@
 mod Delivered
 mod Opening
+pub mod Locked

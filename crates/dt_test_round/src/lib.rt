@@ -7,4 +7,8 @@ mod calls;
 #[cfg(test)]
 mod feeding;
 #[cfg(test)]
+mod locked;
+#[cfg(test)]
 mod rounds;
+#[cfg(test)]
+mod steps;

@@ -1,0 +1,42 @@
+-- Procedures may be read by many threads at once: they hold nothing that changes. Trees hold themselves, so their case is cited.
+use denote.Param.Send.{IsSync, sendable}
+use Rattle.std.proofs.Crossing.{crosses}
+use Rattle.dt_text.specs.contracts.listed.Listed as listed
+use Rattle.dt_text.specs.contracts.name.Name as name
+use Rattle.dt_text.specs.contracts.text.Str as str
+use Rattle.dt_syntax.specs.contracts.kinds.Kind as kind
+use Rattle.dt_proc.specs.contracts.procs.Proc as proc
+use Rattle.dt_proc.specs.contracts.procs.Procs as procs
+use Rattle.dt_proc.specs.contracts.tree.Expr as expr
+use Rattle.dt_proc.specs.contracts.tree.Give as give
+use Rattle.dt_proc.specs.contracts.tree.KeyDecl as decl
+use Rattle.dt_proc.specs.contracts.tree.Stmts as stmts
+use Rattle.dt_proc.proofs.tree.Expr.TheLaws.TheKnot.{sync-Expr}
+use Rattle.dt_proc.proofs.tree.Stmts.TheLaws.TheKnot.{sync-Stmts}
+
+str_sync : IsSync str.the_row
+str_sync = search (crosses, sendable) depth 30
+
+name_sync : IsSync name.the_row
+name_sync = search (crosses, sendable) depth 30
+
+kinds_sync : IsSync (listed.the_row kind.the_row)
+kinds_sync = search (crosses, sendable) depth 30
+
+decls_sync : IsSync (listed.the_row decl.the_row)
+decls_sync = search (crosses, sendable) depth 50 fits 10000
+
+expr_sync : IsSync expr.the_row
+expr_sync = search (sync-Expr, crosses, sendable) depth 40
+
+gives_sync : IsSync (listed.the_row give.the_row)
+gives_sync = search (sync-Expr, crosses, sendable) depth 100 fits 100000
+
+stmts_sync : IsSync stmts.the_row
+stmts_sync = search (expr_sync, str_sync, gives_sync, sync-Stmts, crosses, sendable) depth 20
+
+proc_sync : IsSync proc.the_row
+proc_sync = search (name_sync, kinds_sync, decls_sync, stmts_sync, crosses, sendable) depth 30
+
+pub procs_sync : IsSync procs.the_row
+procs_sync = search (proc_sync, crosses, sendable) depth 30
