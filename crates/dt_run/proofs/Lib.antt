@@ -15,7 +15,6 @@ pub mod RowBeside
 pub mod Linking
 pub mod SeatTurning
 pub mod SeatMaking
-pub mod Crossing
 pub mod Finishing
 pub mod SitesAfter
 pub mod RunLaws

@@ -7,6 +7,7 @@ ghost use Rattle.dt_run.specs.Run.{IsRunReport};
 ghost use Rattle.dt_run.specs.Silence.{MakesFewPhases};
 
 use crate::nodes::Nodes;
+use dt_lock::Gate;
 use dt_report::Report;
 use dt_sched::Scheduler;
 use dt_text::NoMemory;
@@ -18,10 +19,11 @@ use std::thread::Threads;
 /// that the nodes then hold, in the order of their stamps. It makes only so many phases, whatever packets are lost, so it returns
 /// if each of them does. It fails only for want of memory: in a phase, which the nodes then tell, and they are as after some
 /// phases, of which the last one was made in part; or for the report alone, when all is done. What was kept before stays.
-pub fn run<R: Threads + Wait + Sync, S: Scheduler + Drop + Send>(
+pub fn run<R: Threads + Wait + Sync, S: Scheduler + Drop + Send, G: Gate>(
     rt: &R,
     alloc: Global,
     nodes: &mut Nodes<S>,
+    gate: &G,
 ) -> Result<Report, NoMemory>
     requires { nodes.old.broken ≡ false }
     ensures nodes { AreNodes nodes.new }
@@ -35,7 +37,7 @@ pub fn run<R: Threads + Wait + Sync, S: Scheduler + Drop + Send>(
     ensures report { IfOk result (IsRunReport nodes.new) }
 {
     'phases: loop {
-        nodes.phase(rt, alloc)?;
+        nodes.phase(rt, alloc, gate)?;
         if nodes.finished() {
             return nodes.report(alloc);
         }
