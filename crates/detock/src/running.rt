@@ -13,6 +13,7 @@ use crate::words::RunWords;
 use dt_cluster::Cluster;
 use dt_gen::generate;
 use dt_graph::QueueSched;
+use dt_lock::NoGate;
 use dt_outside::Folder;
 use dt_report::{Report, print};
 use dt_run::{Nodes, run};
@@ -65,5 +66,5 @@ fn report_of_run<R: Threads + Wait + Sync>(
     ensures { IfOk result (IsReportOfRun cluster workload) }
 {
     let mut nodes: Nodes<QueueSched> = Nodes::new(alloc, &cluster, &workload)?;
-    run(rt, alloc, &mut nodes)
+    run(rt, alloc, &mut nodes, &NoGate)
 }

@@ -1,5 +1,5 @@
 -- Asking of each item of a list, one after another, whether it has something.
-use Rattle.std.proofs.Common.{◌≡◌, ◌<◌, ◌≤◌, ◌+◌, ◌↔◌, ℕ, zero, suc, List, [], ◌∷◌, length, take, get_or, sym, refl, subst, ◌∙◌, arith}
+use Rattle.std.proofs.Common.{◌≡◌, ◌<◌, ◌≤◌, ◌+◌, ℕ, zero, suc, List, [], ◌∷◌, length, take, get_or, sym, refl, subst, arith}
 use Rattle.dt_lists.specs.Lists.{AllIn}
 
 pub all_next : {A : Type 0} (P : A → Type 0) (xs : List A) (i : ℕ) (x : A) → x ≡ get_or xs i x → i < length xs → AllIn P (take i xs) → P x → AllIn P (take (i + 1) xs)

@@ -96,56 +96,49 @@ module _ {cluster : Cluster} (ok : IsValidCluster cluster) {workload : Workload}
 
   -- what a packet brought is there, wherever all is cut
   module _ (all : List Stamped) (p : Packet) (true_packet : IsTruePacket cluster workload all p) where
+    -- an event that takes something from another region is there wherever all is cut behind what the packet tells of that region
+    abbrev IsThere : Event → ℕ → ℕ → Type 0
+    IsThere event q stamp =
+        (p.source ≡ q) × (p.stamp < stamp) × ((front rest : List Stamped) → all ≡ front ++ rest → AreLater q p.stamp rest → IsSupplied (world_after cluster workload (events_of front)) event)
+
+    of_another : {Claim : Type 0} (mine other q : ℕ) → cond (eqb mine other) None (Some other) ≡ Some q → (mine ≢ other → other ≡ q → Claim) → Claim
+    of_another {Claim} mine other q from claim = go (eqb mine other) refl from
+      where
+        go : (t : Bool) → eqb mine other ≡ t → cond t None (Some other) ≡ Some q → Claim
+        go true e f = cc
+        go false e f = claim (λ s. let t : eqb mine other ≡ true = eq-eqb mine other s in cc) cc
+
     pub brought_there : (event : Event) (q stamp : ℕ) → source_of event ≡ Some q → IsBroughtBy (p ∷ []) stamp event
         → (p.source ≡ q) × (p.stamp < stamp) × ((front rest : List Stamped) → all ≡ front ++ rest → AreLater q p.stamp rest → IsSupplied (world_after cluster workload (events_of front)) event)
-    brought_there (Append home source number) q stamp from b = of_test (eqb home source) refl from
+    brought_there (Append home source number) q stamp from b = of_another home source q from (λ n is. by is (b n))
       where
-        of_test : (t : Bool) → eqb home source ≡ t → cond t None (Some source) ≡ Some q
-            → (p.source ≡ q) × (p.stamp < stamp) × ((front rest : List Stamped) → all ≡ front ++ rest → AreLater q p.stamp rest → IsSupplied (world_after cluster workload (events_of front)) (Append home source number))
-        of_test true e f = cc
-        of_test false e f =
-            let is : source ≡ q = cc in
-            let n : home ≢ source = λ s. let t : eqb home source ≡ true = eq-eqb home source s in cc in
-            by is (b n)
-          where
-            by : source ≡ q → AnyIn (BringsRequest home source number stamp) (p ∷ [])
-                → (p.source ≡ q) × (p.stamp < stamp) × ((front rest : List Stamped) → all ≡ front ++ rest → AreLater q p.stamp rest → IsSupplied (world_after cluster workload (events_of front)) (Append home source number))
-            by is (inr none) = absurd none
-            by is (inl r) = (
-              r.from_source ∙ is,
-              r.earlier,
-              λ front rest cut later.
-                  let told : IsToldOf (world_after cluster workload (events_of front)) p = true_packet.told front rest cut (subst (λ s. AreLater s p.stamp rest) (sym (r.from_source ∙ is)) later) in
-                  let far : p.asked_at + length p.asked ≤ length (asked_of (world_after cluster workload (events_of front)) p.source p.target) = told.asked_to in
-                  let near : number < p.asked_at + length p.asked = r.to in
-                  let lt : number < length (asked_of (world_after cluster workload (events_of front)) p.source p.target) = omega (arith, far, near) in
-                  subst (λ s. number < length (asked_of (world_after cluster workload (events_of front)) s home)) r.from_source
-                  (subst (λ t. number < length (asked_of (world_after cluster workload (events_of front)) p.source t)) r.to_home lt),
-            )
-    brought_there (Deliver region home first last) q stamp from b = of_test (eqb region home) refl from
+        by : source ≡ q → AnyIn (BringsRequest home source number stamp) (p ∷ []) → IsThere (Append home source number) q stamp
+        by is (inr none) = absurd none
+        by is (inl r) = (
+          r.from_source ∙ is,
+          r.earlier,
+          λ front rest cut later.
+              let told : IsToldOf (world_after cluster workload (events_of front)) p = true_packet.told front rest cut (subst (λ s. AreLater s p.stamp rest) (sym (r.from_source ∙ is)) later) in
+              let far : p.asked_at + length p.asked ≤ length (asked_of (world_after cluster workload (events_of front)) p.source p.target) = told.asked_to in
+              let near : number < p.asked_at + length p.asked = r.to in
+              let lt : number < length (asked_of (world_after cluster workload (events_of front)) p.source p.target) = omega (arith, far, near) in
+              subst (λ s. number < length (asked_of (world_after cluster workload (events_of front)) s home)) r.from_source
+              (subst (λ t. number < length (asked_of (world_after cluster workload (events_of front)) p.source t)) r.to_home lt),
+        )
+    brought_there (Deliver region home first last) q stamp from b = of_another region home q from (λ n is. by is (b n))
       where
-        of_test : (t : Bool) → eqb region home ≡ t → cond t None (Some home) ≡ Some q
-            → (p.source ≡ q) × (p.stamp < stamp) × ((front rest : List Stamped) → all ≡ front ++ rest → AreLater q p.stamp rest → IsSupplied (world_after cluster workload (events_of front)) (Deliver region home first last))
-        of_test true e f = cc
-        of_test false e f =
-            let is : home ≡ q = cc in
-            let n : region ≢ home = λ s. let t : eqb region home ≡ true = eq-eqb region home s in cc in
-            by is (b n)
-          where
-            by : home ≡ q → AnyIn (BringsEntries region home first last stamp) (p ∷ [])
-                → (p.source ≡ q) × (p.stamp < stamp) × ((front rest : List Stamped) → all ≡ front ++ rest
-                → AreLater q p.stamp rest → IsSupplied (world_after cluster workload (events_of front)) (Deliver region home first last))
-            by is (inr none) = absurd none
-            by is (inl r) = (
-              r.from_home ∙ is,
-              r.earlier,
-              λ front rest cut later.
-                  let told : IsToldOf (world_after cluster workload (events_of front)) p = true_packet.told front rest cut (subst (λ s. AreLater s p.stamp rest) (sym (r.from_home ∙ is)) later) in
-                  let far : p.log_at + length p.entries ≤ length (log_of (world_after cluster workload (events_of front)) p.source) = told.entries_to in
-                  let near : last ≡ p.log_at + length p.entries = r.to in
-                  let le : last ≤ length (log_of (world_after cluster workload (events_of front)) p.source) = omega (arith, far, near) in
-                  subst (λ s. last ≤ length (log_of (world_after cluster workload (events_of front)) s)) r.from_home le,
-            )
+        by : home ≡ q → AnyIn (BringsEntries region home first last stamp) (p ∷ []) → IsThere (Deliver region home first last) q stamp
+        by is (inr none) = absurd none
+        by is (inl r) = (
+          r.from_home ∙ is,
+          r.earlier,
+          λ front rest cut later.
+              let told : IsToldOf (world_after cluster workload (events_of front)) p = true_packet.told front rest cut (subst (λ s. AreLater s p.stamp rest) (sym (r.from_home ∙ is)) later) in
+              let far : p.log_at + length p.entries ≤ length (log_of (world_after cluster workload (events_of front)) p.source) = told.entries_to in
+              let near : last ≡ p.log_at + length p.entries = r.to in
+              let le : last ≤ length (log_of (world_after cluster workload (events_of front)) p.source) = omega (arith, far, near) in
+              subst (λ s. last ≤ length (log_of (world_after cluster workload (events_of front)) s)) r.from_home le,
+        )
     brought_there (Submit region name) q stamp from b = cc
     brought_there (Insert region home) q stamp from b = cc
     brought_there (Resolve region ids) q stamp from b = cc

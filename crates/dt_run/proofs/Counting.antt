@@ -1,5 +1,5 @@
 -- What a region has submitted and placed is as much as it kept events of submissions and of placings.
-use Rattle.std.proofs.Common.{◌≡◌, ◌≢◌, ◌<◌, ◌≤◌, ◌+◌, ◌⊎◌, ℕ, zero, suc, true, false, cond, eqb, leb, ltb, ◌&&◌, Bool, List, []}
+use Rattle.std.proofs.Common.{◌≡◌, ◌≢◌, ◌<◌, ◌+◌, ℕ, zero, suc, true, false, cond, eqb, leb, ltb, ◌&&◌, Bool, List, []}
 use Rattle.std.proofs.Common.{◌∷◌, ◌++◌, length, filter, get_or, replicate, Some, None, Option, refl, sym, ap, subst, ◌∙◌, inl, inr, arith, append-nil, eq-eqb, eqb-true}
 use Rattle.std.proofs.lemmas.Bool.{false_from_ne_true}
 use Rattle.std.proofs.lemmas.List.{length-append, length_push, map-append}
@@ -20,7 +20,7 @@ use Rattle.dt_workload.specs.Valid.{IsValidWorkload}
 use Rattle.dt_workload.specs.declared.Session.{Session}
 use Rattle.dt_workload.specs.declared.Workload.{Workload}
 use Rattle.dt_session.specs.World.{World, Node, Place, no_node, node_at, opening_node, opening_table, opening_world, received_of, session_at}
-use Rattle.dt_session.specs.Step.{IsLegal, MayAnswer, MaySubmit, answered, next, next_attempt, placed, received, submitted}
+use Rattle.dt_session.specs.Step.{IsLegal, MayAnswer, MaySubmit, answered, next, next_attempt, placed, received}
 use Rattle.dt_session.specs.Run.{AreLegal, world_after, world_from}
 use Rattle.dt_session.specs.Eager.{AllChange}
 use Rattle.dt_agreement.proofs.Callers.{Submits, append_cases, legal_more, submits, world_after_more}

@@ -15,10 +15,10 @@ pub mod RowBeside
 pub mod Linking
 pub mod SeatTurning
 pub mod SeatMaking
-pub mod Crossing
 pub mod Finishing
 pub mod SitesAfter
 pub mod RunLaws
+pub mod RunsOn
 pub mod OpeningNodes
 pub mod Counting
 pub mod Planning

@@ -107,13 +107,10 @@ merging_ends {kept} {left} {events} g none = record { merged = g.made; is = subs
 
 module _ (kept : List (List Stamped)) (below : ℕ) where
   -- the next list is empty
-  pub found_same : (found : Option (ℕ × ℕ)) → IsFoundIn kept below found → kept_at kept below ≡ [] → IsFoundIn kept (below + 1) found
-  found_same None f e = λ region lt. by region lt (either_nat region below)
-    where
-      by : (region : ℕ) → region < below + 1 → Either (region ≡ below) → kept_at kept region ≡ []
-      by region lt (inl is) = subst (λ q. kept_at kept q ≡ []) (sym is) e
-      by region lt (inr n) = f region (omega (arith, lt, n))
-  found_same (Some (region, stamp)) f e = record {
+  -- what was found first of some lists is so of one more, if that is empty or begins behind it
+  longer : {region stamp : ℕ} → IsLeastOf kept below region stamp
+      → ((y : Stamped) (ys : List Stamped) → kept_at kept below ≡ y ∷ ys → (stamp < y.stamp) ⊎ ((stamp ≡ y.stamp) × (region < below))) → IsLeastOf kept (below + 1) region stamp
+  longer {region} {stamp} f last = record {
     within = let lt = f.within in omega (arith, lt);
     first = f.first;
     rest = f.rest;
@@ -123,8 +120,16 @@ module _ (kept : List (List Stamped)) (below : ℕ) where
   }
     where
       by : (other : ℕ) (y : Stamped) (ys : List Stamped) → other < below + 1 → other ≢ region → kept_at kept other ≡ y ∷ ys → Either (other ≡ below) → (stamp < y.stamp) ⊎ ((stamp ≡ y.stamp) × (region < other))
-      by other y ys lt n k (inl is) = let none : [] ≡ y ∷ ys = sym e ∙ subst (λ q. kept_at kept q ≡ y ∷ ys) is k in cc
+      by other y ys lt n k (inl e) = subst (λ q. (stamp < y.stamp) ⊎ ((stamp ≡ y.stamp) × (region < q))) (sym e) (last y ys (subst (λ q. kept_at kept q ≡ y ∷ ys) e k))
       by other y ys lt n k (inr m) = f.least other y ys (omega (arith, lt, m)) n k
+
+  pub found_same : (found : Option (ℕ × ℕ)) → IsFoundIn kept below found → kept_at kept below ≡ [] → IsFoundIn kept (below + 1) found
+  found_same None f e = λ region lt. by region lt (either_nat region below)
+    where
+      by : (region : ℕ) → region < below + 1 → Either (region ≡ below) → kept_at kept region ≡ []
+      by region lt (inl is) = subst (λ q. kept_at kept q ≡ []) (sym is) e
+      by region lt (inr n) = f region (omega (arith, lt, n))
+  found_same (Some (region, stamp)) f e = longer f (λ y ys k. let none : [] ≡ y ∷ ys = sym e ∙ k in cc)
 
   module _ {x : Stamped} {rest : List Stamped} (is : kept_at kept below ≡ x ∷ rest) where
     head_is : (y : Stamped) (ys : List Stamped) → kept_at kept below ≡ y ∷ ys → x ≡ y
@@ -165,28 +170,13 @@ module _ (kept : List (List Stamped)) (below : ℕ) where
 
     -- it begins with no lower stamp
     pub found_still : {region stamp : ℕ} → IsFoundIn kept below (Some (region, stamp)) → stamp ≤ x.stamp → IsFoundIn kept (below + 1) (Some (region, stamp))
-    found_still {region} {stamp} f low = record {
-      within = let lt = f.within in omega (arith, lt);
-      first = f.first;
-      rest = f.rest;
-      is = f.is;
-      stamp_is = f.stamp_is;
-      least = λ other y ys lt n k. by other y ys lt n k (either_nat other below);
-    }
+    found_still {region} {stamp} f low = longer f (λ y ys k. upto y (subst (λ z. stamp ≤ z.stamp) (head_is y ys k) low))
       where
-        by : (other : ℕ) (y : Stamped) (ys : List Stamped) → other < below + 1 → other ≢ region → kept_at kept other ≡ y ∷ ys → Either (other ≡ below)
-            → (stamp < y.stamp) ⊎ ((stamp ≡ y.stamp) × (region < other))
-        by other y ys lt n k (inl e) = upto (subst (λ z. stamp ≤ z.stamp) (head_is y ys (subst (λ q. kept_at kept q ≡ y ∷ ys) e k)) low)
-          where
-            behind : region < other
-            behind = let w = f.within in omega (arith, w, e)
-
-            upto : stamp ≤ y.stamp → (stamp < y.stamp) ⊎ ((stamp ≡ y.stamp) × (region < other))
-            upto le = elim (either_nat stamp y.stamp) [
-              | inl s ↦ inr (s, behind)
-              | inr m ↦ inl (omega (arith, le, m))
-            ]
-        by other y ys lt n k (inr m) = f.least other y ys (omega (arith, lt, m)) n k
+        upto : (y : Stamped) → stamp ≤ y.stamp → (stamp < y.stamp) ⊎ ((stamp ≡ y.stamp) × (region < below))
+        upto y le = elim (either_nat stamp y.stamp) [
+          | inl s ↦ inr (s, f.within)
+          | inr m ↦ inl (omega (arith, le, m))
+        ]
 
 -- beyond the last list there is none
 pub none_beyond : (kept : List (List Stamped)) → IsFoundIn kept (length kept) None → IsLeast kept None

@@ -1,5 +1,5 @@
 -- Before anything happens the nodes of a cluster are as their type keeps them: no event was made, and nothing waits.
-use Rattle.std.proofs.Common.{◌≡◌, ◌≢◌, ◌<◌, ◌≤◌, ◌+◌, ◌^◌, ℕ, zero, suc, List, [], ◌∷◌, length, get_or, slice_get, replicate, Some, refl, sym, ap, subst, ◌∙◌, arith}
+use Rattle.std.proofs.Common.{◌≡◌, ◌<◌, ◌≤◌, ℕ, zero, suc, List, [], ◌∷◌, length, get_or, slice_get, replicate, Some, refl, sym, ap, subst, ◌∙◌, arith}
 use Rattle.std.specs.Prelude.{slice_index}
 use Rattle.dt_lists.specs.Lists.{EachThen}
 use Rattle.dt_events.specs.declared.Stamped.{Stamped}

@@ -1,5 +1,5 @@
 -- The merged events of nodes that are done are a legal run, eager and finished.
-use Rattle.std.proofs.Common.{◌≡◌, ◌≢◌, ◌<◌, ◌≤◌, ◌+◌, ◌⊎◌, ℕ, true, false, eqb, List, [], ◌∷◌, length, map, filter, Some, refl, sym, ap, subst, ◌∙◌, inl, inr, arith, eq-eqb}
+use Rattle.std.proofs.Common.{◌≡◌, ◌≢◌, ◌<◌, ◌≤◌, ◌⊎◌, ℕ, true, false, eqb, List, [], ◌∷◌, length, map, filter, Some, refl, sym, ap, subst, ◌∙◌, inl, inr, arith, eq-eqb}
 use Rattle.std.proofs.Common.{Result, Ok, Err, IfOk}
 use Rattle.std.proofs.lemmas.Bool.{cases_Bool, false_from_ne_true}
 use Rattle.dt_lists.specs.Lists.{AllIn, Distinct, Has, IsFront}
@@ -17,7 +17,7 @@ use Rattle.dt_session.specs.Finished.{AreAnswered}
 use Rattle.dt_session.specs.Run.{AreLegal, world_after}
 use Rattle.dt_session.specs.World.{World, Node, Place, is_session, node_at, opening_table, opening_world, session_at}
 use Rattle.dt_report.specs.declared.Report.{Report}
-use Rattle.dt_agreement.proofs.Callers.{legal_keeps, places_parallel, session_of_test, test_of_key}
+use Rattle.dt_agreement.proofs.Callers.{places_parallel, session_of_test, test_of_key}
 use Rattle.dt_merge.specs.Merge.{region_at, those_at}
 use Rattle.dt_merge.specs.WorldRegions.{HasInvariant}
 use Rattle.dt_site.specs.SessionsStandIn.{SessionsStandIn}

@@ -1,5 +1,5 @@
 -- A phase that did not fail: after the turns the ends of each link are brought beside each other, and all is in step again.
-use Rattle.std.proofs.Common.{◌≡◌, ◌≢◌, ◌<◌, ◌≤◌, ◌+◌, ℕ, zero, suc, false, Bool, List, [], ◌∷◌, ◌++◌, length, map, get_or, refl, sym, ap, subst, ◌∙◌, arith}
+use Rattle.std.proofs.Common.{◌≡◌, ◌≢◌, ◌<◌, ◌+◌, ℕ, zero, suc, false, Bool, List, [], ◌∷◌, ◌++◌, length, map, get_or, refl, sym, ap, subst, ◌∙◌, arith}
 use Rattle.std.specs.Prelude.{flat_map}
 use Rattle.std.proofs.lemmas.List.{length-map}
 use Rattle.dt_lists.specs.Lists.{Pairwise}
@@ -14,6 +14,7 @@ use Rattle.dt_cluster.specs.declared.Cluster.{Cluster}
 use Rattle.dt_workload.specs.declared.Workload.{Workload}
 use Rattle.dt_node.specs.NodeView.{NodeView, number_of, other_at, packet_for}
 use Rattle.dt_node.specs.Sending.{IsSentBy, copies_of, no_outlet}
+use Rattle.dt_node.specs.Steps.{HasTurned}
 use Rattle.dt_node.specs.Turn.{HasTaken, IsSettled}
 use Rattle.dt_run.specs.LinksInner.{BesideSoFar, LinkGoes, in_at, out_at}
 use Rattle.dt_run.specs.Marks.{plan_of}
@@ -216,6 +217,8 @@ module _ {cluster : Cluster} {workload : Workload} {seats seats' seats'' : List 
       let now : node_in v' region ≡ (seat_at seats' region).node = node_now region (at_seat region lr) in
       record {
         turns = ap (λ (m : NodeView). m.turns) now ∙ w.sent.turns ∙ ap (λ (m : NodeView). m.turns + 1) (sym was);
+        steps = subst (λ m. HasTurned cluster.procs (waiting_at v region) (node_in v region) m) (sym now) (subst (λ m. HasTurned cluster.procs (waiting_at v region) m (seat_at seats' region).node) (sym was)
+            (subst (λ l. HasTurned cluster.procs l (seat_at seats region).node (seat_at seats' region).node) (sym (waits_at region)) w.steps));
         taken = subst (λ m. HasTaken (waiting_at v region) (node_in v region) m) (sym now) (subst (λ m. HasTaken (waiting_at v region) m (seat_at seats' region).node) (sym was)
             (subst (λ l. HasTaken l (seat_at seats region).node (seat_at seats' region).node) (sym (waits_at region)) w.taken));
         settled = subst (λ m. IsSettled (node_in v region) m) (sym now) (subst (λ m. IsSettled m (seat_at seats' region).node) (sym was) w.settled);

@@ -1,10 +1,12 @@
 -- What a phase makes of all nodes. One learns here that every node makes one turn, by what waited for it and by nothing of this
 -- phase (`TurnsOnce`), and that, unless it fails for want of memory, one mark is added for each region, and on each link waits what
--- its source sent (`EndsInStep`). Read next: `Done`, for when no phase is left to make.
+-- its source sent (`EndsInStep`); and that no phase takes back what was kept (`KeepsEvents`). Read next: `Done`, for when no phase is left to make.
 use Rattle.std.specs.Prelude.{◌≡◌, ◌≢◌, ◌<◌, ◌+◌, ◌++◌, ◌∷◌, ℕ, List, [], length}
+use Rattle.dt_lists.specs.Lists.{IsFront}
 use Rattle.dt_packet.specs.declared.packet.Packet.{Packet}
 use Rattle.dt_proc.specs.Tree.{ProcTree}
 use Rattle.dt_node.specs.NodeView.{NodeView, new_items, packet_for}
+use Rattle.dt_node.specs.Steps.{HasTurned}
 use Rattle.dt_node.specs.Turn.{AreBrought, HasGone, HasTaken, IsSettled, StampsRise}
 use Rattle.dt_run.specs.Marks.{kept_by_region}
 use Rattle.dt_run.specs.NodesStand.{IsOnLink}
@@ -24,9 +26,11 @@ pub record IsPhase (before after : NodesView) : Type 0 where
   pub many : length after.nodes ≡ length before.nodes
   pub turns : (region : ℕ) → region < before.cluster.regions → TurnsOnce before.cluster.procs (waiting_at before region) (node_in before region) (node_in after region)
 
--- the node of a region made a whole turn: it took all that waited and left nothing to do by itself, and its mark is added
+-- the node of a region made a whole turn, by the steps of a turn in their order: it took all that waited and left nothing to do by
+-- itself, and its mark is added
 pub record TurnsWhole (before after : NodesView) (region : ℕ) : Type 0 where
   pub turns : (node_in after region).turns ≡ (node_in before region).turns + 1
+  pub steps : HasTurned before.cluster.procs (waiting_at before region) (node_in before region) (node_in after region)
   pub taken : HasTaken (waiting_at before region) (node_in before region) (node_in after region)
   pub settled : IsSettled (node_in before region) (node_in after region)
   pub marks : marks_at after region ≡ marks_at before region ++ length (kept_by_region after region) ∷ []
@@ -38,3 +42,8 @@ pub record EndsInStep (before after : NodesView) : Type 0 where
   -- what one node sent another in this phase waits now, as often as the plan says, and nothing else
   pub links : (source target : ℕ) → source < before.cluster.regions → target < before.cluster.regions → source ≢ target
       → IsOnLink after.cluster (node_in after source).turns (packet_for (node_in after source) target) (waiting_between after source target)
+
+-- phases were made, of which the last one may have failed: what each region had kept stays, and what it kept since stands behind
+pub record KeepsEvents (before after : NodesView) : Type 0 where
+  pub many : length after.nodes ≡ length before.nodes
+  pub each : (region : ℕ) → region < before.cluster.regions → IsFront (kept_by_region before region) (kept_by_region after region)

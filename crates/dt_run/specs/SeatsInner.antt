@@ -11,6 +11,7 @@ use Rattle.dt_workload.specs.declared.Workload.{Workload}
 use Rattle.dt_node.specs.NodeView.{NodeView}
 use Rattle.dt_node.specs.Sending.{HasSent}
 use Rattle.dt_node.specs.Standing.{NodeStands}
+use Rattle.dt_node.specs.Steps.{HasTurned}
 use Rattle.dt_node.specs.Turn.{BeginsEagerly, HasTaken, IsSettled}
 use Rattle.dt_run.specs.NodesStand.{AreNodes}
 use Rattle.dt_run.specs.NodesView.{NodesView, link_to, no_running_node}
@@ -87,6 +88,7 @@ pub record SeatCan (procs : List ProcTree) (s : SeatView) : Type 0 where
 -- a turn at a seat that did not fail
 pub record SeatTurned (procs : List ProcTree) (before after : SeatView) : Type 0 where
   pub emptied : flat_map waits_in after.ins ≡ []
+  pub steps : HasTurned procs (flat_map waits_in before.ins) before.node after.node
   pub taken : HasTaken (flat_map waits_in before.ins) before.node after.node
   pub settled : IsSettled before.node after.node
   pub begins : flat_map waits_in before.ins ≡ [] → BeginsEagerly procs before.node after.node

@@ -1,7 +1,9 @@
 ghost use Rattle.std.specs.List.{range_with_len};
-ghost use Rattle.std.specs.Prelude.{◌≡◌, ◌↔◌, ◌≤◌, length, map, All, IfOk, OnErr, OnOk, IsTrue, IsFalse, false, true};
+ghost use Rattle.std.specs.Prelude.{◌≡◌, ◌↔◌, ◌<◌, ◌≤◌, length, map, All, IfOk, OnErr, OnOk, IsTrue, IsFalse, false, true};
 ghost use Rattle.dt_lists.specs.Lists.{AllIn};
 ghost use Rattle.dt_region.specs.Sound.{IsSoundRegion};
+ghost use Rattle.dt_round.specs.Rounds.{CanRound, Continues};
+ghost use Rattle.dt_txn.specs.Replica.{IsDrained};
 ghost use Rattle.dt_node.specs.NodeView.{opening_node_of};
 ghost use Rattle.dt_cluster.specs.Valid.{IsValidCluster};
 ghost use Rattle.dt_workload.specs.Valid.{IsValidWorkload};
@@ -21,8 +23,10 @@ use crate::seat::Seat;
 use crate::sites::sites_of;
 use dt_cluster::Cluster;
 use dt_events::Event;
+use dt_lock::{By, Gate, round};
 use dt_node::Node;
 use dt_proc::Procs;
+use dt_region::Region;
 use dt_report::Report;
 use dt_sched::Scheduler;
 use dt_text::NoMemory;
@@ -47,6 +51,8 @@ pub struct Nodes<S: Scheduler + Drop> {
     broken: bool,
     /// How far they have come.
     counts: Counts,
+    /// How many events the last phase has kept: so long the next one is taken to be.
+    grown: u64,
 }
 
 impl<S: Scheduler + Drop> Model for Nodes<S> {
@@ -79,6 +85,7 @@ impl<S: Scheduler + Drop> Nodes<S> {
             seats,
             broken: false,
             counts: Counts::none(),
+            grown: 0,
         })
     }
 
@@ -131,9 +138,15 @@ impl<S: Scheduler + Drop> Nodes<S> {
 }
 
 impl<S: Scheduler + Drop + Send> Nodes<S> {
-    /// Runs one turn of every node, by a parallel call over the list of nodes. It fails only for want of memory; then some turns
+    /// Runs one turn of every node, by a parallel call over the list of nodes. Rounds are made by as many workers as the cluster
+    /// says, each of which passes the gate between its work and its commit. It fails only for want of memory; then some turns
     /// may be made in part, and links and marks are given up.
-    pub fn phase<R: Threads + Wait + Sync>(&mut self, rt: &R, alloc: Global) -> Result<(), NoMemory>
+    pub fn phase<R: Threads + Wait + Sync, G: Gate>(
+        &mut self,
+        rt: &R,
+        alloc: Global,
+        gate: &G,
+    ) -> Result<(), NoMemory>
         requires { self.old.broken ≡ false }
         ensures phase { IsPhase self.old self.new }
         ensures in_step { OnOk result (EndsInStep self.old self.new) }
@@ -142,38 +155,86 @@ impl<S: Scheduler + Drop + Send> Nodes<S> {
         ensures broken { OnErr result (self.new.broken ≡ true) }
         ensures nodes { AreNodes self.new }
     {
-        turn_all(rt, alloc, self.seats.as_mut_slice(), &self.cluster.procs);
+        let threads = threads_for(self.grown);
+        turn_all(
+            rt,
+            alloc,
+            self.seats.as_mut_slice(),
+            &self.cluster.procs,
+            self.cluster.workers,
+            gate,
+            threads,
+        );
         if some_failed(self.seats.as_slice()) {
             self.broken = true;
             return Err(NoMemory);
         }
         beside_all(alloc, self.seats.as_mut_slice());
+        let kept = self.counts.kept;
         self.counts = self.counts.after(self.seats.as_slice());
+        self.grown = self.counts.kept.saturating_sub(kept);
         Ok(())
     }
 }
 
-/// One turn at every seat, each in a thread of its own where one can be made.
-fn turn_all<S: Scheduler + Drop + Send, R: Threads + Wait + Sync>(
+/// So many events take the turns of a phase longer than threads for them take to start and to end.
+const MANY: u64 = 1024;
+
+/// In how many threads the turns of a phase are made, if it keeps about so many events: in two where it is short, as far as
+/// events tell, else in one for each region that there can be.
+fn threads_for(events: u64) -> usize
+    ensures { 0 < result }
+{
+    if events < MANY { 2 } else { 8 }
+}
+
+/// One turn at every seat, in so many threads where they can be made.
+fn turn_all<S: Scheduler + Drop + Send, R: Threads + Wait + Sync, G: Gate>(
     rt: &R,
     alloc: Global,
     seats: &mut [Seat<S>],
     procs: &Procs,
+    workers: u32,
+    gate: &G,
+    threads: usize,
 )
-    requires { All (SeatCan procs.now) seats.old }
+    requires threads { 0 < threads }
+    requires can { All (SeatCan procs.now) seats.old }
     ensures { EachGoes procs.now seats.old seats.new }
 {
     thread::for_each_mut(
         rt,
         seats,
-        8,
+        threads,
         &|_, seat: &mut Seat<S>|
             requires { SeatCan procs.now seat.now }
             ensures { SeatGoes procs.entry.now seat.entry.now seat.exit.now }
         {
-            seat.turn(alloc, procs);
+            turn_seat(rt, alloc, seat, procs, workers, gate);
         },
     );
+}
+
+/// One turn at a seat, with rounds of so many workers.
+fn turn_seat<S: Scheduler + Drop + Send, R: Threads + Wait + Sync, G: Gate>(
+    rt: &R,
+    alloc: Global,
+    seat: &mut Seat<S>,
+    procs: &Procs,
+    workers: u32,
+    gate: &G,
+)
+    requires { SeatCan procs.now seat.old }
+    ensures { SeatGoes procs.now seat.old seat.new }
+{
+    let rounds = By {
+        by: |alloc: Global, region: &mut Region<S>, procs: &Procs| -> Result<(), NoMemory>
+            requires { CanRound procs.now region.now }
+            ensures continues { Continues procs.now region.entry.now region.exit.now }
+            ensures drained { OnOk result (IsDrained region.exit.now.state.logs region.exit.now.state.here) }
+        { round(rt, alloc, region, procs, workers, gate) },
+    };
+    seat.turn(alloc, procs, &rounds);
 }
 
 /// Whether the last turn at some seat failed.

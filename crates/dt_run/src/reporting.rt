@@ -1,11 +1,13 @@
 //! The run itself.
-ghost use Rattle.std.specs.Prelude.{◌≡◌, false, IfOk, OnOk};
+ghost use Rattle.std.specs.Prelude.{◌≡◌, false, IfOk, OnErr, OnOk};
 ghost use Rattle.dt_run.specs.Done.{IsAllDone};
 ghost use Rattle.dt_run.specs.NodesStand.{AreNodes};
+ghost use Rattle.dt_run.specs.Phase.{KeepsEvents};
 ghost use Rattle.dt_run.specs.Run.{IsRunReport};
 ghost use Rattle.dt_run.specs.Silence.{MakesFewPhases};
 
 use crate::nodes::Nodes;
+use dt_lock::Gate;
 use dt_report::Report;
 use dt_sched::Scheduler;
 use dt_text::NoMemory;
@@ -15,23 +17,27 @@ use std::thread::Threads;
 
 /// Makes phases until every call is answered and every region has executed every attempt, and gives the report of the events
 /// that the nodes then hold, in the order of their stamps. It makes only so many phases, whatever packets are lost, so it returns
-/// if each of them does. It fails only for want of memory; then the nodes are as after some phases, of which the last one may
-/// have been made in part.
-pub fn run<R: Threads + Wait + Sync, S: Scheduler + Drop + Send>(
+/// if each of them does. It fails only for want of memory: in a phase, which the nodes then tell, and they are as after some
+/// phases, of which the last one was made in part; or for the report alone, when all is done. What was kept before stays.
+pub fn run<R: Threads + Wait + Sync, S: Scheduler + Drop + Send, G: Gate>(
     rt: &R,
     alloc: Global,
     nodes: &mut Nodes<S>,
+    gate: &G,
 ) -> Result<Report, NoMemory>
     requires { nodes.old.broken ≡ false }
     ensures nodes { AreNodes nodes.new }
     ensures cluster { nodes.new.cluster ≡ nodes.old.cluster }
     ensures workload { nodes.new.workload ≡ nodes.old.workload }
+    ensures kept { KeepsEvents nodes.old nodes.new }
+    ensures sound { OnOk result (nodes.new.broken ≡ false) }
     ensures done { OnOk result (IsAllDone nodes.new) }
+    ensures failed { OnErr result (nodes.new.broken ≡ false → IsAllDone nodes.new) }
     ensures phases { OnOk result (MakesFewPhases nodes.old nodes.new) }
     ensures report { IfOk result (IsRunReport nodes.new) }
 {
     'phases: loop {
-        nodes.phase(rt, alloc)?;
+        nodes.phase(rt, alloc, gate)?;
         if nodes.finished() {
             return nodes.report(alloc);
         }

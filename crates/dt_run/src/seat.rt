@@ -3,14 +3,16 @@ ghost use Rattle.dt_lists.specs.Lists.{AllIn, Pairwise};
 ghost use Rattle.dt_ring.specs.Rings.{SameIn, SameOut};
 ghost use Rattle.dt_node.specs.Sending.{HasSent};
 ghost use Rattle.dt_node.specs.Standing.{NodeStands};
+ghost use Rattle.dt_node.specs.Steps.{HasTurned};
 ghost use Rattle.dt_node.specs.Turn.{BeginsEagerly, HasTaken, IsSettled};
 ghost use Rattle.dt_run.specs.Phase.{TurnsOnce};
 ghost use Rattle.dt_run.specs.SeatsInner.{SeatCan, SeatGoes, SeatTurned, new_seat, seen_out, waits_in};
 
 use dt_node::Node;
 use dt_proc::Procs;
+use dt_region::Region;
 use dt_ring::{RingIn, RingOut};
-use dt_round::Alone;
+use dt_round::Rounds;
 use dt_sched::Scheduler;
 use dt_text::NoMemory;
 use std::alloc::Global;
@@ -87,18 +89,25 @@ impl<S: Scheduler + Drop> Seat<S> {
         self.outs = outs;
     }
 
-    /// Makes a turn, and notes whether it failed.
-    pub fn turn(&mut self, alloc: Global, procs: &Procs)
-        requires { SeatCan procs.now self.old }
+    /// Makes a turn, with rounds made so, and notes whether it failed.
+    pub fn turn<D: Rounds<Region<S>>>(&mut self, alloc: Global, procs: &Procs, rounds: &D)
+        requires ready { D.ready rounds.now }
+        requires can { SeatCan procs.now self.old }
         ensures { SeatGoes procs.now self.old self.new }
     {
-        let failed = self.make_turn(alloc, procs).is_err();
+        let failed = self.make_turn(alloc, procs, rounds).is_err();
         self.failed = failed;
     }
 
     /// Makes a turn, and adds a mark. It fails only for want of memory.
-    fn make_turn(&mut self, alloc: Global, procs: &Procs) -> Result<(), NoMemory>
-        requires { SeatCan procs.now self.old }
+    fn make_turn<D: Rounds<Region<S>>>(
+        &mut self,
+        alloc: Global,
+        procs: &Procs,
+        rounds: &D,
+    ) -> Result<(), NoMemory>
+        requires ready { D.ready rounds.now }
+        requires can { SeatCan procs.now self.old }
         ensures once { TurnsOnce procs.now (flat_map waits_in self.old.ins) self.old.node self.new.node }
         ensures ins { Pairwise SameIn self.old.ins self.new.ins }
         ensures outs { Pairwise SameOut self.old.outs self.new.outs }
@@ -108,6 +117,7 @@ impl<S: Scheduler + Drop> Seat<S> {
             &mut self.node,
             alloc,
             procs,
+            rounds,
             self.ins.as_mut_slice(),
             self.outs.as_mut_slice(),
         )?;
@@ -118,13 +128,15 @@ impl<S: Scheduler + Drop> Seat<S> {
 }
 
 /// Makes a turn of a node over the ends of its links. It fails only for want of memory.
-fn turn_node<S: Scheduler + Drop>(
+fn turn_node<S: Scheduler + Drop, D: Rounds<Region<S>>>(
     node: &mut Node<S>,
     alloc: Global,
     procs: &Procs,
+    rounds: &D,
     ins: &mut [RingIn],
     outs: &mut [RingOut],
 ) -> Result<(), NoMemory>
+    requires ready { D.ready rounds.now }
     requires stands { NodeStands procs.now (flat_map waits_in ins.old) node.old }
     requires ends { length outs.old + 1 ≡ node.old.site.region.state.regions }
     requires free { AllIn (λ out. 2 ≤ out.free) outs.old }
@@ -133,10 +145,11 @@ fn turn_node<S: Scheduler + Drop>(
     ensures ins { Pairwise SameIn ins.old ins.new }
     ensures outs { Pairwise SameOut outs.old outs.new }
     ensures emptied { OnOk result (flat_map waits_in ins.new ≡ []) }
+    ensures steps { OnOk result (HasTurned procs.now (flat_map waits_in ins.old) node.old node.new) }
     ensures taken { OnOk result (HasTaken (flat_map waits_in ins.old) node.old node.new) }
     ensures settled { OnOk result (IsSettled node.old node.new) }
     ensures begins { OnOk result (flat_map waits_in ins.old ≡ [] → BeginsEagerly procs.now node.old node.new) }
     ensures sent { OnOk result (HasSent node.old node.new (map seen_out outs.old) (map seen_out outs.new)) }
 {
-    node.turn(alloc, procs, &Alone, ins, outs)
+    node.turn(alloc, procs, rounds, ins, outs)
 }

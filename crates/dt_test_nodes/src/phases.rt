@@ -5,6 +5,7 @@ ghost use Rattle.dt_workload.specs.Valid.{IsValidWorkload};
 
 use dt_cluster::{Cluster, ClusterError, read_cluster};
 use dt_graph::QueueSched;
+use dt_lock::NoGate;
 use dt_run::Nodes;
 use dt_text::NoMemory;
 use dt_workload::{Workload, WorkloadError, read_workload};
@@ -58,7 +59,7 @@ fn go_on<R: Threads + Wait + Sync>(
 {
     let mut quiet = 0;
     for phase in 0..MOST {
-        nodes.phase(rt, alloc)?;
+        nodes.phase(rt, alloc, &NoGate)?;
         let counts = nodes.counts();
         if counts.made != phase + 1 {
             return Err(Fail::from("each phase is counted"));

@@ -5,8 +5,8 @@ use Rattle.dt_run.proofs.PhaseMade.{ends_apart, in_step_made, phase_failed, phas
 use Rattle.dt_run.proofs.PhaseRuns.{comes_to_an_end, failed_running, kept_fits, phase_counts, quiet_fits, running_now}
 use Rattle.dt_run.proofs.nodes.Nodes.phase.Goals as goal
 
-pub turn_all-requires-after_bounds : goal.turn_all-requires-after_bounds
-turn_all-requires-after_bounds g c κs within =
+pub turn_all-requires-clause-can : goal.turn_all-requires-clause-can
+turn_all-requires-clause-can g c κs within =
     let sound : c.self.inside.broken ≡ false = ap (λ (v : NodesView). v.broken) c.self.view_is ∙ c.requires in
     subst (All (SeatCan c.self.inside.cluster.procs)) (sym c.as_mut_slice.ensures.value) (seats_can c.self.invariant.seated sound)
 
