@@ -3,6 +3,7 @@ ghost use Rattle.std.specs.Prelude.{◌≤◌};
 
 use dt_gen::generate;
 use dt_graph::QueueSched;
+use dt_lock::NoGate;
 use dt_run::{Nodes, run};
 use dt_sum::row_sum;
 use std::alloc::Global;
@@ -17,7 +18,7 @@ fn told<R: Threads + Wait + Sync>(rt: &R, alloc: Global, calls: u32) -> Result<(
 {
     let (cluster, workload) = generate(alloc, calls)?;
     let mut nodes: Nodes<QueueSched> = Nodes::new(alloc, &cluster, &workload)?;
-    let report = run(rt, alloc, &mut nodes)?;
+    let report = run(rt, alloc, &mut nodes, &NoGate)?;
     let sum = match report.tables.as_slice().first() {
         Some(rows) => row_sum(rows.as_slice()),
         None => 0,

@@ -6,3 +6,5 @@
 mod generated;
 #[cfg(test)]
 mod phases;
+#[cfg(test)]
+mod workers;

@@ -21,7 +21,7 @@ const MANY: usize = 1000000;
 const MOST: u64 = 388;
 
 /// The cluster of a file.
-fn cluster_of(alloc: Global, file: &[u8]) -> Result<Cluster, Fail>
+pub fn cluster_of(alloc: Global, file: &[u8]) -> Result<Cluster, Fail>
     ensures { IfOk result IsValidCluster }
 {
     if file.len() >= MANY {
@@ -35,7 +35,7 @@ fn cluster_of(alloc: Global, file: &[u8]) -> Result<Cluster, Fail>
 }
 
 /// The workload of a file.
-fn workload_of(alloc: Global, cluster: &Cluster, file: &[u8]) -> Result<Workload, Fail>
+pub fn workload_of(alloc: Global, cluster: &Cluster, file: &[u8]) -> Result<Workload, Fail>
     requires { IsValidCluster cluster.now }
     ensures { IfOk result (IsValidWorkload cluster.now) }
 {
