@@ -3,8 +3,8 @@
 #![tactic(auto)]
 
 #[cfg(test)]
-mod gates;
-#[cfg(test)]
 mod generated;
 #[cfg(test)]
 mod phases;
+#[cfg(test)]
+mod workers;
