@@ -178,7 +178,7 @@ impl<S: Scheduler + Drop + Send> Nodes<S> {
 }
 
 /// So many events take the turns of a phase longer than threads for them take to start and to end.
-const MANY: u64 = 128;
+const MANY: u64 = 1024;
 
 /// In how many threads the turns of a phase are made, if it keeps about so many events: in two where it is short, as far as
 /// events tell, else in one for each region that there can be.
