@@ -42,6 +42,11 @@ is_named name other = is_eq (slice_cmp nat_cmp name other)
 abbrev pub seat_of : SessionsView → Bytes → Option Seat
 seat_of s name = lookup (is_named name) s.seats
 
+-- a place in byte order of names at which the session of a name stands, or none, where it is not here
+abbrev pub IsPlaceOf : SessionsView → Bytes → Option ℕ → Type 0
+IsPlaceOf s name None = seat_of s name ≡ None
+IsPlaceOf s name (Some place) = (seat : Seat) × (slice_get s.seats place ≡ Some (name, seat)) × (seat_of s name ≡ Some seat)
+
 -- the attempt that a session waits for, if it does, with the outcome that it is told to have
 abbrev pub awaited_in : Seat → Option Outcome → Option Awaited
 awaited_in seat last = option_map (λ w. record { attempt = w.attempt; outcome = last }) seat.waits
@@ -99,9 +104,13 @@ after_wait s name id = with_changed (λ seat. waiting seat id) s name (seat_of s
 abbrev pub after_answer : SessionsView → Bytes → SessionsView
 after_answer s name = with_changed answered_seat s name (seat_of s name)
 
+-- the attempt that a session waits for; none exactly where it is idle
+abbrev pub waits_in : Seat → Option TxnId
+waits_in seat = option_map (λ (w : Waiting). w.id) seat.waits
+
 -- the attempt that the session of a name waits for; none exactly where it is idle or not here
 abbrev pub waits_of : SessionsView → Bytes → Option TxnId
-waits_of s name = option_and_then (λ (seat : Seat). option_map (λ (w : Waiting). w.id) seat.waits) (seat_of s name)
+waits_of s name = option_and_then waits_in (seat_of s name)
 
 -- the call of this number, from 1, of the session of a name, with its rank, if there are both
 abbrev pub wanted_of : SessionsView → Bytes → ℕ → Option Ranked
