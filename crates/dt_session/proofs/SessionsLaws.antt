@@ -31,7 +31,7 @@ use Rattle.dt_workload.specs.declared.Ranked.{Ranked}
 use Rattle.dt_session.specs.declared.sessions.Seat.{Seat}
 use Rattle.dt_session.specs.Eager.{sessions_at, with_session}
 use Rattle.dt_session.specs.declared.sessions.Waiting.{Waiting}
-use Rattle.dt_session.specs.Sessions.{AreAllAnswered, AreSoundSeats, EachNameIsAnswered, IsPlaceOf, IsSoundSeat, MayBeAnswered, MayGo, MaySeatEnd, MaySeatTry, SessionsView, StandsWithin, attempt_next, idle_seat, is_named, numbers_next, seat_of}
+use Rattle.dt_session.specs.Sessions.{AreAllAnswered, AreSoundSeats, EachNameIsAnswered, IsPlaceOf, IsSoundSeat, MayBeAnswered, MayGo, MaySeatEnd, MaySeatTry, SessionsView, StandsWithin, attempt_next, idle_seat, is_named, numbers_next, seat_of, waits_of}
 use Rattle.dt_session.specs.World.{Place, idle_place, session_at}
 use Rattle.dt_session.specs.Tries.{Awaited, IsLast, MayEnd, MayTry, body_of, ranked_body}
 
@@ -192,6 +192,16 @@ name_finds s index o a e = ap (option_and_then (seat_of s)) (e ∙ get_name s.se
     go : (p : Option (Bytes × Seat)) → slice_get s.seats index ≡ p → option_and_then (seat_of s) (option_map (λ q. q.0) p) ≡ option_map (λ q. q.1) p
     go None is = refl
     go (Some p) is = finds_own s.seats p a (has_place s.seats index p is)
+
+-- the session of the name at a place is the one that stands there
+pub waits_there : (s : SessionsView) (index : ℕ) (p : Option (Bytes × Seat)) → HasAscendingKeys s.seats → slice_get s.seats index ≡ p
+    → option_and_then (waits_of s) (slice_get (map (λ q. q.0) s.seats) index) ≡ option_and_then (λ (q : Bytes × Seat). option_map (λ (w : Waiting). w.id) q.1.waits) p
+waits_there s index p a e = ap (option_and_then (waits_of s)) (get_name s.seats index ∙ ap (option_map (λ q. q.0)) e) ∙ go p e
+  where
+    go : (o : Option (Bytes × Seat)) → slice_get s.seats index ≡ o
+        → option_and_then (waits_of s) (option_map (λ q. q.0) o) ≡ option_and_then (λ (q : Bytes × Seat). option_map (λ (w : Waiting). w.id) q.1.waits) o
+    go None is = refl
+    go (Some q) is = ap (option_and_then (λ (seat : Seat). option_map (λ (w : Waiting). w.id) seat.waits)) (finds_own s.seats q a (has_place s.seats index q is))
 
 -- what halving finds is the place of a name
 

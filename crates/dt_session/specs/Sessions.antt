@@ -104,13 +104,9 @@ after_wait s name id = with_changed (λ seat. waiting seat id) s name (seat_of s
 abbrev pub after_answer : SessionsView → Bytes → SessionsView
 after_answer s name = with_changed answered_seat s name (seat_of s name)
 
--- the attempt that a session waits for; none exactly where it is idle
-abbrev pub waits_in : Seat → Option TxnId
-waits_in seat = option_map (λ (w : Waiting). w.id) seat.waits
-
 -- the attempt that the session of a name waits for; none exactly where it is idle or not here
 abbrev pub waits_of : SessionsView → Bytes → Option TxnId
-waits_of s name = option_and_then waits_in (seat_of s name)
+waits_of s name = option_and_then (λ (seat : Seat). option_map (λ (w : Waiting). w.id) seat.waits) (seat_of s name)
 
 -- the call of this number, from 1, of the session of a name, with its rank, if there are both
 abbrev pub wanted_of : SessionsView → Bytes → ℕ → Option Ranked

@@ -3,7 +3,7 @@ ghost use Rattle.std.specs.Option.{option_copied};
 ghost use Rattle.dt_lists.specs.Lists.{Distinct};
 ghost use Rattle.dt_access.specs.Orders.{HasAscendingKeys};
 ghost use Rattle.dt_workload.specs.Valid.{calls_in, session_names};
-ghost use Rattle.dt_session.specs.Sessions.{AreAllAnswered, AreSoundSeats, EachNameIsAnswered, IsNext, IsPlaceOf, MayBeAnswered, MayGo, after_answer, after_wait, all_idle, seat_of, waits_in, waits_of, wanted_of};
+ghost use Rattle.dt_session.specs.Sessions.{AreAllAnswered, AreSoundSeats, EachNameIsAnswered, IsNext, IsPlaceOf, MayBeAnswered, MayGo, after_answer, after_wait, all_idle, seat_of, waits_of, wanted_of};
 ghost use Rattle.dt_session.specs.Tries.{IsLast, IsStale, body_of, ranked_body};
 
 use dt_access::{TryCopy, TxnId};
@@ -138,8 +138,7 @@ impl Sessions {
     pub fn waits(&self, session: &Name) -> Option<TxnId>
         ensures { result ≡ waits_of self.now session.now }
     {
-        let waiting = self.seat(session)?.waits?;
-        Some(waiting.id)
+        waited_for(self.seat(session)?)
     }
 
     /// The rank of the call of this number, from 1, of the session of this name, and what it is to do.
@@ -169,11 +168,10 @@ impl Sessions {
     /// The attempt that the session at this place, from 0, in byte order of names, waits for. `None` exactly where it is idle or
     /// not here.
     pub fn waits_at(&self, index: u32) -> Option<TxnId>
-        ensures { result ≡ option_and_then waits_in (option_map (λ p. p.1) (slice_get self.now.seats index)) }
+        ensures { result ≡ option_and_then (waits_of self.now) (slice_get (map (λ p. p.0) self.now.seats) index) }
     {
         let (_, seat) = self.seats.get(index as usize)?;
-        let waiting = seat.waits?;
-        Some(waiting.id)
+        waited_for(seat)
     }
 
     /// Whether every call of every session is answered, so of each session that a name finds.
@@ -229,6 +227,14 @@ fn listed(alloc: Global, seats: BTreeMap<Name, Seat>) -> Result<Vec<(Name, Seat)
         listed.push(seat)?;
     }
     Ok(listed)
+}
+
+/// The attempt that a session waits for, if it does.
+fn waited_for(seat: &Seat) -> Option<TxnId>
+    ensures { result ≡ option_map (λ w. w.id) seat.now.waits }
+{
+    let waiting = seat.waits?;
+    Some(waiting.id)
 }
 
 /// What a call or a move of a workload is to do.
