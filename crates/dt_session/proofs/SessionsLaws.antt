@@ -31,7 +31,8 @@ use Rattle.dt_workload.specs.declared.Ranked.{Ranked}
 use Rattle.dt_session.specs.declared.sessions.Seat.{Seat}
 use Rattle.dt_session.specs.Eager.{sessions_at, with_session}
 use Rattle.dt_session.specs.declared.sessions.Waiting.{Waiting}
-use Rattle.dt_session.specs.Sessions.{AreAllAnswered, AreSoundSeats, EachNameIsAnswered, IsPlaceOf, IsSoundSeat, MayBeAnswered, MayGo, MaySeatEnd, MaySeatTry, SessionsView, StandsWithin, attempt_next, idle_seat, is_named, numbers_next, seat_of, waits_of}
+use Rattle.dt_session.specs.Sessions.{AreAllAnswered, AreSoundSeats, EachNameIsAnswered, IsSeatAt, IsSoundSeat, MayBeAnswered, MayGo}
+use Rattle.dt_session.specs.Sessions.{MaySeatEnd, MaySeatTry, SessionsView, StandsWithin, attempt_next, idle_seat, is_named, numbers_next, seat_of, waits_of}
 use Rattle.dt_session.specs.World.{Place, idle_place, session_at}
 use Rattle.dt_session.specs.Tries.{Awaited, IsLast, MayEnd, MayTry, body_of, ranked_body}
 
@@ -225,16 +226,16 @@ not_found (p ∷ entries) name other = go (cases_Bool (is_named name p.0)) (not_
     go (inr n) rest = rw n rest
 
 pub place_is : (s : SessionsView) (name : Bytes) (r : Result ℕ ℕ) (o : Option ℕ) → HasAscendingKeys s.seats → IsSearchInRange r (length s.seats)
-    → IsBinarySearchResult (λ p. slice_cmp nat_cmp p.0 name) s.seats r → o ≡ result_ok r → IsPlaceOf s name o
+    → IsBinarySearchResult (λ p. slice_cmp nat_cmp p.0 name) s.seats r → o ≡ result_ok r → IsSeatAt s name o
 place_is s name (Ok i) o a within found e =
     let d = get_or s.seats i (name, record { calls = []; answered = 0; waits = None }) in
     let at : slice_get s.seats i ≡ Some d = slice_get-get_or s.seats i (name, record { calls = []; answered = 0; waits = None }) within in
     let named : d.0 ≡ name = same_name d.0 name (ap is_eq (found (name, record { calls = []; answered = 0; waits = None }))) in
-    subst (IsPlaceOf s name) (sym e)
+    subst (IsSeatAt s name) (sym e)
     (d.1, at ∙ ap (λ n. Some (n, d.1)) named, subst (λ n. seat_of s n ≡ Some d.1) named (finds_own s.seats d a (has_place s.seats i d at)))
 place_is s name (Err i) o a within found e =
     let parts = found (searchable_from_sorted nat_list_cmp_total (λ (p : Bytes × Seat). p.0) s.seats name (rising s.seats a)) in
-    subst (IsPlaceOf s name) (sym e) (not_found s.seats name (λ k d lt. go k d lt (cases_lt k i) parts))
+    subst (IsSeatAt s name) (sym e) (not_found s.seats name (λ k d lt. go k d lt (cases_lt k i) parts))
   where
     go : (k : ℕ) (d : Bytes × Seat) → k < length s.seats → (k < i) ⊎ (i ≤ k) → IsPartitionPoint (λ y. slice_cmp nat_cmp y.0 name ≡ Less) (λ y. slice_cmp nat_cmp y.0 name ≡ Greater) s.seats i
         → is_named (get_or s.seats k d).0 name ≡ false
@@ -242,7 +243,7 @@ place_is s name (Err i) o a within found e =
     go k d lt (inr behind) parts = ap is_eq (parts.1 k d behind lt)
 
 -- what stands at the place of a name
-pub placed : (s : SessionsView) (name : Bytes) (place : ℕ) (x : Bytes × Seat) → IsPlaceOf s name (Some place) → x ≡ get_or s.seats place x
+pub placed : (s : SessionsView) (name : Bytes) (place : ℕ) (x : Bytes × Seat) → IsSeatAt s name (Some place) → x ≡ get_or s.seats place x
     → (place < length s.seats) × (slice_get s.seats place ≡ Some (name, x.1)) × (seat_of s name ≡ Some x.1) × (x.0 ≡ name)
 placed s name place x p e =
     let lt : place < length s.seats = place_within s.seats place (name, p.0) p.1 in

@@ -3,7 +3,7 @@ ghost use Rattle.std.specs.Option.{option_copied};
 ghost use Rattle.dt_lists.specs.Lists.{Distinct};
 ghost use Rattle.dt_access.specs.Orders.{HasAscendingKeys};
 ghost use Rattle.dt_workload.specs.Valid.{calls_in, session_names};
-ghost use Rattle.dt_session.specs.Sessions.{AreAllAnswered, AreSoundSeats, EachNameIsAnswered, IsNext, IsPlaceOf, MayBeAnswered, MayGo, after_answer, after_wait, all_idle, seat_of, waits_of, wanted_of};
+ghost use Rattle.dt_session.specs.Sessions.{AreAllAnswered, AreSoundSeats, EachNameIsAnswered, IsNext, IsSeatAt, MayBeAnswered, MayGo, after_answer, after_wait, all_idle, seat_of, waits_of, wanted_of};
 ghost use Rattle.dt_session.specs.Tries.{IsLast, IsStale, body_of, ranked_body};
 
 use dt_access::{TryCopy, TxnId};
@@ -86,7 +86,7 @@ impl Sessions {
 
     /// The place of the session of this name, if it is here.
     fn place_of(&self, session: &Name) -> Option<usize>
-        ensures found { IsPlaceOf self.now session.now result }
+        ensures found { IsSeatAt self.now session.now result }
         ensures sound { AreSoundSeats self.now.seats }
     {
         self.seats.binary_search_by(|seat| seat.0.cmp(session)).ok()

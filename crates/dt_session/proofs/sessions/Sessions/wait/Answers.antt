@@ -1,7 +1,7 @@
 use Rattle.std.proofs.Common.{◌≡◌, ◌<◌, Some, length, set, sym, ap, subst, ◌∙◌}
 use Rattle.std.specs.Option.{option_copied}
 use Rattle.dt_session.specs.declared.sessions.Seat.{Seat}
-use Rattle.dt_session.specs.Sessions.{AreSoundSeats, IsPlaceOf, IsSoundSeat, MayGo, SessionsView, after_wait, attempt_next, seat_of, waiting, with_changed}
+use Rattle.dt_session.specs.Sessions.{AreSoundSeats, IsSeatAt, IsSoundSeat, MayGo, SessionsView, after_wait, attempt_next, seat_of, waiting, with_changed}
 use Rattle.dt_session.proofs.SessionsLaws.{attempt_is, call_to_try, found_sound, placed, put_sound_seat, set_at}
 use Rattle.dt_session.proofs.sessions.Sessions.wait.Goals as goal
 
@@ -10,7 +10,7 @@ invariant_of-self c =
     let s : SessionsView = record { tries = c.self.inside.tries; seats = c.self.inside.seats.items } in
     let was : Seat = c.index_mut.result.now.1 in
     let place = c.in-Some-place_of.place in
-    let at = placed s c.args.session.now place c.index_mut.result.now (subst (λ v. IsPlaceOf v c.args.session.now (Some place)) (sym c.self.view_is) c.in-Some-place_of.ensures.found) c.index_mut.ensures.value in
+    let at = placed s c.args.session.now place c.index_mut.result.now (subst (λ v. IsSeatAt v c.args.session.now (Some place)) (sym c.self.view_is) c.in-Some-place_of.ensures.found) c.index_mut.ensures.value in
     let sound : IsSoundSeat was = found_sound s.seats c.args.session.now was c.self.invariant.each at.2 in
     let may = subst (λ v. MayGo v c.args.session.now (option_copied c.args.last)) (sym c.self.view_is) c.requires in
     let left : was.answered < length was.calls = call_to_try s c.args.session.now (option_copied c.args.last) was at.2 sound may in
@@ -24,7 +24,7 @@ returns c =
     let s : SessionsView = record { tries = c.self.inside.tries; seats = c.self.inside.seats.items } in
     let was : Seat = c.index_mut.result.now.1 in
     let place = c.in-Some-place_of.place in
-    let at = placed s c.args.session.now place c.index_mut.result.now (subst (λ v. IsPlaceOf v c.args.session.now (Some place)) (sym c.self.view_is) c.in-Some-place_of.ensures.found) c.index_mut.ensures.value in
+    let at = placed s c.args.session.now place c.index_mut.result.now (subst (λ v. IsSeatAt v c.args.session.now (Some place)) (sym c.self.view_is) c.in-Some-place_of.ensures.found) c.index_mut.ensures.value in
     let found = subst (λ v. seat_of v c.args.session.now ≡ Some was) c.self.view_is at.2 in
     let numbered : c.in-Some.attempt ≡ attempt_next was = attempt_is (seat_of c.args.self.now c.args.session.now) was _ c.in-Some.attempt found c.in-Some.ensures.1 in
     let then : Seat = record { calls = was.calls; answered = was.answered; waits = Some (record { id = c.args.id; attempt = c.in-Some.attempt }) } in
