@@ -78,6 +78,7 @@ impl Waits {
     {
         let vertex = self.vertices.len() as u32;
         let mut slots = Slots::new(alloc);
+        slots.reserve(part.keys.as_slice().len())?;
         let degree = enter(alloc, &mut self.queues, part, vertex, 0, &mut slots)?;
         let missing = part.homes.as_slice().len() - 1;
         push_reserved(
@@ -109,7 +110,7 @@ impl Waits {
         ensures ready { self.new.ready.bound ≡ self.old.ready.bound }
         ensures stuck { self.new.stuck.bound ≡ self.old.stuck.bound }
     {
-        let mut slots = self.copied_slots(alloc, vertex)?;
+        let mut slots = self.copied_slots(alloc, vertex, part.keys.as_slice().len())?;
         let degree = enter(
             alloc,
             &mut self.queues,
@@ -123,13 +124,15 @@ impl Waits {
         Ok(())
     }
 
-    /// A copy of the slots of a vertex.
-    fn copied_slots(&self, alloc: Global, vertex: u32) -> Result<Slots, NoMemory>
+    /// A copy of the slots of a vertex, with room for so many more.
+    fn copied_slots(&self, alloc: Global, vertex: u32, more: usize) -> Result<Slots, NoMemory>
         requires { vertex < length self.now.vertices.items }
         ensures { IfOk result (λ slots. slots ≡ (vertex_at self.now.vertices.items vertex).slots) }
     {
         let slots = self.vertices[vertex as usize].slots.as_slice();
-        Ok(Slots::from_vec(Vec::from_slice(alloc, slots)?))
+        let mut copied = Vec::with_capacity(alloc, slots.len().saturating_add(more))?;
+        copied.extend_from_slice(slots)?;
+        Ok(Slots::from_vec(copied))
     }
 
     /// Gives a vertex with a part more its slots and its degree.

@@ -1,13 +1,14 @@
-ghost use Rattle.std.specs.Prelude.{◌≡◌, ◌<◌, ◌≤◌, ◌+◌, [], List, IfOk, OnOk, length, option_and_then};
+ghost use Rattle.std.specs.Prelude.{◌≡◌, ◌<◌, ◌≤◌, ◌+◌, [], List, IfOk, IsTrue, OnOk, Some, length, option_and_then, slice_get};
 ghost use Rattle.std.specs.Option.{option_copied};
+ghost use Rattle.dt_access.specs.Clash.{Bytes};
 ghost use Rattle.dt_proc.specs.Tree.{ProcTree};
 ghost use Rattle.dt_region.specs.Region.{outcome_of};
 ghost use Rattle.dt_session.specs.Sessions.{waits_of};
 ghost use Rattle.dt_node.specs.Measure.{left_for};
 ghost use Rattle.dt_node.specs.Beginning.{IsPlacingOwn, MakesNext};
 ghost use Rattle.dt_node.specs.Steps.{AllWhoMight, IsNextAt};
-ghost use Rattle.dt_node.specs.StepsInner.{IsAnswering, IsSubmission, StepsAt};
-ghost use Rattle.dt_node.specs.Turn.{BeginsEagerly, HasPlacedOwn, MayAnswerAt, MaySubmitAt};
+ghost use Rattle.dt_node.specs.StepsInner.{IsAnswering, IsSubmission, StepsAt, seat_names};
+ghost use Rattle.dt_node.specs.Turn.{BeginsEagerly, HasPlacedOwn, IsStill, MayAnswerAt, MaySubmitAt};
 ghost use Rattle.dt_node.specs.TurnInner.{CanGo, CanTake, EndsAll, EndsOne, EndsPlacing, IsNextOfNode, KnowsTheSame, MovesOn};
 
 use crate::node::Node;
@@ -49,6 +50,9 @@ impl<S: Scheduler + Drop> Node<S> {
         ensures ends { IfOk result (λ some. EndsOne MayAnswerAt self.old index some self.new) }
         ensures one { IfOk result (λ some. StepsAt IsAnswering self.old index some self.new) }
     {
+        if self.has_to_wait(index) {
+            return Ok(false);
+        }
         let Some(name) = self.sessions.name(index) else {
             return Ok(false);
         };
@@ -95,6 +99,9 @@ impl<S: Scheduler + Drop> Node<S> {
         ensures ends { IfOk result (λ some. EndsOne MaySubmitAt self.old index some self.new) }
         ensures one { IfOk result (λ some. StepsAt (IsSubmission procs.now) self.old index some self.new) }
     {
+        if self.has_to_wait(index) {
+            return Ok(false);
+        }
         let Some(name) = self.sessions.name(index) else {
             return Ok(false);
         };
@@ -104,6 +111,17 @@ impl<S: Scheduler + Drop> Node<S> {
         self.submit(alloc, procs, origin, rank, body)?;
         self.place_own(alloc)?;
         Ok(true)
+    }
+
+    /// Whether the session at this place waits for an attempt that its region has no outcome of. Such a session can't go on, and
+    /// it is told without its name being searched for.
+    fn has_to_wait(&self, index: u32) -> bool
+        ensures { IsTrue result → (name : Bytes) → slice_get (seat_names self.now) index ≡ Some name → IsStill self.now name }
+    {
+        match self.sessions.waits_at(index) {
+            Some(id) => self.site.region.outcome(id).is_none(),
+            None => false,
+        }
     }
 
     /// What a session may submit next, with its rank, and whose it is. `None` exactly where it may submit nothing.

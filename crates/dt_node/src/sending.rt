@@ -102,8 +102,10 @@ fn requests<S: Scheduler>(
     ensures { IfOk result (λ txns. txns ≡ filter_map (held region.now.state) (stretch_from first (get_or region.now.state.here.asked target []))) }
 {
     let asked = region.asked(target);
+    let end = end_from(first, asked.len());
     let mut txns = Txns::new(alloc);
-    for place in first as usize..end_from(first, asked.len()) {
+    txns.reserve(end.saturating_sub(first as usize))?;
+    for place in first as usize..end {
         let Some(txn) = region.txn(asked[place]) else {
             continue;
         };
@@ -117,8 +119,10 @@ fn entries<S: Scheduler>(alloc: Global, region: &Region<S>, first: u32) -> Resul
     ensures { IfOk result (λ entries. entries ≡ filter_map (entry_held region.now.state) (stretch_from first (log_at region.now.state.logs region.now.state.number))) }
 {
     let log = region.log(region.number());
+    let end = end_from(first, log.len() as usize);
     let mut entries = Entries::new(alloc);
-    for place in first as usize..end_from(first, log.len() as usize) {
+    entries.reserve(end.saturating_sub(first as usize))?;
+    for place in first as usize..end {
         let Some(part) = log.get(place as u32) else {
             unreachable!()
         };

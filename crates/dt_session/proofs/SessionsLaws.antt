@@ -1,19 +1,22 @@
 -- The sessions of a region, gathered from a workload and found by their names.
 use Rattle.std.proofs.Common.{◌≡◌, ◌≢◌, ◌⊎◌, ◌<◌, ◌≤◌, ◌+◌, ◌-◌, ◌==◌, ℕ, zero, suc, Bool, true, false, cond, eq-eqb, eqb, eqb-true, List, [], ◌∷◌}
 use Rattle.std.proofs.Common.{length, map, get_or, drop, slice_get, Some, None, refl, sym, ap, subst, ◌∙◌, inl, inr, arith}
-use Rattle.std.specs.Prelude.{Option, IsSome, option_and_then, option_map}
+use Rattle.std.specs.Prelude.{Err, Ok, Option, Result, IsSome, option_and_then, option_map, set}
+use Rattle.std.specs.Result.{result_ok}
 use Rattle.std.specs.List.{All, AllByRecursion}
-use Rattle.std.specs.List.Sorted.{IsStrictlySortedBy}
+use Rattle.std.specs.List.Sorted.{IsBinarySearchResult, IsPartitionPoint, IsSearchInRange, IsSortedBy, IsStrictlySortedBy}
 use Rattle.std.specs.declared.cmp.Ordering.{Ordering}
 use Rattle.std.specs.declared.cmp.Ordering.TheVariants.{Less, Equal, Greater}
-use Rattle.std.specs.Ordering.{is_lt, nat_cmp}
+use Rattle.std.specs.Ordering.{is_eq, is_lt, nat_cmp, ordering_reverse}
 use Rattle.std.specs.Cmp.Lexicographic.{bytes_decides, slice_cmp, texts_ties}
 use Rattle.std.specs.BTreeMap.{insert_entry}
-use Rattle.std.specs.Map.{keys_of, lookup, set_value, values_of}
+use Rattle.std.specs.Map.{keys_of, lookup, set_value}
 use Rattle.std.proofs.lemmas.Map.{keys-set_value}
-use Rattle.std.proofs.lemmas.Bool.{cases_Bool, false_from_ne_true}
+use Rattle.std.proofs.lemmas.Bool.{cases_Bool, cases_lt, false_from_ne_true}
 use Rattle.std.proofs.lemmas.Option.{slice_get-get_or}
 use Rattle.std.proofs.lemmas.List.{drop_more}
+use Rattle.std.proofs.lemmas.List.Sorted.{searchable_from_sorted}
+use Rattle.std.proofs.lemmas.Cmp.{nat_list_cmp_total}
 use Rattle.std.proofs.lemmas.List.Sums.{sum_by-cons}
 use Rattle.dt_lists.specs.Lists.{AllIn, Distinct, EachThen, Has}
 use Rattle.dt_lists.proofs.Callers.{all_get, all_put, each_image, each_of_image, has_place, place_within}
@@ -28,7 +31,8 @@ use Rattle.dt_workload.specs.declared.Ranked.{Ranked}
 use Rattle.dt_session.specs.declared.sessions.Seat.{Seat}
 use Rattle.dt_session.specs.Eager.{sessions_at, with_session}
 use Rattle.dt_session.specs.declared.sessions.Waiting.{Waiting}
-use Rattle.dt_session.specs.Sessions.{AreAllAnswered, AreSoundSeats, EachNameIsAnswered, IsSoundSeat, MayBeAnswered, MayGo, MaySeatEnd, MaySeatTry, SessionsView, StandsWithin, idle_seat, is_named, seat_of}
+use Rattle.dt_session.specs.Sessions.{AreAllAnswered, AreSoundSeats, EachNameIsAnswered, IsSeatAt, IsSoundSeat, MayBeAnswered, MayGo}
+use Rattle.dt_session.specs.Sessions.{MaySeatEnd, MaySeatTry, SessionsView, StandsWithin, attempt_next, idle_seat, is_named, numbers_next, seat_of, waits_of}
 use Rattle.dt_session.specs.World.{Place, idle_place, session_at}
 use Rattle.dt_session.specs.Tries.{Awaited, IsLast, MayEnd, MayTry, body_of, ranked_body}
 
@@ -176,18 +180,96 @@ finds_own (q ∷ entries) p a (inr h) =
     let other : is_named p.0 q.0 ≡ false = sym (texts_ties p.0 q.0) ∙ same_key_after p.0 q.0 (all_get (λ x. KeyBefore q.0 x.0) entries a.0 p h) in
     rw other (finds_own entries p a.1 h)
 
+-- a place of the list has its name
+pub get_name : (entries : List (Bytes × Seat)) (i : ℕ) → slice_get (map (λ p. p.0) entries) i ≡ option_map (λ p. p.0) (slice_get entries i)
+get_name [] i = refl
+get_name (p ∷ entries) zero = refl
+get_name (p ∷ entries) (suc i) = get_name entries i
+
 pub name_finds : (s : SessionsView) (index : ℕ) (o : Option Bytes) → HasAscendingKeys s.seats → o ≡ slice_get (map (λ p. p.0) s.seats) index
     → option_and_then (seat_of s) o ≡ option_map (λ p. p.1) (slice_get s.seats index)
-name_finds s index o a e = ap (option_and_then (seat_of s)) (e ∙ get_mapped s.seats index) ∙ go (slice_get s.seats index) refl
+name_finds s index o a e = ap (option_and_then (seat_of s)) (e ∙ get_name s.seats index) ∙ go (slice_get s.seats index) refl
   where
-    get_mapped : (entries : List (Bytes × Seat)) (i : ℕ) → slice_get (map (λ p. p.0) entries) i ≡ option_map (λ p. p.0) (slice_get entries i)
-    get_mapped [] i = refl
-    get_mapped (p ∷ entries) zero = refl
-    get_mapped (p ∷ entries) (suc i) = get_mapped entries i
-
     go : (p : Option (Bytes × Seat)) → slice_get s.seats index ≡ p → option_and_then (seat_of s) (option_map (λ q. q.0) p) ≡ option_map (λ q. q.1) p
     go None is = refl
     go (Some p) is = finds_own s.seats p a (has_place s.seats index p is)
+
+-- the session of the name at a place is the one that stands there
+pub waits_there : (s : SessionsView) (index : ℕ) (p : Option (Bytes × Seat)) → HasAscendingKeys s.seats → slice_get s.seats index ≡ p
+    → option_and_then (waits_of s) (slice_get (map (λ q. q.0) s.seats) index) ≡ option_and_then (λ (q : Bytes × Seat). option_map (λ (w : Waiting). w.id) q.1.waits) p
+waits_there s index p a e = ap (option_and_then (waits_of s)) (get_name s.seats index ∙ ap (option_map (λ q. q.0)) e) ∙ go p e
+  where
+    go : (o : Option (Bytes × Seat)) → slice_get s.seats index ≡ o
+        → option_and_then (waits_of s) (option_map (λ q. q.0) o) ≡ option_and_then (λ (q : Bytes × Seat). option_map (λ (w : Waiting). w.id) q.1.waits) o
+    go None is = refl
+    go (Some q) is = ap (option_and_then (λ (seat : Seat). option_map (λ (w : Waiting). w.id) seat.waits)) (finds_own s.seats q a (has_place s.seats index q is))
+
+-- what halving finds is the place of a name
+
+-- names that ascend answer a search for a name by a rise
+rising : (entries : List (Bytes × Seat)) → HasAscendingKeys entries → IsSortedBy (λ a b. is_lt (slice_cmp nat_cmp a.0 b.0)) entries
+rising [] a k d low high = absurd (omega (arith, high))
+rising (p ∷ []) a k d low high = absurd (omega (arith, high))
+rising (p ∷ q ∷ entries) a zero d low high = ap is_lt (nat_list_cmp_total.antisymm q.0 p.0 ∙ ap ordering_reverse a.0.0)
+rising (p ∷ q ∷ entries) a (suc k) d low high =
+    let next : suc k + 1 ≡ suc (k + 1) = omega arith in
+    subst (λ n. is_lt (slice_cmp nat_cmp (get_or (p ∷ q ∷ entries) n d).0 (get_or (q ∷ entries) k d).0) ≡ false) (sym next) (rising (q ∷ entries) a.1 k d (omega arith) (omega (arith, high)))
+
+not_found : (entries : List (Bytes × Seat)) (name : Bytes) → ((k : ℕ) (d : Bytes × Seat) → k < length entries → is_named (get_or entries k d).0 name ≡ false) → lookup (is_named name) entries ≡ None
+not_found [] name other = refl
+not_found (p ∷ entries) name other = go (cases_Bool (is_named name p.0)) (not_found entries name (λ k d lt. other (suc k) d (omega (arith, lt))))
+  where
+    go : (is_named name p.0 ≡ true) ⊎ (is_named name p.0 ≡ false) → lookup (is_named name) entries ≡ None → lookup (is_named name) (p ∷ entries) ≡ None
+    go (inl y) rest =
+        let own : is_named p.0 name ≡ true = ap (is_named p.0) (same_name name p.0 y) ∙ sym (texts_ties p.0 p.0) ∙ same_key_self p.0 in
+        let no : ◌≡◌ {A = Bool} true false = sym own ∙ other zero p (omega arith) in cc
+    go (inr n) rest = rw n rest
+
+pub place_is : (s : SessionsView) (name : Bytes) (r : Result ℕ ℕ) (o : Option ℕ) → HasAscendingKeys s.seats → IsSearchInRange r (length s.seats)
+    → IsBinarySearchResult (λ p. slice_cmp nat_cmp p.0 name) s.seats r → o ≡ result_ok r → IsSeatAt s name o
+place_is s name (Ok i) o a within found e =
+    let d = get_or s.seats i (name, record { calls = []; answered = 0; waits = None }) in
+    let at : slice_get s.seats i ≡ Some d = slice_get-get_or s.seats i (name, record { calls = []; answered = 0; waits = None }) within in
+    let named : d.0 ≡ name = same_name d.0 name (ap is_eq (found (name, record { calls = []; answered = 0; waits = None }))) in
+    subst (IsSeatAt s name) (sym e)
+    (d.1, at ∙ ap (λ n. Some (n, d.1)) named, subst (λ n. seat_of s n ≡ Some d.1) named (finds_own s.seats d a (has_place s.seats i d at)))
+place_is s name (Err i) o a within found e =
+    let parts = found (searchable_from_sorted nat_list_cmp_total (λ (p : Bytes × Seat). p.0) s.seats name (rising s.seats a)) in
+    subst (IsSeatAt s name) (sym e) (not_found s.seats name (λ k d lt. go k d lt (cases_lt k i) parts))
+  where
+    go : (k : ℕ) (d : Bytes × Seat) → k < length s.seats → (k < i) ⊎ (i ≤ k) → IsPartitionPoint (λ y. slice_cmp nat_cmp y.0 name ≡ Less) (λ y. slice_cmp nat_cmp y.0 name ≡ Greater) s.seats i
+        → is_named (get_or s.seats k d).0 name ≡ false
+    go k d lt (inl before) parts = ap is_eq (parts.0 k d (omega arith) before)
+    go k d lt (inr behind) parts = ap is_eq (parts.1 k d behind lt)
+
+-- what stands at the place of a name
+pub placed : (s : SessionsView) (name : Bytes) (place : ℕ) (x : Bytes × Seat) → IsSeatAt s name (Some place) → x ≡ get_or s.seats place x
+    → (place < length s.seats) × (slice_get s.seats place ≡ Some (name, x.1)) × (seat_of s name ≡ Some x.1) × (x.0 ≡ name)
+placed s name place x p e =
+    let lt : place < length s.seats = place_within s.seats place (name, p.0) p.1 in
+    let some : ◌≡◌ {A = Option (Bytes × Seat)} (Some x) (Some (name, p.0)) = ap Some e ∙ sym (slice_get-get_or s.seats place x lt) ∙ p.1 in
+    let is : x ≡ (name, p.0) = cc in
+    let own : p.0 ≡ x.1 = ap (λ y. y.1) (sym is) in
+    (lt, p.1 ∙ ap (λ seat. Some (name, seat)) own, p.2 ∙ ap Some own, ap (λ y. y.0) is)
+
+-- the attempt that comes next for a session has the number that it is told to have
+pub attempt_is : (o : Option Seat) (seat : Seat) (call attempt : ℕ) → o ≡ Some seat → option_map numbers_next o ≡ Some (call, attempt) → attempt ≡ attempt_next seat
+attempt_is o seat call attempt e h =
+    let some : ◌≡◌ {A = Option (ℕ × ℕ)} (Some (numbers_next seat)) (Some (call, attempt)) = sym (ap (option_map numbers_next) e) ∙ h in
+    let same : numbers_next seat ≡ (call, attempt) = cc in
+    ap (λ p. p.1) (sym same)
+
+-- another session at the place of a name is the one that is put for the name
+pub set_at : (entries : List (Bytes × Seat)) (place : ℕ) (name : Bytes) (was seat : Seat) → HasAscendingKeys entries → slice_get entries place ≡ Some (name, was)
+    → set entries place (name, seat) ≡ set_value (is_named name) entries seat
+set_at [] place name was seat a e = cc
+set_at (p ∷ entries) zero name was seat a e =
+    let same : p ≡ (name, was) = cc in
+    let own : is_named name p.0 ≡ true = ap (λ x. is_named name x.0) same ∙ sym (texts_ties name name) ∙ same_key_self name in
+    rw own (ap (λ n. (n, seat) ∷ entries) (ap (λ x. x.0) (sym same)))
+set_at (p ∷ entries) (suc place) name was seat a e =
+    let other : is_named name p.0 ≡ false = sym (texts_ties name p.0) ∙ same_key_after name p.0 (all_get (λ x. KeyBefore p.0 x.0) entries a.0 (name, was) (has_place entries place (name, was) e)) in
+    rw other (ap (λ l. p ∷ l) (set_at entries place name was seat a.1 e))
 
 -- what holds of each session that a name finds holds of all, and back
 
@@ -255,16 +337,16 @@ body_is o seat call d ranked body e lt is made =
     ap (λ x. option_map ranked_body (option_and_then (λ (y : Seat). slice_get y.calls (call - 1)) x)) e
     ∙ ap (option_map ranked_body) (slice_get-get_or seat.calls (call - 1) d lt ∙ ap Some (sym is)) ∙ ap (λ b. Some (ranked.rank, b)) (sym made)
 
--- what holds of each value of a map holds along its entries, and back
+-- what holds of each place holds along the sessions, and back
 
-pub all_of_values : (P : Seat → Type 0) (entries : List (Bytes × Seat)) → All P (values_of entries) → AllIn (λ p. P p.1) entries
-all_of_values P [] a = tt
-all_of_values P (p ∷ entries) a = (a 0 p.1 (omega arith), all_of_values P entries (λ k d lt. a (suc k) d (omega arith)))
+pub all_of_places : (P : Bytes × Seat → Type 0) (entries : List (Bytes × Seat)) → All P entries → AllIn P entries
+all_of_places P [] a = tt
+all_of_places P (p ∷ entries) a = (a 0 p (omega arith), all_of_places P entries (λ k d lt. a (suc k) d (omega arith)))
 
-pub values_of_all : (P : Seat → Type 0) (entries : List (Bytes × Seat)) → AllIn (λ p. P p.1) entries → All P (values_of entries)
-values_of_all P [] a k d lt = absurd (omega arith)
-values_of_all P (p ∷ entries) a zero d lt = a.0
-values_of_all P (p ∷ entries) a (suc k) d lt = values_of_all P entries a.1 k d (omega arith)
+pub places_of_all : (P : Bytes × Seat → Type 0) (entries : List (Bytes × Seat)) → AllIn P entries → All P entries
+places_of_all P [] a k d lt = absurd (omega arith)
+places_of_all P (p ∷ entries) a zero d lt = a.0
+places_of_all P (p ∷ entries) a (suc k) d lt = places_of_all P entries a.1 k d (omega arith)
 
 -- before anything happens, a name finds the session of the workload that has it at the region
 

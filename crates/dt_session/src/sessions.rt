@@ -3,7 +3,7 @@ ghost use Rattle.std.specs.Option.{option_copied};
 ghost use Rattle.dt_lists.specs.Lists.{Distinct};
 ghost use Rattle.dt_access.specs.Orders.{HasAscendingKeys};
 ghost use Rattle.dt_workload.specs.Valid.{calls_in, session_names};
-ghost use Rattle.dt_session.specs.Sessions.{AreAllAnswered, EachNameIsAnswered, IsNext, MayBeAnswered, MayGo, after_answer, after_wait, all_idle, seat_of, waits_of, wanted_of};
+ghost use Rattle.dt_session.specs.Sessions.{AreAllAnswered, AreSoundSeats, EachNameIsAnswered, IsNext, IsSeatAt, MayBeAnswered, MayGo, after_answer, after_wait, all_idle, seat_of, waits_of, wanted_of};
 ghost use Rattle.dt_session.specs.Tries.{IsLast, IsStale, body_of, ranked_body};
 
 use dt_access::{TryCopy, TxnId};
@@ -39,7 +39,8 @@ pub struct Seat {
 #[derive(Drop)]
 pub struct Sessions {
     tries: u32,
-    seats: BTreeMap<Name, Seat>,
+    /// In byte order of names, so a name is found by halving.
+    seats: Vec<(Name, Seat)>,
 }
 
 impl Model for Sessions {
@@ -50,9 +51,9 @@ impl Model for Sessions {
 
     ghost coded = { sessions_code };
 
-    ghost view = { λ s. record { tries = s.tries; seats = s.seats.entries } };
+    ghost view = { λ s. record { tries = s.tries; seats = s.seats.items } };
 
-    ghost invariant = { λ s. AreSoundSeats s.seats.entries };
+    ghost invariant = { λ s. AreSoundSeats s.seats.items };
 }
 
 impl Sessions {
@@ -77,7 +78,27 @@ impl Sessions {
                 seats.insert(session.name.copy(alloc)?, seat)?;
             }
         }
-        Ok(Sessions { tries, seats })
+        Ok(Sessions {
+            tries,
+            seats: listed(alloc, seats)?,
+        })
+    }
+
+    /// The place of the session of this name, if it is here.
+    fn place_of(&self, session: &Name) -> Option<usize>
+        ensures found { IsSeatAt self.now session.now result }
+        ensures sound { AreSoundSeats self.now.seats }
+    {
+        self.seats.binary_search_by(|seat| seat.0.cmp(session)).ok()
+    }
+
+    /// The session of this name, if it is here.
+    fn seat(&self, session: &Name) -> Option<&Seat>
+        ensures found { option_copied result ≡ seat_of self.now session.now }
+        ensures sound { AreSoundSeats self.now.seats }
+    {
+        let place = self.place_of(session)?;
+        Some(&self.seats[place].1)
     }
 
     /// The numbers of the call and of the attempt, both from 1, that the session of this name may submit next. `last` is the
@@ -85,7 +106,7 @@ impl Sessions {
     pub fn next(&self, session: &Name, last: Option<&Outcome>) -> Option<(u32, u32)>
         ensures { IsNext self.now session.now (option_copied last.entry) result }
     {
-        let seat = self.seats.get(session)?;
+        let seat = self.seat(session)?;
         let Some(waiting) = seat.waits else {
             return if (seat.answered as usize) < seat.calls.len() {
                 Some((seat.answered + 1, 1))
@@ -107,18 +128,17 @@ impl Sessions {
         let Some((_, attempt)) = self.next(session, last) else {
             unreachable!()
         };
-        let Some(seat) = self.seats.get_mut(session) else {
+        let Some(place) = self.place_of(session) else {
             unreachable!()
         };
-        seat.waits = Some(Waiting { id, attempt });
+        self.seats[place].1.waits = Some(Waiting { id, attempt });
     }
 
     /// The attempt that the session of this name waits for. `None` exactly where it is idle or not here.
     pub fn waits(&self, session: &Name) -> Option<TxnId>
         ensures { result ≡ waits_of self.now session.now }
     {
-        let waiting = self.seats.get(session)?.waits?;
-        Some(waiting.id)
+        waited_for(self.seat(session)?)
     }
 
     /// The rank of the call of this number, from 1, of the session of this name, and what it is to do.
@@ -127,7 +147,7 @@ impl Sessions {
         requires there { IsSome (wanted_of self.now session.now call) }
         ensures { IfOk result (λ answer. option_map ranked_body (wanted_of self.now session.now call) ≡ Some answer) }
     {
-        let Some(seat) = self.seats.get(session) else {
+        let Some(seat) = self.seat(session) else {
             unreachable!()
         };
         let ranked = &seat.calls.as_slice()[call as usize - 1];
@@ -141,7 +161,17 @@ impl Sessions {
         ensures finds { option_and_then (seat_of self.now) (option_copied result) ≡ option_map (λ p. p.1) (slice_get self.now.seats index) }
         ensures ascending { HasAscendingKeys self.now.seats }
     {
-        self.seats.keys().nth(index as usize)
+        let (name, _) = self.seats.get(index as usize)?;
+        Some(name)
+    }
+
+    /// The attempt that the session at this place, from 0, in byte order of names, waits for. `None` exactly where it is idle or
+    /// not here.
+    pub fn waits_at(&self, index: u32) -> Option<TxnId>
+        ensures { result ≡ option_and_then (waits_of self.now) (slice_get (map (λ p. p.0) self.now.seats) index) }
+    {
+        let (_, seat) = self.seats.get(index as usize)?;
+        waited_for(seat)
     }
 
     /// Whether every call of every session is answered, so of each session that a name finds.
@@ -150,8 +180,8 @@ impl Sessions {
         ensures by_name { IsTrue result ↔ EachNameIsAnswered self.now }
     {
         self.seats
-            .values()
-            .all(|seat| seat.answered as usize == seat.calls.len())
+            .iter()
+            .all(|entry| entry.1.answered as usize == entry.1.calls.len())
     }
 
     /// Whether the session of this name may be answered. `last` is the outcome here of the attempt that it waits for, if there
@@ -159,7 +189,7 @@ impl Sessions {
     pub fn may_answer(&self, session: &Name, last: Option<&Outcome>) -> bool
         ensures { IsTrue result ↔ MayBeAnswered self.now session.now (option_copied last.entry) }
     {
-        let Some(seat) = self.seats.get(session) else {
+        let Some(seat) = self.seat(session) else {
             return false;
         };
         let Some(waiting) = seat.waits else {
@@ -178,13 +208,33 @@ impl Sessions {
         if !self.may_answer(session, last) {
             return false;
         }
-        let Some(seat) = self.seats.get_mut(session) else {
+        let Some(place) = self.place_of(session) else {
             unreachable!()
         };
+        let seat = &mut self.seats[place].1;
         seat.answered += 1;
         seat.waits = None;
         true
     }
+}
+
+/// The sessions of a map, in the order of their names.
+fn listed(alloc: Global, seats: BTreeMap<Name, Seat>) -> Result<Vec<(Name, Seat)>, NoMemory>
+    ensures { IfOk result (λ listed. listed.items ≡ seats.entries) }
+{
+    let mut listed = Vec::with_capacity(alloc, seats.len())?;
+    for seat in seats {
+        listed.push(seat)?;
+    }
+    Ok(listed)
+}
+
+/// The attempt that a session waits for, if it does.
+fn waited_for(seat: &Seat) -> Option<TxnId>
+    ensures { result ≡ option_map (λ w. w.id) seat.now.waits }
+{
+    let waiting = seat.waits?;
+    Some(waiting.id)
 }
 
 /// What a call or a move of a workload is to do.

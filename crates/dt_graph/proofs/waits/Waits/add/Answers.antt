@@ -17,12 +17,12 @@ returns-clause-added c ids classes size once fresh =
     let v = c.len-vertex.result in
     let entered : Enters part.home v part.keys old.queues new.queues [] c.enter.new.slots c.in_ok-degree.degree =
     subst (λ q. Enters part.home v part.keys old.queues q [] c.enter.new.slots c.in_ok-degree.degree) (sym (ap (λ w. w.queues) same))
-    (subst (λ s. Enters part.home v part.keys old.queues c.enter.new.queues s c.enter.new.slots c.in_ok-degree.degree) c.new-slots.ensures c.in_ok-degree.ensures.entered) in
+    (subst (λ s. Enters part.home v part.keys old.queues c.enter.new.queues s c.enter.new.slots c.in_ok-degree.degree) (c.reserve.ensures ∙ c.new-slots.ensures) c.in_ok-degree.ensures.entered) in
     let sorted : Sorts v new.vertices.items new.degrees.items old.ready old.stuck new.ready new.stuck =
     subst (λ l. Sorts v l new.degrees.items old.ready old.stuck new.ready new.stuck) (sym (ap (λ w. w.vertices.items) same))
     (subst (λ l. Sorts v c.push_reserved.new.items.items l old.ready old.stuck new.ready new.stuck) (sym (ap (λ w. w.degrees.items) same)) c.sort.ensures.sorted) in
     added_first part ids classes old new once (sym size) (c.requires.sizes ∙ sym size) c.enter.new.slots c.in_ok-degree.degree v _ (c.len-vertex.ensures ∙ old.vertices.ok.0 ∙ sym size) fresh
-    (one_less _ _ (ap length c.as_slice.ensures.same) c.requires.homed) entered
+    (one_less _ _ (ap length c.as_slice-2.ensures.same) c.requires.homed) entered
     (ap (λ w. w.vertices.items) same ∙ c.push_reserved.ensures.added) (ap (λ w. w.degrees.items) same ∙ c.push_reserved-2.ensures.added) sorted
   where
     one_less : (n m : ℕ) → n ≡ m → 1 ≤ m → suc (n - 1) ≡ m
