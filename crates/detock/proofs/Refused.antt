@@ -25,7 +25,7 @@ use Rattle.detock.specs.RefusalCode.{IsFileRefusal, IsClusterRefusal, IsWorkload
 file_more : (told : Option Files) (name : Bytes) (P Q : Bytes → Type 0) → ((bytes : Bytes) → P bytes → Q bytes) → HasFile told name P → HasFile told name Q
 file_more told name P Q more (bytes, is, p) = (bytes, is, more bytes p)
 
--- what loads in between leave as it was: which files are told; and the count of faults does not fall
+-- what loads in between leave as it was: which files are reported; and the count of faults does not fall
 pub record Follows (before after : FolderView) : Type 0 where
   pub told : after.told ≡ before.told
   pub later : before.faults ≤ after.faults

@@ -42,7 +42,7 @@ module _ (cluster : Cluster) (workload : Workload) (report : Report) (is : IsRep
         summary = known;
       }
 
-  -- so what is written of it is what a big run tells
+  -- so what is written of it is what a big run reports
   pub big_told : {A E : Type 0} (calls : ℕ) → calls ≤ 20000 → cluster ≡ load_cluster → workload ≡ load_workload calls → (r : Result (Vec ℕ A) E)
       → IfOk r (λ text. text.items ≡ summary_of calls report) → IfOk r (λ text. BigRun (decimal calls) (λ lines. text.items ≡ lines))
   big_told calls few of_cluster of_workload (Ok text) written = big_lines calls few of_cluster of_workload text.items written

@@ -45,7 +45,7 @@ no_threads_asked words no_run no_big (Replay cluster workload events, asks, thre
 no_threads_asked words no_run no_big (Run cluster workload, asks, threaded) = no_run cluster workload asks
 no_threads_asked words no_run no_big (Big size, asks, threaded) = no_big size asks
 
--- so many words, one by one
+-- n words, one by one
 module _ {A : Type 0} (words : List (String A)) (a b c d : String A) where
   pub two_words : length words ≡ 2 → a ≡ get_or words 0 a → b ≡ get_or words 1 b → word_bytes words ≡ string_bytes a ∷ string_bytes b ∷ []
   two_words long first second = go words long first second

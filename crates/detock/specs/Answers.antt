@@ -1,7 +1,7 @@
 -- What a call of the program promises.
 --
 -- `Comes` says that each status comes only by its cause, that the status which the words and the files call for comes where no
--- device fails, and what is touched of the files and of the output. `IsTold` says which line tells a status. The top call
+-- device fails, and what is touched of the files and of the output. `IsTold` says which line reports a status. The top call
 -- ensures both, whatever the task. Read next: Statuses, for the exit numbers and the lines.
 use Rattle.std.specs.Prelude.{◌≡◌, ◌≢◌, ℕ, ◌⊎◌, List, IsSome}
 use Rattle.dt_access.specs.Clash.{Bytes}
@@ -32,7 +32,7 @@ module _ {F O : Type 0} (words : List Bytes) (seen : F → FolderView) (files fi
     -- A report that could not be written was to be; some first bytes of it stand behind what the output held.
     pub cannot_write : status ≡ CannotWrite → Rose (shown out).faults (shown out_after).faults
         × AskFor words (λ task. IsDone (seen files).told task (AddsPrefix (shown out).held (shown out_after).held))
-    -- Where the files are told and no device failed, the status is the one that they call for, unless memory runs out.
+    -- If the files are reported and no device failed, the status is the one that they call for, unless memory runs out.
     pub complete : (due : Status) → IsSome (seen files).told → IsDue (seen files).told words due →
         ¬ Rose (seen files).faults (seen files_after).faults → ¬ Rose (shown out).faults (shown out_after).faults →
         (status ≡ due) ⊎ (status ≡ NoMemory)
@@ -43,7 +43,7 @@ module _ {F O : Type 0} (words : List Bytes) (seen : F → FolderView) (files fi
     pub out_same : status ≢ Done → status ≢ CannotWrite → out_after ≡ out
     pub files_same : (seen files_after).told ≡ (seen files).told
 
--- how a status is told: `err` gets its line, or where it failed some first bytes of it; nothing after `Done`
+-- how a status is reported: `err` gets its line, or if it failed some first bytes of it; nothing after `Done`
 pub record IsTold {E : Type 0} (seen : E → SinkView) (err err_after : E) (status : Status) : Type 0 where
   pub told : ¬ Rose (seen err).faults (seen err_after).faults → Adds (seen err).held (seen err_after).held (fault_line status)
   pub told_prefix : AddsPrefix (seen err).held (seen err_after).held (fault_line status)

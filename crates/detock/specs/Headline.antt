@@ -2,7 +2,7 @@
 --
 -- It is put together of what was asked and loaded (Loading), and of what is reported: events that are legal, on which all
 -- regions agree, and the bytes of their report. A replay is given its events; a run makes them, and leaves nothing undone. A
--- big run makes its own load too, and tells three lines. Read next: Causes, for what is answered instead; then Answers, for
+-- big run makes its own load too, and reports three lines. Read next: Causes, for what is answered instead; then Answers, for
 -- all that a call promises.
 use Rattle.std.specs.Prelude.{◌≡◌, ℕ, List, Option}
 use Rattle.std.specs.Fmt.{decimal}
@@ -59,8 +59,8 @@ pub record Headline (told : Option Files) (task : Task) (Written : Bytes → Typ
   -- they are legal, all regions agree on them, and what was written is their report
   pub reported : Reported cluster workload events Written
 
--- what a big run tells: its three lines, known before it runs; and they are the summary of the report of a run of the generated
--- load of so many calls
+-- what a big run reports: its three lines, known before it runs; and they are the summary of the report of a run of the generated
+-- load of n calls
 pub record BigRun (size : Bytes) (Written : Bytes → Type 0) : Type 0 where
   pub calls : ℕ
   pub named : size ≡ decimal calls

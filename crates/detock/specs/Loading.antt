@@ -1,6 +1,6 @@
 -- What a task's words and files stand for.
 --
--- A file is taken for its bytes, where the folder tells them; else for some bytes. They hold a cluster, a workload for it, or
+-- A file is taken for its bytes, if the folder reports them; else for some bytes. They hold a cluster, a workload for it, or
 -- events, each by the grammar of its own crate, and no file may be longer than 16 MiB. Read next: Headline, for what is
 -- reported of them.
 use Rattle.std.specs.Prelude.{◌≡◌, ℕ, ◌≤◌, ◌⊎◌, List, map, length, Option, Some, IfSome, IsSomeAnd}
@@ -19,7 +19,7 @@ use Rattle.detock.specs.Tasks.{Task, IsBuiltin, IsClusterFile, builtin_word, clu
 abbrev pub file_limit : ℕ
 file_limit = 16777216
 
--- some bytes have P, and where the folder tells its files, they are those of the file of this name
+-- some bytes have P, and if the folder reports its files, they are those of the file of this name
 abbrev pub HasFile : Option Files → Bytes → (Bytes → Type 0) → Type 0
 HasFile told name P = (bytes : Bytes) × IfSome told (λ files. files name ≡ Some bytes) × P bytes
 

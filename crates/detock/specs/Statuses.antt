@@ -1,7 +1,7 @@
 -- What the program ends with: its exit numbers and fault lines.
 --
 -- A caller learns how a call ended by a number, and a person by one line, whose text is fixed here to the byte. A byte of
--- a name that is no visible character of ASCII is printed as `?`, so that a line is one line on every terminal. This is
+-- a name that is not a visible ASCII character is printed as `?`, so that a line is one line on every terminal. This is
 -- the last of the files here. Read next: src/top.rt, the call that promises all this.
 use Rattle.std.specs.Prelude.{Option, Some, None, ℕ, [], ◌∷◌, ◌++◌, codes, map, ◌&&◌, nat_le, if◌then◌else◌}
 use Rattle.std.specs.Fmt.{decimal}
@@ -30,7 +30,7 @@ exit_number (BadWorkload line cause) = 5
 exit_number (BadEvents line cause) = 6
 exit_number CannotWrite = 7
 
--- the status where the words of the command line cannot be had: want of memory; or a word that is no text, which is a fault of the
+-- the status if the words of the command line cannot be had: out of memory; or a word that is not text, which is a fault of the
 -- caller; and none where the system does not give them at all
 abbrev pub status_without : ErrorKind → Option Status
 status_without OutOfMemory = Some NoMemory
@@ -41,7 +41,7 @@ status_without kind = None
 abbrev pub no_words : ℕ
 no_words = 12
 
--- a byte of a name as it is printed: `?` for one that is no visible character of ASCII
+-- a byte of a name as it is printed: `?` for one that is not a visible ASCII character
 abbrev pub visible_byte : ℕ → ℕ
 visible_byte byte = if nat_le 33 byte && nat_le byte 126 then byte else 63
 
@@ -87,11 +87,11 @@ cause_text TooLong = codes "too long"
 cause_text Form = codes "no event"
 cause_text (Rule n) = codes "rule " ++ decimal n
 
--- a fault is told in one line: the program's name, the fault, and the byte that ends the line
+-- a fault is reported in one line: the program's name, the fault, and the byte that ends the line
 abbrev pub told_line : Bytes → Bytes
 told_line text = codes "detock: " ++ text ++ 10 ∷ []
 
--- the line that a status is told by; none after Done
+-- the line that reports a status; none after Done
 abbrev pub fault_line : Status → Bytes
 fault_line Done = []
 fault_line NoMemory = told_line (codes "no memory")

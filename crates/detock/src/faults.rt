@@ -178,7 +178,7 @@ fn write_pieces<O: Sink>(out: &mut O, pieces: &[&[u8]]) -> Result<(), Failed>
     Ok(())
 }
 
-/// Writes a name, in which every byte that is no visible character of ASCII becomes `?`.
+/// Writes a name, in which every byte that is not a visible ASCII character becomes `?`.
 fn write_name<O: Sink>(out: &mut O, name: &[u8]) -> Result<(), Failed>
     ensures { Writes (O.seen out.old) (O.seen out.new) (map visible_byte name.now) result }
 {

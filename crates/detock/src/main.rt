@@ -1,4 +1,4 @@
-//! Detock: a store of rows in several regions, in which all regions decide alike without asking.
+//! Detock: a store of rows in several regions, which all reach the same decisions without asking.
 #![tactic(auto)]
 
 mod faults;

@@ -39,7 +39,7 @@ pub fn exit_of<R: Threads + Wait + Sync, F: Folder, O: Sink, E: Sink>(
         × Comes (word_bytes (drop 1 all.items)) F.seen files.old files.new O.seen out.old out.new status
         × IsTold E.seen err.old err.new status) }
 
-    // A word that is no text is a fault of the caller; without any words there is no status.
+    // A word that is not text is a fault of the caller; without any words there is no status.
     ensures without { IfErr line (λ error. MatchOption (status_without (error_kind error)) (result ≡ no_words)
         (λ status. (result ≡ exit_number status) × IsTold E.seen err.old err.new status)) }
 
@@ -56,7 +56,7 @@ pub fn exit_of<R: Threads + Wait + Sync, F: Folder, O: Sink, E: Sink>(
     status.exit()
 }
 
-/// Gives the number where there are no words for this reason, and tells the status, if there is one.
+/// Gives the number if there are no words for this reason, and reports the status, if there is one.
 fn exit_without<E: Sink>(kind: ErrorKind, err: &mut E) -> u8
     ensures ends { MatchOption (status_without kind) (result ≡ no_words)
         (λ status. (result ≡ exit_number status) × IsTold E.seen err.old err.new status) }

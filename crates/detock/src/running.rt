@@ -39,7 +39,7 @@ pub fn run_text<R: Threads + Wait + Sync, F: Folder>(
     Ok(print(alloc, &report)?)
 }
 
-/// What is told of a run of the generated load of so many calls. No clause says that it returns.
+/// What is reported of a run of the generated load of n calls. No clause says that it returns.
 pub fn big_text<R: Threads + Wait + Sync>(
     rt: &R,
     alloc: Global,

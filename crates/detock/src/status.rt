@@ -16,9 +16,9 @@ pub enum Status {
     BadWords,
     /// The file that the word of this number names, counted from 1, could not be read.
     CannotRead(u32),
-    /// The cluster's file is no cluster; this is its first fault.
+    /// The cluster file is not a cluster; this is its first fault.
     BadCluster(ClusterFault),
-    /// The workload's file is no workload for the cluster, first by this line; line 0 stands for the whole file.
+    /// The workload file is not a workload for the cluster, first by this line; line 0 stands for the whole file.
     BadWorkload(u32, WorkloadCause),
     /// The file of events has a fault on this line; line 0 stands for the whole file.
     BadEvents(u32, EventsCause),
@@ -31,7 +31,7 @@ pub enum Status {
 pub enum EventsCause {
     /// The file is longer than 16 MiB.
     TooLong,
-    /// The line is not skipped, and is no event.
+    /// The line is not skipped, and is not an event.
     Form,
     /// The event of the line is not legal, by the rule of this number.
     Rule(u8),

@@ -131,7 +131,7 @@ fn reported(alloc: Global, report: &[&str], events: &[u8]) -> Result<Vec<u8>, Fa
     Ok(want)
 }
 
-/// How a call ends that tells a fault.
+/// How a call ends that reports a fault.
 fn refused(alloc: Global, exit: u8, line: &str) -> Result<Vec<u8>, Fail> {
     Ok(
         format!(in alloc; "{exit} {line}|")?
@@ -140,7 +140,7 @@ fn refused(alloc: Global, exit: u8, line: &str) -> Result<Vec<u8>, Fail> {
     )
 }
 
-/// A cluster and a workload, one of them at fault, the exit number, and the fault that is told.
+/// A cluster and a workload, one of them at fault, the exit number, and the fault that is reported.
 const FAULTS: [(&str, &str, u8, &str); 17] = [
     ("regions =\n", "no line\n", 4, "detock: cluster: no toml\n"),
     (
@@ -333,7 +333,7 @@ const ONE_PUT_REPORT: [&str; 6] = [
     "b = 5 home 0 moves 0",
 ];
 
-/// Words, the numbers of the loads that fail, the exit number, and the fault that is told.
+/// Words, the numbers of the loads that fail, the exit number, and the fault that is reported.
 const UNREAD: [(&[&str], &[u64], u8, &str); 12] = [
     (
         &["replay", "c", "w", "e"],

@@ -18,7 +18,7 @@ use std::thread::Threads;
 ///
 /// The cluster's file is loaded and read, then the workload's; a replay loads and reads that of the events too, all of whose lines
 /// are read before any event is tried in order, and a run makes its events by threads. The report is made whole in memory, and
-/// then written to `out`. Each status but `Done` is told to `err` by its line. No clause says that a run returns.
+/// then written to `out`. Each status but `Done` is reported to `err` by its line. No clause says that a run returns.
 pub fn detock<R: Threads + Wait + Sync, F: Folder, O: Sink, E: Sink>(
     rt: &R,
     alloc: Global,
@@ -56,7 +56,7 @@ pub fn detock_alone<F: Folder, O: Sink, E: Sink>(
     end(text, out, err)
 }
 
-/// The text that is asked for of threads, or why there is none.
+/// The text that is made by threads, or why there is none.
 fn threaded_text<R: Threads + Wait + Sync, F: Folder>(
     rt: &R,
     alloc: Global,
@@ -83,7 +83,7 @@ fn alone_text<F: Folder>(alloc: Global, words: &[String], files: &mut F) -> Resu
     replay_text(alloc, replay, files)
 }
 
-/// Writes the text, or hands on why there is none, and tells the status.
+/// Writes the text, or hands on why there is none, and reports the status.
 fn end<O: Sink, E: Sink>(text: Result<Vec<u8>, Status>, out: &mut O, err: &mut E) -> Status
     ensures ends { EndsBy O.seen out.old out.new text result }
     ensures told { IsTold E.seen err.old err.new result }
@@ -93,7 +93,7 @@ fn end<O: Sink, E: Sink>(text: Result<Vec<u8>, Status>, out: &mut O, err: &mut E
     status
 }
 
-/// Writes the text, or hands on why there is none.
+/// Writes the text, or passes on why there is none.
 fn status_of<O: Sink>(text: Result<Vec<u8>, Status>, out: &mut O) -> Status
     ensures { EndsBy O.seen out.old out.new text result }
 {

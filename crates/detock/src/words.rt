@@ -9,7 +9,7 @@ use dt_text::read_u32;
 /// Which cluster a word names.
 #[derive(Clone, Copy, Debug)]
 pub enum ClusterWord<'a> {
-    /// The built-in one of so many regions.
+    /// The built-in one of n regions.
     Builtin(u8),
     /// The one in the file of this name.
     File(&'a str),
@@ -40,7 +40,7 @@ pub struct RunWords<'a> {
 pub enum ThreadedWords<'a> {
     /// To run a workload.
     Run(RunWords<'a>),
-    /// To run the generated load of so many calls.
+    /// To run the generated load of n calls.
     Big(u32),
 }
 
@@ -104,7 +104,7 @@ fn big_words(words: &[String]) -> Option<u32>
     size_of(size.as_bytes())
 }
 
-/// The number from 1 to 20000 that the word is. `None` exactly where it is none.
+/// The number from 1 to 20000 that the word spells; `None` exactly if it spells none.
 fn size_of(word: &[u8]) -> Option<u32>
     ensures { MatchOption result (¬ IsSize word.now)
         (λ calls. (1 ≤ calls) × (calls ≤ 20000) × (word.now ≡ decimal calls)) }

@@ -1,4 +1,4 @@
--- The events of a node's turn go on from those that there were, one after another; and what packets tell stays so meanwhile.
+-- The events of a node's turn go on from those that there were, one after another; and what packets say stays so meanwhile.
 use Rattle.std.proofs.Common.{◌≡◌, ◌≢◌, ◌<◌, ◌≤◌, ◌^◌, ℕ, List, [], ◌∷◌, ◌++◌, length, get_or, set, refl, sym, ap, subst, ◌∙◌, append-nil, append_assoc}
 use Rattle.std.proofs.lemmas.List.{get_or-set_other}
 use Rattle.dt_events.specs.declared.Event.{Event}

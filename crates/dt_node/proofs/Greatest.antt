@@ -19,7 +19,7 @@ pub greatest_below : (n m : ℕ) (ms : List ℕ) → n ≤ m → AllIn (λ x. x 
 greatest_below n m [] le all = le
 greatest_below n m (x ∷ ms) le all = let one : x ≤ m = all.0 in greatest_below (max n x) m ms (omega (arith, le, one)) all.1
 
--- each of them is at most the greatest, so telling them twice tells no more
+-- each of them is at most the greatest, so reporting them twice adds nothing
 
 pub in_greatest : (n : ℕ) (ms : List ℕ) → AllIn (λ m. m ≤ greatest n ms) ms
 in_greatest n [] = tt

@@ -106,7 +106,7 @@ noted_moves {procs} p a = made_none {procs = procs} {packets = p ∷ []} {a = a}
       logs = λ home. omega arith;
     })
 
--- what is known then is the greatest of what was known and told
+-- what is known then is the greatest of what was known and reported
 pub noted_heard : (p : Packet) (a b : NodeView) → b.took ≡ set a.took p.source (max (get_or a.took p.source 0) p.took) → b.received ≡ set a.received p.source (max (get_or a.received p.source 0) p.received)
     → (other : ℕ) → other < length a.took → other < length a.received → HasHeard (p ∷ []) a b other
 noted_heard p a b took received other lt lr = go (cases_Bool (eqb p.source other))

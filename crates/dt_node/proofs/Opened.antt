@@ -143,7 +143,7 @@ module _ (p : Packet) {a : NodeView} (c : CanTake (p ∷ []) a) (r : RegionView)
       pub received_so_far : (procs : List ProcTree) → MovesOn procs (p ∷ []) a d
       received_so_far = logged_so_far p a c b asks d logged
 
-      -- and what it tells was noted
+      -- and what it reports was noted
       module _ (e : NodeView) (notes : e ≡ noted d p.source p.took p.received) where
         pub whole_moved : (procs : List ProcTree) → MovesOn procs (p ∷ []) a e
         whole_moved procs = subst (MovesOn procs (p ∷ []) a) (sym notes) (all_moved p a c b asks d logged procs)

@@ -37,7 +37,7 @@ pub own_within : {cluster : Cluster} {workload : Workload} {events : List Event}
 own_within {cluster} {workload} {events} {a} f =
     subst (λ (n : Node). taken_from n.here (number_of a) ≤ length (get_or n.here.asked (number_of a) [])) (sym f.site.node) (((inv (reached f)).logs (number_of a) f.number).taken (number_of a) f.number)
 
--- where so many are placed and no more were asked, all are placed
+-- where n are placed and no more were asked, all are placed
 pub own_placed : {a : NodeView} → CanTake [] a → (number : ℕ) → number ≡ taken_from a.site.region.state.here (number_of a)
     → length (get_or a.site.region.state.here.asked (number_of a) []) ≤ number → HasPlacedOwn a
 own_placed {a} c number is le = let within = own_within c.can.fits in omega (arith, within, is, le)

@@ -146,7 +146,7 @@ module _ (n : NodeView) (p : Packet) (here : p.target ≡ number_of n) where
   from_logs stamp lt (Execute region id) f = tt
   from_logs stamp lt (Answer region name) f = tt
 
--- a way that rests on less that is told rests on more
+-- a way that relies on fewer packets relies on more
 pub gone_by : {procs : List ProcTree} (xs ys : List Packet) {a b : NodeView}
     → ((cluster : Cluster) (workload : Workload) (events : List Event) → AreTold cluster workload events ys a → AreTold cluster workload events xs a) → HasGone procs xs a b → HasGone procs ys a b
 gone_by xs ys told g = record {

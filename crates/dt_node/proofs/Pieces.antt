@@ -1,4 +1,4 @@
--- One request after another of those that a packet has: each is told as if it came alone.
+-- One request after another of those that a packet has: each is treated as if it came alone.
 use Rattle.std.proofs.Common.{◌≡◌, ◌<◌, ◌≤◌, ◌+◌, ℕ, zero, suc, List, [], ◌∷◌, ◌++◌, length, map, drop, take, slice_get, Some, refl, sym, ap, subst, ◌∙◌, inl, inr, append_assoc, append-nil, arith}
 use Rattle.std.proofs.lemmas.List.{length-append, length-map, length_push, map-append}
 use Rattle.dt_lists.specs.Lists.{AllIn, AnyIn}
@@ -89,7 +89,7 @@ module _ {w : World} (b n : NodeView) (same : number_of n ≡ number_of b) (sour
     told = (subst (λ v. IsToldOf v (asking_packet n source number (x ∷ []))) e one_told, tt);
   }
 
--- the same of what is told after events
+-- the same of what is so after events
 piece_told : {cluster : Cluster} {workload : Workload} {events : List Event} (b n : NodeView) → number_of n ≡ number_of b → (source first number : ℕ) (done : List Txn) (x : Txn)
     (left asked : List Txn) → asked ≡ done ++ x ∷ left → number ≡ first + length done → AreTold cluster workload events (asking_packet b source first asked ∷ []) n
     → AreTold cluster workload events (asking_packet n source number (x ∷ []) ∷ []) n

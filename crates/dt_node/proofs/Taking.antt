@@ -1,4 +1,4 @@
--- Packets are taken one after another: what was taken of the first ones stays, and of what they tell the greatest is known.
+-- Packets are taken one after another: what was taken of the first ones stays, and of what they report the greatest is known.
 use Rattle.std.proofs.Common.{◌≡◌, ◌<◌, ◌≤◌, ℕ, List, [], ◌∷◌, ◌++◌, length, map, get_or, eqb, refl, sym, ap, subst, ◌∙◌, append-nil, append_assoc, arith}
 use Rattle.std.proofs.lemmas.List.{map-append}
 use Rattle.std.proofs.lemmas.List.Elements.{filter-append}

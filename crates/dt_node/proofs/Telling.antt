@@ -1,4 +1,4 @@
--- What packets tell stays so while the node that they wait for makes events, and so does all that a turn's calls rest on.
+-- What packets say stays so while the node that they wait for makes events, and so does all that a turn's calls rest on.
 use Rattle.std.proofs.Common.{◌≡◌, ◌≢◌, ◌<◌, ◌≤◌, ◌+◌, ◌^◌, ℕ, List, [], ◌∷◌, ◌++◌, length, map, drop, take, get_or, set, Some, sym, ap, subst, ◌∙◌, append-nil, arith}
 use Rattle.std.specs.Prelude.{slice_index}
 use Rattle.std.proofs.lemmas.List.{map-append, length-append}
@@ -30,7 +30,7 @@ use Rattle.dt_node.specs.TurnInner.{BeginsWithin, CanGo, CanTake, MovesOn}
 use Rattle.dt_node.proofs.Going.{reached}
 use Rattle.dt_node.proofs.Greatest.{greatest_below}
 
--- where the source's node is the same, and no transaction is lost, all that is told of it is so
+-- where the source's node is the same, and no transaction is lost, all that is said of it is so
 module _ {w v : World} {p : Packet} (same : node_at v p.source ≡ node_at w p.source) (stay : (id : TxnId) (txn : Txn) → txn_of w id ≡ Some txn → txn_of v id ≡ Some txn) (t : IsToldOf w p) where
   pub told_still : IsToldOf v p
   told_still = record {
@@ -52,7 +52,7 @@ module _ {cluster : Cluster} {workload : Workload} {me : ℕ} {p : Packet} (othe
       told_on new (record { events = k.events ++ e ∷ []; run = run_more k e legal.0; after = after_more k e }) legal.1 mine.1
       (told_still (ap (λ o. o.node) (frame cluster workload w p.source e (λ is. other (sym is ∙ mine.0)))) (λ id txn f. txns_stay k e legal.0 id txn f) t)
 
--- what is told stays so along a way of the node
+-- what packets say stays so along a way of the node
 pub told_along : {cluster : Cluster} {workload : Workload} {events : List Event} {packets : List Packet} {a b : NodeView} (new : List Event) → NodeFits cluster workload events a
     → AreLegalFrom cluster workload (world_after cluster workload events) new
     → AllIn (λ e. region_of e ≡ number_of a) new → number_of b ≡ number_of a → AreTold cluster workload events packets a → AreTold cluster workload (events ++ new) packets b
@@ -64,7 +64,7 @@ told_along {cluster} {workload} {events} {packets} {a} {b} new f legal mine numb
     later : world_after cluster workload (events ++ new) ≡ world_from cluster workload (world_after cluster workload events) new
     later = world_from_append cluster workload (opening_world cluster workload) events new
 
--- of fewer packets as much is told
+-- what all packets say, fewer packets say too
 
 pub told_first : {cluster : Cluster} {workload : Workload} {events : List Event} (xs ys : List Packet) {a : NodeView} → AreTold cluster workload events (xs ++ ys) a → AreTold cluster workload events xs a
 told_first xs ys t = record { addressed = all_append_left _ xs ys t.addressed; told = all_append_left _ xs ys t.told }

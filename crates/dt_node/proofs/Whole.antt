@@ -1,4 +1,4 @@
--- A whole packet: its stamp is heard, its requests are placed, its entries received, and what it tells of its source is noted.
+-- A whole packet: its stamp is heard, its requests are placed, its entries received, and what it says of its source is noted.
 use Rattle.std.proofs.Common.{◌≡◌, ◌<◌, ◌≤◌, ◌+◌, ◌-◌, ℕ, List, [], ◌∷◌, ◌++◌, length, max, get_or, set, sym, ap, ap₂, subst, ◌∙◌, arith}
 use Rattle.std.proofs.lemmas.List.{length-set, map-append}
 use Rattle.dt_events.specs.Stamps.{events_of}
@@ -57,7 +57,7 @@ module _ (p : Packet) (a : NodeView) (c : CanTake (p ∷ []) a) where
       pub logged_so_far : (procs : List ProcTree) → MovesOn procs (p ∷ []) a d
       logged_so_far procs = moves_same (asked_so_far procs) (moves_by_logging p here_still still_heard (logged procs))
 
-      -- and last what it tells is noted
+      -- and last what it says is noted
 
       pub counts_there : (p.source < length d.took) × (p.source < length d.received)
       counts_there =

@@ -4,7 +4,7 @@ use Rattle.std.specs.Prelude.{◌+◌, ◌-◌, ◌*◌, ℕ, length, sum_by, Op
 use Rattle.dt_session.specs.declared.sessions.Waiting.{Waiting}
 use Rattle.dt_session.specs.Sessions.{SessionsView}
 
--- how much is left for a session with so many calls that are not answered, in a cluster with so many tries
+-- how much is left for a session with n calls that are not answered, in a cluster with this many tries
 abbrev pub left_of : ℕ → ℕ → Option Waiting → ℕ
 -- while it waits, the tries of this call that are left, its answer, and all of its other calls
 left_of tries calls (Some waiting) = (calls - 1) * (tries + 2) + (tries - waiting.attempt) + 1

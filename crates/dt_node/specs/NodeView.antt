@@ -1,4 +1,4 @@
--- A node: one region of a cluster that runs by itself, with the sessions that stand at it. It has no other region in hand, and
+-- A node: one region of a cluster that runs by itself, with the sessions that stand at it. It sees no other region, and
 -- learns of them by packets alone. So it keeps of each other region how far that one is known to have come with what it is
 -- owed: how many of the node's requests it has placed, and how much of the node's log it has received. A node may know less
 -- than there is, and never more. One learns here what a node is, and what it sends to another region (`packet_for`): all that
@@ -32,7 +32,7 @@ pub record NodeView : Type 0 where
   pub received : List ℕ
   -- which of the packets that it sends are lost, and which come twice
   pub plan : LossPlan
-  -- how many turns it has made; so many packets it has sent to each other region
+  -- how many turns it has made, and so packets it has sent to each other region
   pub turns : ℕ
 
 -- the number of a node's region
@@ -54,7 +54,7 @@ opening_node_of cluster workload region = record {
 abbrev pub other_at : ℕ → ℕ → ℕ
 other_at me link = if nat_lt link me then link else link + 1
 
--- so many requests, and so many entries, a packet has at most
+-- the most requests, and the most entries, that a packet has
 unfoldable pub most_items : ℕ
 most_items = 256
 

@@ -1,6 +1,6 @@
--- When a packet is true. A packet tells what its source had at some time: requests, entries of its log, and how far it had
+-- When a packet is true. A packet says what its source had at some time: requests, entries of its log, and how far it had
 -- come with the requests and the log of the target. One learns here when that is so in a world (`IsToldOf`), and what it is for
--- a packet to be true after the stamped events of all regions (`IsTruePacket`): what it tells was so as soon as its source had
+-- a packet to be true after the stamped events of all regions (`IsTruePacket`): what it says was so as soon as its source had
 -- made its events up to the packet's stamp, and the target has all that comes before it. So a target that hears the stamp
 -- before it uses the packet gives its own events greater stamps than those of what it uses. Read next: `Standing`, when a node
 -- stands in a world.
@@ -16,7 +16,7 @@ use Rattle.dt_events.specs.Stamps.{events_of}
 use Rattle.dt_merge.specs.Merge.{AreLater}
 use Rattle.dt_node.specs.NodeView.{most_items}
 
--- what a packet tells is so in a world
+-- what a packet says is so in a world
 pub record IsToldOf (w : World) (p : Packet) : Type 0 where
   -- its requests are a stretch of what the source asked of the target, each with the transaction of its id
   pub asked_to : p.asked_at + length p.asked ≤ length (asked_of w p.source p.target)
@@ -38,5 +38,5 @@ pub record IsTruePacket (cluster : Cluster) (workload : Workload) (all : List St
   -- the target has all that comes before its requests and before its entries
   pub asked_from : p.asked_at ≤ taken_of (world_after cluster workload (events_of all)) p.target p.source
   pub entries_from : p.log_at ≤ received_of (world_after cluster workload (events_of all)) p.target p.source
-  -- what it tells is so, and was so wherever of its source only events with greater stamps were still to come
+  -- what it says is so, and was so whenever only events with greater stamps were still to come from its source
   pub told : (front rest : List Stamped) → all ≡ front ++ rest → AreLater p.source p.stamp rest → IsToldOf (world_after cluster workload (events_of front)) p

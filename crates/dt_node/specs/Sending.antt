@@ -53,7 +53,7 @@ pub record IsReady (n : NodeView) : Type 0 where
   pub took : length n.took ≡ n.site.region.state.regions
   pub received : length n.received ≡ n.site.region.state.regions
 
--- the packets for the other regions of so many links
+-- the packets for the other regions of the first n links
 abbrev pub packets_for : NodeView → ℕ → List Packet
 packets_for n links = map (λ link. packet_for n (other_at (number_of n) link)) (range_with_len 0 links)
 

@@ -1,7 +1,7 @@
 -- When a node stands in a world. The node knows its own region; the world is that of all regions. One learns here that the two
 -- agree (`NodeFits`): the world is one to which legal events lead, each of which changed something; the node's site and
 -- sessions are those of its region there; and what it knows of the other regions is not above what is so. A turn may be made
--- where there is such a world in which all packets that wait are true (`NodeStands`). Nobody has this world in hand. Read
+-- where there is such a world in which all packets that wait are true (`NodeStands`). Nobody holds this world. Read
 -- next: `Turn`, for what a turn makes of it.
 use Rattle.std.specs.Prelude.{◌≡◌, ◌≢◌, ◌<◌, ◌≤◌, ◌^◌, ℕ, List, length, get_or}
 use Rattle.dt_lists.specs.Lists.{AllIn}
@@ -49,7 +49,7 @@ pub record IsFor (regions me : ℕ) (p : Packet) : Type 0 where
   pub other : p.source ≢ me
   pub source : p.source < regions
 
--- packets for a node's region, of which all that they tell is so after these events
+-- packets for a node's region, of which all that they say is so after these events
 pub record AreTold (cluster : Cluster) (workload : Workload) (events : List Event) (packets : List Packet) (n : NodeView) : Type 0 where
   pub addressed : AllIn (IsFor cluster.regions (number_of n)) packets
   pub told : AllIn (IsToldOf (world_after cluster workload events)) packets

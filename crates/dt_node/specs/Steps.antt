@@ -28,19 +28,19 @@ use Rattle.dt_node.specs.NodeView.{NodeView, new_items, number_of}
 use Rattle.dt_node.specs.Turn.{HasGone, HasPlacedOwn, MayAnswerAt, MaySubmitAt}
 
 -- a node has made its way from one state to another by these events, in this order, and by no others; what it used of other
--- regions these packets told
+-- regions these packets reported
 pub record GoesBy (procs : List ProcTree) (packets : List Packet) (events : List Event) (before after : NodeView) : Type 0 where
   pub gone : HasGone procs packets before after
   pub made : events_of (new_items before after) ≡ events
 
 -- The first step: packets.
 
--- the events by which a region places so many requests of another one, or of its own, of which the first has this number
+-- the events by which a region places n requests of another one, or of its own, of which the first has this number
 abbrev pub placings : ℕ → ℕ → ℕ → ℕ → List Event
 placings home source first zero = []
 placings home source first (suc n) = Append home source first ∷ placings home source (first + 1) n
 
--- the event by which a region that has so many entries of a home's log receives the stretch of it from `first` to `last`; none
+-- the event by which a region that has n entries of a home's log receives the stretch of it from `first` to `last`; none
 -- where it has the whole stretch
 abbrev pub receipt : ℕ → ℕ → ℕ → ℕ → ℕ → List Event
 receipt region home has first last = if nat_lt has last then Deliver region home first last ∷ [] else []

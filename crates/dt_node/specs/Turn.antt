@@ -2,7 +2,7 @@
 -- one packet to each other region. One learns here what holds of this, one record each: its new events are legal after those
 -- of every world in which the node stood, and it stands in the world after them (`GoesAfter`); what it used of other regions came
 -- by packets (`AreBrought`); its stamps rise (`StampsRise`); it took all of every packet, and knows the greatest counts that
--- it was told (`HasTaken`); in the end nothing is left to do by itself (`IsSettled`); and its first turn begins with the first
+-- they report (`HasTaken`); in the end nothing is left to do by itself (`IsSettled`); and its first turn begins with the first
 -- calls of its sessions (`BeginsEagerly`). Read next: `Steps`, for the order in which all this is done.
 use Rattle.std.specs.Prelude.{◌≡◌, ◌≢◌, ◌<◌, ◌≤◌, ◌+◌, ◌==◌, ◌⊎◌, ℕ, List, [], ◌∷◌, ◌++◌, length, map, filter, max, get_or, Option, option_and_then}
 use Rattle.dt_lists.specs.Lists.{AllIn, AnyIn, EachThen, IsFront}
@@ -33,13 +33,13 @@ pub record GoesAfter (cluster : Cluster) (workload : Workload) (events new : Lis
   pub changing : AllChange cluster workload (world_after cluster workload events) new
   pub fits : NodeFits cluster workload (events ++ new) after
 
--- a node has made its way from one state to another, by what these packets tell: it kept events of its own, which go on from
+-- a node has made its way from one state to another, by what these packets say: it kept events of its own, which go on from
 -- whatever events there were
 pub record HasGone (procs : List ProcTree) (packets : List Packet) (before after : NodeView) : Type 0 where
   -- what it kept stays, and the new events come behind
   pub grows : after.site.region.events ≡ before.site.region.events ++ new_items before after
   pub mine : AllIn (λ x. region_at x ≡ number_of before) (new_items before after)
-  -- this holds for all events of all regions after which the node stood in the world, and what the packets tell was so
+  -- this holds for all events of all regions after which the node stood in the world, and what the packets say was so
   pub goes : (cluster : Cluster) (workload : Workload) (events : List Event) → procs ≡ cluster.procs → NodeFits cluster workload events before
       → AreTold cluster workload events packets before → GoesAfter cluster workload events (events_of (new_items before after)) after
   -- whose it is stays, and its plan
@@ -99,12 +99,12 @@ pub record IsTaken (n : NodeView) (p : Packet) : Type 0 where
 abbrev pub those_from : ℕ → List Packet → List Packet
 those_from source packets = filter (λ p. p.source == source) packets
 
--- what is known of a region is the greatest that was known or told
+-- what is known of a region is the greatest that was known or reported
 pub record HasHeard (packets : List Packet) (before after : NodeView) (other : ℕ) : Type 0 where
   pub took : get_or after.took other 0 ≡ greatest (get_or before.took other 0) (map (λ p. p.took) (those_from other packets))
   pub received : get_or after.received other 0 ≡ greatest (get_or before.received other 0) (map (λ p. p.received) (those_from other packets))
 
--- all packets were taken, and all that they tell is known
+-- all packets were taken, and all that they report is known
 pub record HasTaken (packets : List Packet) (before after : NodeView) : Type 0 where
   pub each : AllIn (IsTaken after) packets
   pub many_took : length after.took ≡ length before.took

@@ -35,7 +35,7 @@ pub record BeginsWithin (n : NodeView) (p : Packet) : Type 0 where
   pub asked : p.asked_at ≤ taken_from n.site.region.state.here p.source
   pub entries : p.log_at ≤ length (log_at n.site.region.state.logs p.source)
 
--- there is a world in which the node stands and all that the packets tell is so; each event has taken one stamp at most
+-- there is a world in which the node stands and all that the packets say is so; each event has taken one stamp at most
 -- since the turn began
 pub record CanGo (procs : List ProcTree) (packets : List Packet) (n : NodeView) : Type 0 where
   pub cluster : Cluster
@@ -85,7 +85,7 @@ logging_packet n source first entries = record {
   received = 0;
 }
 
--- a node after it was told how far another region has come
+-- a node after it learnt how far another region has come
 abbrev pub noted : NodeView → ℕ → ℕ → ℕ → NodeView
 noted n source took received = record n {
   took = set n.took source (max (get_or n.took source 0) took);

@@ -1,7 +1,7 @@
 //! A node: one region of a cluster that runs by itself, with the sessions that stand at it.
 //!
-//! A cluster runs in phases, and in each every node makes one turn, beside all others. In a turn a node waits for nobody. It
-//! has no other region in hand, and knows of them what packets brought it:
+//! A cluster runs in phases, and in each every node makes one turn, as do all others. In a turn a node waits for no other. It
+//! cannot see other regions, and knows of them what packets brought it:
 //!
 //! 1. It takes every packet that waits. Of each it hears the stamp, places the requests, receives the entries of the source's
 //!    log, and notes how far the source has come with its own requests and its own log (`receiving.rt`).

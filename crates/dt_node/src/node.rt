@@ -113,7 +113,7 @@ impl<S: Scheduler + Drop> Node<S> {
 
     /// Makes a turn. `ins` and `outs` have one end for each other region, in ascending order of regions. What waits at the
     /// inlets has to be true in a world in which the node stands, and each outlet needs two free places. It fails only for
-    /// want of memory; then packets and the number of turns are given up, and what the node kept goes on from what there was.
+    /// out of memory; then packets and the number of turns are given up, and what the node kept goes on from what there was.
     pub fn turn<D: Rounds<Region<S>>, I: Inlet, O: Outlet>(
         &mut self,
         alloc: Global,
@@ -211,7 +211,7 @@ impl<S: Scheduler + Drop> Node<S> {
     }
 }
 
-/// A zero for each of so many regions.
+/// A zero for each of n regions.
 fn zeros(alloc: Global, regions: u8) -> Result<Vec<u32>, NoMemory>
     ensures { IfOk result (λ counts. counts.items ≡ replicate regions 0) }
 {

@@ -13,7 +13,7 @@ use dt_text::NoMemory;
 use dt_txn::{Entries, Entry, Txns};
 use std::alloc::Global;
 
-/// So many requests, and so many entries, a packet has at most.
+/// The most requests, and the most entries, that a packet has.
 const MOST_ITEMS: usize = 256;
 
 impl<S: Scheduler + Drop> Node<S> {

@@ -74,7 +74,7 @@ module _ {cluster : Cluster} {workload : Workload} (all : List Stamped) {n : Nod
   pub placed_early : length (log_of w (number_of n)) ≡ placings_in n.site.region.events
   placed_early = counted.placed ∙ ap placings_in kept_is
 
-  -- what is told of it in this world
+  -- what is said of it in this world
   module _ (v' : NodesView) (p : Packet) (told : IsToldOf w p) (from : p.source ≡ number_of n) (made : ℕ) (before : kept_before v' (number_of n) (suc made) ≡ n.site.region.events) where
     pub request_planned : (home number stamp : ℕ) → home < cluster.regions → BringsRequest home (number_of n) number stamp p
         → IsFront (get_or n.site.region.state.here.asked home []) (get_or (node_in v' (number_of n)).site.region.state.here.asked home []) → WasAskedBefore v' (suc made) (number_of n) home number

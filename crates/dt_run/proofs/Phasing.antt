@@ -1,4 +1,4 @@
--- One turn of each node: told one after another, their events go on from those that there were, and each node stands in the
+-- One turn of each node: taken one after another, their events go on from those that there were, and each node stands in the
 -- world after all of them.
 use Rattle.std.proofs.Common.{◌≡◌, ◌≢◌, ◌<◌, ◌≤◌, ℕ, zero, suc, List, [], ◌++◌, length, set, Some, refl, sym, ap, subst, ◌∙◌, inl, inr, arith, append-nil, append_assoc}
 use Rattle.std.specs.Prelude.{slice_index}
@@ -103,7 +103,7 @@ module _ {cluster : Cluster} {workload : Workload} {events : List Event} {packet
       knows : (other : ℕ) → KnowsNoMore w n other → (taken_of w other (number_of n) ≤ taken_of v other (number_of n)) × (received_of w other (number_of n) ≤ received_of v other (number_of n)) → KnowsNoMore v n other
       knows other k c = record { took = let a = k.took in let b = c.0 in omega (arith, a, b); received = let a = k.received in let b = c.1 in omega (arith, a, b) }
 
-  -- and what it is told is still so
+  -- and what packets say to it is still so
   pub other_told : {n : NodeView} {others : List Packet} → number_of n < cluster.regions → AreTold cluster workload events others n → AreTold cluster workload (events ++ new_events) others n
   other_told {n} {others} lt a = record {
     addressed = a.addressed;
@@ -116,16 +116,16 @@ module _ {cluster : Cluster} {workload : Workload} {events : List Event} {packet
           let c = counts p.source p.target target (either_nat p.source (number_of before)) in
           told_grows (good_world f) goes_to.after goes_to.grown goes_to.txns to.source target c.0 c.1 i
 
--- what the turns of the first so many nodes made
+-- what the turns of the first n nodes made
 abbrev pub made : (ℕ → NodeView) → (ℕ → NodeView) → ℕ → List Stamped
 made node node' zero = []
 made node node' (suc n) = made node node' n ++ new_items (node n) (node' n)
 
--- all events after the turns of the first so many
+-- all events after the turns of the first n
 abbrev pub events_at : List Stamped → (ℕ → NodeView) → (ℕ → NodeView) → ℕ → List Event
 events_at all node node' n = events_of (all ++ made node node' n)
 
--- how all stand after the turns of the first so many
+-- how all stand after the turns of the first n
 pub record SoFar (cluster : Cluster) (workload : Workload) (all : List Stamped) (node node' : ℕ → NodeView) (packets : ℕ → List Packet) (n : ℕ) : Type 0 where
   pub grown : HaveGrown (world_after cluster workload (events_of all)) (world_after cluster workload (events_at all node node' n))
   pub txns : (id : TxnId) (txn : Txn) → txn_of (world_after cluster workload (events_of all)) id ≡ Some txn → txn_of (world_after cluster workload (events_at all node node' n)) id ≡ Some txn

@@ -26,7 +26,7 @@ use Rattle.dt_run.proofs.Laws.{events_few}
 use Rattle.dt_run.proofs.QuietPhases.{done_now, exact_and_put, exact_now, exact_or_put}
 use Rattle.dt_run.proofs.StaysDone.{stays_done}
 
--- there are only so many events
+-- the number of events is bounded
 pub kept_few : {v : NodesView} → AreNodes v → all_kept_in v ≤ most_events v.cluster v.workload
 kept_few {v} n =
     let a : all_kept_in v ≡ sum_below (λ q. length (those_at q n.all)) v.cluster.regions =

@@ -1,5 +1,5 @@
 -- A silent phase changes nothing but what nodes know: each node stands in the world in which it stood, what it knew exactly it
--- still knows so, and it knows exactly what packets told it that waited.
+-- still knows so, and it knows exactly what the packets that waited said.
 use Rattle.std.proofs.Common.{◌≡◌, ◌≢◌, ◌<◌, ◌≤◌, ◌+◌, ◌-◌, ℕ, zero, suc, eqb, List, [], ◌∷◌, ◌++◌, length, map, max, get_or, drop, min, refl, sym, ap, subst, ◌∙◌, inl, inr}
 use Rattle.std.proofs.Common.{arith, append-nil, eq-eqb}
 use Rattle.std.specs.Prelude.{flat_map}

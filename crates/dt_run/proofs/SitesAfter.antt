@@ -1,4 +1,4 @@
--- The sites of all nodes, as a report takes them: each stands in the world after the events that it tells of.
+-- The sites of all nodes, as a report takes them: each stands in the world after the events that the report shows.
 use Rattle.std.proofs.Common.{◌≡◌, ◌<◌, ◌≤◌, ℕ, List, length, map, get_or, sym, ap, subst, ◌∙◌, arith}
 use Rattle.std.proofs.lemmas.List.{length-map}
 use Rattle.dt_lists.proofs.Callers.{get_of_map}

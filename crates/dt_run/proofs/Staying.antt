@@ -1,4 +1,4 @@
--- What other regions do leaves a node where it stands, and what packets tell stays so.
+-- What other regions do leaves a node where it stands, and what packets say stays so.
 use Rattle.std.proofs.Common.{◌≡◌, ◌≢◌, ◌<◌, ◌≤◌, ◌+◌, ℕ, List, [], ◌∷◌, ◌++◌, length, set, drop, take, Option, None, Some, option_map, refl, sym, ap, subst, ◌∙◌, arith}
 use Rattle.std.specs.Prelude.{unwrap_or}
 use Rattle.std.proofs.lemmas.List.{length-append, take-append-le}
@@ -111,7 +111,7 @@ module _ {cluster : Cluster} {workload : Workload} {w v : World} {region : ℕ} 
     seats = λ name. s.seats name ∙ seat_same name (session_at workload.sessions w.places region name) refl ∙ ap (option_map (seat_in v)) (found_same name);
   }
 
--- what a packet tells stays so
+-- what a packet says stays so
 
 take_front : {A : Type 0} (n : ℕ) (xs ys : List A) → n ≤ length xs → IsFront xs ys → take n ys ≡ take n xs
 take_front n xs ys le f = subst (λ l. take n l ≡ take n xs) f.1 (take-append-le n xs f.0 le)

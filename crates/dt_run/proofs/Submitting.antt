@@ -141,7 +141,7 @@ no_outcome s id none h = go s.here.done none h
       | false ↦ λ t. go es (rw t at e) h
     ] refl
 
--- what is told of a thing behind a reference
+-- what is known of a thing behind a reference
 pub some_held : {A : Type 0} (o : Option (Bor A)) (h : Option A) → option_copied o ≡ h → is_some o ≡ true → h ≢ None
 some_held None h e s = absurd (false≢true s)
 some_held {A} (Some b) h e s = λ n. let bad : ◌≡◌ {A = Option A} None (Some b.now) = sym n ∙ sym e in cc

@@ -14,7 +14,7 @@ use Rattle.dt_run.specs.Silence.{ComesToAnEnd, PhaseIsCounted, made_in, most_pha
 abbrev pub BeginsToEnd : Type 0
 BeginsToEnd = (cluster : Cluster) (workload : Workload) → ComesToAnEnd (opening_nodes cluster workload)
 
--- what waits for each node is told of the world in which the nodes stand
+-- what waits for each node is true in the world in which the nodes stand
 abbrev pub AreAllTold : (v : NodesView) → AreNodes v → Type 0
 AreAllTold v n = (region : ℕ) → region < v.cluster.regions → AreTold v.cluster v.workload (events_of n.all) (waiting_at v region) (node_in v region)
 

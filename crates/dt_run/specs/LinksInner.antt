@@ -37,7 +37,7 @@ pub record LinkAdded (source target : ℕ) (before after : List SeatView) : Type
   pub other_outs : (region : ℕ) → region ≢ source → (seat_at after region).outs ≡ (seat_at before region).outs
   pub other_ins : (region : ℕ) → region ≢ target → (seat_at after region).ins ≡ (seat_at before region).ins
 
--- a seat has so many ends of links of each kind
+-- a seat has n ends of links of each kind
 pub record HasEnds (count : ℕ) (s : SeatView) : Type 0 where
   pub outs : length s.outs ≡ count
   pub ins : length s.ins ≡ count
@@ -47,7 +47,7 @@ pub record IsJoined (seats : List SeatView) (source target : ℕ) : Type 0 where
   pub inlet : link_to target source < length (seat_at seats target).ins
   pub fresh : (d : RingOutView) (e : RingInView) → AreFresh (out_at seats source target d) (in_at seats source target e)
 
--- of these new seats, those of the regions below one are linked with each other, and that one with so many of the first of them
+-- of these new seats, those of the regions below one are linked with each other, and that one with the first n of them
 pub record LinkedSoFar (region other : ℕ) (before now : List SeatView) : Type 0 where
   pub seats : map without_links now ≡ before
   pub first : (r : ℕ) → r < other → HasEnds region (seat_at now r)
@@ -64,7 +64,7 @@ pub record SameButLinks (before after : SeatView) : Type 0 where
   pub ins : length after.ins ≡ length before.ins
   pub outs : length after.outs ≡ length before.outs
 
--- the ends of each link from the first so many seats were brought beside each other, and those of all others are as before
+-- the ends of each link from the first n seats were brought beside each other, and those of all others are as before
 pub record BesideSoFar (count : ℕ) (before now : List SeatView) : Type 0 where
   pub many : length now ≡ length before
   pub same : (region : ℕ) → region < length before → SameButLinks (seat_at before region) (seat_at now region)
@@ -89,7 +89,7 @@ pub record SameButIns (before after : SeatView) : Type 0 where
   pub outs : after.outs ≡ before.outs
   pub ins : length after.ins ≡ length before.ins
 
--- the first so many outlets of a seat were brought beside their inlets, and all else is as before
+-- the first n outlets of a seat were brought beside their inlets, and all else is as before
 pub record RowSoFar (source count : ℕ) (row : List RingOutView) (before : List SeatView) (row' : List RingOutView) (now : List SeatView) : Type 0 where
   pub many : length now ≡ length before
   pub many_outs : length row' ≡ length row

@@ -1,4 +1,4 @@
--- Which events are planned. No report tells of packets; that they were lost and repeated as the cluster's plan says is seen from
+-- Which events are planned. No report mentions packets; that they were lost and repeated as the cluster's plan says is seen from
 -- the phases in which regions kept their events. One learns here what a region may have taken from another one in a phase: only
 -- what that one had before, and only where the packets of the phase before were not lost (`ArePlanned`). Read next: `NodesStand`,
 -- for all that holds between two phases.
@@ -17,7 +17,7 @@ use Rattle.dt_run.specs.NodesView.{NodesView, marks_at, node_in}
 abbrev pub plan_of : Cluster → LossPlan
 plan_of cluster = record { drop = cluster.drop; repeat = cluster.repeat }
 
--- a mark of a region: how many events it had kept after so many phases
+-- a mark of a region: how many events it had kept after n phases
 abbrev pub mark_at : NodesView → ℕ → ℕ → ℕ
 mark_at v region phase = get_or (0 ∷ marks_at v region) phase 0
 
@@ -61,7 +61,7 @@ pub record WasAskedBefore (v : NodesView) (phase source home number : ℕ) : Typ
   pub asked : slice_get (get_or (node_in v source).site.region.state.here.asked home []) number ≡ Some id
   pub early : id.seq ≤ submissions_in (kept_before v source phase)
 
--- a region had placed so many parts in its log before a phase
+-- a region had placed n parts in its log before a phase
 abbrev pub WerePlacedBefore : NodesView → ℕ → ℕ → ℕ → Type 0
 WerePlacedBefore v phase home last = last ≤ placings_in (kept_before v home phase)
 
@@ -76,7 +76,7 @@ IsPlannedIn v phase (Append home source number) = home ≢ source → IsToldIn v
 IsPlannedIn v phase (Deliver region home first last) = region ≢ home → IsToldIn v.cluster phase × WerePlacedBefore v phase home last
 IsPlannedIn v phase event = Unit {0}
 
--- the marks of a region after so many phases: they never fall, and the last one counts all that the region has kept
+-- the marks of a region after n phases: they never fall, and the last one counts all that the region has kept
 pub record AreMarksOf (v : NodesView) (made region : ℕ) : Type 0 where
   pub many : length (marks_at v region) ≡ made
   pub rise : (phase : ℕ) → phase < made → mark_at v region phase ≤ mark_at v region (phase + 1)

@@ -5,7 +5,7 @@ use Rattle.dt_events.specs.declared.Stamped.{Stamped}
 use Rattle.dt_events.specs.Stamps.{events_of}
 use Rattle.dt_merge.specs.Merge.{AreKept, IsMerge, kept_at}
 
--- of the first so many lists, this is the first whose first item, which is this one, has the least stamp
+-- of the first n lists, this is the first whose first item, which is this one, has the least stamp
 pub record IsLeastOf (kept : List (List Stamped)) (below region : ℕ) (stamp : ℕ) : Type 0 where
   pub within : region < below
   pub first : Stamped
@@ -15,7 +15,7 @@ pub record IsLeastOf (kept : List (List Stamped)) (below region : ℕ) (stamp : 
   pub least : (other : ℕ) (y : Stamped) (ys : List Stamped) → other < below → other ≢ region → kept_at kept other ≡ y ∷ ys
       → (stamp < y.stamp) ⊎ ((stamp ≡ y.stamp) × (region < other))
 
--- what was found among the first so many lists; none exactly where all of these are empty
+-- what was found among the first n lists; none exactly if all of these are empty
 abbrev pub IsFoundIn : List (List Stamped) → ℕ → Option (ℕ × ℕ) → Type 0
 IsFoundIn kept below None = (region : ℕ) → region < below → kept_at kept region ≡ []
 IsFoundIn kept below (Some (region, stamp)) = IsLeastOf kept below region stamp

@@ -1,4 +1,4 @@
--- What holds of all nodes between two phases. Nobody has all of a cluster's events in hand as one list; but there is such a list,
+-- What holds of all nodes between two phases. Nobody sees all of a cluster's events as one list; but there is such a list,
 -- in the order in which they were made, and each node stands in the world after it. One learns here all that the type of the
 -- nodes keeps (`AreNodes`): such a list, and, unless some phase failed, what the links, the marks and the turns have to do with
 -- it (`AreInStep`). Read next: `Phase`, for what a phase makes.
@@ -30,7 +30,7 @@ pub record IsOnLink (cluster : Cluster) (number : ℕ) (packet : Packet) (waitin
   pub is : IsVerdict (plan_of cluster) number verdict
   pub copies : waiting ≡ copies_of verdict packet
 
--- what waits on the link from one region to another after so many phases
+-- what waits on the link from one region to another after n phases
 abbrev pub LinkTells : NodesView → ℕ → ℕ → ℕ → Type 0
 LinkTells v zero source target = waiting_between v source target ≡ []
 LinkTells v (suc made) source target = IsOnLink v.cluster (suc made) (packet_for (node_in v source) target) (waiting_between v source target)
@@ -40,7 +40,7 @@ abbrev pub BeganEagerly : Cluster → Workload → ℕ → List Stamped → Type
 BeganEagerly cluster workload region kept =
     IsFront (first_events cluster region (opening_table cluster) (first_calls (sessions_at region workload.sessions)) 0) (events_of kept)
 
--- the node of a region after so many phases
+-- the node of a region after n phases
 pub record IsInStep (v : NodesView) (made region : ℕ) : Type 0 where
   -- it has made a turn in each
   pub turns : (node_in v region).turns ≡ made

@@ -22,7 +22,7 @@ pub record NodesView : Type 0 where
   pub waiting : List (List (List Packet))
   -- the marks of each region
   pub marks : List (List ℕ)
-  -- some phase has failed for want of memory; then links and marks are given up
+  -- some phase has run out of memory; then links and marks are given up
   pub broken : Bool
 
 -- stands for a node that there is not

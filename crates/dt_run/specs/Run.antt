@@ -1,4 +1,4 @@
--- What a run gives: the report of the events that the nodes have kept, told as one list in the order of stamps. One learns here
+-- What a run gives: the report of the events that the nodes have kept, as one list in the order of stamps. One learns here
 -- that this list is a legal run of the cluster and its workload, eager and finished (`IsRun`). Read next: src/lib.rt.
 use Rattle.std.specs.Prelude.{◌≡◌, List}
 use Rattle.dt_events.specs.declared.Event.{Event}
@@ -18,7 +18,7 @@ pub record AreMerged (kept : List (List Stamped)) (events : List Event) : Type 0
   pub is : IsMerge kept merged
   pub events_are : events ≡ events_of merged
 
--- these are the events that the nodes have kept, and they are a legal run, in which nothing was done in vain and nothing is left
+-- these are the events that the nodes have kept, and they are a legal run, in which every event counts and nothing is left
 pub record IsRun (v : NodesView) (events : List Event) : Type 0 where
   pub merged : AreMerged (kept_by v.nodes) events
   pub legal : AreLegal v.cluster v.workload events

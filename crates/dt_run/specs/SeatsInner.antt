@@ -51,7 +51,7 @@ seen_out out = record { put = out.put; free = out.free }
 abbrev pub waits_in : RingInView → List Packet
 waits_in inlet = inlet.waits
 
--- so many places a link has
+-- how many places a link has
 unfoldable pub places_of_link : ℕ
 places_of_link = 8
 

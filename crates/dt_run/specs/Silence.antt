@@ -25,11 +25,11 @@ made_in v = length (marks_at v 0)
 abbrev pub all_kept_in : NodesView → ℕ
 all_kept_in v = sum_below (λ region. length (kept_by_region v region)) v.cluster.regions
 
--- how many they had kept after so many phases
+-- how many they had kept after n phases
 abbrev pub all_kept_after : NodesView → ℕ → ℕ
 all_kept_after v phase = sum_below (λ region. mark_at v region phase) v.cluster.regions
 
--- of so many phases, how many of the last ones were silent: in none of them an event was kept
+-- of n phases, how many of the last ones were silent: in none of them an event was kept
 abbrev pub quiet_after : NodesView → ℕ → ℕ
 quiet_after v zero = 0
 quiet_after v (suc made) = if all_kept_after v made == all_kept_after v (suc made) then quiet_after v made + 1 else 0
@@ -46,7 +46,7 @@ counts_in v = record { made = made_in v; kept = all_kept_in v; quiet = quiet_in 
 pub record IsSilent (before after : NodesView) : Type 0 where
   pub each : (region : ℕ) → region < before.cluster.regions → kept_by_region after region ≡ kept_by_region before region
 
--- a phase is counted: one more is made, nothing that was kept is lost, and the silent ones go on or begin anew
+-- a phase is counted: one more is made, nothing that was kept is lost, and the run of silent ones continues or restarts
 pub record PhaseIsCounted (before after : NodesView) : Type 0 where
   pub made : made_in after ≡ made_in before + 1
   pub kept : all_kept_in before ≤ all_kept_in after
@@ -86,10 +86,10 @@ pub record ComesToAnEnd (v : NodesView) : Type 0 where
   -- so there are no more than three in a row
   pub few_quiet : ¬ (IsAllDone v) → quiet_in v ≤ 3
   pub few_made : ¬ (IsAllDone v) → made_in v ≤ 4 * all_kept_in v + quiet_in v
-  -- and there are only so many events
+  -- and the number of events is bounded
   pub few_kept : all_kept_in v ≤ most_events v.cluster v.workload
 
--- so many phases are made at most until all is done
+-- the most phases that are made until all is done
 abbrev pub most_phases : Cluster → Workload → ℕ
 most_phases cluster workload = 4 * most_events cluster workload + 4
 

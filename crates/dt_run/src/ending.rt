@@ -6,7 +6,7 @@ pub fn begins_to_end()
     ensures { BeginsToEnd }
 {}
 
-/// A phase is one more, loses nothing that was kept, and makes the silent ones go on or begin anew.
+/// A phase is one more, loses nothing that was kept, and continues or restarts the run of silent ones.
 pub fn each_phase_is_counted()
     ensures { EachPhaseIsCounted }
 {}

@@ -2,17 +2,17 @@
 //!
 //! In a phase every node makes one turn, each in a thread of its own where one can be made ([`Nodes::phase`]). A node knows
 //! nothing of what the others do meanwhile: what it sends waits on a link, and becomes known between two phases, when the ends
-//! of each link are brought beside each other (`links.rt`). [`run`] makes phases until all is done; there are only so many of
-//! them, whatever packets are lost (`specs/Silence`, and the laws of `ending.rt`).
+//! of each link are brought beside each other (`links.rt`). [`run`] makes phases until all is done; there is a bound on
+//! their number, whatever packets are lost (`specs/Silence`, and the laws of `ending.rt`).
 //!
-//! Nobody has the events of all regions as one list while they are made. In the end they are told in the order of their stamps
+//! Nobody has the events of all regions as one list while they are made. In the end they are put in the order of their stamps
 //! (`merging.rt`): this list is legal, and it leads to the world in which all nodes are, by the laws of `dt_merge`. So whatever
-//! is proved of a list of events holds of what ran. The report is that of this list, and the nodes tell it (`sites.rt`):
+//! is proved of a list of events holds of what ran. The report is that of this list, read off the nodes (`sites.rt`):
 //! nothing is executed again.
 //!
 //! The type of [`Nodes`] keeps what makes this so (`specs/NodesStand`): some list has the events of all nodes in the order in
 //! which they were made, each node stands in the world after it, and each packet that waits is what its source would send
-//! now. One turn of each node, told one after another, makes the list longer, since a turn's events go on from whatever
+//! now. One turn of each node, taken one after another, makes the list longer, since a turn's events go on from whatever
 //! events there were (`HasGone` of `dt_node`).
 //!
 //! Read next: `specs/NodesView`, `specs/Marks`, `specs/NodesStand`, `specs/Phase`, `specs/Done`, `specs/Run`, `specs/Silence`;

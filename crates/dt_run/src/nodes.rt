@@ -41,7 +41,7 @@ use std::thread::Threads;
 /// All nodes of a cluster, and the links between them, with the cluster and the workload.
 ///
 /// Contracts see each node, as `waiting` the packets that wait on each link between two phases, as `marks` of each region how
-/// many events it had kept after each phase, and as `broken` whether a phase has failed for want of memory.
+/// many events it had kept after each phase, and as `broken` whether a phase has run out of memory.
 #[derive(Drop)]
 pub struct Nodes<S: Scheduler + Drop> {
     cluster: Cluster,
@@ -106,7 +106,7 @@ impl<S: Scheduler + Drop> Nodes<S> {
         are_answered(self.seats.as_slice()) && have_done_all(self.seats.as_slice())
     }
 
-    /// The report of the events that all nodes have kept, in the order of their stamps. It is told by the nodes, and nothing is
+    /// The report of the events that all nodes have kept, in the order of their stamps. It is read off the nodes, and nothing is
     /// executed again.
     pub fn report(&self, alloc: Global) -> Result<Report, NoMemory>
         requires phases { 1 ≤ length (marks_at self.now 0) }
@@ -139,7 +139,7 @@ impl<S: Scheduler + Drop> Nodes<S> {
 
 impl<S: Scheduler + Drop + Send> Nodes<S> {
     /// Runs one turn of every node, by a parallel call over the list of nodes. Rounds are made by as many workers as the cluster
-    /// says, each of which passes the gate between its work and its commit. It fails only for want of memory; then some turns
+    /// says, each of which passes the gate between its work and its commit. It fails only if memory runs out; then some turns
     /// may be made in part, and links and marks are given up.
     pub fn phase<R: Threads + Wait + Sync, G: Gate>(
         &mut self,

@@ -99,7 +99,7 @@ impl<S: Scheduler + Drop> Seat<S> {
         self.failed = failed;
     }
 
-    /// Makes a turn, and adds a mark. It fails only for want of memory.
+    /// Makes a turn, and adds a mark. It fails only if memory runs out.
     fn make_turn<D: Rounds<Region<S>>>(
         &mut self,
         alloc: Global,
@@ -127,7 +127,7 @@ impl<S: Scheduler + Drop> Seat<S> {
     }
 }
 
-/// Makes a turn of a node over the ends of its links. It fails only for want of memory.
+/// Makes a turn of a node over the ends of its links. It fails only if memory runs out.
 fn turn_node<S: Scheduler + Drop, D: Rounds<Region<S>>>(
     node: &mut Node<S>,
     alloc: Global,

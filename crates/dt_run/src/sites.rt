@@ -1,4 +1,4 @@
-//! The sites of all nodes, which a report is told by.
+//! The sites of all nodes, from which a report is made.
 ghost use Rattle.std.specs.Prelude.{◌≡◌, map, IfOk};
 
 use crate::seat::Seat;

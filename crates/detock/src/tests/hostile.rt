@@ -12,7 +12,7 @@ use std::thread::Threads;
 /// The bytes that the report of one put has.
 const REPORT_BYTES: u64 = 140;
 
-/// Whether a run of the shop tells the word whose load fails, and writes nothing.
+/// Whether a run of the shop reports the word whose load fails, and writes nothing.
 fn each_failing_load_is_told<R: Threads + Wait + Sync>(
     rt: &R,
     alloc: Global,
@@ -88,7 +88,7 @@ const CUT_IN_A_LINE: [(usize, usize, u32); 5] = [
 /// At which lengths events that are cut there have none.
 const CUT_BEHIND_AN_EVENT: [usize; 11] = [0, 10, 11, 23, 24, 34, 35, 48, 49, 59, 60];
 
-/// Whether events that are cut in a line tell that line.
+/// Whether events that are cut in a line have that line reported.
 fn each_cut_in_a_line_is_told<R: Threads + Wait + Sync>(
     rt: &R,
     alloc: Global,
@@ -140,7 +140,7 @@ fn of_long_file<R: Threads + Wait + Sync>(
     call(rt, alloc, &["replay", "c", "w", "e"], files, (AMPLE, AMPLE))
 }
 
-/// Whether each file that is too long is told.
+/// Whether each file that is too long is reported.
 fn each_long_file_is_told<R: Threads + Wait + Sync>(rt: &R, alloc: Global) -> Result<bool, Fail> {
     let mut holds = true;
     for (name, exit, line) in [
@@ -200,7 +200,7 @@ fn repeated(alloc: Global, file: Repeated) -> Result<Vec<u8>, Fail> {
     Ok(bytes)
 }
 
-/// Whether each thing that is one too many is told.
+/// Whether each thing that is one too many is reported.
 fn each_thing_too_many_is_told<R: Threads + Wait + Sync>(
     rt: &R,
     alloc: Global,

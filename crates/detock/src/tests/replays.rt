@@ -57,7 +57,7 @@ const CROSSING_URGENT: &[&str] = &[
     "call/2 xfer \"a\" \"b\" 4",
 ];
 
-/// The same two, with the rank that a call has which tells none.
+/// The same two, with the rank that a call has which names none.
 const CROSSING_OF_RANK_5: &[&str] = &[
     "session p at 0",
     "call/5 xfer \"b\" \"a\" 3",
@@ -622,7 +622,7 @@ const IN_TURN: [(&[&str], &[&str], u32, &[&str]); 3] = [
     ),
 ];
 
-/// The events by which the only session, `a` at region 0, makes so many calls of one home, one after another.
+/// The events by which the only session, `a` at region 0, makes n calls of one home, one after another.
 fn in_turn(alloc: Global, calls: u32) -> Result<Vec<u8>, Fail> {
     let mut events = Vec::new(alloc);
     for call in 0..calls {

@@ -158,7 +158,7 @@ fn events_behind<'a>(
     Ok(rest.strip_prefix(lines.as_slice()))
 }
 
-/// Whether the case is as it says: the report has its replies, in some order, what is told behind them, and these events; and a
+/// Whether the case is as it says: the report has its replies, in some order, what follows them, and these events; and a
 /// replay of the events that are printed reports the same bytes.
 fn is_so<R: Threads + Wait + Sync>(rt: &R, alloc: Global, case: &Case) -> Result<bool, Fail> {
     let cluster = file_of(alloc, case.cluster)?;
@@ -191,7 +191,7 @@ fn a_big_run_tells_its_calls_its_answers_and_its_sum(rt: HostRuntime) -> Result<
     Ok(())
 }
 
-/// The files of a cluster and of a workload, and the fault that a run of them tells.
+/// The files of a cluster and of a workload, and the fault that a run of them reports.
 const REFUSED: [(&str, &str, u8, &str); 4] = [
     (
         "regions = 9\n",
