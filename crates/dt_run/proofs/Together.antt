@@ -13,7 +13,7 @@ use Rattle.dt_proc.specs.Tree.{ProcTree}
 use Rattle.dt_cluster.specs.declared.Cluster.{Cluster}
 use Rattle.dt_workload.specs.declared.Workload.{Workload}
 use Rattle.dt_node.specs.NodeView.{NodeView, number_of, other_at, packet_for}
-use Rattle.dt_node.specs.Sending.{IsSentBy, copies_of, no_outlet}
+use Rattle.dt_node.specs.Sending.{IsSentBy, LeavesNothingOut, copies_of, no_outlet}
 use Rattle.dt_node.specs.Steps.{HasTurned}
 use Rattle.dt_node.specs.Turn.{HasTaken, IsSettled}
 use Rattle.dt_run.specs.LinksInner.{BesideSoFar, LinkGoes, in_at, out_at}
@@ -222,6 +222,7 @@ module _ {cluster : Cluster} {workload : Workload} {seats seats' seats'' : List 
         taken = subst (λ m. HasTaken (waiting_at v region) (node_in v region) m) (sym now) (subst (λ m. HasTaken (waiting_at v region) m (seat_at seats' region).node) (sym was)
             (subst (λ l. HasTaken l (seat_at seats region).node (seat_at seats' region).node) (sym (waits_at region)) w.taken));
         settled = subst (λ m. IsSettled (node_in v region) m) (sym now) (subst (λ m. IsSettled m (seat_at seats' region).node) (sym was) w.settled);
+        whole = subst (λ m. (target : ℕ) → target < m.site.region.state.regions → LeavesNothingOut m target) (sym now) w.whole;
         marks = get_of_map (λ (s : SeatView). s.marks) seats'' region no_seat ∙ (b.same region (at_seat' region (at_seat region lr))).marks ∙ w.marks
             ∙ ap (λ l. l ++ length (seat_at seats' region).node.site.region.events ∷ []) (sym (get_of_map (λ (s : SeatView). s.marks) seats region no_seat))
             ∙ ap (λ (m : NodeView). marks_at v region ++ length m.site.region.events ∷ []) (sym now);

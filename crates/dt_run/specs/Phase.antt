@@ -6,6 +6,7 @@ use Rattle.dt_lists.specs.Lists.{IsFront}
 use Rattle.dt_packet.specs.declared.packet.Packet.{Packet}
 use Rattle.dt_proc.specs.Tree.{ProcTree}
 use Rattle.dt_node.specs.NodeView.{NodeView, new_items, packet_for}
+use Rattle.dt_node.specs.Sending.{LeavesNothingOut}
 use Rattle.dt_node.specs.Steps.{HasTurned}
 use Rattle.dt_node.specs.Turn.{AreBrought, HasGone, HasTaken, IsSettled, StampsRise}
 use Rattle.dt_run.specs.Marks.{kept_by_region}
@@ -33,6 +34,8 @@ pub record TurnsWhole (before after : NodesView) (region : ℕ) : Type 0 where
   pub steps : HasTurned before.cluster.procs (waiting_at before region) (node_in before region) (node_in after region)
   pub taken : HasTaken (waiting_at before region) (node_in before region) (node_in after region)
   pub settled : IsSettled (node_in before region) (node_in after region)
+  -- what it sends another region lacks nothing that it should have
+  pub whole : (target : ℕ) → target < (node_in after region).site.region.state.regions → LeavesNothingOut (node_in after region) target
   pub marks : marks_at after region ≡ marks_at before region ++ length (kept_by_region after region) ∷ []
 
 -- what a phase leaves that did not fail

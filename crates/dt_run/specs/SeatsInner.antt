@@ -9,7 +9,7 @@ use Rattle.dt_ring.specs.Rings.{AreEnds, RingInView, RingOutView, SameIn, SameOu
 use Rattle.dt_cluster.specs.declared.Cluster.{Cluster}
 use Rattle.dt_workload.specs.declared.Workload.{Workload}
 use Rattle.dt_node.specs.NodeView.{NodeView}
-use Rattle.dt_node.specs.Sending.{HasSent}
+use Rattle.dt_node.specs.Sending.{HasSent, LeavesNothingOut}
 use Rattle.dt_node.specs.Standing.{NodeStands}
 use Rattle.dt_node.specs.Steps.{HasTurned}
 use Rattle.dt_node.specs.Turn.{BeginsEagerly, HasTaken, IsSettled}
@@ -93,6 +93,7 @@ pub record SeatTurned (procs : List ProcTree) (before after : SeatView) : Type 0
   pub settled : IsSettled before.node after.node
   pub begins : flat_map waits_in before.ins ≡ [] → BeginsEagerly procs before.node after.node
   pub sent : HasSent before.node after.node (map seen_out before.outs) (map seen_out after.outs)
+  pub whole : (target : ℕ) → target < after.node.site.region.state.regions → LeavesNothingOut after.node target
   pub marks : after.marks ≡ before.marks ++ length after.node.site.region.events ∷ []
 
 -- a turn at a seat

@@ -1,7 +1,7 @@
-ghost use Rattle.std.specs.Prelude.{◌≡◌, ◌<◌, ◌≤◌, ◌+◌, ◌^◌, ◌++◌, ◌∷◌, [], flat_map, length, map, OnOk};
+ghost use Rattle.std.specs.Prelude.{◌≡◌, ◌<◌, ◌≤◌, ◌+◌, ◌^◌, ◌++◌, ◌∷◌, ℕ, [], flat_map, length, map, OnOk};
 ghost use Rattle.dt_lists.specs.Lists.{AllIn, Pairwise};
 ghost use Rattle.dt_ring.specs.Rings.{SameIn, SameOut};
-ghost use Rattle.dt_node.specs.Sending.{HasSent};
+ghost use Rattle.dt_node.specs.Sending.{HasSent, LeavesNothingOut};
 ghost use Rattle.dt_node.specs.Standing.{NodeStands};
 ghost use Rattle.dt_node.specs.Steps.{HasTurned};
 ghost use Rattle.dt_node.specs.Turn.{BeginsEagerly, HasTaken, IsSettled};
@@ -150,6 +150,7 @@ fn turn_node<S: Scheduler + Drop, D: Rounds<Region<S>>>(
     ensures settled { OnOk result (IsSettled node.old node.new) }
     ensures begins { OnOk result (flat_map waits_in ins.old ≡ [] → BeginsEagerly procs.now node.old node.new) }
     ensures sent { OnOk result (HasSent node.old node.new (map seen_out outs.old) (map seen_out outs.new)) }
+    ensures whole { OnOk result ((target : ℕ) → target < node.new.site.region.state.regions → LeavesNothingOut node.new target) }
 {
     node.turn(alloc, procs, rounds, ins, outs)
 }

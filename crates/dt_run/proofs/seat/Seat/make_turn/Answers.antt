@@ -17,4 +17,4 @@ returns-clause-whole g c =
     seat_turned before c.self.view_is c.as_mut_slice.ensures.value c.as_mut_slice-2.ensures.value
     (written_back old.ins.len new.ins (drop (length new.ins) old.ins.items) (sym c.as_mut_slice.ensures.len ∙ ins))
     (written_back old.outs.len new.outs (drop (length new.outs) old.outs.items) (sym c.as_mut_slice-2.ensures.len ∙ outs)) c.events-kept.ensures c.region.ensures t.emptied t.steps t.taken t.settled
-    t.begins t.sent c.in_ok-push.ensures.items
+    t.begins t.sent t.whole c.in_ok-push.ensures.items
