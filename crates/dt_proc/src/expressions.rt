@@ -133,9 +133,9 @@ fn operand<'a>(
     };
     match &first.token {
         Token::Int(number) => Ok((Expr::Int(*number), Sort::Int, rest)),
-        Token::Text(text) => Ok((Expr::Text(text.copy(alloc)?), Sort::Text, rest)),
+        Token::Text(text) => Ok((Expr::Text(text.get().copy(alloc)?), Sort::Text, rest)),
         Token::Truth(truth) => Ok((Expr::Bool(*truth), Sort::Bool, rest)),
-        Token::Name(name) => variable(scope, first.place, name, rest),
+        Token::Name(name) => variable(scope, first.place, name.get(), rest),
         Token::IntWord => read_row(scope, Reading::Int, rest),
         Token::TextWord => read_row(scope, Reading::Text, rest),
         Token::Has => read_row(scope, Reading::Presence, rest),
