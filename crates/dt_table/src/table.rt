@@ -1,4 +1,4 @@
-ghost use Rattle.std.specs.Prelude.{◌≡◌, ◌+◌, ◌^◌, ◌<◌, ◌≤◌, ◌↔◌, ℕ, IsOk, IsSome, IfOk, OnOk};
+ghost use Rattle.std.specs.Prelude.{◌≡◌, ◌+◌, ◌^◌, ◌<◌, ◌≤◌, ◌↔◌, ℕ, IsOk, IsSome, IfOk, OnOk, map};
 ghost use Rattle.std.specs.Option.{option_copied};
 ghost use Rattle.dt_access.specs.Granules.{IsUnit};
 ghost use Rattle.dt_access.specs.Orders.{HasDistinctKeys};
@@ -196,13 +196,21 @@ impl Table {
         }
     }
 
-    /// What a report shows: each key that has a value or is a unit with a move, in ascending order of keys.
-    pub fn shown(&self, alloc: Global) -> Result<ShownList, NoMemory>
-        ensures { IfOk result (λ list. list ≡ shown self.now.state) }
+    /// The keys that a report shows, in ascending order: each that has a value or is a unit with a move.
+    pub fn shown_keys(&self, alloc: Global) -> Result<Vec<Key>, NoMemory>
+        ensures { IfOk result (λ keys. map (shown_at self.now.state) keys.items ≡ shown self.now.state) }
     {
         let mut keys = self.values.keys_with_value(alloc)?;
         add_moved_units(alloc, &mut keys, &self.values, &self.units)?;
         keys.sort()?;
+        Ok(keys)
+    }
+
+    /// What a report shows: each key that has a value or is a unit with a move, in ascending order of keys.
+    pub fn shown(&self, alloc: Global) -> Result<ShownList, NoMemory>
+        ensures { IfOk result (λ list. list ≡ shown self.now.state) }
+    {
+        let keys = self.shown_keys(alloc)?;
         let mut list = ShownList::new(alloc);
         list.reserve(keys.len())?;
         for key in keys {
@@ -211,8 +219,8 @@ impl Table {
         Ok(list)
     }
 
-    // A key, as a report shows it.
-    fn shown_at(&self, alloc: Global, key: Key) -> Result<Shown, NoMemory>
+    /// A key, as a report shows it.
+    pub fn shown_at(&self, alloc: Global, key: Key) -> Result<Shown, NoMemory>
         ensures { IfOk result (λ shown. shown ≡ shown_at self.now.state key) }
     {
         let value = match self.get(&key) {
