@@ -1,6 +1,6 @@
 ghost use Rattle.std.specs.Prelude.{◌≡◌, ◌++◌, [], IfOk, OnOk};
 ghost use Rattle.dt_table.specs.Table.{shown};
-ghost use Rattle.dt_report.specs.ShownInner.{all_shown};
+ghost use Rattle.dt_report.specs.ShownTables.{all_shown};
 ghost use Rattle.dt_report.specs.Report.{events_text, order_text, replies_text, report_text, table_text, tables_text};
 
 use crate::lines::{put_ran, put_reply, put_row};
@@ -94,12 +94,7 @@ fn put_all_shown(alloc: Global, out: &mut Vec<u8>, tables: &[&Table]) -> Result<
     Ok(())
 }
 
-fn put_shown(
-    alloc: Global,
-    out: &mut Vec<u8>,
-    region: u64,
-    table: &Table,
-) -> Result<(), NoMemory>
+fn put_shown(alloc: Global, out: &mut Vec<u8>, region: u64, table: &Table) -> Result<(), NoMemory>
     ensures { OnOk result (out.new.items ≡ out.old.items ++ table_text region (shown table.now.state)) }
 {
     put_head(alloc, out, region)?;

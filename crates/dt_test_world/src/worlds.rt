@@ -7,7 +7,6 @@ ghost use Rattle.dt_test_world.specs.Led.{HasLed};
 use dt_cluster::{Cluster, ClusterError, read_cluster};
 use dt_events::{Event, put_event, read_events};
 use dt_plain::PlainSched;
-use dt_report::print;
 use dt_text::NoMemory;
 use dt_workload::{Workload, WorkloadError, read_workload};
 use dt_world::{StepError, World};
@@ -113,8 +112,7 @@ pub fn told(
     let cluster = cluster_of(alloc, cluster)?;
     let workload = workload_of(alloc, &cluster, workload)?;
     let (world, made, mut told) = play(alloc, &cluster, &workload, events)?;
-    let report = world.report(alloc, made)?;
-    told.extend_from_slice(print(alloc, &report)?.as_slice())?;
+    told.extend_from_slice(world.text(alloc, made.as_slice())?.as_slice())?;
     Ok(told)
 }
 

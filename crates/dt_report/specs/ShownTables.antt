@@ -1,4 +1,4 @@
--- Scaffolding: what some tables show. Skip it; read Report.antt for the text of that.
+-- What some tables show. Read next: Report.antt, for the text of that.
 use Rattle.std.specs.Prelude.{List, map}
 use Rattle.std.specs.Borrow.{Bor}
 use Rattle.dt_table.specs.Table.{TableView, shown}
