@@ -48,10 +48,7 @@ fn report_of(
     ensures report { IfOk result (λ text. text.items ≡ report_text (report_of cluster workload (unnumbered events.items))) }
     ensures refused { (status : _) → result ≡ Err status → IsStepRefusal cluster workload events.items status }
 {
-    let world = world_after(alloc, &cluster, &workload, events.as_slice())?;
-    // The text is long: it gets the memory of what the world has copied.
-    drop(cluster);
-    drop(workload);
+    let world = world_after(alloc, cluster, workload, events.as_slice())?;
     let events = without_numbers(alloc, events)?;
     Ok(world.text(alloc, events.as_slice())?)
 }
@@ -59,18 +56,18 @@ fn report_of(
 /// The world after these events, if each is legal after those before it.
 fn world_after(
     alloc: Global,
-    cluster: &Cluster,
-    workload: &Workload,
+    cluster: Cluster,
+    workload: Workload,
     events: &[(u32, Event)],
 ) -> Result<World<QueueSched>, Status>
-    requires cluster { IsValidCluster cluster.now }
-    requires workload { IsValidWorkload cluster.now workload.now }
+    requires cluster { IsValidCluster cluster }
+    requires workload { IsValidWorkload cluster workload }
     requires few { length events.now ≤ file_limit }
-    ensures legal { IfOk result (λ _. AreLegal cluster.now workload.now (unnumbered events.now)) }
-    ensures cluster { IfOk result (λ world. world.cluster ≡ cluster.now) }
-    ensures workload { IfOk result (λ world. world.workload ≡ workload.now) }
-    ensures state { IfOk result (λ world. world.state ≡ world_after cluster.now workload.now (unnumbered events.now)) }
-    ensures refused { (status : _) → result ≡ Err status → IsStepRefusal cluster.now workload.now events.now status }
+    ensures legal { IfOk result (λ _. AreLegal cluster workload (unnumbered events.now)) }
+    ensures cluster { IfOk result (λ world. world.cluster ≡ cluster) }
+    ensures workload { IfOk result (λ world. world.workload ≡ workload) }
+    ensures state { IfOk result (λ world. world.state ≡ world_after cluster workload (unnumbered events.now)) }
+    ensures refused { (status : _) → result ≡ Err status → IsStepRefusal cluster workload events.now status }
 {
     let mut world = World::begin(alloc, cluster, workload)?;
     for numbered in events {

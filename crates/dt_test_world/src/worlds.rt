@@ -84,7 +84,7 @@ fn play(alloc: Global, cluster: &Cluster, workload: &Workload, file: &[u8]) -> R
     if file.len() >= MANY {
         return Err(Fail::from("a test has few bytes"));
     }
-    let mut world = World::begin(alloc, cluster, workload)?;
+    let mut world = World::begin(alloc, cluster.copy(alloc)?, workload.copy(alloc)?)?;
     let mut made = Vec::new(alloc);
     let mut told = Vec::new(alloc);
     for (line, event) in read_events(alloc, file)? {

@@ -89,17 +89,17 @@ impl<S: Scheduler + Drop> Model for World<S> {
 }
 
 impl<S: Scheduler + Drop> World<S> {
-    /// The world before anything happens.
-    pub fn begin(alloc: Global, cluster: &Cluster, workload: &Workload) -> Result<Self, NoMemory>
-        requires cluster { IsValidCluster cluster.now }
-        requires workload { IsValidWorkload cluster.now workload.now }
-        ensures { IfOk result (λ world. world ≡ opening_view cluster.now workload.now) }
+    /// The world of a cluster and a workload, which it takes over, before anything happens.
+    pub fn begin(alloc: Global, cluster: Cluster, workload: Workload) -> Result<Self, NoMemory>
+        requires cluster { IsValidCluster cluster }
+        requires workload { IsValidWorkload cluster workload }
+        ensures { IfOk result (λ world. world ≡ opening_view cluster workload) }
     {
         Ok(World {
-            cluster: cluster.copy(alloc)?,
-            workload: workload.copy(alloc)?,
-            sessions: sessions(alloc, cluster, workload)?,
-            sites: sites(alloc, cluster)?,
+            sessions: sessions(alloc, &cluster, &workload)?,
+            sites: sites(alloc, &cluster)?,
+            cluster,
+            workload,
             steps: 0,
         })
     }
