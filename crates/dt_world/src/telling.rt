@@ -80,18 +80,20 @@ pub fn report_of_sites<S: Scheduler + Drop>(
 }
 
 /// The text of the report of events, told by the sites of all regions, each as it is after them. What a table shows is told
-/// row by row, so no list is made of it.
+/// row by row, so no list is made of it; and the cluster and the workload are let go before, since the text is long.
 pub fn text_of_sites<S: Scheduler + Drop>(
     alloc: Global,
-    cluster: &Cluster,
-    workload: &Workload,
+    cluster: Cluster,
+    workload: Workload,
     sites: &[&Site<S>],
     events: &[Event],
 ) -> Result<Vec<u8>, NoMemory>
-    requires { AreSitesAfter cluster.now workload.now events.now (map (λ site. site.now) sites.now) }
-    ensures { IfOk result (λ text. text.items ≡ report_text (report_of cluster.now workload.now events.now)) }
+    requires { AreSitesAfter cluster workload events.now (map (λ site. site.now) sites.now) }
+    ensures { IfOk result (λ text. text.items ≡ report_text (report_of cluster workload events.now)) }
 {
-    let (replies, order) = replies_and_order(alloc, &*cluster, &*workload, &*sites, &*events)?;
+    let (replies, order) = replies_and_order(alloc, &cluster, &workload, &*sites, &*events)?;
+    drop(cluster);
+    drop(workload);
     let tables = tables_lent(alloc, sites)?;
     print_shown(
         alloc,

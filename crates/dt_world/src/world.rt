@@ -337,30 +337,30 @@ impl<S: Scheduler + Drop> World<S> {
     }
 
     /// The text of the report of the events that led to this world, from its opening on.
-    pub fn text(&self, alloc: Global, events: &[Event]) -> Result<Vec<u8>, NoMemory>
-        requires legal { AreLegal self.now.cluster self.now.workload events.now }
-        requires reached { self.now.state ≡ world_after self.now.cluster self.now.workload events.now }
-        ensures report { IfOk result (λ text. text.items ≡ report_text (report_of self.now.cluster self.now.workload events.now)) }
+    pub fn text(self, alloc: Global, events: &[Event]) -> Result<Vec<u8>, NoMemory>
+        requires legal { AreLegal self.cluster self.workload events.now }
+        requires reached { self.state ≡ world_after self.cluster self.workload events.now }
+        ensures report { IfOk result (λ text. text.items ≡ report_text (report_of self.cluster self.workload events.now)) }
 
         // Nothing is left out: the order section has each executed id, and there is a reply for each answer.
-        ensures all_ran { map (λ ran. ran.id) (rans_of self.now.cluster self.now.workload events.now) ≡ order_of events.now }
-        ensures all_answered { map (λ reply. reply.session) (replies_of self.now.cluster self.now.workload events.now) ≡ filter_map answered_name events.now }
+        ensures all_ran { map (λ ran. ran.id) (rans_of self.cluster self.workload events.now) ≡ order_of events.now }
+        ensures all_answered { map (λ reply. reply.session) (replies_of self.cluster self.workload events.now) ≡ filter_map answered_name events.now }
 
         // Each outcome is the one that every region keeps which executed the attempt, and each table is its region's.
-        ensures outcomes { AllIn (λ ran. IsOutcomeOf self.now.cluster.regions self.now.state ran.id ran.outcome) (rans_of self.now.cluster self.now.workload events.now) }
-        ensures replies { AllIn (IsReplyOf self.now.cluster.regions self.now.state) (replies_of self.now.cluster self.now.workload events.now) }
-        ensures tables { tables_of self.now.cluster self.now.workload events.now ≡ map (λ node. shown node.here.table) self.now.state.nodes }
+        ensures outcomes { AllIn (λ ran. IsOutcomeOf self.cluster.regions self.state ran.id ran.outcome) (rans_of self.cluster self.workload events.now) }
+        ensures replies { AllIn (IsReplyOf self.cluster.regions self.state) (replies_of self.cluster self.workload events.now) }
+        ensures tables { tables_of self.cluster self.workload events.now ≡ map (λ node. shown node.here.table) self.state.nodes }
     {
         // Names the steps, so that the proof has what is kept of their number.
         let _steps = self.steps;
-        let sites = each_lent(alloc, self.sites.as_slice())?;
-        text_of_sites(
-            alloc,
-            &self.cluster,
-            &self.workload,
-            sites.as_slice(),
-            events,
-        )
+        let World {
+            cluster,
+            workload,
+            sites,
+            ..
+        } = self;
+        let lent = each_lent(alloc, sites.as_slice())?;
+        text_of_sites(alloc, cluster, workload, lent.as_slice(), events)
     }
 }
 

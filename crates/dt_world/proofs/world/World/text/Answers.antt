@@ -10,7 +10,7 @@ use Rattle.dt_world.proofs.world.World.text.Goals as goal
 pub text_of_sites-requires : goal.text_of_sites-requires
 text_of_sites-requires g c =
     subst (AreSitesAfter c.self.inside.cluster c.self.inside.workload c.args.events.now)
-    (sym (ap (map (λ (site : Bor SiteView). site.now)) c.as_slice-2.ensures.value ∙ c.in_ok-sites.ensures ∙ c.as_slice.ensures.value))
+    (sym (ap (map (λ (site : Bor SiteView). site.now)) c.as_slice-2.ensures.value ∙ c.in_ok-lent.ensures ∙ c.as_slice.ensures.value))
     (sites_after c.self.invariant c.self.view_is c.args.events.now c.requires.legal c.requires.reached (omega arith))
 
 pub returns-clause-report : goal.returns-clause-report
