@@ -11,7 +11,7 @@ use Rattle.indexmap.specs.IndexMap.{insert_entry}
 use Rattle.dt_lists.proofs.Callers.{all_map}
 use Rattle.dt_access.specs.Clash.{Bytes, same_key}
 use Rattle.dt_text.specs.declared.Value.{Value}
-use Rattle.dt_table.specs.RowsInner.{first_values, layered, unchanged, unchanged_keys}
+use Rattle.dt_table.specs.RowsInner.{first_values, layered, unchanged_rows, unchanged_keys}
 use Rattle.dt_table.specs.StoredUnitInner.{keys_with_value}
 use Rattle.dt_table.proofs.Entries.{lookup-insert_entry}
 use Rattle.dt_table.proofs.SortedEntries.{order, find-lookup}
@@ -35,20 +35,20 @@ lookup-append (x ∷ xs) ys q =
 module _ (changed : List (Bytes × Option Value)) where
   -- a key that has not changed has the value of the opening
   lookup-unchanged : (rows : List (Bytes × Value)) (q : Bytes) → lookup (same_key q) changed ≡ None
-      → lookup (same_key q) (first_values (unchanged changed rows)) ≡ option_map (λ v. Some v) (lookup (same_key q) rows)
+      → lookup (same_key q) (first_values (unchanged_rows changed rows)) ≡ option_map (λ v. Some v) (lookup (same_key q) rows)
   lookup-unchanged [] q none = refl
   lookup-unchanged (r ∷ rows) q none = by (lookup-unchanged rows q none) (lookup (same_key r.0) changed) refl
     where
-      by : lookup (same_key q) (first_values (unchanged changed rows)) ≡ option_map (λ v. Some v) (lookup (same_key q) rows)
+      by : lookup (same_key q) (first_values (unchanged_rows changed rows)) ≡ option_map (λ v. Some v) (lookup (same_key q) rows)
           → (o : Option (Option Value)) → lookup (same_key r.0) changed ≡ o
-          → lookup (same_key q) (first_values ((if not (is_some o) then r ∷ [] else []) ++ unchanged changed rows)) ≡ option_map (λ v. Some v) (cond (same_key q r.0) (Some r.1) (lookup (same_key q) rows))
+          → lookup (same_key q) (first_values ((if not (is_some o) then r ∷ [] else []) ++ unchanged_rows changed rows)) ≡ option_map (λ v. Some v) (cond (same_key q r.0) (Some r.1) (lookup (same_key q) rows))
       by later None left =
-          elim (same_key q r.0) as (λ b. cond b (Some (Some r.1)) (lookup (same_key q) (first_values (unchanged changed rows))) ≡ option_map (λ v. Some v) (cond b (Some r.1) (lookup (same_key q) rows))) [
+          elim (same_key q r.0) as (λ b. cond b (Some (Some r.1)) (lookup (same_key q) (first_values (unchanged_rows changed rows))) ≡ option_map (λ v. Some v) (cond b (Some r.1) (lookup (same_key q) rows))) [
             | true ↦ refl
             | false ↦ later
           ]
       by later (Some w) found =
-          elim (same_key q r.0) as (λ b. same_key q r.0 ≡ b → lookup (same_key q) (first_values (unchanged changed rows)) ≡ option_map (λ v. Some v) (cond b (Some r.1) (lookup (same_key q) rows))) [
+          elim (same_key q r.0) as (λ b. same_key q r.0 ≡ b → lookup (same_key q) (first_values (unchanged_rows changed rows)) ≡ option_map (λ v. Some v) (cond b (Some r.1) (lookup (same_key q) rows))) [
             | true ↦ λ tied.
                 let is : q ≡ r.0 = (bytes_decides q r.0).0 tied in
                 let no : None ≡ Some w = sym none ∙ ap (λ k. lookup (same_key k) changed) is ∙ found in
@@ -59,10 +59,10 @@ module _ (changed : List (Bytes × Option Value)) where
   -- what has changed is found first, and then what has not
   pub lookup-layered : (rows : List (Bytes × Value)) (q : Bytes)
       → lookup (same_key q) (layered changed rows) ≡ first_found (lookup (same_key q) changed) (option_map (λ v. Some v) (lookup (same_key q) rows))
-  lookup-layered rows q = lookup-append changed (first_values (unchanged changed rows)) q ∙ by (lookup (same_key q) changed) refl
+  lookup-layered rows q = lookup-append changed (first_values (unchanged_rows changed rows)) q ∙ by (lookup (same_key q) changed) refl
     where
       by : (o : Option (Option Value)) → lookup (same_key q) changed ≡ o
-          → first_found o (lookup (same_key q) (first_values (unchanged changed rows))) ≡ first_found o (option_map (λ v. Some v) (lookup (same_key q) rows))
+          → first_found o (lookup (same_key q) (first_values (unchanged_rows changed rows))) ≡ first_found o (option_map (λ v. Some v) (lookup (same_key q) rows))
       by None none = lookup-unchanged rows q none
       by (Some w) _ = refl
 
@@ -86,7 +86,7 @@ value-unchanged changed rows q none =
 pub layered-nothing : (rows : List (Bytes × Value)) → layered [] rows ≡ first_values rows
 layered-nothing rows = ap first_values (all rows)
   where
-    all : (rows : List (Bytes × Value)) → unchanged [] rows ≡ rows
+    all : (rows : List (Bytes × Value)) → unchanged_rows [] rows ≡ rows
     all [] = refl
     all (r ∷ rows) = ap (λ l. r ∷ l) (all rows)
 
@@ -122,22 +122,22 @@ keys_with_value-append (x ∷ xs) ys =
     ]
 
 -- each row that has not changed has a value
-keys_with_value-unchanged : (changed : List (Bytes × Option Value)) (rows : List (Bytes × Value)) → keys_with_value (first_values (unchanged changed rows)) ≡ unchanged_keys changed rows
+keys_with_value-unchanged : (changed : List (Bytes × Option Value)) (rows : List (Bytes × Value)) → keys_with_value (first_values (unchanged_rows changed rows)) ≡ unchanged_keys changed rows
 keys_with_value-unchanged changed [] = refl
 keys_with_value-unchanged changed (r ∷ rows) =
-    elim (not (is_some (lookup (same_key r.0) changed))) as (λ b. keys_with_value (first_values ((if b then r ∷ [] else []) ++ unchanged changed rows)) ≡ (if b then r.0 ∷ [] else []) ++ unchanged_keys changed rows) [
+    elim (not (is_some (lookup (same_key r.0) changed))) as (λ b. keys_with_value (first_values ((if b then r ∷ [] else []) ++ unchanged_rows changed rows)) ≡ (if b then r.0 ∷ [] else []) ++ unchanged_keys changed rows) [
       | true ↦ ap (λ l. r.0 ∷ l) (keys_with_value-unchanged changed rows)
       | false ↦ keys_with_value-unchanged changed rows
     ]
 
 pub keys_with_value-layered : (changed : List (Bytes × Option Value)) (rows : List (Bytes × Value)) → keys_with_value changed ++ unchanged_keys changed rows ≡ keys_with_value (layered changed rows)
 keys_with_value-layered changed rows =
-    sym (keys_with_value-append changed (first_values (unchanged changed rows)) ∙ ap (λ l. keys_with_value changed ++ l) (keys_with_value-unchanged changed rows))
+    sym (keys_with_value-append changed (first_values (unchanged_rows changed rows)) ∙ ap (λ l. keys_with_value changed ++ l) (keys_with_value-unchanged changed rows))
 
-keys_of-unchanged : (changed : List (Bytes × Option Value)) (rows : List (Bytes × Value)) → keys_of (first_values (unchanged changed rows)) ≡ unchanged_keys changed rows
+keys_of-unchanged : (changed : List (Bytes × Option Value)) (rows : List (Bytes × Value)) → keys_of (first_values (unchanged_rows changed rows)) ≡ unchanged_keys changed rows
 keys_of-unchanged changed [] = refl
 keys_of-unchanged changed (r ∷ rows) =
-    elim (not (is_some (lookup (same_key r.0) changed))) as (λ b. keys_of (first_values ((if b then r ∷ [] else []) ++ unchanged changed rows)) ≡ (if b then r.0 ∷ [] else []) ++ unchanged_keys changed rows) [
+    elim (not (is_some (lookup (same_key r.0) changed))) as (λ b. keys_of (first_values ((if b then r ∷ [] else []) ++ unchanged_rows changed rows)) ≡ (if b then r.0 ∷ [] else []) ++ unchanged_keys changed rows) [
       | true ↦ ap (λ l. r.0 ∷ l) (keys_of-unchanged changed rows)
       | false ↦ keys_of-unchanged changed rows
     ]
@@ -150,7 +150,7 @@ any-key (e ∷ es) q = elim (same_key q e.0) as (λ b. (b || list_any (same_key 
 pub distinct-layered : (changed : List (Bytes × Option Value)) (rows : List (Bytes × Value)) → IsDistinct same_key (keys_of changed) → IsDistinct same_key (keys_of rows)
     → IsDistinct same_key (keys_of (layered changed rows))
 distinct-layered changed rows dc dr =
-    subst (IsDistinct same_key) (sym (map-append (λ (e : Bytes × Option Value). e.0) changed (first_values (unchanged changed rows)) ∙ ap (λ l. keys_of changed ++ l) (keys_of-unchanged changed rows)))
+    subst (IsDistinct same_key) (sym (map-append (λ (e : Bytes × Option Value). e.0) changed (first_values (unchanged_rows changed rows)) ∙ ap (λ l. keys_of changed ++ l) (keys_of-unchanged changed rows)))
     (distinct_append (keys_of changed) (unchanged_keys changed rows) dc (kept_distinct keep rows dr)
     (all_map _ _ (keys_of changed) (λ q h. kept_any keep rows q dr ∙ by q (sym (any-key changed q) ∙ h) (lookup (same_key q) rows)) (each_of_them (keys_of changed))))
   where

@@ -11,8 +11,8 @@ abbrev pub first_values : List (Bytes × Value) → List (Bytes × Option Value)
 first_values rows = map (λ r. (r.0, Some r.1)) rows
 
 -- the rows whose keys have not changed
-abbrev pub unchanged : List (Bytes × Option Value) → List (Bytes × Value) → List (Bytes × Value)
-unchanged changed rows = flat_map (λ r. if not (is_some (lookup (same_key r.0) changed)) then r ∷ [] else []) rows
+abbrev pub unchanged_rows : List (Bytes × Option Value) → List (Bytes × Value) → List (Bytes × Value)
+unchanged_rows changed rows = flat_map (λ r. if not (is_some (lookup (same_key r.0) changed)) then r ∷ [] else []) rows
 
 -- the keys of the opening that have not changed
 abbrev pub unchanged_keys : List (Bytes × Option Value) → List (Bytes × Value) → List Bytes
@@ -20,7 +20,7 @@ unchanged_keys changed rows = flat_map (λ r. if not (is_some (lookup (same_key 
 
 -- what has changed, and then the rows that have not
 abbrev pub layered : List (Bytes × Option Value) → List (Bytes × Value) → List (Bytes × Option Value)
-layered changed rows = changed ++ first_values (unchanged changed rows)
+layered changed rows = changed ++ first_values (unchanged_rows changed rows)
 
 -- values with the keys that have them, and for how many more keys there is room
 pub record RowsView : Type 0 where

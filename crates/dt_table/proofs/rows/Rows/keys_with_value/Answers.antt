@@ -9,11 +9,20 @@ use Rattle.dt_table.proofs.rows.Rows.keys_with_value.Goals as goal
 
 pub returns-clause-keys : goal.returns-clause-keys
 returns-clause-keys c =
-    let a = c.self.inside in
-    rw (← c.self.view_is) (c.in_ok-add_unchanged.ensures.keys ∙ ap (λ (m : List (Bytes × Value)). c.in_ok-keys.keys.items ++ unchanged_keys a.changed.entries m) (ap (λ m. m.entries) c.deref.ensures) ∙ ap (λ l. l ++ unchanged_keys a.changed.entries a.opening.value.entries) c.in_ok-keys.ensures.keys
-    ∙ keys_with_value-layered a.changed.entries a.opening.value.entries)
+    let changed = c.self.inside.changed.entries in
+    let rows = c.self.inside.opening.value.entries in
+    let lent = ap (λ m. m.entries) c.deref.ensures in
+    rw (← c.self.view_is) (
+    c.in_ok-add_unchanged.ensures.keys
+    ∙ ap (λ (m : List (Bytes × Value)). c.in_ok-keys.keys.items ++ unchanged_keys changed m) lent
+    ∙ ap (λ l. l ++ unchanged_keys changed rows) c.in_ok-keys.ensures.keys
+    ∙ keys_with_value-layered changed rows
+    )
 
 pub returns-clause-once : goal.returns-clause-once
 returns-clause-once c =
-    let a = c.self.inside in
-    rw (← c.self.view_is) (distinct-layered a.changed.entries a.opening.value.entries c.in_ok-keys.ensures.once (subst (λ (m : List (Bytes × Value)). IsDistinct same_key (keys_of m)) (ap (λ m. m.entries) c.deref.ensures) c.in_ok-add_unchanged.ensures.once))
+    let changed = c.self.inside.changed.entries in
+    let rows = c.self.inside.opening.value.entries in
+    let lent = ap (λ m. m.entries) c.deref.ensures in
+    let once = subst (λ (m : List (Bytes × Value)). IsDistinct same_key (keys_of m)) lent c.in_ok-add_unchanged.ensures.once in
+    rw (← c.self.view_is) (distinct-layered changed rows c.in_ok-keys.ensures.once once)
