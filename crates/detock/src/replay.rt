@@ -15,7 +15,6 @@ use dt_cluster::Cluster;
 use dt_events::Event;
 use dt_graph::QueueSched;
 use dt_outside::Folder;
-use dt_report::print;
 use dt_text::NoMemory;
 use dt_workload::Workload;
 use dt_world::{StepError, World};
@@ -32,45 +31,43 @@ pub fn replay_text<F: Folder>(
 {
     let (cluster, workload) = load_both(alloc, files, replay.cluster, replay.workload)?;
     let events = load_events(alloc, files, replay.events)?;
-    report_of(alloc, &cluster, &workload, events)
+    report_of(alloc, cluster, workload, events)
 }
 
 /// The text of the report of these events, if each is legal after those before it.
 fn report_of(
     alloc: Global,
-    cluster: &Cluster,
-    workload: &Workload,
+    cluster: Cluster,
+    workload: Workload,
     events: Vec<(u32, Event)>,
 ) -> Result<Vec<u8>, Status>
-    requires cluster { IsValidCluster cluster.now }
-    requires workload { IsValidWorkload cluster.now workload.now }
+    requires cluster { IsValidCluster cluster }
+    requires workload { IsValidWorkload cluster workload }
     requires few { length events.items ≤ file_limit }
-    ensures legal { IfOk result (λ _. AreLegal cluster.now workload.now (unnumbered events.items)) }
-    ensures report { IfOk result (λ text. text.items ≡ report_text (report_of cluster.now workload.now (unnumbered events.items))) }
-    ensures refused { (status : _) → result ≡ Err status → IsStepRefusal cluster.now workload.now events.items status }
+    ensures legal { IfOk result (λ _. AreLegal cluster workload (unnumbered events.items)) }
+    ensures report { IfOk result (λ text. text.items ≡ report_text (report_of cluster workload (unnumbered events.items))) }
+    ensures refused { (status : _) → result ≡ Err status → IsStepRefusal cluster workload events.items status }
 {
     let world = world_after(alloc, cluster, workload, events.as_slice())?;
-    let report = world.report(alloc, without_numbers(alloc, events)?)?;
-    // The text is long: it gets the memory of the world.
-    drop(world);
-    Ok(print(alloc, &report)?)
+    let events = without_numbers(alloc, events)?;
+    Ok(world.text(alloc, events.as_slice())?)
 }
 
 /// The world after these events, if each is legal after those before it.
 fn world_after(
     alloc: Global,
-    cluster: &Cluster,
-    workload: &Workload,
+    cluster: Cluster,
+    workload: Workload,
     events: &[(u32, Event)],
 ) -> Result<World<QueueSched>, Status>
-    requires cluster { IsValidCluster cluster.now }
-    requires workload { IsValidWorkload cluster.now workload.now }
+    requires cluster { IsValidCluster cluster }
+    requires workload { IsValidWorkload cluster workload }
     requires few { length events.now ≤ file_limit }
-    ensures legal { IfOk result (λ _. AreLegal cluster.now workload.now (unnumbered events.now)) }
-    ensures cluster { IfOk result (λ world. world.cluster ≡ cluster.now) }
-    ensures workload { IfOk result (λ world. world.workload ≡ workload.now) }
-    ensures state { IfOk result (λ world. world.state ≡ world_after cluster.now workload.now (unnumbered events.now)) }
-    ensures refused { (status : _) → result ≡ Err status → IsStepRefusal cluster.now workload.now events.now status }
+    ensures legal { IfOk result (λ _. AreLegal cluster workload (unnumbered events.now)) }
+    ensures cluster { IfOk result (λ world. world.cluster ≡ cluster) }
+    ensures workload { IfOk result (λ world. world.workload ≡ workload) }
+    ensures state { IfOk result (λ world. world.state ≡ world_after cluster workload (unnumbered events.now)) }
+    ensures refused { (status : _) → result ≡ Err status → IsStepRefusal cluster workload events.now status }
 {
     let mut world = World::begin(alloc, cluster, workload)?;
     for numbered in events {

@@ -40,7 +40,7 @@ impl Frame {
     {
         match expr {
             Expr::Int(number) => Ok(Datum::Int(*number)),
-            Expr::Text(text) => Ok(Datum::Text(text.copy(alloc)?)),
+            Expr::Text(text) => Ok(Datum::Text(text.get().copy(alloc)?)),
             Expr::Bool(truth) => Ok(Datum::Bool(*truth)),
             Expr::Var(variable) => Ok(self.variables[*variable as usize].copy(alloc)?),
             Expr::IntOf(key) => number_in(self.rows.value(*key)),

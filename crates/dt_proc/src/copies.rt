@@ -3,6 +3,7 @@ ghost use Rattle.dt_proc.specs.TreeViews.{block_tree, expr_tree, give_tree, stmt
 
 use crate::procs::{Proc, Procs};
 use crate::tree::{Expr, Give, Gives, KeyDecl, KeyItem, KeyItems, Stmt, Stmts};
+use dt_syntax::Apart;
 use dt_text::{Listed, NoMemory};
 use std::alloc::Global;
 
@@ -13,7 +14,7 @@ impl Expr {
     {
         match self {
             Expr::Int(number) => Ok(Expr::Int(*number)),
-            Expr::Text(text) => Ok(Expr::Text(text.copy(alloc)?)),
+            Expr::Text(text) => Ok(Expr::Text(Apart::new(alloc, text.get().copy(alloc)?)?)),
             Expr::Bool(truth) => Ok(Expr::Bool(*truth)),
             Expr::Var(variable) => Ok(Expr::Var(*variable)),
             Expr::IntOf(key) => Ok(Expr::IntOf(*key)),

@@ -17,7 +17,7 @@ use crate::error::ProcError;
 use crate::fronts::{after_one, bracketed};
 use crate::scope::{Meaning, Scope};
 use crate::tree::{Expr, Op, Sort};
-use dt_syntax::{Placed, Token};
+use dt_syntax::{Apart, Placed, Token};
 use dt_text::Name;
 use std::alloc::Global;
 
@@ -133,9 +133,12 @@ fn operand<'a>(
     };
     match &first.token {
         Token::Int(number) => Ok((Expr::Int(*number), Sort::Int, rest)),
-        Token::Text(text) => Ok((Expr::Text(text.copy(alloc)?), Sort::Text, rest)),
+        Token::Text(text) => {
+            let text = Apart::new(alloc, text.get().copy(alloc)?)?;
+            Ok((Expr::Text(text), Sort::Text, rest))
+        }
         Token::Truth(truth) => Ok((Expr::Bool(*truth), Sort::Bool, rest)),
-        Token::Name(name) => variable(scope, first.place, name, rest),
+        Token::Name(name) => variable(scope, first.place, name.get(), rest),
         Token::IntWord => read_row(scope, Reading::Int, rest),
         Token::TextWord => read_row(scope, Reading::Text, rest),
         Token::Has => read_row(scope, Reading::Presence, rest),

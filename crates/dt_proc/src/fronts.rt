@@ -35,7 +35,7 @@ pub(crate) fn named(tokens: &[Placed]) -> (u32, &Name, &[Placed])
     let Token::Name(name) = &first.token else {
         unreachable!();
     };
-    (first.place, name, rest)
+    (first.place, name.get(), rest)
 }
 
 /// The name in brackets that comes first, with its place, and what follows the brackets.

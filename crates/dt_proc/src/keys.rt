@@ -79,8 +79,8 @@ fn part<'a>(
         unreachable!();
     };
     match &first.token {
-        Token::Text(text) => Ok((KeyItem::Text(text.copy(alloc)?), rest)),
-        Token::Name(name) => match param_of(scope, first.place, name, Sort::Text) {
+        Token::Text(text) => Ok((KeyItem::Text(text.get().copy(alloc)?), rest)),
+        Token::Name(name) => match param_of(scope, first.place, name.get(), Sort::Text) {
             Ok(number) => Ok((KeyItem::Param(number), rest)),
             Err(fault) => Err(fault),
         },

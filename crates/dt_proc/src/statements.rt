@@ -188,7 +188,7 @@ fn abort_step<'a>(alloc: Global, tokens: &'a [Placed]) -> Result<(Stmt, &'a [Pla
     let Token::Text(text) = &first.token else {
         unreachable!();
     };
-    Ok((Stmt::Abort(text.copy(alloc)?), after_one(rest)))
+    Ok((Stmt::Abort(text.get().copy(alloc)?), after_one(rest)))
 }
 
 /// A `give`, after its word.

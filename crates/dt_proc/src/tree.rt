@@ -2,6 +2,7 @@ ghost use Rattle.std.specs.Prelude.{◌≡◌, [], ◌∷◌, ◌++◌, length, 
 ghost use Rattle.dt_proc.specs.Tree.{done, then, joined};
 ghost use Rattle.dt_proc.specs.TreeViews.{stmt_tree, block_tree};
 
+use dt_syntax::Apart;
 pub use dt_syntax::{Kind, Op};
 use dt_text::{Listed, NoMemory, Str};
 use std::alloc::Global;
@@ -18,13 +19,13 @@ pub enum Sort {
     Bool,
 }
 
-/// An expression.
+/// An expression. Its texts and operands lie elsewhere, so that it takes little memory.
 #[derive(Drop)]
 pub enum Expr {
     /// A number.
     Int(i64),
     /// A text.
-    Text(Str),
+    Text(Apart<Str>),
     /// `true` or `false`.
     Bool(bool),
     /// A parameter or a `let`, by its number among those that are visible.

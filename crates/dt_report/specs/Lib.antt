@@ -1,4 +1,5 @@
 pub mod Report
 pub mod WordsInner
+pub mod ShownTables
 pub mod Printable
 pub mod Laws

@@ -11,5 +11,5 @@ mod report;
 mod words;
 
 pub use laws::texts_tell_events;
-pub use printed::print;
+pub use printed::{print, print_shown};
 pub use report::{EventList, Ran, Rans, Replies, Reply, Report, Tables};

@@ -1,11 +1,13 @@
-ghost use Rattle.std.specs.Prelude.{◌≡◌, ◌++◌, IfOk, OnOk};
+ghost use Rattle.std.specs.Prelude.{◌≡◌, ◌++◌, [], IfOk, OnOk};
+ghost use Rattle.dt_table.specs.Table.{shown};
+ghost use Rattle.dt_report.specs.ShownTables.{all_shown};
 ghost use Rattle.dt_report.specs.Report.{events_text, order_text, replies_text, report_text, table_text, tables_text};
 
 use crate::lines::{put_ran, put_reply, put_row};
 use crate::report::{Ran, Reply, Report};
 use crate::words::put_number;
 use dt_events::{Event, put_event};
-use dt_table::{Shown, ShownList};
+use dt_table::{Shown, ShownList, Table};
 use dt_text::NoMemory;
 use std::alloc::Global;
 
@@ -22,6 +24,25 @@ pub fn print(alloc: Global, report: &Report) -> Result<Vec<u8>, NoMemory>
     put_order(alloc, &mut text, report.order.as_slice())?;
     put_tables(alloc, &mut text, report.tables.as_slice())?;
     put_events(alloc, &mut text, report.events.as_slice())?;
+    Ok(text)
+}
+
+/// The text of the report with these replies, this order, what these tables show, and these events. A row is told at a time, so
+/// that no list is made of what the tables show. The only error is want of memory.
+pub fn print_shown(
+    alloc: Global,
+    replies: &[Reply],
+    order: &[Ran],
+    tables: &[&Table],
+    events: &[Event],
+) -> Result<Vec<u8>, NoMemory>
+    ensures { IfOk result (λ text. text.items ≡ report_text (record { replies = replies.now; order = order.now; tables = all_shown tables.now; events = events.now })) }
+{
+    let mut text = Vec::new(alloc);
+    put_replies(alloc, &mut text, replies)?;
+    put_order(alloc, &mut text, order)?;
+    put_all_shown(alloc, &mut text, tables)?;
+    put_events(alloc, &mut text, events)?;
     Ok(text)
 }
 
@@ -57,12 +78,40 @@ fn put_tables(alloc: Global, out: &mut Vec<u8>, tables: &[ShownList]) -> Result<
 fn put_table(alloc: Global, out: &mut Vec<u8>, region: u64, rows: &[Shown]) -> Result<(), NoMemory>
     ensures { OnOk result (out.new.items ≡ out.old.items ++ table_text region rows.now) }
 {
-    out.extend_from_slice(b"table")?;
-    put_number(alloc, out, region)?;
-    out.push(b'\n')?;
+    put_head(alloc, out, region)?;
     for row in rows {
         put_row(alloc, out, row)?;
     }
+    Ok(())
+}
+
+fn put_all_shown(alloc: Global, out: &mut Vec<u8>, tables: &[&Table]) -> Result<(), NoMemory>
+    ensures { OnOk result (out.new.items ≡ out.old.items ++ tables_text 0 (all_shown tables.now)) }
+{
+    for region in 0..tables.len() {
+        put_shown(alloc, out, region as u64, tables[region])?;
+    }
+    Ok(())
+}
+
+fn put_shown(alloc: Global, out: &mut Vec<u8>, region: u64, table: &Table) -> Result<(), NoMemory>
+    ensures { OnOk result (out.new.items ≡ out.old.items ++ table_text region (shown table.now.state)) }
+{
+    put_head(alloc, out, region)?;
+    for key in table.shown_keys(alloc)? {
+        let row = table.shown_at(alloc, key)?;
+        put_row(alloc, out, &row)?;
+    }
+    Ok(())
+}
+
+/// Appends the line before the rows of a region.
+fn put_head(alloc: Global, out: &mut Vec<u8>, region: u64) -> Result<(), NoMemory>
+    ensures { OnOk result (out.new.items ≡ out.old.items ++ table_text region []) }
+{
+    out.extend_from_slice(b"table")?;
+    put_number(alloc, out, region)?;
+    out.push(b'\n')?;
     Ok(())
 }
 

@@ -6,6 +6,7 @@ ghost use Rattle.dt_text.specs.Texts.{is_name_byte, is_text_byte, IsStr};
 ghost use Rattle.dt_syntax.specs.Tokens as tokens;
 ghost use Rattle.dt_syntax.specs.Tokens.{items_of, tokens_from, with_item};
 
+use crate::apart::Apart;
 use crate::operator::Op;
 use crate::token::Token;
 use dt_text::{Name, NoMemory, Str, is_name_byte, is_text_byte, read_i64};
@@ -115,7 +116,7 @@ fn plain_word(alloc: Global, word: &[u8]) -> Result<Option<Token>, NoMemory>
     if !first.is_ascii_lowercase() || word.len() > Name::LONGEST {
         return Ok(None);
     }
-    Ok(Some(Token::Name(Name::new(alloc, word)?)))
+    Ok(Some(Token::Name(Apart::new(alloc, Name::new(alloc, word)?)?)))
 }
 
 /// The token of a number.
@@ -205,7 +206,8 @@ fn text_after(alloc: Global, bytes: &[u8]) -> Result<Option<(Token, usize)>, NoM
     while let [first, after @ ..] = rest {
         if *first == b'"' {
             let size = bytes.len() - after.len() + 1;
-            return Ok(Some((Token::Text(Str::new(alloc, items.as_slice())?), size)));
+            let text = Apart::new(alloc, Str::new(alloc, items.as_slice())?)?;
+            return Ok(Some((Token::Text(text), size)));
         }
         if items.len() == Str::LONGEST {
             return Ok(None);

@@ -9,6 +9,7 @@
 //! stack goes on exactly where some procedures begin with the tokens so far is proved.
 #![tactic(auto)]
 
+mod apart;
 mod counts;
 mod error;
 mod first_pass;
@@ -19,6 +20,7 @@ mod machine;
 mod operator;
 mod token;
 
+pub use apart::Apart;
 pub use error::SyntaxError;
 pub use first_pass::read_tokens;
 pub use kinds::Kind;

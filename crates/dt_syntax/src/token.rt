@@ -1,15 +1,16 @@
+use crate::apart::Apart;
 use crate::operator::Op;
 use dt_text::{Name, Str};
 
-/// A token: what a text of procedures is made of.
+/// A token: what a text of procedures is made of. Spellings lie elsewhere, so that the tokens of a long text take little memory.
 #[derive(Drop)]
 pub enum Token {
     /// A name, which is no keyword.
-    Name(Name),
+    Name(Apart<Name>),
     /// A number.
     Int(i64),
     /// A text, without its quotes and escapes.
-    Text(Str),
+    Text(Apart<Str>),
     /// An operator: also the words `or` and `and`, and `-` before an operand.
     Op(Op),
     /// `proc`

@@ -6,4 +6,5 @@ pub mod StoredUnits
 pub mod OpeningTable
 pub mod SortedEntries
 pub mod ShownKeys
+pub mod Layers
 pub mod TableLaws

@@ -1,11 +1,10 @@
 -- A list with distinct keys is entered into a map entry by entry.
-use Rattle.std.proofs.Common.{◌≡◌, ℕ, zero, suc, ◌+◌, ◌<◌, false, cond, List, [], ◌∷◌, ◌++◌, map, length, take, get_or, refl, sym, ap, ◌∙◌, arith, Some}
+use Rattle.std.proofs.Common.{◌≡◌, ℕ, zero, suc, ◌+◌, ◌<◌, false, cond, List, [], ◌∷◌, ◌++◌, map, length, take, get_or, refl, sym, ap, ◌∙◌, arith}
 use Rattle.std.proofs.lemmas.List.{map-id, map-append, take_more}
 use Rattle.indexmap.specs.IndexMap.{insert_entry}
 use Rattle.dt_lists.specs.Lists.{AllIn}
 use Rattle.dt_access.specs.Clash.{Bytes, same_key}
 use Rattle.dt_access.specs.Orders.{HasDistinctKeys}
-use Rattle.dt_text.specs.declared.Value.{Value}
 use Rattle.dt_access.proofs.Callers.{same_key_other}
 
 at_place : {A : Type 0} (P : Bytes → Type 0) (xs : List (Bytes × A)) (i : ℕ) (d : Bytes × A) → AllIn P (map (λ e. e.0) xs) → i < length xs → P (get_or xs i d).0
@@ -39,7 +38,3 @@ pub next-entry : {A : Type 0} (xs : List (Bytes × A)) (i : ℕ) (d : Bytes × A
 next-entry xs i d distinct within =
     let x = get_or xs i d in
     ap (λ es. insert_entry same_key es x.0 x.1) (sym (map-id (take i xs))) ∙ map-next (λ e. e) (λ _. refl) xs i d distinct within ∙ map-id (take (i + 1) xs)
-
-pub next-opening_value : (rows : List (Bytes × Value)) (i : ℕ) (d : Bytes × Value) → HasDistinctKeys rows → i < length rows
-    → insert_entry same_key (map (λ r. (r.0, Some r.1)) (take i rows)) (get_or rows i d).0 (Some (get_or rows i d).1) ≡ map (λ r. (r.0, Some r.1)) (take (i + 1) rows)
-next-opening_value rows i d distinct within = map-next (λ r. (r.0, Some r.1)) (λ _. refl) rows i d distinct within

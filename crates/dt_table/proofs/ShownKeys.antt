@@ -1,12 +1,12 @@
 -- The keys that a report shows, in the order of the report, by what a table keeps.
-use Rattle.std.proofs.Common.{◌≡◌, ℕ, ◌<◌, Bool, true, false, not, cond, ◌&&◌, ◌||◌, nat_lt, if◌then◌else◌, is_some, List, [], ◌∷◌, ◌++◌, map, flat_map, length, IsPermutation}
+use Rattle.std.proofs.Common.{◌≡◌, Bool, true, false, not, cond, ◌&&◌, ◌||◌, nat_lt, if◌then◌else◌, is_some, List, [], ◌∷◌, ◌++◌, map, flat_map, length, IsPermutation}
 use Rattle.std.proofs.Common.{refl, sym, ap, ap₂, ◌∙◌, subst, Option, Some, None, unwrap_or}
-use Rattle.std.specs.Ordering.{nat_cmp, is_lt, is_eq, eq_by_cmp}
-use Rattle.std.specs.Cmp.Lexicographic.{slice_cmp, nat_list_cmp_total, nat_list_eq_equiv, texts_ties, bytes_decides}
+use Rattle.std.specs.Ordering.{is_lt, eq_by_cmp}
+use Rattle.std.specs.Cmp.Lexicographic.{nat_list_cmp_total, texts_ties, bytes_decides}
 use Rattle.std.specs.List.{IsDistinct, AllByRecursion, list_any}
 use Rattle.std.specs.List.Sorted.{IsSortedBy}
 use Rattle.std.specs.Map.{lookup, keys_of}
-use Rattle.std.specs.FinMap.{FinMap, get, entries, keys, from_entries, retain_keys, contains_key-keys, get-entries, get-from_entries, get-retain_keys, same_map}
+use Rattle.std.specs.FinMap.{FinMap, get, keys, retain_keys, contains_key-keys, get-from_entries, get-retain_keys, same_map}
 use Rattle.std.specs.FinMap.{IsAntisymmetric, slice_cmp-IsAntisymmetric, nat_cmp-IsAntisymmetric}
 use Rattle.std.specs.Option.{option_map}
 use Rattle.std.proofs.lemmas.List.Folds.{list_any-append}
@@ -16,7 +16,7 @@ use Rattle.dt_lists.proofs.Callers.{all_map}
 use Rattle.dt_access.specs.Clash.{Bytes, same_key}
 use Rattle.dt_access.specs.Granules.{unit_of}
 use Rattle.dt_text.specs.declared.Value.{Value}
-use Rattle.dt_table.specs.Table.{Moved, Table, value_of, counter_of, is_shown, set_of_keys}
+use Rattle.dt_table.specs.Table.{Moved, Table, counter_of, is_shown, set_of_keys}
 use Rattle.dt_table.specs.StoredUnitInner.{by_bytes, has_value, keys_with_value, moved_without_value}
 use Rattle.dt_table.specs.StoredMovesInner.{history, table_view, IsSoundTable}
 use Rattle.dt_table.specs.declared.stored.StoredUnit.{StoredUnit}
@@ -41,7 +41,7 @@ all_differ q (k ∷ ks) e =
     ] e
 
 -- each key of a list is one of it
-each_of_them : (ks : List Bytes) → AllIn (λ k. list_any (same_key k) ks ≡ true) ks
+pub each_of_them : (ks : List Bytes) → AllIn (λ k. list_any (same_key k) ks ≡ true) ks
 each_of_them [] = tt
 each_of_them (k ∷ ks) = (
   ap (λ b. b || list_any (same_key k) ks) (same_key_self k),
@@ -53,7 +53,7 @@ each_of_them (k ∷ ks) = (
     or_true false = refl
 
 -- two lists without a common key, each without the same key twice, have none twice together
-distinct_append : (xs ys : List Bytes) → IsDistinct same_key xs → IsDistinct same_key ys → AllIn (λ x. list_any (same_key x) ys ≡ false) xs → IsDistinct same_key (xs ++ ys)
+pub distinct_append : (xs ys : List Bytes) → IsDistinct same_key xs → IsDistinct same_key ys → AllIn (λ x. list_any (same_key x) ys ≡ false) xs → IsDistinct same_key (xs ++ ys)
 unfolding IsDistinct
 distinct_append [] ys dx dy apart = dy
 distinct_append (x ∷ xs) ys dx dy apart = (both xs dx.0, distinct_append xs ys dx.1 dy apart.1)
@@ -64,14 +64,14 @@ distinct_append (x ∷ xs) ys dx dy apart = (both xs dx.0, distinct_append xs ys
 
 module _ {V : Type 0} (keep : Bytes → V → Bool) where
   -- the keys of the entries that pass a test
-  abbrev kept : List (Bytes × V) → List Bytes
+  abbrev pub kept : List (Bytes × V) → List Bytes
   kept es = flat_map (λ e. if keep e.0 e.1 then e.0 ∷ [] else []) es
 
   kept_all : (P : Bytes → Type 0) (es : List (Bytes × V)) → AllByRecursion P (keys_of es) → AllByRecursion P (kept es)
   kept_all P [] h = tt
   kept_all P (e ∷ es) h = elim (keep e.0 e.1) as (λ b. AllByRecursion P ((if b then e.0 ∷ [] else []) ++ kept es)) [ true ↦ (h.0, kept_all P es h.1) | false ↦ kept_all P es h.1 ]
 
-  kept_distinct : (es : List (Bytes × V)) → IsDistinct same_key (keys_of es) → IsDistinct same_key (kept es)
+  pub kept_distinct : (es : List (Bytes × V)) → IsDistinct same_key (keys_of es) → IsDistinct same_key (kept es)
   unfolding IsDistinct
   kept_distinct [] d = tt
   kept_distinct (e ∷ es) d =
@@ -81,12 +81,12 @@ module _ {V : Type 0} (keep : Bytes → V → Bool) where
       ]
 
   -- whether the entry that a look-up found passes
-  abbrev kept_at : Bytes → Option V → Bool
+  abbrev pub kept_at : Bytes → Option V → Bool
   kept_at q None = false
   kept_at q (Some v) = keep q v
 
   -- a key is kept where its entry passes
-  kept_any : (es : List (Bytes × V)) (q : Bytes) → IsDistinct same_key (keys_of es) → list_any (same_key q) (kept es) ≡ kept_at q (lookup (same_key q) es)
+  pub kept_any : (es : List (Bytes × V)) (q : Bytes) → IsDistinct same_key (keys_of es) → list_any (same_key q) (kept es) ≡ kept_at q (lookup (same_key q) es)
   unfolding IsDistinct
   kept_any [] q d = refl
   kept_any (e ∷ es) q d =

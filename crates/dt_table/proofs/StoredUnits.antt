@@ -5,7 +5,7 @@ use Rattle.std.specs.Option.{option_map}
 use Rattle.std.specs.Ordering.{nat_cmp}
 use Rattle.std.specs.Cmp.Lexicographic.{slice_cmp, nat_list_cmp_total, nat_list_eq_equiv, texts_ties, bytes_decides}
 use Rattle.std.specs.Map.{lookup}
-use Rattle.std.specs.FinMap.{FinMap, from_entries, get-from_entries, insert, IsAntisymmetric, slice_cmp-IsAntisymmetric, nat_cmp-IsAntisymmetric}
+use Rattle.std.specs.FinMap.{from_entries, get-from_entries, insert, IsAntisymmetric, slice_cmp-IsAntisymmetric, nat_cmp-IsAntisymmetric}
 use Rattle.std.proofs.lemmas.List.{map-id}
 use Rattle.indexmap.specs.IndexMap.{insert_entry}
 use Rattle.dt_lists.specs.Lists.{AllIn}
@@ -14,7 +14,7 @@ use Rattle.dt_access.specs.Granules.{IsUnit, unit_of}
 use Rattle.dt_text.specs.Texts.{IsKey}
 use Rattle.dt_text.specs.declared.Value.{Value}
 use Rattle.dt_access.specs.declared.TxnId.{TxnId}
-use Rattle.dt_table.specs.Table.{Moved, Table, value_of, moves_of, home_of, counter_of, opening_home, home_after, next_mover, written, moved}
+use Rattle.dt_table.specs.Table.{Moved, Table, value_of, moves_of, home_of, counter_of, opening_home, home_after, next_mover, moved}
 use Rattle.dt_table.specs.StoredUnitInner.{by_bytes, fresh_unit, stored_of}
 use Rattle.dt_table.specs.StoredMovesInner.{mover_in, history, moved_of, histories_of, IsBelow, AreLinked, FitsMoves, IsSoundTable, table_view}
 use Rattle.dt_table.specs.declared.stored.StoredMove.{StoredMove}
@@ -85,15 +85,15 @@ module _ (a : Inside) where
 
   module _ (sound : IsSoundTable a) where
     -- a unit that a look-up finds fits its moves
-    pub FitsMoves-found : (unit : Bytes) (stored : StoredUnit) → lookup (same_key unit) units ≡ Some stored → FitsMoves a.version a.regions (by_bytes a.homes.entries) moves (unit, stored)
+    pub FitsMoves-found : (unit : Bytes) (stored : StoredUnit) → lookup (same_key unit) units ≡ Some stored → FitsMoves a.version a.regions a.homes moves (unit, stored)
     FitsMoves-found unit stored found =
-        AllIn-lookup same_key (FitsMoves a.version a.regions (by_bytes a.homes.entries) moves) (λ x y. (bytes_decides x y).0) units unit stored sound.units found
+        AllIn-lookup same_key (FitsMoves a.version a.regions a.homes moves) (λ x y. (bytes_decides x y).0) units unit stored sound.units found
 
     -- so it has the home and the counter of its keys
     pub home_of-found : (key : Bytes) (stored : StoredUnit) → unit_in key ≡ Some stored → stored.home ≡ home_of state key
     home_of-found key stored found =
         let unit = unit_of a.version key in
-        (FitsMoves-found unit stored found).home ∙ ap (home_after (opening_home a.regions (by_bytes a.homes.entries) unit)) (sym (moves_of-found key stored found))
+        (FitsMoves-found unit stored found).home ∙ ap (home_after (opening_home a.regions a.homes unit)) (sym (moves_of-found key stored found))
 
     pub counter_of-found : (key : Bytes) (stored : StoredUnit) → unit_in key ≡ Some stored → stored.counter ≡ counter_of state key
     counter_of-found key stored found = (FitsMoves-found (unit_of a.version key) stored found).counter ∙ ap length (sym (moves_of-found key stored found))
@@ -188,14 +188,14 @@ module _ (a : Inside) (unit : Bytes) (target : ℕ) (by : TxnId) (sound : IsSoun
     pub histories-moved : histories_of longer (insert_entry same_key (by_bytes a.units.entries) unit (moved_unit a unit target place)) ≡ (moved (table_view a).state unit target by).moves
     histories-moved =
         insert-from_map nat_list_cmp_total texts_ties (λ (s : StoredUnit). history longer s.last) nat_list_eq_equiv exact (by_bytes a.units.entries) unit (moved_unit a unit target place)
-        ∙ (λ i. insert (from_entries (histories-pushed a.version a.regions (by_bytes a.homes.entries) a.moves.items (pushed_move a unit target by) (by_bytes a.units.entries) sound.units i)) (sym is_unit i)
+        ∙ (λ i. insert (from_entries (histories-pushed a.version a.regions a.homes a.moves.items (pushed_move a unit target by) (by_bytes a.units.entries) sound.units i)) (sym is_unit i)
         ((grown ∙ ap (λ l. l ++ record { target = target; by = by } ∷ []) (sym moves_of-unit)) i))
 
     -- each unit fits its moves
     pub units-moved : IsKey unit → counter_of (table_view a).state unit + 1 < 2 ^ 32
-        → AllIn (FitsMoves a.version a.regions (by_bytes a.homes.entries) longer) (insert_entry same_key (by_bytes a.units.entries) unit (moved_unit a unit target place))
+        → AllIn (FitsMoves a.version a.regions a.homes longer) (insert_entry same_key (by_bytes a.units.entries) unit (moved_unit a unit target place))
     units-moved key few =
-        let homes = by_bytes a.homes.entries in
+        let homes = a.homes in
         let m = pushed_move a unit target by in
         let earlier = history a.moves.items before.last in
         AllIn-insert_entry same_key (FitsMoves a.version a.regions homes longer) (λ x y. (bytes_decides x y).0) (by_bytes a.units.entries) unit (moved_unit a unit target place)

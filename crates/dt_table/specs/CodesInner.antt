@@ -10,7 +10,8 @@ use Rattle.dt_access.specs.contracts.id.TxnId as id
 use Rattle.dt_access.specs.declared.TxnId.{TxnId}
 use Rattle.dt_text.specs.contracts.value.Value as value
 use Rattle.dt_text.specs.declared.Value.{Value}
-use Rattle.dt_table.specs.Table.{Moved, Table, TableView}
+use Rattle.dt_table.specs.RowsInner.{RowsView}
+use Rattle.dt_table.specs.Table.{Moved, OpeningView, Table, TableView}
 
 -- a move is stored as its fields
 abbrev moved_code : Coded Moved
@@ -35,3 +36,13 @@ table_code = code_by (ℕ × (ℕ × (List (Bytes × ℕ) × (map.FinMap (slice_
 -- a table is stored so, with its room
 abbrev pub table_view_code : Coded TableView
 table_view_code = code_by (Table × ℕ) (coded× table_code coded_ℕ) (λ k. (k.state, k.spare)) (λ p. record { state = p.0; spare = p.1 }) (λ _. refl)
+
+-- values are stored as their entries, with their room
+abbrev pub rows_view_code : Coded RowsView
+rows_view_code = code_by (List (Bytes × Option Value) × ℕ) (coded× (coded_list (coded× (coded_list coded_ℕ) (coded_option value.the_row.coded))) coded_ℕ)
+    (λ r. (r.entries, r.spare)) (λ p. record { entries = p.0; spare = p.1 }) (λ _. refl)
+
+-- an opening is stored as its homes and its rows
+abbrev pub opening_view_code : Coded OpeningView
+opening_view_code = code_by (List (Bytes × ℕ) × List (Bytes × Value)) (coded× (coded_list (coded× (coded_list coded_ℕ) coded_ℕ)) (coded_list (coded× (coded_list coded_ℕ) value.the_row.coded)))
+    (λ o. (o.homes, o.rows)) (λ p. record { homes = p.0; rows = p.1 }) (λ _. refl)

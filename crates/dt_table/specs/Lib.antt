@@ -1,4 +1,5 @@
 pub mod Table
 pub mod CodesInner
+pub mod RowsInner
 pub mod StoredUnitInner
 pub mod StoredMovesInner

@@ -71,15 +71,15 @@ table_view a = record {
   state = record {
     version = a.version;
     regions = a.regions;
-    homes = by_bytes a.homes.entries;
+    homes = a.homes;
     values = from_entries a.values.entries;
     moves = histories_of a.moves.items (by_bytes a.units.entries);
   };
-  spare = min (spare a.values) (min (spare a.units) (vec_capacity a.moves - vec_len a.moves));
+  spare = min a.values.spare (min (spare a.units) (vec_capacity a.moves - vec_len a.moves));
 }
 
 -- what every table keeps: there is a region, the moves are linked, and each unit fits them
 pub record IsSoundTable (a : Inside) : Type 0 where
   pub regions : 0 < a.regions
   pub linked : AreLinked 0 a.moves.items
-  pub units : AllIn (FitsMoves a.version a.regions (by_bytes a.homes.entries) a.moves.items) (by_bytes a.units.entries)
+  pub units : AllIn (FitsMoves a.version a.regions a.homes a.moves.items) (by_bytes a.units.entries)

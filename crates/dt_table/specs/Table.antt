@@ -4,7 +4,7 @@
 -- `home_of`, `counter_of`, `next_mover`), what an effect changes (`apply`), and what a report shows (`shown`). A key that
 -- was cleared stays in its map, and a unit keeps its moves, since they say where it is mastered. Read next `Execution` of
 -- dt_txn, which runs a transaction on a table.
-use Rattle.std.specs.Prelude.{◌≡◌, ◌+◌, ◌<◌, ◌^◌, ◌%◌, ℕ, Bool, List, [], ◌∷◌, ◌++◌, length, map, slice_index, slice_get}
+use Rattle.std.specs.Prelude.{◌+◌, ◌<◌, ◌^◌, ◌%◌, ℕ, Bool, List, [], ◌∷◌, ◌++◌, length, map, slice_index, slice_get}
 use Rattle.std.specs.Prelude.{Option, Some, None, unwrap_or, option_map, option_to_list, is_some, ◌&&◌, ◌||◌, nat_lt}
 use Rattle.std.specs.Ordering.{nat_cmp}
 use Rattle.std.specs.Cmp.Lexicographic.{slice_cmp}
@@ -96,6 +96,11 @@ opening version regions homes rows = record {
   values = from_entries (map (λ r. (r.0, Some r.1)) rows);
   moves = empty;
 }
+
+-- what contracts see of an `Opening`: the homes that are listed for units, and the rows that have a value
+pub record OpeningView : Type 0 where
+  pub homes : List (Bytes × ℕ)
+  pub rows : List (Bytes × Value)
 
 -- whether a report shows a key: it has a value, or it is a unit that was moved
 abbrev pub is_shown : Table → Bytes → Bool

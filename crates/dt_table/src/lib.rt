@@ -6,11 +6,15 @@
 #![tactic(auto)]
 
 mod effect;
+mod homes;
+mod opening;
+mod rows;
 mod shown;
 mod stored;
 mod table;
 mod units;
 
 pub use effect::{Effect, UnitName};
+pub use opening::Opening;
 pub use shown::{Shown, ShownList};
 pub use table::{Mastership, Table, TableRow};

@@ -1,11 +1,12 @@
-ghost use Rattle.std.specs.Prelude.{◌≡◌, ◌++◌, IfOk, OnOk};
+ghost use Rattle.std.specs.Prelude.{◌≡◌, ◌++◌, OnOk};
 ghost use Rattle.std.specs.List.{IsDistinct};
 ghost use Rattle.std.specs.Map.{keys_of};
 ghost use Rattle.dt_access.specs.Clash.{same_key};
 ghost use Rattle.dt_lists.specs.Lists.{AllIn};
 ghost use Rattle.dt_text.specs.Texts.{IsKey};
-ghost use Rattle.dt_table.specs.StoredUnitInner.{by_bytes, has_value, keys_with_value, moved_without_value};
+ghost use Rattle.dt_table.specs.StoredUnitInner.{by_bytes, moved_without_value};
 
+use crate::rows::Rows;
 use crate::stored::StoredUnit;
 use dt_text::{Key, Listed, NoMemory, Value};
 use indexmap::IndexMap;
@@ -25,28 +26,11 @@ pub struct Shown {
 /// Keys as a report shows them.
 pub type ShownList = Listed<Shown>;
 
-/// The keys that have a value.
-pub fn keys_with_value(
-    alloc: Global,
-    values: &IndexMap<Key, Option<Value>>,
-) -> Result<Vec<Key>, NoMemory>
-    ensures keys { IfOk result (λ keys. keys.items ≡ keys_with_value values.now.entries) }
-    ensures once { OnOk result (IsDistinct same_key (keys_of values.now.entries)) }
-{
-    let mut keys = Vec::new(alloc);
-    for (key, value) in values {
-        if value.is_some() {
-            keys.push(key.copy(alloc)?)?;
-        }
-    }
-    Ok(keys)
-}
-
 /// Adds the units that were moved and have no value as keys.
 pub fn add_moved_units(
     alloc: Global,
     keys: &mut Vec<Key>,
-    values: &IndexMap<Key, Option<Value>>,
+    values: &Rows,
     units: &IndexMap<Vec<u8>, StoredUnit>,
 ) -> Result<(), NoMemory>
     requires { AllIn (λ e. IsKey e.0) (by_bytes units.now.entries) }
@@ -55,19 +39,9 @@ pub fn add_moved_units(
 {
     for (unit, stored) in units {
         let key = Key::new(alloc, unit.as_slice())?;
-        if stored.counter > 0 && !has_value(values, &key) {
+        if stored.counter > 0 && !values.has_value(&key) {
             keys.push(key)?;
         }
     }
     Ok(())
-}
-
-// Whether a key has a value.
-fn has_value(values: &IndexMap<Key, Option<Value>>, key: &Key) -> bool
-    ensures { result ≡ has_value values.now.entries key.now }
-{
-    match values.get(key) {
-        Some(value) => value.is_some(),
-        None => false,
-    }
 }

@@ -1,13 +1,7 @@
-ghost use Rattle.std.specs.Prelude.{◌≡◌, ◌+◌, ◌<◌, ◌≤◌, Some, IfOk, length, map, option_map, slice_get};
-ghost use Rattle.indexmap.specs.IndexMap.{insert_entry, spare};
-ghost use Rattle.dt_access.specs.Clash.{same_key};
-ghost use Rattle.dt_access.specs.Orders.{HasDistinctKeys};
+ghost use Rattle.std.specs.Prelude.{◌≡◌, length, option_map, slice_get};
 ghost use Rattle.dt_table.specs.StoredMovesInner.{history, mover_in, IsBelow, AreLinked};
 
 use dt_access::TxnId;
-use dt_text::{Key, NoMemory, Value};
-use indexmap::IndexMap;
-use std::alloc::Global;
 
 /// A unit as a table keeps it.
 #[derive(Clone, Copy)]
@@ -27,33 +21,6 @@ pub struct StoredMove {
     pub by: TxnId,
     /// The place of the move of the same unit that it follows.
     pub before: Option<usize>,
-}
-
-/// The values that keys have before any transaction.
-pub fn opening_values(
-    alloc: Global,
-    rows: &[(Key, Value)],
-) -> Result<IndexMap<Key, Option<Value>>, NoMemory>
-    requires { HasDistinctKeys rows.now }
-    ensures { IfOk result (λ opened. opened.entries ≡ map (λ r. (r.0, Some r.1)) rows.now) }
-{
-    let mut opened = IndexMap::with_capacity(alloc, rows.len())?;
-    for (key, value) in rows {
-        opened.insert(key.copy(alloc)?, Some(value.copy(alloc)?))?;
-    }
-    Ok(opened)
-}
-
-/// Gives a key its value or none, which takes no memory where there is room.
-pub fn put_value(values: &mut IndexMap<Key, Option<Value>>, key: Key, value: Option<Value>)
-    requires { 0 < spare values.old }
-    ensures values { values.new.entries ≡ insert_entry same_key values.old.entries key value }
-    ensures room { spare values.old ≤ spare values.new + 1 }
-{
-    match values.insert(key, value) {
-        Ok(_) => (),
-        Err(_) => unreachable!(),
-    }
 }
 
 /// Who made the move `number` of a unit, counted from 1. None exactly where there is no such move.

@@ -1,4 +1,4 @@
-ghost use Rattle.std.specs.Prelude.{◌≡◌, ◌+◌, ◌^◌, ◌<◌, ◌≤◌, ◌↔◌, ℕ, IsOk, IsSome, IfOk, OnOk};
+ghost use Rattle.std.specs.Prelude.{◌≡◌, ◌+◌, ◌^◌, ◌<◌, ◌≤◌, ◌↔◌, ℕ, IsOk, IsSome, IfOk, OnOk, map};
 ghost use Rattle.std.specs.Option.{option_copied};
 ghost use Rattle.dt_access.specs.Granules.{IsUnit};
 ghost use Rattle.dt_access.specs.Orders.{HasDistinctKeys};
@@ -6,9 +6,12 @@ ghost use Rattle.dt_text.specs.Texts.{IsKey};
 ghost use Rattle.dt_table.specs.Table.{value_of, home_of, counter_of, next_mover, written, moved, apply, opening, shown, shown_at, places_for, MovesUnit, HasPlaceFor};
 
 use crate::effect::{Effect, UnitName};
-use crate::shown::{Shown, ShownList, add_moved_units, keys_with_value};
-use crate::stored::{StoredMove, StoredUnit, mover_of, next_mover_of, opening_values, put_value};
-use crate::units::{index_homes, opening_home, put_unit, stored_or_fresh, stored_unit};
+use crate::homes::Homes;
+use crate::opening::Opening;
+use crate::rows::Rows;
+use crate::shown::{Shown, ShownList, add_moved_units};
+use crate::stored::{StoredMove, StoredUnit, mover_of, next_mover_of};
+use crate::units::{put_unit, stored_or_fresh, stored_unit};
 use dt_access::{TxnId, unit_bytes};
 use dt_text::{Key, NoMemory, Value};
 use indexmap::IndexMap;
@@ -42,8 +45,8 @@ pub struct TableRow<'a> {
 pub struct Table {
     version: u8,
     regions: u8,
-    homes: IndexMap<Vec<u8>, u8>,
-    values: IndexMap<Key, Option<Value>>,
+    homes: Homes,
+    values: Rows,
     units: IndexMap<Vec<u8>, StoredUnit>,
     moves: Vec<StoredMove>,
 }
@@ -78,11 +81,21 @@ impl Table {
         requires rows { HasDistinctKeys rows.now }
         ensures { IfOk result (λ table. table.state ≡ opening version regions homes.now rows.now) }
     {
+        let first = Opening::new(alloc, homes, rows)?;
+        Table::of(alloc, version, regions, &first)
+    }
+
+    /// A table before any transaction, as `new` makes it, with these homes and rows. It shares them with all other tables that
+    /// are made so.
+    pub fn of(alloc: Global, version: u8, regions: u8, first: &Opening) -> Result<Self, NoMemory>
+        requires { 0 < regions }
+        ensures { IfOk result (λ table. table.state ≡ opening version regions first.now.homes first.now.rows) }
+    {
         Ok(Table {
             version,
             regions,
-            homes: index_homes(alloc, homes)?,
-            values: opening_values(alloc, rows)?,
+            homes: first.homes.share()?,
+            values: Rows::of(alloc, &first.rows)?,
             units: IndexMap::new(alloc),
             moves: Vec::new(alloc),
         })
@@ -99,7 +112,7 @@ impl Table {
     pub fn get(&self, key: &Key) -> Option<&Value>
         ensures { option_copied result ≡ value_of self.now.state key.now }
     {
-        self.values.get(key)?.as_ref()
+        self.values.get(key)
     }
 
     /// The present home of a key, and how often its unit was moved.
@@ -114,7 +127,7 @@ impl Table {
                 counter: stored.counter,
             },
             None => Mastership {
-                home: opening_home(&self.homes, self.regions, unit),
+                home: self.homes.home_of(self.regions, unit),
                 counter: 0,
             },
         }
@@ -183,22 +196,31 @@ impl Table {
         }
     }
 
+    /// The keys that a report shows, in ascending order: each that has a value or is a unit with a move.
+    pub fn shown_keys(&self, alloc: Global) -> Result<Vec<Key>, NoMemory>
+        ensures { IfOk result (λ keys. map (shown_at self.now.state) keys.items ≡ shown self.now.state) }
+    {
+        let mut keys = self.values.keys_with_value(alloc)?;
+        add_moved_units(alloc, &mut keys, &self.values, &self.units)?;
+        keys.sort()?;
+        Ok(keys)
+    }
+
     /// What a report shows: each key that has a value or is a unit with a move, in ascending order of keys.
     pub fn shown(&self, alloc: Global) -> Result<ShownList, NoMemory>
         ensures { IfOk result (λ list. list ≡ shown self.now.state) }
     {
-        let mut keys = keys_with_value(alloc, &self.values)?;
-        add_moved_units(alloc, &mut keys, &self.values, &self.units)?;
-        keys.sort()?;
+        let keys = self.shown_keys(alloc)?;
         let mut list = ShownList::new(alloc);
+        list.reserve(keys.len())?;
         for key in keys {
             list.push(self.shown_at(alloc, key)?)?;
         }
         Ok(list)
     }
 
-    // A key, as a report shows it.
-    fn shown_at(&self, alloc: Global, key: Key) -> Result<Shown, NoMemory>
+    /// A key, as a report shows it.
+    pub fn shown_at(&self, alloc: Global, key: Key) -> Result<Shown, NoMemory>
         ensures { IfOk result (λ shown. shown ≡ shown_at self.now.state key) }
     {
         let value = match self.get(&key) {
@@ -220,7 +242,7 @@ impl Table {
         ensures state { self.new.state ≡ written self.old.state key value }
         ensures spare { self.old.spare ≤ self.new.spare + 1 }
     {
-        put_value(&mut self.values, key, value);
+        self.values.put(key, value);
     }
 
     // Moves a unit.

@@ -153,7 +153,7 @@ fn put_gives(alloc: Global, out: &mut Vec<u8>, gives: &[Give]) -> Result<(), NoM
 fn put_expr(alloc: Global, out: &mut Vec<u8>, expr: &Expr) -> Result<(), NoMemory> {
     match expr {
         Expr::Int(number) => put_i64(alloc, out, *number),
-        Expr::Text(text) => put_text(alloc, out, text),
+        Expr::Text(text) => put_text(alloc, out, text.get()),
         Expr::Bool(true) => put(out, b"true"),
         Expr::Bool(false) => put(out, b"false"),
         Expr::Var(variable) => put_number(alloc, out, b"v", *variable),

@@ -1,9 +1,9 @@
 //! The world: all regions and all sessions of a cluster in one hand.
 //!
 //! A [`World`] takes one event after another. [`World::step`] makes an event exactly where it is legal by its rule, and
-//! refuses it by the number of that rule otherwise; a refused event changes nothing. [`World::report`] tells what a list of
+//! refuses it by the number of that rule otherwise; a refused event changes nothing. [`World::text`] is the report of what a list of
 //! events came to: the replies, the executed attempts in the serial order, and the rows of each region. It is told by the
-//! sites alone, so others that have the sites of all regions may ask for it too ([`report_of_sites`]). [`World::kept`] tells
+//! sites alone, so others that have the sites of all regions may ask for it too ([`text_of_sites`], [`report_of_sites`]). [`World::kept`] tells
 //! which events a region keeps.
 //!
 //! A world holds, for each region, a [`Site`](dt_site::Site) and its [`Sessions`](dt_session::Sessions). A step finds the
@@ -15,5 +15,5 @@ mod session_replay;
 mod telling;
 mod world;
 
-pub use telling::report_of_sites;
+pub use telling::{report_of_sites, text_of_sites};
 pub use world::{StepError, World, kept_are_own};

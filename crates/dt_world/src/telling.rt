@@ -9,6 +9,8 @@ ghost use Rattle.dt_workload.specs.Valid.{session_names};
 ghost use Rattle.dt_session.specs.World.{is_session};
 ghost use Rattle.dt_session.specs.Run.{order_of};
 ghost use Rattle.dt_agreement.specs.Invariant.{IsExecutedAt};
+ghost use Rattle.dt_report.specs.Report.{report_text};
+ghost use Rattle.dt_report.specs.ShownTables.{all_shown};
 ghost use Rattle.dt_world.specs.SessionReplay.{IsReply, ran_at, rans_at, replay_at, replies_at};
 ghost use Rattle.dt_world.specs.Telling.{AreSitesAfter, LedTo, world_told};
 ghost use Rattle.dt_world.specs.WorldReport.{report_of, replies_of, rans_of};
@@ -17,9 +19,10 @@ use crate::session_replay::SessionReplay;
 use dt_access::TxnId;
 use dt_cluster::Cluster;
 use dt_events::Event;
-use dt_report::{EventList, Ran, Rans, Replies, Reply, Report, Tables};
+use dt_report::{EventList, Ran, Rans, Replies, Reply, Report, Tables, print_shown};
 use dt_sched::Scheduler;
 use dt_site::Site;
+use dt_table::Table;
 use dt_text::{Name, NoMemory};
 use dt_workload::Workload;
 use indexmap::IndexSet;
@@ -74,6 +77,31 @@ pub fn report_of_sites<S: Scheduler + Drop>(
         tables,
         events: EventList::from_vec(events),
     })
+}
+
+/// The text of the report of events, told by the sites of all regions, each as it is after them. What a table shows is told
+/// row by row, so no list is made of it; and the cluster and the workload are let go before, since the text is long.
+pub fn text_of_sites<S: Scheduler + Drop>(
+    alloc: Global,
+    cluster: Cluster,
+    workload: Workload,
+    sites: &[&Site<S>],
+    events: &[Event],
+) -> Result<Vec<u8>, NoMemory>
+    requires { AreSitesAfter cluster workload events.now (map (λ site. site.now) sites.now) }
+    ensures { IfOk result (λ text. text.items ≡ report_text (report_of cluster workload events.now)) }
+{
+    let (replies, order) = replies_and_order(alloc, &cluster, &workload, &*sites, &*events)?;
+    drop(cluster);
+    drop(workload);
+    let tables = tables_lent(alloc, sites)?;
+    print_shown(
+        alloc,
+        replies.as_slice(),
+        order.as_slice(),
+        tables.as_slice(),
+        events,
+    )
 }
 
 /// The replies that the events give, and the executed attempts in the serial order.
@@ -270,6 +298,21 @@ fn tables<S: Scheduler + Drop>(alloc: Global, sites: &[&Site<S>]) -> Result<Tabl
     for region in 0..sites.len() {
         let site = sites[region];
         tables.push(site.region.table().shown(alloc)?)?;
+    }
+    Ok(tables)
+}
+
+/// The table of each region, lent.
+fn tables_lent<'a, S: Scheduler + Drop>(
+    alloc: Global,
+    sites: &[&'a Site<S>],
+) -> Result<Vec<&'a Table>, NoMemory>
+    ensures { IfOk result (λ tables. all_shown tables.items ≡ map (λ site. shown site.now.region.state.here.table) sites.now) }
+{
+    let mut tables = Vec::with_capacity(alloc, sites.len())?;
+    for region in 0..sites.len() {
+        let site = sites[region];
+        tables.push(site.region.table())?;
     }
     Ok(tables)
 }

@@ -7,6 +7,7 @@ ghost use Rattle.dt_events.specs.declared.Event.{Event};
 ghost use Rattle.dt_events.specs.declared.Event.TheVariants.{Submit, Append, Deliver, Insert, Resolve, Execute, Answer};
 ghost use Rattle.dt_sched.specs.Views.{log_at};
 ghost use Rattle.dt_table.specs.Table.{shown};
+ghost use Rattle.dt_report.specs.Report.{report_text};
 ghost use Rattle.dt_region.specs.Region.{held, outcome_of};
 ghost use Rattle.dt_region.specs.Conditions.{IsTableFor};
 ghost use Rattle.dt_region.specs.Sound.{IsSoundRegion};
@@ -19,20 +20,19 @@ ghost use Rattle.dt_session.specs.World.{is_session, opening_table};
 ghost use Rattle.dt_session.specs.Step.{IsLegal, next, rule_of};
 ghost use Rattle.dt_session.specs.Run.{AreLegal, order_of, world_after};
 ghost use Rattle.dt_world.specs.WorldInner.{IsNextOf, MayBeTold, opening_sites};
-ghost use Rattle.dt_world.specs.WorldReport.{IsOutcomeOf, IsReplyOf, answered_name, report_of};
+ghost use Rattle.dt_world.specs.WorldReport.{IsOutcomeOf, IsReplyOf, answered_name, rans_of, replies_of, report_of, tables_of};
 ghost use Rattle.dt_world.specs.WorldSessions.{opening_sessions};
 ghost use Rattle.dt_world.specs.WorldView.{Makes, kept_next, kept_after, opening_view, own_events};
 
-use crate::telling::report_of_sites;
+use crate::telling::text_of_sites;
 use dt_access::TxnId;
 use dt_cluster::Cluster;
 use dt_events::{Event, Stamped};
 use dt_region::Region;
-use dt_report::Report;
 use dt_sched::Scheduler;
 use dt_session::Sessions;
 use dt_site::{Origin, Site};
-use dt_table::Table;
+use dt_table::{Opening, Table};
 use dt_text::{Name, NoMemory};
 use dt_txn::{Body, Entry, Outcome};
 use dt_workload::Workload;
@@ -89,17 +89,17 @@ impl<S: Scheduler + Drop> Model for World<S> {
 }
 
 impl<S: Scheduler + Drop> World<S> {
-    /// The world before anything happens.
-    pub fn begin(alloc: Global, cluster: &Cluster, workload: &Workload) -> Result<Self, NoMemory>
-        requires cluster { IsValidCluster cluster.now }
-        requires workload { IsValidWorkload cluster.now workload.now }
-        ensures { IfOk result (λ world. world ≡ opening_view cluster.now workload.now) }
+    /// The world of a cluster and a workload, which it takes over, before anything happens.
+    pub fn begin(alloc: Global, cluster: Cluster, workload: Workload) -> Result<Self, NoMemory>
+        requires cluster { IsValidCluster cluster }
+        requires workload { IsValidWorkload cluster workload }
+        ensures { IfOk result (λ world. world ≡ opening_view cluster workload) }
     {
         Ok(World {
-            cluster: cluster.copy(alloc)?,
-            workload: workload.copy(alloc)?,
-            sessions: sessions(alloc, cluster, workload)?,
-            sites: sites(alloc, cluster)?,
+            sessions: sessions(alloc, &cluster, &workload)?,
+            sites: sites(alloc, &cluster)?,
+            cluster,
+            workload,
             steps: 0,
         })
     }
@@ -336,31 +336,31 @@ impl<S: Scheduler + Drop> World<S> {
         sessions.may_answer(name, last)
     }
 
-    /// The report of the events that led to this world, from its opening on.
-    pub fn report(&self, alloc: Global, events: Vec<Event>) -> Result<Report, NoMemory>
-        requires legal { AreLegal self.now.cluster self.now.workload events.items }
-        requires reached { self.now.state ≡ world_after self.now.cluster self.now.workload events.items }
-        ensures report { IfOk result (λ report. report ≡ report_of self.now.cluster self.now.workload events.items) }
+    /// The text of the report of the events that led to this world, from its opening on.
+    pub fn text(self, alloc: Global, events: &[Event]) -> Result<Vec<u8>, NoMemory>
+        requires legal { AreLegal self.cluster self.workload events.now }
+        requires reached { self.state ≡ world_after self.cluster self.workload events.now }
+        ensures report { IfOk result (λ text. text.items ≡ report_text (report_of self.cluster self.workload events.now)) }
 
         // Nothing is left out: the order section has each executed id, and there is a reply for each answer.
-        ensures all_ran { IfOk result (λ report. map (λ ran. ran.id) report.order ≡ order_of events.items) }
-        ensures all_answered { IfOk result (λ report. map (λ reply. reply.session) report.replies ≡ filter_map answered_name events.items) }
+        ensures all_ran { map (λ ran. ran.id) (rans_of self.cluster self.workload events.now) ≡ order_of events.now }
+        ensures all_answered { map (λ reply. reply.session) (replies_of self.cluster self.workload events.now) ≡ filter_map answered_name events.now }
 
         // Each outcome is the one that every region keeps which executed the attempt, and each table is its region's.
-        ensures outcomes { IfOk result (λ report. AllIn (λ ran. IsOutcomeOf self.now.cluster.regions self.now.state ran.id ran.outcome) report.order) }
-        ensures replies { IfOk result (λ report. AllIn (IsReplyOf self.now.cluster.regions self.now.state) report.replies) }
-        ensures tables { IfOk result (λ report. report.tables ≡ map (λ node. shown node.here.table) self.now.state.nodes) }
+        ensures outcomes { AllIn (λ ran. IsOutcomeOf self.cluster.regions self.state ran.id ran.outcome) (rans_of self.cluster self.workload events.now) }
+        ensures replies { AllIn (IsReplyOf self.cluster.regions self.state) (replies_of self.cluster self.workload events.now) }
+        ensures tables { tables_of self.cluster self.workload events.now ≡ map (λ node. shown node.here.table) self.state.nodes }
     {
         // Names the steps, so that the proof has what is kept of their number.
         let _steps = self.steps;
-        let sites = each_lent(alloc, self.sites.as_slice())?;
-        report_of_sites(
-            alloc,
-            &self.cluster,
-            &self.workload,
-            sites.as_slice(),
-            events,
-        )
+        let World {
+            cluster,
+            workload,
+            sites,
+            ..
+        } = self;
+        let lent = each_lent(alloc, sites.as_slice())?;
+        text_of_sites(alloc, cluster, workload, lent.as_slice(), events)
     }
 }
 
@@ -397,9 +397,10 @@ fn sites<S: Scheduler + Drop>(alloc: Global, cluster: &Cluster) -> Result<Vec<Si
     ensures opening { IfOk result (λ sites. sites.items ≡ opening_sites cluster.now) }
     ensures sound { IfOk result (λ sites. AllIn (λ site. IsSoundRegion site.region.state) sites.items) }
 {
+    let opening = opening_of(alloc, cluster)?;
     let mut sites = Vec::new(alloc);
     for number in 0..cluster.regions {
-        let table = first_table(alloc, cluster)?;
+        let table = first_table(alloc, cluster, &opening)?;
         sites.push(Site::new(alloc, number, cluster.regions, table)?)?;
     }
     Ok(sites)
@@ -419,19 +420,24 @@ fn each_lent<S: Scheduler + Drop>(
     Ok(lent)
 }
 
-/// The table that every region has at first.
-fn first_table(alloc: Global, cluster: &Cluster) -> Result<Table, NoMemory>
+/// What the tables of all regions have at first.
+fn opening_of(alloc: Global, cluster: &Cluster) -> Result<Opening, NoMemory>
     requires { IsValidCluster cluster.now }
+    ensures homes { IfOk result (λ opening. opening.homes ≡ cluster.now.homes) }
+    ensures rows { IfOk result (λ opening. opening.rows ≡ cluster.now.rows) }
+{
+    Opening::new(alloc, cluster.homes.as_slice(), cluster.rows.as_slice())
+}
+
+/// The table that every region has at first.
+fn first_table(alloc: Global, cluster: &Cluster, opening: &Opening) -> Result<Table, NoMemory>
+    requires cluster { IsValidCluster cluster.now }
+    requires homes { opening.now.homes ≡ cluster.now.homes }
+    requires rows { opening.now.rows ≡ cluster.now.rows }
     ensures opening { IfOk result (λ table. table.state ≡ opening_table cluster.now) }
     ensures sized { IfOk result (λ table. IsTableFor cluster.now.regions table.state) }
 {
-    Ok(Table::new(
-        alloc,
-        cluster.version,
-        cluster.regions,
-        cluster.homes.as_slice(),
-        cluster.rows.as_slice(),
-    )?)
+    Table::of(alloc, cluster.version, cluster.regions, opening)
 }
 
 /// What regions keep after events is, of each region, its own of these events that take effect, in their order. This is a

@@ -36,10 +36,10 @@ operand-returns-in-Int-clause-right t c = λ x rest h stop e.
     let s = operand_when c.args.level c.args.scope.now x rest c.args.tokens.now c.first-item.result (tok.Int c.in-Int.number) c.requires.low h c.in-len1-up.len_at_least c.first-item.is e c.in-Int.is in
     (search (rules, s), s.1)
 
-pub operand-returns-in_ok-copy-in-Text-clause-right : goal.operand-returns-in_ok-copy-in-Text-clause-right
-operand-returns-in_ok-copy-in-Text-clause-right t c = λ x rest h stop e.
+pub operand-returns-in_ok-text-in-Text-clause-right : goal.operand-returns-in_ok-text-in-Text-clause-right
+operand-returns-in_ok-text-in-Text-clause-right t c = λ x rest h stop e.
     let s = operand_when c.args.level c.args.scope.now x rest c.args.tokens.now c.first-item.result (tok.Text c.in-Text.text) c.requires.low h c.in-len1-up.len_at_least c.first-item.is e c.in-Text.is in
-    let same = c.in_ok-copy-in-Text.ensures.same in
+    let same = c.in_ok-text-in-Text.ensures ∙ c.in_ok-copy-in-Text.ensures.same ∙ c.get.ensures in
     (s.0 ∙ ap (λ v. Ok (tree.text v, sort.Text)) (sym same), s.1)
 
 pub operand-returns-in-Truth-clause-right : goal.operand-returns-in-Truth-clause-right
@@ -50,7 +50,7 @@ operand-returns-in-Truth-clause-right t c = λ x rest h stop e.
 pub operand-returns-in-Name-clause-right : goal.operand-returns-in-Name-clause-right
 operand-returns-in-Name-clause-right t c = λ x rest h stop e.
     let s = operand_when c.args.level c.args.scope.now x rest c.args.tokens.now c.first-item.result (tok.Name c.in-Name.name) c.requires.low h c.in-len1-up.len_at_least c.first-item.is e c.in-Name.is in
-    told_is _ _ _ _ _ s.0 s.1 c.variable.ensures.right
+    told_is _ _ _ _ _ s.0 s.1 (rw c.get-in-Name.ensures at c.variable.ensures.right)
 
 pub operand-returns-in-IntWord-clause-right : goal.operand-returns-in-IntWord-clause-right
 operand-returns-in-IntWord-clause-right t c = λ x rest h stop e.

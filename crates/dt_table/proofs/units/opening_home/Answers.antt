@@ -1,4 +1,4 @@
-use Rattle.std.proofs.Common.{◌%◌, ℕ, ap, sym, ◌∙◌, Option, unwrap_or, slice_index}
+use Rattle.std.proofs.Common.{◌%◌, ℕ, ap, ◌∙◌, Option, unwrap_or, slice_index}
 use Rattle.dt_table.proofs.ByBytes.{lookup-by_bytes}
 use Rattle.dt_table.proofs.units.opening_home.Goals as goal
 

@@ -1,4 +1,4 @@
-use Rattle.std.proofs.Common.{sym, ap₂, subst, ◌∙◌}
+use Rattle.std.proofs.Common.{ap₂, sym, subst, ◌∙◌}
 use Rattle.dt_region.specs.Conditions.{IsTableFor}
 use Rattle.dt_table.specs.Table.{opening}
 use Rattle.dt_site.proofs.Callers.{opening_is_for}
@@ -6,5 +6,5 @@ use Rattle.dt_world.proofs.world.first_table.Goals as goal
 
 pub returns-clause-sized : goal.returns-clause-sized
 returns-clause-sized c =
-    let opened = c.in_ok-new.ensures ∙ ap₂ (opening c.args.cluster.now.version c.args.cluster.now.regions) c.as_slice.ensures c.as_slice-2.ensures in
-    subst (IsTableFor c.args.cluster.now.regions) (sym opened) (opening_is_for c.args.cluster.now c.requires)
+    let opened = c.in_ok-of.ensures ∙ ap₂ (opening c.args.cluster.now.version c.args.cluster.now.regions) c.requires.homes c.requires.rows in
+    subst (IsTableFor c.args.cluster.now.regions) (sym opened) (opening_is_for c.args.cluster.now c.requires.cluster)

@@ -1,8 +1,7 @@
-use Rattle.std.proofs.Common.{◌≡◌, ap, sym, ◌∙◌, length, Some, None}
+use Rattle.std.proofs.Common.{ap, sym, ◌∙◌, length, Some, None}
 use Rattle.dt_access.specs.Clash.{Bytes}
 use Rattle.dt_table.specs.Table.{opening_home, home_after}
-use Rattle.dt_table.specs.StoredUnitInner.{by_bytes}
-use Rattle.dt_table.proofs.StoredUnits.{unit_in, unit_found, home_of-found, counter_of-found, moves_of-absent}
+use Rattle.dt_table.proofs.StoredUnits.{unit_found, home_of-found, counter_of-found, moves_of-absent}
 use Rattle.dt_table.proofs.table.Table.mastership.Goals as goal
 
 pub returns-in-Some-clause-home : goal.returns-in-Some-clause-home
@@ -19,8 +18,8 @@ pub returns-in-None-clause-home : goal.returns-in-None-clause-home
 returns-in-None-clause-home c =
     let a = c.self.inside in
     let absent = unit_found a c.args.key.now c.unit_bytes-unit.result.now None c.unit_bytes-unit.ensures.same c.in-None.ensures in
-    let home = λ (unit : Bytes). opening_home a.regions (by_bytes a.homes.entries) unit in
-    rw (← c.self.view_is) (c.opening_home.ensures ∙ ap home c.unit_bytes-unit.ensures.same
+    let home = λ (unit : Bytes). opening_home a.regions a.homes unit in
+    rw (← c.self.view_is) (c.home_of.ensures ∙ ap home c.unit_bytes-unit.ensures.same
     ∙ ap (home_after (home _)) (sym (moves_of-absent a c.args.key.now absent)))
 
 pub returns-in-None-clause-counter : goal.returns-in-None-clause-counter

@@ -1,13 +1,8 @@
-use Rattle.std.proofs.Common.{ap, ap₂}
-use Rattle.std.specs.FinMap.{from_entries}
-use Rattle.std.specs.Ordering.{nat_cmp}
-use Rattle.std.specs.Cmp.Lexicographic.{slice_cmp}
-use Rattle.dt_table.specs.StoredUnitInner.{by_bytes}
-use Rattle.dt_table.specs.StoredMovesInner.{histories_of}
+use Rattle.std.proofs.Common.{◌≡◌, IfOk, subst}
+use Rattle.dt_table.specs.Table.{OpeningView, TableView, opening}
 use Rattle.dt_table.proofs.table.Table.new.Goals as goal
 
 pub returns : goal.returns
 returns c =
-    let values = ap (from_entries {R = slice_cmp nat_cmp}) c.in_ok-opening_values.ensures in
-    let moves = ap₂ histories_of c.new-2.ensures.items (ap by_bytes c.new.ensures.empty) in
-    λ i. record { version = c.args.version; regions = c.args.regions; homes = c.in_ok-index_homes.ensures i; values = values i; moves = moves i }
+    let same : c.in_ok-first.first ≡ record { homes = c.args.homes.now; rows = c.args.rows.now } = (λ i. record { homes = c.in_ok-first.ensures.homes i; rows = c.in_ok-first.ensures.rows i }) in
+    subst (λ (o : OpeningView). IfOk c.of.result (λ (t : TableView). t.state ≡ opening c.args.version c.args.regions o.homes o.rows)) same c.of.ensures

@@ -1,4 +1,4 @@
-use Rattle.std.proofs.Common.{◌≡◌, ℕ, ◌+◌, ◌<◌, ◌^◌, ◌∷◌, [], ◌++◌, Option, Some, ap, ap₂, sym, subst, ◌∙◌, arith, length}
+use Rattle.std.proofs.Common.{◌≡◌, ◌+◌, ◌<◌, ◌^◌, ◌∷◌, [], ◌++◌, Some, ap, ap₂, sym, subst, ◌∙◌, arith, length}
 use Rattle.indexmap.specs.IndexMap.{insert_entry}
 use Rattle.dt_access.specs.Granules.{IsUnit}
 use Rattle.dt_access.specs.Clash.{Bytes, same_key}
