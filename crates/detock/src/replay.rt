@@ -69,7 +69,7 @@ fn world_after(
     ensures state { IfOk result (λ world. world.state ≡ world_after cluster workload (unnumbered events.now)) }
     ensures refused { (status : _) → result ≡ Err status → IsStepRefusal cluster workload events.now status }
 {
-    let mut world = World::begin(alloc, cluster, workload)?;
+    let mut world = World::opening(alloc, cluster, workload)?;
     for numbered in events {
         if let Err(error) = world.step(alloc, &numbered.1) {
             return Err(refusal(numbered.0, error));

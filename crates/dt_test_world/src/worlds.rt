@@ -7,6 +7,7 @@ ghost use Rattle.dt_test_world.specs.Led.{HasLed};
 use dt_cluster::{Cluster, ClusterError, read_cluster};
 use dt_events::{Event, put_event, read_events};
 use dt_plain::PlainSched;
+use dt_report::print;
 use dt_text::NoMemory;
 use dt_workload::{Workload, WorkloadError, read_workload};
 use dt_world::{StepError, World};
@@ -84,7 +85,7 @@ fn play(alloc: Global, cluster: &Cluster, workload: &Workload, file: &[u8]) -> R
     if file.len() >= MANY {
         return Err(Fail::from("a test has few bytes"));
     }
-    let mut world = World::begin(alloc, cluster.copy(alloc)?, workload.copy(alloc)?)?;
+    let mut world = World::begin(alloc, cluster, workload)?;
     let mut made = Vec::new(alloc);
     let mut told = Vec::new(alloc);
     for (line, event) in read_events(alloc, file)? {
@@ -112,7 +113,8 @@ pub fn told(
     let cluster = cluster_of(alloc, cluster)?;
     let workload = workload_of(alloc, &cluster, workload)?;
     let (world, made, mut told) = play(alloc, &cluster, &workload, events)?;
-    told.extend_from_slice(world.text(alloc, made.as_slice())?.as_slice())?;
+    let report = world.report(alloc, made)?;
+    told.extend_from_slice(print(alloc, &report)?.as_slice())?;
     Ok(told)
 }
 

@@ -104,7 +104,7 @@ take_drop [] (suc i) = refl
 take_drop (x ∷ xs) (suc i) = ap (λ l. x ∷ l) (take_drop xs i)
 
 module _ (cluster : Cluster) (workload : Workload) (events : List Event) where
-  -- the world after the first so many events grows to the last one
+  -- the world after the first n events grows to the last one
   pub grows_to : (i r : ℕ) → NodeGrows (node_at (world_after cluster workload (take i events)) r) (node_at (world_after cluster workload events) r)
   grows_to i r = subst (λ l. NodeGrows (node_at (world_after cluster workload (take i events)) r) (node_at (world_after cluster workload l) r)) (sym (take_drop events i))
       (subst (λ v. NodeGrows (node_at (world_after cluster workload (take i events)) r) (node_at v r)) (sym (world_from_append cluster workload (opening_world cluster workload) (take i events) (drop i events)))

@@ -147,7 +147,7 @@ module _ (cluster : Cluster) (ok : IsValidCluster cluster) (workload : Workload)
         (length_push (node_at (world_after cluster workload xs) region).submitted (attempt_for cluster (world_after cluster workload xs) region r.session r.place r.call)
         ∙ ap (λ n. n + 1) (sym (count_is (world_after cluster workload xs) region))))
 
-    -- the region has so many submissions at the end
+    -- the region has n submissions at the end
     pub submit_few : count_at (replay_of (world_after cluster workload xs)) region + 1 ≤ length (node_at (world_after cluster workload (xs ++ Submit region name ∷ ys)) region).submitted
     submit_few =
         let one : count_at (replay_of (world_after cluster workload (xs ++ Submit region name ∷ []))) region ≡ count_at (replay_of (world_after cluster workload xs)) region + 1 = ap (λ c. count_at c region) submit_follows

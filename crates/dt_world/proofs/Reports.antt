@@ -386,6 +386,10 @@ parts_told {cluster} {workload} {events} lent led r o t e =
 
 -- what else is said of a report
 
+pub same_told : (P : Report → Type 0) {whole : Report} (r : Result Report NoMemory) → IfOk r (λ report. report ≡ whole) → P whole → IfOk r P
+same_told P (Ok report) is p = subst P (sym is) p
+same_told P (Err e) is p = tt
+
 module _ {cluster : Cluster} {sessions : WorldSessions} {sites : List SiteView} {steps : ℕ} (k : IsLawful cluster sessions sites steps) {now : WorldView} (view : view_in cluster sessions sites steps ≡ now) where
   sound : IsValidCluster now.cluster
   sound = subst (λ (v : WorldView). IsValidCluster v.cluster) view k.reached.run.sound

@@ -165,7 +165,7 @@ behind {sites} {region} {p} {r} {origins} lt value is =
       site_is = λ later. ap (λ x. record { region = later; origins = x.origins }) here;
     }
 
--- after want of memory the world is as it was
+-- after memory ran out the world is as it was
 pub out_of_memory : {now after : WorldView} (event : Event) (r : Result (Unit {0}) StepError) → IsErrAnd r (λ e. e ≡ NoMemory) → after ≡ now → Makes now event r after
 out_of_memory event (Ok u) h same = absurd h
 out_of_memory {now} {after} event (Err e) h same = subst (λ x. Makes now event (Err x) after) (sym h) same

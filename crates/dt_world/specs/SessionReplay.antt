@@ -1,6 +1,6 @@
 -- What a report follows of the events, one after another. Sites do not keep who was answered when; so a report plays
 -- the events again, as far as they concern sessions: what each waits for, and how many attempts each region submitted.
--- One learns here what is so followed, and what the report has after the first so many events. Only the private functions
+-- One learns here what is so followed, and what the report has after the first n events. Only the private functions
 -- of `report_of_sites` cite this; read `WorldReport` for the report.
 use Rattle.std.specs.Prelude.{◌≡◌, ◌+◌, ℕ, List, length, map, get_or, set, take, filter_map, Option, Some, None, option_map, option_and_then}
 use Rattle.dt_access.specs.Clash.{Bytes}
@@ -42,15 +42,15 @@ after_reply c place = record c { waits = set c.waits place None }
 abbrev pub wait_at : SessionReplayView → ℕ → Option TxnId
 wait_at c place = get_or c.waits place None
 
--- what is followed after the first so many of the events
+-- what is followed after the first n of the events
 abbrev pub replay_at : TellingView → ℕ → SessionReplayView
 replay_at told at = replay_of (world_after told.cluster told.workload (take at told.events))
 
--- the replies that the first so many of the events give
+-- the replies that the first n of the events give
 abbrev pub replies_at : TellingView → ℕ → List Reply
 replies_at told at = replies_from told.cluster told.workload told.events (opening_world told.cluster told.workload) (take at told.events)
 
--- the executed attempts of the first so many of the events, in the serial order
+-- the executed attempts of the first n of the events, in the serial order
 abbrev pub rans_at : TellingView → ℕ → List Ran
 rans_at told at = filter_map (ran_of told.cluster told.workload told.events) (order_of (take at told.events))
 

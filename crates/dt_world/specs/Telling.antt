@@ -1,4 +1,4 @@
--- By what a report is told. The outcomes, the origins of attempts and the rows stand in the regions, and need not be made
+-- What a report is made from. The outcomes, the origins of attempts and the rows stand in the regions, and need not be made
 -- again. So a report takes events and the sites of all regions, each as it is after these events: it does not matter whether
 -- one world has all sites in hand, or each is that of a node which ran by itself. One learns here when sites are so
 -- (`AreSitesAfter`). Read next: `WorldReport`, for what the report says.
@@ -23,7 +23,7 @@ pub record AreSitesAfter (cluster : Cluster) (workload : Workload) (events : Lis
   -- what a region submitted is counted by 32 bits
   pub few : (region : ℕ) → region < cluster.regions → length (get_or sites region no_site).region.state.submitted < 4294967296
 
--- what a report is told by, as the code holds it
+-- what a report is made from, as the code holds it
 pub record TellingView : Type 0 where
   pub cluster : Cluster
   pub workload : Workload

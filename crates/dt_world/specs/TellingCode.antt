@@ -12,7 +12,7 @@ use Rattle.dt_site.specs.Site.{SiteView}
 use Rattle.dt_site.specs.SiteCode.{site_code}
 use Rattle.dt_world.specs.Telling.{TellingView}
 
--- what a report is told by is stored as its fields
+-- what a report is made from is stored as its fields
 abbrev pub telling_code : Coded TellingView
 telling_code = code_by (Cluster × (Workload × (List SiteView × List Event)))
     (coded× cluster.the_row.coded (coded× workload.the_row.coded (coded× (coded_list site_code) (coded_list event.the_row.coded))))

@@ -47,7 +47,7 @@ view_in cluster sessions sites steps = record {
   steps = steps;
 }
 
--- these sessions and sites are a world that so many legal events lead to, and each region's site and sessions stand in it; a
+-- these sessions and sites are a world that n legal events lead to, and each region's site and sessions stand in it; a
 -- region knows of no stamp above the number of these events
 pub record IsLawful (cluster : Cluster) (sessions : WorldSessions) (sites : List SiteView) (steps : ℕ) : Type 0 where
   pub reached : IsReached cluster sessions.workload (world_of sites (places_in sessions))

@@ -2,7 +2,7 @@
 -- of the events, and how many were made. One learns here what one event makes of it (`made`). Each region keeps its own
 -- events alone, in their order, and of these just those that took effect (`kept_next`); so after a list of events it
 -- keeps those of the list that are its own and took effect (`own_events`). The rules themselves stand in `Step` of
--- dt_session. Read next: `WorldReport`, for what is told of the events in the end.
+-- dt_session. Read next: `WorldReport`, for what is reported of the events in the end.
 use Rattle.std.specs.Prelude.{◌≡◌, ◌+◌, ◌==◌, ◌&&◌, ℕ, Bool, true, List, [], ◌∷◌, ◌++◌, get_or, set, replicate, nat_le, nat_lt, Result, Ok, Err, if◌then◌else◌}
 use Rattle.dt_events.specs.Events.{region_of}
 use Rattle.dt_events.specs.declared.Event.{Event}

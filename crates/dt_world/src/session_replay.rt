@@ -22,7 +22,7 @@ impl Model for SessionReplay {
 }
 
 impl SessionReplay {
-    /// So many sessions that wait for nothing, and so many regions that have submitted nothing.
+    /// n sessions that wait for nothing, and m regions that have submitted nothing.
     pub fn new(alloc: Global, sessions: usize, regions: u8) -> Result<Self, NoMemory>
         ensures { IfOk result (λ replay. replay ≡ record { waits = replicate sessions None; submitted = replicate regions 0 }) }
     {

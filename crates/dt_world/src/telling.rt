@@ -1,4 +1,4 @@
-//! The report of events, told by the sites of all regions, each as it is after these events.
+//! The report of events, read off the sites of all regions, each as it is after these events.
 //!
 //! Outcomes, whose an attempt is, and rows stand in the sites, so nothing is executed again. The events are gone through for
 //! the order of first executions, and to follow what each session waits for, which sites do not keep.
@@ -52,7 +52,7 @@ impl<'a, 'b, S: Scheduler + Drop> Model for Telling<'a, 'b, S> {
     ghost view = { λ t. record { cluster = t.cluster.now; workload = t.workload.now; sites = map (λ site. site.now) t.sites.now; events = t.events.now } };
 }
 
-/// The report of events, told by the sites of all regions, each as it is after them. The events become part of it.
+/// The report of events, read off the sites of all regions, each as it is after them. The events become part of it.
 pub fn report_of_sites<S: Scheduler + Drop>(
     alloc: Global,
     cluster: &Cluster,

@@ -20,15 +20,16 @@ ghost use Rattle.dt_session.specs.World.{is_session, opening_table};
 ghost use Rattle.dt_session.specs.Step.{IsLegal, next, rule_of};
 ghost use Rattle.dt_session.specs.Run.{AreLegal, order_of, world_after};
 ghost use Rattle.dt_world.specs.WorldInner.{IsNextOf, MayBeTold, opening_sites};
-ghost use Rattle.dt_world.specs.WorldReport.{IsOutcomeOf, IsReplyOf, answered_name, rans_of, replies_of, report_of, tables_of};
+ghost use Rattle.dt_world.specs.WorldReport.{IsOutcomeOf, IsReplyOf, answered_name, report_of};
 ghost use Rattle.dt_world.specs.WorldSessions.{opening_sessions};
 ghost use Rattle.dt_world.specs.WorldView.{Makes, kept_next, kept_after, opening_view, own_events};
 
-use crate::telling::text_of_sites;
+use crate::telling::{report_of_sites, text_of_sites};
 use dt_access::TxnId;
 use dt_cluster::Cluster;
 use dt_events::{Event, Stamped};
 use dt_region::Region;
+use dt_report::Report;
 use dt_sched::Scheduler;
 use dt_session::Sessions;
 use dt_site::{Origin, Site};
@@ -89,8 +90,17 @@ impl<S: Scheduler + Drop> Model for World<S> {
 }
 
 impl<S: Scheduler + Drop> World<S> {
-    /// The world of a cluster and a workload, which it takes over, before anything happens.
-    pub fn begin(alloc: Global, cluster: Cluster, workload: Workload) -> Result<Self, NoMemory>
+    /// The world before anything happens.
+    pub fn begin(alloc: Global, cluster: &Cluster, workload: &Workload) -> Result<Self, NoMemory>
+        requires cluster { IsValidCluster cluster.now }
+        requires workload { IsValidWorkload cluster.now workload.now }
+        ensures { IfOk result (λ world. world ≡ opening_view cluster.now workload.now) }
+    {
+        World::opening(alloc, cluster.copy(alloc)?, workload.copy(alloc)?)
+    }
+
+    /// The world before anything happens, of a cluster and a workload that it takes over.
+    pub fn opening(alloc: Global, cluster: Cluster, workload: Workload) -> Result<Self, NoMemory>
         requires cluster { IsValidCluster cluster }
         requires workload { IsValidWorkload cluster workload }
         ensures { IfOk result (λ world. world ≡ opening_view cluster workload) }
@@ -336,20 +346,39 @@ impl<S: Scheduler + Drop> World<S> {
         sessions.may_answer(name, last)
     }
 
-    /// The text of the report of the events that led to this world, from its opening on.
+    /// The report of the events that led to this world, from its opening on.
+    pub fn report(&self, alloc: Global, events: Vec<Event>) -> Result<Report, NoMemory>
+        requires legal { AreLegal self.now.cluster self.now.workload events.items }
+        requires reached { self.now.state ≡ world_after self.now.cluster self.now.workload events.items }
+        ensures report { IfOk result (λ report. report ≡ report_of self.now.cluster self.now.workload events.items) }
+
+        // Nothing is left out: the order section has each executed id, and there is a reply for each answer.
+        ensures all_ran { IfOk result (λ report. map (λ ran. ran.id) report.order ≡ order_of events.items) }
+        ensures all_answered { IfOk result (λ report. map (λ reply. reply.session) report.replies ≡ filter_map answered_name events.items) }
+
+        // Each outcome is the one that every region keeps which executed the attempt, and each table is its region's.
+        ensures outcomes { IfOk result (λ report. AllIn (λ ran. IsOutcomeOf self.now.cluster.regions self.now.state ran.id ran.outcome) report.order) }
+        ensures replies { IfOk result (λ report. AllIn (IsReplyOf self.now.cluster.regions self.now.state) report.replies) }
+        ensures tables { IfOk result (λ report. report.tables ≡ map (λ node. shown node.here.table) self.now.state.nodes) }
+    {
+        // Names the steps, so that the proof has what is kept of their number.
+        let _steps = self.steps;
+        let sites = each_lent(alloc, self.sites.as_slice())?;
+        report_of_sites(
+            alloc,
+            &self.cluster,
+            &self.workload,
+            sites.as_slice(),
+            events,
+        )
+    }
+
+    /// The text of the report of the events that led to this world, from its opening on. The world lets go of what the text
+    /// does not need before it is made, since the text is long.
     pub fn text(self, alloc: Global, events: &[Event]) -> Result<Vec<u8>, NoMemory>
         requires legal { AreLegal self.cluster self.workload events.now }
         requires reached { self.state ≡ world_after self.cluster self.workload events.now }
-        ensures report { IfOk result (λ text. text.items ≡ report_text (report_of self.cluster self.workload events.now)) }
-
-        // Nothing is left out: the order section has each executed id, and there is a reply for each answer.
-        ensures all_ran { map (λ ran. ran.id) (rans_of self.cluster self.workload events.now) ≡ order_of events.now }
-        ensures all_answered { map (λ reply. reply.session) (replies_of self.cluster self.workload events.now) ≡ filter_map answered_name events.now }
-
-        // Each outcome is the one that every region keeps which executed the attempt, and each table is its region's.
-        ensures outcomes { AllIn (λ ran. IsOutcomeOf self.cluster.regions self.state ran.id ran.outcome) (rans_of self.cluster self.workload events.now) }
-        ensures replies { AllIn (IsReplyOf self.cluster.regions self.state) (replies_of self.cluster self.workload events.now) }
-        ensures tables { tables_of self.cluster self.workload events.now ≡ map (λ node. shown node.here.table) self.state.nodes }
+        ensures { IfOk result (λ text. text.items ≡ report_text (report_of self.cluster self.workload events.now)) }
     {
         // Names the steps, so that the proof has what is kept of their number.
         let _steps = self.steps;

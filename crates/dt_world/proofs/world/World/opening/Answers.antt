@@ -1,6 +1,6 @@
 use Rattle.std.proofs.Common.{refl}
 use Rattle.dt_world.proofs.Opening.{begun_from}
-use Rattle.dt_world.proofs.world.World.begin.Goals as goal
+use Rattle.dt_world.proofs.world.World.opening.Goals as goal
 
 pub invariant_of-result : goal.invariant_of-result
 invariant_of-result g c =
