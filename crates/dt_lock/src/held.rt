@@ -85,6 +85,15 @@ impl<S: Scheduler, N: Named> Held<S, N> {
         self.region.regions()
     }
 
+    // More steps than a round can have: each inserts a part of some log, resolves a class of such or executes one.
+    pub(crate) fn most_steps(&self) -> u64 {
+        let mut parts: u64 = 0;
+        for home in 0..self.region.regions() {
+            parts = parts.saturating_add(u64::from(self.region.log(home).len()));
+        }
+        parts.saturating_mul(3)
+    }
+
     /// Inserts the next part of a home's log, as the region's call of this name.
     pub fn insert(&mut self, alloc: Global, home: u8) -> Result<bool, NoMemory>
         requires home { home < N.before.state.regions }

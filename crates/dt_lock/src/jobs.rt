@@ -116,7 +116,7 @@ fn insert_some<S: Scheduler, N: Named>(
     Ok(false)
 }
 
-/// Does a job, of a region behind its lock.
+/// Does a job, of a region behind its lock. It ends after as many steps as a round can have, if not before.
 pub fn act<R: Wait, S: Scheduler, N: Named, G: Gate>(
     rt: &R,
     alloc: Global,
@@ -127,10 +127,11 @@ pub fn act<R: Wait, S: Scheduler, N: Named, G: Gate>(
 )
     requires { procs.now ≡ N.procs }
 {
+    let most = lock.lock(rt).most_steps();
     match job {
-        Job::Insert(home) => insert_all(rt, alloc, lock, home),
-        Job::Resolve => resolve_all(rt, alloc, lock),
-        Job::Work(claim) => work_all(rt, alloc, lock, claim, procs, gate),
+        Job::Insert(home) => insert_all(rt, alloc, lock, most, home),
+        Job::Resolve => resolve_all(rt, alloc, lock, most),
+        Job::Work(claim) => work_all(rt, alloc, lock, most, claim, procs, gate),
     }
 }
 
@@ -139,9 +140,10 @@ fn insert_all<R: Wait, S: Scheduler, N: Named>(
     rt: &R,
     alloc: Global,
     lock: &Mutex<Held<S, N>>,
+    most: u64,
     home: u8,
 ) {
-    for _ in rt.forever() {
+    for _step in 0..most {
         let mut held = lock.lock(rt);
         if home >= held.regions() || !matches!(held.insert(alloc, home), Ok(true)) {
             return;
@@ -150,8 +152,13 @@ fn insert_all<R: Wait, S: Scheduler, N: Named>(
 }
 
 // Resolves classes, until nothing is missing and none is resolvable.
-fn resolve_all<R: Wait, S: Scheduler, N: Named>(rt: &R, alloc: Global, lock: &Mutex<Held<S, N>>) {
-    for _ in rt.forever() {
+fn resolve_all<R: Wait, S: Scheduler, N: Named>(
+    rt: &R,
+    alloc: Global,
+    lock: &Mutex<Held<S, N>>,
+    most: u64,
+) {
+    for _step in 0..most {
         let mut held = lock.lock(rt);
         if !matches!(resolve_on(alloc, &mut *held), Ok(true)) {
             return;
@@ -174,6 +181,7 @@ fn work_all<R: Wait, S: Scheduler, N: Named, G: Gate>(
     rt: &R,
     alloc: Global,
     lock: &Mutex<Held<S, N>>,
+    most: u64,
     first: Option<Claim<N>>,
     procs: &Procs,
     gate: &G,
@@ -181,10 +189,10 @@ fn work_all<R: Wait, S: Scheduler, N: Named, G: Gate>(
     requires { procs.now ≡ N.procs }
 {
     let mut next = first;
-    for _ in rt.forever() {
+    for _step in 0..most {
         let claim = match next.take() {
             Some(claim) => claim,
-            None => match next_claim(rt, alloc, lock) {
+            None => match next_claim(rt, alloc, lock, most) {
                 Some(claim) => claim,
                 None => return,
             },
@@ -207,8 +215,9 @@ fn next_claim<R: Wait, S: Scheduler, N: Named>(
     rt: &R,
     alloc: Global,
     lock: &Mutex<Held<S, N>>,
+    most: u64,
 ) -> Option<Claim<N>> {
-    for _ in rt.forever() {
+    for _step in 0..most {
         let mut held = lock.lock(rt);
         let inserted = insert_some(alloc, &mut *held).ok()?;
         if let Some(claim) = held.claim(alloc).ok()? {
@@ -218,5 +227,5 @@ fn next_claim<R: Wait, S: Scheduler, N: Named>(
             return None;
         }
     }
-    unreachable!()
+    None
 }
