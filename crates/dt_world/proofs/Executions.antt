@@ -1,13 +1,13 @@
 -- What regions have executed: it is there to report, with the outcome of the serial order.
-use Rattle.std.proofs.Common.{◌≡◌, ◌<◌, ◌≤◌, ◌+◌, ◌-◌, ◌⊎◌, ℕ, true, false, cond, List, [], ◌∷◌, ◌++◌, length, map, get_or, take, slice_get, Some, None, refl}
-use Rattle.std.proofs.Common.{sym, ap, ap₂, subst, ◌∙◌, inl, inr, arith}
+use Rattle.std.proofs.Common.{◌≡◌, ◌<◌, ◌+◌, ◌⊎◌, ℕ, true, false, cond, List, [], ◌∷◌, ◌++◌, map, take, slice_get, Some, None, refl}
+use Rattle.std.proofs.Common.{sym, ap, subst, ◌∙◌, inl, inr}
 use Rattle.std.specs.Prelude.{Option, option_map, option_and_then, option_to_list, filter_map}
 use Rattle.std.specs.List.{cons_option}
 use Rattle.std.proofs.lemmas.Bool.{cases_Bool}
 use Rattle.std.proofs.lemmas.List.{map_push, get_or-set_same}
 use Rattle.std.proofs.lemmas.List.Elements.{filter_map-append}
 use Rattle.dt_lists.specs.Lists.{AllIn, Has, IsFront}
-use Rattle.dt_lists.proofs.Callers.{all_get, all_put, any_of_image, any_image, any_front, has_last}
+use Rattle.dt_lists.proofs.Callers.{all_put, any_of_image, any_image, any_front, has_last}
 use Rattle.dt_access.proofs.Callers.{test_of_id}
 use Rattle.dt_access.specs.Ids.{same_id, is_among}
 use Rattle.dt_access.specs.declared.TxnId.{TxnId}
@@ -21,20 +21,15 @@ use Rattle.dt_cluster.specs.declared.Cluster.{Cluster}
 use Rattle.dt_cluster.specs.Valid.{IsValidCluster}
 use Rattle.dt_workload.specs.declared.Workload.{Workload}
 use Rattle.dt_workload.specs.Valid.{IsValidWorkload}
-use Rattle.dt_session.specs.World.{World, Submission, no_node, node_at, outcome_at, outcome_in, submission_of, submissions, txn_of}
+use Rattle.dt_session.specs.World.{World, Submission, no_node, node_at, outcome_at, outcome_in, submission_of, txn_of}
 use Rattle.dt_session.specs.Step.{IsLegal, next}
 use Rattle.dt_session.specs.Run.{AreLegal, executed_id, order_of, serial_outcome, world_after}
 use Rattle.dt_agreement.specs.Invariant.{Inv, IsExecutedAt}
-use Rattle.dt_agreement.proofs.Callers.{lookup_has, legal_agree, executable_known, legal_keeps, done_known, with_executed, order_of_more, world_after_more, IsKnown, numbered, submission_is_found, txn_id, txn_there}
-use Rattle.dt_site.specs.declared.Origin.{Origin}
-use Rattle.dt_site.specs.Site.{SiteView, attempt, attempts}
-use Rattle.dt_site.proofs.Callers.{attempt_at, inv, order}
-use Rattle.dt_world.specs.WorldSessions.{WorldSessions, places_in}
-use Rattle.dt_world.specs.WorldInner.{IsLawful, site_at, world_of}
+use Rattle.dt_agreement.proofs.Callers.{lookup_has, legal_agree, executable_known, legal_keeps, with_executed, order_of_more, world_after_more, IsKnown, txn_id}
+use Rattle.dt_site.proofs.Callers.{order}
 use Rattle.dt_world.specs.SessionReplay.{ran_at}
 use Rattle.dt_world.specs.WorldReport.{IsOutcomeOf, ran, ran_of, rans_of}
 use Rattle.dt_world.proofs.Growth.{grows_to, legal_at, split_at}
-use Rattle.dt_world.proofs.WorldLaws.{node_is}
 
 -- an executed id has an outcome
 

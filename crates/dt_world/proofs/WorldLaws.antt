@@ -8,14 +8,12 @@ use Rattle.dt_events.specs.Events.{region_of}
 use Rattle.dt_events.specs.declared.Event.{Event}
 use Rattle.dt_region.specs.Region.{RegionView, latest_stamp}
 use Rattle.dt_cluster.specs.declared.Cluster.{Cluster}
-use Rattle.dt_cluster.specs.Valid.{IsValidCluster}
-use Rattle.dt_workload.specs.Valid.{IsValidSession, IsValidWorkload}
+use Rattle.dt_workload.specs.Valid.{IsValidSession}
 use Rattle.dt_workload.specs.declared.Session.{Session}
 use Rattle.dt_session.specs.Sessions.{SessionsView}
 use Rattle.dt_agreement.proofs.Callers.{places_parallel}
 use Rattle.dt_session.specs.World.{World, Place, node_at}
 use Rattle.dt_session.specs.Step.{IsLegal, next}
-use Rattle.dt_session.specs.Run.{AreLegal, world_after}
 use Rattle.dt_site.specs.declared.Origin.{Origin}
 use Rattle.dt_site.specs.Site.{SiteView, in_region, no_site, node_of}
 use Rattle.dt_site.specs.SessionsStandIn.{SessionsStandIn, places_of}

@@ -5,7 +5,6 @@
 use Rattle.std.specs.Prelude.{◌≡◌, ◌+◌, ℕ, List, length, map, get_or, set, take, filter_map, Option, Some, None, option_map, option_and_then}
 use Rattle.dt_access.specs.Clash.{Bytes}
 use Rattle.dt_access.specs.declared.TxnId.{TxnId}
-use Rattle.dt_events.specs.declared.Event.{Event}
 use Rattle.dt_report.specs.declared.Ran.{Ran}
 use Rattle.dt_report.specs.declared.Reply.{Reply}
 use Rattle.dt_session.specs.World.{World, Submission, opening_world, outcome_at, submission_of}

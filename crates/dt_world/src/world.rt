@@ -373,6 +373,13 @@ impl<S: Scheduler + Drop> World<S> {
         )
     }
 
+    // How many steps it has made.
+    fn steps(&self) -> u32
+        ensures { result ≡ self.now.steps }
+    {
+        self.steps
+    }
+
     /// The text of the report of the events that led to this world, from its opening on. The world lets go of what the text
     /// does not need before it is made, since the text is long.
     pub fn text(self, alloc: Global, events: &[Event]) -> Result<Vec<u8>, NoMemory>
@@ -381,7 +388,7 @@ impl<S: Scheduler + Drop> World<S> {
         ensures { IfOk result (λ text. text.items ≡ report_text (report_of self.cluster self.workload events.now)) }
     {
         // Names the steps, so that the proof has what is kept of their number.
-        let _steps = self.steps;
+        let _made = self.steps();
         let World {
             cluster,
             workload,
@@ -466,7 +473,8 @@ fn first_table(alloc: Global, cluster: &Cluster, opening: &Opening) -> Result<Ta
     ensures opening { IfOk result (λ table. table.state ≡ opening_table cluster.now) }
     ensures sized { IfOk result (λ table. IsTableFor cluster.now.regions table.state) }
 {
-    Table::of(alloc, cluster.version, cluster.regions, opening)
+    let table = Table::of(alloc, cluster.version, cluster.regions, opening)?;
+    Ok(table)
 }
 
 /// What regions keep after events is, of each region, its own of these events that take effect, in their order. This is a

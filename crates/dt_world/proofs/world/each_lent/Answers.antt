@@ -1,4 +1,4 @@
-use Rattle.std.proofs.Common.{◌≡◌, refl, ◌∙◌}
+use Rattle.std.proofs.Common.{refl, ◌∙◌}
 use Rattle.std.proofs.lemmas.List.{take_all}
 use Rattle.dt_world.proofs.SitesTold.{lent_next}
 use Rattle.dt_world.proofs.world.each_lent.Goals as goal

@@ -6,5 +6,5 @@ use Rattle.dt_world.proofs.world.first_table.Goals as goal
 
 pub returns-clause-sized : goal.returns-clause-sized
 returns-clause-sized c =
-    let opened = c.in_ok-of.ensures ∙ ap₂ (opening c.args.cluster.now.version c.args.cluster.now.regions) c.requires.homes c.requires.rows in
+    let opened = c.in_ok-table.ensures ∙ ap₂ (opening c.args.cluster.now.version c.args.cluster.now.regions) c.requires.homes c.requires.rows in
     subst (IsTableFor c.args.cluster.now.regions) (sym opened) (opening_is_for c.args.cluster.now c.requires.cluster)

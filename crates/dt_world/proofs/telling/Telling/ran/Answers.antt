@@ -1,4 +1,4 @@
-use Rattle.std.proofs.Common.{◌≡◌, ◌≤◌, ◌<◌, ◌-◌, Some, length, get_or, sym, ap, subst, ◌∙◌}
+use Rattle.std.proofs.Common.{◌≡◌, ◌≤◌, ◌-◌, Some, length, get_or, sym, ap, subst, ◌∙◌}
 use Rattle.dt_txn.specs.declared.Outcome.{Outcome}
 use Rattle.dt_session.specs.World.{Submission, outcome_at}
 use Rattle.dt_report.specs.declared.Ran.{Ran}
