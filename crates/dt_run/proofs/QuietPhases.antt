@@ -20,7 +20,7 @@ use Rattle.dt_run.specs.Marks.{plan_of}
 use Rattle.dt_run.specs.NodesStand.{AreInStep, AreNodes, LinkTells}
 use Rattle.dt_run.specs.NodesView.{NodesView, node_in, waiting_at, waiting_between}
 use Rattle.dt_run.specs.Phase.{EndsInStep, IsPhase}
-use Rattle.dt_run.specs.Silence.{HasArrived, IsExact, IsSilent, PacketsWait, made_in}
+use Rattle.dt_run.specs.Silence.{HasAllArrived, HasArrived, IsExact, IsSilent, PacketsWait, made_in}
 use Rattle.dt_run.proofs.AllArrived.{all_answered, all_executed}
 use Rattle.dt_run.proofs.CountedPhases.{made_is, made_now, regions_same}
 use Rattle.dt_run.proofs.Silent.{fits_now, has_arrived, is_put, none_new, number_now, still_exact, told_exact}
@@ -100,9 +100,9 @@ module _ {before after : NodesView} (n : AreNodes before) (sound : before.broken
     exact_now (inl x) = exact_stays x
     exact_now (inr p) = exact_told p
 
-    -- where packets waited that carried what is first in turn, nothing was outstanding, so all is done
-    pub done_now : IsExact before → PacketsWait before → IsAllDone after
-    done_now x p = record {
+    -- where nothing is outstanding after it, all is done
+    pub done_arrived : ((source target : ℕ) → source < before.cluster.regions → target < before.cluster.regions → source ≢ target → HasArrived after source target) → IsAllDone after
+    done_arrived arrived = record {
       answered = λ region lr. all_answered one after number fits drained placed arrived region (down region lr) ((ends.each region (down region lr)).settled.still (inl (none_new n told phase silent region (down region lr))));
       executed = λ region source lr ls. all_executed one after number fits drained placed arrived region source (down region lr) (down source ls);
     }
@@ -119,8 +119,16 @@ module _ {before after : NodesView} (n : AreNodes before) (sound : before.broken
         placed : (region : ℕ) → region < before.cluster.regions → HasPlacedOwn (node_in after region)
         placed region lr = (ends.each region lr).settled.placed (step.each region lr).placed
 
-        arrived : (source target : ℕ) → source < before.cluster.regions → target < before.cluster.regions → source ≢ target → HasArrived after source target
-        arrived source target ls lt apart = has_arrived n told phase silent source target ls lt apart (x.each source target ls lt apart) (waits p source target ls lt apart) (ends.each target lt)
+    -- where packets waited that carried what is first in turn, nothing was outstanding, so all is done
+    pub done_now : IsExact before → PacketsWait before → IsAllDone after
+    done_now x p = done_arrived (λ source target ls lt apart.
+        has_arrived n told phase silent source target ls lt apart (x.each source target ls lt apart) (waits p source target ls lt apart) (ends.each target lt))
+
+    pub done_with_nothing_out : HasAllArrived after → IsAllDone after
+    done_with_nothing_out all = done_arrived (λ source target ls lt apart. all.each source target (up source ls) (up target lt) apart)
+      where
+        up : (region : ℕ) → region < before.cluster.regions → region < after.cluster.regions
+        up region lt = subst (λ m. region < m) (sym (regions_same step phase ends one)) lt
 
     -- after three
     pub exact_and_put : ¬ (IsAllDone after) → IsExact before → IsExact after × PacketsWait after

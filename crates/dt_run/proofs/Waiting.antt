@@ -93,6 +93,27 @@ pub record IsSnapshot (v : NodesView) (region : ℕ) (p : Packet) : Type 0 where
   pub is : p ≡ packet_for (node_in v source) region
   pub waits : Has (waiting_between v source region) p
 
+-- what a node would send now is true, and so is what waits on a link
+module _ {v : NodesView} (n : AreNodes v) where
+  pub kept_now : (region : ℕ) → kept_at (kept_by v.nodes) region ≡ (node_in v region).site.region.events
+  kept_now region = get_of_map (λ (m : NodeView). m.site.region.events) v.nodes region no_running_node
+
+  pub rising_now : (region : ℕ) → EachThen HasLowerStamp (node_in v region).site.region.events
+  rising_now region = subst (EachThen HasLowerStamp) (kept_now region) (n.chronicle.rising region)
+
+  pub sent_true : (source target : ℕ) → source < v.cluster.regions → target < v.cluster.regions → source ≢ target → IsTruePacket v.cluster v.workload n.all (packet_for (node_in v source) target)
+  sent_true source target ls lt apart =
+      let f : StandsAmong v n.all source = n.stand source ls in
+      snapshot_true n.all f.fits (subst (λ q. those_at q n.all ≡ (node_in v source).site.region.events) (sym f.number) (sym (n.chronicle.lists source) ∙ kept_now source)) (rising_now source) target lt
+      (λ e. apart (sym f.number ∙ sym e))
+
+  pub waiting_true : v.broken ≡ false → (source target : ℕ) → source < v.cluster.regions → target < v.cluster.regions → source ≢ target
+      → AllIn (IsTruePacket v.cluster v.workload n.all) (waiting_between v source target)
+  waiting_true sound source target ls lt apart =
+      let step : AreInStep v = n.in_step sound in
+      all_put _ (waiting_between v source target) (λ p h.
+      subst (IsTruePacket v.cluster v.workload n.all) (sym (link_tells v step.made source target (step.links source target ls lt apart) p h)) (sent_true source target ls lt apart))
+
 -- before a phase
 
 module _ {cluster : Cluster} {workload : Workload} {seats : List SeatView} {broken : Bool} (a : AreSeated cluster workload seats broken) (sound : broken ≡ false) where
@@ -115,10 +136,7 @@ module _ {cluster : Cluster} {workload : Workload} {seats : List SeatView} {brok
   node_at_seat = node_is cluster workload seats broken
 
   pub kept_is : (region : ℕ) → kept_at (kept_by v.nodes) region ≡ (node_in v region).site.region.events
-  kept_is region = get_of_map (λ (m : NodeView). m.site.region.events) v.nodes region no_running_node
-
-  rising : (region : ℕ) → EachThen HasLowerStamp (node_in v region).site.region.events
-  rising region = subst (EachThen HasLowerStamp) (kept_is region) (n.chronicle.rising region)
+  kept_is = kept_now n
 
   module _ {region : ℕ} (lr : region < cluster.regions) where
     at_seat : region < length seats
@@ -142,11 +160,7 @@ module _ {cluster : Cluster} {workload : Workload} {seats : List SeatView} {brok
         }
 
     true_one : (p : Packet) → IsSnapshot v region p → IsTruePacket cluster workload n.all p
-    true_one p s =
-        let f : StandsAmong v n.all s.source = n.stand s.source s.there in
-        subst (IsTruePacket cluster workload n.all) (sym s.is)
-        (snapshot_true n.all f.fits (subst (λ q. those_at q n.all ≡ (node_in v s.source).site.region.events) (sym f.number) (sym (n.chronicle.lists s.source) ∙ kept_is s.source)) (rising s.source) region lr
-        (λ e. s.apart (sym f.number ∙ sym e)))
+    true_one p s = subst (IsTruePacket cluster workload n.all) (sym s.is) (sent_true n s.source region s.there lr s.apart)
 
     for_one : (p : Packet) → IsSnapshot v region p → IsFor cluster.regions (number_of (node_in v region)) p
     for_one p s =

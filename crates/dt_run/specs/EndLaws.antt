@@ -1,14 +1,16 @@
 -- The laws by which a run ends, as statements. Read `Silence` before, and src/ending.rt, where each is promised.
-use Rattle.std.specs.Prelude.{◌≡◌, ◌<◌, ℕ, false}
+use Rattle.std.specs.Prelude.{◌≡◌, ◌≢◌, ◌<◌, ◌⊎◌, ℕ, false}
+use Rattle.dt_lists.specs.Lists.{AllIn}
 use Rattle.dt_events.specs.Stamps.{events_of}
 use Rattle.dt_cluster.specs.declared.Cluster.{Cluster}
 use Rattle.dt_workload.specs.declared.Workload.{Workload}
+use Rattle.dt_node.specs.Packets.{IsTruePacket}
 use Rattle.dt_node.specs.Standing.{AreTold}
 use Rattle.dt_run.specs.Done.{IsAllDone}
 use Rattle.dt_run.specs.NodesStand.{AreNodes}
-use Rattle.dt_run.specs.NodesView.{NodesView, node_in, opening_nodes, waiting_at}
+use Rattle.dt_run.specs.NodesView.{NodesView, node_in, opening_nodes, waiting_at, waiting_between}
 use Rattle.dt_run.specs.Phase.{EndsInStep, IsPhase}
-use Rattle.dt_run.specs.Silence.{ComesToAnEnd, PhaseIsCounted, made_in, most_phases}
+use Rattle.dt_run.specs.Silence.{ComesToAnEnd, HasAllArrived, IsExact, IsSilent, PacketsWait, PhaseIsCounted, made_in, most_phases}
 
 -- before the first phase
 abbrev pub BeginsToEnd : Type 0
@@ -30,6 +32,25 @@ EachPhaseLeadsToAnEnd =
 -- what is done stays done
 abbrev pub WhatIsDoneStaysDone : Type 0
 WhatIsDoneStaysDone = (before after : NodesView) (n : AreNodes before) → AreAllTold before n → IsPhase before after → IsAllDone before → IsAllDone after
+
+-- what waits on a link says what is so in the world in which the nodes stand, whatever region takes it and when
+abbrev pub WhatWaitsIsTrue : Type 0
+WhatWaitsIsTrue =
+    (v : NodesView) (n : AreNodes v) → v.broken ≡ false → (source target : ℕ) → source < v.cluster.regions → target < v.cluster.regions → source ≢ target
+    → AllIn (IsTruePacket v.cluster v.workload n.all) (waiting_between v source target)
+
+-- a silent phase leaves exact knowledge, or packets that make it exact; where one of these was so before, it leaves exact
+-- knowledge; and where both were so, all is done
+pub record LeavesWhenSilent (before after : NodesView) : Type 0 where
+  pub one : IsExact after ⊎ PacketsWait after
+  pub two : IsExact before ⊎ PacketsWait before → IsExact after
+  pub done : IsExact before → PacketsWait before → IsAllDone after
+
+-- and where nothing is outstanding after it, all is done
+abbrev pub SilentPhasesLeadToAnEnd : Type 0
+SilentPhasesLeadToAnEnd =
+    (before after : NodesView) (n : AreNodes before) → before.broken ≡ false → AreAllTold before n → IsPhase before after → EndsInStep before after → IsSilent before after
+    → LeavesWhenSilent before after × (HasAllArrived after → IsAllDone after)
 
 -- while not all is done, fewer phases are made than there can be
 abbrev pub PhasesAreFew : Type 0

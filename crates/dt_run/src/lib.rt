@@ -1,6 +1,6 @@
 //! All nodes of a cluster at once: they run in phases over links that lose packets, until every call is answered.
 //!
-//! In a phase every node makes one turn, each in a thread of its own where one can be made ([`Nodes::phase`]). A node knows
+//! In a phase every node makes one turn; the turns are shared out over two threads or more ([`Nodes::phase`]). A node knows
 //! nothing of what the others do meanwhile: what it sends waits on a link, and becomes known between two phases, when the ends
 //! of each link are brought beside each other (`links.rt`). [`run`] makes phases until all is done; there is a bound on
 //! their number, whatever packets are lost (`specs/Silence`, and the laws of `ending.rt`).
@@ -32,7 +32,7 @@ mod sites;
 pub use counts::Counts;
 pub use ending::{
     begins_to_end, each_phase_is_counted, each_phase_leads_to_an_end, phases_are_few,
-    what_is_done_stays_done,
+    silent_phases_lead_to_an_end, what_is_done_stays_done, what_waits_is_true,
 };
 pub use nodes::Nodes;
 pub use reporting::run;
