@@ -59,7 +59,7 @@ impl<N: Named> Claim<N> {
         &self.seen
     }
 
-    // How many statements its procedure has, by which a round judges whether it is worth a thread.
+    // How many outermost statements its procedure has, by which a round judges whether it is worth a thread.
     pub(crate) fn statements(&self, procs: &Procs) -> usize {
         match &self.txn.body {
             Body::Call(proc, _) => procs.get(*proc).map_or(0, |proc| proc.body().len()),

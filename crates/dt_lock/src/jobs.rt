@@ -74,7 +74,7 @@ fn insertions<S: Scheduler, N: Named>(
     Ok(jobs)
 }
 
-// Inserts a few parts of a home's log, and says whether these were all that is missing.
+// Inserts a few parts of a home's log, and says whether it came to the end of what is missing.
 fn insert_few<S: Scheduler, N: Named>(
     alloc: Global,
     held: &mut Held<S, N>,

@@ -20,8 +20,8 @@ use std::{mem, thread};
 
 /// Makes a round of a region by threads, with at most `workers` workers: they insert, resolve and execute, by these procedures,
 /// until nothing is left, and the calling thread finishes what they leave. The promise is that of `Rounds`; it doesn't depend on
-/// how many threads there are, nor on the schedule. No thread is started where there is at most one thing to do, or where all of
-/// it is short and the gate holds nobody.
+/// how many threads there are, nor on the schedule. No thread is started where fewer than 64 parts of each log are missing and
+/// there is at most one claim, or all claims are short and the gate holds nobody.
 pub fn round<R: Threads + Wait + Sync, S: Scheduler + Drop + Send, G: Gate>(
     rt: &R,
     alloc: Global,
