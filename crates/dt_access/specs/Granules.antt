@@ -1,6 +1,6 @@
 -- Granules: the keys that belong together. The key of a customer, say `ann`, and those of the customer's rows,
 -- `ann/balance` and `ann/limit`, are of one granule, `ann`. In version 1 of a cluster each key has a home and moves of
--- its own; in version 2 a granule has them, so that one move takes along all its rows. A granule is told from the bytes
+-- its own; in version 2 a granule has them, so that one move takes along all its rows. A granule is known from the bytes
 -- of a key alone, so every region cuts keys alike. Read next: Clash.antt, for what clashes by rows and by granules.
 use Rattle.std.specs.Prelude.{◌≡◌, ℕ, if◌then◌else◌, not, ◌==◌, [], ◌∷◌}
 use Rattle.std.specs.List.{take_while}

@@ -1,7 +1,7 @@
 -- What every legal world keeps, for any number of regions, homes and moves (`Inv`): ids, logs, what regions inserted,
 -- resolved and executed, and where sessions stand. And that each annotation is rooted in one history of moves (`Rooted`),
 -- which is what ties attempts together that use keys of one unit under different homes. From the two follows that all
--- regions agree. Read next: src/laws.rt, whose laws say so; docs/PROOF.md tells why it is so.
+-- regions agree. Read next: src/laws.rt, whose laws say so; docs/PROOF.md says why it is so.
 use Rattle.std.specs.Prelude.{◌≡◌, ◌<◌, ◌≤◌, ◌↔◌, ◌+◌, ◌*◌, ◌==◌, ℕ, zero, suc, Bool, List, length, map, filter, take, slice_index, slice_get, Option, Some, None}
 use Rattle.std.specs.List.{list_any}
 use Rattle.dt_lists.specs.Lists.{AnyIn, AllIn, Has, Pairwise}
@@ -104,7 +104,7 @@ pub record IsSubmissionOf (tries region : ℕ) (s : Submission) (session : Sessi
   pub attempt_from : 1 ≤ s.attempt
   pub attempt_to : s.attempt ≤ tries
 
--- a session that has so many calls answered waits for this id: an attempt of its next call, after no more attempts than
+-- a session that has n calls answered waits for this id: an attempt of its next call, after no more attempts than
 -- its calls so far can have had
 pub record IsWaiting (tries : ℕ) (submitted : List Submission) (session : Session) (answered : ℕ) (id : TxnId) : Type 0 where
   pub call : answered < length session.calls
@@ -164,7 +164,7 @@ pub record Inv (cluster : Cluster) (workload : Workload) (w : World) (order : Li
 abbrev pub history_of : Cluster → World → List TxnId → Bytes → List Moved
 history_of cluster w order key = moves_of (table_after cluster.procs (txns_of w order) (opening_table cluster)) key
 
--- what the last of the first so many moves of a unit is to t, whose entry names this home: its mover is closed and is not
+-- what the last of the first n moves of a unit is to t, whose entry names this home: its mover is closed and is not
 -- reached from t, and where t has a part in the home's log, the mover has one there before it
 abbrev pub HasRoot : View → TxnId → ℕ → List Moved → ℕ → Type 0
 HasRoot logs t home moves zero = Unit {0}
@@ -172,7 +172,7 @@ HasRoot logs t home moves (suc c) =
     (m : Moved) × (slice_get moves c ≡ Some m) × IsClosed logs m.by × (¬ (Reaches logs t m.by))
     × (HasPart (log_at logs home) t → StandsBefore (ids_of (log_at logs home)) m.by t)
 
--- an entry of t is rooted in the moves of its key's unit: its home is the one after so many of them, and it has a root
+-- an entry of t is rooted in the moves of its key's unit: its home is the one after that many of them, and it has a root
 pub record IsRooted (cluster : Cluster) (logs : View) (moves : List Moved) (t : TxnId) (a : Access) : Type 0 where
   pub home : a.home ≡ home_after (opening_home cluster.regions cluster.homes (unit_of cluster.version a.key)) (take a.counter moves)
   pub root : HasRoot logs t a.home moves a.counter

@@ -21,10 +21,10 @@ use Rattle.dt_agreement.specs.Invariant.{IsRunOf}
 abbrev pub executions_at : World → ℕ → List Txn
 executions_at w region = txns_of w (done_ids (node_at w region).here)
 
--- a test tells which id precedes which in the whole logs, and by it the executions of all regions are one history: these ids
+-- a test decides which id precedes which in the whole logs, and by it the executions of all regions are one history: these ids
 -- in their order, of which each region executed a part
 pub record AreOneHistory (cluster : Cluster) (w : World) (order : List TxnId) : Type 0 where
-  -- the test, and that it tells "precedes"
+  -- the test, and that it decides "precedes"
   pub precedes : TxnId → TxnId → Bool
   pub told : (u t : TxnId) → ByTest precedes u t ↔ Precedes (logs_of w) u t
   -- by it, the order fits the serial run

@@ -9,7 +9,7 @@
 //!    executed, in its order. The opening world has it, and each of the seven rules keeps it: one file of proofs a rule.
 //! 2. **Histories of moves** (`Rooted`). Which log orders a key's uses changes when the key's unit is moved, so two attempts
 //!    that use one key may share no log. What ties them together is that each annotation is rooted: its home is the one after
-//!    so many moves of the unit's one history, and the last of these moves precedes the attempt.
+//!    n moves of the unit's one history, and the last of these moves precedes the attempt.
 //! 3. **One outcome** (`dt_serial`). Whatever runs transactions in an order in which each comes after all that precedes it
 //!    gets the same outcome for each of them, given the two facts above: an attempt that is not stale ran between the same
 //!    two moves of the unit of each of its keys everywhere, and within that stretch the log of one home orders all that clash.

@@ -54,7 +54,7 @@ pub record Spreads (way : Way) (links : List Link) (old new : FoundView) : Type 
   pub sound : (v : ℕ) → Has new.order v → AnyIn (λ u. Chain (IsStep way links) u v) old.order
   pub closed : IsClosedUnder way links new.order
 
--- a search of so many vertices that began with these has found just those to which chains of links lead from some of them
+-- a search of n vertices that began with these has found just those to which chains of links lead from some of them
 pub record IsReach (way : Way) (links : List Link) (count : ℕ) (starts : List ℕ) (found : FoundView) : Type 0 where
   pub vertices : length found.marks ≡ count
   pub once : IsFoundOf found.marks found.order

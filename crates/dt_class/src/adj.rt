@@ -11,7 +11,7 @@ use dt_text::NoMemory;
 use std::alloc::Global;
 use std::marker::Model;
 
-/// A directed graph. Its vertices are the numbers from 0 on, so many as it was made with.
+/// A directed graph. Its vertices are the numbers from 0 on, as many as it was made with.
 ///
 /// Contracts see the number of vertices and the list of edges, in the order in which they were added.
 #[derive(Drop)]
@@ -34,7 +34,7 @@ impl Model for Adj {
 }
 
 impl Adj {
-    /// The graph of so many vertices, with no edge.
+    /// The graph of n vertices, with no edge.
     pub fn new(alloc: Global, vertices: u32) -> Result<Self, NoMemory>
         ensures { IfOk result (λ graph. graph ≡ record { vertices = vertices; edges = [] }) }
     {

@@ -6,7 +6,7 @@ use std::alloc::Global;
 use std::marker::Model;
 
 /// The vertices that a search has found, in the order in which it found them, and a mark for each vertex of the graph
-/// that tells whether it is one of them.
+/// that says whether it is one of them.
 #[derive(Drop)]
 pub struct Found {
     marks: Vec<bool>,
@@ -24,7 +24,7 @@ impl Model for Found {
 }
 
 impl Found {
-    /// Of so many vertices nothing is found yet.
+    /// Of n vertices nothing is found yet.
     pub fn new(alloc: Global, vertices: u32) -> Result<Self, NoMemory>
         ensures { IfOk result (λ found. found ≡ record { marks = replicate vertices false; order = [] }) }
     {

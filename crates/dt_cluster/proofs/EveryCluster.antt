@@ -1,4 +1,4 @@
--- Every file is a cluster or has a fault: what each step of the reading comes to is decided, in the order in which faults are told.
+-- Every file is a cluster or has a fault: what each step of the reading comes to is decided, in the order in which faults are reported.
 -- That the tables of a document are in order, is what `TomlTables` gives.
 use Rattle.std.proofs.Common.{◌≡◌, ◌⊎◌, inl, inr, ℕ, ◌<◌, pos, negsuc, Bool, true, false, Ordering, Less, Equal, Greater, nat_cmp, List, [], ◌∷◌}
 use Rattle.std.proofs.Common.{map, length, ◌≤◌, ◌^◌, Option, Some, None, Ok, Err, codes, refl, sym, ap, ◌∙◌, subst, arith}
@@ -39,7 +39,7 @@ use Rattle.dt_cluster.specs.declared.error.ClusterPlace.TheVariants as place
 use Rattle.dt_cluster.specs.declared.error.ClusterFault.{ClusterFault}
 use Rattle.dt_cluster.proofs.TomlTables.{AreInOrder, InOrder, IsBelow, document_ordered}
 
--- ---- lists of which the first faulty item is told
+-- ---- lists of which the first faulty item is reported
 
 -- each item is fine, or the first that is not has a fault
 abbrev Judged : {A C : Type 0} → (A → Bytes) → (A → Type 0) → (A → C → Type 0) → List A → Type 0

@@ -41,7 +41,7 @@ listed_ascend (e ∷ es) h = (listed_below e.0 es h.0, listed_ascend es h.1)
 pub listed_are : (es : List Kept) → IsStrictlySortedBy string_cmp (keys_of es) → AreEntries (members_view es) (listed es)
 listed_are es ordered = record { ascending = listed_ascend es ordered; same = listed_same es }
 
--- what is told is told of more
+-- what is reported of some is reported of more
 pub tells_more : (P Q : ClusterFault → Type 0) → ((f : ClusterFault) → P f → Q f) → (e : ClusterError) → TellsFault P e → TellsFault Q e
 tells_more P Q more (Fault f) h = more f h
 tells_more P Q more NoMemory h = tt

@@ -350,7 +350,7 @@ cluster_or_fault top c f is (inr (known, inr (n, has, inr (ps, inl homes)))) =
     (subst (λ r. IsHomesFault top n.version r f) (one_number regions_entry (get_member regions_entry.name top) n.regions c.regions has.0 is.numbers.0) homes))
 cluster_or_fault top c f is (inr (known, inr (n, has, inr (ps, inr (hs, rows))))) = rows_or_fault top c.rows f is.rows rows
 
--- faults that are told in two steps are one, where those of each step are and the steps are apart
+-- faults that are reported in two steps are one, where those of each step are and the steps are apart
 staged : (Bad Later : ClusterFault → Type 0) (Fine : Type 0) → ((f g : ClusterFault) → Bad f → Bad g → f ≡ g) → ((f : ClusterFault) → Fine → Bad f → ⊥)
     → ((f g : ClusterFault) → Later f → Later g → f ≡ g) → (f g : ClusterFault) → Bad f ⊎ (Fine × Later f) → Bad g ⊎ (Fine × Later g) → f ≡ g
 staged Bad Later Fine one apart later f g (inl h) (inl k) = one f g h k

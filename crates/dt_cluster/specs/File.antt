@@ -1,5 +1,5 @@
--- What a cluster file is, and what fault is told of a file that is none. The faults have an order: unknown names, the
--- numbers, the procedures, the homes, the rows; the first fault in that order is told, so a file has at most one
+-- What a cluster file is, and what fault is reported for a file that is none. The faults have an order: unknown names, the
+-- numbers, the procedures, the homes, the rows; the first fault in that order is reported, so a file has at most one
 -- (`Laws`). The entries are in `Numbers` and `Rows`. Read next: `Laws`, and `Valid` for what every cluster that is read
 -- keeps.
 use Rattle.std.specs.Prelude.{◌≡◌, ◌⊎◌, ℕ, List, [], ◌∷◌, Option, Some, None, Ok, Err, codes}
@@ -35,7 +35,7 @@ IsKnown entry = Has known_names entry.0
 abbrev pub AreKnown : Members → Type 0
 AreKnown top = (entries : List Entry) × AreEntries top entries × AllIn IsKnown entries
 
--- the fault of a name that is unknown: the least such name is told
+-- the fault of a name that is unknown: the least such name is reported
 abbrev pub IsUnknownFault : Members → ClusterFault → Type 0
 IsUnknownFault top fault =
     (name : Bytes) × (fault ≡ record { place = place.Entry name; cause = cause.Unknown })
@@ -59,7 +59,7 @@ HasNumbers top numbers =
     HasNumber top regions_entry numbers.regions × HasNumber top version_entry numbers.version × HasNumber top workers_entry numbers.workers
     × HasNumber top tries_entry numbers.tries × HasNumber top drop_entry numbers.drop × HasNumber top repeat_entry numbers.repeat
 
--- the entries that hold numbers, in the order in which their faults are told
+-- the entries that hold numbers, in the order in which their faults are reported
 abbrev pub number_entries : List NumberEntry
 number_entries = regions_entry ∷ version_entry ∷ workers_entry ∷ tries_entry ∷ drop_entry ∷ repeat_entry ∷ []
 
@@ -146,7 +146,7 @@ IsFaultOf top fault =
 abbrev pub IsCluster : Bytes → Cluster → Type 0
 IsCluster bytes cluster = (top : Members) × IsDocument bytes top × IsClusterOf top cluster
 
--- the first fault of the bytes: they are no document, or the document has this fault. That a file is too long is told by who
+-- the first fault of the bytes: they are no document, or the document has this fault. That a file is too long is reported by who
 -- loads it
 abbrev pub IsClusterFault : Bytes → ClusterFault → Type 0
 IsClusterFault bytes fault =

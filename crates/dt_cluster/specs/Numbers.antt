@@ -33,11 +33,11 @@ workers_entry = record { name = codes "workers"; allows = within 1 16; absent = 
 abbrev pub tries_entry : NumberEntry
 tries_entry = record { name = codes "tries"; allows = within 1 8; absent = Some 3 }
 
--- which packets are lost: none where it is 0 or absent, else one in so many, from 2 to 1000. A replay has no use for it
+-- which packets are lost: none where it is 0 or absent, else one in n, from 2 to 1000. A replay has no use for it
 abbrev pub drop_entry : NumberEntry
 drop_entry = record { name = codes "drop"; allows = λ n. n == 0 || within 2 1000 n; absent = Some 0 }
 
--- which packets come twice: none where it is 0 or absent, else one in so many, up to 1000. A replay has no use for it
+-- which packets come twice: none where it is 0 or absent, else one in n, up to 1000. A replay has no use for it
 abbrev pub repeat_entry : NumberEntry
 repeat_entry = record { name = codes "repeat"; allows = within 0 1000; absent = Some 0 }
 

@@ -16,7 +16,7 @@ use Rattle.dt_cluster.specs.declared.error.ClusterFault.{ClusterFault}
 use Rattle.dt_cluster.specs.declared.error.ClusterError.{ClusterError}
 use Rattle.dt_cluster.specs.declared.error.ClusterError.TheVariants.{Fault, NoMemory}
 
--- an error tells a fault that is one, or that memory ran out
+-- an error reports a fault that is one, or that memory ran out
 abbrev pub TellsFault : (ClusterFault → Type 0) → ClusterError → Type 0
 TellsFault IsFault (Fault fault) = IsFault fault
 TellsFault IsFault NoMemory = Unit {0}

@@ -13,7 +13,7 @@ use Rattle.dt_cluster.specs.Document.{Entry}
 use Rattle.dt_cluster.specs.declared.error.ClusterCause.{ClusterCause}
 use Rattle.dt_cluster.specs.declared.error.ClusterCause.TheVariants.{BadKey, BadText, Kind, Range}
 
--- an entry of `homes`, in a cluster of this version with so many regions: its name is a key that is a unit, which in version
+-- an entry of `homes`, in a cluster of this version with n regions: its name is a key that is a unit, which in version
 -- 2 is a granule, and its value an integer that is the number of a region
 abbrev pub IsHome : ℕ → ℕ → Entry → Bytes × ℕ → Type 0
 IsHome version regions entry home =

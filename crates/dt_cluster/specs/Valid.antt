@@ -16,7 +16,7 @@ abbrev pub IsRowValue : Value → Type 0
 IsRowValue (Int z) = FitsSigned w64 z
 IsRowValue (Text t) = IsStr t
 
--- which packets are lost: none, or one in every so many, from 2 to 1000 and so never each of them
+-- which packets are lost: none, or one in every n, from 2 to 1000 and so never each of them
 abbrev pub IsDrop : ℕ → Type 0
 IsDrop d = (d ≡ 0) ⊎ (2 ≤ d) × (d ≤ 1000)
 

@@ -55,7 +55,7 @@ impl Cluster {
     }
 }
 
-/// The built-in cluster of so many regions: version 1, four workers, three tries, nothing lost or repeated,
+/// The built-in cluster of n regions: version 1, four workers, three tries, nothing lost or repeated,
 /// the built-in procedures, and neither homes nor rows listed.
 pub fn builtin(alloc: Global, regions: u8) -> Result<Cluster, NoMemory>
     requires some { 1 ≤ regions }

@@ -1,7 +1,7 @@
 //! What a cluster is: its version, its regions, its procedures, the homes and values of its rows, and its limits; and the
 //! reader of its file.
 //!
-//! Read next: `specs/File.antt`, what a file means and which fault is told of one that means nothing; `specs/Valid.antt`, what
+//! Read next: `specs/File.antt`, what a file means and which fault is reported for one that means nothing; `specs/Valid.antt`, what
 //! every cluster is; `src/laws.rt`, that each file has just one outcome.
 #![tactic(auto)]
 

@@ -20,7 +20,7 @@ pub(crate) struct Numbers {
     pub(crate) repeat: u32,
 }
 
-/// Reads the numbers of a cluster, in the order in which their faults are told.
+/// Reads the numbers of a cluster, in the order in which their faults are reported.
 pub(crate) fn read_numbers(alloc: Global, top: &Table) -> Result<Numbers, ClusterError>
     ensures ok { IfOk result (HasNumbers (table_view top.now)) }
     ensures fault { IfErr result (TellsFault (IsNumberFault (table_view top.now))) }
@@ -53,7 +53,7 @@ fn read_version(alloc: Global, top: &Table) -> Result<u8, ClusterError>
     Ok(version as u8)
 }
 
-/// Which packets are lost: none, or one in every so many, but never each of them.
+/// Which packets are lost: none, or one in every n, but never each of them.
 fn read_drop(alloc: Global, top: &Table) -> Result<u32, ClusterError>
     ensures ok { IfOk result (HasNumber (table_view top.now) drop_entry) }
     ensures fault { IfErr result (TellsFault (IsEntryFault (table_view top.now) drop_entry)) }

@@ -24,7 +24,7 @@ use toml::Table;
 /// document of TOML; the least unknown name at the top; `regions`, `version`, `workers`, `tries`, `drop` and `repeat`;
 /// `procs`; `homes`, and then each of its names in ascending byte order; and `rows` in the same way. Names are compared by
 /// their bytes.
-/// That a file is too long is told by who loads it.
+/// That a file is too long is reported by whoever loads it.
 pub fn read_cluster(alloc: Global, bytes: &[u8]) -> Result<Cluster, ClusterError>
     requires short { length bytes.now < 2 ^ 32 }
     ensures cluster { IfOk result (IsCluster bytes.now) }

@@ -26,7 +26,7 @@ use Rattle.dt_eval.specs.Expressions.{is_small, in_range, is_zero, text_order, o
 use Rattle.dt_eval.specs.Cases as cases
 use Rattle.dt_eval.specs.Cases.{TellsTruth, GivesIf, IsInRange, UnlessZero, OfNumbers, OfTexts, Operates}
 
--- a relation holds of what is told, and of nothing else
+-- a relation holds of what is answered, and of nothing else
 abbrev pub Fixes : Result Datum Cause → (Result Datum Cause → Type 0) → Type 0
 Fixes told R = R told × ((r : Result Datum Cause) → R r → told ≡ r)
 

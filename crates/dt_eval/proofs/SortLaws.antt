@@ -146,7 +146,7 @@ sort_kept variables row keys (binary o f g) s h =
     decided o a true e r g = decides_sort o a e
     decided o a false e r g = g
 
--- an answer has the sort of what is told
+-- an answer has the sort of what is answered
 pub sort_of_answer : (s : Sort) (told : Result Datum Cause) (r : Result Datum Stop) → GivesSort s told → EvalAnswers told r → IfOk r (λ d. sort_of_datum d ≡ s)
 sort_of_answer s told (Ok d) g a = subst (GivesSort s) a g
 sort_of_answer s told (Err e) g a = tt

@@ -35,7 +35,7 @@ GivesIf r P d c = (P × (r ≡ Ok d)) ⊎ (¬ P × (r ≡ Err c))
 abbrev pub IsInRange : Result Datum Cause → ℤ → Type 0
 IsInRange r z = GivesIf r (FitsSigned w64 z) (Int z) cause.Overflow
 
--- a divisor of 0 aborts with Zero, and else P is told
+-- a divisor of 0 aborts with Zero, and otherwise P is answered
 abbrev pub UnlessZero : Result Datum Cause → ℤ → Type 0 → Type 0
 UnlessZero r b P = ((b ≡ pos 0) × (r ≡ Err cause.Zero)) ⊎ ((b ≢ pos 0) × P)
 
@@ -78,7 +78,7 @@ Operates o a b r = ⊥
 abbrev pub Decides : Op → Datum → Type 0
 Decides o d = ((o ≡ And) × (d ≡ Truth false)) ⊎ ((o ≡ Or) × (d ≡ Truth true))
 
--- an expression gives a value or aborts, where these are the variables and `row` tells the value of the row of each declared key
+-- an expression gives a value or aborts, where these are the variables and `row` gives the value of the row of each declared key
 pub data GivesDatum (variables : List Datum) (row : ℕ → Option Value) : ExprTree → Result Datum Cause → Type 0 where
   a_number : (z : ℤ) → GivesDatum variables row (number z) (Ok (Int z))
   a_text : (t : Bytes) → GivesDatum variables row (text t) (Ok (Text t))

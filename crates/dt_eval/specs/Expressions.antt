@@ -130,7 +130,7 @@ abbrev pub other_truth : Datum → Result Datum Cause
 other_truth (Truth b) = Ok (Truth (not b))
 other_truth _ = Err cause.Kind
 
--- what an expression gives, or the cause of its abort, where these are the variables and `row` tells the value of the row of
+-- what an expression gives, or the cause of its abort, where these are the variables and `row` gives the value of the row of
 -- each declared key. Operands are evaluated from the left, and the right one only where the left one does not decide.
 abbrev pub evaluated : List Datum → (ℕ → Option Value) → ExprTree → Result Datum Cause
 evaluated variables row (number z) = Ok (Int z)

@@ -28,7 +28,7 @@ or_overflow None = Err cause.Overflow
 abbrev pub TakesBoth : Op → Datum → Datum → Type 0
 TakesBoth o a b = TakesSort o (sort_of_datum a) × (sort_of_datum b ≡ sort_of_datum a)
 
--- the answer is what is told, or memory ran out
+-- the answer is the one given, or memory ran out
 abbrev pub EvalAnswers : {A : Type 0} → Result A Cause → Result A Stop → Type 0
 EvalAnswers told_in (Ok a) = told_in ≡ Ok a
 EvalAnswers told_in (Err (Aborted c)) = told_in ≡ Err c

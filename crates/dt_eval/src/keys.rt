@@ -12,7 +12,7 @@ use std::alloc::Global;
 use std::cmp::Ordering;
 use std::fmt;
 
-/// Why the keys of a call are not told.
+/// Why the keys of a call are not given.
 #[derive(Debug, Drop)]
 pub enum KeysError {
     /// The declaration of this number, from 0, is the first that gives no key.

@@ -1,5 +1,5 @@
 -- Why a file of events is as good as the events: a line is one event at most, and what was printed is read back as the
--- same events, in order. So a run that was told is the run that is played. And each file is one list of events, or has
+-- same events, in order. So the run that was printed is the run that is played. And each file is one list of events, or has
 -- one first line without a form, and not both: the answer of the reader is the only one that a file can have, memory
 -- aside. Read next: `Step` of dt_session, for which events are legal.
 use Rattle.std.specs.Prelude.{◌≡◌, ◌⊎◌, ℕ, ◌↔◌, List}

@@ -1,5 +1,5 @@
 -- Stamps: the numbers under which a region keeps its events. They rise, and an event that takes something from another
--- region has a greater stamp than what it takes; so the events of all regions can be told as one list, in the order of
+-- region has a greater stamp than what it takes; so the events of all regions can be listed as one, in the order of
 -- stamps. Read next: `Region` of dt_region, for how a region gives them; `Merge` of dt_merge, for that list.
 use Rattle.std.specs.Prelude.{◌+◌, ℕ, List, [], ◌∷◌, map}
 use Rattle.dt_events.specs.declared.event.Event.{Event}

@@ -6,7 +6,7 @@ use Rattle.std.specs.Prelude.{ℕ, zero, suc, ◌+◌, ◌*◌, ◌/◌, ◌%◌
 abbrev pub next_state : ℕ → ℕ
 next_state state = (state * 1103515245 + 12345) % 2147483648
 
--- the state after so many draws; it begins at 1
+-- the state after n draws; it begins at 1
 abbrev pub state_after : ℕ → ℕ
 state_after zero = 1
 state_after (suc n) = next_state (state_after n)

@@ -14,10 +14,10 @@ const RANK: u8 = 5;
 /// The number of `xfer` among the built-in procedures.
 const XFER: u32 = 7;
 
-/// Of so many calls the last one is a move.
+/// Of every n calls the last one is a move.
 const CALLS_TO_A_MOVE: u32 = 50;
 
-/// A move leads to one of so many regions.
+/// A move leads to one of n regions.
 const REGIONS: u32 = 4;
 
 /// The largest amount of a transfer.

@@ -17,7 +17,7 @@ const SESSIONS: u32 = 64;
 /// How many of them are at a region.
 const SESSIONS_AT_A_REGION: u32 = 16;
 
-/// The generated load of so many calls: its cluster and its workload.
+/// The generated load of n calls: its cluster and its workload.
 ///
 /// 64 sessions at four regions make the calls in turn. Each transfers an amount of 1 to 50 between two of 100 accounts, but the
 /// last of every 50 calls moves an account to a region.

@@ -22,11 +22,11 @@ ready_told ids ready id v b once at has = (λ t. (v, at, has.0 t), λ r. has.1 (
 pub unready_told : (ids : List TxnId) (ready : List ℕ) (id : TxnId) → ¬ (Has ids id) → IsTrue false ↔ (x : ℕ) × (slice_get ids x ≡ Some id) × Has ready x
 unready_told ids ready id out = (λ t. absurd (true≢false (sym t)), λ r. absurd (out (has_place ids r.0 id r.1)))
 
--- what a search of the busy ones tells
+-- what a search of the busy ones gives
 pub is_busy : (busy : List TxnId) (id : TxnId) (b : Bool) → b ≡ list_any (λ y. same_id y id) busy → b ≡ true → Has busy id
 is_busy busy id b e t = listed_has same_id id_of_test test_of_id same_id_turned busy id (sym e ∙ t)
 
--- what a search of the busy ones tells where it finds none
+-- what a search of the busy ones gives where it finds none
 pub not_busy : (busy : List TxnId) (id : TxnId) (b : Bool) → b ≡ list_any (λ y. same_id y id) busy → b ≡ false → Has busy id → ⊥
 not_busy busy id b e f h = true≢false (sym (has_listed same_id id_of_test test_of_id same_id_turned busy id h) ∙ sym e ∙ f)
 

@@ -37,7 +37,7 @@ vertices_once g ids list up are = each_map (λ u v. ¬ (id_at g.ids u ≡ id_at 
 pub vertices_many : (g : GraphView) (ids : List TxnId) (list : List ℕ) → AreVerticesOf g ids list → length list ≡ length ids
 vertices_many g ids list are = sym (length-map list (id_at g.ids)) ∙ ap length are.named
 
--- whether a list is empty, as its length tells
+-- whether a list is empty, as its length shows
 pub empty_told : (xs : List ℕ) (n : ℕ) (b : Bool) → n ≡ length xs → b ≡ (n == 0) → b ≡ true → length xs ≡ 0
 empty_told xs n b e t h = sym e ∙ eqb-true n 0 (sym t ∙ h)
 

@@ -1,4 +1,4 @@
--- What a call of finish may do, and what is told of what it did, by what is kept alone.
+-- What a call of finish may do, and what is said of what it did, by what is kept alone.
 use Rattle.std.proofs.Common.{◌≡◌, ◌+◌, ◌<◌, ◌≤◌, ◌⊎◌, ◌↔◌, ◌∙◌, ◌^◌, ℕ, suc, List, [], ◌∷◌, length, map, get_or, set, slice_get, Option, None, Some, refl, sym, ap, subst, inl, inr, arith}
 use Rattle.std.proofs.lemmas.List.{length-map}
 use Rattle.std.proofs.lemmas.Option.{get_or_from_slice_get}

@@ -1,4 +1,4 @@
--- What is ready or stuck is a vertex, and there are fewer than a 32-bit number tells.
+-- What is ready or stuck is a vertex, and there are fewer than a 32-bit number can count.
 use Rattle.std.proofs.Common.{◌≡◌, ◌<◌, ◌≤◌, ◌+◌, ◌^◌, ◌∙◌, ℕ, List, [], ◌∷◌, length, refl, sym, ap, subst, inl, inr, arith}
 use Rattle.std.proofs.lemmas.List.{length-append, length-map}
 use Rattle.dt_lists.specs.Lists.{AllIn, Has}

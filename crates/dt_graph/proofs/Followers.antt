@@ -97,7 +97,7 @@ module _ (waiting : List Waiting) (distinct : HasDistinctSlots waiting) where
             ap (filter test) (ap (λ l. pushed_after l w.slot) is ∙ after_split (s.front ++ p ∷ r.0) w r.1 (subst HasDistinctSlots is distinct)) ∙ r.3,
           )
 
--- what is told of the first of a list
+-- what is said of the first of a list
 pub first_told : (ws : List Waiting) (f : Follower) → slice_get (map follower_of ws) 0 ≡ Some f → (w : Waiting) × (more : List Waiting) × (ws ≡ w ∷ more) × (w.slot ≡ f.slot) × (w.vertex ≡ f.vertex)
 first_told [] f e = cc
 first_told (w ∷ ws) f e = let s : follower_of w ≡ f = some_same e in (w, ws, refl, ap (λ x. x.slot) s, ap (λ x. x.vertex) s)
@@ -136,14 +136,14 @@ all_after P (w ∷ ws) place a = by (all_after P ws place a.1) (cases_Bool (w.sl
     by later (inl e) = rw e a.1
     by later (inr e) = rw e later
 
--- what is told of a follower is of an entry
+-- what is said of a follower is of an entry
 pub told_below : (waiting : List Waiting) (slot place bound : ℕ) (f : Follower) → AllIn (λ w. w.vertex < bound) waiting → slice_get (map follower_of (followers_after waiting slot place)) 0 ≡ Some f → f.vertex < bound
 told_below waiting slot place bound f below told =
     let t : (w : Waiting) × (more : List Waiting) × (followers_after waiting slot place ≡ w ∷ more) × (w.slot ≡ f.slot) × (w.vertex ≡ f.vertex) = first_told (followers_after waiting slot place) f told in
     let all : AllIn (λ w. w.vertex < bound) (followers_after waiting slot place) = filter_all _ (λ w. is_neighbour waiting slot w.slot) (pushed_after waiting place) (all_after _ waiting place below) in
     subst (λ v. v < bound) t.4 (subst (AllIn (λ w. w.vertex < bound)) t.2 all).0
 
--- after what is told of the first follower one fewer is left
+-- after what is said of the first follower one fewer is left
 pub fewer_told : (waiting : List Waiting) → HasDistinctSlots waiting → (slot place : ℕ) (f : Follower) → IsQueued waiting place → slice_get (map follower_of (followers_after waiting slot place)) 0 ≡ Some f
     → length (followers_after waiting slot f.slot) < length (followers_after waiting slot place)
 fewer_told waiting distinct slot place f h told =

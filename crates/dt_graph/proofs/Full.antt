@@ -1,5 +1,5 @@
 -- Numbers in ascending order: those from one number on, below another one, are at most as many as the two are apart; and they
--- are so many just where each of them is there.
+-- are that many just where each of them is there.
 use Rattle.std.proofs.Common.{◌≡◌, ◌+◌, ◌<◌, ◌≤◌, ◌⊎◌, ℕ, suc, List, [], ◌∷◌, length, inl, inr, arith}
 use Rattle.dt_lists.specs.Lists.{AllIn, Has, EachThen}
 use Rattle.dt_lists.proofs.Callers.{all_get, all_map, either_nat}

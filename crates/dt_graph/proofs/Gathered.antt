@@ -22,7 +22,7 @@ IsLinkAt waiting list p q = (u : ℕ) × (v : ℕ) × (slice_get list p ≡ Some
 abbrev pub IsBlockedAt : List Waiting → List ℕ → ℕ → Type 0
 IsBlockedAt waiting list p = (v : ℕ) × (slice_get list p ≡ Some v) × WaitsOutside waiting list v
 
--- the edges into the places below one are in the graph, and the blocked ones of these places are told
+-- the edges into the places below one are in the graph, and the blocked ones of these places are given
 pub record IsGathering (waiting : List Waiting) (list : List ℕ) (place : ℕ) (graph : AdjView) (blocked : List ℕ) : Type 0 where
   pub vertices : graph.vertices ≡ length list
   pub edges : (p q : ℕ) → IsEdge graph p q ↔ (q < place) × IsLinkAt waiting list p q

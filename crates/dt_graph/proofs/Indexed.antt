@@ -1,5 +1,5 @@
 -- Where a search in a list of different items finds one, and what the list is after a new one was put to it, for any test that
--- tells whether two items are the same.
+-- says whether two items are the same.
 use Rattle.std.proofs.Common.{◌≡◌, ℕ, suc, ◌+◌, nat_eq, ◌<◌, Bool, true, false, cond, List, [], ◌∷◌, ◌++◌, drop, get_or, length, slice_get, take, Some, None}
 use Rattle.std.proofs.Common.{Result, Ok, Err, IfOk, IsOk, refl, ap, sym, subst, inl, inr, arith, ◌∙◌}
 use Rattle.std.specs.List.{list_any, position, position_from}
@@ -19,7 +19,7 @@ pub record Tells {A : Type 0} (same : A → A → Bool) : Type 0 where
 clash : {t : Bool} → t ≡ true → t ≡ false → ⊥
 clash e f = cc
 
--- the place that a search tells
+-- the place that a search gives
 found_from : {A : Type 0} (same : A → A → Bool) → Tells same → (x : A) (xs : List A) (start i : ℕ) → Some i ≡ position_from (same x) start xs → (j : ℕ) × (i ≡ start + j) × (slice_get xs j ≡ Some x)
 found_from same t x [] start i e = cc
 found_from same t x (y ∷ xs) start i e = by (same x y) refl e (λ f. found_from same t x xs (start + 1) i f)
@@ -35,7 +35,7 @@ found_from same t x (y ∷ xs) start i e = by (same x y) refl e (λ f. found_fro
 pub found_at : {A : Type 0} (same : A → A → Bool) → Tells same → (x : A) (xs : List A) (i : ℕ) → Some i ≡ position (same x) xs → slice_get xs i ≡ Some x
 found_at same t x xs i e = let r = found_from same t x xs 0 i (e ∙ position_from-zero (same x) xs) in let s : i ≡ r.0 = omega (arith, r.1) in ap (slice_get xs) s ∙ r.2
 
--- where a search tells no place, the item is not there
+-- where a search gives no place, the item is not there
 missed_from : {A : Type 0} (same : A → A → Bool) → Tells same → (x : A) (xs : List A) (start : ℕ) → None ≡ position_from (same x) start xs → ¬ (Has xs x)
 missed_from same t x [] start e h = h
 missed_from same t x (y ∷ xs) start e h = by (same x y) refl e (λ f. missed_from same t x xs (start + 1) f)

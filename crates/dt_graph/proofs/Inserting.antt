@@ -1,4 +1,4 @@
--- What is told of a call of insert.
+-- What is said of a call of insert.
 use Rattle.std.proofs.Common.{◌≡◌, ◌∙◌, ◌+◌, ◌<◌, ◌≤◌, ℕ, List, Result, Ok, Err, OnOk, OnErr, length, ap, arith}
 use Rattle.dt_access.specs.declared.TxnId.{TxnId}
 use Rattle.dt_access.specs.declared.Part.{Part}

@@ -67,7 +67,7 @@ links_more S T list place a b c x y l m = record {
     back true y i j r = refl
     back false y i j r = elim r.1 [ inl s ↦ absurd (true≢false (sym (i.1 (r.0, s, r.2)))) | inr t ↦ j.1 (r.0, t, r.2) ]
 
--- the same sources, told otherwise
+-- the same sources, put otherwise
 pub links_same : (S T : ℕ → Type 0) (list : List ℕ) (place : ℕ) (a b : AdjView) (x : Bool) → ((u : ℕ) → S u ↔ T u) → Links S list place a b x → Links T list place a b x
 links_same S T list place a b x same l = record {
   vertices = l.vertices;

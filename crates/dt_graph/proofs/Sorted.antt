@@ -16,7 +16,7 @@ use Rattle.dt_access.proofs.Callers.{before_total, before_transitive, id_of_test
 use Rattle.dt_graph.specs.SmallSteps.{AreIdsAt}
 use Rattle.dt_waits.specs.Waits.{id_at}
 
--- a permutation has the same items, each as often; whether two are the same is told by a test
+-- a permutation has the same items, each as often; whether two are the same is decided by a test
 module _ {A : Type 0} (same : A → A → Bool) (tells : (x y : A) → same x y ≡ true → x ≡ y) (told : (x y : A) → x ≡ y → same x y ≡ true) (turned : (x y : A) → same x y ≡ same y x) where
   pub has_listed : (xs : List A) (u : A) → Has xs u → list_any (λ x. same x u) xs ≡ true
   has_listed xs u h = test_of_any (λ x. same x u) xs (any_map _ _ xs (λ x e. told x u e) h)

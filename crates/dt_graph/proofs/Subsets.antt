@@ -26,7 +26,7 @@ below_length : (n : ℕ) → length (below n) ≡ n
 below_length zero = refl
 below_length (suc n) = ap suc (below_length n)
 
--- distinct numbers below a bound are at most so many
+-- distinct numbers below a bound are at most that many
 pub few_below : (n : ℕ) (xs : List ℕ) → Distinct xs → AllIn (λ v. v < n) xs → length xs ≤ n
 few_below n xs d within = subst (λ m. length xs ≤ m) (below_length n) (distinct_within xs (below n) d (all_map _ _ xs (λ v lt. below_has n v lt) within))
 
@@ -136,7 +136,7 @@ module _ (items : List ℕ) (places : List (Option ℕ)) (room : ℕ) (s : IsSub
   pub unplaced_absent : get_or places number None ≡ None → ¬ (Has items number)
   unplaced_absent e = subst (StandsAtPlace items number) e (s.placed number lt)
 
-  -- so the test of a place tells it
+  -- so the test of a place decides it
   pub has_placed : (place : Option ℕ) → get_or places number None ≡ place → IsTrue (is_some place) ↔ Has items number
   has_placed None e = (λ b. absurd (true≢false (sym b)), λ h. absurd (unplaced_absent e h))
   has_placed (Some p) e = (λ b. placed_has p e, λ h. refl)
@@ -175,7 +175,7 @@ module _ (items : List ℕ) (places : List (Option ℕ)) (room : ℕ) (s : IsSub
     );
   }
 
-  -- the bound told otherwise
+  -- the bound put otherwise
   pub added_at : (bound later : ℕ) → later ≡ bound → PutsIn number (record { bound = bound; items = items }) (record { bound = later; items = items ++ number ∷ [] })
   added_at bound later e = record { bound = e; members = (added bound).members }
 

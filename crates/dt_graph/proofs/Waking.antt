@@ -70,7 +70,7 @@ wakes_more P Q decided degrees a b c r s t p q = record {
     back v h z (inl x) (inr n) = absurd (n x)
     back v h z (inr y) (inr n) = inr ((p.still_stuck v).1 (h, λ w. n w.1), z, y)
 
--- of the same, told otherwise
+-- of the same, put otherwise
 pub wakes_same : (P Q : ℕ → Type 0) → ((v : ℕ) → P v ↔ Q v) → (degrees : List ℕ) (a b r s : SubsetView) → Wakes P degrees a r b s → Wakes Q degrees a r b s
 wakes_same P Q same degrees a b r s p = record {
   stuck_bound = p.stuck_bound;

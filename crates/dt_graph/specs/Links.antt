@@ -5,7 +5,7 @@ use Rattle.dt_lists.specs.Lists.{AnyIn, Has}
 use Rattle.dt_class.specs.Graphs.{AdjView, IsEdge}
 use Rattle.dt_queue.specs.Queues.{Waiting, neighbours}
 
--- to the graph the edges were added into the vertex at a place of the list, from the sources; and it is told whether some
+-- to the graph the edges were added into the vertex at a place of the list, from the sources; and it is reported whether some
 -- source is none of the list
 pub record Links (sources : ℕ → Type 0) (list : List ℕ) (place : ℕ) (old new : AdjView) (blocked : Bool) : Type 0 where
   pub vertices : new.vertices ≡ old.vertices

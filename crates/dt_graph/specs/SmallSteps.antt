@@ -23,7 +23,7 @@ pub record Pushes (vertex : ℕ) (old new : List Waiting) (slots now : List ℕ)
   pub at_slots : now ≡ slots ++ map (λ w. w.slot) more
   pub of_vertex : AllIn (λ w. w.vertex ≡ vertex) more
 
--- the uses were pushed for a vertex at a home, one after the other, and its new degree was told
+-- the uses were pushed for a vertex at a home, one after the other, and its new degree was given
 pub record Enters (home vertex : ℕ) (uses : List (Bytes × Mode)) (old new : List Waiting) (slots now : List ℕ) (risen : ℕ) : Type 0 where
   pub pushed : Pushes vertex old new slots now
   pub used : map (λ w. (w.key, w.mode)) pushed.more ≡ uses
@@ -34,7 +34,7 @@ pub record Enters (home vertex : ℕ) (uses : List (Bytes × Mode)) (old new : L
 abbrev pub raised : ℕ → List ℕ → ℕ → ℕ
 raised before neighbours vertex = before + count_by (λ n. not (n == vertex)) neighbours
 
--- of the vertices to which so many were to be lowered, each was lowered by its count
+-- of the vertices that were to be lowered by these counts, each was lowered by its count
 abbrev pub AreLowered : (ℕ → ℕ) → List ℕ → List ℕ → Type 0
 AreLowered count old new = (length new ≡ length old) × ((v : ℕ) → v < length old → get_or old v 0 ≡ get_or new v 0 + count v)
 

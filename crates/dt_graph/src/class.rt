@@ -19,7 +19,7 @@ pub struct Among {
     pub blocked: Vec<u32>,
 }
 
-/// Puts in the edges from the neighbours of the entry at a slot to the vertex at a place, and tells whether some neighbour is
+/// Puts in the edges from the neighbours of the entry at a slot to the vertex at a place, and says whether some neighbour is
 /// none of the group.
 fn link_slot(
     alloc: Global,
@@ -46,7 +46,7 @@ fn link_slot(
     Ok(blocked)
 }
 
-/// Puts in the edges into the vertex at a place, and tells whether it waits for some that is none of the group.
+/// Puts in the edges into the vertex at a place, and says whether it waits for some that is none of the group.
 fn link(
     alloc: Global,
     queues: &Queues,

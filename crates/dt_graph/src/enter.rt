@@ -91,7 +91,7 @@ fn enter_uses(
     Ok(risen)
 }
 
-/// Takes back the entries at the last slots, all but so many.
+/// Takes back the entries at the last slots, all but the first n.
 fn take_back(queues: &mut Queues, slots: &mut Slots, count: usize)
     requires { (vertex : ℕ) × (old : List Waiting) × (kept : List ℕ) × (length kept ≡ count) × Pushes vertex old queues.old kept slots.old }
     ensures { (vertex : ℕ) (old : List Waiting) (kept : List ℕ) → length kept ≡ count → Pushes vertex old queues.old kept slots.old → (queues.new ≡ old) × (slots.new ≡ kept) }

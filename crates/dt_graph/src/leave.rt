@@ -154,7 +154,7 @@ fn remove_all(queues: &mut Queues, vertices: &[Vertex], leaving: &[u32])
 }
 
 /// Lets vertices leave together: first all degrees are lowered, and only then the entries taken out, since what an entry
-/// follows is told by all that stand before it.
+/// follows is shown by all that stand before it.
 pub fn leave(
     queues: &mut Queues,
     vertices: &[Vertex],

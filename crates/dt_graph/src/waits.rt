@@ -124,7 +124,7 @@ impl Waits {
         Ok(())
     }
 
-    /// A copy of the slots of a vertex, with room for so many more.
+    /// A copy of the slots of a vertex, with room for n more.
     fn copied_slots(&self, alloc: Global, vertex: u32, more: usize) -> Result<Slots, NoMemory>
         requires { vertex < length self.now.vertices.items }
         ensures { IfOk result (λ slots. slots ≡ (vertex_at self.now.vertices.items vertex).slots) }

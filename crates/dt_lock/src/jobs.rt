@@ -135,7 +135,7 @@ pub fn act<R: Wait, S: Scheduler, N: Named, G: Gate>(
     }
 }
 
-// Inserts what is missing of a home's log, part by part. After want of memory others insert the rest.
+// Inserts what is missing of a home's log, part by part. Once memory has run out others insert the rest.
 fn insert_all<R: Wait, S: Scheduler, N: Named>(
     rt: &R,
     alloc: Global,

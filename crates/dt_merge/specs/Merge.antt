@@ -1,7 +1,7 @@
 -- The events of all regions as one list. Each region keeps its events with stamps, which rise; and an event that takes
 -- something from another region has a greater stamp than what it takes. One learns here what the merge of what regions keep
 -- is: all of it, in ascending order of stamps, and of regions where stamps are equal (`IsMerge`). It is to be read as one
--- run, though the events were made side by side. How they came about is told by a chronicle (`IsChronicle`): one list in the
+-- run, though the events were made side by side. How they came about is described by a chronicle (`IsChronicle`): one list in the
 -- order in which they were made. Read next: src/laws.rt, that the merge is a legal list, which leads to the same world.
 use Rattle.std.specs.Prelude.{◌≡◌, ◌<◌, ◌==◌, ◌⊎◌, ◌↔◌, ℕ, List, [], ◌++◌, filter, get_or, Some}
 use Rattle.dt_lists.specs.Lists.{AllIn, EachThen, Has}

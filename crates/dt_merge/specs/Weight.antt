@@ -20,7 +20,7 @@ weight region o =
     length o.node.submitted + sum_by (λ p. p.answered) o.places + sum (set o.node.received region (length o.node.log))
     + sum o.node.here.inserted + length o.node.here.resolved + length o.node.here.done
 
--- what has happened in so many regions
+-- what has happened in n regions
 abbrev pub world_weight : ℕ → Workload → World → ℕ
 world_weight regions workload w = sum_below (λ region. weight region (own workload w region)) regions
 

@@ -1,4 +1,4 @@
--- A round of the node's region: insertions, resolutions and executions, one after another, in the world. A round tells them
+-- A round of the node's region: insertions, resolutions and executions, one after another, in the world. A round lists them
 -- as steps by the region's own account, and they are those of the world, since what the region holds is the world's.
 use Rattle.std.proofs.Common.{◌≡◌, ◌≢◌, ◌<◌, ◌≤◌, ◌+◌, ℕ, zero, suc, List, [], ◌∷◌, ◌++◌, length}
 use Rattle.std.proofs.Common.{get_or, set, Some, refl, sym, ap, subst, subst₂, ◌∙◌, arith}

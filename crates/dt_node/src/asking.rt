@@ -114,7 +114,7 @@ impl<S: Scheduler + Drop> Node<S> {
     }
 
     /// Whether the session at this place waits for an attempt that its region has no outcome of. Such a session can't go on, and
-    /// it is told without its name being searched for.
+    /// it is given without its name being searched for.
     fn has_to_wait(&self, index: u32) -> bool
         ensures { IsTrue result → (name : Bytes) → slice_get (seat_names self.now) index ≡ Some name → IsStill self.now name }
     {

@@ -26,7 +26,7 @@ pub AddsPrefix-append : (old mid new : Option (List ℕ)) (first second : List �
 AddsPrefix-append old mid new first second added (n, more) =
     (length first + n, Adds-append old mid new first (take n second) added more ∙ ap (held_with old) (sym (take-append-add first second n)))
 
--- some first bytes of a piece, and then n of the rest, are so many first bytes of it
+-- some first bytes of a piece, and then n of the rest, are that many first bytes of it
 pub Adds-further : (old mid new : Option (List ℕ)) (piece : List ℕ) (written n : ℕ) → Adds old mid (take written piece) → Adds mid new (take n (drop written piece)) → Adds old new (take (written + n) piece)
 Adds-further old mid new piece written n added more =
     Adds-append old mid new (take written piece) (take n (drop written piece)) added more ∙ ap (held_with old) (sym (take-add written n piece))

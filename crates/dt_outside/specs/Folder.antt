@@ -1,8 +1,8 @@
 -- Folders, which give files by name.
 --
--- A promise on what was read from a file has to say what stood in it, so a folder may tell its files. The real disk
--- tells none; then a promise says what the bytes were read as, whatever they are. Each folder counts the loads that
--- failed, and may tell the name of the newest of them, so that a file that could not be read is not told as another.
+-- A promise on what was read from a file has to say what stood in it, so a folder may show its files. The real disk
+-- shows none; then a promise says what the bytes were read as, whatever they are. Each folder counts the loads that
+-- failed, and may give the name of the newest of them, so that a file that could not be read is not reported as another.
 -- A folder in memory is defined whole here, for tests. Read next: Sink, for what is written.
 use Rattle.std.specs.Prelude.{◌≡◌, ℕ, ◌<◌, Bool, List, [], ◌∷◌, length, ◌||◌, ◌==◌, if◌then◌else◌, Option, None, Some, is_none, IfSome, IsSomeAnd, nat_eq, String, Vec, string_bytes}
 use Rattle.std.specs.List.{list_any}
@@ -14,14 +14,14 @@ use Rattle.dt_outside.specs.Faults.{next_count}
 abbrev pub Files : Type 0
 Files = List ℕ → Option (List ℕ)
 
--- what is seen of a folder: its files, where it tells them; how many loads failed; and the name of the newest load that
--- failed, where the folder tells it
+-- what is seen of a folder: its files, where it shows them; how many loads failed; and the name of the newest load that
+-- failed, where the folder shows it
 pub record FolderView : Type 0 where
   pub told : Option Files
   pub faults : ℕ
   pub missed : Option (List ℕ)
 
--- where the folder tells which load failed last, it was that of this name
+-- where the folder shows which load failed last, it was that of this name
 abbrev pub MissedLast : FolderView → List ℕ → Type 0
 MissedLast folder name = IfSome folder.missed (λ missed. missed ≡ name)
 

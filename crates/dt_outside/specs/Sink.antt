@@ -1,19 +1,19 @@
 -- Sinks, which take bytes.
 --
--- A sink may tell the bytes that it holds, and counts its faults. It is given a text piece after piece, and where it
+-- A sink may show the bytes that it holds, and counts its faults. It is given a text piece after piece, and where it
 -- fails, it has taken some first bytes of the text and no others: so a report that was cut short is told apart from every
--- other. A sink in memory is defined whole here, for tests; a stream of the system tells nothing of what it holds, and is
+-- other. A sink in memory is defined whole here, for tests; a stream of the system shows nothing of what it holds, and is
 -- described by what its writer took. Read next: src/sinks.rt, the calls; or `Answers` of the program, for what is written
 -- in the end.
 use Rattle.std.specs.Prelude.{◌≡◌, ℕ, ◌≤◌, List, ◌++◌, take, Option, None, Some, Result, OnOk, OnErr}
 use Rattle.dt_outside.specs.Faults.{Rose}
 
--- what is seen of a sink: the bytes that it holds, where it tells them, and how many faults there were
+-- what is seen of a sink: the bytes that it holds, where it shows them, and how many faults there were
 pub record SinkView : Type 0 where
   pub held : Option (List ℕ)
   pub faults : ℕ
 
--- what is held once the piece stands behind it; what isn't told stays so
+-- what is held once the piece stands behind it; what is not named stays so
 abbrev pub held_with : Option (List ℕ) → List ℕ → Option (List ℕ)
 held_with None piece = None
 held_with (Some bytes) piece = Some (bytes ++ piece)
@@ -40,7 +40,7 @@ pub record StoredSink : Type 0 where
   pub room : ℕ
   pub faults : ℕ
 
--- a stream of the system: what its writer has taken, where the writer tells it, and how many faults there were
+-- a stream of the system: what its writer has taken, where the writer shows it, and how many faults there were
 pub record Stream : Type 0 where
   pub taken : Option (List ℕ)
   pub faults : ℕ

@@ -9,7 +9,7 @@ use std::io::Read;
 use std::marker::Model;
 use std::rt::Files;
 
-/// The files of the real disk, by their paths. It tells no content.
+/// The files of the real disk, by their paths. It shows no content.
 #[derive(Drop)]
 pub struct DiskFolder<'a, R> {
     rt: &'a R,

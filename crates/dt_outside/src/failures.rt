@@ -3,7 +3,7 @@ ghost use Rattle.std.specs.Prelude.{◌≡◌, ◌≢◌};
 use std::alloc::AllocError;
 use std::{fmt, io};
 
-/// The device failed. Its count of faults tells that it did.
+/// The device failed. Its count of faults shows that it did.
 #[derive(Clone, Copy, Debug, PartialEq, Eq)]
 pub struct Failed;
 

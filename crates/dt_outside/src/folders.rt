@@ -7,8 +7,8 @@ use std::alloc::Global;
 
 /// A place that has files by name.
 ///
-/// A folder may tell what its files hold; then a load that isn't a fault gives exactly that. Whether
-/// it tells or not, it counts its faults. The count never falls, and ends at `u64::MAX`. It may tell
+/// A folder may show what its files hold; then a load that isn't a fault gives exactly that. Whether
+/// it shows or not, it counts its faults. The count never falls, and ends at `u64::MAX`. It may show
 /// the name of the newest load that was a fault.
 pub trait Folder {
     // What is seen of it.
@@ -27,13 +27,13 @@ pub trait Folder {
         ensures missed { result ≡ Err LoadError.Failed → MissedLast (seen self.new) name.now }
         ensures same_missed { result ≢ Err LoadError.Failed → (seen self.new).missed ≡ (seen self.old).missed }
 
-        // Where the files are told, an answer is that of the file of this name.
+        // Where the files are known, an answer is that of the file of this name.
         ensures whole { IfSome (seen self.old).told (λ files.
             IfOk result (λ bytes. files name.now ≡ Some bytes.items)) }
         ensures long_only { IfSome (seen self.old).told (λ files.
             result ≡ Err LoadError.TooLong → IsAboveLimit files name.now limit) }
 
-        // Without a fault a file that is too long is refused as such; only want of memory may come first.
+        // Without a fault a file that is too long is refused as such; only running out of memory may come first.
         ensures long_always { IfSome (seen self.old).told (λ files.
             IsAboveLimit files name.now limit → ¬ Rose (seen self.old).faults (seen self.new).faults →
             (result ≡ Err LoadError.TooLong) ⊎ (result ≡ Err LoadError.NoMemory)) }

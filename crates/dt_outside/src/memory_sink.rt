@@ -7,7 +7,7 @@ use dt_text::NoMemory;
 use std::alloc::Global;
 use std::marker::Model;
 
-/// A sink in memory. It tells its bytes, and fails once its room is used up.
+/// A sink in memory. It shows its bytes, and fails once its room is used up.
 #[derive(Drop)]
 pub struct MemorySink {
     content: Vec<u8>,

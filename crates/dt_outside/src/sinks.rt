@@ -6,7 +6,7 @@ use crate::failures::Failed;
 
 /// A place that takes bytes, one piece after another.
 ///
-/// A sink may tell the bytes that it holds. Whether it tells or not, it counts its faults. The count
+/// A sink may show the bytes that it holds. Whether it shows or not, it counts its faults. The count
 /// never falls, and ends at `u64::MAX`.
 pub trait Sink {
     // What is seen of it.

@@ -9,7 +9,7 @@ use std::io;
 use std::io::{ErrorKind, Write};
 use std::marker::Model;
 
-/// A real stream. It tells no content.
+/// A real stream. It shows no content.
 #[derive(Drop)]
 pub struct StdSink<W: Write> {
     writer: W,

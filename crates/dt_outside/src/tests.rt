@@ -9,7 +9,7 @@ use std::io::{Read, Write};
 use std::test::Fail;
 use std::{env, fs, io};
 
-// What a caller of any folder relies on: a file that is told and short enough is given whole, unless
+// What a caller of any folder relies on: a file that is known and short enough is given whole, unless
 // the folder counts a fault or memory runs out.
 fn load_told<F: Folder>(
     files: &mut F,

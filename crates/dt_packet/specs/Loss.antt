@@ -8,7 +8,7 @@ use Rattle.dt_packet.specs.declared.loss.LossPlan.{LossPlan}
 use Rattle.dt_packet.specs.declared.loss.Verdict.{Verdict}
 use Rattle.dt_packet.specs.declared.loss.Verdict.TheVariants.{Pass, Lost, Twice}
 
--- n is the last of so many numbers, counted from 1: `step` is above 0 and divides n
+-- n is the last of each `step` numbers, counted from 1: `step` is above 0 and divides n
 abbrev pub IsEvery : ℕ → ℕ → Type 0
 IsEvery step n = (0 < step) × (step ∣ n)
 

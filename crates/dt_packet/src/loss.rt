@@ -4,9 +4,9 @@ ghost use Rattle.dt_packet.specs.Loss.{IsEvery, IsVerdict};
 /// Which packets of a link are lost, and which come twice.
 #[derive(Clone, Copy, Debug, PartialEq, Eq)]
 pub struct LossPlan {
-    /// Of so many packets the last one is lost; none is where this is 0.
+    /// Of every n packets the last one is lost; none is where this is 0.
     pub drop: u32,
-    /// Of so many packets the last one comes twice, unless it is lost; none does where this is 0.
+    /// Of every n packets the last one comes twice, unless it is lost; none does where this is 0.
     pub repeat: u32,
 }
 
@@ -36,7 +36,7 @@ impl LossPlan {
     }
 }
 
-/// Whether this is the last of so many numbers, counted from 1 on.
+/// Whether this is the last of n numbers, counted from 1 on.
 fn is_every(step: u32, number: u64) -> bool
     ensures { IsTrue result ↔ IsEvery step number }
 {

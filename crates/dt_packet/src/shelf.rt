@@ -31,7 +31,7 @@ impl Model for Shelf {
 }
 
 impl Shelf {
-    /// An empty shelf. It takes the memory for so many packets at once, and no more later.
+    /// An empty shelf. It takes the memory for n packets at once, and no more later.
     pub fn new(alloc: Global, places: u32) -> Result<Self, NoMemory>
         ensures { IfOk result (λ shelf. shelf ≡ record { waiting = []; places = places }) }
     {

@@ -1,4 +1,4 @@
--- What a test of two ids for equality tells.
+-- What a test of two ids for equality says.
 use Rattle.std.proofs.Common.{◌≡◌, Bool, true, false, ◌&&◌, ap, arith, eqb}
 use Rattle.std.proofs.lemmas.Bool.Decides.{nat_tests}
 use Rattle.dt_access.specs.declared.TxnId.{TxnId}

@@ -12,7 +12,7 @@ drop-at xs i x d h e = rw (add-one, drop-cons xs i d) (ap (λ y. y ∷ drop (suc
 pub take-at : {A : Type 0} (xs : List A) (i : ℕ) (x d : A) → i < length xs → x ≡ get_or xs i d → take (i + 1) xs ≡ take i xs ++ x ∷ []
 take-at xs i x d h e = take_more xs i d h ∙ ap (λ y. take i xs ++ y ∷ []) (sym e)
 
--- what a test that answered true tells, and one that answered false
+-- what a test that answered true says, and one that answered false
 pub tested : {P : Type 0} (b : Bool) → (IsTrue b ↔ P) → b ≡ true → P
 tested b k e = k.0 e
 

@@ -1,4 +1,4 @@
--- Every text has an outcome: the first pass comes to an end at it, and where that finds no fault, the second pass tells of names
+-- Every text has an outcome: the first pass comes to an end at it, and where that finds no fault, the second pass reports on names
 -- and kinds alone.
 use Rattle.std.proofs.Common.{◌≡◌, inl, inr, ℕ, List, [], Ok, Err, refl}
 use Rattle.dt_syntax.specs.declared.token.Placed.{Placed}
@@ -22,7 +22,7 @@ telling text tokens passes told is = record {
   tells = is;
 }
 
--- what the second pass tells is the outcome
+-- what the second pass reports is the outcome
 second : (text : List ℕ) (tokens : List Placed) (passes : PassesFirst text tokens) (told : Checked (List ProcTree)) → check_procs [] passes.grammar.0 ≡ told →
     Outcome text told
 second text tokens passes (Ok procs) is = telling text tokens passes (Ok procs) is

@@ -21,7 +21,7 @@ use Rattle.dt_syntax.specs.Grammar.{links_tokens, Reader, reads_int, reads_text,
 use Rattle.dt_syntax.specs.Limits.{AllSound}
 use Rattle.dt_syntax.proofs.Callers.{sound_left, sound_right}
 
--- what is told has P
+-- what is reported has P
 abbrev pub Holds : {A : Type 0} → (A → Type 0) → Checked A → Type 0
 Holds {A} P told = (a : A) → told ≡ Ok a → P a
 

@@ -1,4 +1,4 @@
--- The second pass tells of names and kinds alone.
+-- The second pass reports on names and kinds alone.
 use Rattle.std.proofs.Common.{◌≡◌, ℕ, Bool, true, false, cond, List, [], ◌∷◌, ◌++◌, Ok, Err, refl, ap, subst, nat_eq}
 use Rattle.std.specs.List.{list_any}
 use Rattle.std.specs.Cmp.Lexicographic.{pointwise}
@@ -31,7 +31,7 @@ IsLate (fault.Unknown p) = Unit {0}
 IsLate (fault.Kind p) = Unit {0}
 IsLate _ = ⊥
 
--- no other fault is told
+-- no other fault is reported
 abbrev pub Late : {A : Type 0} → Checked A → Type 0
 Late told = (e : ProcError) → told ≡ Err e → IsLate e
 
@@ -213,7 +213,7 @@ late_proc before p =
     (λ r. late_after (check_block r.1 p.body) _ (late_block r.1 p.body)
     (λ b. late_ok (record { name = p.name; params = param_kinds p.params; keys = r.0; body = b })))))
 
--- the second pass tells no fault of the first one
+-- the second pass reports no fault of the first one
 pub late_procs : (before : List ProcTree) (ps : List ProcSyntax) → Late (check_procs before ps)
 late_procs before [] = late_ok []
 late_procs before (p ∷ ps) =

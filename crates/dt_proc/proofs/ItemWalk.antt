@@ -33,7 +33,7 @@ item_value scope (value_item x) rest t ts e h other =
     let place : front_place x ≡ t.place = sym f.3 ∙ ap (λ v. v.place) same in
     (x, h, ap (λ p. after_ok (check scope x) (λ a. needs_stored p a (tree.value a.0))) place, e)
 
--- what is left of the items, and what they add to those that were told
+-- what is left of the items, and what they add to those that were reported
 abbrev pub ItemsLeft : Scope → Checked (List GiveTree) → List GiveTree → List Placed → ℕ → List Placed → Type 0
 ItemsLeft scope told gifts left e rest =
     (more : List (ℕ × Item)) × AreItems more × (flat_map next_item more ++ at e tok.Semicolon ∷ rest ≡ left)

@@ -22,7 +22,7 @@ use Rattle.dt_syntax.proofs.Callers.{proc_cut, sound_left, sound_right}
 use Rattle.dt_proc.proofs.KeySorts.{HasParams, KeysMade, keys_make, ParamsMade, params_make}
 use Rattle.dt_proc.proofs.StatementSorts.{block_fits}
 
--- what the walk tells, part after part
+-- what the walk reports, part after part
 abbrev pub walked_proc : ProcSyntax → Checked ProcTree
 walked_proc p =
     after_ok {A = Scope × List Kind} (params_told p.params) (λ s. after_ok {A = Scope × List KeyDecl} (keys_told s.0 [] (p.key ∷ p.more_keys))
@@ -62,7 +62,7 @@ proc_twice before p name place taken is at_place =
     (ap (λ n. list_any (λ (q : ProcTree). pointwise nat_eq q.name n) before) (sym is) ∙ taken)
     ∙ ap (λ n. Err (fault.Twice n)) (sym at_place)
 
--- the parameters that are told
+-- the parameters that are reported
 record IsTold (p : ProcSyntax) (scope : Scope) (kinds : List Kind) : Type 0 where
   pub made : ParamsMade (param_kinds p.params) (record { variables = []; keys = [] }) scope
   pub same : kinds ≡ param_kinds p.params
@@ -127,7 +127,7 @@ told_after_keys : (before : List ProcTree) (p : ProcSyntax) (s : Scope × List K
 unfolding after_params after_keys
 told_after_keys before p s r free ps ks = told_after_params before p s free ps ∙ ap (λ t. after_ok {A = Scope × List KeyDecl} t (after_keys p s.1)) ks
 
--- the first fault is told, wherever it is
+-- the first fault is reported, wherever it is
 pub params_first_fault : (before : List ProcTree) (p : ProcSyntax) (left rest : List Placed) (e : ProcError) → Free before p →
     WalkAnswers (params_told p.params) left (Err e) → WalkAnswers (check_proc before p) rest (Err e)
 unfolding after_params
@@ -167,11 +167,11 @@ keys_left p rest = flat_map key_tokens (p.key ∷ p.more_keys) ++ at p.begin_at 
 abbrev pub params_left : ProcSyntax → List Placed → List Placed
 params_left p rest = params_tokens p.params ++ at p.close_at tok.Close ∷ keys_left p rest
 
--- this follows a first token, as a walk tells it
+-- this follows a first token, as a walk reports it
 abbrev pub Follows : List Placed → List Placed → Type 0
 Follows ts after = (t : Placed) (rest : List Placed) → t ∷ rest ≡ ts → after ≡ rest
 
--- this is the name that comes first, as a walk tells it
+-- this is the name that comes first, as a walk reports it
 abbrev pub IsNamed : List Placed → ℕ → List ℕ → List Placed → Type 0
 IsNamed ts place name after =
     (p : ℕ) (n : List ℕ) (rest : List Placed) → at p (tok.Name n) ∷ rest ≡ ts → (place ≡ p) × (name ≡ n) × (after ≡ rest)

@@ -27,7 +27,7 @@ use Rattle.dt_syntax.proofs.Callers.{sound_left, sound_right, text_sound, procs_
 use Rattle.dt_proc.proofs.ProcWalk.{Free}
 use Rattle.dt_proc.proofs.Faults.{IsLate, late_procs}
 
--- a procedure that is told has a new name, the one that is spelled
+-- a procedure that is reported has a new name, the one that is spelled
 abbrev IsNew : List ProcTree → ProcSyntax → ProcTree → Type 0
 IsNew before p q = Free before p × (q.name ≡ p.name)
 
@@ -64,7 +64,7 @@ pub record Left (made : ℕ) (ts : List Placed) : Type 0 where
   pub sound : AllSound ts
   pub cut : procs_tokens all ≡ ts
 
--- what is told of all, in terms of what was made and what is left
+-- what is reported of all, in terms of what was made and what is left
 abbrev pub ToldSoFar : List Placed → List ProcTree → List Placed → Type 0
 ToldSoFar tokens items rest =
     (ps : List ProcSyntax) → AreProcSyntaxes ps → procs_tokens ps ≡ tokens →

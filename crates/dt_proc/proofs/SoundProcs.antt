@@ -29,7 +29,7 @@ is_named procs name = list_any (λ (q : ProcTree). pointwise nat_eq q.name name)
 abbrev names : List ProcTree → List (List ℕ)
 names procs = map (λ (p : ProcTree). p.name) procs
 
--- a procedure that is told fits, and its name is new
+-- a procedure that is reported fits, and its name is new
 abbrev IsNext : List ProcTree → ProcTree → Type 0
 IsNext before q = IsSoundProc q × (is_named before q.name ≡ false)
 
@@ -59,7 +59,7 @@ named_within (q ∷ procs) name (inr h) = right (pointwise nat_eq q.name name) (
     right true e = refl
     right false e = e
 
--- procedures that are told after others are as many as are spelled, and fit, and their names are new
+-- procedures that are reported after others are as many as are spelled, and fit, and their names are new
 abbrev AreNext : List ProcTree → List ProcSyntax → List ProcTree → Type 0
 AreNext before ps qs = (length qs ≡ length ps) × AllIn IsSoundProc qs × Distinct (names (before ++ qs))
 

@@ -26,7 +26,7 @@ pub record Grown (old new : Scope) : Type 0 where
 pub grown_start : (scope : Scope) → Grown scope scope
 grown_start scope = record { keys = refl; variables = ([], sym (append-nil scope.variables)) }
 
--- what is left of the statements, and what they add to those that were told
+-- what is left of the statements, and what they add to those that were reported
 abbrev pub StepsLeft : Scope → Scope → Checked BlockTree → BlockTree → List Placed → ℕ → List Placed → Type 0
 StepsLeft outer scope told block left e rest =
     (ss : Statements) × AreStatements ss × (statements_tokens ss ++ at e tok.End ∷ rest ≡ left)
@@ -91,7 +91,7 @@ scope_of : Scope → Checked (Scope × StmtTree) → Scope
 scope_of other (Ok r) = r.0
 scope_of other (Err e) = other
 
--- whatever is told, what was visible is visible still
+-- whatever is reported, what was visible is visible still
 abbrev Keeps : Scope → Checked (Scope × StmtTree) → Type 0
 Keeps scope told = (new : Scope) (step : StmtTree) → told ≡ Ok (new, step) → Grown scope new
 

@@ -12,14 +12,14 @@ use Rattle.dt_proc.specs.Tree.{ProcTree}
 use Rattle.dt_proc.specs.SecondPass.{Checked, check_procs}
 use Rattle.dt_syntax.specs.FirstPass.{PassesFirst, IsSyntaxFault, IsTooMany}
 
--- a fault of the first pass, as the outcome tells it
+-- a fault of the first pass, as the outcome reports it
 abbrev pub told_first : SyntaxError → ProcError
 told_first (syntax.Syntax place) = fault.Syntax place
 told_first (syntax.TooMany place) = fault.TooMany place
 told_first syntax.NoMemory = fault.NoMemory
 
 -- the text is without fault in the first pass, it spells these procedures of the grammar, and this is what the second pass
--- tells of them
+-- reports on them
 pub record SecondTells (text : List ℕ) (told : Checked (List ProcTree)) : Type 0 where
   pub tokens : List Placed
   pub passes : PassesFirst text tokens
@@ -28,7 +28,7 @@ pub record SecondTells (text : List ℕ) (told : Checked (List ProcTree)) : Type
   pub spells : procs_tokens spelled ≡ tokens
   pub tells : check_procs [] spelled ≡ told
 
--- the outcome of a text: Syntax and TooMany where the first pass finds a fault, and else what the second pass tells, which
+-- the outcome of a text: Syntax and TooMany where the first pass finds a fault, and else what the second pass reports, which
 -- is the procedures, or Twice, Unknown or Kind. Want of memory is the outcome of no text
 abbrev pub Outcome : List ℕ → Checked (List ProcTree) → Type 0
 Outcome text (Err (fault.Syntax place)) = IsSyntaxFault text place

@@ -29,7 +29,7 @@ use Rattle.dt_syntax.specs.Grammar.{is_join}
 abbrev pub Checked : Type 0 → Type 0
 Checked A = Result A ProcError
 
--- one thing after another: the first fault is told
+-- one thing after another: the first fault is reported
 abbrev pub after_ok : {A B : Type 0} → Checked A → (A → Checked B) → Checked B
 after_ok (Ok a) next = next a
 after_ok (Err e) next = Err e
@@ -72,7 +72,7 @@ fits_both o sort.Text sort.Text = is_join o || is_comparison o
 fits_both o sort.Bool sort.Bool = is_logical o
 fits_both o _ _ = false
 
--- two operands with an operator at this place between them: wrong kinds are told at the operator
+-- two operands with an operator at this place between them: wrong kinds are reported at the operator
 abbrev pub combined : ℕ → Op → Typed → Typed → Checked Typed
 combined place o a b = if fits_both o a.1 b.1 then Ok (tree.binary o a.0 b.0, sort_given o) else Err (fault.Kind place)
 
@@ -113,7 +113,7 @@ read_by reads_int k = (tree.number_of k, sort.Int)
 read_by reads_text k = (tree.text_of k, sort.Text)
 read_by reads_presence k = (tree.has_value k, sort.Bool)
 
--- what `len(..)` and `show(..)` are, and what they give: `len` needs a text, `show` an int; a wrong kind is told at the
+-- what `len(..)` and `show(..)` are, and what they give: `len` needs a text, `show` an int; a wrong kind is reported at the
 -- word
 abbrev pub made_by : Maker → ℕ → Typed → Checked Typed
 made_by makes_length place a = needs place sort.Text a (tree.length_of a.0, sort.Int)
@@ -138,7 +138,7 @@ abbrev mutual
   check_links scope a no_link = Ok a
   check_links scope a (link p o x more) = after_ok (check scope x) (λ b. after_ok (combined p o a b) (λ c. check_links scope c more))
 
--- an item of `give`: a key, or an expression that gives what a row can have, of which a fault is told at its first token
+-- an item of `give`: a key, or an expression that gives what a row can have, of which a fault is reported at its first token
 abbrev pub check_item : Scope → Item → Checked GiveTree
 check_item scope (row_item p b) = after_ok (key_of scope b) (λ k. Ok (tree.row k))
 check_item scope (value_item x) = after_ok (check scope x) (λ a. needs_stored (front_place x) a (tree.value a.0))
@@ -156,11 +156,11 @@ check_all_items scope i more = after_ok (check_item scope i) (λ g. after_ok (ch
 abbrev pub with_new_variable : Scope → List ℕ → Sort → Scope
 with_new_variable scope n s = record scope { variables = scope.variables ++ (n, s) ∷ [] }
 
--- an `if` with one block, of which this is told
+-- an `if` with one block, of which this is reported
 abbrev pub one_block : Scope → ExprTree → Checked BlockTree → Checked (Scope × StmtTree)
 one_block scope f told = after_ok told (λ c. Ok (scope, tree.choose f c done))
 
--- an `if` with two blocks, of which these are told, the fault of the first one before that of the second
+-- an `if` with two blocks, of which these are reported, the fault of the first one before that of the second
 abbrev pub two_blocks : Scope → ExprTree → Checked BlockTree → Checked BlockTree → Checked (Scope × StmtTree)
 two_blocks scope f told other = after_ok told (λ c. after_ok other (λ d. Ok (scope, tree.choose f c d)))
 

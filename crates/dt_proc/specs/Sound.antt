@@ -50,7 +50,7 @@ sort_given AtMost = sort.Bool
 sort_given More = sort.Bool
 sort_given AtLeast = sort.Bool
 
--- an expression gives a value of this sort, where the variables have these sorts and there are so many keys
+-- an expression gives a value of this sort, where the variables have these sorts and there are n keys
 abbrev pub HasSort : List Sort → ℕ → ExprTree → Sort → Type 0
 HasSort variables keys (number z) s = (s ≡ sort.Int) × FitsSigned w64 z
 HasSort variables keys (text t) s = (s ≡ sort.Text) × IsStr t

@@ -6,7 +6,7 @@ use Rattle.dt_syntax.specs.declared.kinds.Kind.{Kind}
 use Rattle.dt_proc.specs.declared.tree.KeyDecl.{KeyDecl}
 use Rattle.dt_syntax.specs.declared.operator.Op.{Op}
 
--- an expression. A variable, or the key of a row, is told by its number
+-- an expression. A variable, or the key of a row, is known by its number
 pub data ExprTree : Type 0 where
   number : ℤ → ExprTree
   text : List ℕ → ExprTree

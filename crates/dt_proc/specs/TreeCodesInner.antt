@@ -12,7 +12,7 @@ use Rattle.dt_proc.specs.declared.tree.KeyDecl.{KeyDecl}
 use Rattle.dt_proc.specs.Tree.{ExprTree, number, text, truth, variable, number_of, text_of, has_value, length_of, shown, negative, opposite, binary, GiveTree}
 use Rattle.dt_proc.specs.Tree.{row, value, StmtTree, let_new, set_row, clear_row, choose, abort_with, give_all, BlockTree, done, then, ProcTree}
 
--- the number in front of a code, which tells the case
+-- the number in front of a code, which gives the case
 abbrev tag : Gv → ℕ
 tag (gcons (gnum n) g) = n
 tag _ = 0

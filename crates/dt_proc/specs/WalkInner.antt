@@ -39,8 +39,8 @@ use Rattle.dt_syntax.specs.declared.operator.Op.{Op}
 use Rattle.dt_proc.specs.declared.tree.KeyItem.{KeyItem}
 use Rattle.dt_syntax.specs.Limits.{AllSound, IsSmall}
 
--- the walk's answer is what is told, with just the tokens that follow the part that it read; or it is the fault that is
--- told; or memory ran out
+-- the walk's answer is what is reported, with just the tokens that follow the part that it read; or it is the fault that is
+-- reported; or memory ran out
 abbrev pub WalkAnswers : {A : Type 0} → Checked A → List Placed → Checked (A × List Placed) → Type 0
 WalkAnswers told rest (Ok (a, after)) = (told ≡ Ok a) × (after ≡ rest)
 WalkAnswers told rest (Err e) = (e ≡ fault.NoMemory) ⊎ (told ≡ Err e)
@@ -61,7 +61,7 @@ abbrev pub typed_shown : Result (Expr × Sort) ProcError → Checked Typed
 typed_shown (Ok r) = Ok (expr_tree r.0, r.1)
 typed_shown (Err e) = Err e
 
--- what is told of an operand with this word or sign before it (`len`, `show`, `-` or `not`): `len` needs a text, `not` a
+-- what is reported of an operand with this word or sign before it (`len`, `show`, `-` or `not`): `len` needs a text, `not` a
 -- truth, the others a number
 abbrev pub prefix_told : Prefix → ℕ → Typed → Checked Typed
 prefix_told prefix.Len place a = made_by makes_length place a
@@ -69,7 +69,7 @@ prefix_told prefix.Show place a = made_by makes_text place a
 prefix_told prefix.Minus place a = needs place sort.Int a (tree.negative a.0, sort.Int)
 prefix_told prefix.Not place a = needs place sort.Bool a (tree.opposite a.0, sort.Bool)
 
--- what is told of the row of a key, of which a number, a text or whether it is there is read
+-- what is reported of the row of a key, of which a number, a text or whether it is there is read
 abbrev pub read_told : Reading → ℕ → Typed
 read_told reading.Int key = read_by reads_int key
 read_told reading.Text key = read_by reads_text key
@@ -357,7 +357,7 @@ pub record AreFewProcs (ts : List Placed) : Type 0 where
   pub sound : AllSound ts
   pub cut : procs_tokens all ≡ ts
 
--- the answer of a pass is what is told; or memory ran out
+-- the answer of a pass is what is reported; or memory ran out
 abbrev pub PassGives : {A : Type 0} → Checked A → Checked A → Type 0
 PassGives told (Ok a) = told ≡ Ok a
 PassGives told (Err e) = (e ≡ fault.NoMemory) ⊎ (told ≡ Err e)

@@ -3,7 +3,7 @@ use dt_text::NoMemory;
 use std::alloc::{AllocError, AllocFailed};
 use thiserror::Error;
 
-/// Why a text is no procedures: the place of the fault, in bytes from the text's front, or want of memory.
+/// Why a text is no procedures: the place of the fault, in bytes from the text's front, or that memory ran out.
 #[derive(Clone, Copy, Debug, PartialEq, Eq, Error)]
 pub enum ProcError {
     /// No procedures begin with the tokens up to this place, or no token is there.

@@ -1,4 +1,4 @@
--- Which cells clash, told by the lanes that they have their marks in.
+-- Which cells clash, shown by the lanes that they have their marks in.
 use Rattle.std.proofs.Common.{◌≡◌, ◌⊎◌, ℕ, true, false}
 use Rattle.std.proofs.Common.{Some, refl, ap, sym, subst, inl, inr, ◌∙◌}
 use Rattle.slab.specs.Slab.{get}

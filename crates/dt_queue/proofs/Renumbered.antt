@@ -101,7 +101,7 @@ default_free [] p d m lt = absurd (omega arith)
 default_free (x ∷ xs) zero d m lt = refl
 default_free (x ∷ xs) (suc p) d m lt = default_free xs p d m (omega arith)
 
--- the same, as the code tells of the mark
+-- the same, as the code says of the mark
 pub placed_at : (n i : ℕ) (ms : List Mark) (p : ℕ) (d m : Mark) → HasRisingNumbers ms → EndsBelow n ms p → p < length ms → d ≡ slice_index_or ms p d → d.number ≡ n → m ≡ slice_index_or ms p m
     → slice_set ms p (record m { number = i }) ≡ map (renumbered n i) ms
 placed_at n i ms p d m num ends lt is same value =
@@ -265,7 +265,7 @@ module _ (k n : Kept) (slot : ℕ) (c : Cell) (i : ℕ) (kept : AreQueuesKept k)
 
 -- ---- one after the other
 
--- where each number is given that lies from one number on and below another, there are so many cells
+-- where each number is given that lies from one number on and below another, there are n cells
 many : (K : List (ℕ × Cell)) (a i : ℕ) → EachThen Rise K → ((p : ℕ × Cell) → Has K p → a ≤ p.1.number) → ((n : ℕ) → a ≤ n → n < i → AnyIn (λ (p : ℕ × Cell). p.1.number ≡ n) K) → i ≤ a + length K
 many [] a i rise low given = elim (either_le i a) [ inl le ↦ omega (arith, le) | inr gt ↦ absurd (given a (omega arith) (omega (arith, gt))) ]
 many (p ∷ K) a i rise low given = elim (either_le i a) [
@@ -341,7 +341,7 @@ shown_length k =
 
 -- ---- steps of the code
 
--- of the cell that is first what is told of it
+-- of the cell that is first what is said of it
 pub first_is : (cells : Slab Cell) (slot number : ℕ) (c : Cell) → get cells slot ≡ Some c → IsFirstFrom cells number (Some slot)
     → (number ≤ c.number) × ((s : ℕ) (d : Cell) → get cells s ≡ Some d → IsBeside c.number number d.number)
 first_is cells slot number c e f = subst (λ (x : Cell). (number ≤ x.number) × ((s : ℕ) (d : Cell) → get cells s ≡ Some d → IsBeside x.number number d.number)) (some_same f.0 c (sym f.1 ∙ e)) (f.2, f.3)

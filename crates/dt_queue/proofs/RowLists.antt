@@ -72,7 +72,7 @@ test_of_self a = both (a.0 == a.0) (same_key a.1 a.1) (grind arith) (same_key_se
     both true false e f = cc
     both false t e f = cc
 
--- the place that a search for a name tells
+-- the place that a search for a name gives
 named_from : (name : ℕ × Bytes) (xs : List (ℕ × Bytes)) (start i : ℕ) → Some i ≡ position_from (same_name name) start xs → (j : ℕ) × (i ≡ start + j) × (slice_get xs j ≡ Some name)
 named_from name [] start i e = cc
 named_from name (x ∷ xs) start i e = by (same_name name x) refl e (λ f. named_from name xs (start + 1) i f)
@@ -88,7 +88,7 @@ named_from name (x ∷ xs) start i e = by (same_name name x) refl e (λ f. named
 pub named_at : (name : ℕ × Bytes) (xs : List (ℕ × Bytes)) (i : ℕ) → Some i ≡ position (same_name name) xs → slice_get xs i ≡ Some name
 named_at name xs i e = let r = named_from name xs 0 i (e ∙ position_from-zero (same_name name) xs) in let s : i ≡ r.0 = omega (arith, r.1) in ap (slice_get xs) s ∙ r.2
 
--- where a search for a name tells no place, the name is not there
+-- where a search for a name gives no place, the name is not there
 unnamed_from : (name : ℕ × Bytes) (xs : List (ℕ × Bytes)) (start : ℕ) → None ≡ position_from (same_name name) start xs → ¬ (Has xs name)
 unnamed_from name [] start e h = h
 unnamed_from name (x ∷ xs) start e h = by (same_name name x) refl e (λ f. unnamed_from name xs (start + 1) f)

@@ -6,11 +6,11 @@ use Rattle.std.proofs.lemmas.List.{get_or_read, get_or-set_other, get_or-set_sam
 use Rattle.dt_lists.specs.Lists.{AllIn, Distinct, Has}
 use Rattle.dt_lists.proofs.Callers.{any_append, any_append_left, any_append_right, any_get, any_of_test, any_put, either_nat, get_of_map, test_of_any}
 
--- what is told of an item of a list
+-- what is said of an item of a list
 pub told_at : {A B : Type 0} (f : A → B) (xs : List A) (i : ℕ) (x : A) (d : B) → i < length xs → x ≡ slice_index_or xs i x → f x ≡ get_or (map f xs) i d
 told_at f xs i x d lt e = get_or_read (map f xs) i (f x) (rw (length-map xs f) lt) (ap f e ∙ sym (get_of_map f xs i x)) d
 
--- an item took the place of another: what is told of it, and of the others
+-- an item took the place of another: what is said of it, and of the others
 pub told_here : {A B : Type 0} (f : A → B) (xs : List A) (i : ℕ) (x : A) (d : B) → i < length xs → get_or (map f (set xs i x)) i d ≡ f x
 told_here f xs i x d lt = ap (λ l. get_or l i d) (map-set f xs i x) ∙ get_or-set_same (map f xs) i (f x) d (rw (length-map xs f) lt)
 

@@ -240,7 +240,7 @@ module _ (k : Kept) (kept : AreQueuesKept k) where
       by true e = ap (λ l. entry k.rows.names.keys q ∷ l) e
       by false e = e
 
-  -- what is told of the first mark that is next is told of the first follower
+  -- what is said of the first mark that is next is said of the first follower
   pub follower_is : (slot : ℕ) (x : Cell) → get k.cells slot ≡ Some x → (place : ℕ) (y : Cell) → get k.cells place ≡ Some y → (o : Option Mark) → IsFirstAfter (IsNextMark k x) y.number o
       → option_map (λ (m : Mark). record { slot = m.slot; vertex = m.vertex }) o ≡ slice_get (map follower_of (followers_after (waiting_of k) slot place)) 0
   follower_is slot x e place y f o first =

@@ -74,7 +74,7 @@ followers waiting slot = filter (λ w. is_neighbour waiting slot w.slot) waiting
 abbrev pub followers_after : List Waiting → ℕ → ℕ → List Waiting
 followers_after waiting slot place = filter (λ w. is_neighbour waiting slot w.slot) (pushed_after waiting place)
 
--- what is told of a follower
+-- what is said of a follower
 abbrev pub follower_of : Waiting → Follower
 follower_of w = record { slot = w.slot; vertex = w.vertex }
 

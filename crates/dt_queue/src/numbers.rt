@@ -18,7 +18,7 @@ impl Kept {
         ensures left { OnOk result (self.new.next_number < 2 ^ 64 - 1) }
     {
         if self.next_number == u64::MAX {
-            // With room for two more, of which `capacity` tells that it is counted in 64 bits, some numbers stay free.
+            // With room for two more, of which `capacity` says that it is counted in 64 bits, some numbers stay free.
             self.cells.reserve(2)?;
             let _room = self.cells.capacity();
             self.number_anew();

@@ -1,4 +1,4 @@
--- A table that is one for so many regions stays one: it annotates with regions, and is moved to regions. What a transaction
+-- A table that is one for n regions stays one: it annotates with regions, and is moved to regions. What a transaction
 -- moves has a place left, where its body has one.
 use Rattle.std.proofs.Common.{◌<◌, ℕ, true, false, cond, List, [], ◌∷◌, ◌++◌, map, Option, Some, None, sym, subst, ◌∙◌}
 use Rattle.dt_lists.specs.Lists.{AllIn}

@@ -23,7 +23,7 @@ use Rattle.dt_txn.specs.Replica.{taken_from}
 use Rattle.dt_region.specs.Region.{RegionState, held}
 use Rattle.dt_region.specs.Rules.{with_entries}
 
--- a table is one for so many regions: the homes that are listed for units are regions, and units were moved to regions
+-- a table is one for n regions: the homes that are listed for units are regions, and units were moved to regions
 pub record IsTableFor (regions : ℕ) (table : Table) : Type 0 where
   pub sized : table.regions ≡ regions
   pub homes : AllIn (λ listed. listed.1 < regions) table.homes
@@ -33,7 +33,7 @@ pub record IsTableFor (regions : ℕ) (table : Table) : Type 0 where
 abbrev pub IsPartOf : Txn → ℕ → Part → Type 0
 IsPartOf txn home part = Has (homes_of txn) home × (part ≡ part_of txn home)
 
--- the homes of a transaction are among so many regions
+-- the homes of a transaction are among n regions
 abbrev pub HasHomesIn : ℕ → Txn → Type 0
 HasHomesIn regions txn = AllIn (λ home. home < regions) (homes_of txn)
 

@@ -35,8 +35,8 @@ region_in seen a = record { state = state_in seen a; events = a.events.events; h
 abbrev pub AreWell : RegionState → Sched → Type 0
 AreWell s seen = IsSoundRegion s × (seen ≡ sched_of s.logs s.here)
 
--- its stores have places for so many executions, each of which is one event, one id that is done and at most 17 changes of
--- the table: these many events, ids and changes fit, and so many ids in the scheduler
+-- its stores have places for n executions, each of which is one event, one id that is done and at most 17 changes of
+-- the table: these many events, ids and changes fit, and as many ids in the scheduler
 pub record HasStock (room for_events for_done for_changes for_finishes : ℕ) : Type 0 where
   pub events : room ≤ for_events
   pub done : room ≤ for_done

@@ -21,7 +21,7 @@ use Rattle.dt_txn.specs.Transaction.{part_of}
 use Rattle.dt_txn.specs.Replica.{MayStep, stepped, opening_replica, next_id, submission_for, after_asking, taken_from, after_taking}
 use Rattle.dt_region.specs.Region.{RegionState, RegionView, find_txn, held, latest_stamp}
 
--- a region before anything happens, in a cluster of so many regions, with this table
+-- a region before anything happens, in a cluster of n regions, with this table
 abbrev pub opening_state : ℕ → ℕ → Table → RegionState
 opening_state number regions table = record {
   number = number;

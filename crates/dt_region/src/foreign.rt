@@ -52,7 +52,7 @@ impl Foreign {
         self.txns.get(&id)
     }
 
-    /// Makes room for so many more.
+    /// Makes room for n more.
     pub fn reserve(&mut self, places: usize) -> Result<(), NoMemory>
         ensures same { self.new.txns ≡ self.old.txns }
         ensures room { OnOk result (places ≤ self.new.spare) }

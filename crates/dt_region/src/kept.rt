@@ -39,7 +39,7 @@ impl Kept {
         self.events.as_slice()
     }
 
-    /// Makes room for so many more. Nothing else changes.
+    /// Makes room for n more. Nothing else changes.
     pub fn reserve(&mut self, places: usize) -> Result<(), NoMemory>
         ensures same { self.new.events ≡ self.old.events }
         ensures room { OnOk result (places ≤ self.new.spare) }

@@ -77,8 +77,8 @@ impl<S: Scheduler> Model for Region<S> {
 }
 
 impl<S: Scheduler> Region<S> {
-    /// The region of this number before anything happens, in a cluster of so many regions, with this table, which is one
-    /// for so many regions. It fails only for want of memory.
+    /// The region of this number before anything happens, in a cluster of n regions, with this table, which is one
+    /// for n regions. It fails only when out of memory.
     pub fn new(alloc: Global, number: u8, regions: u8, table: Table) -> Result<Self, NoMemory>
         requires number { number < regions }
         requires regions { regions ≤ 8 }
@@ -463,7 +463,7 @@ impl<S: Scheduler> Region<S> {
         Ok(true)
     }
 
-    /// Makes room for so many executions: each unit of it is enough for any one execution that is finished. Nothing else
+    /// Makes room for n executions: each unit of it is enough for any one execution that is finished. Nothing else
     /// changes, and after `NoMemory` the region is as before.
     pub fn reserve(&mut self, alloc: Global, runs: u32) -> Result<(), NoMemory>
         ensures ok { OnOk result (self.new ≡ record self.old { room = max self.old.room runs }) }
@@ -476,7 +476,7 @@ impl<S: Scheduler> Region<S> {
         self.make_room(alloc, runs)
     }
 
-    // Makes room for so many executions, which are more than there is room for.
+    // Makes room for n executions, which are more than there is room for.
     fn make_room(&mut self, alloc: Global, runs: u32) -> Result<(), NoMemory>
         requires { self.old.room < runs }
         ensures ok { OnOk result (self.new ≡ record self.old { room = runs }) }

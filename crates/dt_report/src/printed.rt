@@ -27,8 +27,8 @@ pub fn print(alloc: Global, report: &Report) -> Result<Vec<u8>, NoMemory>
     Ok(text)
 }
 
-/// The text of the report with these replies, this order, what these tables show, and these events. A row is told at a time, so
-/// that no list is made of what the tables show. The only error is want of memory.
+/// The text of the report with these replies, this order, what these tables show, and these events. One row is written at a time, so
+/// that no list is made of what the tables show. The only error is running out of memory.
 pub fn print_shown(
     alloc: Global,
     replies: &[Reply],

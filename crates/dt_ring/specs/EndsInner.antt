@@ -6,11 +6,11 @@ use Rattle.dt_ring.specs.Rings.{RingInView, RingOutView}
 use Rattle.dt_ring.specs.declared.ends.RingIn.TheInside.{Inside as InsideIn}
 use Rattle.dt_ring.specs.declared.ends.RingOut.TheInside.{Inside as InsideOut}
 
--- the last so many of these
+-- the last n of these
 abbrev pub last_of : {A : Type 0} → ℕ → List A → List A
 last_of count xs = drop (length xs - count) xs
 
--- all but the last so many of these
+-- all but the last n of these
 abbrev pub all_but_last : {A : Type 0} → ℕ → List A → List A
 all_but_last count xs = take (length xs - count) xs
 

@@ -1,7 +1,7 @@
 -- The two ends of a ring, which is a link between two regions that run in threads of their own. Neither end knows what the
--- other did since the two were last beside each other: the outlet tells what it put by then and what it put since, and the
+-- other did since the two were last beside each other: the outlet knows what it put by then and what it put since, and the
 -- inlet what it took and what it then learnt to be waiting. That they are ends of one ring (`AreEnds`) is so whenever both
--- stand still. While they are apart, each end only tells that it is still the same end (`SameOut`, `SameIn`); the two
+-- stand still. While they are apart, each end only says that it is still the same end (`SameOut`, `SameIn`); the two
 -- together make that they are still a pair (`EndsStayEnds`). Read next: src/ends.rt, where `beside` brings them together.
 use Rattle.std.specs.Prelude.{◌≡◌, ℕ, List, ◌++◌}
 use denote.RawPtr.{Ptr}

@@ -50,7 +50,7 @@ impl Model for RingIn {
     ghost view = { in_view };
 }
 
-/// The two ends of an empty ring with so many places. It takes the memory for all of them at once, and no more later.
+/// The two ends of an empty ring with n places. It takes the memory for all of them at once, and no more later.
 pub fn ring(alloc: Global, places: u32) -> Result<(RingOut, RingIn), NoMemory>
     ensures ends { IfOk result (λ r. AreEnds r.0 r.1) }
     ensures empty { IfOk result (λ r. (r.0.put ≡ []) × (r.1.waits ≡ [])) }

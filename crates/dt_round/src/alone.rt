@@ -29,7 +29,7 @@ impl<S: Scheduler> Rounds<Region<S>> for Alone {
     }
 }
 
-/// Finishes a round on its way, of a region of so many, on the calling thread: inserts, resolves and executes, by these
+/// Finishes a round on its way, of one of n regions, on the calling thread: inserts, resolves and executes, by these
 /// procedures, until nothing is left. After `NoMemory` it has stopped somewhere on the way.
 pub fn finish<S: Scheduler>(
     alloc: Global,
@@ -49,7 +49,7 @@ pub fn finish<S: Scheduler>(
     }
 }
 
-// Makes one step of a region, of so many: it inserts, or else executes, or else resolves. False where there is nothing left
+// Makes one step of one of n regions: it inserts, or else executes, or else resolves. False where there is nothing left
 // to do.
 fn step<S: Scheduler>(
     alloc: Global,

@@ -1,4 +1,4 @@
--- Scaffolding: how the code keeps nodes and links. Each node has a seat, which goes to a thread of its own in a phase, with the
+-- Scaffolding: how the code keeps nodes and links. Each node has a seat, which may go to a thread of its own in a phase, with the
 -- ends of all links of its region. Read `NodesView` for what callers see.
 use Rattle.std.specs.Prelude.{◌≡◌, ◌≢◌, ◌<◌, ◌≤◌, ◌+◌, ◌++◌, ◌∷◌, ℕ, List, [], flat_map, get_or, length, map, Bool, false}
 use Rattle.dt_lists.specs.Lists.{AllIn, Pairwise}

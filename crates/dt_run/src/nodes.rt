@@ -180,7 +180,7 @@ impl<S: Scheduler + Drop + Send> Nodes<S> {
 /// So many events take the turns of a phase longer than threads for them take to start and to end.
 const MANY: u64 = 1024;
 
-/// In how many threads the turns of a phase are made, if it keeps about so many events: in two where it is short, as far as
+/// In how many threads the turns of a phase are made, if it keeps about n events: in two where it is short, as far as
 /// events tell, else in one for each region that there can be.
 fn threads_for(events: u64) -> usize
     ensures { 0 < result }
@@ -188,7 +188,7 @@ fn threads_for(events: u64) -> usize
     if events < MANY { 2 } else { 8 }
 }
 
-/// One turn at every seat, in so many threads where they can be made.
+/// One turn at every seat, in n threads where they can be made.
 fn turn_all<S: Scheduler + Drop + Send, R: Threads + Wait + Sync, G: Gate>(
     rt: &R,
     alloc: Global,
@@ -215,7 +215,7 @@ fn turn_all<S: Scheduler + Drop + Send, R: Threads + Wait + Sync, G: Gate>(
     );
 }
 
-/// One turn at a seat, with rounds of so many workers.
+/// One turn at a seat, with rounds of n workers.
 fn turn_seat<S: Scheduler + Drop + Send, R: Threads + Wait + Sync, G: Gate>(
     rt: &R,
     alloc: Global,

@@ -1,4 +1,4 @@
--- Where each transaction has one home, there is no deadlock, and all is told by single edges.
+-- Where each transaction has one home, there is no deadlock, and single edges decide all.
 use Rattle.std.proofs.Common.{◌≡◌, ◌≢◌, ◌<◌, ◌≤◌, ◌⊎◌, ◌↔◌, ℕ, List, [], ◌∷◌, length, refl, sym, ap, subst, ◌∙◌, inl, inr, arith}
 use Rattle.dt_lists.specs.Lists.{AllIn, SomeThen, Has, EachThen}
 use Rattle.dt_lists.proofs.Callers.{any_at, any_from_at, any_get, any_put, all_get, all_put, all_at, some_map, each_of_image, KeyBefore, key_first}

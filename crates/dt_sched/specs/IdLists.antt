@@ -1,4 +1,4 @@
--- Lists of ids that stand for sets: each id once, in any order or in ascending order, which is how a class is told. A
+-- Lists of ids that stand for sets: each id once, in any order or in ascending order, which is how a class is given. A
 -- scheduler builds what reaches an id and what the id reaches as such lists; their common members are the id's class.
 -- What reaches what stands in Views.antt. Read next: Surroundings.antt, for what is read off these lists.
 use Rattle.std.specs.Prelude.{◌≡◌, ◌⊎◌, ◌↔◌, List}

@@ -15,7 +15,7 @@ pub trait Scheduler: Sized {
 
     ghost spare: { Self → ℕ };
 
-    /// A scheduler for so many regions, with nothing inserted, resolved or done.
+    /// A scheduler for n regions, with nothing inserted, resolved or done.
     fn empty(alloc: Global, regions: u8) -> Result<Self, NoMemory>
         ensures { IfOk result (λ s. seen s ≡ nothing_yet regions) };
 
@@ -50,7 +50,7 @@ pub trait Scheduler: Sized {
         ensures err { OnErr result (seen self.new ≡ seen self.old) }
         ensures spare { spare self.old ≤ spare self.new };
 
-    /// Makes room for at least so many calls of `finish`. Nothing else changes.
+    /// Makes room for at least n calls of `finish`. Nothing else changes.
     fn reserve(&mut self, alloc: Global, places: u32) -> Result<(), NoMemory>
         ensures room { OnOk result (places ≤ spare self.new) }
         ensures same { seen self.new ≡ seen self.old }

@@ -1,5 +1,5 @@
 -- What the proofs of crates above may cite of this crate, and nothing else of `proofs/`. The laws stand here for any order
--- of ids, where `src/laws.rt` has them for an order that a test tells; beside them what a run comes to when it grows, and
+-- of ids, where `src/laws.rt` has them for an order that a test decides; beside them what a run comes to when it grows, and
 -- what a transaction sees after one that it does not clash with.
 pub use Rattle.dt_serial.proofs.Causes.{move_made, reasons}
 pub use Rattle.dt_serial.proofs.History.{across_fewer, chain}

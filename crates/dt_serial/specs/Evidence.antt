@@ -35,7 +35,7 @@ abbrev pub own_outcome : List ProcTree → Txn → Table → Outcome
 own_outcome procs x t = (result_of procs x.id x.body (reads_of x.access (see x t))).0
 
 -- why a transaction that ran after those in front has its outcome, where it is not given values: its procedure aborts on
--- the table that it saw, or it uses a key of the unit that it tells, and one that ran before made the move of that unit
+-- the table that it saw, or it uses a key of the unit that it names, and one that ran before made the move of that unit
 -- that follows those that it was annotated with
 abbrev pub IsGrounded : (procs : List ProcTree) (front whole : List Txn) → Table → Txn → Outcome → Type 0
 IsGrounded procs front whole start x (Gave values) = Unit {0}

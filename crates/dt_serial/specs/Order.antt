@@ -32,7 +32,7 @@ pub record IsDown (order : TxnId → TxnId → Type 0) (ids : List TxnId) : Type
   pub once : Distinct ids
   pub preceders : (u t : TxnId) → Has ids t → order u t → StandsBefore ids u t
 
--- t comes after so many of these moves: the last one of so many is there, and its mover precedes t; of none there is none
+-- t comes after the first n of these moves: the last one of them is there, and its mover precedes t; of none there is none
 abbrev pub FollowsMove : (TxnId → TxnId → Type 0) → List Moved → ℕ → TxnId → Type 0
 FollowsMove order moves zero t = Unit {0}
 FollowsMove order moves (suc c) t = (m : Moved) × (slice_get moves c ≡ Some m) × order m.by t
@@ -87,7 +87,7 @@ pub record IsPart (procs : List ProcTree) (order : TxnId → TxnId → Type 0) (
   pub members : AllIn (λ x. Has history x) txns
   pub down : IsDown order (txn_ids txns)
 
--- the order of two ids that a test tells
+-- the order of two ids that a test decides
 abbrev pub ByTest : (TxnId → TxnId → Bool) → TxnId → TxnId → Type 0
 ByTest precedes u t = precedes u t ≡ true
 

@@ -1,5 +1,5 @@
 //! What holds of serial runs in different orders. Each law is the contract of a function that does nothing. The orders
-//! are told by a test here; the lemmas of `proofs/` have the same for any order.
+//! are shown by a test here; the lemmas of `proofs/` have the same for any order.
 ghost use Rattle.std.specs.Prelude.{◌≡◌, ◌≢◌, ◌⊎◌, ◌↔◌, ◌≤◌, ℕ, Bool, true, List, [], ◌∷◌, ◌++◌, Some, filter, slice_get};
 ghost use Rattle.dt_lists.specs.Lists.{AllIn, AnyIn, EachThen, Has, IsFront};
 ghost use Rattle.dt_access.specs.Ids.{is_among};

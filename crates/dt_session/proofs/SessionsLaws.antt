@@ -252,7 +252,7 @@ placed s name place x p e =
     let own : p.0 ≡ x.1 = ap (λ y. y.1) (sym is) in
     (lt, p.1 ∙ ap (λ seat. Some (name, seat)) own, p.2 ∙ ap Some own, ap (λ y. y.0) is)
 
--- the attempt that comes next for a session has the number that it is told to have
+-- the attempt that comes next for a session has the number that it is said to have
 pub attempt_is : (o : Option Seat) (seat : Seat) (call attempt : ℕ) → o ≡ Some seat → option_map numbers_next o ≡ Some (call, attempt) → attempt ≡ attempt_next seat
 attempt_is o seat call attempt e h =
     let some : ◌≡◌ {A = Option (ℕ × ℕ)} (Some (numbers_next seat)) (Some (call, attempt)) = sym (ap (option_map numbers_next) e) ∙ h in

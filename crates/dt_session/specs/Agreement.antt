@@ -1,7 +1,7 @@
 -- What all regions agree on after a list of events: outcomes, tables, the order of what was answered before it was asked
 -- for, the causes of failures, and, once they are drained of the same logs, all rows. `Agree` is what the program
 -- promises of each list that it reports; that each legal list has it is the law `agreement`. Read next: src/laws.rt of
--- dt_agreement; docs/PROOF.md tells why it is so.
+-- dt_agreement; docs/PROOF.md says why it is so.
 use Rattle.std.specs.Prelude.{◌≡◌, ◌<◌, ℕ, List, [], ◌∷◌, ◌++◌, Option, Some, None}
 use Rattle.dt_lists.specs.Lists.{AnyIn, Has}
 use Rattle.dt_access.specs.Clash.{Bytes}

@@ -1,7 +1,7 @@
 -- The sessions of one region, as their keeper sees them: each with its calls, how many of these are answered, and the
 -- attempt that it waits for, with the number of that attempt. One learns here which session may go on (`MayGo`,
 -- `MayBeAnswered`, in the words of `Tries`), and what submitting an attempt (`after_wait`) and being answered
--- (`after_answer`) change. No world is spoken of: the outcome of the attempt that is waited for is told by whoever asks.
+-- (`after_answer`) change. No world is spoken of: the outcome of the attempt that is waited for is given by whoever asks.
 -- Read next: src/sessions.rt, the keeper; `Step` asks the same of a whole world.
 use Rattle.std.specs.Prelude.{◌≡◌, ◌<◌, ◌≤◌, ◌+◌, ◌-◌, ◌^◌, ℕ, List, length, map, slice_get, Bool, Option, Some, None, option_map, option_and_then}
 use Rattle.std.specs.Ordering.{nat_cmp, is_eq}
@@ -47,7 +47,7 @@ abbrev pub IsSeatAt : SessionsView → Bytes → Option ℕ → Type 0
 IsSeatAt s name None = seat_of s name ≡ None
 IsSeatAt s name (Some place) = (seat : Seat) × (slice_get s.seats place ≡ Some (name, seat)) × (seat_of s name ≡ Some seat)
 
--- the attempt that a session waits for, if it does, with the outcome that it is told to have
+-- the attempt that a session waits for, if it does, with the outcome that it is said to have
 abbrev pub awaited_in : Seat → Option Outcome → Option Awaited
 awaited_in seat last = option_map (λ w. record { attempt = w.attempt; outcome = last }) seat.waits
 
@@ -116,7 +116,7 @@ wanted_of s name call = option_and_then (λ (seat : Seat). slice_get seat.calls 
 abbrev pub AreAllAnswered : SessionsView → Type 0
 AreAllAnswered s = AllIn (λ p. p.1.answered ≡ length p.1.calls) s.seats
 
--- where a session with so many calls can stand: while it waits, at one of its calls, so not all of them are answered;
+-- where a session with n calls can stand: while it waits, at one of its calls, so not all of them are answered;
 -- while it is idle, before one of them or behind the last
 abbrev pub StandsWithin : ℕ → ℕ → Option Waiting → Type 0
 StandsWithin calls answered None = answered ≤ calls

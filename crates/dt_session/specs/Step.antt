@@ -31,7 +31,7 @@ abbrev pub MayAnswer : Cluster → World → ℕ → Option (Session × Place) �
 MayAnswer cluster w region None = ⊥
 MayAnswer cluster w region (Some (session, place)) = MayEnd cluster.tries (awaited_at w region place.waits)
 
--- the regions that an event names exist, in a cluster of so many
+-- the regions that an event names exist, in a cluster of n
 abbrev pub RegionsExist : ℕ → Event → Type 0
 RegionsExist regions (Submit region session) = region < regions
 RegionsExist regions (Append home source number) = (home < regions) × (source < regions)

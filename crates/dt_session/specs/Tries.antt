@@ -30,7 +30,7 @@ pub record Awaited : Type 0 where
   pub attempt : ℕ
   pub outcome : Option Outcome
 
--- a session with so many calls, of which so many are answered: while it waits for nothing it may try its next call, if one is
+-- a session with n calls, of which m are answered: while it waits for nothing it may try its next call, if one is
 -- left; while it waits for an attempt it may try again where that is Stale at its region and was not the last try
 abbrev pub MayTry : ℕ → ℕ → ℕ → Option Awaited → Type 0
 MayTry tries calls answered None = answered < calls

@@ -47,7 +47,7 @@ pub record World : Type 0 where
   pub nodes : List Node
   pub places : List Place
 
--- a region before anything happens, in a cluster of so many regions with this table
+-- a region before anything happens, in a cluster of n regions with this table
 abbrev pub opening_node : ℕ → Table → Node
 opening_node regions table = record {
   submitted = [];

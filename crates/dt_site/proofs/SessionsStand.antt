@@ -232,7 +232,7 @@ module _ {cluster : Cluster} {workload : Workload} {w : World} (k : IsReached cl
             other : is_named name called ≡ true → ⊥
             other e = let no : ◌≡◌ {A = Bool} true false = sym e ∙ z in cc
 
--- what all regions keep tells where each session stands
+-- what all regions keep says where each session stands
 
 -- a session's own place is found by its name and region
 module _ (f : Session → Place) where

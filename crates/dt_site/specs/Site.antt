@@ -40,7 +40,7 @@ node_of p = record {
   here = p.region.state.here;
 }
 
--- a site before anything happens, in a cluster of so many regions, with this table
+-- a site before anything happens, in a cluster of n regions, with this table
 abbrev pub opening_site : ℕ → ℕ → Table → SiteView
 opening_site number regions table = record { region = record { state = opening_state number regions table; events = []; heard = 0; room = 0 }; origins = [] }
 

@@ -22,7 +22,7 @@ pub record IsReached (cluster : Cluster) (workload : Workload) (w : World) : Typ
   pub run : IsLegalRun cluster workload events
   pub after : w ≡ world_after cluster workload events
 
--- the site is the region of this number in a world of so many regions
+-- the site is the region of this number in a world of n regions
 pub record StandsIn (regions : ℕ) (w : World) (region : ℕ) (p : SiteView) : Type 0 where
   -- it has that number, and knows how many regions there are
   pub number : p.region.state.number ≡ region

@@ -45,8 +45,8 @@ impl<S: Scheduler> Model for Site<S> {
 }
 
 impl<S: Scheduler> Site<S> {
-    /// The region of this number before anything happens, in a cluster of so many regions, with this table, which is one
-    /// for so many regions. It fails only for want of memory.
+    /// The region of this number before anything happens, in a cluster of n regions, with this table, which is one
+    /// for n regions. It fails only when out of memory.
     pub fn new(alloc: Global, number: u8, regions: u8, table: Table) -> Result<Self, NoMemory>
         requires number { number < regions }
         requires regions { regions ≤ 8 }

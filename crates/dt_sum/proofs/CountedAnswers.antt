@@ -121,7 +121,7 @@ none_answered (s ∷ sessions) =
     let idle = sum_by-cons (λ (p : Place). p.answered) idle_place (map (λ (session : Session). idle_place) sessions) in
     omega (arith, idle, none_answered sessions)
 
--- where every call is answered, so many are
+-- where every call is answered, that many are
 all_answered : (sessions : List Session) (places : List Place) → length sessions ≡ length places → AreAnswered sessions places → answered_in places ≡ calls_in sessions
 all_answered [] [] long done = refl
 all_answered [] (p ∷ places) long done = absurd (omega (arith, long))

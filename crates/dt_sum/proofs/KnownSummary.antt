@@ -1,4 +1,4 @@
--- What is told of a finished run of the load: as many answers as calls, and the sum that the accounts had at first.
+-- What is reported of a finished run of the load: as many answers as calls, and the sum that the accounts had at first.
 use Rattle.std.proofs.Common.{ap₂, arith}
 use Rattle.dt_sum.specs.Summary.{summary_text}
 use Rattle.dt_sum.specs.Laws.{EachSummaryIsKnown}

@@ -5,7 +5,7 @@ use Rattle.std.proofs.lemmas.List.Sums.{fold_more}
 use Rattle.dt_table.specs.declared.Shown.{Shown}
 use Rattle.dt_sum.specs.Summary.{number_of_row, row_sum}
 
--- the sum of the first so many rows, which is no further from 0 than so many numbers of 64 bits lead
+-- the sum of the first n rows, which is no further from 0 than n numbers of 64 bits lead
 pub record IsSumOf (rows : List Shown) (count : ℕ) (sum : ℤ) : Type 0 where
   pub is : sum ≡ row_sum (take count rows)
   pub low : pos 0 ≤ℤ (sum +ℤ pos (9223372036854775808 * count))

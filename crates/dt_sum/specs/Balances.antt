@@ -1,6 +1,6 @@
 -- What the accounts of the generated load have in a table: each its balance, and all together a total. A table holds the
 -- accounts where it has no rows but theirs, each with a number that is not negative, and a known total. Read next: Summary,
--- for what is told of a run; then Laws, which say that every region holds the accounts at every moment.
+-- for what is reported of a run; then Laws, which say that every region holds the accounts at every moment.
 use Rattle.std.specs.Prelude.{◌≡◌, ◌<◌, ℕ, pos, Option, Some, None}
 use Rattle.std.specs.List.{sum_by}
 use Rattle.dt_text.specs.Texts.{Bytes}

@@ -1,4 +1,4 @@
--- What is told of a run of the generated load: three lines, with the number of its calls, the number of answers that were given,
+-- What is reported of a run of the generated load: three lines, with the number of its calls, the number of answers that were given,
 -- and the sum of the rows of region 0. The last two are read off the report of the run. Of a finished run they are known before,
 -- since each call is answered once and no money is made or lost; so one learns here what `big` writes (`big_text`). Read next:
 -- Laws, among which is that a finished run has this summary.
@@ -41,10 +41,10 @@ abbrev pub summary_text : ℕ → ℕ → ℤ → Bytes
 summary_text calls answers sum =
     line_of (codes "calls" ∷ decimal calls ∷ []) ++ (line_of (codes "answers" ∷ decimal answers ∷ []) ++ line_of (codes "sum" ∷ signed_decimal sum ∷ []))
 
--- what is told of a run of so many calls, by its report
+-- what is reported of a run of n calls, by its report
 abbrev pub summary_of : ℕ → Report → Bytes
 summary_of calls report = summary_text calls (answer_count report.events) (row_sum (first_rows report))
 
--- what is told of a finished run of the load of so many calls
+-- what is reported of a finished run of the load of n calls
 abbrev pub big_text : ℕ → Bytes
 big_text calls = summary_text calls calls (pos 100000)

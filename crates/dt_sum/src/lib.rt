@@ -1,6 +1,6 @@
-//! What is told of a run of the generated load, and the laws of that load: nothing that a run of it does makes or loses money.
+//! What is reported of a run of the generated load, and the laws of that load: nothing that a run of it does makes or loses money.
 //!
-//! Read next: `specs/Balances.antt`, what the accounts have in a table; `specs/Summary.antt`, what is told of a run;
+//! Read next: `specs/Balances.antt`, what the accounts have in a table; `specs/Summary.antt`, what is reported of a run;
 //! `specs/Laws.antt`, what stays so; `src/laws.rt`; `src/summaries.rt`.
 #![tactic(auto)]
 

@@ -9,8 +9,8 @@ use dt_text::{NoMemory, Value};
 use itoa::{Buffer, Integer};
 use std::alloc::Global;
 
-/// What is told of a run of the load of so many calls, by its report: a line with the number of calls, one with the number of
-/// answers, and one with the sum of the rows of region 0. The only error is want of memory.
+/// What is reported of a run of the load of n calls, by its report: a line with the number of calls, one with the number of
+/// answers, and one with the sum of the rows of region 0. The only error is running out of memory.
 pub fn summary(alloc: Global, calls: u32, report: &Report) -> Result<Vec<u8>, NoMemory>
     ensures { IfOk result (λ text. text.items ≡ summary_of calls report.now) }
 {

@@ -13,7 +13,7 @@ use Rattle.dt_syntax.specs.Tokens.{tokens_from, with_front, front_token, is_blan
 abbrev pub with_items : List ℕ → Option (List ℕ × List ℕ) → Option (List ℕ × List ℕ)
 with_items read rest = option_map (λ r. (read ++ r.0, r.1)) rest
 
--- bytes that were told already are passed over
+-- bytes that were dealt with already are passed over
 pub passed : (told at : ℕ) (bs : List ℕ) → tokens_from told at bs ≡ tokens_from 0 (at + told) (drop told bs)
 unfolding tokens_from
 passed zero at bs = ap (λ n. tokens_from 0 n bs) (omega arith)

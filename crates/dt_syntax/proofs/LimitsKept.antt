@@ -204,7 +204,7 @@ keys_few e j (k ∷ ks) is low h =
     let rest : suc j + length ks ≤ 16 = keys_few (backwards (key_tokens k) e) (suc j) ks now (omega arith) more in
     omega arith
 
--- no `)` in the procedure so far, and so many commas
+-- no `)` in the procedure so far, and n commas
 abbrev InParams : List Placed → ℕ → Type 0
 InParams e j = (in_proc is_close e ≡ 0) × (in_proc is_comma e ≡ j)
 

@@ -1,5 +1,5 @@
--- The first pass tells whether a text is made of what procedures are made of: syntax, and what is one too many. The text
--- is read from the front, and the first fault by place is told, so that it is one fault whoever looks for it. Names and
+-- The first pass decides whether a text is made of what procedures are made of: syntax, and what is one too many. The text
+-- is read from the front, and the first fault by place is reported, so that it is one fault whoever looks for it. Names and
 -- kinds are left to the second pass. Read next: Limits, for what the second pass may rest on.
 use Rattle.std.specs.Prelude.{◌≡◌, ◌⊎◌, ℕ, ◌+◌, ◌-◌, Bool, true, false, if◌then◌else◌, ◌&&◌, ◌||◌, ◌==◌, nat_le, nat_lt, List, [], ◌∷◌, ◌++◌, length, Some, None}
 use Rattle.dt_syntax.specs.declared.token.Token.{Token}

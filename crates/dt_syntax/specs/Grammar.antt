@@ -1,6 +1,6 @@
 -- The grammar of procedures. A syntax tree has a place for each of its tokens; what it spells is the list of its tokens
 -- from left to right, rule for rule as in the grammar that stands beside each function. A text belongs to the grammar
--- where its tokens are what some procedures spell. Read next: FirstPass, for what is told of a text that does not.
+-- where its tokens are what some procedures spell. Read next: FirstPass, for what is reported of a text that does not.
 use Rattle.std.specs.Prelude.{◌≡◌, ℕ, suc, ◌<◌, ◌≤◌, ℤ, Bool, true, false, List, [], ◌∷◌, ◌++◌, map}
 use Rattle.std.specs.List.{flat_map}
 use Rattle.dt_lists.specs.Lists.{AllIn}

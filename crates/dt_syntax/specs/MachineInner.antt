@@ -3,7 +3,7 @@
 -- the first symbol: it is taken, and what it begins is expected in the symbol's place; or the symbol may be left out, and
 -- the token is put to the next one; or it is refused. That the machine goes on exactly where some procedures begin with
 -- the tokens so far is proved, so no public statement speaks of it. Read Grammar for the grammar, and FirstPass for what
--- is told of a text.
+-- is reported for a text.
 use Rattle.std.specs.Prelude.{ℕ, zero, suc, Bool, true, false, if◌then◌else◌, ◌==◌, nat_le, ◌≡◌, List, [], ◌∷◌, ◌++◌, Option, Some, None}
 use Rattle.dt_syntax.specs.declared.operator.Op.{Op}
 use Rattle.dt_syntax.specs.declared.operator.Op.TheVariants as op

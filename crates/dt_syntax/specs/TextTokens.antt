@@ -7,7 +7,7 @@ use Rattle.dt_text.specs.Printed.{text_word}
 use Rattle.dt_syntax.specs.declared.token.Token.TheVariants.{Text}
 use Rattle.dt_syntax.specs.Tokens.{text_after}
 
--- the `"` and these bytes after it begin with the text word of the text, which has so many bytes
+-- the `"` and these bytes after it begin with the text word of the text, which has n bytes
 pub record IsTextWordBefore (bytes text_bytes : List ℕ) (size : ℕ) : Type 0 where
   pub text : IsStr text_bytes
   pub rest : List ℕ

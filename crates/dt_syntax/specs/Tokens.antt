@@ -157,7 +157,7 @@ with_front at None rest = record { tokens = []; bad = Some at }
 with_front at (Some sized) rest =
     record (rest (sized.1 - 1)) { tokens = record { place = at; token = sized.0 } ∷ (rest (sized.1 - 1)).tokens }
 
--- the tokens of bytes that stand from a place of the text on, the first few of which belong to what was told already
+-- the tokens of bytes that stand from a place of the text on, the first few of which belong to what was read already
 unfoldable pub tokens_from : ℕ → ℕ → List ℕ → Lexed
 tokens_from told at [] = record { tokens = []; bad = None }
 tokens_from (suc told) at (b ∷ bs) = tokens_from told (at + 1) bs

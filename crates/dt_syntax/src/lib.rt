@@ -2,7 +2,7 @@
 //!
 //! [`read_tokens`] cuts a text into tokens and tests it as a whole for what it is made of. It answers the
 //! tokens, each with its place, where they are those of some procedures of the grammar and none is one too
-//! many; and else the first fault by place. What names mean and which kinds fit is told by the second
+//! many; and else the first fault by place. What names mean and which kinds fit is reported by the second
 //! pass, in the crate above.
 //!
 //! The first pass keeps a stack of what may come next (`machine`) and some counts (`counts`); that the

@@ -70,7 +70,7 @@ impl Rows {
         self.get(key).is_some()
     }
 
-    /// Makes room for so many keys. Nothing else changes, whatever the answer.
+    /// Makes room for n keys. Nothing else changes, whatever the answer.
     pub fn reserve(&mut self, places: usize) -> Result<(), NoMemory>
         ensures entries { self.new.entries ≡ self.old.entries }
         ensures room { OnOk result (places ≤ self.new.spare) }

@@ -67,7 +67,7 @@ impl Model for Table {
 }
 
 impl Table {
-    /// A table before any transaction, of a cluster of this version with so many regions: these rows have these values,
+    /// A table before any transaction, of a cluster of this version with n regions: these rows have these values,
     /// and no unit was moved. A unit that `homes` does not list has its first byte modulo `regions` as its home.
     pub fn new(
         alloc: Global,
@@ -164,7 +164,7 @@ impl Table {
         }
     }
 
-    /// Makes room for so many writes and moves, of any keys. Nothing else changes, whatever the answer.
+    /// Makes room for n writes and moves, of any keys. Nothing else changes, whatever the answer.
     pub fn reserve(&mut self, places: u32) -> Result<(), NoMemory>
         ensures state { self.new.state ≡ self.old.state }
         ensures room { OnOk result (places ≤ self.new.spare) }

@@ -79,7 +79,7 @@ fn told(alloc: Global, file: &[u8]) -> Result<Vec<u8>, Fail> {
     }
 }
 
-/// Files, each with what is told of it.
+/// Files, each with what is reported of it.
 const FILES: [(&[u8], &str); 83] = [
     (b"regions =", "whole NotToml"),
     (b"regions = 1\nregions = 2", "whole NotToml"),
@@ -234,7 +234,7 @@ fn each_file_is_a_cluster_or_has_a_first_fault(rt: HostRuntime) -> Result<(), Fa
     Ok(())
 }
 
-/// A file with so many homes and rows, from number 100 on.
+/// A file with n homes and rows, from number 100 on.
 fn many_keys(alloc: Global, count: u32) -> Result<Vec<u8>, Fail> {
     let mut file = b"regions = 1\n[homes]\n".to_vec(alloc)?;
     for number in 100..100 + count.min(800) {

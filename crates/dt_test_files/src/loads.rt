@@ -9,7 +9,7 @@ use dt_workload::Workload;
 use std::alloc::Global;
 use std::test::Fail;
 
-/// The load of so many calls.
+/// The load of n calls.
 fn load_of(alloc: Global, calls: u32) -> Result<(Cluster, Workload), Fail> {
     if calls < 1 || calls > 20000 {
         return Err(Fail::from("a load has 1 to 20,000 calls"));
@@ -17,7 +17,7 @@ fn load_of(alloc: Global, calls: u32) -> Result<(Cluster, Workload), Fail> {
     Ok(generate(alloc, calls)?)
 }
 
-/// A session of the load of so many calls, in words.
+/// A session of the load of n calls, in words.
 fn session_of(alloc: Global, calls: u32, session: usize) -> Result<Vec<u8>, Fail> {
     let (_, workload) = load_of(alloc, calls)?;
     let mut out = Vec::new(alloc);

@@ -63,7 +63,7 @@ fn shown(alloc: Global, workload: &Workload) -> Result<Vec<u8>, NoMemory> {
     Ok(out)
 }
 
-/// A copy of the workload of a file, in words, or its first fault, in a cluster of so many regions.
+/// A copy of the workload of a file, in words, or its first fault, in a cluster of n regions.
 fn told(alloc: Global, regions: u8, file: &[u8]) -> Result<Vec<u8>, Fail> {
     if regions < 1 || regions > 8 {
         return Err(Fail::from("a cluster has 1 to 8 regions"));
@@ -102,7 +102,7 @@ fn cluster_of(alloc: Global, file: &[u8]) -> Result<Cluster, Fail>
     }
 }
 
-/// Files, each with what is told of it in a cluster of two regions.
+/// Files, each with what is reported of it in a cluster of two regions.
 const FILES: [(&[u8], &str); 67] = [
     (b"", ""),
     (b"\n   \n # \xff\t\n", ""),
@@ -220,7 +220,7 @@ fn in_version_2_a_move_is_of_a_granule(rt: HostRuntime) -> Result<(), Fail> {
     Ok(())
 }
 
-/// A file of so many sessions, at each of so many regions in turn.
+/// A file of n sessions, at each of m regions in turn.
 fn sessions(alloc: Global, regions: u8, count: u32) -> Result<Vec<u8>, Fail> {
     let mut file = Vec::new(alloc);
     for number in 0..count {
@@ -251,7 +251,7 @@ fn a_region_has_64_sessions(rt: HostRuntime) -> Result<(), Fail> {
     Ok(())
 }
 
-/// A session with so many moves of the same key, and what follows.
+/// A session with n moves of the same key, and what follows.
 fn moves(alloc: Global, count: u32, back: &[u8]) -> Result<Vec<u8>, Fail> {
     let mut file = b"session a at 0\n".to_vec(alloc)?;
     for _ in 0..count {

@@ -76,7 +76,7 @@ fn add_all(seed: &mut u64, parts: &mut Vec<Wide>, seq: u32) -> Result<(), Fail> 
     Ok(())
 }
 
-/// The parts of so many transactions, in some order.
+/// The parts of n transactions, in some order.
 fn some_parts(alloc: Global, seed: &mut u64, txns: u32) -> Result<Vec<Wide>, Fail> {
     let mut parts = Vec::new(alloc);
     for seq in 0..txns {
@@ -304,7 +304,7 @@ fn step(
     }
 }
 
-/// Whether both answer alike now and after each of so many steps.
+/// Whether both answer alike now and after each of n steps.
 fn steps(
     alloc: Global,
     seed: &mut u64,
@@ -369,7 +369,7 @@ fn go_on(
     steps(alloc, seed, plain, queue, ids, 40)
 }
 
-/// Whether both answer alike in a drawn run of so many transactions.
+/// Whether both answer alike in a drawn run of n transactions.
 fn are_alike(alloc: Global, start: u64, txns: u32) -> Result<bool, Fail> {
     let mut seed = start;
     let parts = some_parts(alloc, &mut seed, txns)?;

@@ -6,7 +6,7 @@ use dt_class::Adj;
 use std::alloc::Global;
 use std::test::Fail;
 
-/// The graph of so many vertices with these edges, as far as they lead from vertices to vertices.
+/// The graph of n vertices with these edges, as far as they lead from vertices to vertices.
 fn graph(alloc: Global, vertices: u32, edges: &[(u32, u32)]) -> Result<Adj, Fail>
     ensures { IfOk result (λ graph. graph.vertices ≡ vertices) }
 {
@@ -92,7 +92,7 @@ fn line(alloc: Global, vertices: u32, closed: bool) -> Result<Vec<(u32, u32)>, F
     Ok(edges)
 }
 
-/// Whether a line of 500 vertices is closed, what is asked of a vertex, and how many are told.
+/// Whether a line of 500 vertices is closed, what is asked of a vertex, and how many are given.
 const LINES: [(bool, Ask, u32, usize); 5] = [
     (false, Ask::Behind, 0, 500),
     (false, Ask::Behind, 499, 1),

@@ -60,7 +60,7 @@ fn neighbours_without(
     }
 }
 
-/// The followers of an entry, one after the other, as far as there are no more than so many.
+/// The followers of an entry, one after the other, as far as there are no more than n.
 fn followers_of(alloc: Global, queues: &Queues, slot: usize, most: usize) -> Result<Vec<u32>, Fail>
     requires { IsQueued queues.now slot }
 {

@@ -69,7 +69,7 @@ fn loaded<S: Scheduler + Drop>(alloc: Global, regions: u8, rows: &[Row]) -> Resu
     Ok(sched)
 }
 
-/// All that is ready, in ascending order, as the scheduler tells one after another.
+/// All that is ready, in ascending order, as the scheduler gives one after another.
 pub fn ready<S: Scheduler + Drop>(alloc: Global, sched: &S) -> Result<Vec<TxnId>, Fail> {
     let mut ids = Vec::new(alloc);
     for _ in 0..100 {

@@ -404,7 +404,7 @@ fn a_call_uses_keys_of_128_bytes_and_no_longer_ones(rt: HostRuntime) -> Result<(
     Ok(())
 }
 
-/// A procedure with so many variables, each greater by one than the one before, which gives the last.
+/// A procedure with n variables, each greater by one than the one before, which gives the last.
 fn counting(alloc: Global, variables: u32) -> Result<Vec<u8>, Fail> {
     let mut text = b"proc f(k: text) read a = k; { let v0 = 0; ".to_vec(alloc)?;
     for number in 1..variables {

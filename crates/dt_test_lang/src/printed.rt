@@ -61,7 +61,7 @@ fn put_key(alloc: Global, out: &mut Vec<u8>, key: &KeyDecl) -> Result<(), NoMemo
     put(out, b"; ")
 }
 
-/// A fault: its cause and its place. Want of memory is told as such.
+/// A fault: its cause and its place. Running out of memory is reported as such.
 pub fn put_fault(alloc: Global, out: &mut Vec<u8>, fault: ProcError) -> Result<(), NoMemory> {
     let (word, place) = match fault {
         ProcError::Syntax(place) => (b"Syntax ".as_slice(), place),

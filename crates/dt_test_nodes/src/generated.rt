@@ -11,7 +11,7 @@ use std::sync::Wait;
 use std::test::Fail;
 use std::thread::Threads;
 
-/// How many replies the report of a run of a load of so many calls has, and the sum of the rows that it shows of region 0.
+/// How many replies the report of a run of a load of n calls has, and the sum of the rows that it shows of region 0.
 fn told<R: Threads + Wait + Sync>(rt: &R, alloc: Global, calls: u32) -> Result<(usize, i128), Fail>
     requires some { 1 ≤ calls }
     requires few { calls ≤ 20000 }

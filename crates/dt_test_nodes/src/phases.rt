@@ -91,7 +91,7 @@ fn phases_of<R: Threads + Wait + Sync>(
 const TWO: &[u8] =
     b"session p at 0\ncall xfer \"b\" \"a\" 3\nsession q at 1\ncall xfer \"a\" \"b\" 4\n";
 
-/// Loss plans: every so many-th packet is lost, and of those that are not, every so many-th comes twice.
+/// Loss plans: every n-th packet is lost, and of those that are not, every n-th comes twice.
 const DROPS: [u32; 5] = [0, 2, 3, 4, 5];
 
 const REPEATS: [u32; 4] = [0, 1, 2, 3];
@@ -118,7 +118,7 @@ fn two_transfers_are_done_after_few_phases_whatever_is_lost(rt: HostRuntime) -> 
     Ok(())
 }
 
-/// A session at region 0 that makes so many calls.
+/// A session at region 0 that makes n calls.
 fn backlog(alloc: Global, calls: u32) -> Result<Vec<u8>, Fail> {
     let mut file = b"session a at 0\n".to_vec(alloc)?;
     for _call in 0..calls {

@@ -9,13 +9,13 @@ use Rattle.dt_region.specs.Region.{RegionView, latest_stamp}
 use Rattle.dt_region.specs.Conditions.{HoldsValid}
 use Rattle.dt_round.specs.Rounds.{CanRound}
 
--- the region was fed so many parts, of calls of these procedures, and has done nothing else
+-- the region was fed n parts, of calls of these procedures, and has done nothing else
 pub record WasFed (procs : List ProcTree) (count : ℕ) (r : RegionView) : Type 0 where
   -- each transaction that it holds is valid for them
   pub holds : HoldsValid procs r.state
   -- no unit was moved
   pub unmoved : (key : Bytes) → counter_of r.state.here.table key ≡ 0
-  -- its logs have so many parts together
+  -- its logs have n parts together
   pub parts : parts_in r.state.logs ≡ count
   -- each delivery took one stamp
   pub stamp : latest_stamp r ≡ count

@@ -108,7 +108,7 @@ fn held_or_new<S: Scheduler>(
     }
 }
 
-/// Delivers a part to a region, which was fed so many before.
+/// Delivers a part to a region, which was fed n before.
 fn feed<S: Scheduler>(
     alloc: Global,
     region: &mut Region<S>,

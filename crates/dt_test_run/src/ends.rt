@@ -1,4 +1,4 @@
-//! The ends of a link: packets that are told by their stamps.
+//! The ends of a link: packets that are known by their stamps.
 use dt_packet::{Inlet, Outlet, Packet};
 use dt_text::{NoMemory, put_u64};
 use dt_txn::{Entries, Txns};

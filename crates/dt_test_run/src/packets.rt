@@ -24,7 +24,7 @@ fn txn(alloc: Global, seq: u32) -> Result<Txn, Fail> {
     })
 }
 
-/// A packet with so many requests and so many entries.
+/// A packet with n requests and m entries.
 fn packet(alloc: Global, count: u32) -> Result<Packet, Fail> {
     let mut asked = Txns::new(alloc);
     let mut entries = Entries::new(alloc);
@@ -96,7 +96,7 @@ fn told(alloc: Global, packet: &Packet) -> Result<Vec<u8>, Fail> {
     Ok(out)
 }
 
-/// How many requests and entries a packet has, and how it is told.
+/// How many requests and entries a packet has, and how it is shown.
 const TOLD: [(u32, &[u8]); 3] = [
     (0, b"1 2 30 4 5 6 7 "),
     (1, b"1 2 30 4 5 6 7 1.0^3b@0#1 1:1.0^3b@0#1 "),

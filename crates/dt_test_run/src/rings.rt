@@ -30,7 +30,7 @@ fn step(
     }
 }
 
-/// What comes of some steps on a ring of so many places. The stamp of a packet is the place of its step.
+/// What comes of some steps on a ring of n places. The stamp of a packet is the place of its step.
 fn played(alloc: Global, places: u32, steps: &[u8]) -> Result<Vec<u8>, Fail> {
     let (mut outlet, mut inlet) = ring(alloc, places)?;
     let mut out = Vec::new(alloc);
@@ -72,7 +72,7 @@ fn what_is_put_is_taken_in_order_once_the_ends_were_beside_each_other(
     Ok(())
 }
 
-/// Puts so many packets with rising stamps, and tells how many came back.
+/// Puts n packets with rising stamps, and counts how many came back.
 fn put_all(alloc: Global, outlet: &mut RingOut, first: u64, puts: u32) -> u32
     ensures { SameOut outlet.old outlet.new }
 {
@@ -88,7 +88,7 @@ fn put_all(alloc: Global, outlet: &mut RingOut, first: u64, puts: u32) -> u32
     refused
 }
 
-/// Takes packets until none is known to wait, at most so many, and adds the stamp of each and a `,`.
+/// Takes packets until none is known to wait, at most n, and adds the stamp of each and a `,`.
 fn take_all(alloc: Global, inlet: &mut RingIn, most: u32) -> Result<Vec<u8>, NoMemory>
     ensures { SameIn inlet.old inlet.new }
 {
@@ -103,7 +103,7 @@ fn take_all(alloc: Global, inlet: &mut RingIn, most: u32) -> Result<Vec<u8>, NoM
     Ok(out)
 }
 
-/// A phase: so many packets are put in one thread, while in another all are taken that are known to wait. Tells how many came
+/// A phase: n packets are put in one thread, while in another all are taken that are known to wait. Counts how many came
 /// back, and the stamps of those that were taken.
 fn phase<R: Threads>(
     rt: &R,
@@ -124,7 +124,7 @@ fn phase<R: Threads>(
     Ok((refused, taken?))
 }
 
-/// What comes of phases on a ring of so many places, in each of which so many packets are put: a `!` for each that comes
+/// What comes of phases on a ring of n places, in each of which m packets are put: a `!` for each that comes
 /// back, the stamps of those that are taken, and a `|` where the ends are beside each other.
 fn phases<R: Threads>(rt: &R, alloc: Global, places: u32, puts: &[u32]) -> Result<Vec<u8>, Fail> {
     let (mut outlet, mut inlet) = ring(alloc, places)?;

@@ -4,7 +4,7 @@ use dt_packet::{Inlet, Outlet, Shelf};
 use std::alloc::Global;
 use std::test::Fail;
 
-/// What comes of some steps on a shelf of so many places: at each `+` a packet is put, whose stamp is the place of the step,
+/// What comes of some steps on a shelf of n places: at each `+` a packet is put, whose stamp is the place of the step,
 /// and at each `-` one is taken.
 fn played(alloc: Global, places: u32, steps: &[u8]) -> Result<Vec<u8>, Fail> {
     let mut shelf = Shelf::new(alloc, places)?;
@@ -42,7 +42,7 @@ fn sent<T: Send>(value: T) -> T {
     value
 }
 
-/// The stamps that are taken, until none waits, from a shelf of so many places on which so many packets were put.
+/// The stamps that are taken, until none waits, from a shelf of n places on which m packets were put.
 fn held(alloc: Global, places: u32, puts: u32) -> Result<Vec<u64>, Fail> {
     let mut shelf = Shelf::new(alloc, places)?;
     for stamp in 0..puts {

@@ -1,4 +1,4 @@
-//! Tests of what one region has: its rows, its transactions, and what is reported of them, or told of a generated load.
+//! Tests of what one region has: its rows, its transactions, and what is reported of them, or of a generated load.
 //! Each is a table of outside values with one loop and one assertion; there is no other code here.
 #![tactic(auto)]
 

@@ -50,7 +50,7 @@ fn some_values(alloc: Global) -> Result<Values, Fail> {
     Ok(values)
 }
 
-/// Answers of a session `a`, so many, each with a copy of an outcome.
+/// Answers of a session `a`, n of them, each with a copy of an outcome.
 fn replies_of(alloc: Global, outcome: &Outcome, count: u32) -> Result<Replies, Fail> {
     let mut replies = Replies::new(alloc);
     for _ in 0..count {
@@ -63,7 +63,7 @@ fn replies_of(alloc: Global, outcome: &Outcome, count: u32) -> Result<Replies, F
     Ok(replies)
 }
 
-/// Executed attempts of a session `p`, so many, each with a copy of an outcome.
+/// Executed attempts of a session `p`, n of them, each with a copy of an outcome.
 fn rans_of(alloc: Global, outcome: &Outcome, count: u32) -> Result<Rans, Fail> {
     let mut order = Rans::new(alloc);
     for _ in 0..count {
@@ -78,7 +78,7 @@ fn rans_of(alloc: Global, outcome: &Outcome, count: u32) -> Result<Rans, Fail> {
     Ok(order)
 }
 
-/// Two tables: one with so many rows, each without a value, and one with none.
+/// Two tables: one with n rows, each without a value, and one with none.
 fn tables_of(alloc: Global, count: u32) -> Result<Tables, Fail> {
     let mut rows = ShownList::new(alloc);
     for _ in 0..count {
@@ -95,7 +95,7 @@ fn tables_of(alloc: Global, count: u32) -> Result<Tables, Fail> {
     Ok(tables)
 }
 
-/// The report of so many answers, attempts and rows, with this outcome.
+/// The report of n answers, attempts and rows, with this outcome.
 fn told(alloc: Global, what: What, count: u32) -> Result<Vec<u8>, Fail> {
     let outcome = outcome_of(alloc, what)?;
     let report = Report {

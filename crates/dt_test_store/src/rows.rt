@@ -130,7 +130,7 @@ fn told(
     Ok(out)
 }
 
-/// Changes, a key, and what is told of them.
+/// Changes, a key, and what is reported of them.
 const ROWS: [(&[(&[u8], Change)], &[u8], &[u8]); 10] = [
     // A key has its listed home, or its first byte modulo the regions.
     (&[], b"ab", b"none@0 - -; b=7@2*0"),
@@ -182,7 +182,7 @@ fn rows_have_what_the_changes_gave_them(rt: HostRuntime) -> Result<(), Fail> {
     Ok(())
 }
 
-/// A version, changes, a key, and what is told of them.
+/// A version, changes, a key, and what is reported of them.
 const UNITS: [(u8, &[(&[u8], Change)], &[u8], &[u8]); 6] = [
     // In version 1 a move of `b` leaves `b/1` where it is.
     (
@@ -239,7 +239,7 @@ fn a_move_takes_along_all_keys_of_its_unit(rt: HostRuntime) -> Result<(), Fail> 
     Ok(())
 }
 
-/// How much is told of a key after so many moves of it, each with a write of another key.
+/// How much is reported of a key after n moves of it, each with a write of another key.
 fn length_of_many(alloc: Global, count: u32) -> Result<usize, Fail> {
     let mut table = opened(alloc, 1)?;
     for number in 0..count {

@@ -1,4 +1,4 @@
-//! What is told of runs of generated loads, by reports that were made by hand.
+//! What is reported of runs of generated loads, by reports that were made by hand.
 use dt_events::read_events;
 use dt_report::{EventList, Rans, Replies, Report, Tables};
 use dt_sum::summary;
@@ -40,7 +40,7 @@ fn events_of(alloc: Global, file: &str) -> Result<EventList, Fail> {
     Ok(events)
 }
 
-/// What is told of a run of so many calls, which made these events and left rows of these numbers in each region.
+/// What is reported of a run of n calls, which made these events and left rows of these numbers in each region.
 fn told(alloc: Global, calls: u32, file: &str, regions: &[&[i64]]) -> Result<Vec<u8>, Fail> {
     let mut tables = Tables::new(alloc);
     for numbers in regions {
@@ -55,7 +55,7 @@ fn told(alloc: Global, calls: u32, file: &str, regions: &[&[i64]]) -> Result<Vec
     Ok(summary(alloc, calls, &report)?)
 }
 
-/// Runs: the number of calls, the events, the numbers in the rows of each region, and what is told.
+/// Runs: the number of calls, the events, the numbers in the rows of each region, and what is reported.
 const RUNS: [(u32, &str, &[&[i64]], &str); 6] = [
     (
         1,

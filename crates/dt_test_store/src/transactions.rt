@@ -98,7 +98,7 @@ fn parts_told(alloc: Global, version: u8, key: &[u8], target: u8) -> Result<Vec<
     Ok(out)
 }
 
-/// A version, a key, its target, and what is told of its move.
+/// A version, a key, its target, and what is reported of its move.
 const PARTS: [(u8, &[u8], u8, &[u8]); 4] = [
     (1, b"b", 0, b"0 2 0^3:wb@0@2 2^3:wb@0@2 0^3:wb@0@2 "),
     (1, b"a", 2, b"1 2 1^3:wa@1@2 2^3:wa@1@2 2^3:wa@1@2 "),
@@ -232,7 +232,7 @@ fn told(alloc: Global, version: u8, key: &[u8], is_moved: bool) -> Result<Vec<u8
     told_on(alloc, key, &table)
 }
 
-/// A version, a key, whether `b` was moved, and what is told of a move of the key.
+/// A version, a key, whether `b` was moved, and what is reported of a move of the key.
 const OUTCOMES: [(u8, &[u8], bool, &[u8]); 6] = [
     (1, b"b", false, b"b 5 0 : gave 0, writes 0, moves b 0 2.0"),
     (1, b"b", true, b"b 5 1 1.1: stale b 0 1.1, writes 0"),

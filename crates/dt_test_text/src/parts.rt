@@ -61,7 +61,7 @@ fn part_of(alloc: Global, uses: &[Use]) -> Result<Part, Fail> {
     })
 }
 
-/// Whether parts that use keys so clash, and whether they do where they are told the other way round.
+/// Whether parts that use keys so clash, and whether they do where they are given the other way round.
 fn clashes(alloc: Global, left: &[Use], right: &[Use]) -> Result<(bool, bool), Fail> {
     let left = part_of(alloc, left)?;
     let right = part_of(alloc, right)?;

@@ -3,7 +3,7 @@ use crate::scripts::{File, Play, Script};
 use crate::sizes::{one_home_each, one_row_each};
 use std::test::Fail;
 
-/// Transfers in a circle, one at each of so many regions: from the row of its region, which has 10 more than the number of the region,
+/// Transfers in a circle, one at each of n regions: from the row of its region, which has 10 more than the number of the region,
 /// to the row of the next one, and of the last region to that of the first. The ids are these; the ranks are one, or descend while the
 /// ids ascend.
 pub fn circle(play: &mut Play, regions: u32, ids: &str, descending: bool) -> Result<(), Fail> {

@@ -8,13 +8,13 @@ use std::test::Fail;
 /// What is many.
 #[derive(Clone, Copy, Debug)]
 enum Size {
-    /// Transfers in a circle, one at each of so many regions; their ids, and whether their ranks descend while their ids ascend.
+    /// Transfers in a circle, one at each of n regions; their ids, and whether their ranks descend while their ids ascend.
     Circle(u32, &'static str, bool),
     /// Transfers of all ranks, which wait for each other.
     Ranks,
-    /// A call over so many homes.
+    /// A call over n homes.
     Homes(u32),
-    /// A call that may be tried so often, and so many moves of its row meanwhile.
+    /// A call that may be tried so often, and n moves of its row meanwhile.
     Tries(u32, u32),
     /// Sessions at up to five regions, and the calls of each.
     Calls(u32, u32),
@@ -95,7 +95,7 @@ fn there_are_many_homes_tries_calls_sessions_and_rows(rt: HostRuntime) -> Result
     Ok(())
 }
 
-/// The beginning of a cluster of so many regions, each the home of one key.
+/// The beginning of a cluster of n regions, each the home of one key.
 pub fn one_home_each(cluster: &mut File, regions: u32) -> Result<(), Fail> {
     cluster.add("regions = #\n[homes]", &[regions])?;
     for home in 0..regions {
@@ -157,7 +157,7 @@ fn run_call(events: &mut Script, homes: u32, region: u32) -> Result<(), Fail> {
     events.add("execute # 1.0", &[region])
 }
 
-/// Sessions at up to five regions by turns, each with so many calls: puts of keys of their own, at home in the region of the session.
+/// Sessions at up to five regions by turns, each with n calls: puts of keys of their own, at home in the region of the session.
 /// One more region receives all logs whole.
 fn calls_of_sessions(play: &mut Play, sessions: u32, calls: u32) -> Result<(), Fail> {
     let homes = sessions.min(5);
@@ -263,7 +263,7 @@ const MOVED: [&str; 18] = [
     "answer 0 p",
 ];
 
-/// A granule of this name, of so many rows. It is moved, and the name itself, which is a key of it too, gets a value.
+/// A granule of this name, of n rows. It is moved, and the name itself, which is a key of it too, gets a value.
 fn rows_of_a_granule(play: &mut Play, rows: u32, name: &str) -> Result<(), Fail> {
     play.cluster.add("regions = 2\nversion = 2\n[rows]", &[])?;
     for line in MOVED_WORKLOAD {

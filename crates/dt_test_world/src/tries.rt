@@ -21,7 +21,7 @@ pub fn tries_of_a_call(play: &mut Play, tries: u32, moves: u32) -> Result<(), Fa
     report_tries(play, tries, moves)
 }
 
-/// How many requests the homes 0 and 1 were asked for by so many moves, each with a try.
+/// How many requests the homes 0 and 1 were asked for by n moves, each with a try.
 fn requests_of(number: u32) -> (u32, u32) {
     (
         number.saturating_add(number.div_ceil(2)),
@@ -66,7 +66,7 @@ fn move_meanwhile(events: &mut Script, tries: u32, number: u32) -> Result<(), Fa
     Ok(())
 }
 
-/// A try after so many moves, and no move meanwhile.
+/// A try after n moves, and no move meanwhile.
 fn try_alone(events: &mut Script, moves: u32) -> Result<(), Fail> {
     let (first, second) = requests_of(moves);
     let (id, _) = ids_of(moves);

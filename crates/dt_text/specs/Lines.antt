@@ -1,5 +1,5 @@
 -- How a file is cut into lines, and which of them count. A file is bytes; byte 10 ends a line, and the last line need not
--- have one. Lines of spaces and lines that begin with `#` are skipped, but keep their number, so that a fault is told by
+-- have one. Lines of spaces and lines that begin with `#` are skipped, but keep their number, so that a fault is reported by
 -- the number that an editor shows. Read next: Words.antt, for what a line is made of.
 use Rattle.std.specs.Prelude.{ℕ, ◌+◌, Bool, true, if◌then◌else◌, ◌==◌, List, [], ◌∷◌}
 use Rattle.std.specs.List.{onto_first}

@@ -55,7 +55,7 @@ impl<X> Listed<X> {
         Ok(())
     }
 
-    /// Makes room for just so many more items. Nothing else changes, whatever the answer.
+    /// Makes room for just n more items. Nothing else changes, whatever the answer.
     pub fn reserve(&mut self, items: usize) -> Result<(), NoMemory>
         ensures { self.new ≡ self.old }
     {

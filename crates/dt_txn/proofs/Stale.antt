@@ -37,7 +37,7 @@ passed : (t : Table) (a : Access) (access : List Access) → counter_of t a.key 
     → stale_of (a ∷ access) (map (seen_of t) (a ∷ access)) ≡ stale_of access (map (seen_of t) access)
 passed t a access few = ap (λ m. stale_at (unit_of t.version a.key) a.counter m (stale_of access (map (seen_of t) access))) (next_mover_none t a.key a.counter few)
 
--- the outcome tells the first entry whose key has more
+-- the outcome names the first entry whose key has more
 first_stale : (t : Table) (access : List Access) (entry : Access) → IsFirstMoved t access entry
     → (by : TxnId) × (next_mover t entry.key entry.counter ≡ Some by) × (stale_of access (map (seen_of t) access) ≡ Some (Stale (unit_of t.version entry.key) entry.counter by))
 first_stale t [] entry first = absurd first

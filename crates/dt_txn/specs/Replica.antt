@@ -33,7 +33,7 @@ pub record Replica : Type 0 where
   pub done : List (TxnId × Outcome)
   pub table : Table
 
--- a region with this table before anything happens, in a cluster of so many
+-- a region with this table before anything happens, in a cluster of n
 abbrev pub opening_replica : ℕ → Table → Replica
 opening_replica regions table = record {
   asked = replicate regions [];
@@ -44,7 +44,7 @@ opening_replica regions table = record {
   table = table;
 }
 
--- the id of a region's next submission, after so many
+-- the id of a region's next submission, after n of them
 abbrev pub next_id : ℕ → ℕ → TxnId
 next_id region submitted = record { seq = submitted + 1; region = region }
 

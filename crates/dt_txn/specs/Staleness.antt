@@ -1,6 +1,6 @@
 -- When a transaction is stale. A transaction names, of each key that it uses, how many moves of its unit the submitting
 -- region knew. Where a table has more, the unit may have gone to another region's log, and the transaction changes
--- nothing; its outcome tells the unit of the first such key, so that the session can try again. `Execution` computes that
+-- nothing; its outcome names the unit of the first such key, so that the session can try again. `Execution` computes that
 -- outcome from the movers; the law `stale_outcomes` says when it comes, by the numbers of moves alone. Read next: that
 -- law in src/laws.rt; docs/MOVES.md follows an example.
 use Rattle.std.specs.Prelude.{◌≡◌, ◌<◌, ◌≤◌, ◌⊎◌, List, [], ◌∷◌}

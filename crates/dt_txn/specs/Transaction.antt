@@ -93,13 +93,13 @@ BodyFits procs version regions (Move key target) = IsUnit version key × (target
 abbrev pub HasItsUses : List ProcTree → Txn → Type 0
 HasItsUses procs txn = (version : ℕ) × (map used_of txn.access ≡ uses_of procs version txn.body)
 
--- what every transaction of a cluster with so many regions is: its access list is in ascending order of distinct keys, and
+-- what every transaction of a cluster with n regions is: its access list is in ascending order of distinct keys, and
 -- its homes are regions
 pub record IsTransaction (regions : ℕ) (txn : Txn) : Type 0 where
   pub ascending : HasAscendingKeys (map used_of txn.access)
   pub homes : AllIn (λ home. home < regions) (homes_of txn)
 
--- a transaction is valid for these procedures, in a cluster of this version with so many regions: its body fits, it uses
+-- a transaction is valid for these procedures, in a cluster of this version with n regions: its body fits, it uses
 -- the keys of its body in their modes, and its homes are regions
 pub record IsValid (procs : List ProcTree) (version : ℕ) (regions : ℕ) (txn : Txn) : Type 0 where
   pub body : BodyFits procs version regions txn.body

@@ -13,7 +13,7 @@ ghost use Rattle.dt_txn.specs.Staleness.{IsFirstMoved, IsMovedSince, IsStaleOutc
 
 /// A transaction is stale on a table exactly where the table has more moves of the unit of some key that it uses than it was
 /// annotated with. Then it changes nothing, and its outcome names the unit of the first such key in the order of its access
-/// list, the number that it was annotated with, and who made the move that follows so many. Else it has the result of its
+/// list, the number that it was annotated with, and who made the move that follows that many. Else it has the result of its
 /// body.
 pub fn stale_outcomes()
     ensures exactly { (procs : List ProcTree) (txn : Txn) (t : Table) →

@@ -1,5 +1,5 @@
 -- Degrees: how a push and the leaving of vertices change them. When vertices leave, the degree of each vertex that stays
--- falls by the number of its entries that follow theirs, all told; these are counted before any entry is taken out.
+-- falls by the number of its entries that follow theirs, in all; these are counted before any entry is taken out.
 use Rattle.std.proofs.Common.{◌≡◌, ◌≢◌, ◌+◌, ◌≤◌, ◌⊎◌, ◌∙◌, ℕ, Bool, true, false, ◌&&◌, ◌==◌, not, if◌then◌else◌, List, []}
 use Rattle.std.proofs.Common.{◌∷◌, ◌++◌, length, filter, refl, sym, ap, ap₂, subst, inl, inr, eqb-true, arith}
 use Rattle.std.specs.List.{sum_by, list_any}

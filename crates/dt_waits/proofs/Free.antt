@@ -14,7 +14,7 @@ use Rattle.dt_waits.proofs.Nearest.{neighbour_waits, slot_other, slot_same}
 use Rattle.dt_waits.proofs.Sums.{sum_first}
 use Rattle.dt_waits.proofs.Waiting.{free_by_queues}
 
--- in a list in which nothing stands twice, a place is told by what is there
+-- in a list in which nothing stands twice, a place is known by what is there
 pub same_place : (ids : List TxnId) (u v : ℕ) → Distinct ids → u < length ids → v < length ids → id_at ids u ≡ id_at ids v → u ≡ v
 same_place [] u v d lu lv e = absurd (omega (arith, lu))
 same_place (x ∷ xs) zero zero d lu lv e = refl

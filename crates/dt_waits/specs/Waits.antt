@@ -48,7 +48,7 @@ HoldsUp ids waiting u t =
 abbrev pub others : ℕ → List Waiting → List Waiting
 others vertex entries = filter (λ w. not (w.vertex == vertex)) entries
 
--- the degree of a vertex: how many entries of other vertices its entries have as neighbours, all told
+-- the degree of a vertex: how many entries of other vertices its entries have as neighbours, in all
 abbrev pub degree : List Waiting → ℕ → ℕ
 degree waiting vertex = sum_by (λ w. if w.vertex == vertex then length (others vertex (neighbours waiting w.slot)) else 0) waiting
 
@@ -64,7 +64,7 @@ slots_of waiting vertex = map (λ w. w.slot) (filter (is_of vertex) waiting)
 abbrev pub lowered : List Waiting → ℕ → ℕ → ℕ → ℕ
 lowered waiting slot u v = if u == v then 0 else length (filter (is_of v) (followers waiting slot))
 
--- what the leaving of vertices takes from the degree of v, all told
+-- what the leaving of vertices takes from the degree of v, in all
 abbrev pub lowered_by : List Waiting → List ℕ → ℕ → ℕ
 lowered_by waiting leaving v = sum_by (λ u. sum_by (λ slot. lowered waiting slot u v) (slots_of waiting u)) leaving
 

@@ -1,6 +1,6 @@
 //! What the sessions of a cluster want, and the reader of its file.
 //!
-//! Read next: `specs/Lines.antt` and `specs/File.antt`, what a file means and which fault is told of one that means nothing;
+//! Read next: `specs/Lines.antt` and `specs/File.antt`, what a file means and which fault is reported for one that means nothing;
 //! `specs/Valid.antt`, what every workload is; `src/laws.rt`, that each file has just one outcome.
 #![tactic(auto)]
 

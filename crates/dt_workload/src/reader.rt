@@ -20,7 +20,7 @@ use std::alloc::Global;
 /// lines and those that begin with `#` are skipped. The answer is the workload, or the first faulty line with its cause.
 /// Within a line the causes are tried in this order: `Form`; for a session `Name`, `Twice`, `Region`, `TooMany`; for a
 /// call `NoSession`, `Proc`, `Args`, `Key`, `TooMany`; for a move `NoSession`, `Key`, `Region`, `TooMany`.
-/// That a file is too long is told by who loads it.
+/// That a file is too long is reported by whoever loads it.
 pub fn read_workload(
     alloc: Global,
     bytes: &[u8],

@@ -1,4 +1,4 @@
--- The toolchain asks for this; skip it. It is the code by which proofs tell apart what a report is told by. Read `Telling` for
+-- The toolchain asks for this; skip it. It is the code by which proofs tell apart what a report is written from. Read `Telling` for
 -- what that is.
 use Rattle.std.specs.Prelude.{List, refl}
 use Rattle.std.specs.Coded.{Coded, code_by, coded×, coded_list}

@@ -79,8 +79,8 @@ pub fn report_of_sites<S: Scheduler + Drop>(
     })
 }
 
-/// The text of the report of events, told by the sites of all regions, each as it is after them. What a table shows is told
-/// row by row, so no list is made of it; and the cluster and the workload are let go before, since the text is long.
+/// The text of the report of events, read off the sites of all regions, each as it is after them. What a table shows is written
+/// row by row, so no list is made of it; and the cluster and the workload are freed before, since the text is long.
 pub fn text_of_sites<S: Scheduler + Drop>(
     alloc: Global,
     cluster: Cluster,

@@ -380,7 +380,7 @@ impl<S: Scheduler + Drop> World<S> {
         self.steps
     }
 
-    /// The text of the report of the events that led to this world, from its opening on. The world lets go of what the text
+    /// The text of the report of the events that led to this world, from its opening on. The world frees what the text
     /// does not need before it is made, since the text is long.
     pub fn text(self, alloc: Global, events: &[Event]) -> Result<Vec<u8>, NoMemory>
         requires legal { AreLegal self.cluster self.workload events.now }
