@@ -16,6 +16,8 @@
 //! one hand, as well as a node that has only its own and learns of the others by packets.
 #![tactic(auto)]
 
+mod opened;
 mod site;
 
+pub use opened::{first_table, opening_of};
 pub use site::{Origin, Site};

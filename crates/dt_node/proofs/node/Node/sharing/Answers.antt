@@ -2,7 +2,7 @@ use Rattle.std.proofs.Common.{sym, ap₂, subst, ◌∙◌}
 use Rattle.dt_region.specs.Conditions.{IsTableFor}
 use Rattle.dt_table.specs.Table.{opening}
 use Rattle.dt_site.proofs.Callers.{opening_is_for}
-use Rattle.dt_node.proofs.node.Node.new.Goals as goal
+use Rattle.dt_node.proofs.node.Node.sharing.Goals as goal
 
 pub new-requires-2-clause-table : goal.new-requires-2-clause-table
 new-requires-2-clause-table g c =
