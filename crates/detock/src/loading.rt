@@ -84,9 +84,7 @@ fn cluster_file<F: Folder>(alloc: Global, files: &mut F, name: &str) -> Result<C
     });
     let bytes = load(alloc, files, name, CLUSTER_WORD, too_long)?;
     match read_cluster(alloc, bytes.as_slice()) {
-        // What was read lies above its document, whose memory is free now, but goes back to the system only from the top. A copy
-        // goes where the document lay.
-        Ok(cluster) => Ok(cluster.copy(alloc)?),
+        Ok(cluster) => Ok(cluster),
         Err(ClusterError::Fault(fault)) => Err(Status::BadCluster(fault)),
         Err(ClusterError::NoMemory) => Err(Status::NoMemory),
     }

@@ -390,9 +390,11 @@ impl<S: Scheduler + Drop> World<S> {
         let World {
             cluster,
             workload,
+            sessions,
             sites,
             ..
         } = self;
+        drop(sessions);
         let lent = each_lent(alloc, sites.as_slice())?;
         text_of_sites(alloc, cluster, workload, lent.as_slice(), events)
     }
