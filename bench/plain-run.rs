@@ -8,8 +8,11 @@
 //!     FILE files N FOLDER              makes the files `cluster` and `workload` of the generated load
 //!
 //! It knows just what the loads of `bench/make-load` and of `detock big` have (`plain/load.rs`), and makes all turns in one thread.
+#[allow(dead_code)]
 #[path = "plain/graph.rs"]
 mod graph;
+#[path = "plain/lines.rs"]
+mod lines;
 #[path = "plain/load.rs"]
 mod load;
 #[path = "plain/node.rs"]
@@ -25,7 +28,8 @@ use report::Report;
 use std::io::{self, Write};
 use std::{env, fs, mem, path};
 
-/// All nodes, and of each the packets that wait for it, in ascending order of the regions that sent them.
+/// All nodes, and for each the packets that wait for it, in ascending order of the regions that sent them. A node takes all of them
+/// in its next turn, so no link ever holds more than two.
 struct Nodes<'a> {
     nodes: Vec<Node<'a>>,
     waiting: Vec<Vec<Packet>>,
@@ -40,28 +44,28 @@ impl<'a> Nodes<'a> {
 
     /// One turn of every node. What is sent is there for its target in the next phase.
     fn phase(&mut self) {
-        let mut waiting = mem::take(&mut self.waiting);
-        let mut sent: Vec<Vec<Packet>> = waiting.iter().map(|_| Vec::new()).collect();
-        for (node, packets) in self.nodes.iter_mut().zip(&mut waiting) {
-            node.turn(packets.drain(..), &mut sent);
+        let none = self.nodes.iter().map(|_| Vec::new()).collect();
+        let waiting = mem::replace(&mut self.waiting, none);
+        for (node, packets) in self.nodes.iter_mut().zip(waiting) {
+            node.turn(packets, &mut self.waiting);
         }
-        self.waiting = sent;
     }
 
     /// Whether every call is answered, and every node has executed every attempt.
     fn is_finished(&self) -> bool {
-        let attempts: usize = self.nodes.iter().map(Node::submitted).sum();
-        self.nodes.iter().all(|node| node.is_answered() && node.executed() == attempts)
+        let attempts: usize = self.nodes.iter().map(|node| node.submitted.len()).sum();
+        self.nodes.iter().all(|node| node.is_answered() && node.done.count == attempts)
     }
 
     /// All nodes after a run of a load.
     fn run(load: &'a Load) -> Vec<Node<'a>> {
         let mut nodes = Nodes::new(load);
-        while {
+        loop {
             nodes.phase();
-            !nodes.is_finished()
-        } {}
-        nodes.nodes
+            if nodes.is_finished() {
+                return nodes.nodes;
+            }
+        }
     }
 }
 

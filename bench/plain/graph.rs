@@ -82,6 +82,24 @@ struct Search {
     found: Vec<usize>,
 }
 
+impl Search {
+    /// Of so many stuck ones nothing is found.
+    fn begin(&mut self, count: usize) {
+        self.is_found.clear();
+        self.is_found.resize(count, false);
+        self.found.clear();
+    }
+
+    /// Whether this one was not found before.
+    fn find(&mut self, at: usize) -> bool {
+        let is_new = !mem::replace(&mut self.is_found[at], true);
+        if is_new {
+            self.found.push(at);
+        }
+        is_new
+    }
+}
+
 pub struct Graph {
     vertices: Vec<Vertex>,
     free: Vec<Place>,
@@ -220,9 +238,20 @@ impl Graph {
         }
     }
 
-    /// A transaction that may be executed.
+    /// Some transaction that may be executed.
     pub fn first_ready(&self) -> Option<Place> {
         self.ready.first().copied()
+    }
+
+    /// The transaction of this id, if it may be executed.
+    pub fn ready(&self, id: Id) -> Option<Place> {
+        self.find(id).filter(|place| matches!(self.vertices[*place as usize].state, State::Ready(_)))
+    }
+
+    /// The place of the transaction of this id, if it is here.
+    fn find(&self, id: Id) -> Option<Place> {
+        let places = self.places.get(usize::from(id.region))?;
+        places.get((id.seq as usize).checked_sub(1)?).copied().filter(|place| *place != NOWHERE)
     }
 
     /// What is ready is done: it leaves, or with the last one of its class the class.
@@ -279,7 +308,7 @@ impl Graph {
         vertex.behind.clear();
         (vertex.uses, vertex.class) = (0, None);
         let txn = vertex.txn.take().expect("a transaction that is here");
-        for home in (0..8).filter(|home| txn.homes >> home & 1 == 1) {
+        for home in txn.homes() {
             let (lanes, wholes) = (&mut self.lanes[usize::from(home)], &mut self.wholes[usize::from(home)]);
             for used in txn.part(home) {
                 lanes[used.key as usize].remove(place);
@@ -297,20 +326,32 @@ impl Graph {
         if !self.is_changed || self.stuck.len() < 2 {
             return None;
         }
-        let Some(mut members) = self.find_class() else {
+        let Some(class) = self.find_class() else {
             self.is_changed = false;
             return None;
         };
+        let mut ids: Vec<Id> = class.iter().map(|it| self.txn(*it).id).collect();
+        ids.sort_unstable();
+        self.resolve_class(class);
+        Some(ids)
+    }
+
+    /// Resolves the class of these ids, if they are one.
+    pub fn resolve(&mut self, ids: &[Id]) -> bool {
+        let class: Option<Vec<Place>> = ids.iter().map(|id| self.find(*id)).collect();
+        let Some(class) = class.filter(|class| class.len() >= 2 && self.is_class(class)) else { return false };
+        self.resolve_class(class);
+        true
+    }
+
+    fn resolve_class(&mut self, mut members: Vec<Place>) {
         members.sort_unstable_by_key(|it| (self.txn(*it).rank, self.txn(*it).id));
         for member in &members {
             self.take_off(*member);
             self.vertex(*member).class = Some(self.classes.len());
         }
         self.add_ready(members[0]);
-        let mut ids: Vec<Id> = members.iter().map(|it| self.txn(*it).id).collect();
-        ids.sort_unstable();
         self.classes.push(Class { members, done: 0 });
-        Some(ids)
     }
 
     /// The stuck ones for which a stuck one waits directly, by their places among these.
@@ -322,13 +363,20 @@ impl Graph {
         })
     }
 
-    /// Marks all that the vertices from this place of those found on lead to.
+    /// Of each stuck one, for how much it waits that is not stuck.
+    fn count_others(&self, search: &mut Search) {
+        search.waits.clear();
+        search.waits.extend(self.stuck.iter().map(|it| self.vertices[*it as usize].waits));
+        for at in 0..self.stuck.len() {
+            self.stuck_behind(at).for_each(|other| search.waits[other] -= 1);
+        }
+    }
+
+    /// Finds all stuck ones to which those lead that are found, of which those from this place on were not followed yet.
     fn spread(&self, search: &mut Search, mut from: usize) {
         while let Some(at) = search.found.get(from).copied() {
             for other in self.stuck_behind(at) {
-                if !mem::replace(&mut search.is_found[other], true) {
-                    search.found.push(other);
-                }
+                search.find(other);
             }
             from += 1;
         }
@@ -338,22 +386,18 @@ impl Graph {
     /// their order has to begin anew, with all that leads to it.
     fn find_class(&mut self) -> Option<Vec<Place>> {
         let mut search = mem::take(&mut self.search);
-        let count = self.stuck.len();
-        search.waits.clear();
-        search.waits.extend(self.stuck.iter().map(|it| self.vertices[*it as usize].waits));
-        search.is_found.clear();
-        search.found.clear();
-        for at in 0..count {
-            self.stuck_behind(at).for_each(|other| search.waits[other] -= 1);
+        self.count_others(&mut search);
+        search.begin(self.stuck.len());
+        for at in 0..self.stuck.len() {
+            if search.waits[at] > 0 {
+                search.find(at);
+            }
         }
-        search.is_found.extend(search.waits.iter().map(|waits| *waits > 0));
-        search.found.extend((0..count).filter(|at| search.waits[*at] > 0));
         self.spread(&mut search, 0);
         let mut last = None;
-        for at in 0..count {
-            if !mem::replace(&mut search.is_found[at], true) {
-                let from = search.found.len();
-                search.found.push(at);
+        for at in 0..self.stuck.len() {
+            let from = search.found.len();
+            if search.find(at) {
                 self.spread(&mut search, from);
                 last = Some(at);
             }
@@ -368,13 +412,36 @@ impl Graph {
         for at in 0..self.stuck.len() {
             self.stuck_behind(at).for_each(|other| ahead[other].push(at));
         }
-        let (mut is_found, mut found) = (vec![false; self.stuck.len()], vec![last]);
-        is_found[last] = true;
+        let mut search = Search::default();
+        search.begin(self.stuck.len());
+        search.find(last);
         let mut from = 0;
-        while let Some(at) = found.get(from).copied() {
-            found.extend(ahead[at].iter().filter(|it| !mem::replace(&mut is_found[**it], true)));
+        while let Some(at) = search.found.get(from).copied() {
+            for other in &ahead[at] {
+                search.find(*other);
+            }
             from += 1;
         }
-        found.into_iter().map(|at| self.stuck[at]).collect()
+        search.found.into_iter().map(|at| self.stuck[at]).collect()
+    }
+
+    /// Whether vertices, each here once, are stuck, wait for each other, and for nothing else.
+    fn is_class(&self, members: &[Place]) -> bool {
+        let place = |member: &Place| match self.vertices[*member as usize].state {
+            State::Stuck(at) => Some(at),
+            _ => None,
+        };
+        let Some(places) = members.iter().map(place).collect::<Option<Vec<usize>>>() else { return false };
+        let mut search = Search::default();
+        self.count_others(&mut search);
+        search.begin(self.stuck.len());
+        search.find(places[0]);
+        self.spread(&mut search, 0);
+        places.iter().all(|at| search.is_found[*at] && search.waits[*at] == 0) && {
+            let (mut ahead, mut members) = (self.all_that_lead_to(places[0]), members.to_vec());
+            ahead.sort_unstable();
+            members.sort_unstable();
+            ahead == members
+        }
     }
 }

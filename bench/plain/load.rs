@@ -164,7 +164,8 @@ impl Load {
 
     pub fn cluster_text(&self) -> String {
         let Load { version, regions, tries, drop, repeat, .. } = self;
-        let mut text = format!("version = {version}\nregions = {regions}\ntries = {tries}\ndrop = {drop}\nrepeat = {repeat}\n[rows]\n");
+        let mut text = format!("version = {version}\nregions = {regions}\ntries = {tries}\n");
+        write!(text, "drop = {drop}\nrepeat = {repeat}\n[rows]\n").expect("memory");
         for (key, value) in &self.rows {
             writeln!(text, "\"{}\" = {value}", self.keys.text(*key)).expect("memory");
         }

@@ -1,7 +1,7 @@
 //! A node: one region that runs by itself, by turns, with the sessions that stand at it.
 use crate::graph::Graph;
 use crate::load::{Id, Load};
-use crate::table::{Outcome, Table, Txn};
+use crate::table::{Done, Outcome, Table, Txn};
 use std::rc::Rc;
 
 /// The most requests, and the most entries, that a packet has.
@@ -52,9 +52,7 @@ pub struct Node<'a> {
     inserted: Vec<usize>,
     graph: Graph,
     pub classes: Vec<Vec<Id>>,
-    /// By region and number.
-    done: Vec<Vec<Option<Outcome>>>,
-    executed: usize,
+    pub done: Done,
     pub table: Table,
     /// Each with its stamp.
     pub events: Vec<(u64, Event)>,
@@ -83,8 +81,7 @@ impl<'a> Node<'a> {
             inserted: vec![0; regions],
             graph: Graph::new(load.regions, load.keys.texts.len()),
             classes: Vec::new(),
-            done: vec![Vec::new(); regions],
-            executed: 0,
+            done: Done::new(load.regions),
             table: Table::new(load),
             events: Vec::new(),
             last: 0,
@@ -95,20 +92,8 @@ impl<'a> Node<'a> {
         }
     }
 
-    pub fn submitted(&self) -> usize {
-        self.submitted.len()
-    }
-
-    pub fn executed(&self) -> usize {
-        self.executed
-    }
-
     pub fn is_answered(&self) -> bool {
         self.seats.iter().all(|it| it.answered == self.load.sessions[it.session as usize].wanted.len())
-    }
-
-    pub fn outcome(&self, id: Id) -> Option<Outcome> {
-        *self.done[usize::from(id.region)].get(id.seq as usize - 1)?
     }
 
     /// Keeps an event, with a stamp above those of all its events and of all packets that it took.
@@ -117,15 +102,19 @@ impl<'a> Node<'a> {
         self.events.push((self.last, event));
     }
 
-    /// Takes these packets, lets the sessions go on and makes rounds until nothing is left, and sends to each other region.
-    pub fn turn(&mut self, packets: impl Iterator<Item = Packet>, sent: &mut [Vec<Packet>]) {
-        packets.for_each(|packet| self.receive(packet));
-        while {
+    /// Takes these packets, lets the sessions go on and makes rounds until they stand still, and sends to each other region.
+    pub fn turn(&mut self, packets: Vec<Packet>, sent: &mut [Vec<Packet>]) {
+        for packet in packets {
+            self.receive(packet);
+        }
+        loop {
             let is_answered = self.answer_all();
             let is_submitted = self.submit_all();
             self.round();
-            is_answered || is_submitted
-        } {}
+            if !is_answered && !is_submitted {
+                break;
+            }
+        }
         self.send(sent);
     }
 
@@ -157,7 +146,7 @@ impl<'a> Node<'a> {
     /// The attempt that a session waits for, if it is executed here, and whether that is its last one.
     fn ended(&self, seat: &Seat) -> Option<(u32, bool)> {
         let waits = seat.waits.as_ref()?;
-        let is_stale = matches!(self.outcome(waits.id)?, Outcome::Stale { .. });
+        let is_stale = matches!(self.done.outcome(waits.id)?, Outcome::Stale { .. });
         Some((waits.id.seq, !is_stale || waits.attempt == self.load.tries))
     }
 
@@ -198,22 +187,22 @@ impl<'a> Node<'a> {
         let id = Id { seq: self.submitted.len() as u32 + 1, region: self.region };
         let (uses, homes) = self.table.annotate(body, &self.load.keys, self.load.version);
         let txn = Rc::new(Txn { id, rank, body, session, call: answered as u32 + 1, attempt, uses, homes });
-        for (home, asked) in self.asked.iter_mut().enumerate() {
-            if homes >> home & 1 == 1 {
-                asked.push(Rc::clone(&txn));
-            }
+        for home in txn.homes() {
+            self.asked[usize::from(home)].push(Rc::clone(&txn));
         }
         self.seats[at].waits = Some(Rc::clone(&txn));
         self.submitted.push(Rc::clone(&txn));
         self.keep(Event::Submit(id.seq));
-        if homes >> self.region & 1 == 1 {
+        if txn.homes().any(|home| home == self.region) {
             self.append(self.region, txn);
         }
     }
 
     /// Inserts, resolves and executes until nothing is left.
     fn round(&mut self) {
-        (0..self.load.regions).for_each(|home| self.insert_all(home));
+        for home in 0..self.load.regions {
+            self.insert_all(home);
+        }
         while self.resolve() {}
         while self.execute() || self.resolve() {}
     }
@@ -237,13 +226,7 @@ impl<'a> Node<'a> {
         let Some(place) = self.graph.first_ready() else { return false };
         let txn = self.graph.txn(place);
         let id = txn.id;
-        let outcome = self.table.run(txn);
-        let (done, number) = (&mut self.done[usize::from(id.region)], id.seq as usize - 1);
-        if done.len() <= number {
-            done.resize(number + 1, None);
-        }
-        done[number] = Some(outcome);
-        self.executed += 1;
+        self.done.note(id, self.table.run(txn));
         self.graph.finish(place);
         self.keep(Event::Execute(id));
         true

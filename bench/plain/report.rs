@@ -1,7 +1,9 @@
 //! What is reported of a run.
-use crate::load::{Id, Key, Load};
+use crate::lines::Lines;
+use crate::load::Load;
 use crate::node::{Event, Node};
-use crate::table::{Outcome, Txn};
+use crate::table::Txn;
+use std::mem;
 
 pub struct Report<'a> {
     pub load: &'a Load,
@@ -39,134 +41,48 @@ impl Report<'_> {
 
     /// The whole report.
     pub fn text(&self) -> Vec<u8> {
-        let mut out = Out { load: self.load, bytes: Vec::new() };
-        out.word("replies").end();
+        let mut lines = Lines::new(self.load);
+        lines.word("replies").end();
         for (region, event) in self.events() {
             if let Event::Answer(number) = event {
-                self.put_reply(&mut out, self.txn(region, number));
+                let txn = self.txn(region, number);
+                lines.reply(txn, self.nodes[usize::from(region)].done.outcome(txn.id).expect("an outcome"));
             }
         }
-        out.word("order").end();
-        let mut is_run: Vec<Vec<bool>> = self.nodes.iter().map(|node| vec![false; node.submitted()]).collect();
+        lines.word("order").end();
+        let mut is_run: Vec<Vec<bool>> = self.nodes.iter().map(|node| vec![false; node.submitted.len()]).collect();
         for (region, event) in self.events() {
             if let Event::Execute(id) = event {
-                let is_run = &mut is_run[usize::from(id.region)][id.seq as usize - 1];
-                if !std::mem::replace(is_run, true) {
-                    self.put_ran(&mut out, self.txn(id.region, id.seq), region);
+                if !mem::replace(&mut is_run[usize::from(id.region)][id.seq as usize - 1], true) {
+                    let outcome = self.nodes[usize::from(region)].done.outcome(id);
+                    lines.ran(self.txn(id.region, id.seq), outcome.expect("an outcome"));
                 }
             }
         }
-        let keys = self.load.keys.ascending();
-        for (region, node) in self.nodes.iter().enumerate() {
-            out.word("table").number(region as i64).end();
-            keys.iter().for_each(|key| put_row(&mut out, node, *key));
-        }
-        out.word("events").end();
-        self.events().for_each(|(region, event)| self.put_event(&mut out, region, event));
-        out.bytes
+        lines.tables(self.nodes.iter().map(|node| &node.table));
+        lines.word("events").end();
+        self.events().for_each(|(region, event)| self.put_event(&mut lines, region, event));
+        lines.into_bytes()
     }
 
+    /// The attempt of this number that a region submitted.
     fn txn(&self, region: u8, number: u32) -> &Txn {
         &self.nodes[usize::from(region)].submitted[number as usize - 1]
     }
 
-    fn session(&self, region: u8, number: u32) -> &str {
-        &self.load.sessions[self.txn(region, number).session as usize].name
-    }
-
-    fn put_reply(&self, out: &mut Out, txn: &Txn) {
-        let Id { seq, region } = txn.id;
-        out.word("reply").word(self.session(region, seq)).number(txn.call);
-        out.outcome(self.nodes[usize::from(region)].outcome(txn.id).expect("an outcome")).end();
-    }
-
-    fn put_ran(&self, out: &mut Out, txn: &Txn, executing: u8) {
-        let Id { seq, region } = txn.id;
-        out.id(txn.id).word(self.session(region, seq)).number(txn.call).number(txn.attempt);
-        out.outcome(self.nodes[usize::from(executing)].outcome(txn.id).expect("an outcome")).end();
-    }
-
-    fn put_event(&self, out: &mut Out, region: u8, event: Event) {
+    fn put_event(&self, lines: &mut Lines, region: u8, event: Event) {
         match event {
-            Event::Submit(number) => out.word("submit").number(region).word(self.session(region, number)),
-            Event::Append(source, number) => out.word("append").number(region).number(source).number(number),
-            Event::Deliver(home, first, last) => out.word("deliver").number(region).number(home).number(first).number(last),
-            Event::Insert(home) => out.word("insert").number(region).number(home),
+            Event::Submit(number) => lines.word("submit").number(region).session(self.txn(region, number).session),
+            Event::Append(source, number) => lines.word("append").number(region).number(source).number(number),
+            Event::Deliver(home, first, last) => lines.word("deliver").number(region).number(home).number(first).number(last),
+            Event::Insert(home) => lines.word("insert").number(region).number(home),
             Event::Resolve(class) => {
                 let ids = &self.nodes[usize::from(region)].classes[class as usize];
-                ids.iter().fold(out.word("resolve").number(region), |out, id| out.id(*id))
+                ids.iter().fold(lines.word("resolve").number(region), |lines, id| lines.id(*id))
             }
-            Event::Execute(id) => out.word("execute").number(region).id(id),
-            Event::Answer(number) => out.word("answer").number(region).word(self.session(region, number)),
+            Event::Execute(id) => lines.word("execute").number(region).id(id),
+            Event::Answer(number) => lines.word("answer").number(region).session(self.txn(region, number).session),
         };
-        out.end();
-    }
-}
-
-/// A key with a value, or a unit that was moved.
-fn put_row(out: &mut Out, node: &Node, key: Key) {
-    let number = out.load.keys.units[key as usize];
-    let (value, unit) = (node.table.values[key as usize], &node.table.units[number as usize]);
-    if value.is_some() || number == key && !unit.movers.is_empty() {
-        out.key(key).word("=").value(value).word("home").number(unit.home).word("moves").number(unit.movers.len() as i64).end();
-    }
-}
-
-/// A text that grows by lines of words.
-struct Out<'a> {
-    load: &'a Load,
-    bytes: Vec<u8>,
-}
-
-impl Out<'_> {
-    fn word(&mut self, word: &str) -> &mut Self {
-        if self.bytes.last().is_some_and(|last| *last != b'\n') {
-            self.bytes.push(b' ');
-        }
-        self.bytes.extend_from_slice(word.as_bytes());
-        self
-    }
-
-    fn number(&mut self, number: impl Into<i64>) -> &mut Self {
-        let number = number.into();
-        self.word(if number < 0 { "-" } else { "" });
-        let (mut digits, mut first, mut left) = ([0; 20], 20, number.unsigned_abs());
-        while first == 20 || left > 0 {
-            first -= 1;
-            digits[first] = b'0' + (left % 10) as u8;
-            left /= 10;
-        }
-        self.bytes.extend_from_slice(&digits[first..]);
-        self
-    }
-
-    fn id(&mut self, id: Id) -> &mut Self {
-        self.number(id.seq).bytes.extend_from_slice(&[b'.', b'0' + id.region]);
-        self
-    }
-
-    fn key(&mut self, key: Key) -> &mut Self {
-        self.word(self.load.keys.text(key))
-    }
-
-    fn value(&mut self, value: Option<i64>) -> &mut Self {
-        match value {
-            Some(value) => self.number(value),
-            None => self.word("none"),
-        }
-    }
-
-    fn outcome(&mut self, outcome: Outcome) -> &mut Self {
-        match outcome {
-            Outcome::Moved => self.word("done"),
-            Outcome::Gave(value) => self.word("done").value(value),
-            Outcome::GaveTwo(one, other) => self.word("done").number(one).number(other),
-            Outcome::Aborted(cause) => self.word("abort").word(cause),
-            Outcome::Stale { unit, had, by } => self.word("stale").key(unit).word("had").number(had).word("by").id(by),
-        }
-    }
-
-    fn end(&mut self) {
-        self.bytes.push(b'\n');
+        lines.end();
     }
 }

@@ -24,6 +24,12 @@ pub struct Txn {
 }
 
 impl Txn {
+    /// Its homes, in ascending order.
+    pub fn homes(&self) -> impl Iterator<Item = u8> {
+        let homes = self.homes;
+        (0..8).filter(move |home| homes >> home & 1 == 1)
+    }
+
     /// What the home orders of it: the uses there, and of a move all.
     pub fn part(&self, home: u8) -> impl Iterator<Item = &Use> {
         let is_move = matches!(self.body, Body::Move(..));
@@ -38,6 +44,31 @@ pub enum Outcome {
     GaveTwo(i64, i64),
     Aborted(&'static str),
     Stale { unit: Key, had: u32, by: Id },
+}
+
+/// The outcomes of what a region has executed, by region and number.
+pub struct Done {
+    outcomes: Vec<Vec<Option<Outcome>>>,
+    pub count: usize,
+}
+
+impl Done {
+    pub fn new(regions: u8) -> Done {
+        Done { outcomes: vec![Vec::new(); usize::from(regions)], count: 0 }
+    }
+
+    pub fn outcome(&self, id: Id) -> Option<Outcome> {
+        *self.outcomes[usize::from(id.region)].get(id.seq as usize - 1)?
+    }
+
+    pub fn note(&mut self, id: Id, outcome: Outcome) {
+        let (outcomes, number) = (&mut self.outcomes[usize::from(id.region)], id.seq as usize - 1);
+        if outcomes.len() <= number {
+            outcomes.resize(number + 1, None);
+        }
+        outcomes[number] = Some(outcome);
+        self.count += 1;
+    }
 }
 
 /// A unit: its home, and who moved it.
