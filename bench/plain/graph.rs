@@ -276,11 +276,6 @@ impl Graph {
     /// Lets vertices leave together. Those that waited for them alone are ready.
     fn leave(&mut self, leaving: &[Place]) {
         for place in leaving {
-            let behind = mem::take(&mut self.vertex(*place).behind);
-            behind.iter().for_each(|(_, other)| self.vertex(*other).waits -= 1);
-            self.vertex(*place).behind = behind;
-        }
-        for place in leaving {
             self.wake(*place);
         }
         for place in leaving {
@@ -288,12 +283,13 @@ impl Graph {
         }
     }
 
-    /// Those that waited for uses of a vertex, in the order of these uses, are ready where they wait for nothing.
+    /// Those that waited for uses of a vertex, in the order of these uses, are ready once they wait for nothing more.
     fn wake(&mut self, place: Place) {
         let behind = mem::take(&mut self.vertex(place).behind);
         for number in 0..self.vertex(place).uses {
             for (_, other) in behind.iter().filter(|(from, _)| *from == number) {
                 let vertex = self.vertex(*other);
+                vertex.waits -= 1;
                 if vertex.waits == 0 && matches!(vertex.state, State::Stuck(_)) {
                     self.take_off(*other);
                     self.add_ready(*other);
