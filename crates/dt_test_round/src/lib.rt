@@ -3,6 +3,8 @@
 #![tactic(auto)]
 
 #[cfg(test)]
+mod backlog;
+#[cfg(test)]
 mod calls;
 #[cfg(test)]
 mod feeding;
