@@ -66,10 +66,7 @@ impl<N: Named> Claim<N> {
         ensures { IsTrue result ↔ IsLongBody procs.now self.now.txn.body }
     {
         match &self.txn.body {
-            Body::Call(proc, _) => match procs.get(*proc) {
-                Some(proc) => is_long(proc),
-                None => false,
-            },
+            Body::Call(proc, _) => is_long(procs, *proc),
             Body::Move(_, _) => false,
         }
     }

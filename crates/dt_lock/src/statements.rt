@@ -1,29 +1,32 @@
-ghost use Rattle.std.specs.Prelude.{◌≡◌, ◌-◌, ◌↔◌, IsTrue};
+ghost use Rattle.std.specs.Prelude.{◌≡◌, ◌-◌, ◌↔◌, IsTrue, slice_get};
 ghost use Rattle.dt_lists.specs.Lists.{AnyIn};
 ghost use Rattle.dt_proc.specs.TreeViews.{block_size, block_tree, step_size, stmt_tree};
-ghost use Rattle.dt_lock.specs.Long.{IsLong};
+ghost use Rattle.dt_lock.specs.Long.{IsLong, IsLongIn};
 
-use dt_proc::{Proc, Procs, Stmt};
+use dt_proc::{Procs, Stmt};
 
 /// Whether some procedure is long.
+#[tactic(auto, using(crate::proofs::Counting::long_at, crate::proofs::Counting::long_behind))]
 pub fn some_is_long(procs: &Procs) -> bool
     ensures { IsTrue result ↔ AnyIn IsLong procs.now }
 {
     for number in 0..procs.len() {
-        if let Some(proc) = procs.get(number) {
-            if is_long(proc) {
-                return true;
-            }
+        if is_long(procs, number) {
+            return true;
         }
     }
     false
 }
 
-/// Whether a procedure is long. It looks at no more statements than a long one has at least.
-pub fn is_long(proc: &Proc) -> bool
-    ensures { IsTrue result ↔ IsLong proc.now }
+/// Whether there is a procedure of this number, counted from 0, and it is long. It looks at no more statements than a long one
+/// has at least.
+pub fn is_long(procs: &Procs, number: u32) -> bool
+    ensures { IsTrue result ↔ IsLongIn (slice_get procs.now number) }
 {
-    beside_block(LONG, proc.body()) == 0
+    match procs.get(number) {
+        Some(proc) => beside_block(LONG, proc.body()) == 0,
+        None => false,
+    }
 }
 
 // Calls of a procedure with fewer statements are done sooner than a thread is started.

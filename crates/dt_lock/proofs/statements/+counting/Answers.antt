@@ -6,6 +6,6 @@ pub beside_block-loop-stmt-preserved : goal.beside_block-loop-stmt-preserved
 beside_block-loop-stmt-preserved t c =
     let cut = size_from c.args.stmts.now c.loop-stmt.stmt-index c.stmt-item.result c.loop-stmt-test.true c.stmt-item.is in
     record {
-      left = omega (arith, cut, c.beside_stmt.ensures, c.loop-stmt.invariant.left);
+      left = omega (arith, cut, c.beside_stmt-left.ensures, c.loop-stmt.invariant.left);
       size = omega (arith, cut, c.loop-stmt.invariant.size);
     }
