@@ -6,6 +6,7 @@ use crate::locked::{Meeting, after};
 use crate::rounds::{AD, DA, after_alone};
 use dt_access::TxnId;
 use dt_graph::QueueSched;
+use dt_proc::builtin_procs;
 use dt_region::Region;
 use dt_sched::Scheduler;
 use dt_text::Key;
@@ -84,11 +85,19 @@ fn have_come_to_the_same<S: Scheduler>(
 
 #[test]
 fn threads_that_insert_resolve_and_work_come_to_the_same(rt: HostRuntime) -> Result<(), Fail> {
+    let procs = builtin_procs(rt.alloc())?;
     let rows = backlog(rt.alloc())?;
     let alone: Region<QueueSched> = after_alone(rt.alloc(), rows.as_slice())?;
     for workers in [2, 3, 8] {
         let gate = Meeting::new();
-        let region: Region<QueueSched> = after(&rt, rt.alloc(), rows.as_slice(), workers, &gate)?;
+        let region: Region<QueueSched> = after(
+            &rt,
+            rt.alloc(),
+            &procs,
+            rows.as_slice(),
+            workers,
+            &gate,
+        )?;
         assert!(rt; gate.has_seen_two());
         assert!(rt; have_come_to_the_same(rt.alloc(), &alone, &region, rows.as_slice())?);
     }

@@ -9,6 +9,8 @@ mod calls;
 #[cfg(test)]
 mod feeding;
 #[cfg(test)]
+mod lengths;
+#[cfg(test)]
 mod locked;
 #[cfg(test)]
 mod rounds;

@@ -38,14 +38,14 @@ fn go_on<R: Threads + Wait + Sync, S: Scheduler + Drop + Send, G: Gate>(
 pub fn after<R: Threads + Wait + Sync, S: Scheduler + Drop + Send, G: Gate>(
     rt: &R,
     alloc: Global,
+    procs: &Procs,
     rows: &[Row],
     workers: u32,
     gate: &G,
 ) -> Result<Region<S>, Fail> {
-    let procs = builtin_procs(alloc)?;
     let table = Table::new(alloc, 1, 4, &[], &[])?;
     let mut region: Region<S> = Region::new(alloc, 3, 4, table)?;
-    go_on(rt, alloc, &mut region, &procs, rows, workers, gate)?;
+    go_on(rt, alloc, &mut region, procs, rows, workers, gate)?;
     Ok(region)
 }
 
@@ -57,7 +57,8 @@ fn told<R: Threads + Wait + Sync, S: Scheduler + Drop + Send, G: Gate>(
     workers: u32,
     gate: &G,
 ) -> Result<Vec<u8>, Fail> {
-    let region: Region<S> = after(rt, alloc, rows, workers, gate)?;
+    let procs = builtin_procs(alloc)?;
+    let region: Region<S> = after(rt, alloc, &procs, rows, workers, gate)?;
     events_from(alloc, &region, rows.len())
 }
 

@@ -11,5 +11,5 @@ new-requires-2-clause-table g c = subst (IsTableFor 4) (sym c.in_ok-table.ensure
 pub go_on-requires : goal.go_on-requires
 go_on-requires g c =
     let bounds = c.type_bounds in
-    let fed = fed_none c.in_ok-procs.procs c.in_ok-region.region c.in_ok-table.table.state c.in_ok-table.ensures c.in_ok-region.ensures.opening in
+    let fed = fed_none c.args.procs.now c.in_ok-region.region c.in_ok-table.table.state c.in_ok-table.ensures c.in_ok-region.ensures.opening in
     (param_send 1 _ (arg_send _ yes _ bounds.send-S), (param_sync 0 _ (arg_sync _ yes _ bounds.sync-R), (param_sync 2 _ (arg_sync _ yes _ bounds.sync-G), fed)))
