@@ -2,7 +2,7 @@ ghost use Rattle.std.specs.Prelude.{◌≡◌, [], ◌∷◌, ◌++◌, IfOk, On
 ghost use Rattle.dt_access.specs.Orders.{HasAscendingKeys};
 
 use crate::access::Mode;
-use crate::copies::copy_items;
+use crate::shared::Shared;
 use dt_text::{Key, NoMemory};
 use std::alloc::Global;
 use std::marker::Model;
@@ -10,7 +10,7 @@ use std::marker::Model;
 /// Keys with their modes, in ascending order of the keys' bytes; so no key stands twice.
 #[derive(Debug, Drop)]
 pub struct Keys {
-    items: Vec<(Key, Mode)>,
+    items: Shared<(Key, Mode)>,
 }
 
 impl Model for Keys {
@@ -20,9 +20,9 @@ impl Model for Keys {
 
     ghost Value = { List (List ℕ × Mode) };
 
-    ghost view = { λ k. k.items.items };
+    ghost view = { λ k. k.items };
 
-    ghost invariant = { λ k. HasAscendingKeys k.items.items };
+    ghost invariant = { λ k. HasAscendingKeys k.items };
 }
 
 impl Keys {
@@ -31,25 +31,18 @@ impl Keys {
         ensures { result ≡ [] }
     {
         Keys {
-            items: Vec::new(alloc),
+            items: Shared::new(alloc),
         }
     }
 
-    /// The keys of a vector, which stand in order there. Takes no memory.
-    pub fn from_vec(items: Vec<(Key, Mode)>) -> Self
+    /// The keys of a vector, which stand in order there.
+    pub fn from_vec(alloc: Global, items: Vec<(Key, Mode)>) -> Result<Self, NoMemory>
         requires { HasAscendingKeys items.items }
-        ensures { result ≡ items.items }
+        ensures { IfOk result (λ keys. keys ≡ items.items) }
     {
-        Keys { items }
-    }
-
-    /// Gives the keys back as a vector. Takes no memory.
-    pub fn into_vec(self) -> Vec<(Key, Mode)>
-        ensures same { result.items ≡ self }
-        ensures ascending { HasAscendingKeys self }
-    {
-        let Keys { items } = self;
-        items
+        Ok(Keys {
+            items: Shared::from_vec(alloc, items)?,
+        })
     }
 
     /// Adds a key that is greater than all held ones; after `NoMemory` the list is as before.
@@ -58,8 +51,7 @@ impl Keys {
         ensures added { OnOk result (self.new ≡ self.old ++ item ∷ []) }
         ensures same { OnErr result (self.new ≡ self.old) }
     {
-        self.items.push(item)?;
-        Ok(())
+        self.items.push(item)
     }
 
     /// The keys with their modes, in order. Takes no memory.
@@ -70,12 +62,12 @@ impl Keys {
         self.items.as_slice()
     }
 
-    /// An equal list.
+    /// An equal list. Takes no memory.
     pub fn copy(&self, alloc: Global) -> Result<Self, NoMemory>
         ensures { IfOk result (λ copied. copied ≡ self.now) }
     {
         Ok(Keys {
-            items: copy_items(alloc, self.items.as_slice())?,
+            items: self.items.copy(alloc)?,
         })
     }
 }

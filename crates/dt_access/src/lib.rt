@@ -16,6 +16,7 @@ mod id;
 mod keys;
 mod lists;
 mod part;
+mod shared;
 mod writes;
 
 pub use access::{Access, Mode};
@@ -27,4 +28,5 @@ pub use id::{TxnId, put_id, read_id};
 pub use keys::Keys;
 pub use lists::Ids;
 pub use part::Part;
+pub use shared::Shared;
 pub use writes::Writes;

@@ -1,11 +1,11 @@
 ghost use Rattle.std.specs.Prelude.{◌≡◌, IfOk};
 
-use dt_access::Writes;
+use dt_access::{Shared, Writes};
 use dt_text::{Key, Listed, NoMemory, Str, Value};
 use std::alloc::Global;
 
 /// The arguments of a call.
-pub type Args = Listed<Value>;
+pub type Args = Shared<Value>;
 
 /// The values that a call gives, each a value or none.
 pub type Values = Listed<Option<Value>>;

@@ -58,7 +58,7 @@ pub fn keys_of(alloc: Global, body: &Proc, args: &[Value]) -> Result<Keys, KeysE
         let (key, write) = use_of(alloc, number, declared, args)?;
         add_use(&mut uses, key, write)?;
     }
-    Ok(Keys::from_vec(with_modes(alloc, uses)?))
+    Ok(Keys::from_vec(alloc, with_modes(alloc, uses)?)?)
 }
 
 /// The key of the declaration of this number, and whether it may be written.

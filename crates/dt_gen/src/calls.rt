@@ -4,7 +4,8 @@ ghost use Rattle.dt_gen.specs.Load.{account, account_numbers, account_row, load_
 
 use crate::accounts::{ACCOUNTS, key_of, text_of};
 use crate::draws::Draws;
-use dt_text::{Key, Listed, NoMemory, Value};
+use dt_eval::Args;
+use dt_text::{Key, NoMemory, Value};
 use dt_workload::{Ranked, Wanted};
 use std::alloc::Global;
 
@@ -82,5 +83,5 @@ fn transfer(
     args.push(text_of(alloc, rows, source)?)?;
     args.push(text_of(alloc, rows, target)?)?;
     args.push(Value::Int(i64::from(amount)))?;
-    Ok(Wanted::Call(XFER, Listed::from_vec(args)))
+    Ok(Wanted::Call(XFER, Args::from_vec(alloc, args)?))
 }

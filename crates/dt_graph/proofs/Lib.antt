@@ -14,6 +14,7 @@ pub mod Asked
 pub mod Chosen
 pub mod TakenOut
 pub mod Waking
+pub mod Freeing
 pub mod Along
 pub mod Putting
 pub mod Grown

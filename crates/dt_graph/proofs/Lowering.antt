@@ -1,21 +1,18 @@
 -- The walk that lowers degrees: at each place of the walk the degrees and what is still to be lowered make what was there.
-use Rattle.std.proofs.Common.{◌≡◌, ◌≢◌, ◌+◌, ◌-◌, ◌<◌, ◌≤◌, ◌⊎◌, ◌∙◌, ℕ, true, false, ◌==◌, if◌then◌else◌}
-use Rattle.std.proofs.Common.{List, [], ◌∷◌, length, map, get_or, set, slice_get, None, Some, refl, sym, ap, subst, inl, inr, arith}
+use Rattle.std.proofs.Common.{◌≡◌, ◌≢◌, ◌+◌, ◌<◌, ◌≤◌, ◌⊎◌, ◌∙◌, ℕ, true, false, ◌==◌}
+use Rattle.std.proofs.Common.{List, [], ◌∷◌, drop, length, map, get_or, slice_get, None, Some, refl, sym, ap, subst, inl, inr, arith}
 use Rattle.std.proofs.lemmas.Bool.{cases_Bool}
-use Rattle.std.proofs.lemmas.List.{get_or-set_other, get_or-set_same, length-set}
+use Rattle.std.proofs.lemmas.List.Sums.{sum_by-cons}
 use Rattle.std.specs.List.{sum_by}
 use Rattle.dt_lists.specs.Lists.{Has}
-use Rattle.dt_lists.proofs.Callers.{any_get, either_nat}
+use Rattle.dt_lists.proofs.Callers.{any_get}
 use Rattle.dt_queue.specs.declared.Follower.{Follower}
 use Rattle.dt_queue.specs.Queues.{HasDistinctSlots, IsQueued, Waiting, follower_of, followers, followers_after}
 use Rattle.dt_waits.specs.Waits.{lowered, slots_of}
-use Rattle.dt_graph.specs.SmallSteps.{AreLowered}
+use Rattle.dt_graph.specs.SmallSteps.{AreLowered, falls}
 use Rattle.dt_waits.proofs.Callers.{slot_same, slot_other}
+use Rattle.dt_graph.proofs.Along.{left_at}
 use Rattle.dt_graph.proofs.Followers.{first_told, followers_begin, followers_onward, lowered_one, none_told, to_lower}
-
--- by how much the degree of v falls for one follower of the vertex x, of a slot of the vertex u
-abbrev pub falls : ℕ → ℕ → ℕ → ℕ
-falls u x v = if u == v then 0 else (if x == v then 1 else 0)
 
 -- at this place of the walk over the followers of a slot of the vertex u
 pub record IsLowering (waiting : List Waiting) (slot u place : ℕ) (old now : List ℕ) : Type 0 where
@@ -56,17 +53,6 @@ module _ (waiting : List Waiting) (distinct : HasDistinctSlots waiting) (slot u 
     step_of v = ap (to_lower u v) found.2 ∙ lowered_one u v found.0 found.1 ∙ ap (λ x. falls u x v + to_lower u v found.1) found.4
         ∙ ap (λ ws. falls u f.vertex v + to_lower u v ws) (sym onward.1)
 
-    -- a follower of the vertex itself is passed over
-    pub lowering_past : f.vertex ≡ u → IsLowering waiting slot u f.slot old now
-    lowering_past same = record { waits = onward.0; size = l.size; still = λ v lt. pass _ _ _ _ _ (l.still v lt) (step_of v ∙ ap (λ n. n + to_lower u v (followers_after waiting slot f.slot)) (nothing v (cases_Bool (u == v)))) }
-      where
-        nothing : (v : ℕ) → ((u == v) ≡ true) ⊎ ((u == v) ≡ false) → falls u f.vertex v ≡ 0
-        nothing v (inl t) = rw t refl
-        nothing v (inr t) = rw (t, ap (λ x. x == v) same, t) refl
-
-        pass : (o m n k r : ℕ) → o + m ≡ n + k → m ≡ 0 + r → o + r ≡ n + k
-        pass o m n k r e g = omega (arith, e, g)
-
     -- the degree of another one isn't zero, where each has enough
     pub may_lower : f.vertex ≢ u → f.vertex < length old → lowered waiting slot u f.vertex ≤ get_or old f.vertex 0 → 1 ≤ get_or now f.vertex 0
     may_lower ne lt enough = some _ _ _ _ _ (l.still f.vertex lt) (step_of f.vertex ∙ ap (λ n. n + to_lower u f.vertex (followers_after waiting slot f.slot)) one) enough
@@ -77,34 +63,16 @@ module _ (waiting : List Waiting) (distinct : HasDistinctSlots waiting) (slot u 
         some : (o m n k r : ℕ) → o + m ≡ n + k → m ≡ 1 + r → k ≤ o → 1 ≤ n
         some o m n k r e g h = omega (arith, e, g, h)
 
-    -- and it is lowered by one
-    pub lowering_onward : f.vertex ≢ u → f.vertex < length old → lowered waiting slot u f.vertex ≤ get_or old f.vertex 0 → IsLowering waiting slot u f.slot old (set now f.vertex (get_or now f.vertex 0 - 1))
-    lowering_onward ne lt enough = record {
+    -- what it takes is taken
+    pub lowering_onward : (next : List ℕ) → AreLowered (falls u f.vertex) now next → IsLowering waiting slot u f.slot old next
+    lowering_onward next a = record {
       waits = onward.0;
-      size = length-set now f.vertex (get_or now f.vertex 0 - 1) ∙ l.size;
-      still = λ v lv. at v lv (either_nat v f.vertex);
+      size = a.0 ∙ l.size;
+      still = λ v lt. taken _ _ _ _ _ _ _ (l.still v lt) (step_of v) (a.1 v (subst (λ n. v < n) (sym l.size) lt));
     }
       where
-        at : (v : ℕ) → v < length old → (v ≡ f.vertex) ⊎ ¬ (v ≡ f.vertex)
-            → get_or old v 0 + to_lower u v (followers_after waiting slot f.slot) ≡ get_or (set now f.vertex (get_or now f.vertex 0 - 1)) v 0 + lowered waiting slot u v
-        at v lv (inl e) = subst (λ v. get_or old v 0 + to_lower u v (followers_after waiting slot f.slot) ≡ get_or (set now f.vertex (get_or now f.vertex 0 - 1)) v 0 + lowered waiting slot u v) (sym e)
-            (less _ _ _ _ _ _ (l.still f.vertex lt) (step_of f.vertex ∙ ap (λ n. n + to_lower u f.vertex (followers_after waiting slot f.slot)) one) (may_lower ne lt enough)
-            (get_or-set_same now f.vertex (get_or now f.vertex 0 - 1) 0 (subst (λ n. f.vertex < n) (sym l.size) lt)))
-          where
-            one : falls u f.vertex f.vertex ≡ 1
-            one = rw (slot_other u f.vertex (λ e. ne (sym e)), slot_same f.vertex) refl
-
-            less : (o m n k r s : ℕ) → o + m ≡ n + k → m ≡ 1 + r → 1 ≤ n → s ≡ n - 1 → o + r ≡ s + k
-            less o m n k r s e g h i = omega (arith, e, g, h, i)
-        at v lv (inr nv) = other _ _ _ _ _ _ (l.still v lv) (step_of v ∙ ap (λ n. n + to_lower u v (followers_after waiting slot f.slot)) (nothing (cases_Bool (u == v))))
-            (get_or-set_other now f.vertex v (get_or now f.vertex 0 - 1) 0 nv)
-          where
-            nothing : ((u == v) ≡ true) ⊎ ((u == v) ≡ false) → falls u f.vertex v ≡ 0
-            nothing (inl t) = rw t refl
-            nothing (inr t) = rw (t, slot_other f.vertex v (λ e. nv (sym e))) refl
-
-            other : (o m n k r s : ℕ) → o + m ≡ n + k → m ≡ 0 + r → s ≡ n → o + r ≡ s + k
-            other o m n k r s e g i = omega (arith, e, g, i)
+        taken : (o m n k t r s : ℕ) → o + m ≡ n + k → m ≡ t + r → n ≡ s + t → o + r ≡ s + k
+        taken o m n k t r s e g i = omega (arith, e, g, i)
 
 -- degrees are lowered item by item: with what those that are left are still to take from it each degree is what it was, but
 -- for what all of them take
@@ -115,3 +83,15 @@ pub record IsLoweringBy (takes : ℕ → ℕ → ℕ) (all rest : List ℕ) (old
 -- what the leaving of a vertex takes from the degree of another
 abbrev pub taken_by : List Waiting → ℕ → ℕ → ℕ
 taken_by waiting u v = sum_by (λ slot. lowered waiting slot u v) (slots_of waiting u)
+
+-- after what the item at a place takes was taken, those after it are left
+pub lowered_next : (takes : ℕ → ℕ → ℕ) (items : List ℕ) (place : ℕ) → place < length items → (old now next : List ℕ) → IsLoweringBy takes items (drop place items) old now
+    → AreLowered (takes (get_or items place 0)) now next → IsLoweringBy takes items (drop (place + 1) items) old next
+lowered_next takes items place lt old now next l a = record {
+  size = a.0 ∙ l.size;
+  still = λ v lv. taken _ _ _ _ _ _ _ (l.still v lv) (ap (sum_by (λ x. takes x v)) (left_at items place lt) ∙ sum_by-cons (λ x. takes x v) (get_or items place 0) (drop (place + 1) items))
+      (a.1 v (subst (λ n. v < n) (sym l.size) lv));
+}
+  where
+    taken : (o m n k t r s : ℕ) → o + m ≡ n + k → m ≡ t + r → n ≡ s + t → o + r ≡ s + k
+    taken o m n k t r s e g i = omega (arith, e, g, i)

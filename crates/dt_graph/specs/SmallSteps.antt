@@ -1,7 +1,7 @@
 -- What the small steps within a call do: entries are pushed for a vertex, degrees are raised and lowered, vertices are put to
 -- the ready or the stuck ones, and the members of a class are done one after the other. What a whole call makes of what is kept
 -- stands in Steps.antt of dt_waits.
-use Rattle.std.specs.Prelude.{◌≡◌, ◌≢◌, ◌<◌, ◌⊎◌, ◌↔◌, ◌+◌, ◌==◌, ℕ, suc, not, List, ◌++◌, count_by, length, map, get_or, slice_get, Some}
+use Rattle.std.specs.Prelude.{◌≡◌, ◌≢◌, ◌<◌, ◌⊎◌, ◌↔◌, ◌+◌, ◌==◌, ℕ, suc, not, if◌then◌else◌, List, ◌++◌, count_by, length, map, get_or, slice_get, Some}
 use Rattle.dt_lists.specs.Lists.{AnyIn, AllIn, Has, Distinct}
 use Rattle.dt_access.specs.Ids.{AreAscending}
 use Rattle.dt_access.specs.Clash.{Bytes}
@@ -37,6 +37,10 @@ raised before neighbours vertex = before + count_by (λ n. not (n == vertex)) ne
 -- of the vertices that were to be lowered by these counts, each was lowered by its count
 abbrev pub AreLowered : (ℕ → ℕ) → List ℕ → List ℕ → Type 0
 AreLowered count old new = (length new ≡ length old) × ((v : ℕ) → v < length old → get_or old v 0 ≡ get_or new v 0 + count v)
+
+-- what a follower of the vertex x takes from the degree of v, where it follows an entry of the vertex u
+abbrev pub falls : ℕ → ℕ → ℕ → ℕ
+falls u x v = if u == v then 0 else (if x == v then 1 else 0)
 
 -- of the vertices that P holds of, those that were stuck and are of degree 0 are ready now, and stuck no more
 pub record Wakes (P : ℕ → Type 0) (degrees : List ℕ) (stuck ready stuck_now ready_now : SubsetView) : Type 0 where

@@ -9,18 +9,6 @@ use dt_text::{Key, NoMemory};
 use dt_waits::Slots;
 use std::alloc::Global;
 
-/// The degree of a vertex, raised by those of the neighbours that are other vertices.
-fn raised(before: u128, neighbours: &[u32], vertex: u32) -> u128
-    requires { raised before neighbours.now vertex < 2 ^ 128 }
-    ensures { result ≡ raised before neighbours.now vertex }
-{
-    let others = neighbours
-        .iter()
-        .filter(|neighbour| **neighbour != vertex)
-        .count();
-    before + others as u128
-}
-
 /// Keeps the slot of an entry that waits for a vertex, and answers the degree, raised by the neighbours of the entry; after
 /// `NoMemory` the slots are as before.
 fn keep_slot(
@@ -37,9 +25,9 @@ fn keep_slot(
     ensures kept { OnOk result (slots.new ≡ slots.old ++ slot ∷ []) }
     ensures same { OnErr result (slots.new ≡ slots.old) }
 {
-    let neighbours = queues.neighbours(alloc, slot)?;
+    let others = queues.count_others(alloc, slot, vertex)?;
     slots.push(slot)?;
-    Ok(raised(before, neighbours.as_slice(), vertex))
+    Ok(before + others as u128)
 }
 
 /// Lets a vertex wait for the use of a key, and answers its degree; after `NoMemory` all is as before.

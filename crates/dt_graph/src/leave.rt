@@ -1,128 +1,113 @@
-ghost use Rattle.std.specs.Prelude.{◌≡◌, ◌≤◌, ◌<◌, ◌==◌, ℕ, not, filter, get_or, length, sum_by};
+ghost use Rattle.std.specs.Prelude.{◌≡◌, ◌≢◌, ◌≤◌, ◌<◌, ◌==◌, ℕ, not, filter, get_or, length, sum_by};
 ghost use Rattle.std.specs.List.{list_any};
 ghost use Rattle.dt_lists.specs.Lists.{AllIn, AnyIn, Distinct};
 ghost use Rattle.dt_queue.specs.Queues.{HasDistinctSlots, IsQueued};
 ghost use Rattle.dt_waits.specs.Steps.{AreEntriesBelow, HaveSlots};
-ghost use Rattle.dt_graph.specs.SmallSteps.{AreLowered, IsFollowedAt, Wakes};
+ghost use Rattle.dt_graph.specs.SmallSteps.{AreLowered, IsFollowedAt, Wakes, falls};
 ghost use Rattle.dt_waits.specs.Waits.{IsFollowed, is_leaving, lowered, lowered_by};
 
 use crate::subset::Subset;
 use dt_queue::Queues;
 use dt_waits::Vertex;
 
-/// Lowers the degrees of the followers of the entry at a slot of a vertex, but not its own.
-fn lower_followers(queues: &Queues, slot: usize, vertex: u32, degrees: &mut [u128])
+/// Takes one from the degree of a follower of an entry of a vertex, unless it follows itself.
+fn lower(degrees: &mut [u128], follower: u32, vertex: u32)
+    requires within { follower < length degrees.old }
+    requires enough { follower ≢ vertex → 1 ≤ get_or degrees.old follower 0 }
+    ensures { AreLowered (falls vertex follower) degrees.old degrees.new }
+{
+    if follower != vertex {
+        degrees[follower as usize] -= 1;
+    }
+}
+
+/// A vertex is ready, if it is stuck and has come to degree 0.
+fn wake(degrees: &[u128], vertex: u32, stuck: &mut Subset, ready: &mut Subset)
+    requires within { vertex < length degrees.now }
+    requires stuck_bound { vertex < stuck.old.bound }
+    requires ready_bound { vertex < ready.old.bound }
+    ensures { Wakes (λ v. vertex ≡ v) degrees.now stuck.old ready.old stuck.new ready.new }
+{
+    if degrees[vertex as usize] == 0 && stuck.has(vertex) {
+        stuck.remove(vertex);
+        ready.add(vertex);
+    }
+}
+
+/// Lowers the degrees of the followers of the entry at a slot of a vertex, but not its own; those that are stuck and come to
+/// degree 0 are ready.
+fn free_followers(
+    queues: &Queues,
+    slot: usize,
+    vertex: u32,
+    degrees: &mut [u128],
+    stuck: &mut Subset,
+    ready: &mut Subset,
+)
     requires waits { IsQueued queues.now slot }
     requires distinct { HasDistinctSlots queues.now }
     requires below { AreEntriesBelow (length degrees.old) queues.now }
     requires enough { (v : ℕ) → v < length degrees.old → lowered queues.now slot vertex v ≤ get_or degrees.old v 0 }
-    ensures { AreLowered (lowered queues.now slot vertex) degrees.old degrees.new }
+    requires stuck_bound { length degrees.old ≤ stuck.old.bound }
+    requires ready_bound { length degrees.old ≤ ready.old.bound }
+    ensures lowered { AreLowered (lowered queues.now slot vertex) degrees.old degrees.new }
+    ensures woken { Wakes (IsFollowedAt queues.now slot) degrees.new stuck.old ready.old stuck.new ready.new }
 {
     let mut place = slot;
     while let Some(follower) = queues.follower_after(slot, place) {
-        if follower.vertex != vertex {
-            degrees[follower.vertex as usize] -= 1;
-        }
+        lower(degrees, follower.vertex, vertex);
+        wake(degrees, follower.vertex, stuck, ready);
         place = follower.slot;
     }
 }
 
-/// Lowers the degrees of the followers of the entries at some slots of a vertex, but not its own.
-fn lower_slots(queues: &Queues, slots: &[usize], vertex: u32, degrees: &mut [u128])
+/// Lowers the degrees of the followers of the entries at some slots of a vertex, but not its own; those that are stuck and come
+/// to degree 0 are ready.
+fn free_slots(
+    queues: &Queues,
+    slots: &[usize],
+    vertex: u32,
+    degrees: &mut [u128],
+    stuck: &mut Subset,
+    ready: &mut Subset,
+)
     requires wait { AllIn (IsQueued queues.now) slots.now }
     requires distinct { HasDistinctSlots queues.now }
     requires below { AreEntriesBelow (length degrees.old) queues.now }
     requires enough { (v : ℕ) → v < length degrees.old → sum_by (λ slot. lowered queues.now slot vertex v) slots.now ≤ get_or degrees.old v 0 }
-    ensures { AreLowered (λ v. sum_by (λ slot. lowered queues.now slot vertex v) slots.now) degrees.old degrees.new }
+    requires stuck_bound { length degrees.old ≤ stuck.old.bound }
+    requires ready_bound { length degrees.old ≤ ready.old.bound }
+    ensures lowered { AreLowered (λ v. sum_by (λ slot. lowered queues.now slot vertex v) slots.now) degrees.old degrees.new }
+    ensures woken { Wakes (λ v. AnyIn (λ slot. IsFollowedAt queues.now slot v) slots.now) degrees.new stuck.old ready.old stuck.new ready.new }
 {
     for slot in slots {
-        lower_followers(queues, *slot, vertex, degrees);
+        free_followers(queues, *slot, vertex, degrees, stuck, ready);
     }
 }
 
-/// Lowers the degrees of the followers of all entries of the vertices.
-fn lower_all(queues: &Queues, vertices: &[Vertex], leaving: &[u32], degrees: &mut [u128])
+/// Lowers the degrees of the followers of all entries of the vertices; those that are stuck and come to degree 0 are ready.
+fn free_all(
+    queues: &Queues,
+    vertices: &[Vertex],
+    leaving: &[u32],
+    degrees: &mut [u128],
+    stuck: &mut Subset,
+    ready: &mut Subset,
+)
     requires distinct { HasDistinctSlots queues.now }
     requires slots { HaveSlots queues.now vertices.now leaving.now }
     requires below { AreEntriesBelow (length degrees.old) queues.now }
     requires enough { (v : ℕ) → v < length degrees.old → lowered_by queues.now leaving.now v ≤ get_or degrees.old v 0 }
-    ensures { AreLowered (lowered_by queues.now leaving.now) degrees.old degrees.new }
+    requires stuck_bound { length degrees.old ≤ stuck.old.bound }
+    requires ready_bound { length degrees.old ≤ ready.old.bound }
+    ensures lowered { AreLowered (lowered_by queues.now leaving.now) degrees.old degrees.new }
+    ensures woken { Wakes (IsFollowed queues.now leaving.now) degrees.new stuck.old ready.old stuck.new ready.new }
 {
     for vertex in leaving {
-        lower_slots(
+        free_slots(
             queues,
             vertices[*vertex as usize].slots.as_slice(),
             *vertex,
-            degrees,
-        );
-    }
-}
-
-/// Of the followers of the entry at a slot, those that are stuck and have come to degree 0 are ready.
-fn wake_followers(
-    queues: &Queues,
-    slot: usize,
-    degrees: &[u128],
-    stuck: &mut Subset,
-    ready: &mut Subset,
-)
-    requires waits { IsQueued queues.now slot }
-    requires distinct { HasDistinctSlots queues.now }
-    requires below { AreEntriesBelow (length degrees.now) queues.now }
-    requires stuck_bound { length degrees.now ≤ stuck.old.bound }
-    requires ready_bound { length degrees.now ≤ ready.old.bound }
-    ensures { Wakes (IsFollowedAt queues.now slot) degrees.now stuck.old ready.old stuck.new ready.new }
-{
-    let mut place = slot;
-    while let Some(follower) = queues.follower_after(slot, place) {
-        if degrees[follower.vertex as usize] == 0 && stuck.has(follower.vertex) {
-            stuck.remove(follower.vertex);
-            ready.add(follower.vertex);
-        }
-        place = follower.slot;
-    }
-}
-
-/// Of the followers of the entries at some slots, those that are stuck and have come to degree 0 are ready.
-fn wake_slots(
-    queues: &Queues,
-    slots: &[usize],
-    degrees: &[u128],
-    stuck: &mut Subset,
-    ready: &mut Subset,
-)
-    requires wait { AllIn (IsQueued queues.now) slots.now }
-    requires distinct { HasDistinctSlots queues.now }
-    requires below { AreEntriesBelow (length degrees.now) queues.now }
-    requires stuck_bound { length degrees.now ≤ stuck.old.bound }
-    requires ready_bound { length degrees.now ≤ ready.old.bound }
-    ensures { Wakes (λ v. AnyIn (λ slot. IsFollowedAt queues.now slot v) slots.now) degrees.now stuck.old ready.old stuck.new ready.new }
-{
-    for slot in slots {
-        wake_followers(queues, *slot, degrees, stuck, ready);
-    }
-}
-
-/// Of the followers of all entries of the vertices, those that are stuck and have come to degree 0 are ready.
-fn wake_all(
-    queues: &Queues,
-    vertices: &[Vertex],
-    leaving: &[u32],
-    degrees: &[u128],
-    stuck: &mut Subset,
-    ready: &mut Subset,
-)
-    requires distinct { HasDistinctSlots queues.now }
-    requires slots { HaveSlots queues.now vertices.now leaving.now }
-    requires below { AreEntriesBelow (length degrees.now) queues.now }
-    requires stuck_bound { length degrees.now ≤ stuck.old.bound }
-    requires ready_bound { length degrees.now ≤ ready.old.bound }
-    ensures { Wakes (IsFollowed queues.now leaving.now) degrees.now stuck.old ready.old stuck.new ready.new }
-{
-    for vertex in leaving {
-        wake_slots(
-            queues,
-            vertices[*vertex as usize].slots.as_slice(),
             degrees,
             stuck,
             ready,
@@ -174,7 +159,6 @@ pub fn leave(
     ensures woken { Wakes (IsFollowed queues.old leaving.now) degrees.new stuck.old ready.old stuck.new ready.new }
     ensures removed { queues.new ≡ filter (λ w. not (is_leaving leaving.now w.vertex)) queues.old }
 {
-    lower_all(queues, vertices, leaving, degrees);
-    wake_all(queues, vertices, leaving, degrees, stuck, ready);
+    free_all(queues, vertices, leaving, degrees, stuck, ready);
     remove_all(queues, vertices, leaving);
 }

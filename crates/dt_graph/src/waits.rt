@@ -110,7 +110,8 @@ impl Waits {
         ensures ready { self.new.ready.bound ≡ self.old.ready.bound }
         ensures stuck { self.new.stuck.bound ≡ self.old.stuck.bound }
     {
-        let mut slots = self.copied_slots(alloc, vertex, part.keys.as_slice().len())?;
+        let mut slots = self.copied_slots(alloc, vertex)?;
+        slots.reserve(part.keys.as_slice().len())?;
         let degree = enter(
             alloc,
             &mut self.queues,
@@ -124,15 +125,12 @@ impl Waits {
         Ok(())
     }
 
-    /// A copy of the slots of a vertex, with room for n more.
-    fn copied_slots(&self, alloc: Global, vertex: u32, more: usize) -> Result<Slots, NoMemory>
+    /// A copy of the slots of a vertex.
+    fn copied_slots(&self, alloc: Global, vertex: u32) -> Result<Slots, NoMemory>
         requires { vertex < length self.now.vertices.items }
         ensures { IfOk result (λ slots. slots ≡ (vertex_at self.now.vertices.items vertex).slots) }
     {
-        let slots = self.vertices[vertex as usize].slots.as_slice();
-        let mut copied = Vec::with_capacity(alloc, slots.len().saturating_add(more))?;
-        copied.extend_from_slice(slots)?;
-        Ok(Slots::from_vec(copied))
+        self.vertices[vertex as usize].slots.copy(alloc)
     }
 
     /// Gives a vertex with a part more its slots and its degree.

@@ -4,4 +4,5 @@ pub mod Free
 pub mod Empty
 pub mod Crossing
 pub mod Captures
+pub mod Counting
 pub mod Callers

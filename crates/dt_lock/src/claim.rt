@@ -1,6 +1,8 @@
-ghost use Rattle.std.specs.Prelude.{◌≡◌, IfOk, IfErr};
+ghost use Rattle.std.specs.Prelude.{◌≡◌, ◌↔◌, IfOk, IfErr, IsTrue};
+ghost use Rattle.dt_lock.specs.Long.{IsLongBody};
 
 use crate::named::Named;
+use crate::statements::is_long;
 use dt_access::TxnId;
 use dt_proc::Procs;
 use dt_table::Effect;
@@ -59,11 +61,13 @@ impl<N: Named> Claim<N> {
         &self.seen
     }
 
-    // How many outermost statements its procedure has, by which a round judges whether it is worth a thread.
-    pub(crate) fn statements(&self, procs: &Procs) -> usize {
+    // Whether it is a call of a long procedure, by which a round judges whether it is worth a thread.
+    pub(crate) fn is_long(&self, procs: &Procs) -> bool
+        ensures { IsTrue result ↔ IsLongBody procs.now self.now.txn.body }
+    {
         match &self.txn.body {
-            Body::Call(proc, _) => procs.get(*proc).map_or(0, |proc| proc.body().len()),
-            Body::Move(_, _) => 0,
+            Body::Call(proc, _) => is_long(procs, *proc),
+            Body::Move(_, _) => false,
         }
     }
 

@@ -6,7 +6,8 @@ pub trait Gate: Sync {
     /// Called with the id of what was worked, before it is committed.
     fn between(&self, id: TxnId);
 
-    /// Whether it may hold one worker until another comes. Then each claim gets a worker of its own, however short it is.
+    /// Whether it may hold one worker until another comes. Then a round takes every call for a long one, so that each has a
+    /// worker of its own, as far as there are workers.
     fn holds(&self) -> bool {
         true
     }

@@ -1,7 +1,8 @@
-ghost use Rattle.std.specs.Prelude.{◌≡◌, ◌≢◌, ◌↔◌, ◌<◌, [], map, Some, IsTrue, IfOk, IfErr, OnErr};
+ghost use Rattle.std.specs.Prelude.{◌≡◌, ◌≢◌, ◌↔◌, ◌<◌, [], length, map, slice_index, Some, IsTrue, IfOk, IfErr, OnErr};
 ghost use Rattle.dt_events.specs.declared.Event.TheVariants.{Insert};
-ghost use Rattle.dt_sched.specs.Sched.{CanExecute};
+ghost use Rattle.dt_sched.specs.Sched.{CanExecute, IsNextClass};
 ghost use Rattle.dt_txn.specs.Execution.{see};
+ghost use Rattle.dt_sched.specs.Views.{log_at};
 ghost use Rattle.dt_txn.specs.Transaction.{used_of};
 ghost use Rattle.dt_region.specs.Region.{held, sched_of};
 ghost use Rattle.dt_region.specs.Rules.{MakesStep};
@@ -83,6 +84,21 @@ impl<S: Scheduler, N: Named> Held<S, N> {
         ensures { result ≡ N.before.state.regions }
     {
         self.region.regions()
+    }
+
+    // Some class that is resolvable, or `None` where there is none.
+    pub(crate) fn next_class(&self, alloc: Global) -> Result<Option<Ids>, NoMemory>
+        ensures { IfOk result (IsNextClass (sched_of self.now.region.state.logs self.now.region.state.here)) }
+    {
+        self.region.next_class(alloc)
+    }
+
+    // Whether some part of a home's log is still to be inserted.
+    pub(crate) fn lacks(&self, home: u8) -> bool
+        requires { home < N.before.state.regions }
+        ensures { IsTrue result ↔ slice_index self.now.region.state.here.inserted home < length (log_at self.now.region.state.logs home) }
+    {
+        self.region.inserted(home) < self.region.log(home).len()
     }
 
     // More steps than a round can have: each inserts a part of some log, resolves a class of such or executes one.

@@ -19,6 +19,7 @@
 //! round, and the procedures. Read next: `specs/Held.antt`, for what the lock keeps.
 #![tactic(auto)]
 
+mod acting;
 mod by;
 mod claim;
 mod clashes;
@@ -27,6 +28,7 @@ mod held;
 mod jobs;
 mod named;
 mod running;
+mod statements;
 mod threaded;
 
 pub use by::By;

@@ -2,9 +2,10 @@ ghost use Rattle.std.specs.Prelude.{◌≡◌, IfOk, OnOk};
 ghost use Rattle.dt_txn.specs.Replica.{IsDrained};
 ghost use Rattle.dt_round.specs.Rounds.{CanRound, Continues};
 
+use crate::acting::act;
 use crate::gate::Gate;
 use crate::held::Held;
-use crate::jobs::{Job, act, jobs};
+use crate::jobs::{Job, jobs};
 use crate::named::Named;
 use dt_proc::Procs;
 use dt_region::Region;
@@ -20,8 +21,8 @@ use std::{mem, thread};
 
 /// Makes a round of a region by threads, with at most `workers` workers: they insert, resolve and execute, by these procedures,
 /// until nothing is left, and the calling thread finishes what they leave. The promise is that of `Rounds`; it doesn't depend on
-/// how many threads there are, nor on the schedule. No thread is started where fewer than 64 parts of each log are missing and
-/// there is at most one claim, or all claims are short and the gate holds nobody.
+/// how many threads there are, nor on the schedule. No thread is started unless at least two calls can be executed at once that
+/// are long: of a procedure with 256 statements or more, or any call where the gate may hold a worker.
 pub fn round<R: Threads + Wait + Sync, S: Scheduler + Drop + Send, G: Gate>(
     rt: &R,
     alloc: Global,

@@ -1,5 +1,5 @@
 -- Which packets of a link are lost, and which come twice. A plan says so by the number of the packet alone, counted from 1 on
--- each link: it is no chance, so a run with losses can be made again. A lost packet does no harm where the next one arrives,
+-- each link: nothing is left to chance, and in every run the same numbers are lost. A lost packet does no harm where the next one arrives,
 -- since that one carries all that is still missing; so it is a law here that a plan never loses two packets in a row, unless
 -- it loses all. Read next: Links.antt, the ends into which packets are put and out of which they are taken.
 use Rattle.std.specs.Prelude.{◌≢◌, ◌≡◌, ℕ, ◌+◌, ◌<◌}

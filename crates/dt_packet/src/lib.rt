@@ -5,8 +5,8 @@
 //! again: the next packet begins where the last one that is known to have arrived ended, so what was lost is in it, and what
 //! came twice is old.
 //!
-//! Which packets of a link are lost and which come twice is planned by their numbers alone ([`LossPlan`]), so that every run
-//! can be made again. A packet is put into an [`Outlet`] and taken out of an [`Inlet`]; a [`Shelf`] is both, and holds what
+//! Which packets of a link are lost and which come twice is planned by their numbers alone ([`LossPlan`]): in every run the same
+//! numbers. A packet is put into an [`Outlet`] and taken out of an [`Inlet`]; a [`Shelf`] is both, and holds what
 //! waits in between.
 //!
 //! Read next: `specs/Loss.antt` for the plan and what it can't do, `specs/Links.antt` for the ends of a link.

@@ -9,7 +9,7 @@ use crate::cell::Cell;
 use crate::in_use::InUse;
 use crate::lane::Lane;
 use crate::lanes::{first_between, is_empty, last_between, push_mark, remove_mark};
-use crate::mark::Mark;
+use crate::mark::{Mark, Marks};
 use crate::nearest::{near_row, near_rows, near_write, number_or, only};
 use crate::next::Next;
 use crate::rows::Rows;
@@ -108,7 +108,7 @@ impl Kept {
     }
 
     /// The marks of the neighbours of an entry, in the order of their pushes.
-    pub fn near(&self, alloc: Global, cell: Cell) -> Result<Vec<Mark>, NoMemory>
+    pub fn near(&self, alloc: Global, cell: Cell) -> Result<Marks, NoMemory>
         requires kept { AreQueuesKept self.now }
         requires row_in { cell.row < length self.now.rows.names.keys }
         ensures { IfOk result (λ marks. AreMarks (IsNearMark self.now cell) marks.items) }
@@ -189,7 +189,7 @@ impl Kept {
     }
 
     /// Of the marks of reads and writes above a number those of neighbours of an entry.
-    fn near_in_rows(&self, alloc: Global, cell: Cell, low: u64) -> Result<Vec<Mark>, NoMemory>
+    fn near_in_rows(&self, alloc: Global, cell: Cell, low: u64) -> Result<Marks, NoMemory>
         requires kept { AreQueuesKept self.now }
         requires row_in { cell.row < length self.now.rows.names.keys }
         ensures { IfOk result (λ marks. AreMarks (IsNearInMode self.now cell low) marks.items) }

@@ -4,7 +4,7 @@ ghost use Rattle.dt_lists.specs.Lists.{AllIn};
 ghost use Rattle.dt_queue.specs.Lanes.{EndsBelow, IsFirstBetween, IsLastBetween, is_between};
 ghost use Rattle.dt_queue.specs.Numbers.{IsGap, renumbered};
 
-use crate::mark::Mark;
+use crate::mark::{Mark, Marks};
 use dt_text::NoMemory;
 use std::alloc::Global;
 use std::collections::VecDeque;
@@ -100,7 +100,7 @@ impl Lane {
     }
 
     /// Appends the marks with numbers between the two; after `NoMemory` maybe only some of them.
-    pub fn add_between(&self, low: u64, high: u64, marks: &mut Vec<Mark>) -> Result<(), NoMemory>
+    pub fn add_between(&self, low: u64, high: u64, marks: &mut Marks) -> Result<(), NoMemory>
         ensures { OnOk result (marks.new.items ≡ marks.old.items ++ filter (is_between low high) self.now) }
     {
         let Some(next) = low.checked_add(1) else {

@@ -5,7 +5,7 @@ ghost use Rattle.dt_queue.specs.Lanes.{ChangesLane, IsFirstBetween, IsLastBetwee
 ghost use Rattle.dt_queue.specs.Numbers.{IsGap, renumbered};
 
 use crate::lane::Lane;
-use crate::mark::Mark;
+use crate::mark::{Mark, Marks};
 use dt_text::NoMemory;
 use std::alloc::Global;
 
@@ -76,7 +76,7 @@ pub fn add_between(
     place: usize,
     low: u64,
     high: u64,
-    marks: &mut Vec<Mark>,
+    marks: &mut Marks,
 ) -> Result<(), NoMemory>
     ensures { OnOk result (marks.new.items ≡ marks.old.items ++ filter (is_between low high) (get_or lanes.now place [])) }
 {

@@ -4,8 +4,9 @@ ghost use Rattle.dt_queue.specs.Lanes.{AddsMarks, AreApart, AreMarks, HasRisingN
 
 use crate::lane::Lane;
 use crate::lanes::{add_between, last_between};
-use crate::mark::Mark;
+use crate::mark::{Mark, Marks};
 use dt_text::NoMemory;
+use smallvec::SmallVec;
 use std::alloc::Global;
 
 /// The number of a mark, or the other one where there is no mark.
@@ -19,7 +20,7 @@ pub fn number_or(mark: Option<Mark>, other: u64) -> u64
 }
 
 /// Appends the mark, if there is one.
-pub fn add(mark: Option<Mark>, marks: &mut Vec<Mark>) -> Result<(), NoMemory>
+pub fn add(mark: Option<Mark>, marks: &mut Marks) -> Result<(), NoMemory>
     ensures { OnOk result (marks.new.items ≡ marks.old.items ++ option_to_list mark) }
 {
     if let Some(mark) = mark {
@@ -29,10 +30,10 @@ pub fn add(mark: Option<Mark>, marks: &mut Vec<Mark>) -> Result<(), NoMemory>
 }
 
 /// The mark, if there is one.
-pub fn only(alloc: Global, mark: Option<Mark>) -> Result<Vec<Mark>, NoMemory>
+pub fn only(alloc: Global, mark: Option<Mark>) -> Result<Marks, NoMemory>
     ensures { IfOk result (λ marks. marks.items ≡ option_to_list mark) }
 {
-    let mut marks = Vec::new(alloc);
+    let mut marks = SmallVec::new(alloc);
     add(mark, &mut marks)?;
     Ok(marks)
 }
@@ -44,7 +45,7 @@ pub fn near_write(
     row: usize,
     low: u64,
     high: u64,
-) -> Result<Vec<Mark>, NoMemory>
+) -> Result<Marks, NoMemory>
     requires { HasRisingNumbers (get_or writes.now row []) }
     ensures { IfOk result (λ marks. AreMarks (IsLastIn (get_or writes.now row []) low high) marks.items) }
 {
@@ -59,7 +60,7 @@ pub fn add_row(
     row: usize,
     low: u64,
     high: u64,
-    marks: &mut Vec<Mark>,
+    marks: &mut Marks,
 ) -> Result<(), NoMemory>
     requires { AreApart reads.now writes.now }
     ensures { OnOk result (AddsMarks (IsNearInRow (get_or reads.now row []) (get_or writes.now row []) low high) marks.old.items marks.new.items) }
@@ -81,11 +82,11 @@ pub fn near_row(
     row: usize,
     low: u64,
     high: u64,
-) -> Result<Vec<Mark>, NoMemory>
+) -> Result<Marks, NoMemory>
     requires { AreApart reads.now writes.now }
     ensures { IfOk result (λ marks. AreMarks (IsNearInRow (get_or reads.now row []) (get_or writes.now row []) low high) marks.items) }
 {
-    let mut marks = Vec::new(alloc);
+    let mut marks = SmallVec::new(alloc);
     add_row(reads, writes, row, low, high, &mut marks)?;
     Ok(marks)
 }
@@ -98,15 +99,15 @@ pub fn near_rows(
     rows: &[usize],
     low: u64,
     high: u64,
-) -> Result<Vec<Mark>, NoMemory>
+) -> Result<Marks, NoMemory>
     requires apart { AreApart reads.now writes.now }
     requires once { Distinct rows.now }
     ensures { IfOk result (λ marks. AreMarks (λ m. AnyIn (λ row. IsNearInRow (get_or reads.now row []) (get_or writes.now row []) low high m) rows.now) marks.items) }
 {
-    let mut marks = Vec::new(alloc);
+    let mut marks = SmallVec::new(alloc);
     for row in rows {
         add_row(reads, writes, *row, low, high, &mut marks)?;
     }
-    marks.sort_by_key(|mark| mark.number)?;
+    marks.as_mut_slice().sort_by_key(alloc, |mark| mark.number)?;
     Ok(marks)
 }

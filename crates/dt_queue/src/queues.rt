@@ -1,4 +1,4 @@
-ghost use Rattle.std.specs.Prelude.{◌≡◌, ◌<◌, ◌^◌, [], ◌∷◌, ◌++◌, length, map, slice_get, IfOk, OnErr};
+ghost use Rattle.std.specs.Prelude.{◌≡◌, ◌==◌, ◌<◌, ◌^◌, [], ◌∷◌, ◌++◌, count_by, length, map, not, slice_get, IfOk, OnErr};
 ghost use Rattle.dt_queue.specs.Queues.{IsQueued, follower_of, followers_after, neighbours, taken_out};
 
 use crate::follower::Follower;
@@ -70,6 +70,15 @@ impl Queues {
         vertices(alloc, marks.as_slice())
     }
 
+    /// How many of the neighbours of an entry are of other vertices than this one.
+    pub fn count_others(&self, alloc: Global, slot: usize, vertex: u32) -> Result<usize, NoMemory>
+        requires { IsQueued self.now slot }
+        ensures { IfOk result (λ count. count ≡ count_by (λ n. not (n == vertex)) (map (λ w. w.vertex) (neighbours self.now slot))) }
+    {
+        let marks = self.kept.near(alloc, self.kept.cells[slot])?;
+        Ok(others(marks.as_slice(), vertex))
+    }
+
     /// The first follower of the entry at a slot that was pushed after the one at another slot. So its followers are found one
     /// after the other, from those after itself on. Takes no memory.
     pub fn follower_after(&self, slot: usize, place: usize) -> Option<Follower>
@@ -103,4 +112,11 @@ fn vertices(alloc: Global, marks: &[Mark]) -> Result<Vec<u32>, NoMemory>
         vertices.push(mark.vertex)?;
     }
     Ok(vertices)
+}
+
+/// How many marks are of other vertices than this one.
+fn others(marks: &[Mark], vertex: u32) -> usize
+    ensures { result ≡ count_by (λ m. not (m.vertex == vertex)) marks.now }
+{
+    marks.iter().filter(|mark| mark.vertex != vertex).count()
 }

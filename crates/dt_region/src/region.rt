@@ -145,8 +145,8 @@ impl<S: Scheduler> Region<S> {
         &self.logs[home as usize]
     }
 
-    // How many parts of a home's log it has inserted.
-    fn inserted(&self, home: u8) -> u32
+    /// How many parts of a home's log it has inserted. Takes no memory.
+    pub fn inserted(&self, home: u8) -> u32
         requires { home < self.now.state.regions }
         ensures { result ≡ slice_index self.now.state.here.inserted home }
     {

@@ -54,6 +54,7 @@ impl Model for RingIn {
 pub fn ring(alloc: Global, places: u32) -> Result<(RingOut, RingIn), NoMemory>
     ensures ends { IfOk result (λ r. AreEnds r.0 r.1) }
     ensures empty { IfOk result (λ r. (r.0.put ≡ []) × (r.1.waits ≡ [])) }
+    ensures unused { IfOk result (λ r. (r.0.before ≡ []) × (r.1.taken ≡ [])) }
     ensures places { IfOk result (λ r. (r.0.places ≡ places) × (r.0.free ≡ places)) }
 {
     let room = places as usize;
@@ -74,6 +75,9 @@ pub fn beside(out: &mut RingOut, inlet: &mut RingIn) -> Result<(), NoMemory>
     ensures ends { AreEnds out.new inlet.new }
     ensures waits { inlet.new.waits ≡ inlet.old.waits ++ out.old.put }
     ensures put { out.new.put ≡ [] }
+    ensures ring { out.new.ring ≡ out.old.ring }
+    ensures taken { inlet.new.taken ≡ inlet.old.taken }
+    ensures before { out.new.before ≡ out.old.before ++ out.old.put }
     ensures free { out.new.free + length inlet.new.waits ≡ out.new.places }
     ensures places { out.new.places ≡ out.old.places }
 {

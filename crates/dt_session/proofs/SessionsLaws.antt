@@ -1,25 +1,24 @@
 -- The sessions of a region, gathered from a workload and found by their names.
 use Rattle.std.proofs.Common.{◌≡◌, ◌≢◌, ◌⊎◌, ◌<◌, ◌≤◌, ◌+◌, ◌-◌, ◌==◌, ℕ, zero, suc, Bool, true, false, cond, eq-eqb, eqb, eqb-true, List, [], ◌∷◌}
-use Rattle.std.proofs.Common.{length, map, get_or, drop, slice_get, Some, None, refl, sym, ap, subst, ◌∙◌, inl, inr, arith}
-use Rattle.std.specs.Prelude.{Err, Ok, Option, Result, IsSome, option_and_then, option_map, set}
-use Rattle.std.specs.Result.{result_ok}
+use Rattle.std.proofs.Common.{length, map, get_or, drop, slice_get, ◌++◌, Some, None, refl, sym, ap, subst, ◌∙◌, inl, inr, arith}
+use Rattle.std.specs.Prelude.{Option, IsSome, option_and_then, option_map}
 use Rattle.std.specs.List.{All, AllByRecursion}
-use Rattle.std.specs.List.Sorted.{IsBinarySearchResult, IsPartitionPoint, IsSearchInRange, IsSortedBy, IsStrictlySortedBy}
+use Rattle.std.specs.List.Sorted.{IsStrictlySortedBy}
 use Rattle.std.specs.declared.cmp.Ordering.{Ordering}
 use Rattle.std.specs.declared.cmp.Ordering.TheVariants.{Less, Equal, Greater}
-use Rattle.std.specs.Ordering.{is_eq, is_lt, nat_cmp, ordering_reverse}
+use Rattle.std.specs.Ordering.{is_lt, nat_cmp}
 use Rattle.std.specs.Cmp.Lexicographic.{bytes_decides, slice_cmp, texts_ties}
 use Rattle.std.specs.BTreeMap.{insert_entry}
 use Rattle.std.specs.Map.{keys_of, lookup, set_value}
 use Rattle.std.proofs.lemmas.Map.{keys-set_value}
-use Rattle.std.proofs.lemmas.Bool.{cases_Bool, cases_lt, false_from_ne_true}
+use Rattle.std.proofs.lemmas.Bool.{cases_Bool, false_from_ne_true}
 use Rattle.std.proofs.lemmas.Option.{slice_get-get_or}
-use Rattle.std.proofs.lemmas.List.{drop_more}
-use Rattle.std.proofs.lemmas.List.Sorted.{searchable_from_sorted}
-use Rattle.std.proofs.lemmas.Cmp.{nat_list_cmp_total}
+use Rattle.std.proofs.lemmas.List.{append_assoc, drop_more}
 use Rattle.std.proofs.lemmas.List.Sums.{sum_by-cons}
+use Rattle.indexmap.specs.IndexMap.{IndexMap, insert_entry as insert_last}
+use Rattle.indexmap.proofs.CallerLemmas.{insert_entry-new}
 use Rattle.dt_lists.specs.Lists.{AllIn, Distinct, EachThen, Has}
-use Rattle.dt_lists.proofs.Callers.{all_get, all_put, each_image, each_of_image, has_place, place_within}
+use Rattle.dt_lists.proofs.Callers.{all_get, all_put, each_image, each_of_image, has_middle, has_place, place_within}
 use Rattle.dt_access.specs.Clash.{Bytes, same_key}
 use Rattle.dt_access.specs.Orders.{HasAscendingKeys, KeyBefore}
 use Rattle.dt_access.proofs.Callers.{same_key_after, same_key_self}
@@ -31,10 +30,10 @@ use Rattle.dt_workload.specs.declared.Ranked.{Ranked}
 use Rattle.dt_session.specs.declared.sessions.Seat.{Seat}
 use Rattle.dt_session.specs.Eager.{sessions_at, with_session}
 use Rattle.dt_session.specs.declared.sessions.Waiting.{Waiting}
-use Rattle.dt_session.specs.Sessions.{AreAllAnswered, AreSoundSeats, EachNameIsAnswered, IsSeatAt, IsSoundSeat, MayBeAnswered, MayGo}
-use Rattle.dt_session.specs.Sessions.{MaySeatEnd, MaySeatTry, SessionsView, StandsWithin, attempt_next, idle_seat, is_named, numbers_next, seat_of, waits_of}
+use Rattle.dt_session.specs.Sessions.{AreAllAnswered, AreSoundSeats, EachNameIsAnswered, IsSoundSeat, MayBeAnswered}
+use Rattle.dt_session.specs.Sessions.{MaySeatEnd, MaySeatTry, SessionsView, StandsWithin, idle_seat, is_named, seat_of, waits_of}
 use Rattle.dt_session.specs.World.{Place, idle_place, session_at}
-use Rattle.dt_session.specs.Tries.{Awaited, IsLast, MayEnd, MayTry, body_of, ranked_body}
+use Rattle.dt_session.specs.Tries.{Awaited, MayEnd, MayTry, body_of, ranked_body}
 
 -- one name is another
 pub same_name : (a b : Bytes) → is_named a b ≡ true → a ≡ b
@@ -186,90 +185,43 @@ get_name [] i = refl
 get_name (p ∷ entries) zero = refl
 get_name (p ∷ entries) (suc i) = get_name entries i
 
-pub name_finds : (s : SessionsView) (index : ℕ) (o : Option Bytes) → HasAscendingKeys s.seats → o ≡ slice_get (map (λ p. p.0) s.seats) index
-    → option_and_then (seat_of s) o ≡ option_map (λ p. p.1) (slice_get s.seats index)
-name_finds s index o a e = ap (option_and_then (seat_of s)) (e ∙ get_name s.seats index) ∙ go (slice_get s.seats index) refl
-  where
-    go : (p : Option (Bytes × Seat)) → slice_get s.seats index ≡ p → option_and_then (seat_of s) (option_map (λ q. q.0) p) ≡ option_map (λ q. q.1) p
-    go None is = refl
-    go (Some p) is = finds_own s.seats p a (has_place s.seats index p is)
-
 -- the session of the name at a place is the one that stands there
-pub waits_there : (s : SessionsView) (index : ℕ) (p : Option (Bytes × Seat)) → HasAscendingKeys s.seats → slice_get s.seats index ≡ p
-    → option_and_then (waits_of s) (slice_get (map (λ q. q.0) s.seats) index) ≡ option_and_then (λ (q : Bytes × Seat). option_map (λ (w : Waiting). w.id) q.1.waits) p
-waits_there s index p a e = ap (option_and_then (waits_of s)) (get_name s.seats index ∙ ap (option_map (λ q. q.0)) e) ∙ go p e
-  where
-    go : (o : Option (Bytes × Seat)) → slice_get s.seats index ≡ o
-        → option_and_then (waits_of s) (option_map (λ q. q.0) o) ≡ option_and_then (λ (q : Bytes × Seat). option_map (λ (w : Waiting). w.id) q.1.waits) o
-    go None is = refl
-    go (Some q) is = ap (option_and_then (λ (seat : Seat). option_map (λ (w : Waiting). w.id) seat.waits)) (finds_own s.seats q a (has_place s.seats index q is))
 
--- what halving finds is the place of a name
+pub stands_at : (s : SessionsView) (index : ℕ) (p : Bytes × Seat) → HasAscendingKeys s.seats → slice_get s.seats index ≡ Some p → seat_of s p.0 ≡ Some p.1
+stands_at s index p a e = finds_own s.seats p a (has_place s.seats index p e)
 
--- names that ascend answer a search for a name by a rise
-rising : (entries : List (Bytes × Seat)) → HasAscendingKeys entries → IsSortedBy (λ a b. is_lt (slice_cmp nat_cmp a.0 b.0)) entries
-rising [] a k d low high = absurd (omega (arith, high))
-rising (p ∷ []) a k d low high = absurd (omega (arith, high))
-rising (p ∷ q ∷ entries) a zero d low high = ap is_lt (nat_list_cmp_total.antisymm q.0 p.0 ∙ ap ordering_reverse a.0.0)
-rising (p ∷ q ∷ entries) a (suc k) d low high =
-    let next : suc k + 1 ≡ suc (k + 1) = omega arith in
-    subst (λ n. is_lt (slice_cmp nat_cmp (get_or (p ∷ q ∷ entries) n d).0 (get_or (q ∷ entries) k d).0) ≡ false) (sym next) (rising (q ∷ entries) a.1 k d (omega arith) (omega (arith, high)))
+pub waits_there : (s : SessionsView) (index : ℕ) (p : Bytes × Seat) → HasAscendingKeys s.seats → slice_get s.seats index ≡ Some p
+    → option_and_then (waits_of s) (slice_get (map (λ q. q.0) s.seats) index) ≡ option_map (λ (w : Waiting). w.id) p.1.waits
+waits_there s index p a e =
+    ap (option_and_then (waits_of s)) (get_name s.seats index ∙ ap (option_map (λ q. q.0)) e)
+    ∙ ap (option_and_then (λ (seat : Seat). option_map (λ (w : Waiting). w.id) seat.waits)) (stands_at s index p a e)
 
-not_found : (entries : List (Bytes × Seat)) (name : Bytes) → ((k : ℕ) (d : Bytes × Seat) → k < length entries → is_named (get_or entries k d).0 name ≡ false) → lookup (is_named name) entries ≡ None
-not_found [] name other = refl
-not_found (p ∷ entries) name other = go (cases_Bool (is_named name p.0)) (not_found entries name (λ k d lt. other (suc k) d (omega (arith, lt))))
-  where
-    go : (is_named name p.0 ≡ true) ⊎ (is_named name p.0 ≡ false) → lookup (is_named name) entries ≡ None → lookup (is_named name) (p ∷ entries) ≡ None
-    go (inl y) rest =
-        let own : is_named p.0 name ≡ true = ap (is_named p.0) (same_name name p.0 y) ∙ sym (texts_ties p.0 p.0) ∙ same_key_self p.0 in
-        let no : ◌≡◌ {A = Bool} true false = sym own ∙ other zero p (omega arith) in cc
-    go (inr n) rest = rw n rest
+-- names are told apart by `==`, as the map does, as they are by their order
 
-pub place_is : (s : SessionsView) (name : Bytes) (r : Result ℕ ℕ) (o : Option ℕ) → HasAscendingKeys s.seats → IsSearchInRange r (length s.seats)
-    → IsBinarySearchResult (λ p. slice_cmp nat_cmp p.0 name) s.seats r → o ≡ result_ok r → IsSeatAt s name o
-place_is s name (Ok i) o a within found e =
-    let d = get_or s.seats i (name, record { calls = []; answered = 0; waits = None }) in
-    let at : slice_get s.seats i ≡ Some d = slice_get-get_or s.seats i (name, record { calls = []; answered = 0; waits = None }) within in
-    let named : d.0 ≡ name = same_name d.0 name (ap is_eq (found (name, record { calls = []; answered = 0; waits = None }))) in
-    subst (IsSeatAt s name) (sym e)
-    (d.1, at ∙ ap (λ n. Some (n, d.1)) named, subst (λ n. seat_of s n ≡ Some d.1) named (finds_own s.seats d a (has_place s.seats i d at)))
-place_is s name (Err i) o a within found e =
-    let parts = found (searchable_from_sorted nat_list_cmp_total (λ (p : Bytes × Seat). p.0) s.seats name (rising s.seats a)) in
-    subst (IsSeatAt s name) (sym e) (not_found s.seats name (λ k d lt. go k d lt (cases_lt k i) parts))
-  where
-    go : (k : ℕ) (d : Bytes × Seat) → k < length s.seats → (k < i) ⊎ (i ≤ k) → IsPartitionPoint (λ y. slice_cmp nat_cmp y.0 name ≡ Less) (λ y. slice_cmp nat_cmp y.0 name ≡ Greater) s.seats i
-        → is_named (get_or s.seats k d).0 name ≡ false
-    go k d lt (inl before) parts = ap is_eq (parts.0 k d (omega arith) before)
-    go k d lt (inr behind) parts = ap is_eq (parts.1 k d behind lt)
+pub looked_up : (entries : List (Bytes × Seat)) (name : Bytes) → lookup (same_key name) entries ≡ lookup (is_named name) entries
+looked_up entries name = ap (λ test. lookup test entries) (λ j other. texts_ties name other j)
 
--- what stands at the place of a name
-pub placed : (s : SessionsView) (name : Bytes) (place : ℕ) (x : Bytes × Seat) → IsSeatAt s name (Some place) → x ≡ get_or s.seats place x
-    → (place < length s.seats) × (slice_get s.seats place ≡ Some (name, x.1)) × (seat_of s name ≡ Some x.1) × (x.0 ≡ name)
-placed s name place x p e =
-    let lt : place < length s.seats = place_within s.seats place (name, p.0) p.1 in
-    let some : ◌≡◌ {A = Option (Bytes × Seat)} (Some x) (Some (name, p.0)) = ap Some e ∙ sym (slice_get-get_or s.seats place x lt) ∙ p.1 in
-    let is : x ≡ (name, p.0) = cc in
-    let own : p.0 ≡ x.1 = ap (λ y. y.1) (sym is) in
-    (lt, p.1 ∙ ap (λ seat. Some (name, seat)) own, p.2 ∙ ap Some own, ap (λ y. y.0) is)
+pub written : (entries : List (Bytes × Seat)) (name : Bytes) (seat : Seat) → set_value (same_key name) entries seat ≡ set_value (is_named name) entries seat
+written entries name seat = ap (λ test. set_value test entries seat) (λ j other. texts_ties name other j)
 
--- the attempt that comes next for a session has the number that it is said to have
-pub attempt_is : (o : Option Seat) (seat : Seat) (call attempt : ℕ) → o ≡ Some seat → option_map numbers_next o ≡ Some (call, attempt) → attempt ≡ attempt_next seat
-attempt_is o seat call attempt e h =
-    let some : ◌≡◌ {A = Option (ℕ × ℕ)} (Some (numbers_next seat)) (Some (call, attempt)) = sym (ap (option_map numbers_next) e) ∙ h in
-    let same : numbers_next seat ≡ (call, attempt) = cc in
-    ap (λ p. p.1) (sym same)
+-- so the map finds the session of a name
+pub mapped : (s : SessionsView) (name : Bytes) (o : Option Seat) → o ≡ lookup (same_key name) s.seats → seat_of s name ≡ o
+mapped s name o e = sym (e ∙ looked_up s.seats name)
 
--- another session at the place of a name is the one that is put for the name
-pub set_at : (entries : List (Bytes × Seat)) (place : ℕ) (name : Bytes) (was seat : Seat) → HasAscendingKeys entries → slice_get entries place ≡ Some (name, was)
-    → set entries place (name, seat) ≡ set_value (is_named name) entries seat
-set_at [] place name was seat a e = cc
-set_at (p ∷ entries) zero name was seat a e =
-    let same : p ≡ (name, was) = cc in
-    let own : is_named name p.0 ≡ true = ap (λ x. is_named name x.0) same ∙ sym (texts_ties name name) ∙ same_key_self name in
-    rw own (ap (λ n. (n, seat) ∷ entries) (ap (λ x. x.0) (sym same)))
-set_at (p ∷ entries) (suc place) name was seat a e =
-    let other : is_named name p.0 ≡ false = sym (texts_ties name p.0) ∙ same_key_after name p.0 (all_get (λ x. KeyBefore p.0 x.0) entries a.0 (name, was) (has_place entries place (name, was) e)) in
-    rw other (ap (λ l. p ∷ l) (set_at entries place name was seat a.1 e))
+-- the name that follows others is not among them
+not_before : (done : List (Bytes × Seat)) (p : Bytes × Seat) (rest : List (Bytes × Seat)) → HasAscendingKeys (done ++ p ∷ rest) → lookup (same_key p.0) done ≡ None
+not_before [] p rest a = refl
+not_before (q ∷ done) p rest a =
+    let before : KeyBefore q.0 p.0 = all_get (λ x. KeyBefore q.0 x.0) (done ++ p ∷ rest) a.0 p (has_middle done p rest) in
+    rw (same_key_after p.0 q.0 before) (not_before done p rest a.1)
+
+-- so where the sessions of a sorted list are put into the map one after another, each goes last
+pub goes_last : {S : Type 0} (done : IndexMap Bytes Seat S) (p : Bytes × Seat) (rest left whole : List (Bytes × Seat)) → left ≡ p ∷ rest → IsStrictlySortedBy (slice_cmp nat_cmp) (keys_of whole)
+    → done.entries ++ left ≡ whole → insert_last same_key done.entries p.0 p.1 ++ rest ≡ whole
+goes_last done p rest left whole first sorted e =
+    let all : done.entries ++ p ∷ rest ≡ whole = ap (λ l. done.entries ++ l) (sym first) ∙ e in
+    ap (λ l. l ++ rest) (insert_entry-new same_key done p.0 p.1 (not_before done.entries p rest (subst HasAscendingKeys (sym all) (ascends whole sorted))))
+    ∙ append_assoc done.entries (p ∷ []) rest ∙ all
 
 -- what holds of each session that a name finds holds of all, and back
 
@@ -296,39 +248,29 @@ idle_within seat sound e = subst (StandsWithin (length seat.calls) seat.answered
 pub waiting_within : (seat : Seat) (w : Waiting) → IsSoundSeat seat → seat.waits ≡ Some w → seat.answered < length seat.calls
 waiting_within seat w sound e = subst (StandsWithin (length seat.calls) seat.answered) e sound.within
 
--- what is allowed of a session that is here, or is not
+-- what is allowed of a session, by what it waits for
 
-module _ (s : SessionsView) (name : Bytes) (last : Option Outcome) where
-  pub not_here : seat_of s name ≡ None → MayBeAnswered s name last → ⊥
-  not_here e m = subst (λ o. MaySeatEnd s.tries o last) e m
+pub not_here : (s : SessionsView) (name : Bytes) (last : Option Outcome) → seat_of s name ≡ None → MayBeAnswered s name last → ⊥
+not_here s name last e m = subst (λ o. MaySeatEnd s.tries o last) e m
 
-  module _ (seat : Seat) (found : seat_of s name ≡ Some seat) where
-    abbrev told : Option Waiting → Option Awaited
-    told o = option_map (λ x. record { attempt = x.attempt; outcome = last }) o
+-- one that may submit or be answered has a call left
+module _ (tries : ℕ) (seat : Seat) (last : Option Outcome) (sound : IsSoundSeat seat) where
+  abbrev told : Option Waiting → Option Awaited
+  told o = option_map (λ x. record { attempt = x.attempt; outcome = last }) o
 
-    pub not_waiting : seat.waits ≡ None → MayBeAnswered s name last → ⊥
-    not_waiting e m = subst (λ o. MayEnd s.tries (told o)) e (subst (λ o. MaySeatEnd s.tries o last) found m)
+  pub call_to_try : MaySeatTry tries (Some seat) last → seat.answered < length seat.calls
+  call_to_try m = go seat.waits refl m
+    where
+      go : (o : Option Waiting) → seat.waits ≡ o → MayTry tries (length seat.calls) seat.answered (told o) → seat.answered < length seat.calls
+      go None e m = m
+      go (Some w) e m = waiting_within seat w sound e
 
-    pub ends : (w : Waiting) → seat.waits ≡ Some w → MayBeAnswered s name last → IsLast s.tries w.attempt last
-    ends w e m = subst (λ o. MayEnd s.tries (told o)) e (subst (λ o. MaySeatEnd s.tries o last) found m)
-
-    pub is_end : (w : Waiting) → seat.waits ≡ Some w → IsLast s.tries w.attempt last → MayBeAnswered s name last
-    is_end w e l = subst (λ o. MaySeatEnd s.tries o last) (sym found) (subst (λ o. MayEnd s.tries (told o)) (sym e) l)
-
-    -- one that may submit or be answered has a call left
-    pub call_to_try : IsSoundSeat seat → MayGo s name last → seat.answered < length seat.calls
-    call_to_try sound m = go seat.waits refl (subst (λ o. MaySeatTry s.tries o last) found m)
-      where
-        go : (o : Option Waiting) → seat.waits ≡ o → MayTry s.tries (length seat.calls) seat.answered (told o) → seat.answered < length seat.calls
-        go None e m = m
-        go (Some w) e m = waiting_within seat w sound e
-
-    pub call_to_end : IsSoundSeat seat → MayBeAnswered s name last → seat.answered < length seat.calls
-    call_to_end sound m = go seat.waits refl (subst (λ o. MaySeatEnd s.tries o last) found m)
-      where
-        go : (o : Option Waiting) → seat.waits ≡ o → MayEnd s.tries (told o) → seat.answered < length seat.calls
-        go None e m = absurd m
-        go (Some w) e m = waiting_within seat w sound e
+  pub call_to_end : MaySeatEnd tries (Some seat) last → seat.answered < length seat.calls
+  call_to_end m = go seat.waits refl m
+    where
+      go : (o : Option Waiting) → seat.waits ≡ o → MayEnd tries (told o) → seat.answered < length seat.calls
+      go None e m = absurd m
+      go (Some w) e m = waiting_within seat w sound e
 
 -- the call of a number is what the workload wants
 pub body_is : (o : Option Seat) (seat : Seat) (call : ℕ) (d ranked : Ranked) (body : Body) → o ≡ Some seat → call - 1 < length seat.calls → ranked ≡ get_or seat.calls (call - 1) d → body ≡ body_of ranked.wanted

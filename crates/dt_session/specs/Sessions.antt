@@ -42,11 +42,6 @@ is_named name other = is_eq (slice_cmp nat_cmp name other)
 abbrev pub seat_of : SessionsView → Bytes → Option Seat
 seat_of s name = lookup (is_named name) s.seats
 
--- a place in byte order of names at which the session of a name stands, or none, where it is not here
-abbrev pub IsSeatAt : SessionsView → Bytes → Option ℕ → Type 0
-IsSeatAt s name None = seat_of s name ≡ None
-IsSeatAt s name (Some place) = (seat : Seat) × (slice_get s.seats place ≡ Some (name, seat)) × (seat_of s name ≡ Some seat)
-
 -- the attempt that a session waits for, if it does, with the outcome that it is said to have
 abbrev pub awaited_in : Seat → Option Outcome → Option Awaited
 awaited_in seat last = option_map (λ w. record { attempt = w.attempt; outcome = last }) seat.waits

@@ -1,15 +1,17 @@
-ghost use Rattle.std.specs.Prelude.{◌≡◌, ◌↔◌, ◌≤◌, ◌<◌, ◌+◌, length, map, option_and_then, option_map, slice_get, IfOk, IsSome, IsTrue, Some};
+ghost use Rattle.std.specs.Prelude.{◌≡◌, ◌↔◌, ◌≤◌, ◌<◌, ◌+◌, length, map, option_and_then, option_map, slice_get, IfOk, IfSome, IsSome, IsTrue, Some};
 ghost use Rattle.std.specs.Option.{option_copied};
 ghost use Rattle.dt_lists.specs.Lists.{Distinct};
 ghost use Rattle.dt_access.specs.Orders.{HasAscendingKeys};
 ghost use Rattle.dt_workload.specs.Valid.{calls_in, session_names};
-ghost use Rattle.dt_session.specs.Sessions.{AreAllAnswered, AreSoundSeats, EachNameIsAnswered, IsNext, IsSeatAt, MayBeAnswered, MayGo, after_answer, after_wait, all_idle, seat_of, waits_of, wanted_of};
+ghost use Rattle.dt_session.specs.Sessions.{AreAllAnswered, AreSoundSeats, EachNameIsAnswered, IsNext, IsSoundSeat, MayBeAnswered, MayGo, MaySeatEnd, MaySeatTry};
+ghost use Rattle.dt_session.specs.Sessions.{after_answer, after_wait, all_idle, numbers_next, seat_of, waits_of, wanted_of};
 ghost use Rattle.dt_session.specs.Tries.{IsLast, IsStale, body_of, ranked_body};
 
 use dt_access::{TryCopy, TxnId};
 use dt_text::{Name, NoMemory};
 use dt_txn::{Body, Outcome};
 use dt_workload::{Bodies, Wanted, Workload};
+use indexmap::IndexMap;
 use std::alloc::Global;
 use std::collections::BTreeMap;
 use std::marker::Model;
@@ -39,8 +41,8 @@ pub struct Seat {
 #[derive(Drop)]
 pub struct Sessions {
     tries: u32,
-    /// In byte order of names, so a name is found by halving.
-    seats: Vec<(Name, Seat)>,
+    /// In byte order of names.
+    seats: IndexMap<Name, Seat>,
 }
 
 impl Model for Sessions {
@@ -51,9 +53,9 @@ impl Model for Sessions {
 
     ghost coded = { sessions_code };
 
-    ghost view = { λ s. record { tries = s.tries; seats = s.seats.items } };
+    ghost view = { λ s. record { tries = s.tries; seats = s.seats.entries } };
 
-    ghost invariant = { λ s. AreSoundSeats s.seats.items };
+    ghost invariant = { λ s. AreSoundSeats s.seats.entries };
 }
 
 impl Sessions {
@@ -84,21 +86,12 @@ impl Sessions {
         })
     }
 
-    /// The place of the session of this name, if it is here.
-    fn place_of(&self, session: &Name) -> Option<usize>
-        ensures found { IsSeatAt self.now session.now result }
-        ensures sound { AreSoundSeats self.now.seats }
-    {
-        self.seats.binary_search_by(|seat| seat.0.cmp(session)).ok()
-    }
-
     /// The session of this name, if it is here.
     fn seat(&self, session: &Name) -> Option<&Seat>
         ensures found { option_copied result ≡ seat_of self.now session.now }
         ensures sound { AreSoundSeats self.now.seats }
     {
-        let place = self.place_of(session)?;
-        Some(&self.seats[place].1)
+        self.seats.get(session)
     }
 
     /// The numbers of the call and of the attempt, both from 1, that the session of this name may submit next. `last` is the
@@ -106,18 +99,7 @@ impl Sessions {
     pub fn next(&self, session: &Name, last: Option<&Outcome>) -> Option<(u32, u32)>
         ensures { IsNext self.now session.now (option_copied last.entry) result }
     {
-        let seat = self.seat(session)?;
-        let Some(waiting) = seat.waits else {
-            return if (seat.answered as usize) < seat.calls.len() {
-                Some((seat.answered + 1, 1))
-            } else {
-                None
-            };
-        };
-        if !is_stale(last) || waiting.attempt >= self.tries {
-            return None;
-        }
-        Some((seat.answered + 1, waiting.attempt + 1))
+        next_numbers(self.tries, self.seat(session)?, last)
     }
 
     /// Lets the session of this name wait for its next attempt, which got this id. `next` gives its numbers.
@@ -125,13 +107,13 @@ impl Sessions {
         requires { MayGo self.old session.now (option_copied last) }
         ensures { self.new ≡ after_wait self.old session.now id }
     {
-        let Some((_, attempt)) = self.next(session, last) else {
+        let Some(seat) = self.seats.get_mut(session) else {
             unreachable!()
         };
-        let Some(place) = self.place_of(session) else {
+        let Some((_, attempt)) = next_numbers(self.tries, seat, last) else {
             unreachable!()
         };
-        self.seats[place].1.waits = Some(Waiting { id, attempt });
+        seat.waits = Some(Waiting { id, attempt });
     }
 
     /// The attempt that the session of this name waits for. `None` exactly where it is idle or not here.
@@ -161,7 +143,7 @@ impl Sessions {
         ensures finds { option_and_then (seat_of self.now) (option_copied result) ≡ option_map (λ p. p.1) (slice_get self.now.seats index) }
         ensures ascending { HasAscendingKeys self.now.seats }
     {
-        let (name, _) = self.seats.get(index as usize)?;
+        let (name, _) = self.seats.get_index(index as usize)?;
         Some(name)
     }
 
@@ -170,7 +152,7 @@ impl Sessions {
     pub fn waits_at(&self, index: u32) -> Option<TxnId>
         ensures { result ≡ option_and_then (waits_of self.now) (slice_get (map (λ p. p.0) self.now.seats) index) }
     {
-        let (_, seat) = self.seats.get(index as usize)?;
+        let (_, seat) = self.seats.get_index(index as usize)?;
         waited_for(seat)
     }
 
@@ -192,10 +174,7 @@ impl Sessions {
         let Some(seat) = self.seat(session) else {
             return false;
         };
-        let Some(waiting) = seat.waits else {
-            return false;
-        };
-        is_last(self.tries, waiting.attempt, last)
+        is_answerable(self.tries, seat, last)
     }
 
     /// Answers the session of this name, if it may be answered: it waits for nothing then, before its next call. `last` is
@@ -205,13 +184,12 @@ impl Sessions {
         ensures answered { IsTrue result → self.new ≡ after_answer self.old session.now }
         ensures same { ¬ (IsTrue result) → self.new ≡ self.old }
     {
-        if !self.may_answer(session, last) {
+        let Some(seat) = self.seats.get_mut(session) else {
+            return false;
+        };
+        if !is_answerable(self.tries, seat, last) {
             return false;
         }
-        let Some(place) = self.place_of(session) else {
-            unreachable!()
-        };
-        let seat = &mut self.seats[place].1;
         seat.answered += 1;
         seat.waits = None;
         true
@@ -219,14 +197,44 @@ impl Sessions {
 }
 
 /// The sessions of a map, in the order of their names.
-fn listed(alloc: Global, seats: BTreeMap<Name, Seat>) -> Result<Vec<(Name, Seat)>, NoMemory>
-    ensures { IfOk result (λ listed. listed.items ≡ seats.entries) }
+fn listed(alloc: Global, seats: BTreeMap<Name, Seat>) -> Result<IndexMap<Name, Seat>, NoMemory>
+    ensures { IfOk result (λ listed. listed.entries ≡ seats.entries) }
 {
-    let mut listed = Vec::with_capacity(alloc, seats.len())?;
-    for seat in seats {
-        listed.push(seat)?;
+    let mut listed = IndexMap::with_capacity(alloc, seats.len())?;
+    for (name, seat) in seats {
+        listed.insert(name, seat)?;
     }
     Ok(listed)
+}
+
+/// The numbers of the call and of the attempt, both from 1, that a session may submit next, where the attempt that it waits
+/// for, if it waits for one, has this outcome. `None` exactly where it may submit nothing.
+fn next_numbers(tries: u32, seat: &Seat, last: Option<&Outcome>) -> Option<(u32, u32)>
+    requires { IsSoundSeat seat.now }
+    ensures may { IsSome result ↔ MaySeatTry tries (Some seat.now) (option_copied last.entry) }
+    ensures numbers { IfSome result (λ numbers. numbers ≡ numbers_next seat.now) }
+{
+    let Some(waiting) = seat.waits else {
+        return if (seat.answered as usize) < seat.calls.len() {
+            Some((seat.answered + 1, 1))
+        } else {
+            None
+        };
+    };
+    if !is_stale(last) || waiting.attempt >= tries {
+        return None;
+    }
+    Some((seat.answered + 1, waiting.attempt + 1))
+}
+
+/// Whether a session may be answered, where the attempt that it waits for, if it waits for one, has this outcome.
+fn is_answerable(tries: u32, seat: &Seat, last: Option<&Outcome>) -> bool
+    ensures { IsTrue result ↔ MaySeatEnd tries (Some seat.now) (option_copied last.entry) }
+{
+    let Some(waiting) = seat.waits else {
+        return false;
+    };
+    is_last(tries, waiting.attempt, last)
 }
 
 /// The attempt that a session waits for, if it does.

@@ -3,9 +3,13 @@
 #![tactic(auto)]
 
 #[cfg(test)]
+mod backlog;
+#[cfg(test)]
 mod calls;
 #[cfg(test)]
 mod feeding;
+#[cfg(test)]
+mod lengths;
 #[cfg(test)]
 mod locked;
 #[cfg(test)]

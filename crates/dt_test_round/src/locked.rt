@@ -17,7 +17,7 @@ use std::sync::atomic::{AtomicU64, Ordering};
 use std::test::Fail;
 use std::thread::Threads;
 
-/// A region is fed these parts and makes a round by threads: its events from then on.
+/// A region is fed these parts and makes a round by threads.
 fn go_on<R: Threads + Wait + Sync, S: Scheduler + Drop + Send, G: Gate>(
     rt: &R,
     alloc: Global,
@@ -26,12 +26,27 @@ fn go_on<R: Threads + Wait + Sync, S: Scheduler + Drop + Send, G: Gate>(
     rows: &[Row],
     workers: u32,
     gate: &G,
-) -> Result<Vec<u8>, Fail>
+) -> Result<(), Fail>
     requires { WasFed procs.now 0 region.old }
 {
     feed_all(alloc, region, procs, rows)?;
     round(rt, alloc, region, procs, workers, gate)?;
-    events_from(alloc, region, rows.len())
+    Ok(())
+}
+
+/// Region 3 of four, after it was fed these parts and made a round by threads.
+pub fn after<R: Threads + Wait + Sync, S: Scheduler + Drop + Send, G: Gate>(
+    rt: &R,
+    alloc: Global,
+    procs: &Procs,
+    rows: &[Row],
+    workers: u32,
+    gate: &G,
+) -> Result<Region<S>, Fail> {
+    let table = Table::new(alloc, 1, 4, &[], &[])?;
+    let mut region: Region<S> = Region::new(alloc, 3, 4, table)?;
+    go_on(rt, alloc, &mut region, procs, rows, workers, gate)?;
+    Ok(region)
 }
 
 /// What region 3 of four makes of these parts.
@@ -43,9 +58,8 @@ fn told<R: Threads + Wait + Sync, S: Scheduler + Drop + Send, G: Gate>(
     gate: &G,
 ) -> Result<Vec<u8>, Fail> {
     let procs = builtin_procs(alloc)?;
-    let table = Table::new(alloc, 1, 4, &[], &[])?;
-    let mut region: Region<S> = Region::new(alloc, 3, 4, table)?;
-    go_on(rt, alloc, &mut region, &procs, rows, workers, gate)
+    let region: Region<S> = after(rt, alloc, &procs, rows, workers, gate)?;
+    events_from(alloc, &region, rows.len())
 }
 
 /// A gate that lets everyone pass, but might hold them: so each claim gets a worker of its own.
@@ -92,12 +106,27 @@ fn a_round_without_workers_is_finished_by_the_calling_thread(rt: HostRuntime) ->
     Ok(())
 }
 
-/// Notes how many workers passed, the ids that did as bits, and whether the first one met a second one.
+/// Notes how many workers passed, the numbers of their ids added up, and whether the first one met a second one.
 #[derive(Drop)]
-struct Meeting {
+pub struct Meeting {
     begun: AtomicU64,
     ids: AtomicU64,
     alone: AtomicU64,
+}
+
+impl Meeting {
+    pub fn new() -> Self {
+        Meeting {
+            begun: AtomicU64::new(0),
+            ids: AtomicU64::new(0),
+            alone: AtomicU64::new(0),
+        }
+    }
+
+    /// Whether a first worker passed, and met a second one.
+    pub fn has_seen_two(&self) -> bool {
+        self.begun.load(Ordering::SeqCst) > 1 && self.alone.load(Ordering::SeqCst) == 0
+    }
 }
 
 // So often the first worker looks for a second one.
@@ -120,15 +149,11 @@ impl Gate for Meeting {
 
 #[test]
 fn two_workers_are_at_work_at_once(rt: HostRuntime) -> Result<(), Fail> {
-    let gate = Meeting {
-        begun: AtomicU64::new(0),
-        ids: AtomicU64::new(0),
-        alone: AtomicU64::new(0),
-    };
+    let gate = Meeting::new();
     let rows: [Row<'static>; 2] = [(0, 1, 0, PUT), (0, 2, 0, PUT_H)];
     let _told = told::<_, QueueSched, _>(&rt, rt.alloc(), &rows, 2, &gate)?;
+    assert!(rt; gate.has_seen_two());
     assert!(rt; gate.begun.load(Ordering::SeqCst) == 2);
     assert!(rt; gate.ids.load(Ordering::SeqCst) == 3);
-    assert!(rt; gate.alone.load(Ordering::SeqCst) == 0);
     Ok(())
 }

@@ -30,32 +30,39 @@ pub fn events_from<S: Scheduler>(
     Ok(told)
 }
 
-/// A region is fed these parts and makes a round: its events from then on.
+/// A region is fed these parts and makes a round.
 fn go_on<S: Scheduler>(
     alloc: Global,
     region: &mut Region<S>,
     procs: &Procs,
     rows: &[Row],
-) -> Result<Vec<u8>, Fail>
+) -> Result<(), Fail>
     requires { WasFed procs.now 0 region.old }
 {
     feed_all(alloc, region, procs, rows)?;
     Alone.round(alloc, region, procs)?;
-    events_from(alloc, region, rows.len())
+    Ok(())
+}
+
+/// Region 3 of four, after it was fed these parts and made a round alone.
+pub fn after_alone<S: Scheduler + Drop>(alloc: Global, rows: &[Row]) -> Result<Region<S>, Fail> {
+    let procs = builtin_procs(alloc)?;
+    let table = Table::new(alloc, 1, 4, &[], &[])?;
+    let mut region: Region<S> = Region::new(alloc, 3, 4, table)?;
+    go_on(alloc, &mut region, &procs, rows)?;
+    Ok(region)
 }
 
 /// What region 3 of four makes of these parts.
 fn told<S: Scheduler + Drop>(alloc: Global, rows: &[Row]) -> Result<Vec<u8>, Fail> {
-    let procs = builtin_procs(alloc)?;
-    let table = Table::new(alloc, 1, 4, &[], &[])?;
-    let mut region: Region<S> = Region::new(alloc, 3, 4, table)?;
-    go_on(alloc, &mut region, &procs, rows)
+    let region: Region<S> = after_alone(alloc, rows)?;
+    events_from(alloc, &region, rows.len())
 }
 
 /// In a cluster of four the home of `d` and `h` is region 0, that of `a` region 1 and that of `b` region 2.
-const DA: Call<'static> = (b"xfer", &[b"d", b"a", b"3"]);
+pub const DA: Call<'static> = (b"xfer", &[b"d", b"a", b"3"]);
 
-const AD: Call<'static> = (b"xfer", &[b"a", b"d", b"4"]);
+pub const AD: Call<'static> = (b"xfer", &[b"a", b"d", b"4"]);
 
 const AB: Call<'static> = (b"xfer", &[b"a", b"b", b"1"]);
 

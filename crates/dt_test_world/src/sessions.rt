@@ -43,21 +43,32 @@ fn name_of(alloc: Global, bytes: &[u8]) -> Result<Name, Fail> {
     Ok(Name::read(alloc, bytes)?)
 }
 
-/// A session submits its next call, and is answered.
-fn make_call(alloc: Global, sessions: &mut Sessions, name: &[u8]) -> Result<(), Fail> {
-    let name = name_of(alloc, name)?;
-    let Some(_) = sessions.next(&name, None) else {
+/// A session submits its next call, which gets the id of this number.
+fn submit(sessions: &mut Sessions, name: &Name, seq: u32) -> Result<(), Fail> {
+    let Some(_) = sessions.next(name, None) else {
         return Err(Fail::from("the session has a call left"));
     };
-    sessions.wait(&name, TxnId { seq: 1, region: 0 }, None);
-    if sessions.all_answered() {
-        return Err(Fail::from("a session that waits is not answered"));
-    }
+    sessions.wait(name, TxnId { seq, region: 0 }, None);
+    Ok(())
+}
+
+/// A session is answered.
+fn answer(alloc: Global, sessions: &mut Sessions, name: &Name) -> Result<(), Fail> {
     let outcome = Outcome::Gave(Values::new(alloc));
-    if !sessions.answer(&name, Some(&outcome)) {
+    if !sessions.answer(name, Some(&outcome)) {
         return Err(Fail::from("the session is answered"));
     }
     Ok(())
+}
+
+/// A session submits its next call, and is answered.
+fn make_call(alloc: Global, sessions: &mut Sessions, name: &[u8]) -> Result<(), Fail> {
+    let name = name_of(alloc, name)?;
+    submit(sessions, &name, 1)?;
+    if sessions.all_answered() {
+        return Err(Fail::from("a session that waits is not answered"));
+    }
+    answer(alloc, sessions, &name)
 }
 
 /// Whether all are answered after these sessions made calls one after another.
@@ -93,5 +104,31 @@ fn all_are_answered_once_every_call_is(rt: HostRuntime) -> Result<(), Fail> {
     for (workload, callers, want) in CALLERS {
         assert_eq!(rt; are_answered(rt.alloc(), workload, callers)?, want);
     }
+    Ok(())
+}
+
+/// The ids that the sessions wait for, in the order of their names: two there are, and a place behind them.
+fn waited(sessions: &Sessions) -> [Option<TxnId>; 3] {
+    [
+        sessions.waits_at(0),
+        sessions.waits_at(1),
+        sessions.waits_at(2),
+    ]
+}
+
+#[test]
+fn a_place_shows_the_attempt_that_its_session_waits_for(rt: HostRuntime) -> Result<(), Fail> {
+    let alloc = rt.alloc();
+    let mut sessions = sessions_of(alloc, TWO)?;
+    let (x, y) = (name_of(alloc, b"x")?, name_of(alloc, b"y")?);
+    assert_eq!(rt; waited(&sessions), [None, None, None]);
+    submit(&mut sessions, &y, 7)?;
+    let of_y = Some(TxnId { seq: 7, region: 0 });
+    assert_eq!(rt; waited(&sessions), [None, of_y, None]);
+    submit(&mut sessions, &x, 8)?;
+    let of_x = Some(TxnId { seq: 8, region: 0 });
+    assert_eq!(rt; waited(&sessions), [of_x, of_y, None]);
+    answer(alloc, &mut sessions, &y)?;
+    assert_eq!(rt; waited(&sessions), [of_x, None, None]);
     Ok(())
 }

@@ -1,15 +1,15 @@
 ghost use Rattle.std.specs.Prelude.{◌≡◌, [], ◌∷◌, ◌++◌, IfOk, OnOk, OnErr};
 ghost use Rattle.dt_txn.specs.Accesses.{AreAscendingAccesses};
 
-use dt_access::{Access, TryCopy};
-use dt_text::{Listed, NoMemory};
+use dt_access::{Access, Shared};
+use dt_text::NoMemory;
 use std::alloc::Global;
 use std::marker::Model;
 
 /// The rows that a transaction uses, in ascending order of their keys' bytes; so no key stands twice.
 #[derive(Debug, Drop)]
 pub struct Accesses {
-    items: Listed<Access>,
+    items: Shared<Access>,
 }
 
 impl Model for Accesses {
@@ -30,7 +30,7 @@ impl Accesses {
         ensures { result ≡ [] }
     {
         Accesses {
-            items: Listed::new(alloc),
+            items: Shared::new(alloc),
         }
     }
 
@@ -51,7 +51,7 @@ impl Accesses {
         self.items.as_slice()
     }
 
-    /// An equal list.
+    /// An equal list. Takes no memory.
     pub fn copy(&self, alloc: Global) -> Result<Self, NoMemory>
         ensures { IfOk result (λ copied. copied ≡ self.now) }
     {

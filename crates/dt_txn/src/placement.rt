@@ -77,7 +77,7 @@ fn keys_at(alloc: Global, body: &Body, home: u8, access: &[Access]) -> Result<Ke
             keys.push((entry.key.copy(alloc)?, entry.mode))?;
         }
     }
-    Ok(Keys::from_vec(keys))
+    Keys::from_vec(alloc, keys)
 }
 
 /// The part of a transaction at a home.

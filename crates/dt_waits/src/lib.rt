@@ -11,8 +11,10 @@
 
 mod laws;
 mod open;
+mod slots;
 mod vertex;
 
 pub use laws::{left_is_enough, neighbours_are_enough};
 pub use open::Open;
-pub use vertex::{Slots, Vertex};
+pub use slots::Slots;
+pub use vertex::Vertex;

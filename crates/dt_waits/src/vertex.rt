@@ -1,7 +1,4 @@
-use dt_text::Listed;
-
-/// The slots of entries, in the order in which they were pushed.
-pub type Slots = Listed<usize>;
+use crate::slots::Slots;
 
 /// A transaction, as a vertex of the graph.
 #[derive(Drop)]

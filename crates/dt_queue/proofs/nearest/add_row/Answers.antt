@@ -6,7 +6,7 @@ pub returns-in_ok-add : goal.returns-in_ok-add
 returns-in_ok-add c =
     let reads = c.args.reads.now in
     let writes = c.args.writes.now in
-    let same : length c.add_between.new.marks.items ≡ length c.args.marks.now.items = omega (arith, c.if-len-had.true, c.len.ensures, c.len-had.ensures, c.add_between.new.marks.ok.0, c.args.marks.now.ok.0) in
+    let same : length c.add_between.new.marks.items ≡ length c.args.marks.now.items = omega (arith, c.if-len-had.true, c.len.ensures, c.len-had.ensures) in
     added_write _ _ _ (get_or reads c.args.row []) (get_or writes c.args.row []) c.args.low c.args.high c.number_or.result c.last_between-write.result
     (row_of reads writes c.requires c.args.row) c.last_between-write.ensures c.number_or.ensures
     c.in_ok-add_between.ensures same c.in_ok-add.ensures
@@ -15,7 +15,7 @@ pub returns-else-len-had : goal.returns-else-len-had
 returns-else-len-had c =
     let reads = c.args.reads.now in
     let writes = c.args.writes.now in
-    let other : ¬ (length c.add_between.new.marks.items ≡ length c.args.marks.now.items) = λ e. c.if-len-had.false (omega (arith, e, c.len.ensures, c.len-had.ensures, c.add_between.new.marks.ok.0, c.args.marks.now.ok.0)) in
+    let other : ¬ (length c.add_between.new.marks.items ≡ length c.args.marks.now.items) = λ e. c.if-len-had.false (omega (arith, e, c.len.ensures, c.len-had.ensures)) in
     added_reads _ _ (get_or reads c.args.row []) (get_or writes c.args.row []) c.args.low c.args.high c.number_or.result c.last_between-write.result
     (row_of reads writes c.requires c.args.row) c.last_between-write.ensures c.number_or.ensures
     c.in_ok-add_between.ensures other

@@ -20,7 +20,7 @@ returns-clause-extended c ids classes size once named =
     let degrees : new.degrees.items ≡ grown.degrees.items = ap (λ w. w.degrees.items) c.sort.ensures.same in
     let entered : Enters part.home v part.keys old.queues new.queues (vertex_at old.vertices.items v).slots slots count =
     subst (λ q. Enters part.home v part.keys old.queues q (vertex_at old.vertices.items v).slots slots count) (sym queues)
-    (subst (λ s. Enters part.home v part.keys old.queues c.enter.new.queues s slots count) c.in_ok-slots.ensures c.in_ok-degree.ensures.entered) in
+    (subst (λ s. Enters part.home v part.keys old.queues c.enter.new.queues s slots count) (c.reserve.ensures ∙ c.in_ok-slots.ensures) c.in_ok-degree.ensures.entered) in
     let sorted : Sorts v new.vertices.items new.degrees.items old.ready old.stuck new.ready new.stuck =
     subst (λ l. Sorts v l new.degrees.items old.ready old.stuck new.ready new.stuck) (sym vertices)
     (subst (λ l. Sorts v grown.vertices.items l old.ready old.stuck new.ready new.stuck) (sym degrees)

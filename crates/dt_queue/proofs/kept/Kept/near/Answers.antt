@@ -1,4 +1,4 @@
-use Rattle.std.proofs.Common.{arith, subst, sym}
+use Rattle.std.proofs.Common.{arith, refl, subst, sym}
 use Rattle.std.proofs.lemmas.Result.{IfOk-weaker}
 use Rattle.dt_access.specs.declared.access.Mode.TheVariants.{Whole}
 use Rattle.dt_queue.specs.Kept.{IsNearInMode, IsNearMark, lane}
@@ -17,7 +17,7 @@ returns-then-is_empty c =
     let x = c.args.cell in
     let o = c.last_between-whole.result in
     let last : IsLastBetween 0 x.number (lane k Whole (granule_at k.rows x.row)) o = rw (c.as_slice.ensures.value, c.granule_of-granule.ensures) at c.last_between-whole.ensures in
-    let none = empty_of c.in_ok-marks.marks.items _ c.is_empty.result c.in_ok-marks.marks.ok.0 c.is_empty.ensures c.if-is_empty.true in
+    let none = empty_of c.in_ok-marks.marks.items _ c.is_empty.result refl c.is_empty.ensures c.if-is_empty.true in
     let marks = subst (AreMarks (IsNearInMode k x (number_or o 0))) none (rw c.number_or.ensures at c.in_ok-marks.ensures) in
     IfOk-weaker c.only.result _ _ (λ found e. subst (AreMarks (IsNearMark k x)) (sym e) (near_taker k c.requires.kept x o last marks)) c.only.ensures
 
@@ -27,6 +27,6 @@ returns c =
     let x = c.args.cell in
     let o = c.last_between-whole.result in
     let last : IsLastBetween 0 x.number (lane k Whole (granule_at k.rows x.row)) o = rw (c.as_slice.ensures.value, c.granule_of-granule.ensures) at c.last_between-whole.ensures in
-    let some = some_of c.in_ok-marks.marks.items _ c.is_empty.result c.in_ok-marks.marks.ok.0 c.is_empty.ensures c.if-is_empty.false in
+    let some = some_of c.in_ok-marks.marks.items _ c.is_empty.result refl c.is_empty.ensures c.if-is_empty.false in
     let marks : AreMarks (IsNearInMode k x (number_or o 0)) c.in_ok-marks.marks.items = rw c.number_or.ensures at c.in_ok-marks.ensures in
     near_marks k c.requires.kept x o last c.in_ok-marks.marks.items some.0 some.1 marks

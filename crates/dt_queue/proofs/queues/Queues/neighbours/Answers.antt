@@ -17,4 +17,4 @@ returns c =
     let k = c.self.inside.kept in
     rw (← c.self.view_is)
     (IfOk-weaker c.vertices.result _ _ (λ found e. e ∙ ap
-    (map (λ (m : Mark). m.vertex)) c.as_slice.ensures.value ∙ neighbours_are k c.self.invariant c.args.slot c.index.result.now c.index.ensures c.in_ok-marks.marks.items c.in_ok-marks.ensures) c.vertices.ensures)
+    (map (λ (m : Mark). m.vertex)) c.as_slice.ensures ∙ neighbours_are k c.self.invariant c.args.slot c.index.result.now c.index.ensures c.in_ok-marks.marks.items c.in_ok-marks.ensures) c.vertices.ensures)

@@ -41,6 +41,6 @@ invariant_of-result c =
     let sessions : List Session = c.as_slice-sessions.result.now in
     let whole : length sessions - c.loop-behind.behind ≡ 0 = omega (arith, c.loop-behind-test.false) in
     let few : calls_in sessions ≤ 20000 = subst (λ l. calls_in l ≤ 20000) (sym c.as_slice-sessions.ensures) c.requires.few in
-    let listed : c.in_ok-listed.field-0.items ≡ c.loop-behind.seats.entries = c.in_ok-listed.ensures in
+    let listed : c.in_ok-listed.field-0.entries ≡ c.loop-behind.seats.entries = c.in_ok-listed.ensures in
     let each = subst (AllIn (λ p. IsSoundSeat p.1)) (sym (listed ∙ c.loop-behind.invariant.0 ∙ ap (λ k. map idle_seat (sessions_at c.args.region (drop k sessions))) whole)) (idle_sound c.args.region sessions few) in
     record { ascending = subst HasAscendingKeys (sym listed) c.loop-behind.invariant.1; each = each }

@@ -1,7 +1,7 @@
 use Rattle.std.proofs.Common.{sym, subst}
 use Rattle.dt_region.specs.Conditions.{IsTableFor}
 use Rattle.dt_test_round.proofs.Opening.{fed_none, no_rows_fit}
-use Rattle.dt_test_round.proofs.rounds.told.Goals as goal
+use Rattle.dt_test_round.proofs.rounds.after_alone.Goals as goal
 
 pub new-requires-2-clause-table : goal.new-requires-2-clause-table
 new-requires-2-clause-table g c = subst (IsTableFor 4) (sym c.in_ok-table.ensures) no_rows_fit

@@ -1,10 +1,10 @@
 use Rattle.std.proofs.Common.{length}
 use Rattle.dt_queue.specs.Queues.{followers_after}
-use Rattle.dt_graph.proofs.Waking.{IsWaking}
-use Rattle.dt_graph.proofs.leave.wake_followers.Given as goal
+use Rattle.dt_graph.proofs.Freeing.{IsFreeing}
+use Rattle.dt_graph.proofs.leave.free_followers.Given as goal
 
 abbrev pub invariant-loop-follower : goal.invariant-loop-follower
-invariant-loop-follower l = IsWaking l.queues l.slot l.place l.degrees l.initial.stuck l.initial.ready l.stuck l.ready
+invariant-loop-follower l = IsFreeing l.queues l.slot l.vertex l.place l.initial.degrees l.degrees l.initial.stuck l.initial.ready l.stuck l.ready
 
 abbrev pub decreases-loop-follower : goal.decreases-loop-follower
 decreases-loop-follower l = length (followers_after l.queues l.slot l.place)

@@ -1,0 +1,63 @@
+ghost use Rattle.std.specs.Prelude.{◌≡◌, ◌-◌, ◌↔◌, IsTrue, slice_get};
+ghost use Rattle.dt_lists.specs.Lists.{AnyIn};
+ghost use Rattle.dt_proc.specs.TreeViews.{block_size, block_tree, step_size, stmt_tree};
+ghost use Rattle.dt_lock.specs.Long.{IsLong, IsLongIn};
+
+use dt_proc::{Procs, Stmt};
+
+/// Whether some procedure is long.
+#[tactic(auto, using(crate::proofs::Counting::long_at, crate::proofs::Counting::long_behind))]
+pub fn some_is_long(procs: &Procs) -> bool
+    ensures { IsTrue result ↔ AnyIn IsLong procs.now }
+{
+    for number in 0..procs.len() {
+        if is_long(procs, number) {
+            return true;
+        }
+    }
+    false
+}
+
+/// Whether there is a procedure of this number, counted from 0, and it is long. It looks at no more statements than a long one
+/// has at least.
+pub fn is_long(procs: &Procs, number: u32) -> bool
+    ensures { IsTrue result ↔ IsLongIn (slice_get procs.now number) }
+{
+    match procs.get(number) {
+        Some(proc) => beside_block(LONG, proc.body()) == 0,
+        None => false,
+    }
+}
+
+// Calls of a procedure with fewer statements are done sooner than a thread is started.
+const LONG: usize = 256;
+
+// A number less those of the statements, with the ones within statements: 0 where there are no fewer. It looks at no more
+// statements than the number.
+#[cycle(counting)]
+fn beside_block(number: usize, stmts: &[Stmt]) -> usize
+    ensures { result ≡ number - block_size (block_tree stmts.now) }
+{
+    let mut left = number;
+    for stmt in stmts {
+        if left == 0 {
+            return 0;
+        }
+        left = beside_stmt(left, stmt);
+    }
+    left
+}
+
+// A number less one for a statement, and one for each that is within it.
+#[cycle(counting)]
+fn beside_stmt(number: usize, stmt: &Stmt) -> usize
+    ensures { result ≡ number - step_size (stmt_tree stmt.now) }
+{
+    let others = number.saturating_sub(1);
+    match stmt {
+        Stmt::If(_, then, otherwise) => {
+            beside_block(beside_block(others, then.as_slice()), otherwise.as_slice())
+        }
+        _ => others,
+    }
+}

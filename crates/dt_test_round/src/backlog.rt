@@ -1,0 +1,105 @@
+//! Rounds over long logs: threads insert, resolve and execute beside each other.
+
+use crate::calls::Call;
+use crate::feeding::Row;
+use crate::locked::{Meeting, after};
+use crate::rounds::{AD, DA, after_alone};
+use dt_access::TxnId;
+use dt_graph::QueueSched;
+use dt_proc::builtin_procs;
+use dt_region::Region;
+use dt_sched::Scheduler;
+use dt_text::Key;
+use dt_txn::Outcome;
+use std::alloc::Global;
+use std::test::Fail;
+
+const ADD_D: Call<'static> = (b"add", &[b"d", b"2"]);
+
+const ADD_H: Call<'static> = (b"add", &[b"h", b"3"]);
+
+const ADD_A: Call<'static> = (b"add", &[b"a", b"5"]);
+
+/// How many calls of one home each of the two logs begins with: more than the calling thread inserts before it looks for work
+/// for others.
+const LONG: u32 = 100;
+
+/// Two logs that begin with calls of one home: those of region 0 use two rows in turn, those of region 1 one. Behind them two
+/// transactions wait for each other, and then two more do.
+fn backlog(alloc: Global) -> Result<Vec<Row<'static>>, Fail> {
+    let mut rows: Vec<Row<'static>> = Vec::new(alloc);
+    for seq in 1..=LONG {
+        rows.push((0, seq, 0, if seq % 2 == 0 { ADD_D } else { ADD_H }))?;
+        rows.push((1, seq, 1, ADD_A))?;
+    }
+    for seq in LONG + 1..=LONG + 2 {
+        rows.push((0, seq, 0, DA))?;
+        rows.push((0, seq, 1, AD))?;
+        rows.push((1, seq, 1, AD))?;
+        rows.push((1, seq, 0, DA))?;
+    }
+    Ok(rows)
+}
+
+/// Whether two outcomes are the same, as far as values are given.
+fn are_same(left: Option<&Outcome>, right: Option<&Outcome>) -> bool {
+    match (left, right) {
+        (Some(Outcome::Gave(left)), Some(Outcome::Gave(right))) => {
+            left.as_slice() == right.as_slice()
+        }
+        (Some(Outcome::Aborted(_)), Some(Outcome::Aborted(_))) => true,
+        _ => false,
+    }
+}
+
+/// Whether two regions that were fed these parts have come to the same: the same events in some order, the same outcomes, the
+/// same rows, and nothing left.
+fn have_come_to_the_same<S: Scheduler>(
+    alloc: Global,
+    left: &Region<S>,
+    right: &Region<S>,
+    rows: &[Row],
+) -> Result<bool, Fail> {
+    for kept in left.events() {
+        if !right.events().iter().any(|other| other.event == kept.event) {
+            return Ok(false);
+        }
+    }
+    for (_, seq, region, _) in rows {
+        let id = TxnId {
+            seq: *seq,
+            region: *region,
+        };
+        if !are_same(left.outcome(id), right.outcome(id)) {
+            return Ok(false);
+        }
+    }
+    for name in [b"a", b"d", b"h"] {
+        let key = Key::read(alloc, name)?;
+        if left.table().get(&key) != right.table().get(&key) {
+            return Ok(false);
+        }
+    }
+    Ok(left.events().len() == right.events().len() && left.drained(alloc)? && right.drained(alloc)?)
+}
+
+#[test]
+fn threads_that_insert_resolve_and_work_come_to_the_same(rt: HostRuntime) -> Result<(), Fail> {
+    let procs = builtin_procs(rt.alloc())?;
+    let rows = backlog(rt.alloc())?;
+    let alone: Region<QueueSched> = after_alone(rt.alloc(), rows.as_slice())?;
+    for workers in [2, 3, 8] {
+        let gate = Meeting::new();
+        let region: Region<QueueSched> = after(
+            &rt,
+            rt.alloc(),
+            &procs,
+            rows.as_slice(),
+            workers,
+            &gate,
+        )?;
+        assert!(rt; gate.has_seen_two());
+        assert!(rt; have_come_to_the_same(rt.alloc(), &alone, &region, rows.as_slice())?);
+    }
+    Ok(())
+}
