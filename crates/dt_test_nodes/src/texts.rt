@@ -4,7 +4,7 @@ use dt_graph::QueueSched;
 use dt_lock::NoGate;
 use dt_node::Node;
 use dt_report::print;
-use dt_run::{Nodes, run, run_to_end};
+use dt_run::{Nodes, run_to_end};
 use dt_site::opening_of;
 use dt_table::Mastership;
 use dt_text::{Key, Value};
@@ -18,7 +18,8 @@ fn the_text_of_a_run_is_that_of_its_report(rt: HostRuntime) -> Result<(), Fail> 
     let cluster = cluster_of(rt.alloc(), MOVED)?;
     let workload = workload_of(rt.alloc(), &cluster, TWO)?;
     let mut nodes: Nodes<QueueSched> = Nodes::new(rt.alloc(), &cluster, &workload)?;
-    let report = run(&rt, rt.alloc(), &mut nodes, &NoGate)?;
+    run_to_end(&rt, rt.alloc(), &mut nodes, &NoGate)?;
+    let report = nodes.report(rt.alloc())?;
     let text = nodes.text(rt.alloc())?;
     assert!(rt; text.as_slice() == print(rt.alloc(), &report)?.as_slice());
     Ok(())
@@ -45,13 +46,24 @@ fn nodes_that_share_the_opening_have_its_rows_and_homes(rt: HostRuntime) -> Resu
     let workload = workload_of(rt.alloc(), &cluster, TWO)?;
     let key = Key::read(rt.alloc(), b"a")?;
     let first = opening_of(rt.alloc(), &cluster)?;
-    for region in 0..2 {
-        let node: Node<QueueSched> =
-            Node::sharing(rt.alloc(), &cluster, &workload, &first, region)?;
+    for region in 0..cluster.regions {
+        let node: Node<QueueSched> = Node::sharing(
+            rt.alloc(),
+            &cluster,
+            &workload,
+            &first,
+            region,
+        )?;
         let alone: Node<QueueSched> = Node::new(rt.alloc(), &cluster, &workload, region)?;
         for table in [node.region().table(), alone.region().table()] {
             assert!(rt; table.get(&key) == Some(&Value::Int(10)));
-            assert_eq!(rt; table.mastership(&key), Mastership { home: 0, counter: 0 });
+            assert_eq!(rt;
+                table.mastership(&key),
+                Mastership {
+                    home: 0,
+                    counter: 0
+                }
+            );
         }
     }
     Ok(())
