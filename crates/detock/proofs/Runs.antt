@@ -15,12 +15,12 @@ use Rattle.dt_world.specs.WorldReport.{report_of}
 use Rattle.detock.specs.Tasks.{Run}
 use Rattle.detock.specs.Loading.{Loaded}
 use Rattle.detock.specs.Headline.{BigRun, Headline}
-use Rattle.detock.specs.RefusalCode.{IsReportOfRun}
+use Rattle.detock.specs.RefusalCode.{IsReportOfRun, IsTextOfRun}
 use Rattle.detock.proofs.Refused.{headline_of}
 
 module _ (cluster : Cluster) (workload : Workload) (report : Report) (is : IsReportOfRun cluster workload report) where
   -- the text of such a report makes the headline true
-  pub run_headline : (told : _) (word name text : Bytes) → Loaded told (Run word name) cluster workload → IsValidCluster cluster → IsValidWorkload cluster workload
+  run_headline : (told : _) (word name text : Bytes) → Loaded told (Run word name) cluster workload → IsValidCluster cluster → IsValidWorkload cluster workload
       → text ≡ report_text report → Headline told (Run word name) (λ lines. text ≡ lines)
   run_headline told word name text loaded valid fits written =
       headline_of told (Run word name) (λ lines. text ≡ lines) cluster workload report.events loaded is.run valid fits is.legal (written ∙ ap report_text is.report_is)
@@ -47,3 +47,8 @@ module _ (cluster : Cluster) (workload : Workload) (report : Report) (is : IsRep
       → IfOk r (λ text. text.items ≡ summary_of calls report) → IfOk r (λ text. BigRun (decimal calls) (λ lines. text.items ≡ lines))
   big_told calls few of_cluster of_workload (Ok text) written = big_lines calls few of_cluster of_workload text.items written
   big_told calls few of_cluster of_workload (Err error) written = tt
+
+-- a text of a run makes the headline true
+pub text_headline : {cluster : Cluster} {workload : Workload} {text : Bytes} → IsTextOfRun cluster workload text → (told : _) (word name : Bytes) → Loaded told (Run word name) cluster workload
+    → IsValidCluster cluster → IsValidWorkload cluster workload → Headline told (Run word name) (λ lines. text ≡ lines)
+text_headline {cluster} {workload} {text} t told word name loaded valid fits = run_headline cluster workload t.report t.told told word name text loaded valid fits t.text_is

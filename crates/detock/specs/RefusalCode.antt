@@ -18,6 +18,7 @@ use Rattle.detock.specs.declared.status.EventsCause.{EventsCause}
 use Rattle.detock.specs.declared.status.EventsCause.TheVariants.{TooLong, Form, Rule}
 use Rattle.dt_session.specs.Run.{AreLegal}
 use Rattle.dt_report.specs.declared.Report.{Report}
+use Rattle.dt_report.specs.Report.{report_text}
 use Rattle.dt_world.specs.WorldReport.{report_of}
 use Rattle.dt_world.specs.declared.StepError.{StepError}
 use Rattle.dt_world.specs.declared.StepError.TheVariants.{Illegal}
@@ -88,6 +89,12 @@ pub record IsReportOfRun (cluster : Cluster) (workload : Workload) (report : Rep
   pub legal : AreLegal cluster workload report.events
   pub run : AreOfARun cluster workload report.events
   pub report_is : report ≡ report_of cluster workload report.events
+
+-- the text of such a report
+pub record IsTextOfRun (cluster : Cluster) (workload : Workload) (text : Bytes) : Type 0 where
+  pub report : Report
+  pub told : IsReportOfRun cluster workload report
+  pub text_is : text ≡ report_text report
 
 -- why a task has no text
 abbrev pub IsRefusal : Task → FolderView → FolderView → Status → Type 0

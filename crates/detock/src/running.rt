@@ -5,7 +5,7 @@ ghost use Rattle.dt_cluster.specs.Valid.{IsValidCluster};
 ghost use Rattle.dt_workload.specs.Valid.{IsValidWorkload};
 ghost use Rattle.detock.specs.TaskCode.{IsRight, run_asked_for};
 ghost use Rattle.detock.specs.Headline.{BigRun};
-ghost use Rattle.detock.specs.RefusalCode.{IsReportOfRun, IsTextOf};
+ghost use Rattle.detock.specs.RefusalCode.{IsReportOfRun, IsTextOf, IsTextOfRun};
 
 use crate::loading::load_both;
 use crate::status::Status;
@@ -15,8 +15,8 @@ use dt_gen::generate;
 use dt_graph::QueueSched;
 use dt_lock::NoGate;
 use dt_outside::Folder;
-use dt_report::{Report, print};
-use dt_run::{Nodes, run};
+use dt_report::Report;
+use dt_run::{Nodes, run, run_to_end};
 use dt_sum::summary;
 use dt_text::NoMemory;
 use dt_workload::Workload;
@@ -35,8 +35,7 @@ pub fn run_text<R: Threads + Wait + Sync, F: Folder>(
     ensures { IsTextOf F.seen files.old files.new result (run_asked_for words.entry) }
 {
     let (cluster, workload) = load_both(alloc, files, words.cluster, words.workload)?;
-    let report = report_of_run(rt, alloc, cluster, workload)?;
-    Ok(print(alloc, &report)?)
+    Ok(text_of_run(rt, alloc, cluster, workload)?)
 }
 
 /// What is reported of a run of the generated load of n calls. No clause says that it returns.
@@ -54,6 +53,22 @@ pub fn big_text<R: Threads + Wait + Sync>(
     summary(alloc, calls, &report)
 }
 
+/// The text of the report of a run of a workload in a cluster.
+fn text_of_run<R: Threads + Wait + Sync>(
+    rt: &R,
+    alloc: Global,
+    cluster: Cluster,
+    workload: Workload,
+) -> Result<Vec<u8>, NoMemory>
+    requires cluster { IsValidCluster cluster }
+    requires workload { IsValidWorkload cluster workload }
+    ensures { IfOk result (λ text. IsTextOfRun cluster workload text.items) }
+{
+    let mut nodes: Nodes<QueueSched> = Nodes::opening(alloc, cluster, workload)?;
+    run_to_end(rt, alloc, &mut nodes, &NoGate)?;
+    nodes.text(alloc)
+}
+
 /// The report of a run of a workload in a cluster.
 fn report_of_run<R: Threads + Wait + Sync>(
     rt: &R,
@@ -65,6 +80,6 @@ fn report_of_run<R: Threads + Wait + Sync>(
     requires workload { IsValidWorkload cluster workload }
     ensures { IfOk result (IsReportOfRun cluster workload) }
 {
-    let mut nodes: Nodes<QueueSched> = Nodes::new(alloc, &cluster, &workload)?;
+    let mut nodes: Nodes<QueueSched> = Nodes::opening(alloc, cluster, workload)?;
     run(rt, alloc, &mut nodes, &NoGate)
 }

@@ -18,8 +18,8 @@ use dt_region::Region;
 use dt_round::Rounds;
 use dt_sched::Scheduler;
 use dt_session::Sessions;
-use dt_site::Site;
-use dt_table::Table;
+use dt_site::{Site, first_table, opening_of};
+use dt_table::Opening;
 use dt_text::NoMemory;
 use dt_workload::Workload;
 use std::alloc::Global;
@@ -63,13 +63,27 @@ impl<S: Scheduler + Drop> Node<S> {
         requires region { region < cluster.now.regions }
         ensures { IfOk result (λ node. node ≡ opening_node_of cluster.now workload.now region) }
     {
-        let table = Table::new(
-            alloc,
-            cluster.version,
-            cluster.regions,
-            cluster.homes.as_slice(),
-            cluster.rows.as_slice(),
-        )?;
+        let first = opening_of(alloc, cluster)?;
+        Node::sharing(alloc, cluster, workload, &first, region)
+    }
+
+    /// The node of this region of a cluster before anything happens, as `new` makes it. It shares the homes and rows that the
+    /// cluster lists with every other node that is made of them.
+    pub fn sharing(
+        alloc: Global,
+        cluster: &Cluster,
+        workload: &Workload,
+        first: &Opening,
+        region: u8,
+    ) -> Result<Self, NoMemory>
+        requires cluster { IsValidCluster cluster.now }
+        requires workload { IsValidWorkload cluster.now workload.now }
+        requires homes { first.now.homes ≡ cluster.now.homes }
+        requires rows { first.now.rows ≡ cluster.now.rows }
+        requires region { region < cluster.now.regions }
+        ensures { IfOk result (λ node. node ≡ opening_node_of cluster.now workload.now region) }
+    {
+        let table = first_table(alloc, cluster, first)?;
         Ok(Node {
             site: Site::new(alloc, region, cluster.regions, table)?,
             sessions: Sessions::new(alloc, workload, region, cluster.tries)?,

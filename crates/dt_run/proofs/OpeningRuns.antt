@@ -18,10 +18,10 @@ module _ {cluster : Cluster} (ok : IsValidCluster cluster) {workload : Workload}
     (given_is : given ≡ map (λ region. new_seat (opening_node_of cluster workload region)) (range_with_len 0 cluster.regions)) (sound : AllIn (λ s. IsSoundRegion s.node.site.region.state) given)
     (len : ℕ) (full : len ≡ length given) {lent : List SeatView} (lent_is : lent ≡ given) where
   module _ {seats : List SeatView} (bare : map (λ (s : SeatView). new_seat s.node) seats ≡ lent) (unmarked : AllIn (λ s. s.marks ≡ []) seats) (linked : AreLinkedBy AreBeside seats)
-      (empty : AllIn (λ s. AllIn (λ inlet. inlet.waits ≡ []) s.ins) seats) {copy : Cluster} {copied : Workload} (copy_is : copy ≡ cluster) (copied_is : copied ≡ workload) where
-    pub opened_running : {counts : Counts} → counts ≡ record { made = 0; kept = 0; quiet = 0 } → AreRunning copy copied (put_back len given seats) false counts
+      (empty : AllIn (λ s. AllIn (λ inlet. inlet.waits ≡ []) s.ins) seats) where
+    pub opened_running : {counts : Counts} → counts ≡ record { made = 0; kept = 0; quiet = 0 } → AreRunning cluster workload (put_back len given seats) false counts
     opened_running {counts} none = record {
-      seated = opened_seated ok fits given_is sound len full lent_is bare unmarked linked empty copy_is copied_is;
-      counted = λ e. opening_counted cluster workload (nodes_view copy copied (put_back len given seats) false) counts
-          (opened_is ok fits given_is sound len full lent_is bare unmarked linked empty copy_is copied_is) none;
+      seated = opened_seated ok fits given_is sound len full lent_is bare unmarked linked empty;
+      counted = λ e. opening_counted cluster workload (nodes_view cluster workload (put_back len given seats) false) counts
+          (opened_is ok fits given_is sound len full lent_is bare unmarked linked empty) none;
     }

@@ -188,13 +188,8 @@ module _ {cluster : Cluster} (ok : IsValidCluster cluster) {workload : Workload}
     back : put_back len given seats ≡ seats
     back = put_back_is len given seats full (sym (length-map seats (λ (s : SeatView). new_seat s.node)) ∙ ap length (bare ∙ lent_is))
 
-    -- with copies of the cluster and the workload
-    module _ {copy : Cluster} {copied : Workload} (copy_is : copy ≡ cluster) (copied_is : copied ≡ workload) where
-      pub opened_is : nodes_view copy copied (put_back len given seats) false ≡ opening_nodes cluster workload
-      opened_is = (λ i. nodes_view (copy_is i) (copied_is i) (back i) false) ∙ opening_is ok fits sound_at nodes_same unmarked linked empty
+    pub opened_is : nodes_view cluster workload (put_back len given seats) false ≡ opening_nodes cluster workload
+    opened_is = (λ i. nodes_view cluster workload (back i) false) ∙ opening_is ok fits sound_at nodes_same unmarked linked empty
 
-      pub opened_seated : AreSeated copy copied (put_back len given seats) false
-      opened_seated =
-          subst (λ (k : Cluster). AreSeated k copied (put_back len given seats) false) (sym copy_is)
-          (subst (λ (w : Workload). AreSeated cluster w (put_back len given seats) false) (sym copied_is)
-          (subst (λ l. AreSeated cluster workload l false) (sym back) (opening_seated ok fits sound_at nodes_same unmarked linked empty)))
+    pub opened_seated : AreSeated cluster workload (put_back len given seats) false
+    opened_seated = subst (λ l. AreSeated cluster workload l false) (sym back) (opening_seated ok fits sound_at nodes_same unmarked linked empty)

@@ -1,6 +1,6 @@
 -- The merged events of nodes that are done are a legal run, eager and finished.
 use Rattle.std.proofs.Common.{◌≡◌, ◌≢◌, ◌<◌, ◌≤◌, ◌⊎◌, ℕ, true, false, eqb, List, [], ◌∷◌, length, map, filter, Some, refl, sym, ap, subst, ◌∙◌, inl, inr, arith, eq-eqb}
-use Rattle.std.proofs.Common.{Result, Ok, Err, IfOk}
+use Rattle.std.proofs.Common.{Result, Ok, Err, IfOk, Vec}
 use Rattle.std.proofs.lemmas.Bool.{cases_Bool, false_from_ne_true}
 use Rattle.dt_lists.specs.Lists.{AllIn, Distinct, Has, IsFront}
 use Rattle.dt_lists.proofs.Callers.{all_get, all_put, get_of_map, has_map}
@@ -17,6 +17,7 @@ use Rattle.dt_session.specs.Finished.{AreAnswered}
 use Rattle.dt_session.specs.Run.{AreLegal, world_after}
 use Rattle.dt_session.specs.World.{World, Node, Place, is_session, node_at, opening_table, opening_world, session_at}
 use Rattle.dt_report.specs.declared.Report.{Report}
+use Rattle.dt_report.specs.Report.{report_text}
 use Rattle.dt_agreement.proofs.Callers.{places_parallel, session_of_test, test_of_key}
 use Rattle.dt_merge.specs.Merge.{region_at, those_at}
 use Rattle.dt_merge.specs.WorldRegions.{HasInvariant}
@@ -31,7 +32,7 @@ use Rattle.dt_run.specs.Done.{IsAllDone}
 use Rattle.dt_run.specs.Marks.{kept_by_region}
 use Rattle.dt_run.specs.NodesStand.{AreInStep, AreNodes, BeganEagerly, StandsAmong}
 use Rattle.dt_run.specs.NodesView.{NodesView, kept_by, marks_at, no_running_node, node_in}
-use Rattle.dt_run.specs.Run.{AreMerged, IsRun, IsRunReport}
+use Rattle.dt_run.specs.Run.{AreMerged, IsRun, IsRunReport, IsRunText}
 use Rattle.dt_run.proofs.Laws.{are_kept, merge_changes, merge_keeps, merge_legal, merge_world}
 use Rattle.dt_run.proofs.Phasing.{good_world}
 use Rattle.dt_run.proofs.SitesAfter.{sites_stand}
@@ -145,3 +146,9 @@ module _ {v : NodesView} (n : AreNodes v) (sound : v.broken ≡ false) (some : 1
   pub report_told : (answer : Result Report NoMemory) → IfOk answer (λ report. report ≡ report_of v.cluster v.workload events) → IfOk answer (IsRunReport v)
   report_told (Ok report) is = run_report report is
   report_told (Err e) is = tt
+
+  -- and so is its text
+  pub text_told : {A : Type 0} (answer : Result (Vec ℕ A) NoMemory) → IfOk answer (λ text. text.items ≡ report_text (report_of v.cluster v.workload events))
+      → IfOk answer (λ text. IsRunText v text.items)
+  text_told (Ok text) is = record { report = report_of v.cluster v.workload events; told = run_report _ refl; text_is = is }
+  text_told (Err e) is = tt

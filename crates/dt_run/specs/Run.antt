@@ -8,7 +8,9 @@ use Rattle.dt_merge.specs.Merge.{IsMerge}
 use Rattle.dt_session.specs.Eager.{IsEager}
 use Rattle.dt_session.specs.Finished.{IsFinished}
 use Rattle.dt_session.specs.Run.{AreLegal}
+use Rattle.dt_text.specs.Texts.{Bytes}
 use Rattle.dt_report.specs.declared.Report.{Report}
+use Rattle.dt_report.specs.Report.{report_text}
 use Rattle.dt_world.specs.WorldReport.{report_of}
 use Rattle.dt_run.specs.NodesView.{NodesView, kept_by}
 
@@ -29,3 +31,9 @@ pub record IsRun (v : NodesView) (events : List Event) : Type 0 where
 pub record IsRunReport (v : NodesView) (report : Report) : Type 0 where
   pub run : IsRun v report.events
   pub report_is : report ≡ report_of v.cluster v.workload report.events
+
+-- the text is that of such a report
+pub record IsRunText (v : NodesView) (text : Bytes) : Type 0 where
+  pub report : Report
+  pub told : IsRunReport v report
+  pub text_is : text ≡ report_text report

@@ -35,4 +35,4 @@ pub use ending::{
     silent_phases_lead_to_an_end, what_is_done_stays_done, what_waits_is_true,
 };
 pub use nodes::Nodes;
-pub use reporting::run;
+pub use reporting::{run, run_to_end};

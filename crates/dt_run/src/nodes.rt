@@ -11,7 +11,7 @@ ghost use Rattle.dt_run.specs.Done.{IsAllDone};
 ghost use Rattle.dt_run.specs.NodesStand.{AreNodes};
 ghost use Rattle.dt_run.specs.NodesView.{kept_by, marks_at, opening_nodes};
 ghost use Rattle.dt_run.specs.Phase.{EndsInStep, IsPhase};
-ghost use Rattle.dt_run.specs.Run.{AreMerged, IsRunReport};
+ghost use Rattle.dt_run.specs.Run.{AreMerged, IsRunReport, IsRunText};
 ghost use Rattle.dt_run.specs.SeatsInner.{EachGoes, SeatCan, SeatGoes, new_seat};
 ghost use Rattle.dt_run.specs.Silence.{ComesToAnEnd, PhaseIsCounted, counts_in};
 
@@ -29,9 +29,10 @@ use dt_proc::Procs;
 use dt_region::Region;
 use dt_report::Report;
 use dt_sched::Scheduler;
+use dt_site::opening_of;
 use dt_text::NoMemory;
 use dt_workload::Workload;
-use dt_world::report_of_sites;
+use dt_world::{report_of_sites, text_of_sites};
 use std::alloc::Global;
 use std::marker::Model;
 use std::sync::Wait;
@@ -77,11 +78,21 @@ impl<S: Scheduler + Drop> Nodes<S> {
         ensures opening { IfOk result (λ nodes. nodes ≡ opening_nodes cluster.now workload.now) }
         ensures nodes { IfOk result AreNodes }
     {
-        let mut seats = seats(alloc, cluster, workload)?;
+        Nodes::opening(alloc, cluster.copy(alloc)?, workload.copy(alloc)?)
+    }
+
+    /// The nodes before anything happens, of a cluster and a workload that they take over.
+    pub fn opening(alloc: Global, cluster: Cluster, workload: Workload) -> Result<Self, NoMemory>
+        requires cluster { IsValidCluster cluster }
+        requires workload { IsValidWorkload cluster workload }
+        ensures opening { IfOk result (λ nodes. nodes ≡ opening_nodes cluster workload) }
+        ensures nodes { IfOk result AreNodes }
+    {
+        let mut seats = seats(alloc, &cluster, &workload)?;
         link_all(alloc, seats.as_mut_slice())?;
         Ok(Nodes {
-            cluster: cluster.copy(alloc)?,
-            workload: workload.copy(alloc)?,
+            cluster,
+            workload,
             seats,
             broken: false,
             counts: Counts::none(),
@@ -122,6 +133,31 @@ impl<S: Scheduler + Drop> Nodes<S> {
             &self.workload,
             sites.as_slice(),
             events,
+        )
+    }
+
+    /// The text of that report. The nodes are taken over, so that what the text does not need is freed before it is made, since
+    /// it may be long; and what tables show is written row by row, without a list of it.
+    pub fn text(self, alloc: Global) -> Result<Vec<u8>, NoMemory>
+        requires phases { 1 ≤ length (marks_at self 0) }
+        requires sound { self.broken ≡ false }
+        requires done { IsAllDone self }
+        ensures { IfOk result (λ text. IsRunText self text.items) }
+    {
+        let merged = self.merged(alloc)?;
+        let Nodes {
+            cluster,
+            workload,
+            seats,
+            ..
+        } = self;
+        let sites = sites_of(alloc, seats.as_slice())?;
+        text_of_sites(
+            alloc,
+            cluster,
+            workload,
+            sites.as_slice(),
+            merged.as_slice(),
         )
     }
 
@@ -260,9 +296,10 @@ fn seats<S: Scheduler + Drop>(
     ensures sound { IfOk result (λ seats. AllIn (λ s. IsSoundRegion s.node.site.region.state) seats.items) }
     ensures opening { IfOk result (λ seats. seats.items ≡ map (λ region. new_seat (opening_node_of cluster.now workload.now region)) (range_with_len 0 cluster.now.regions)) }
 {
+    let first = opening_of(alloc, cluster)?;
     let mut seats = Vec::with_capacity(alloc, cluster.regions as usize)?;
     for region in 0..cluster.regions {
-        let node: Node<S> = Node::new(alloc, cluster, workload, region)?;
+        let node: Node<S> = Node::sharing(alloc, cluster, workload, &first, region)?;
         // Names the region, so that the proof has what its type keeps.
         let _number = node.region().number();
         seats.push(Seat::new(alloc, node))?;

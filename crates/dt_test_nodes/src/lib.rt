@@ -7,4 +7,6 @@ mod generated;
 #[cfg(test)]
 mod phases;
 #[cfg(test)]
+mod texts;
+#[cfg(test)]
 mod workers;

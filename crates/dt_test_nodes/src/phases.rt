@@ -88,7 +88,7 @@ fn phases_of<R: Threads + Wait + Sync>(
 }
 
 /// Two transfers that wait for each other.
-const TWO: &[u8] =
+pub const TWO: &[u8] =
     b"session p at 0\ncall xfer \"b\" \"a\" 3\nsession q at 1\ncall xfer \"a\" \"b\" 4\n";
 
 /// Loss plans: every n-th packet is lost, and of those that are not, every n-th comes twice.

@@ -6,19 +6,17 @@ use Rattle.dt_access.specs.declared.TxnId.{TxnId}
 use Rattle.dt_events.specs.declared.Event.{Event}
 use Rattle.dt_events.specs.declared.Event.TheVariants.{Insert, Resolve, Execute}
 use Rattle.dt_proc.specs.Tree.{ProcTree}
-use Rattle.dt_region.specs.Region.{HasStamp, RegionView, latest_stamp, outcome_of}
+use Rattle.dt_region.specs.Region.{HasStamp, RegionView, latest_stamp}
 use Rattle.dt_region.specs.Conditions.{CanMove, HoldsValid}
 use Rattle.dt_region.specs.Rules.{MakesStep}
 use Rattle.dt_region.specs.Sound.{IsSoundRegion}
 use Rattle.dt_cluster.specs.declared.Cluster.{Cluster}
-use Rattle.dt_session.specs.World.{outcome_at}
 use Rattle.dt_session.specs.Step.{IsLegal}
 use Rattle.dt_site.specs.declared.Origin.{Origin}
 use Rattle.dt_site.specs.Site.{SiteView, in_region, no_site}
-use Rattle.dt_site.proofs.Callers.{a_region, can_move, execute_made, execute_refused, holds_valid, insert_made, insert_refused, outcome_here, resolve_made, resolve_refused}
+use Rattle.dt_site.proofs.Callers.{a_region, can_move, execute_made, execute_refused, holds_valid, insert_made, insert_refused, resolve_made, resolve_refused}
 use Rattle.dt_world.specs.WorldSessions.{WorldSessions, places_in}
 use Rattle.dt_world.specs.WorldInner.{IsLawful, site_at, view_in, world_of}
-use Rattle.dt_world.specs.WorldView.{WorldView}
 use Rattle.dt_world.proofs.WorldLaws.{IsBehind, IsMade, step_made}
 
 -- the list where a site is put back as it was

@@ -9,14 +9,13 @@ ghost use Rattle.dt_sched.specs.Views.{log_at};
 ghost use Rattle.dt_table.specs.Table.{shown};
 ghost use Rattle.dt_report.specs.Report.{report_text};
 ghost use Rattle.dt_region.specs.Region.{held, outcome_of};
-ghost use Rattle.dt_region.specs.Conditions.{IsTableFor};
 ghost use Rattle.dt_region.specs.Sound.{IsSoundRegion};
 ghost use Rattle.dt_cluster.specs.Valid.{IsValidCluster};
 ghost use Rattle.dt_cluster.specs.declared.Cluster.{Cluster};
 ghost use Rattle.dt_workload.specs.Valid.{IsValidWorkload, session_names};
 ghost use Rattle.dt_workload.specs.declared.Workload.{Workload};
 ghost use Rattle.dt_session.specs.Sessions.{waits_of};
-ghost use Rattle.dt_session.specs.World.{is_session, opening_table};
+ghost use Rattle.dt_session.specs.World.{is_session};
 ghost use Rattle.dt_session.specs.Step.{IsLegal, next, rule_of};
 ghost use Rattle.dt_session.specs.Run.{AreLegal, order_of, world_after};
 ghost use Rattle.dt_world.specs.WorldInner.{IsNextOf, MayBeTold, opening_sites};
@@ -32,8 +31,7 @@ use dt_region::Region;
 use dt_report::Report;
 use dt_sched::Scheduler;
 use dt_session::Sessions;
-use dt_site::{Origin, Site};
-use dt_table::{Opening, Table};
+use dt_site::{Origin, Site, first_table, opening_of};
 use dt_text::{Name, NoMemory};
 use dt_txn::{Body, Entry, Outcome};
 use dt_workload::Workload;
@@ -392,9 +390,11 @@ impl<S: Scheduler + Drop> World<S> {
         let World {
             cluster,
             workload,
+            sessions,
             sites,
             ..
         } = self;
+        drop(sessions);
         let lent = each_lent(alloc, sites.as_slice())?;
         text_of_sites(alloc, cluster, workload, lent.as_slice(), events)
     }
@@ -454,27 +454,6 @@ fn each_lent<S: Scheduler + Drop>(
         lent.push(site)?;
     }
     Ok(lent)
-}
-
-/// What the tables of all regions have at first.
-fn opening_of(alloc: Global, cluster: &Cluster) -> Result<Opening, NoMemory>
-    requires { IsValidCluster cluster.now }
-    ensures homes { IfOk result (λ opening. opening.homes ≡ cluster.now.homes) }
-    ensures rows { IfOk result (λ opening. opening.rows ≡ cluster.now.rows) }
-{
-    Opening::new(alloc, cluster.homes.as_slice(), cluster.rows.as_slice())
-}
-
-/// The table that every region has at first.
-fn first_table(alloc: Global, cluster: &Cluster, opening: &Opening) -> Result<Table, NoMemory>
-    requires cluster { IsValidCluster cluster.now }
-    requires homes { opening.now.homes ≡ cluster.now.homes }
-    requires rows { opening.now.rows ≡ cluster.now.rows }
-    ensures opening { IfOk result (λ table. table.state ≡ opening_table cluster.now) }
-    ensures sized { IfOk result (λ table. IsTableFor cluster.now.regions table.state) }
-{
-    let table = Table::of(alloc, cluster.version, cluster.regions, opening)?;
-    Ok(table)
 }
 
 /// What regions keep after events is, of each region, its own of these events that take effect, in their order. This is a

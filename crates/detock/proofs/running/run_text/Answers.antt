@@ -3,7 +3,7 @@ use Rattle.std.proofs.lemmas.Result.{err_from_is_err_and}
 use Rattle.detock.specs.TaskCode.{run_asked_for, word_of}
 use Rattle.detock.specs.Loading.{Loaded}
 use Rattle.detock.proofs.Refused.{made_text, no_run_size, not_loaded, passed_on, refused_text}
-use Rattle.detock.proofs.Runs.{run_headline}
+use Rattle.detock.proofs.Runs.{text_headline}
 use Rattle.detock.proofs.running.run_text.Goals as goal
 
 pub returns-in_err-cluster : goal.returns-in_err-cluster
@@ -19,7 +19,7 @@ returns g c =
     let loaded : Loaded (g.F.Folder.seen c.args.files.now).told (run_asked_for c.args.words) c.in_ok-cluster.cluster c.in_ok-cluster.workload =
     record { cluster_word = c.in_ok-cluster.ensures.cluster; workload_file = c.in_ok-cluster.ensures.workload } in
     made_text (g.F.Folder.seen) c.args.files.now c.load_both.new.files (run_asked_for c.args.words) (no_run_size _ _) c.load_both.ensures.same_told
-    (Ok c.in_ok-print.field-0) c.in_ok-print.field-0 refl
-    (run_headline c.in_ok-cluster.cluster c.in_ok-cluster.workload c.in_ok-report.report c.in_ok-report.ensures (g.F.Folder.seen c.args.files.now).told (word_of c.args.words.cluster)
-    c.args.words.workload.now c.in_ok-print.field-0.items loaded c.in_ok-cluster.ensures.valid.0 c.in_ok-cluster.ensures.valid.1 c.in_ok-print.ensures)
+    (Ok c.in_ok-text_of_run.field-0) c.in_ok-text_of_run.field-0 refl
+    (text_headline c.in_ok-text_of_run.ensures (g.F.Folder.seen c.args.files.now).told (word_of c.args.words.cluster) c.args.words.workload.now loaded
+    c.in_ok-cluster.ensures.valid.0 c.in_ok-cluster.ensures.valid.1)
     (record { cluster = c.in_ok-cluster.cluster; workload = c.in_ok-cluster.workload; loaded = loaded })

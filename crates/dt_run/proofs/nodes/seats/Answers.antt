@@ -8,10 +8,10 @@ use Rattle.dt_run.proofs.nodes.seats.Goals as goal
 pub loop-region-preserved : goal.loop-region-preserved
 loop-region-preserved g c =
     let more = c.in_ok-push.ensures.items in
-    let made = c.new-in-loop-region.ensures in
+    let made = c.new.ensures in
     let seats = c.loop-region.seats.items in
     let seats' = c.push.new.self.items in
-    let seat = c.new-in-loop-region.result in
+    let seat = c.new.result in
     let node = c.in_ok-node.node in
     record {
       opening = seats_more seats seats' seat node more made (opening_node_of c.args.cluster.now c.args.workload.now) c.loop-region.region c.loop-region.invariant.opening c.in_ok-node.ensures;

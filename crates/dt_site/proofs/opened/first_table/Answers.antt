@@ -1,8 +1,8 @@
 use Rattle.std.proofs.Common.{ap₂, sym, subst, ◌∙◌}
 use Rattle.dt_region.specs.Conditions.{IsTableFor}
 use Rattle.dt_table.specs.Table.{opening}
-use Rattle.dt_site.proofs.Callers.{opening_is_for}
-use Rattle.dt_world.proofs.world.first_table.Goals as goal
+use Rattle.dt_site.proofs.Opening.{opening_is_for}
+use Rattle.dt_site.proofs.opened.first_table.Goals as goal
 
 pub returns-clause-sized : goal.returns-clause-sized
 returns-clause-sized c =

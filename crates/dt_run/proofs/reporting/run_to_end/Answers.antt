@@ -2,7 +2,7 @@ use Rattle.std.proofs.Common.{sym, ◌∙◌, inr}
 use Rattle.std.proofs.lemmas.Bool.{false≢true}
 use Rattle.dt_run.proofs.RunEnds.{phases_few}
 use Rattle.dt_run.proofs.RunsOn.{keeps_on}
-use Rattle.dt_run.proofs.reporting.run.Goals as goal
+use Rattle.dt_run.proofs.reporting.run_to_end.Goals as goal
 
 pub returns-in_err-phase-clause-kept : goal.returns-in_err-phase-clause-kept
 returns-in_err-phase-clause-kept g c = keeps_on c.phases.invariant.cluster c.phases.invariant.kept c.phase.ensures.phase

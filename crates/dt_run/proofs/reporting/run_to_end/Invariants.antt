@@ -1,7 +1,7 @@
 use Rattle.std.proofs.Common.{◌≡◌, ◌<◌, ◌⊎◌, ◌-◌, false}
 use Rattle.dt_run.specs.Phase.{KeepsEvents}
 use Rattle.dt_run.specs.Silence.{made_in, most_phases}
-use Rattle.dt_run.proofs.reporting.run.Given as goal
+use Rattle.dt_run.proofs.reporting.run_to_end.Given as goal
 
 -- the nodes are sound and keep what they had, and no phase was made yet, or fewer than there can be
 abbrev pub invariant-phases : goal.invariant-phases
