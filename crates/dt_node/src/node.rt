@@ -4,7 +4,7 @@ ghost use Rattle.dt_txn.specs.Replica.{IsDrained};
 ghost use Rattle.dt_round.specs.Rounds.{Continues};
 ghost use Rattle.dt_cluster.specs.Valid.{IsValidCluster};
 ghost use Rattle.dt_workload.specs.Valid.{IsValidWorkload};
-ghost use Rattle.dt_node.specs.NodeView.{heard_by, new_items, opening_node_of};
+ghost use Rattle.dt_node.specs.NodeView.{new_items, opening_node_of};
 ghost use Rattle.dt_node.specs.Sending.{HasSent, LeavesNothingOut};
 ghost use Rattle.dt_node.specs.Standing.{NodeStands};
 ghost use Rattle.dt_node.specs.Steps.{HasMadePasses, HasTurned, IsPass};
@@ -118,16 +118,9 @@ impl<S: Scheduler + Drop> Node<S> {
         &self.sessions
     }
 
-    /// Hears of a stamp: all its later events have greater ones. Takes no memory.
-    pub fn hear(&mut self, stamp: u64)
-        ensures { self.new ≡ heard_by self.old stamp }
-    {
-        self.site.region.hear(stamp);
-    }
-
     /// Makes a turn. `ins` and `outs` have one end for each other region, in ascending order of regions. What waits at the
-    /// inlets has to be true in a world in which the node stands, and each outlet needs two free places. It fails only for
-    /// out of memory; then packets and the number of turns are given up, and what the node kept goes on from what there was.
+    /// inlets has to be true in a world in which the node stands, and each outlet needs two free places. It fails only if
+    /// memory runs out; then packets and the number of turns are given up, and what the node kept goes on from what there was.
     pub fn turn<D: Rounds<Region<S>>, I: Inlet, O: Outlet>(
         &mut self,
         alloc: Global,

@@ -124,7 +124,7 @@ fn changed_keys(alloc: Global, changed: &IndexMap<Key, Option<Value>>) -> Result
     ensures keys { IfOk result (λ keys. keys.items ≡ keys_with_value changed.now.entries) }
     ensures once { OnOk result (IsDistinct same_key (keys_of changed.now.entries)) }
 {
-    let mut keys = Vec::with_capacity(alloc, changed.len())?;
+    let mut keys = Vec::new(alloc);
     for (key, value) in changed {
         if value.is_some() {
             keys.push(key.copy(alloc)?)?;
@@ -143,7 +143,6 @@ fn add_unchanged(
     ensures keys { OnOk result (keys.new.items ≡ keys.old.items ++ unchanged_keys changed.now.entries opening.now.entries) }
     ensures once { OnOk result (IsDistinct same_key (keys_of opening.now.entries)) }
 {
-    keys.reserve(opening.len())?;
     for (key, _) in opening {
         if !has_changed(changed, key) {
             keys.push(key.copy(alloc)?)?;
