@@ -9,7 +9,6 @@ use dt_graph::QueueSched;
 use dt_proc::builtin_procs;
 use dt_region::Region;
 use dt_sched::Scheduler;
-use dt_text::Key;
 use dt_txn::Outcome;
 use std::alloc::Global;
 use std::test::Fail;
@@ -41,7 +40,17 @@ fn backlog(alloc: Global) -> Result<Vec<Row<'static>>, Fail> {
     Ok(rows)
 }
 
-/// Whether two outcomes are the same, as far as values are given.
+/// Whether two regions have the same number of events, each of the one among those of the other.
+fn are_same_events<S: Scheduler>(left: &Region<S>, right: &Region<S>) -> bool {
+    for kept in left.events() {
+        if !right.events().iter().any(|other| other.event == kept.event) {
+            return false;
+        }
+    }
+    left.events().len() == right.events().len()
+}
+
+/// Whether two outcomes give the same values, or are both of a call that was aborted.
 fn are_same(left: Option<&Outcome>, right: Option<&Outcome>) -> bool {
     match (left, right) {
         (Some(Outcome::Gave(left)), Some(Outcome::Gave(right))) => {
@@ -52,35 +61,18 @@ fn are_same(left: Option<&Outcome>, right: Option<&Outcome>) -> bool {
     }
 }
 
-/// Whether two regions that were fed these parts have come to the same: the same events in some order, the same outcomes, the
-/// same rows, and nothing left.
-fn have_come_to_the_same<S: Scheduler>(
-    alloc: Global,
-    left: &Region<S>,
-    right: &Region<S>,
-    rows: &[Row],
-) -> Result<bool, Fail> {
-    for kept in left.events() {
-        if !right.events().iter().any(|other| other.event == kept.event) {
-            return Ok(false);
-        }
-    }
+/// Whether the transactions of these parts have the same outcomes in two regions.
+fn are_same_outcomes<S: Scheduler>(left: &Region<S>, right: &Region<S>, rows: &[Row]) -> bool {
     for (_, seq, region, _) in rows {
         let id = TxnId {
             seq: *seq,
             region: *region,
         };
         if !are_same(left.outcome(id), right.outcome(id)) {
-            return Ok(false);
+            return false;
         }
     }
-    for name in [b"a", b"d", b"h"] {
-        let key = Key::read(alloc, name)?;
-        if left.table().get(&key) != right.table().get(&key) {
-            return Ok(false);
-        }
-    }
-    Ok(left.events().len() == right.events().len() && left.drained(alloc)? && right.drained(alloc)?)
+    true
 }
 
 #[test]
@@ -99,7 +91,9 @@ fn threads_that_insert_resolve_and_work_come_to_the_same(rt: HostRuntime) -> Res
             &gate,
         )?;
         assert!(rt; gate.has_seen_two());
-        assert!(rt; have_come_to_the_same(rt.alloc(), &alone, &region, rows.as_slice())?);
+        assert!(rt; are_same_events(&alone, &region));
+        assert!(rt; are_same_outcomes(&alone, &region, rows.as_slice()));
+        assert!(rt; region.drained(rt.alloc())?);
     }
     Ok(())
 }
