@@ -6,7 +6,7 @@ use dt_node::Node;
 use dt_report::print;
 use dt_run::{Nodes, run_to_end};
 use dt_site::opening_of;
-use dt_table::Mastership;
+use dt_table::Table;
 use dt_text::{Key, Value};
 use std::test::Fail;
 
@@ -40,6 +40,11 @@ fn nodes_that_take_their_cluster_over_run_to_the_end(rt: HostRuntime) -> Result<
     Ok(())
 }
 
+/// Whether a table has the row of this key, and its home.
+fn is_opened(table: &Table, key: &Key) -> bool {
+    table.get(key) == Some(&Value::Int(10)) && table.mastership(key).home == 0
+}
+
 #[test]
 fn nodes_that_share_the_opening_have_its_rows_and_homes(rt: HostRuntime) -> Result<(), Fail> {
     let cluster = cluster_of(rt.alloc(), MOVED)?;
@@ -54,17 +59,17 @@ fn nodes_that_share_the_opening_have_its_rows_and_homes(rt: HostRuntime) -> Resu
             &first,
             region,
         )?;
-        let alone: Node<QueueSched> = Node::new(rt.alloc(), &cluster, &workload, region)?;
-        for table in [node.region().table(), alone.region().table()] {
-            assert!(rt; table.get(&key) == Some(&Value::Int(10)));
-            assert_eq!(rt;
-                table.mastership(&key),
-                Mastership {
-                    home: 0,
-                    counter: 0
-                }
-            );
-        }
+        assert!(rt; is_opened(node.region().table(), &key));
     }
+    Ok(())
+}
+
+#[test]
+fn a_node_alone_has_the_rows_and_homes_of_its_cluster(rt: HostRuntime) -> Result<(), Fail> {
+    let cluster = cluster_of(rt.alloc(), MOVED)?;
+    let workload = workload_of(rt.alloc(), &cluster, TWO)?;
+    let key = Key::read(rt.alloc(), b"a")?;
+    let node: Node<QueueSched> = Node::new(rt.alloc(), &cluster, &workload, 0)?;
+    assert!(rt; is_opened(node.region().table(), &key));
     Ok(())
 }
