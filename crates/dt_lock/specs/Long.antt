@@ -6,9 +6,9 @@ use Rattle.dt_proc.specs.TreeViews.{block_size}
 use Rattle.dt_txn.specs.declared.txn.Body.{Body}
 use Rattle.dt_txn.specs.declared.txn.Body.TheVariants.{Call, Move}
 
--- a procedure is long if it has at least 256 statements, those within statements included
+-- a procedure is long if it has at least 1,000 statements, those within statements included
 abbrev pub IsLong : ProcTree → Type 0
-IsLong proc = 256 ≤ block_size proc.body
+IsLong proc = 1000 ≤ block_size proc.body
 
 -- a procedure is there, and long
 abbrev pub IsLongIn : Option ProcTree → Type 0

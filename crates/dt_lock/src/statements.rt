@@ -29,8 +29,8 @@ pub fn is_long(procs: &Procs, number: u32) -> bool
     }
 }
 
-// Calls of a procedure with fewer statements are done sooner than a thread is started.
-const LONG: usize = 256;
+// Threads for calls of a procedure with fewer statements cost more than they save: `bench/README.md` has the figures.
+const LONG: usize = 1000;
 
 // A number less those of the statements, with the ones within statements: 0 where there are no fewer. It looks at no more
 // statements than the number.

@@ -22,7 +22,7 @@ use std::{mem, thread};
 /// Makes a round of a region by threads, with at most `workers` workers: they insert, resolve and execute, by these procedures,
 /// until nothing is left, and the calling thread finishes what they leave. The promise is that of `Rounds`; it doesn't depend on
 /// how many threads there are, nor on the schedule. No thread is started unless at least two calls can be executed at once that
-/// are long: of a procedure with 256 statements or more, or any call where the gate may hold a worker.
+/// are long: of a procedure with 1,000 statements or more, or any call where the gate may hold a worker.
 pub fn round<R: Threads + Wait + Sync, S: Scheduler + Drop + Send, G: Gate>(
     rt: &R,
     alloc: Global,
@@ -74,7 +74,7 @@ fn round_named<
     }
 }
 
-// Has the jobs done, of a region that lies behind a lock for so long.
+// Has the jobs done, of a region that lies behind a lock meanwhile.
 fn by_threads<
     R: Threads + Wait + Sync,
     S: Scheduler + Drop + Send,
@@ -88,7 +88,8 @@ fn by_threads<
     lock.into_inner()
 }
 
-// Has the jobs done, by a thread each. Where no thread can be started, the calling one does what it would have done.
+// Has the jobs done, by a thread each. Where no thread can be started, the calling one does what it would have done; where memory
+// runs out before, the jobs are dropped, and what they were to do is left to the end of the round.
 fn act_all<R: Threads + Wait + Sync, S: Scheduler + Drop + Send, N: Named + Send + Sync, G: Gate>(
     rt: &R,
     alloc: Global,
@@ -109,8 +110,8 @@ fn act_all<R: Threads + Wait + Sync, S: Scheduler + Drop + Send, N: Named + Send
     );
 }
 
-// Calls with what lies behind a lock and each of these jobs, in a thread each. Where no thread can be started, the calling one
-// does it.
+// Calls with what lies behind a lock and each of these jobs, in a thread each, or in the calling one where no thread can be started.
+// Where memory runs out before, none is called.
 fn each_with<R: Threads + Sync, T: Send, J: Send + Drop, F: Fn(&Mutex<T>, J) + Sync>(
     rt: &R,
     lock: &Mutex<T>,

@@ -65,8 +65,8 @@ const CLIMB_D: Call<'static> = (b"climb", &[b"d"]);
 const CLIMB_H: Call<'static> = (b"climb", &[b"h"]);
 
 /// The statements of the second block, the workers that there may be, and how many pass the gate. With the `if` and its first
-/// block 254 statements make 256.
-const LENGTHS: [(u32, u32, u64); 4] = [(253, 4, 0), (254, 4, 2), (254, 2, 2), (254, 1, 0)];
+/// block 998 statements make 1,000.
+const LENGTHS: [(u32, u32, u64); 4] = [(997, 4, 0), (998, 4, 2), (998, 2, 2), (998, 1, 0)];
 
 #[test]
 fn long_calls_get_workers(rt: HostRuntime) -> Result<(), Fail> {
