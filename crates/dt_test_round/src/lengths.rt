@@ -1,4 +1,4 @@
-//! Which calls get workers where the gate holds nobody: those of procedures with many statements.
+//! Which calls get workers where the gate holds nobody: those that execute many statements whichever way each `if` goes.
 
 use crate::calls::Call;
 use crate::feeding::Row;
@@ -30,14 +30,18 @@ impl Gate for Count {
     }
 }
 
-/// A procedure that is one `if`, with one statement in its first block and this many in its second.
-fn climb(alloc: Global, others: u32) -> Result<Procs, Fail> {
+/// A procedure with an `if`, of one statement in its first block and this many in its second, and then with n statements.
+fn climb(alloc: Global, n: u32, others: u32) -> Result<Procs, Fail> {
     let mut text = Vec::new(alloc);
     text.extend_from_slice(b"proc climb(k: text) write a = k; { if has(a) { clear a; } else { ")?;
     for _statement in 0..others {
         text.extend_from_slice(b"set a = 1; ")?;
     }
-    text.extend_from_slice(b"} }")?;
+    text.extend_from_slice(b"} ")?;
+    for _statement in 0..n {
+        text.extend_from_slice(b"set a = 1; ")?;
+    }
+    text.extend_from_slice(b"}")?;
     if text.len() > 100000 {
         return Err(Fail::from("the text is short"));
     }
@@ -48,10 +52,11 @@ fn climb(alloc: Global, others: u32) -> Result<Procs, Fail> {
 fn passes<R: Threads + Wait + Sync>(
     rt: &R,
     alloc: Global,
+    n: u32,
     others: u32,
     workers: u32,
 ) -> Result<u64, Fail> {
-    let procs = climb(alloc, others)?;
+    let procs = climb(alloc, n, others)?;
     let gate = Count {
         passed: AtomicU64::new(0),
     };
@@ -64,14 +69,20 @@ const CLIMB_D: Call<'static> = (b"climb", &[b"d"]);
 
 const CLIMB_H: Call<'static> = (b"climb", &[b"h"]);
 
-/// The statements of the second block, the workers that there may be, and how many pass the gate. With the `if` and its first
-/// block 998 statements make 1,000.
-const LENGTHS: [(u32, u32, u64); 4] = [(997, 4, 0), (998, 4, 2), (998, 2, 2), (998, 1, 0)];
+/// The statements behind the `if`, those of its second block, the workers that there may be, and how many pass the gate. With the
+/// `if` and its first block 998 statements make 1,000.
+const LENGTHS: [(u32, u32, u32, u64); 5] = [
+    (997, 2, 4, 0),
+    (998, 2, 4, 2),
+    (998, 2, 2, 2),
+    (998, 2, 1, 0),
+    (100, 2000, 4, 0),
+];
 
 #[test]
 fn long_calls_get_workers(rt: HostRuntime) -> Result<(), Fail> {
-    for (others, workers, want) in LENGTHS {
-        assert_eq!(rt; passes(&rt, rt.alloc(), others, workers)?, want);
+    for (n, others, workers, want) in LENGTHS {
+        assert_eq!(rt; passes(&rt, rt.alloc(), n, others, workers)?, want);
     }
     Ok(())
 }
