@@ -83,7 +83,7 @@ fn alone_text<F: Folder>(alloc: Global, words: &[String], files: &mut F) -> Resu
     replay_text(alloc, replay, files)
 }
 
-/// Writes the text, or hands on why there is none, and reports the status.
+/// Writes the text, or passes on why there is none, and reports the status.
 fn end<O: Sink, E: Sink>(text: Result<Vec<u8>, Status>, out: &mut O, err: &mut E) -> Status
     ensures ends { EndsBy O.seen out.old out.new text result }
     ensures told { IsTold E.seen err.old err.new result }

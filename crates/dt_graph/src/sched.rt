@@ -30,7 +30,7 @@ impl Model for QueueSched {
     ghost invariant = { λ s. IsKeeping (record { logs = s.logs.items; resolved = s.resolved.items; done = s.done.items }) s.graph };
 }
 
-/// So many empty logs.
+/// An empty log for each region.
 pub fn empty_logs(alloc: Global, regions: u8) -> Result<Vec<Listed<Part>>, NoMemory>
     ensures { IfOk result (λ logs. logs.items ≡ replicate regions []) }
 {

@@ -33,7 +33,7 @@ impl Model for Log {
 /// What a delivery of entries was.
 #[derive(Clone, Copy, Debug, PartialEq, Eq)]
 pub enum Taken {
-    /// So many entries at its end were past the log's end, and were added.
+    /// This many entries at its end were past the log's end, and were added.
     New(u32),
     /// The log had all entries; nothing changed.
     Old,

@@ -53,7 +53,7 @@ impl From<io::Error> for LoadError {
     ghost use Rattle.std.specs.declared.io.ErrorKind.{ErrorKind};
     ghost use Rattle.dt_outside.specs.declared.failures.LoadError.{LoadError};
 
-    // Want of memory stays what it is; every other cause is a failure.
+    // Running out of memory stays what it is; every other cause is a failure.
     ghost from_gives = { λ cause error.
         (error_kind cause ≡ ErrorKind.OutOfMemory → error ≡ LoadError.NoMemory)
         × (error_kind cause ≢ ErrorKind.OutOfMemory → error ≡ LoadError.Failed) };

@@ -1,6 +1,6 @@
 //! What the program knows of files and streams: folders that give files, sinks that take bytes, and
 //! a count of faults for each. A folder and a sink in memory say all that they do; those over the
-//! real disk and the real streams say what can be promised of a device, and hand on what the reader
+//! real disk and the real streams say what can be promised of a device, and pass on what the reader
 //! gives and what the writer takes.
 #![tactic(auto)]
 

@@ -26,7 +26,7 @@ impl Model for PlainSched {
     ghost view = { λ s. record { seen = record { logs = s.logs.items; resolved = s.resolved.items; done = s.done.items }; spare = vec_capacity s.done - vec_len s.done } };
 }
 
-/// So many empty logs.
+/// An empty log for each region.
 pub fn empty_logs(alloc: Global, regions: u8) -> Result<Vec<Listed<Part>>, NoMemory>
     ensures { IfOk result (λ logs. logs.items ≡ replicate regions []) }
 {

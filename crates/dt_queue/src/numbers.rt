@@ -11,7 +11,7 @@ impl Kept {
     ghost use Rattle.dt_queue.specs.Kept.{AreQueuesKept, ChangesLaneOf, lane, place_at, waiting_of};
 
     /// Sees to it that a number is left. Where none is, all entries are numbered anew, in the order of their pushes; so a push
-    /// is never refused for want of a number. The entries stay as they are, also after `NoMemory`.
+    /// is never refused for lack of a number. The entries stay as they are, also after `NoMemory`.
     pub fn make_number(&mut self) -> Result<(), NoMemory>
         requires { AreQueuesKept self.old }
         ensures same { ShowsSame self.old self.new }

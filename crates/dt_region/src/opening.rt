@@ -5,7 +5,7 @@ use dt_log::Log;
 use dt_text::NoMemory;
 use std::alloc::Global;
 
-/// So many empty lists of ids.
+/// An empty list of ids for each region.
 pub fn no_ids(alloc: Global, regions: u8) -> Result<Vec<Ids>, NoMemory>
     ensures { IfOk result (λ lists. lists.items ≡ replicate regions []) }
 {
@@ -16,7 +16,7 @@ pub fn no_ids(alloc: Global, regions: u8) -> Result<Vec<Ids>, NoMemory>
     Ok(lists)
 }
 
-/// So many empty logs.
+/// An empty log for each region.
 pub fn no_parts(alloc: Global, regions: u8) -> Result<Vec<Log>, NoMemory>
     ensures { IfOk result (λ logs. logs.items ≡ replicate regions []) }
 {
@@ -27,7 +27,7 @@ pub fn no_parts(alloc: Global, regions: u8) -> Result<Vec<Log>, NoMemory>
     Ok(logs)
 }
 
-/// So many counts that stand at 0.
+/// A count of 0 for each region.
 pub fn no_counts(alloc: Global, regions: u8) -> Result<Vec<u32>, NoMemory>
     ensures { IfOk result (λ counts. counts.items ≡ replicate regions 0) }
 {

@@ -393,7 +393,7 @@ impl<S: Scheduler> Region<S> {
         Ok(true)
     }
 
-    /// Some class that is resolvable here, in ascending order, or `None` where there is none. It fails only for want of
+    /// Some class that is resolvable here, in ascending order, or `None` where there is none. It fails only when out of
     /// memory.
     pub fn next_class(&self, alloc: Global) -> Result<Option<Ids>, NoMemory>
         ensures { IfOk result (IsNextClass (sched_of self.now.state.logs self.now.state.here)) }
@@ -401,16 +401,16 @@ impl<S: Scheduler> Region<S> {
         self.scheduler.next_class(alloc)
     }
 
-    /// Some id that is executable here and isn't among the busy ones, or `None` where there is none. It fails only for want
-    /// of memory.
+    /// Some id that is executable here and isn't among the busy ones, or `None` where there is none. It fails only when
+    /// out of memory.
     pub fn ready(&self, alloc: Global, busy: &[TxnId]) -> Result<Option<TxnId>, NoMemory>
         ensures { IfOk result (IsNextReady (sched_of self.now.state.logs self.now.state.here) busy.now) }
     {
         self.scheduler.next_ready(alloc, busy)
     }
 
-    /// Whether all that is received is inserted, nothing is executable and nothing is resolvable. It fails only for want
-    /// of memory.
+    /// Whether all that is received is inserted, nothing is executable and nothing is resolvable. It fails only when
+    /// out of memory.
     pub fn drained(&self, alloc: Global) -> Result<bool, NoMemory>
         ensures { IfOk result (λ b. IsTrue b ↔ IsDrained self.now.state.logs self.now.state.here) }
     {

@@ -14,8 +14,8 @@ use std::alloc::Global;
 /// The text of a report, in sections of lines, each ended by the byte 0x0A.
 ///
 /// First `replies` and a line for each answer, then `order` and a line for each executed attempt, then for each region its
-/// number and a line for each row that it shows, and at last `events` and a line for each event. The only error is want of
-/// memory.
+/// number and a line for each row that it shows, and at last `events` and a line for each event. The only error is running
+/// out of memory.
 pub fn print(alloc: Global, report: &Report) -> Result<Vec<u8>, NoMemory>
     ensures { IfOk result (λ text. text.items ≡ report_text report.now) }
 {

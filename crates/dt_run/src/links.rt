@@ -14,7 +14,7 @@ use dt_text::NoMemory;
 use std::alloc::Global;
 use std::mem;
 
-/// So many places a link has. At most two packets wait on one.
+/// How many places a link has. At most two packets wait on one.
 const PLACES: u32 = 8;
 
 /// Makes a link from each seat to each other one.

@@ -213,7 +213,7 @@ impl<S: Scheduler + Drop + Send> Nodes<S> {
     }
 }
 
-/// So many events take the turns of a phase longer than threads for them take to start and to end.
+/// From this many events on, the turns of a phase take longer than threads for them take to start and to end.
 const MANY: u64 = 1024;
 
 /// In how many threads the turns of a phase are made, if it keeps about n events: in two where it is short, as far as

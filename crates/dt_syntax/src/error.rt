@@ -2,8 +2,8 @@ use dt_text::NoMemory;
 use std::alloc::{AllocError, AllocFailed};
 use thiserror::Error;
 
-/// Why the first pass refuses a text: the place of the fault, in bytes from the text's front, or want
-/// of memory.
+/// Why the first pass refuses a text: the place of the fault, in bytes from the text's front, or that
+/// memory ran out.
 #[derive(Clone, Copy, Debug, PartialEq, Eq, Error)]
 pub enum SyntaxError {
     /// No procedures begin with the tokens up to this place, or no token is there.

@@ -44,7 +44,7 @@ pub fn check_fit(logs: &[Listed<Part>], part: &Part) -> Result<(), Fail>
     Ok(())
 }
 
-/// So many empty logs.
+/// An empty log for each region.
 pub fn empty_logs(alloc: Global, regions: u8) -> Result<Vec<Listed<Part>>, NoMemory>
     ensures { IfOk result (λ logs. logs.items ≡ replicate regions []) }
 {

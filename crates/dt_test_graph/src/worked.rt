@@ -19,7 +19,7 @@ enum Call {
     Execute(u32, u8),
 }
 
-/// So many regions, and calls, each with what both tell after it.
+/// A number of regions, and calls, each with what both schedulers answer after it.
 type Run = (u8, &'static [(Call, &'static [u8])]);
 
 /// Makes a call at both.

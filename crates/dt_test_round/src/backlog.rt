@@ -23,19 +23,37 @@ const ADD_A: Call<'static> = (b"add", &[b"a", b"5"]);
 /// for others.
 const LONG: u32 = 100;
 
-/// Two logs that begin with calls of one home: those of region 0 use two rows in turn, those of region 1 one. Behind them two
-/// transactions wait for each other, and then two more do.
+/// A part at the front of the log of a home, 0 or 1: those of region 0 use two rows in turn, those of region 1 one.
+fn front(home: u8, seq: u32) -> Row<'static> {
+    let call = match (home, seq % 2) {
+        (0, 0) => ADD_D,
+        (0, _) => ADD_H,
+        _ => ADD_A,
+    };
+    (home, seq, home, call)
+}
+
+/// The parts behind: two transactions wait for each other, and then two more do.
+const BACK: [Row<'static>; 8] = [
+    (0, LONG + 1, 0, DA),
+    (0, LONG + 1, 1, AD),
+    (1, LONG + 1, 1, AD),
+    (1, LONG + 1, 0, DA),
+    (0, LONG + 2, 0, DA),
+    (0, LONG + 2, 1, AD),
+    (1, LONG + 2, 1, AD),
+    (1, LONG + 2, 0, DA),
+];
+
+/// The parts of two long logs.
 fn backlog(alloc: Global) -> Result<Vec<Row<'static>>, Fail> {
-    let mut rows: Vec<Row<'static>> = Vec::new(alloc);
+    let mut rows = Vec::new(alloc);
     for seq in 1..=LONG {
-        rows.push((0, seq, 0, if seq % 2 == 0 { ADD_D } else { ADD_H }))?;
-        rows.push((1, seq, 1, ADD_A))?;
+        rows.push(front(0, seq))?;
+        rows.push(front(1, seq))?;
     }
-    for seq in LONG + 1..=LONG + 2 {
-        rows.push((0, seq, 0, DA))?;
-        rows.push((0, seq, 1, AD))?;
-        rows.push((1, seq, 1, AD))?;
-        rows.push((1, seq, 0, DA))?;
+    for row in BACK {
+        rows.push(row)?;
     }
     Ok(rows)
 }

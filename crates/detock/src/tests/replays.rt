@@ -458,7 +458,7 @@ const CASES: [Case; 19] = [
         told: &["detock: events line 4: no event"],
     },
     Case {
-        shows: "the line of an event is told and not its number",
+        shows: "the line of an event is reported and not its number",
         cluster: &[":1"],
         workload: &["session a at 0", "call put \"b\" 5"],
         events: &["# a comment", "answer 0 a", "answer 0 a"],
