@@ -3,8 +3,6 @@
 #![tactic(auto)]
 
 #[cfg(test)]
-mod backlog;
-#[cfg(test)]
 mod calls;
 #[cfg(test)]
 mod feeding;
